@@ -1,0 +1,133 @@
+-- The first record from a bound on, the last up to one, and all of them.
+use Rattle.std.proofs.Common.{◌≡◌, ℕ, zero, suc, ◌<◌, ◌≤◌, List, [], ◌∷◌, length, drop, take, get_or, Bool, true, false, not, cond, T, Some, None, Option, refl, sym, ◌∙◌, ap, subst, arith, IsTrue}
+use Rattle.std.proofs.lemmas.List.{take_all, get_or_default}
+use Rattle.std.proofs.Common.{◌-◌, length-drop}
+use Rattle.std.specs.declared.cmp.Ordering.TheVariants.{Less}
+use Rattle.std.specs.Option.{option_map}
+use Rattle.std.specs.Ordering.{is_lt}
+use Rattle.std.specs.Cmp.{tied_itself}
+use Rattle.std.specs.List.{All}
+use Rattle.std.proofs.lemmas.List.Elements.{All-cons}
+use Rattle.cics_names.specs.Keyed.{Bytes, bytes_cmp, is_rising}
+use Rattle.cics_ksds.specs.declared.definition.FileDef.{FileDef}
+use Rattle.cics_ksds.specs.declared.places.Place.{Place}
+use Rattle.cics_ksds.specs.declared.places.Place.TheVariants.{Filled, Empty}
+use Rattle.cics_ksds.specs.Files.{key_of, fits_file, is_from, first_from, is_to, later, last_to, records_of, IsContent}
+use Rattle.cics_ksds.specs.Places.{IsPlace, ArePlaces, slots, key_at, IsAt, IsGapFor, record_in, filled_slots, first_record, last_record, listed}
+use Rattle.cics_ksds.proofs.Order.{total, turned_less, keys_rise}
+use Rattle.cics_ksds.proofs.Values.{rising_filled}
+
+-- a record with its key
+abbrev pub keyed : FileDef → Bytes → Bytes × Bytes
+keyed d r = (key_of d r, r)
+
+-- where the keys that pass are those from a place on, the first that passes is the first from there on
+pub first_found : (d : FileDef) (bound : Bytes) (strict : Bool) (places : List Place) (start : ℕ) →
+    ((j : ℕ) → j < start → j < length places → is_from bound strict (key_at d places j) ≡ false) → ((j : ℕ) → start ≤ j → j < length places → is_from bound strict (key_at d places j) ≡ true) →
+    first_from (filled_slots (slots d places)) bound strict ≡ option_map (keyed d) (first_record (drop start places))
+first_found d bound strict [] zero before after = refl
+first_found d bound strict [] (suc start) before after = refl
+first_found d bound strict (Filled r ∷ ps) zero before after =
+    ap (λ b. cond b (Some (keyed d r)) (first_from (filled_slots (slots d ps)) bound strict)) (after 0 (omega arith) (omega arith))
+first_found d bound strict (Empty k ∷ ps) zero before after = first_found d bound strict ps zero (λ j lt in_range. absurd (omega arith)) (λ j le lt. after (suc j) (omega arith) (omega arith))
+first_found d bound strict (Filled r ∷ ps) (suc start) before after =
+    ap (λ b. cond b (Some (keyed d r)) (first_from (filled_slots (slots d ps)) bound strict)) (before 0 (omega arith) (omega arith))
+    ∙ first_found d bound strict ps start (λ j lt in_range. before (suc j) (omega arith) (omega arith)) (λ j le lt. after (suc j) (omega arith) (omega arith))
+first_found d bound strict (Empty k ∷ ps) (suc start) before after = first_found d bound strict ps start (λ j lt in_range. before (suc j) (omega arith) (omega arith)) (λ j le lt. after (suc j) (omega arith) (omega arith))
+
+later_none : {X : Type 0} (o : Option X) → later o None ≡ o
+later_none None = refl
+later_none (Some x) = refl
+
+map_later : {X Y : Type 0} (f : X → Y) (o : Option X) (x : X) → option_map f (later o (Some x)) ≡ later (option_map f o) (Some (f x))
+map_later f None x = refl
+map_later f (Some y) x = refl
+
+-- where the keys that pass are those before a place, the last that passes is the last before it
+pub last_found : (d : FileDef) (bound : Bytes) (strict : Bool) (places : List Place) (end : ℕ) →
+    ((j : ℕ) → j < end → j < length places → is_to bound strict (key_at d places j) ≡ true) → ((j : ℕ) → end ≤ j → j < length places → is_to bound strict (key_at d places j) ≡ false) →
+    last_to (filled_slots (slots d places)) bound strict ≡ option_map (keyed d) (last_record (take end places))
+last_found d bound strict [] zero before after = refl
+last_found d bound strict [] (suc end) before after = refl
+last_found d bound strict (Filled r ∷ ps) zero before after =
+    (λ i. later (last_found d bound strict ps zero (λ j lt in_range. absurd (omega arith)) (λ j le lt. after (suc j) (omega arith) (omega arith)) i) (cond (after 0 (omega arith) (omega arith) i) (Some (keyed d r)) None))
+last_found d bound strict (Empty k ∷ ps) zero before after = last_found d bound strict ps zero (λ j lt in_range. absurd (omega arith)) (λ j le lt. after (suc j) (omega arith) (omega arith))
+last_found d bound strict (Filled r ∷ ps) (suc end) before after =
+    (λ i. later (last_found d bound strict ps end (λ j lt in_range. before (suc j) (omega arith) (omega arith)) (λ j le lt. after (suc j) (omega arith) (omega arith)) i) (cond (before 0 (omega arith) (omega arith) i) (Some (keyed d r)) None))
+    ∙ sym (map_later (keyed d) (last_record (take end ps)) r)
+last_found d bound strict (Empty k ∷ ps) (suc end) before after =
+    last_found d bound strict ps end (λ j lt in_range. before (suc j) (omega arith) (omega arith)) (λ j le lt. after (suc j) (omega arith) (omega arith))
+    ∙ ap (option_map (keyed d)) (sym (later_none (last_record (take end ps))))
+
+-- up to a bound is not above it, and below it is not from it on
+pub to_or_from : (bound : Bytes) (strict : Bool) (k : Bytes) → is_to bound strict k ≡ not (is_from bound (not strict) k)
+to_or_from bound true k = sym (twice (is_lt (bytes_cmp k bound)))
+  where
+    twice : (b : Bool) → not (not b) ≡ b
+    twice true = refl
+    twice false = refl
+to_or_from bound false k = refl
+
+-- which keys are from the bound on
+from_below : (bound key : Bytes) (strict : Bool) → bytes_cmp key bound ≡ Less → is_from bound strict key ≡ false
+from_below bound key true e = ap is_lt (turned_less key bound e)
+from_below bound key false e = ap (λ o. not (is_lt o)) e
+
+from_above : (bound key : Bytes) (strict : Bool) → bytes_cmp bound key ≡ Less → is_from bound strict key ≡ true
+from_above bound key true e = ap is_lt e
+from_above bound key false e = ap (λ o. not (is_lt o)) (turned_less bound key e)
+
+from_at : (bound key : Bytes) (strict : Bool) → key ≡ bound → is_from bound strict key ≡ not strict
+from_at bound key true e = ap (λ k. is_lt (bytes_cmp bound k)) e ∙ ap is_lt (tied_itself total bound)
+from_at bound key false e = ap (λ k. not (is_lt (bytes_cmp k bound))) e ∙ ap (λ o. not (is_lt o)) (tied_itself total bound)
+
+module _ (d : FileDef) (places : List Place) (bound : Bytes) (strict : Bool) where
+  module _ (at : ℕ) (sorted : T (is_rising (slots d places))) (is_at : IsAt d places bound at) where
+    pub before_at : (j : ℕ) → j < at → is_from bound strict (key_at d places j) ≡ false
+    before_at j lt = from_below bound (key_at d places j) strict (subst (λ k. bytes_cmp (key_at d places j) k ≡ Less) is_at.has_key (keys_rise d places j at sorted lt is_at.in_range))
+
+    pub after_at : (j : ℕ) → at < j → j < length places → is_from bound strict (key_at d places j) ≡ true
+    after_at j lt in_range = from_above bound (key_at d places j) strict (subst (λ k. bytes_cmp k (key_at d places j) ≡ Less) is_at.has_key (keys_rise d places at j sorted lt in_range))
+
+    pub here_at : (j : ℕ) → j ≡ at → is_from bound strict (key_at d places j) ≡ not strict
+    here_at j same = from_at bound (key_at d places j) strict (ap (key_at d places) same ∙ is_at.has_key)
+
+  module _ (at : ℕ) (gap : IsGapFor d places bound at) where
+    pub before_gap : (j : ℕ) → j < at → is_from bound strict (key_at d places j) ≡ false
+    before_gap j lt = from_below bound (key_at d places j) strict (gap.smaller_before j lt)
+
+    pub after_gap : (j : ℕ) → at ≤ j → j < length places → is_from bound strict (key_at d places j) ≡ true
+    after_gap j le lt = from_above bound (key_at d places j) strict (gap.greater_after j le lt)
+
+-- ---- the last record, one place at a time
+later_assoc : {X : Type 0} (a b c : Option X) → later (later a b) c ≡ later a (later b c)
+later_assoc None b c = refl
+later_assoc (Some x) b c = refl
+
+pub last_step : (n : ℕ) (places : List Place) → n < length places → last_record (take (suc n) places) ≡ later (record_in (get_or places n (Empty []))) (last_record (take n places))
+last_step n [] lt = absurd (omega arith)
+last_step zero (p ∷ ps) lt = sym (later_none (record_in p))
+last_step (suc n) (p ∷ ps) lt = ap (λ o. later o (record_in p)) (last_step n ps (omega arith)) ∙ later_assoc (record_in (get_or ps n (Empty []))) (last_record (take n ps)) (record_in p)
+
+pub last_back : (left before : ℕ) (places : List Place) (p : Place) → left ≡ suc before → before < length places → p ≡ get_or places before p → last_record (take left places) ≡ later (record_in p) (last_record (take before places))
+last_back left before places p more in_range read =
+    ap (λ n. last_record (take n places)) more ∙ last_step before places in_range
+    ∙ ap (λ x. later (record_in x) (last_record (take before places))) (sym (read ∙ get_or_default places before p (Empty []) in_range))
+
+-- ---- the records are the listed ones
+pub listed_records : (d : FileDef) (places : List Place) → listed places ≡ records_of (filled_slots (slots d places))
+listed_records d [] = refl
+listed_records d (Filled r ∷ ps) = ap (λ rs. r ∷ rs) (listed_records d ps)
+listed_records d (Empty k ∷ ps) = listed_records d ps
+
+each_keyed : (d : FileDef) (places : List Place) → All (IsPlace d) places → All (λ e. (e.0 ≡ key_of d e.1) × IsTrue (fits_file d e.1)) (filled_slots (slots d places))
+each_keyed d [] each = λ i e lt. absurd (omega arith)
+each_keyed d (Filled r ∷ ps) each = All-cons (λ e. (e.0 ≡ key_of d e.1) × IsTrue (fits_file d e.1)) (keyed d r) (filled_slots (slots d ps)) (refl, each 0 (Filled r) (omega arith)) (each_keyed d ps (λ i p lt. each (suc i) p (omega arith)))
+each_keyed d (Empty k ∷ ps) each = each_keyed d ps (λ i p lt. each (suc i) p (omega arith))
+
+pub content_of : (d : FileDef) (places : List Place) → ArePlaces d places → IsContent d (filled_slots (slots d places))
+content_of d places are = record { rising = rising_filled (slots d places) are.rising; keyed = each_keyed d places are.each }
+
+-- the part from a place on is what is left there
+pub whole : (n : ℕ) (places : List Place) → take (length places - n) (drop n places) ≡ drop n places
+whole n places = take_all (length places - n) (drop n places) (omega (arith, length-drop n places))

@@ -1,0 +1,37 @@
+use Rattle.std.proofs.Common.{◌≡◌, List, None, false, subst, sym, ◌∙◌, ap}
+use Rattle.cics_ksds.specs.declared.places.Place.{Place}
+use Rattle.cics_names.specs.Keyed.{value_at, is_key_in}
+use Rattle.cics_ksds.specs.Places.{key_at, value_of}
+use Rattle.cics_ksds.specs.Files.{dropped}
+use Rattle.cics_images.specs.Cells.{is_other}
+use Rattle.cics_ksds.specs.Undo.{KeepsKeys}
+use Rattle.cics_ksds.specs.UndoLaws.{swept_keeps}
+use Rattle.cics_ksds.specs.Files.{FileValue}
+use Rattle.cics_ksds.proofs.Values.{swept_nothing, swept_empty}
+use Rattle.cics_ksds.proofs.files.File.sweep.Goals as goal
+
+pub returns-in-AtEmpty-clause-value : goal.returns-in-AtEmpty-clause-value
+returns-in-AtEmpty-clause-value c =
+    let d = c.self.inside.definition in
+    let items = c.self.inside.places.items in
+    let none : value_at c.args.key.now (value_of d items).records ≡ None =
+    subst (λ (ps : List Place). value_at c.args.key.now (value_of d ps).records ≡ None) c.deref.ensures.value c.in-AtEmpty.ensures.empty_there.0 in
+    let key : key_at d items c.in-AtEmpty.at ≡ c.args.key.now =
+    subst (λ (ps : List Place). key_at d ps c.in-AtEmpty.at ≡ c.args.key.now) c.deref.ensures.value c.in-AtEmpty.ensures.at.has_key in
+    rw (← c.self.view_is) (c.drop_at.ensures.value ∙ ap (dropped (value_of d items)) key ∙ swept_empty (value_of d items) c.args.key.now none)
+
+pub returns-in-At-clause-value : goal.returns-in-At-clause-value
+returns-in-At-clause-value c =
+    let none : is_key_in c.args.key.now (value_of c.self.inside.definition c.self.inside.places.items).empties ≡ false =
+    subst (λ (ps : List Place). is_key_in c.args.key.now (value_of c.self.inside.definition ps).empties ≡ false) c.deref.ensures.value c.in-At.ensures.record_there.1.1 in
+    rw (← c.self.view_is) (swept_nothing (value_of c.self.inside.definition c.self.inside.places.items) c.args.key.now none)
+
+pub returns-in-Gap-clause-value : goal.returns-in-Gap-clause-value
+returns-in-Gap-clause-value c =
+    let none : is_key_in c.args.key.now (value_of c.self.inside.definition c.self.inside.places.items).empties ≡ false =
+    subst (λ (ps : List Place). is_key_in c.args.key.now (value_of c.self.inside.definition ps).empties ≡ false) c.deref.ensures.value c.in-Gap.ensures.nothing_there.1 in
+    rw (← c.self.view_is) (swept_nothing (value_of c.self.inside.definition c.self.inside.places.items) c.args.key.now none)
+
+pub returns-in-AtEmpty-clause-others : goal.returns-in-AtEmpty-clause-others
+returns-in-AtEmpty-clause-others c =
+    subst (λ (f : FileValue). KeepsKeys (is_other c.args.key.now) c.args.self.now f) (sym (returns-in-AtEmpty-clause-value c)) (swept_keeps c.args.self.now c.args.key.now)

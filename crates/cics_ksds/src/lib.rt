@@ -1,0 +1,18 @@
+//! Key-sequenced files: a map from keys to records in the order of the keys, with before images
+//! by which each change is undone without taking memory.
+#![tactic(auto)]
+
+mod definition;
+mod files;
+mod images;
+mod ordered;
+mod places;
+mod ranges;
+#[cfg(test)]
+mod tests;
+mod undoing;
+
+pub use definition::FileDef;
+pub use files::File;
+pub use images::FileImage;
+pub use ordered::Ordered;
