@@ -1,0 +1,2 @@
+mod Prev
+mod Rows

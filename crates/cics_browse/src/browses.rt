@@ -1,0 +1,249 @@
+//! A browse: a position in a file, which any call may have changed in between.
+
+ghost use Rattle.std.specs.Prelude.{◌≡◌, ◌==◌, IfOk, OnOk, OnErr, IfSome, IsTrue};
+ghost use Rattle.std.specs.Prelude.{Some, None, if◌then◌else◌, option_map, option_copied, false};
+ghost use Rattle.std.specs.List.{list_all};
+ghost use Rattle.cics_ksds.specs.Files.{entry_of, fits_file, last_to};
+
+use cics_ksds::{FileDef, Ordered};
+use cics_names::{Condition, NoMemory, Record};
+use std::marker::Model;
+
+/// What the key of a position is.
+#[derive(Clone, Copy, Debug, PartialEq, Eq)]
+pub enum Place {
+    /// The key that STARTBR or RESETBR asked for.
+    Start,
+    /// The key last read, by READNEXT.
+    Forward,
+    /// The key last read, by READPREV.
+    Back,
+}
+
+/// What a read of a browse answers.
+#[derive(Drop)]
+pub struct Browsed {
+    /// NORMAL where a record is given, else NOTFND, ENDFILE or INVREQ.
+    pub condition: Condition,
+    /// The key of the record that is given, and None without one.
+    pub key: Option<Record>,
+    /// The record that is given, whole, and None without one.
+    pub content: Option<Record>,
+}
+
+/// A browse of one file (the browsing part of the file control chapter of the Application
+/// Programmer's Reference Manual).
+///
+/// It holds a key and never a number of a record, so the file may change in any way between two
+/// calls. Each call takes the file anew, and it is the caller that hands in the same file.
+#[derive(Drop)]
+pub struct Browse {
+    key: Record,
+    place: Place,
+    generic: bool,
+}
+
+impl Model for Browse {
+    ghost use Rattle.cics_browse.specs.Positions.{Position};
+
+    ghost Value = { Position };
+
+    ghost view = { λ b. record { key = b.key; place = b.place; generic = b.generic } };
+}
+
+/// An answer that gives no record.
+fn nothing(condition: Condition) -> Browsed
+    ensures { result ≡ record { condition = condition; key = None; content = None } }
+{
+    Browsed {
+        condition,
+        key: None,
+        content: None,
+    }
+}
+
+impl Browse {
+    ghost use Rattle.cics_browse.specs.Positions.{finds_start, start_at, reset_condition, after_reset};
+    ghost use Rattle.cics_browse.specs.Positions.{read_next, after_next, read_prev, after_prev, reply_of, position_after};
+
+    /// STARTBR: a browse whose position is the key, or None where its start isn't found, which is
+    /// NOTFND. The key moves in, and no memory is taken.
+    ///
+    /// `generic` says that the key is only the first bytes of one. With `equal` the key itself must
+    /// be there, or with `generic` a key that begins with it; without `equal` any key that isn't
+    /// below it will do. A full key of X'FF' bytes stands for the file's end: without `equal` it is
+    /// found in every file.
+    pub fn start<F: Ordered>(file: &F, key: Record, generic: bool, equal: bool) -> Option<Browse>
+        ensures { result
+            ≡ (if finds_start (F.file_records file.now) key generic equal then Some (start_at key generic) else None) }
+    {
+        if finds(file, key.bytes(), generic, equal) {
+            Some(Browse {
+                key,
+                place: Place::Start,
+                generic,
+            })
+        } else {
+            None
+        }
+    }
+
+    /// RESETBR: makes the key the position, as `start` with the same arguments would. Where that
+    /// finds nothing the answer is NOTFND, and the position and its `generic` stay.
+    pub fn reset<F: Ordered>(
+        &mut self,
+        file: &F,
+        key: Record,
+        generic: bool,
+        equal: bool,
+    ) -> Condition
+        ensures condition { result ≡ reset_condition (F.file_records file.now) key generic equal }
+        ensures position { self.new ≡ after_reset (F.file_records file.now) self.old key generic equal }
+    {
+        if !finds(file, key.bytes(), generic, equal) {
+            return Condition::Notfnd;
+        }
+        self.key = key;
+        self.place = Place::Start;
+        self.generic = generic;
+        Condition::Normal
+    }
+
+    /// READNEXT: gives the record of the least key that isn't below the position, or after a
+    /// READNEXT is above it, and makes its key the position. ENDFILE where there is none, and then
+    /// the position stays. A prefix that the browse was started with bounds nothing here.
+    ///
+    /// `Err` comes only where memory for the copies is refused, and then the position stays.
+    pub fn next<F: Ordered>(&mut self, file: &F) -> Result<Browsed, NoMemory>
+        ensures reply { IfOk result (λ reply. reply ≡ read_next (F.file_records file.now) self.old) }
+        ensures position { OnOk result (self.new ≡ after_next (F.file_records file.now) self.old) }
+        ensures err { OnErr result (self.new ≡ self.old) }
+    {
+        let found = file.first_from(self.key.bytes(), self.place == Place::Forward);
+        self.give(file.definition(), found, Place::Forward, Condition::Endfile)
+    }
+
+    /// READPREV: gives the record of the greatest key that isn't above the position, or after a
+    /// READPREV is below it, and makes its key the position. ENDFILE where there is none.
+    ///
+    /// At the key that STARTBR or RESETBR asked for it gives the record of that very key, or NOTFND
+    /// without one; a full key of X'FF' bytes stands for the file's end there, so it gives the last
+    /// record, and ENDFILE in an empty file. INVREQ where that STARTBR or RESETBR was generic. On
+    /// any of these conditions the position stays.
+    ///
+    /// `Err` comes only where memory for the copies is refused, and then the position stays.
+    pub fn prev<F: Ordered>(&mut self, file: &F) -> Result<Browsed, NoMemory>
+        ensures reply { IfOk result (λ reply. reply ≡ read_prev (F.file_records file.now) self.old) }
+        ensures position { OnOk result (self.new ≡ after_prev (F.file_records file.now) self.old) }
+        ensures err { OnErr result (self.new ≡ self.old) }
+    {
+        if self.generic {
+            return Ok(nothing(Condition::Invreq));
+        }
+        let found = entry_before(file, self.key.bytes(), self.place);
+        let none = none_before(self.key.bytes(), self.place);
+        self.give(file.definition(), found, Place::Back, none)
+    }
+
+    /// Gives the record that was found and takes its key as the position, or answers the condition.
+    fn give(
+        &mut self,
+        definition: FileDef,
+        found: Option<&Record>,
+        place: Place,
+        none: Condition,
+    ) -> Result<Browsed, NoMemory>
+        requires { IfSome found (λ r. IsTrue (fits_file definition r.now)) }
+        ensures reply { IfOk result (λ reply. reply
+            ≡ reply_of none (option_map (entry_of definition) (option_copied found.entry))) }
+        ensures position { OnOk result (self.new
+            ≡ position_after self.old place (option_map (entry_of definition) (option_copied found.entry))) }
+        ensures err { OnErr result (self.new ≡ self.old) }
+    {
+        let Some(from) = found else {
+            return Ok(nothing(none));
+        };
+        let offset = definition.key_offset as usize;
+        let count = definition.key_length as usize;
+        // All that may fail comes before the position moves.
+        let content = from.copy()?;
+        let key = from.part(offset, count)?;
+        let position = key.copy()?;
+        self.key = position;
+        self.place = place;
+        Ok(Browsed {
+            condition: Condition::Normal,
+            key: Some(key),
+            content: Some(content),
+        })
+    }
+}
+
+/// Whether each byte is X'FF'.
+fn is_all_high(key: &[u8]) -> bool
+    ensures { result ≡ list_all (λ b. b == 255) key.now }
+{
+    key.iter().all(|b| *b == 255)
+}
+
+ghost use Rattle.cics_browse.specs.Positions.{finds_start as found_at, prev_entry_at, prev_none, only_same};
+
+/// Whether STARTBR or RESETBR finds its start.
+fn finds<F: Ordered>(file: &F, key: &[u8], generic: bool, equal: bool) -> bool
+    ensures { result ≡ found_at (F.file_records file.now) key.now generic equal }
+{
+    let found = file.first_from(key, false);
+    if !equal {
+        return found.is_some() || (!generic && is_all_high(key));
+    }
+    match found {
+        None => false,
+        Some(from) if generic => file.definition().key_in(from.bytes()).starts_with(key),
+        Some(from) => key.cmp(file.definition().key_in(from.bytes())).is_eq(),
+    }
+}
+
+/// The record that READPREV gives from a position that no generic key set.
+fn entry_before<'a, F: Ordered>(file: &'a F, key: &[u8], place: Place) -> Option<&'a Record>
+    ensures found { prev_entry_at (F.file_records file.now) key.now false place
+        ≡ option_map (entry_of (F.file_definition file.now)) (option_copied result) }
+    ensures fits { IfSome result (λ r. IsTrue (fits_file (F.file_definition file.now) r.now)) }
+{
+    match place {
+        Place::Forward => file.last_to(key, false),
+        Place::Back => file.last_to(key, true),
+        Place::Start => {
+            if is_all_high(key) {
+                file.last_to(key, false)
+            } else {
+                own_entry(file, key)
+            }
+        }
+    }
+}
+
+/// The record of the key itself.
+fn own_entry<'a, F: Ordered>(file: &'a F, key: &[u8]) -> Option<&'a Record>
+    ensures found { only_same key.now (last_to (F.file_records file.now) key.now false)
+        ≡ option_map (entry_of (F.file_definition file.now)) (option_copied result) }
+    ensures fits { IfSome result (λ r. IsTrue (fits_file (F.file_definition file.now) r.now)) }
+{
+    let found = file.last_to(key, false)?;
+    if key.cmp(file.definition().key_in(found.bytes())).is_eq() {
+        Some(found)
+    } else {
+        None
+    }
+}
+
+/// What READPREV answers where it gives no record: the key asked for must be there, but the file's
+/// end may be that of an empty file.
+fn none_before(key: &[u8], place: Place) -> Condition
+    ensures { result ≡ prev_none key.now false place }
+{
+    if place == Place::Start && !is_all_high(key) {
+        Condition::Notfnd
+    } else {
+        Condition::Endfile
+    }
+}

@@ -1,0 +1,8 @@
+//! Browsing a file: reading it forward and back from a position, record by record.
+#![tactic(auto)]
+
+mod browses;
+#[cfg(test)]
+mod tests;
+
+pub use browses::{Browse, Browsed};
