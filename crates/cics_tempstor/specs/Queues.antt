@@ -1,0 +1,122 @@
+-- Temporary storage (chapter on temporary storage control): a queue is a list of items, numbered from 1, and a queue
+-- without an item isn't there. Each queue has a NEXT place, the number of the item that was read last.
+use Rattle.std.specs.Prelude.{ℕ, ◌+◌, ◌-◌, Bool, true, false, ◌&&◌, if◌then◌else◌, Option, Some, None, unwrap_or, nat_lt, nat_le, List, [], ◌∷◌, ◌++◌, length, slice_get, slice_set}
+use Rattle.cics_names.specs.Keyed.{Bytes, Map, value_at, with_value, without}
+use Rattle.cics_names.specs.declared.conditions.Condition.{Condition}
+use Rattle.cics_names.specs.declared.conditions.Condition.TheVariants.{Normal, Itemerr, Qiderr}
+use Rattle.cics_tempstor.specs.declared.queues.TsRead.{TsRead}
+
+-- the most items that a queue can have
+abbrev pub most_items : ℕ
+most_items = 32767
+
+-- a queue is its items, the oldest first
+abbrev pub Queue : Type 0
+Queue = List Bytes
+
+-- what is kept of a name: the items of its queue and its NEXT place, or no item and so an empty row
+pub record Row : Type 0 where
+  pub items : Queue
+  pub next : ℕ
+
+-- a queue is there where it has an item
+abbrev pub is_there : Queue → Bool
+is_there [] = false
+is_there (x ∷ xs) = true
+
+-- the row of a name, an empty one where nothing is kept
+abbrev pub row_at : Bytes → Map Row → Row
+row_at q rows = unwrap_or (value_at q rows) (record { items = []; next = 0 })
+
+-- the queue of a name, without an item where it is absent
+abbrev pub queue_at : Bytes → Map Row → Queue
+queue_at q rows = (row_at q rows).items
+
+-- the queues that are there, by name
+abbrev pub queues_of : Map Row → Map Queue
+queues_of [] = []
+queues_of (e ∷ es) = if is_there e.1.items then (e.0, e.1.items) ∷ queues_of es else queues_of es
+
+-- the NEXT place of a row reads as 0 where its queue is absent
+abbrev pub place_of : Row → ℕ
+place_of row = if is_there row.items then row.next else 0
+
+-- the NEXT place of a name
+abbrev pub next_place : Bytes → Map Row → ℕ
+next_place q rows = place_of (row_at q rows)
+
+-- the NEXT places that aren't 0, by name
+abbrev pub places_of : Map Row → Map ℕ
+places_of [] = []
+places_of (e ∷ es) = if nat_lt 0 (place_of e.1) then (e.0, place_of e.1) ∷ places_of es else places_of es
+
+-- WRITEQ TS is ITEMERR where the queue has the most items already
+abbrev pub write_condition : Queue → Condition
+write_condition items = if nat_lt (length items) most_items then Normal else Itemerr
+
+-- WRITEQ TS answers the number of the new item
+abbrev pub write_number : Queue → Option ℕ
+write_number items = if nat_lt (length items) most_items then Some (length items + 1) else None
+
+-- WRITEQ TS adds its item last, and so makes a queue that was absent
+abbrev pub items_after_write : Queue → Bytes → Queue
+items_after_write items d = if nat_lt (length items) most_items then items ++ d ∷ [] else items
+
+-- a queue has the items 1 to its length
+abbrev pub has_item : Queue → ℕ → Bool
+has_item items n = nat_lt 0 n && nat_le n (length items)
+
+-- READQ TS and WRITEQ TS REWRITE of an item: an absent queue is QIDERR, an item that the queue doesn't have is ITEMERR
+abbrev pub item_condition : Queue → ℕ → Condition
+item_condition items n = if has_item items n then Normal else if is_there items then Itemerr else Qiderr
+
+-- WRITEQ TS REWRITE puts its record in the place of the item
+abbrev pub items_after_rewrite : Queue → ℕ → Bytes → Queue
+items_after_rewrite items n d = if has_item items n then slice_set items (n - 1) d else items
+
+-- the number of an item is answered only where the item is there
+abbrev pub number_if : Bool → ℕ → Option ℕ
+number_if there n = if there then Some n else None
+
+-- DELETEQ TS of an absent queue is QIDERR
+abbrev pub delete_condition : Queue → Condition
+delete_condition items = if is_there items then Normal else Qiderr
+
+-- the rows after WRITEQ TS: the write that makes a queue sets its NEXT place to 0, another leaves it
+abbrev pub ts_written : Map Row → Bytes → Bytes → Map Row
+ts_written rows q d =
+    if nat_lt (length (queue_at q rows)) most_items
+    then with_value q (record { items = queue_at q rows ++ d ∷ []; next = next_place q rows }) rows
+    else rows
+
+-- the rows after WRITEQ TS REWRITE: the NEXT place stays
+abbrev pub ts_rewritten : Map Row → Bytes → ℕ → Bytes → Map Row
+ts_rewritten rows q n d =
+    if has_item (queue_at q rows) n
+    then with_value q (record { items = slice_set (queue_at q rows) (n - 1) d; next = next_place q rows }) rows
+    else rows
+
+-- the rows after DELETEQ TS: all items go, and the NEXT place is 0; an empty row stays where the delete may be undone
+abbrev pub ts_deleted : Map Row → Bytes → Bool → Map Row
+ts_deleted rows q keep =
+    if is_there (queue_at q rows)
+    then (if keep then with_value q (record { items = []; next = 0 }) rows else without q rows)
+    else rows
+
+-- READQ TS ITEM(n) gives the item n; READQ TS NEXT the item after the NEXT place
+abbrev pub read_item : Map Row → Bytes → ℕ → TsRead
+read_item rows q n =
+    record {
+      condition = item_condition (queue_at q rows) n;
+      number = number_if (has_item (queue_at q rows) n) n;
+      content = if has_item (queue_at q rows) n then slice_get (queue_at q rows) (n - 1) else None;
+    }
+
+-- a READQ TS that gives an item sets the NEXT place to its number
+abbrev pub after_read_item : Map Row → Bytes → ℕ → Map Row
+after_read_item rows q n =
+    if has_item (queue_at q rows) n then with_value q (record { items = queue_at q rows; next = n }) rows else rows
+
+-- the row of an absent queue goes
+abbrev pub ts_swept : Map Row → Bytes → Map Row
+ts_swept rows q = if is_there (queue_at q rows) then rows else without q rows

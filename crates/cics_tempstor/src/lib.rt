@@ -1,0 +1,6 @@
+//! Temporary storage: queues of numbered items.
+#![tactic(auto)]
+
+mod queues;
+
+pub use queues::TsRead;
