@@ -1,0 +1,176 @@
+-- The files of an opening: each has loaded records alone, and they are the files that a region begins with.
+use Rattle.std.specs.Prelude.{◌≡◌, Bool, true, false, not, cond, if◌then◌else◌, ◌&&◌, T, IsTrue, IfSome, All, Option, Some, None, is_some, option_map, option_copied, [], ◌∷◌, map, refl}
+use Rattle.std.proofs.Common.{Bor, sym, ap, ◌∙◌, subst}
+use Rattle.std.proofs.lemmas.List.Elements.{All-cons, All-nil, All-head, All-tail}
+use Rattle.std.proofs.lemmas.Map.Entries.{All-lookup}
+use Rattle.std.specs.BTreeMap.{is_at}
+use Rattle.std.specs.declared.cmp.Ordering.TheVariants.{Less, Equal, Greater}
+use Rattle.std.specs.Ordering.{is_lt}
+use Rattle.std.specs.FinMap.Entries.{by_order, below_all}
+use Rattle.cics_names.specs.Keyed.{Bytes, Map, bytes_cmp, is_same, value_at, has_key, with_value, is_rising, without_key}
+use Rattle.cics_names.specs.KeyedLaws.{same_bytes}
+use Rattle.cics_names.specs.RisingLaws.{rising-with_value}
+use Rattle.cics_ksds.specs.Files.{FileValue, key_of, fits_file, written, filled}
+use Rattle.cics_ksds.specs.declared.definition.FileDef.{FileDef}
+use Rattle.cics_units.specs.Openings.{OpeningState, FileOpening, with_record, loaded_file, is_record_size, is_key, file_fault, load_fault, is_in_order, IsOpeningInOrder}
+use Rattle.cics_units.specs.declared.opening.DefineFault.{DefineFault}
+use Rattle.cics_units.specs.declared.opening.DefineFault.TheVariants.{Duplicate, BadKey, BadLength, NotThere}
+use Rattle.cics_units.specs.RegionFiles.{opening_of, openings_of, opened_files, IsLoaded, AreLoaded}
+use Rattle.cics_units.proofs.Named.{lookup-value_at}
+
+-- ---- maps by name, each value seen in another way
+module _ {X Y : Type 0} (v : X → Y) where
+  abbrev pub each : Map X → Map Y
+  each m = map (λ e. (e.0, v e.1)) m
+
+  pub value_at-each : (k : Bytes) (m : Map X) → value_at k (each m) ≡ option_map v (value_at k m)
+  value_at-each k [] = refl
+  value_at-each k (e ∷ m) =
+      elim (is_same k e.0) as (λ b. cond b (Some (v e.1)) (value_at k (each m)) ≡ option_map v (cond b (Some e.1) (value_at k m))) [
+        | true ↦ refl
+        | false ↦ value_at-each k m
+      ]
+
+  pub has_key-each : (k : Bytes) (m : Map X) → has_key k (each m) ≡ has_key k m
+  has_key-each k m = ap is_some (value_at-each k m) ∙ kept (value_at k m)
+    where
+      kept : (o : Option X) → is_some (option_map v o) ≡ is_some o
+      kept None = refl
+      kept (Some x) = refl
+
+  pub with_value-each : (k : Bytes) (x : X) (m : Map X) → each (with_value k x m) ≡ with_value k (v x) (each m)
+  with_value-each k x [] = refl
+  with_value-each k x (e ∷ m) =
+      elim (bytes_cmp k e.0) as (λ o. each (by_order o ((k, x) ∷ e ∷ m) ((e.0, x) ∷ m) (e ∷ with_value k x m)) ≡ by_order o ((k, v x) ∷ (e.0, v e.1) ∷ each m) ((e.0, v x) ∷ each m) ((e.0, v e.1) ∷ with_value k (v x) (each m))) [
+        | Less ↦ refl
+        | Equal ↦ refl
+        | Greater ↦ ap (λ r. (e.0, v e.1) ∷ r) (with_value-each k x m)
+      ]
+
+  below-each : (k : Bytes) (m : Map X) → below_all bytes_cmp k (each m) ≡ below_all bytes_cmp k m
+  below-each k [] = refl
+  below-each k (e ∷ m) = ap (λ b. is_lt (bytes_cmp k e.0) && b) (below-each k m)
+
+  pub rising-each : (m : Map X) → is_rising (each m) ≡ is_rising m
+  rising-each [] = refl
+  rising-each (e ∷ m) = ap (λ b. b && is_rising (each m)) (below-each e.0 m) ∙ ap (λ b. below_all bytes_cmp e.0 m && b) (rising-each m)
+
+-- ---- what holds of each entry of a map
+module _ {X : Type 0} (P : Bytes × X → Type 0) where
+  pub All-with_value : (k : Bytes) (x : X) (m : Map X) → P (k, x) → All P m → All P (with_value k x m)
+  All-with_value k x [] here all = All-cons P (k, x) [] here all
+  All-with_value k x (e ∷ m) here all =
+      elim (bytes_cmp k e.0) as (λ o. bytes_cmp k e.0 ≡ o → All P (by_order o ((k, x) ∷ e ∷ m) ((e.0, x) ∷ m) (e ∷ with_value k x m))) [
+        | Less ↦ λ is. All-cons P (k, x) (e ∷ m) here all
+        | Equal ↦ λ is. All-cons P (e.0, x) m (subst (λ l. P (l, x)) (same_bytes k e.0 is) here) (All-tail P e m all)
+        | Greater ↦ λ is. All-cons P e (with_value k x m) (All-head P e m all) (All-with_value k x m here (All-tail P e m all))
+      ] refl
+
+pub All-value_at : {X : Type 0} (P : X → Type 0) (k : Bytes) (m : Map X) (x : X) → All (λ e. P e.1) m → value_at k m ≡ Some x → P x
+All-value_at P k m x all there = subst (λ o. IfSome o P) (lookup-value_at k m ∙ there) (All-lookup P (is_at (bytes_cmp k)) m all)
+
+-- ---- the files of an opening
+abbrev pub opening_with : Map FileValue → OpeningState
+opening_with m = record { files = openings_of m; prefixes = []; queues = [] }
+
+pub IsLoaded-new : (d : FileDef) → IsLoaded (record { definition = d; records = []; empties = [] })
+IsLoaded-new d = record { content = record { rising = tt; keyed = All-nil (λ e. (e.0 ≡ key_of d e.1) × IsTrue (fits_file d e.1)) }; empties = refl }
+
+pub IsLoaded-written : (f : FileValue) (r : Bytes) → IsTrue (fits_file f.definition r) → IsLoaded f → IsLoaded (written f r)
+IsLoaded-written f r fits loaded =
+    let key = key_of f.definition r in
+    elim (has_key key f.records) as (λ b. IsLoaded (if b then f else filled f key r)) [
+      | true ↦ loaded
+      | false ↦ record {
+        content = record {
+          rising = rising-with_value key r f.records loaded.content.rising;
+          keyed = All-with_value (λ e. (e.0 ≡ key_of f.definition e.1) × IsTrue (fits_file f.definition e.1)) key r f.records (refl, fits) loaded.content.keyed;
+        };
+        empties = ap (without_key key) loaded.empties;
+      }
+    ]
+
+module _ (m : Map FileValue) (are : AreLoaded m) where
+  pub AreLoaded-defined : (name : Bytes) (d : FileDef) → AreLoaded (with_value name (record { definition = d; records = []; empties = [] }) m)
+  AreLoaded-defined name d = record {
+    rising = rising-with_value name (record { definition = d; records = []; empties = [] }) m are.rising;
+    loaded = All-with_value (λ e. IsLoaded e.1) name (record { definition = d; records = []; empties = [] }) m (IsLoaded-new d) are.loaded;
+  }
+
+  pub AreLoaded-written : (name r : Bytes) (f : FileValue) → value_at name m ≡ Some f → IsTrue (fits_file f.definition r) → AreLoaded (with_value name (written f r) m)
+  AreLoaded-written name r f there fits = record {
+    rising = rising-with_value name (written f r) m are.rising;
+    loaded = All-with_value (λ e. IsLoaded e.1) name (written f r) m (IsLoaded-written f r fits (All-value_at IsLoaded name m f are.loaded there)) are.loaded;
+  }
+
+  pub IsOpeningInOrder-with : IsOpeningInOrder (opening_with m)
+  IsOpeningInOrder-with = record {
+    files = rising-each opening_of m ∙ is_true (is_rising m) are.rising;
+    records = λ f. ap (λ o. is_in_order (option_map (λ e. e.records) o)) (value_at-each opening_of f m) ∙ in_order (value_at f m) (λ x. All-value_at IsLoaded f m x are.loaded);
+    queues = refl;
+  }
+    where
+      is_true : (b : Bool) → T b → b ≡ true
+      is_true true t = refl
+      is_true false t = absurd t
+
+      in_order : (o : Option FileValue) → ((x : FileValue) → o ≡ Some x → IsLoaded x) → is_in_order (option_map (λ e. e.records) (option_map opening_of o)) ≡ true
+      in_order None loaded = refl
+      in_order (Some x) loaded = is_true (is_rising x.records) (loaded x refl).content.rising
+
+pub opened_files-openings_of : (m : Map FileValue) → All (λ e. IsLoaded e.1) m → opened_files (openings_of m) ≡ m
+opened_files-openings_of [] all = refl
+opened_files-openings_of (e ∷ m) all =
+    ap (λ p. (e.0, record { definition = e.1.definition; records = e.1.records; empties = p }) ∷ opened_files (openings_of m)) (sym (All-head (λ e. IsLoaded e.1) e m all).empties)
+    ∙ ap (λ r. e ∷ r) (opened_files-openings_of m (All-tail (λ e. IsLoaded e.1) e m all))
+
+-- ---- the faults, by what was tested
+abbrev define_fault : Bool → Bool → Bool → Option DefineFault
+define_fault there sized keyed = if there then Some Duplicate else if not sized then Some BadLength else if not keyed then Some BadKey else None
+
+pub file_fault-tested : (m : Map FileValue) (o : OpeningState) (name : Bytes) (d : FileDef) (there sized keyed : Bool) → opening_with m ≡ o →
+    there ≡ has_key name m → sized ≡ is_record_size d.record_size → keyed ≡ is_key d → define_fault there sized keyed ≡ file_fault o name d
+file_fault-tested m o name d there sized keyed is t s k =
+    ap (λ b. define_fault b sized keyed) (t ∙ sym (has_key-each opening_of name m))
+    ∙ ap (λ b. define_fault (has_key name (openings_of m)) b keyed) s
+    ∙ ap (λ b. define_fault (has_key name (openings_of m)) (is_record_size d.record_size) b) k
+    ∙ ap (λ p. file_fault p name d) is
+
+abbrev record_fault : Bool → Bool → Option DefineFault
+record_fault fits there = if not fits then Some BadLength else if there then Some Duplicate else None
+
+module _ (m : Map FileValue) (o : OpeningState) (name r : Bytes) (is : opening_with m ≡ o) where
+  pub load_fault-absent : value_at name m ≡ None → load_fault (value_at name o.files) r ≡ Some NotThere
+  load_fault-absent absent =
+      ap (λ p. load_fault (value_at name p.files) r) (sym is) ∙ ap (λ f. load_fault f r) (value_at-each opening_of name m ∙ ap (option_map opening_of) absent)
+
+  pub load_fault-tested : (f : FileValue) (fits there : Bool) → value_at name m ≡ Some f → fits ≡ fits_file f.definition r → there ≡ has_key (key_of f.definition r) f.records →
+      load_fault (value_at name o.files) r ≡ record_fault fits there
+  load_fault-tested f fits there found t h =
+      ap (λ p. load_fault (value_at name p.files) r) (sym is) ∙ ap (λ x. load_fault x r) (value_at-each opening_of name m ∙ ap (option_map opening_of) found)
+      ∙ ap (λ b. record_fault b (has_key (key_of f.definition r) f.records)) (sym t) ∙ ap (record_fault fits) (sym h)
+
+  -- the same, by what the calls that tested it have answered
+  module _ (f : FileValue) (d : FileDef) (b k : Bytes) (found : Option (Bor Bytes)) (there : Bool) (d_is : d ≡ f.definition) (b_is : b ≡ r) (k_is : k ≡ key_of d b)
+      (h : there ≡ is_some found) (read : option_copied found ≡ value_at k f.records) where
+    copied : (x : Option (Bor Bytes)) → is_some x ≡ is_some (option_copied x)
+    copied None = refl
+    copied (Some y) = refl
+
+    pub has_key-read : there ≡ has_key (key_of f.definition r) f.records
+    has_key-read = h ∙ copied found ∙ ap is_some read ∙ ap (λ x. has_key x f.records) (k_is ∙ ap (λ x. key_of x b) d_is ∙ ap (key_of f.definition) b_is)
+
+    pub load_fault-read : value_at name m ≡ Some f → (fits : Bool) → fits ≡ fits_file d b → load_fault (value_at name o.files) r ≡ record_fault fits there
+    load_fault-read file fits t = load_fault-tested f fits there file (t ∙ ap (λ x. fits_file x b) d_is ∙ ap (fits_file f.definition) b_is) has_key-read
+
+with_record-found : (o : OpeningState) (name r : Bytes) (f : FileOpening) → value_at name o.files ≡ Some f →
+    with_record o name r ≡ record { files = with_value name (loaded_file f r) o.files; prefixes = o.prefixes; queues = o.queues }
+with_record-found o name r f found = rw found refl
+
+-- a record that is written to a file is loaded into it, where its key is new
+pub opening_with-written : (m : Map FileValue) (name r : Bytes) (f : FileValue) → value_at name m ≡ Some f → has_key (key_of f.definition r) f.records ≡ false →
+    opening_with (with_value name (written f r) m) ≡ with_record (opening_with m) name r
+opening_with-written m name r f found new =
+    ap (λ b. opening_with (with_value name (if b then f else filled f (key_of f.definition r) r) m)) new
+    ∙ ap (λ files. record { files = files; prefixes = []; queues = [] }) (with_value-each opening_of name (filled f (key_of f.definition r) r) m)
+    ∙ sym (with_record-found (opening_with m) name r (opening_of f) (value_at-each opening_of name m ∙ ap (option_map opening_of) found))

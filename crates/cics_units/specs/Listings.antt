@@ -1,0 +1,25 @@
+-- Listings: the content of the files and queues, each in the order of the names.
+use Rattle.std.specs.Prelude.{Option, Some, None, map, []}
+use Rattle.cics_names.specs.Keyed.{value_at}
+use Rattle.cics_ksds.specs.Files.{records_of}
+use Rattle.cics_transdata.specs.declared.queues.Recovery.{Recovery}
+use Rattle.cics_transdata.specs.declared.queues.Recovery.TheVariants.{Unrecovered}
+use Rattle.cics_units.specs.Openings.{OpeningState, QueueOpening, file_recoverable, has_prefix_in}
+use Rattle.cics_units.specs.Store.{Store}
+use Rattle.cics_units.specs.declared.listings.Listing.{Listing}
+
+-- the recovery of a queue; one that isn't defined has none
+abbrev pub recovery_in : Option QueueOpening → Recovery
+recovery_in None = Unrecovered
+recovery_in (Some queue) = queue.recovery
+
+-- the listing of a store: each defined file with its records in key order, each temporary storage queue that is there
+-- with its items, each defined transient data queue with its records, and no task
+abbrev pub listing_of : OpeningState → Store → Listing
+listing_of o s =
+    record {
+      files = map (λ e. (e.0, file_recoverable o e.0, records_of e.1)) s.files;
+      ts = map (λ e. (e.0, has_prefix_in o.prefixes e.0, e.1)) s.ts;
+      td = map (λ e. (e.0, recovery_in (value_at e.0 o.queues), e.1)) s.td;
+      tasks = [];
+    }

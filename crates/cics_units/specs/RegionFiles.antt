@@ -1,0 +1,73 @@
+-- The files of a region, by name, and those of an opening.
+use Rattle.std.specs.Prelude.{◌≡◌, Bool, IsTrue, T, All, Option, Some, None, List, [], map, fold}
+use Rattle.cics_names.specs.Keyed.{Bytes, Map, with_value, is_rising}
+use Rattle.cics_ksds.specs.Files.{FileValue, IsContent, key_of, fits_file, records_of, written, rewritten, deleted}
+use Rattle.cics_units.specs.Openings.{FileOpening}
+
+-- a record can be written to a file that is there and that it fits
+abbrev pub IsFitFor : Option FileValue → Bytes → Type 0
+IsFitFor None r = ⊥
+IsFitFor (Some f) r = IsTrue (fits_file f.definition r)
+
+-- a file is there
+abbrev pub IsThere : Option FileValue → Type 0
+IsThere None = ⊥
+IsThere (Some f) = Unit {0}
+
+-- the key of a record in a file
+abbrev pub key_in : FileValue → Bytes → Bytes
+key_in f r = key_of f.definition r
+
+-- a file takes the place of the one that has its name
+abbrev pub replaced : Map FileValue → Bytes → FileValue → Option FileValue → Map FileValue
+replaced files name f None = files
+replaced files name f (Some old) = with_value name f files
+
+-- a record is written to one of the files, and the others stay
+abbrev pub written_in : Map FileValue → Bytes → Bytes → Option FileValue → Map FileValue
+written_in files name r None = files
+written_in files name r (Some f) = with_value name (written f r) files
+
+-- a record is replaced in one of the files, and the others stay
+abbrev pub rewritten_in : Map FileValue → Bytes → Bytes → Option FileValue → Map FileValue
+rewritten_in files name r None = files
+rewritten_in files name r (Some f) = with_value name (rewritten f r) files
+
+-- a record is deleted in one of the files, which keeps an empty place for it where that is asked for
+abbrev pub deleted_in : Map FileValue → Bytes → Bytes → Bool → Option FileValue → Map FileValue
+deleted_in files name key keep None = files
+deleted_in files name key keep (Some f) = with_value name (deleted keep f key) files
+
+-- the listing of files: each with its name, whether it is recoverable, and its records in key order
+abbrev pub files_listed : Map FileValue → List (Bytes × Bool × List Bytes)
+files_listed files = map (λ e. (e.0, e.1.definition.recoverable, records_of e.1.records)) files
+
+-- what a file was defined with and has loaded
+abbrev pub opening_of : FileValue → FileOpening
+opening_of f = record { definition = f.definition; records = f.records }
+
+-- the files of an opening, as definitions and records
+abbrev pub openings_of : Map FileValue → Map FileOpening
+openings_of files = map (λ e. (e.0, opening_of e.1)) files
+
+-- the file that an opening gives: it has the records that were loaded, and no empty place
+abbrev pub file_of : FileOpening → FileValue
+file_of f = record { definition = f.definition; records = f.records; empties = [] }
+
+-- the files that a region begins with
+abbrev pub opened_files : Map FileOpening → Map FileValue
+opened_files files = map (λ e. (e.0, file_of e.1)) files
+
+-- a file has loaded records alone: each stands under its own key, fits, and the keys rise; no place is empty
+pub record IsLoaded (f : FileValue) : Type 0 where
+  pub content : IsContent f.definition f.records
+  pub empties : f.empties ≡ []
+
+-- the names of an opening's files rise, and each file has loaded records alone
+pub record AreLoaded (files : Map FileValue) : Type 0 where
+  pub rising : T (is_rising files)
+  pub loaded : All (λ e. IsLoaded e.1) files
+
+-- entries that are put into an empty map, the first one first
+abbrev pub refilled : {X : Type 0} → Map X → Map X
+refilled es = fold (λ m e. with_value e.0 e.1 m) [] es

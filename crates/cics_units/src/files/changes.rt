@@ -1,0 +1,78 @@
+//! Changes of one file of a region, with the images that undo them.
+
+ghost use Rattle.std.specs.Prelude.{◌≡◌, IfOk, IfSome, OnOk, OnErr, Some, option_map};
+ghost use Rattle.cics_names.specs.Keyed.{value_at};
+ghost use Rattle.cics_images.specs.Cells.{is_other};
+ghost use Rattle.cics_ksds.specs.Files.{change_condition};
+ghost use Rattle.cics_ksds.specs.Undo.{rewritten_image, deleted_image};
+ghost use Rattle.cics_units.specs.RegionFiles.{IsFitFor, IsThere, key_in, rewritten_in, deleted_in, refilled};
+ghost use Rattle.cics_units.specs.FilesImages.{cell_of, FilesKeep};
+ghost use Rattle.cics_units.specs.FilesChanges.{IsFilesImage};
+
+use crate::files::Files;
+use cics_images::Changed;
+use cics_ksds::FileImage;
+use cics_names::{Name8, NoMemory, Record};
+
+impl Files {
+    /// Replaces the record of its key in the file of a name: REWRITE. It takes no memory.
+    pub fn rewrite(&mut self, name: &Name8, content: Record, keep: bool) -> Changed<FileImage>
+        requires { IsFitFor (value_at name.now self.old) content }
+        ensures condition { IfSome (value_at name.now self.old) (λ f. result.condition ≡ change_condition f.records (key_in f content)) }
+        ensures image { IfSome (value_at name.now self.old) (λ f. result.image ≡ rewritten_image keep f content) }
+        ensures files { self.new ≡ rewritten_in self.old name.now content (value_at name.now self.old) }
+        ensures undoable { IfSome (value_at name.now self.old) (λ f. IfSome result.image
+            (λ i. IsFilesImage self.old self.new (cell_of name.now (key_in f content)) (record { file = name.now; image = i }))) }
+        ensures others { IfSome (value_at name.now self.old) (λ f.
+            FilesKeep (is_other (cell_of name.now (key_in f content))) self.old self.new) }
+    {
+        match self.rows.get_mut(name) {
+            Some(file) => file.rewrite(content, keep),
+            None => unreachable!(),
+        }
+    }
+
+    /// Deletes the record of a key in the file of a name: DELETE.
+    pub fn delete(
+        &mut self,
+        name: &Name8,
+        key: &[u8],
+        keep: bool,
+    ) -> Result<Changed<FileImage>, NoMemory>
+        requires { IsThere (value_at name.now self.old) }
+        ensures condition { IfOk result (λ changed. IfSome (value_at name.now self.old) (λ f. changed.condition ≡ change_condition f.records key.now)) }
+        ensures image { IfOk result (λ changed. IfSome (value_at name.now self.old) (λ f. changed.image ≡ deleted_image keep f key.now)) }
+        ensures files { OnOk result (self.new ≡ deleted_in self.old name.now key.now keep (value_at name.now self.old)) }
+        ensures undoable { IfOk result (λ changed. IfSome changed.image
+            (λ i. IsFilesImage self.old self.new (cell_of name.now key.now) (record { file = name.now; image = i }))) }
+        ensures others { FilesKeep (is_other (cell_of name.now key.now)) self.old self.new }
+        ensures err { OnErr result (self.new ≡ self.old) }
+    {
+        match self.rows.get_mut(name) {
+            Some(file) => file.delete(key, keep),
+            None => unreachable!(),
+        }
+    }
+}
+
+impl Files {
+    // The files one after the other, each put among those before it.
+    fn refill(&self) -> Result<Files, NoMemory>
+        ensures { IfOk result (λ files. files ≡ refilled self.now) }
+    {
+        let mut files = Files::new(self.alloc);
+        for (name, file) in &self.rows {
+            files.insert(*name, file.copy()?)?;
+        }
+        Ok(files)
+    }
+
+    /// Files of their own with the same names, definitions and contents. It takes memory for each
+    /// record, and an `Err` comes only where memory is refused.
+    pub fn copy(&self) -> Result<Files, NoMemory>
+        ensures { IfOk result (λ files. files ≡ self.now) }
+    {
+        let _rows = &self.rows;
+        self.refill()
+    }
+}
