@@ -1,0 +1,79 @@
+-- What is checked of a command before it looks at what other units hold. The order is: the file or queue that it names is
+-- defined; the length of its key; the length of its FROM or RESOURCE; the update read and the browse of its task; the key
+-- in its record. The first check that fails is answered, and takes no memory.
+use Rattle.std.specs.Prelude.{ℕ, Bool, false, not, ◌&&◌, ◌||◌, Option, Some, None, is_some, is_none, nat_le, length, [], ◌∷◌}
+use Rattle.cics_names.specs.Keyed.{Bytes, value_at, has_key}
+use Rattle.cics_names.specs.declared.conditions.Condition.{Condition}
+use Rattle.cics_names.specs.declared.conditions.Condition.TheVariants.{Dsiderr, Invreq, Lengerr, Qiderr}
+use Rattle.cics_ksds.specs.declared.definition.FileDef.{FileDef}
+use Rattle.cics_browse.specs.Positions.{Position}
+use Rattle.cics_units.specs.Execution.{has_read, is_item}
+use Rattle.cics_dispatch.specs.Lengths.{fault_unless, first_fault, key_fault, is_within, used_of, from_fault, own_key_fault, write_fault}
+use Rattle.cics_dispatch.specs.Machine.{Machine, Task, definition_of}
+use Rattle.cics_dispatch.specs.declared.commands.Verb.{Verb}
+use Rattle.cics_dispatch.specs.declared.commands.Verb.TheVariants.{Read, Write, Rewrite, Delete, Unlock, StartBr, ResetBr, ReadNext, ReadPrev, EndBr, WriteqTs, WriteqTd, ReadqTd, DeleteqTd, Enq, Deq}
+
+-- a file that isn't defined is DSIDERR, before every other check
+abbrev pub defined_fault : Option FileDef → (FileDef → Option Condition) → Option Condition
+defined_fault None check = Some Dsiderr
+defined_fault (Some d) check = check d
+
+-- a transient data queue that isn't defined is QIDERR, before every other check
+abbrev pub queue_fault : Machine → Bytes → Option Condition
+queue_fault m q = fault_unless (has_key q m.units.opening.queues) Qiderr
+
+-- an item or a transient data record that LENGTH overruns, or of no byte or too many, is LENGERR
+abbrev pub item_fault : Bytes → Option ℕ → Option Condition
+item_fault from n = fault_unless (is_within from n && is_item (used_of from n)) Lengerr
+
+-- ENQ and DEQ: LENGTH is 1 to 255, and not above the length of the value as written, else LENGERR
+abbrev pub resource_fault : Bytes → ℕ → Option Condition
+resource_fault value n = fault_unless (nat_le 1 n && nat_le n 255 && nat_le n (length value)) Lengerr
+
+-- the key of the task's open update read of a file
+abbrev pub open_key : Machine → Task → Bytes → Option Bytes
+open_key m t f = has_read m.units t.unit f
+
+-- READ UPDATE goes with neither GTEQ nor GENERIC; its key's length; no second update read of the file
+abbrev pub read_fault : FileDef → Option Bytes → Bytes → Option ℕ → Bool → Bool → Bool → Option Condition
+read_fault d open_read key given generic gteq update =
+    first_fault (fault_unless (not (update && (gteq || generic))) Invreq ∷ key_fault d key given generic ∷ fault_unless (not (update && is_some open_read)) Invreq ∷ [])
+
+-- REWRITE: the length of its record, then an update read that is open, then the key that was read is the key in the record
+abbrev pub rewrite_fault : FileDef → Option Bytes → Bytes → Option ℕ → Option Condition
+rewrite_fault d None from n = first_fault (from_fault d from n ∷ Some Invreq ∷ [])
+rewrite_fault d (Some key) from n = first_fault (from_fault d from n ∷ own_key_fault d key from n ∷ [])
+
+-- DELETE with RIDFLD: the length of its key. Without RIDFLD there is no KEYLENGTH, and an update read is open
+abbrev pub delete_fault : FileDef → Option Bytes → Option Bytes → Option ℕ → Option Condition
+delete_fault d open_read (Some key) given = key_fault d key given false
+delete_fault d open_read None given = fault_unless (is_none given && is_some open_read) Invreq
+
+-- READNEXT, READPREV, RESETBR and ENDBR have a browse that is open
+abbrev pub browse_fault : Option Position → Option Condition
+browse_fault browse = fault_unless (is_some browse) Invreq
+
+-- READPREV is no command of a browse that was started with GENERIC
+abbrev pub back_fault : Option Position → Option Condition
+back_fault None = Some Invreq
+back_fault (Some p) = fault_unless (not p.generic) Invreq
+
+-- the first fault of a command
+abbrev pub fault_of : Machine → Task → Verb → Option Condition
+fault_of m t (Read f key given n generic gteq update) = defined_fault (definition_of m f) (λ d. read_fault d (open_key m t f) key given generic gteq update)
+fault_of m t (Write f key given from n) = defined_fault (definition_of m f) (λ d. write_fault d key given from n)
+fault_of m t (Rewrite f from n) = defined_fault (definition_of m f) (λ d. rewrite_fault d (open_key m t f) from n)
+fault_of m t (Delete f key given) = defined_fault (definition_of m f) (λ d. delete_fault d (open_key m t f) key given)
+fault_of m t (Unlock f) = defined_fault (definition_of m f) (λ d. None)
+fault_of m t (StartBr f key given generic equal) = defined_fault (definition_of m f) (λ d. first_fault (key_fault d key given generic ∷ fault_unless (not (has_key f t.browses)) Invreq ∷ []))
+fault_of m t (ResetBr f key given generic equal) = defined_fault (definition_of m f) (λ d. first_fault (key_fault d key given generic ∷ browse_fault (value_at f t.browses) ∷ []))
+fault_of m t (ReadNext f n) = defined_fault (definition_of m f) (λ d. browse_fault (value_at f t.browses))
+fault_of m t (ReadPrev f n) = defined_fault (definition_of m f) (λ d. back_fault (value_at f t.browses))
+fault_of m t (EndBr f) = defined_fault (definition_of m f) (λ d. browse_fault (value_at f t.browses))
+fault_of m t (WriteqTs q from n item) = item_fault from n
+fault_of m t (WriteqTd q from n) = first_fault (queue_fault m q ∷ item_fault from n ∷ [])
+fault_of m t (ReadqTd q n nosuspend) = queue_fault m q
+fault_of m t (DeleteqTd q) = queue_fault m q
+fault_of m t (Enq value n nosuspend) = resource_fault value n
+fault_of m t (Deq value n) = resource_fault value n
+fault_of m t _ = None

@@ -1,0 +1,77 @@
+-- Waiting commands (chapter on task control): which one goes on, which one's time is over, and the clock.
+use Rattle.std.specs.Prelude.{ℕ, ◌-◌, Bool, false, ◌&&◌, if◌then◌else◌, Option, Some, None, is_none, Result, nat_le, nat_lt, take, List, [], ◌∷◌}
+use Rattle.cics_units.specs.Holding.{awaited, value_holder}
+use Rattle.cics_units.specs.declared.ops.Op.{Op}
+use Rattle.cics_dispatch.specs.Machine.{Machine, Task, Suspended, task_at, with_waiting, not_waiting, abended, timed_out}
+use Rattle.cics_dispatch.specs.Steps.{Stepped, op_of, performed, refused_or}
+use Rattle.cics_dispatch.specs.declared.commands.Verb.{Verb}
+use Rattle.cics_dispatch.specs.declared.commands.Verb.TheVariants.{Enq}
+use Rattle.cics_dispatch.specs.declared.outcomes.Woken.{Woken}
+use Rattle.cics_dispatch.specs.declared.outcomes.Expired.{Expired}
+use Rattle.cics_dispatch.specs.declared.outcomes.Refused.{Refused}
+use Rattle.cics_dispatch.specs.declared.outcomes.Refused.TheVariants.{ClockBack}
+
+-- ---- The clock
+
+-- the clock doesn't go back
+abbrev pub clock_refusal : Machine → ℕ → Option Refused
+clock_refusal m now = if nat_lt now m.clock then Some ClockBack else None
+
+-- the clock is refused, or set
+abbrev pub clock_set : Machine → ℕ → Stepped (Result (Unit {0}) Refused)
+clock_set m now = refused_or m (clock_refusal m now) (record { outcome = tt; machine = record m { clock = now } })
+
+-- ---- Waking
+
+-- the unit that a command must wait for, if it must. Only updating commands and ENQ wait
+abbrev pub holder_for : Machine → Task → Verb → Option Op → Option ℕ
+holder_for m t verb (Some o) = awaited m.units t.unit o
+holder_for m t (Enq value n nosuspend) None = value_holder m.units t.unit (take n value)
+holder_for m t _ None = None
+
+-- a waiting command may go on where it needn't wait any more
+abbrev pub may_go_on : Machine → Suspended → Option Task → Bool
+may_go_on m w None = false
+may_go_on m w (Some t) = is_none (holder_for m t w.command.verb (op_of m t w.command.verb))
+
+-- the first command that may go on, in the order in which the waits began
+abbrev pub first_free : Machine → List Suspended → Option Suspended
+first_free m [] = None
+first_free m (w ∷ ws) = if may_go_on m w (task_at m.tasks w.label) then Some w else first_free m ws
+
+-- a woken command waits no more, and goes on from the look at what other units hold
+abbrev pub went_on : Machine → Suspended → Option Task → Stepped (Option Woken)
+went_on m w None = record { outcome = None; machine = m }
+went_on m w (Some t) =
+    let s = performed (with_waiting m (not_waiting m.waiting w.label)) t w.command in
+    record { outcome = Some (record { label = w.label; outcome = s.outcome }); machine = s.machine }
+
+-- a waiting command goes on, if there is one
+abbrev pub woken_first : Machine → Option Suspended → Stepped (Option Woken)
+woken_first m None = record { outcome = None; machine = m }
+woken_first m (Some w) = went_on m w (task_at m.tasks w.label)
+
+-- the first command that may go on goes on
+abbrev pub woken : Machine → Stepped (Option Woken)
+woken m = woken_first m (first_free m m.waiting)
+
+-- ---- Time-out
+
+-- a task has waited too long once the clock is its DTIMOUT past the wait's begin. A DTIMOUT of 0 is no limit
+abbrev pub is_late : Machine → Suspended → Option Task → Bool
+is_late m w None = false
+is_late m w (Some t) = nat_lt 0 t.dtimout && nat_le t.dtimout (m.clock - w.since)
+
+-- the first task that has waited too long, in the order in which the waits began
+abbrev pub first_late : Machine → List Suspended → Option Task
+first_late m [] = None
+first_late m (w ∷ ws) = if is_late m w (task_at m.tasks w.label) then task_at m.tasks w.label else first_late m ws
+
+-- a task that has waited too long is abended with AKCS
+abbrev pub expired_task : Machine → Option Task → Stepped (Option Expired)
+expired_task m None = record { outcome = None; machine = m }
+expired_task m (Some t) = record { outcome = Some (record { label = t.label; code = timed_out }); machine = abended m t }
+
+-- the first task that has waited too long is abended
+abbrev pub expired : Machine → Stepped (Option Expired)
+expired m = expired_task m (first_late m m.waiting)

@@ -1,0 +1,85 @@
+//! What comes of an event.
+
+use cics_names::{AbendCode, Condition, Name8, NoMemory, Record};
+
+/// The number that a reply carries.
+#[derive(Clone, Copy, Debug, PartialEq, Eq)]
+pub enum Number {
+    /// The number of an item of temporary storage, from 1 on.
+    Item(u64),
+}
+
+/// What a command was answered.
+#[derive(Debug, PartialEq, Eq, Drop)]
+pub struct Reply {
+    /// The condition. What follows is there at NORMAL, and where the task takes fewer bytes than there
+    /// are at LENGERR.
+    pub condition: Condition,
+    /// The key of the record that a browse gave.
+    pub key: Option<Record>,
+    /// The record or item that was read, at LENGERR its first bytes.
+    pub content: Option<Record>,
+    /// The number of the item that was read or written.
+    pub number: Option<Number>,
+}
+
+/// What came of a command.
+#[derive(Debug, PartialEq, Eq, Drop)]
+pub enum Outcome {
+    /// The task goes on with this reply.
+    Replied(Reply),
+    /// The command waits, and nothing of it was executed. The label is that of a task whose unit of
+    /// work holds what the command needs.
+    Waiting(Name8),
+    /// The task has ended with this code and its unit of work is backed out: by the reply's condition,
+    /// which nothing handled, or without a reply by ABEND.
+    Abended(AbendCode, Option<Reply>),
+    /// The task has ended by RETURN.
+    Ended,
+}
+
+/// A waiting command that went on.
+#[derive(Debug, PartialEq, Eq, Drop)]
+pub struct Woken {
+    /// The label of its task.
+    pub label: Name8,
+    /// What came of it, which is never `Waiting`.
+    pub outcome: Outcome,
+}
+
+/// A waiting task whose time was over, and which has been abended.
+#[derive(Clone, Copy, Debug, PartialEq, Eq)]
+pub struct Expired {
+    /// The label of the task.
+    pub label: Name8,
+    /// The code of its abend.
+    pub code: AbendCode,
+}
+
+/// Why an event was refused. A refused event changes nothing.
+#[derive(Clone, Copy, Debug, PartialEq, Eq)]
+pub enum Refused {
+    /// Memory was refused.
+    NoMemory,
+    /// No task has the label.
+    NoTask,
+    /// A command of the task waits.
+    TaskWaiting,
+    /// The task has ended.
+    TaskEnded,
+    /// A task has the label already, be it one that has ended.
+    DuplicateLabel,
+    /// The clock would go back.
+    ClockBack,
+}
+
+impl From<NoMemory> for Refused {
+    ghost use Rattle.std.specs.Prelude.{◌≡◌};
+    ghost use Rattle.cics_dispatch.specs.declared.outcomes.Refused.TheVariants.{NoMemory as Wanting};
+
+    ghost from_gives = { λ _ refusal. refusal ≡ Wanting };
+
+    fn from(_want: NoMemory) -> Refused {
+        Refused::NoMemory
+    }
+}

@@ -1,0 +1,73 @@
+//! Plain READ.
+
+ghost use Rattle.std.specs.Prelude.{◌≡◌, IsTrue, IfOk, false};
+ghost use Rattle.cics_browse.specs.Positions.{is_asked_for};
+ghost use Rattle.cics_ksds.specs.Files.{first_from, key_of, fits_file};
+ghost use Rattle.cics_dispatch.specs.Replies.{read_reply, plain, giving, cut};
+
+use crate::outcomes::Reply;
+use cics_ksds::{File, FileDef};
+use cics_names::{Condition, NoMemory, Record};
+
+/// A reply of a condition alone.
+pub(crate) fn plain_reply(condition: Condition) -> Reply
+    ensures { result ≡ plain condition }
+{
+    Reply {
+        condition,
+        key: None,
+        content: None,
+        number: None,
+    }
+}
+
+// Whether EQUAL asks for the record that was found.
+fn is_wanted(definition: FileDef, found: &Record, key: &[u8], generic: bool) -> bool
+    requires { IsTrue (fits_file definition found.now) }
+    ensures { result ≡ is_asked_for key.now generic (key_of definition found.now) }
+{
+    let own = definition.key_in(found.bytes());
+    if generic {
+        own.starts_with(key)
+    } else {
+        key.cmp(&own).is_eq()
+    }
+}
+
+// The reply that gives a copy of a record, or with LENGTH below its length LENGERR and its first bytes.
+fn reply_giving(found: &Record, length: Option<u64>) -> Result<Reply, NoMemory>
+    ensures { IfOk result (λ reply. reply ≡ cut length (giving found.now)) }
+{
+    let (condition, content) = match length {
+        Some(length) if length < found.bytes().len() as u64 => {
+            (Condition::Lengerr, found.part(0, length as usize)?)
+        }
+        _ => (Condition::Normal, found.copy()?),
+    };
+    Ok(Reply {
+        condition,
+        key: None,
+        content: Some(content),
+        number: None,
+    })
+}
+
+/// The reply of a READ without UPDATE. Only the copy of the record that is found takes memory.
+pub(crate) fn read_plain(
+    file: &File,
+    key: &[u8],
+    length: Option<u64>,
+    generic: bool,
+    gteq: bool,
+) -> Result<Reply, NoMemory>
+    ensures { IfOk result (λ reply. reply ≡ cut length (read_reply file.now.records key.now generic gteq)) }
+{
+    let Some(found) = file.first_from(key, false) else {
+        return Ok(plain_reply(Condition::Notfnd));
+    };
+    if gteq || is_wanted(file.definition(), found, key, generic) {
+        reply_giving(found, length)
+    } else {
+        Ok(plain_reply(Condition::Notfnd))
+    }
+}
