@@ -1,0 +1,72 @@
+-- Literals, one byte further.
+use Rattle.std.proofs.Common.{◌≡◌, ℕ, List, [], ◌∷◌, ◌++◌, refl, ap, sym, ◌∙◌, Some, None, append_assoc}
+use Rattle.std.specs.Prelude.{option_map}
+use Rattle.cics_script.specs.declared.literals.Encoding.{Encoding}
+use Rattle.cics_script.specs.declared.literals.Encoding.TheVariants.{AsWritten, Ebcdic}
+use Rattle.cics_script.specs.declared.literals.Notation.{Notation}
+use Rattle.cics_script.specs.declared.literals.Notation.TheVariants.{Quoted, Hexadecimal}
+use Rattle.cics_script.specs.Tokens.{Text, with_byte}
+use Rattle.cics_script.specs.Literals.{said, encoded, encoded_text, recorded}
+
+-- bytes in front of a text
+abbrev pub with_front : List ℕ → Text → Text
+with_front front None = None
+with_front front (Some t) = Some (front ++ t.0, t.1)
+
+-- a text in an encoding
+abbrev pub coded : Encoding → Text → Text
+coded encoding None = None
+coded encoding (Some t) = Some (encoded_text encoding t.0, t.1)
+
+-- a byte behind the front
+with_front-byte : (front : List ℕ) (byte : ℕ) (t : Text) → with_front (front ++ byte ∷ []) t ≡ with_front front (with_byte byte t)
+with_front-byte front byte None = refl
+with_front-byte front byte (Some t) = ap (λ x. Some (x, t.1)) (append_assoc front (byte ∷ []) t.0)
+
+coded-with_byte : (encoding : Encoding) (byte : ℕ) (t : Text) → coded encoding (with_byte byte t) ≡ with_byte (encoded encoding byte) (coded encoding t)
+coded-with_byte encoding byte None = refl
+coded-with_byte AsWritten byte (Some t) = refl
+coded-with_byte Ebcdic byte (Some t) = refl
+
+-- one byte more of a literal is copied
+pub copied-more : (encoding : Encoding) (front : List ℕ) (byte : ℕ) (whole : Text) (here after : Text)
+    → with_front front (coded encoding here) ≡ whole → here ≡ with_byte byte after
+    → with_front (front ++ encoded encoding byte ∷ []) (coded encoding after) ≡ whole
+copied-more encoding front byte whole here after so_far step =
+    with_front-byte front (encoded encoding byte) (coded encoding after)
+    ∙ ap (with_front front) (sym (coded-with_byte encoding byte after) ∙ ap (coded encoding) (sym step))
+    ∙ so_far
+
+-- what was copied at the literal's end
+said-coded : (encoding : Encoding) (t : Text) → said (coded encoding t) ≡ encoded_text encoding (said t)
+said-coded AsWritten None = refl
+said-coded Ebcdic None = refl
+said-coded encoding (Some t) = refl
+
+encoded_text-nil : (encoding : Encoding) → encoded_text encoding [] ≡ []
+encoded_text-nil AsWritten = refl
+encoded_text-nil Ebcdic = refl
+
+pub copied-all : (encoding : Encoding) (front : List ℕ) (rest : List ℕ) (whole here : Text)
+    → with_front front (coded encoding here) ≡ coded encoding whole → here ≡ Some ([], rest) → front ++ [] ≡ encoded_text encoding (said whole)
+copied-all encoding front rest whole here so_far end =
+    ap (λ text. front ++ text) (sym (encoded_text-nil encoding))
+    ∙ ap (λ t. said (with_front front (coded encoding t))) (sym end) ∙ ap said so_far ∙ said-coded encoding whole
+
+pub copied-none : (encoding : Encoding) (front : List ℕ) (whole here : Text)
+    → with_front front (coded encoding here) ≡ coded encoding whole → here ≡ None → [] ≡ encoded_text encoding (said whole)
+copied-none encoding front whole here so_far bad =
+    ap (λ t. said (with_front front (coded encoding t))) (sym bad) ∙ ap said so_far ∙ said-coded encoding whole
+
+pub recorded-hexadecimal : (notation : Notation) (bytes : List ℕ) → notation ≡ Hexadecimal → bytes ≡ recorded notation bytes
+recorded-hexadecimal Quoted bytes e = cc
+recorded-hexadecimal Hexadecimal bytes e = refl
+
+-- what follows a literal, one byte further
+rest-with_byte : (byte : ℕ) (t : Text) → option_map (λ t. t.1) (with_byte byte t) ≡ option_map (λ t. t.1) t
+rest-with_byte byte None = refl
+rest-with_byte byte (Some t) = refl
+
+pub rest-more : (byte : ℕ) (whole here after : Text) → option_map (λ t. t.1) here ≡ option_map (λ t. t.1) whole → here ≡ with_byte byte after
+    → option_map (λ t. t.1) after ≡ option_map (λ t. t.1) whole
+rest-more byte whole here after so_far step = sym (rest-with_byte byte after) ∙ ap (option_map (λ t. t.1)) (sym step) ∙ so_far

@@ -1,0 +1,26 @@
+use Rattle.std.proofs.Common.{arith, ◌<◌, ◌∙◌, sym, ap, length}
+use Rattle.cics_script.specs.Options.{reads, at_option}
+use Rattle.cics_script.specs.Views.{entries}
+use Rattle.cics_script.proofs.OptionSteps.{refuses_behind, first-word, entries-more}
+use Rattle.cics_script.proofs.options.read_options.Goals as goal
+
+pub returns-in-Err-read_option : goal.returns-in-Err-read_option
+returns-in-Err-read_option c =
+    let first = first-word c.options.rest.now c.in-Ok-Some.field-0 c.in-Ok-Some.next c.in-Word.word c.in-Ok-Some.ensures c.in-Ok-Some.field-0-is c.in-Word.is in
+    refuses_behind _ _ c.in-Err-read_option.fault
+    (sym c.options.invariant ∙ ap (λ ts. reads c.args.form (at_option c.options.last) (entries c.options.found.items) ts) first.0)
+    (rw c.deref.ensures.value at (c.in-Err-read_option.ensures c.options.last))
+
+pub options-smaller : goal.options-smaller
+options-smaller c =
+    let first = first-word c.options.rest.now c.in-Ok-Some.field-0 c.in-Ok-Some.next c.in-Word.word c.in-Ok-Some.ensures c.in-Ok-Some.field-0-is c.in-Word.is in
+    let shorter = (c.in-Ok.ensures c.options.last).1 in
+    let goes : length c.in-Ok.next.rest.now < length c.options.rest.now = omega (arith, first.1, shorter) in
+    goes
+
+pub options-preserved : goal.options-preserved
+options-preserved c =
+    let first = first-word c.options.rest.now c.in-Ok-Some.field-0 c.in-Ok-Some.next c.in-Word.word c.in-Ok-Some.ensures c.in-Ok-Some.field-0-is c.in-Word.is in
+    let step = rw c.deref.ensures.value at (c.in-Ok.ensures c.options.last).0 in
+    rw (c.in-Ok-push.ensures.items, entries-more c.options.found.items c.in-Ok.next.one)
+    (sym step ∙ sym (ap (λ ts. reads c.args.form (at_option c.options.last) (entries c.options.found.items) ts) first.0) ∙ c.options.invariant)

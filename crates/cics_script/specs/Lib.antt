@@ -1,0 +1,10 @@
+pub mod Faults
+pub mod Tokens
+pub mod Literals
+pub mod Words
+pub mod Options
+pub mod Views
+pub mod Values
+pub mod Commands
+pub mod Lines
+pub mod Spelling

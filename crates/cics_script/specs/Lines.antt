@@ -1,0 +1,142 @@
+-- What the bytes of a line say.
+use Rattle.std.specs.Prelude.{ℕ, Bool, true, false, IsTrue, not, ◌&&◌, ◌||◌, ◌==◌, nat_le, nat_lt, if◌then◌else◌, List, [], ◌∷◌, length, Option, None, Some, Result, Ok, Err, unwrap_or, is_some}
+use Rattle.std.specs.List.{list_all}
+use Rattle.std.specs.Str.{bytes_eq}
+use Rattle.cics_names.specs.Names.{name_of}
+use Rattle.cics_names.specs.declared.names.NameFault.{NameFault}
+use Rattle.cics_script.specs.declared.lines.Line.{Line}
+use Rattle.cics_script.specs.declared.lines.Line.TheVariants as line_of
+use Rattle.cics_script.specs.declared.faults.LineFault.{LineFault}
+use Rattle.cics_script.specs.declared.faults.LineFault.TheVariants.{TooLong, NotAscii, UnknownWord}
+use Rattle.cics_script.specs.declared.words.Start.{Start}
+use Rattle.cics_script.specs.declared.words.Start.TheVariants as start
+use Rattle.cics_script.specs.declared.words.DefineObject.{DefineObject}
+use Rattle.cics_script.specs.declared.words.DefineObject.TheVariants as defined
+use Rattle.cics_script.specs.declared.words.LoadObject.{LoadObject}
+use Rattle.cics_script.specs.declared.words.LoadObject.TheVariants as loaded
+use Rattle.cics_script.specs.declared.words.Form.TheVariants as form
+use Rattle.cics_script.specs.declared.words.OptionWord.TheVariants.{File, KeyLength, KeyOffset, RecordSize, Recoverable, Unrecoverable, From, Transid}
+use Rattle.cics_script.specs.Faults.{◌>>=◌}
+use Rattle.cics_script.specs.Tokens.{Token, word, broken, is_capital, is_digit, after_blanks, tokens}
+use Rattle.cics_script.specs.Words.{lookup, starts, define_objects, load_objects, commands}
+use Rattle.cics_script.specs.Values.{has, text_at, name8_at, name4_at, amount_at, needed}
+use Rattle.cics_dispatch.specs.OneTask.{is_first_path}
+use Rattle.cics_script.specs.Commands.{verb_in, is_handled}
+use Rattle.cics_script.specs.Options.{Entry, options}
+use lib.Chars.{codes}
+
+-- RECOVERABLE or UNRECOVERABLE
+abbrev pub recovery_in : List Entry → Option Bool
+recovery_in entries = if has Recoverable entries then Some true else if has Unrecoverable entries then Some false else None
+
+-- what DEFINE defines: a file's keys begin at 0 and its records have up to 32,767 bytes, where the line doesn't say otherwise
+abbrev pub definition_in : DefineObject → List Entry → Result Line LineFault
+definition_in defined.File entries =
+    needed (name8_at File entries) λ name. needed (amount_at KeyLength entries) λ key_length. needed (recovery_in entries) λ recoverable.
+    Ok (line_of.DefineFile name (record {
+      key_length = key_length;
+      key_offset = unwrap_or (amount_at KeyOffset entries) 0;
+      record_size = unwrap_or (amount_at RecordSize entries) 32767;
+      recoverable = recoverable;
+    }))
+
+-- what LOAD loads
+abbrev pub load_in : LoadObject → List Entry → Result Line LineFault
+load_in loaded.File entries =
+    needed (name8_at File entries) λ name. needed (text_at From entries) λ record_bytes.
+    Ok (line_of.LoadFile name record_bytes)
+
+-- what ATTACH attaches, without a time-out
+abbrev pub attach_in : List ℕ → List Entry → Result Line LineFault
+attach_in label entries = needed (name4_at Transid entries) λ transaction. Ok (line_of.Attach label transaction 0)
+
+-- the word in front, where a word has to stand
+abbrev pub word_first : List Token → Result (List ℕ × List Token) LineFault
+word_first [] = Err UnknownWord
+word_first (word w ∷ rest) = Ok (w, rest)
+word_first (broken fault ∷ rest) = Err fault
+word_first (token ∷ rest) = Err UnknownWord
+
+-- what a table has for a word that has to be in it
+abbrev pub known : {X : Type 0} → Option X → Result X LineFault
+known None = Err UnknownWord
+known (Some x) = Ok x
+
+-- what stands behind this word
+abbrev pub behind : List ℕ → List Token → Result (List Token) LineFault
+behind wanted rest = word_first rest >>= λ first. if bytes_eq first.0 wanted then Ok first.1 else Err UnknownWord
+
+-- a label, padded
+abbrev pub as_label : Result (List ℕ) NameFault → Result (List ℕ) LineFault
+as_label (Ok label) = Ok label
+as_label (Err fault) = Err UnknownWord
+
+-- a label is a word of up to eight letters and digits that begins no other line
+abbrev pub label_in : List ℕ → Result (List ℕ) LineFault
+label_in w =
+    if is_some (lookup w starts) then Err UnknownWord
+    else if list_all (λ c. is_capital c || is_digit c) w then as_label (name_of 8 w)
+    else Err UnknownWord
+
+-- DEFINE, behind the word; what it defines is the first of its options
+abbrev pub define : List Token → Result Line LineFault
+define rest =
+    word_first rest >>= λ first. known (lookup first.0 define_objects) >>= λ object.
+    options (form.Define object) rest >>= λ entries. definition_in object entries
+
+-- LOAD, behind the word; what it loads is the first of its options
+abbrev pub load : List Token → Result Line LineFault
+load rest =
+    word_first rest >>= λ first. known (lookup first.0 load_objects) >>= λ object.
+    options (form.Load object) rest >>= λ entries. load_in object entries
+
+-- ATTACH, behind the word
+abbrev pub attach : List Token → Result Line LineFault
+attach rest =
+    word_first rest >>= λ first. label_in first.0 >>= λ label.
+    options form.Attach first.1 >>= λ entries. attach_in label entries
+
+-- a command of the task with this label, from its verb on
+abbrev pub command_line : List ℕ → List Token → Result Line LineFault
+command_line label rest =
+    word_first rest >>= λ first. known (lookup first.0 commands) >>= λ verb.
+    options (form.Command verb) first.1 >>= λ entries. verb_in verb entries >>= λ made.
+    Ok (line_of.Issue label (record { verb = made; resp = is_handled entries }))
+
+-- a command of the task with this label, from EXEC on
+abbrev pub issue : List ℕ → List Token → Result Line LineFault
+issue label rest = behind (codes "EXEC") rest >>= λ rest. behind (codes "CICS") rest >>= λ rest. command_line label rest
+
+-- the line that its first word begins
+abbrev pub begun : Option Start → List ℕ → List Token → Result Line LineFault
+begun (Some start.Define) first rest = define rest
+begun (Some start.Load) first rest = load rest
+begun (Some start.Attach) first rest = attach rest
+begun (Some start.Reserved) first rest = Err UnknownWord
+begun None first rest = label_in first >>= λ label. issue label rest
+
+-- the line that these tokens are
+abbrev pub statement : List Token → Result Line LineFault
+statement line = word_first line >>= λ first. begun (lookup first.0 starts) first.0 first.1
+
+-- the bytes that a line may have: a tab, and the space and the printable characters of ASCII
+abbrev pub is_script_byte : ℕ → Bool
+is_script_byte c = (c == 9) || (nat_le 32 c && nat_le c 126)
+
+-- no bytes, or a comment
+abbrev pub is_empty_or_comment : List ℕ → Bool
+is_empty_or_comment [] = true
+is_empty_or_comment (c ∷ bytes) = c == 42
+
+-- what the bytes of a line say, without its line end
+abbrev pub line : List ℕ → Result Line LineFault
+line bytes =
+    if nat_lt 70000 (length bytes) then Err TooLong
+    else if not (list_all is_script_byte bytes) then Err NotAscii
+    else if is_empty_or_comment (after_blanks bytes) then Ok line_of.Blank
+    else statement (tokens bytes)
+
+-- a command that is read is one that a region of one task executes
+abbrev pub IsFirstPathLine : Line → Type 0
+IsFirstPathLine (line_of.Issue label command) = IsTrue (is_first_path command.verb)
+IsFirstPathLine _ = Unit {0}

@@ -1,0 +1,41 @@
+-- What a literal says, and the record that it writes.
+use Rattle.std.specs.Prelude.{◌≡◌, ◌<◌, ℕ, List, [], map, length, Some, None, unwrap_or}
+use Rattle.cics_names.specs.Ebcdic.{code_of}
+use Rattle.cics_names.specs.Names.{blank}
+use Rattle.cics_script.specs.Tokens.{Text, with_byte}
+use Rattle.cics_script.specs.declared.literals.Notation.{Notation}
+use Rattle.cics_script.specs.declared.literals.Notation.TheVariants.{Quoted, Hexadecimal}
+use Rattle.cics_script.specs.declared.literals.Encoding.{Encoding}
+use Rattle.cics_script.specs.declared.literals.Encoding.TheVariants.{AsWritten, Ebcdic}
+use Rattle.cics_script.specs.declared.literals.Piece.{Piece}
+use Rattle.cics_script.specs.declared.literals.Piece.TheVariants.{End, Byte, Bad}
+
+-- what a literal says: nothing where there is none
+abbrev pub said : Text → List ℕ
+said None = []
+said (Some t) = t.0
+
+-- a character in EBCDIC; each character of a literal has a code
+abbrev pub ebcdic : ℕ → ℕ
+ebcdic c = unwrap_or (code_of c) blank
+
+-- a byte in an encoding
+abbrev pub encoded : Encoding → ℕ → ℕ
+encoded AsWritten c = c
+encoded Ebcdic c = ebcdic c
+
+-- a text in an encoding
+abbrev pub encoded_text : Encoding → List ℕ → List ℕ
+encoded_text AsWritten text = text
+encoded_text Ebcdic text = map ebcdic text
+
+-- the record that a literal writes: the codes of its characters, or its bytes
+abbrev pub recorded : Notation → List ℕ → List ℕ
+recorded Quoted text = encoded_text Ebcdic text
+recorded Hexadecimal bytes = bytes
+
+-- what stands first in the rest of a literal: its end, a byte and what follows it, or nothing of a literal
+abbrev pub Begins : (List ℕ → Text) → List ℕ → Piece → Type 0
+Begins read bytes (End rest) = read bytes ≡ Some ([], rest.now)
+Begins read bytes (Byte byte rest) = (read bytes ≡ with_byte byte (read rest.now)) × (length rest.now < length bytes)
+Begins read bytes Bad = read bytes ≡ None

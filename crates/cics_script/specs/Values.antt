@@ -1,0 +1,59 @@
+-- What the options that were read give.
+use Rattle.std.specs.Prelude.{ℕ, Bool, if◌then◌else◌, List, [], ◌∷◌, Option, None, Some, Result, Err}
+use Rattle.std.specs.List.{list_any}
+use Rattle.std.specs.Option.{option_and_then}
+use Rattle.cics_script.specs.declared.faults.LineFault.{LineFault}
+use Rattle.cics_script.specs.declared.faults.LineFault.TheVariants.{MissingOption}
+use Rattle.cics_script.specs.declared.words.OptionWord.{OptionWord}
+use Rattle.cics_script.specs.Words.{same}
+use Rattle.cics_script.specs.Options.{Content, text, name8, name4, amount, Entry}
+
+-- whether an option is there
+abbrev pub has : OptionWord → List Entry → Bool
+has option entries = list_any (λ entry. same entry.0 option) entries
+
+-- what stands in an option's parentheses, where the option is there
+abbrev pub content_at : OptionWord → List Entry → Option Content
+content_at option [] = None
+content_at option (entry ∷ entries) = if same entry.0 option then Some entry.1 else content_at option entries
+
+-- a content that is a record
+abbrev pub as_text : Content → Option (List ℕ)
+as_text (text bytes) = Some bytes
+as_text content = None
+
+-- a content that is a name of eight bytes
+abbrev pub as_name8 : Content → Option (List ℕ)
+as_name8 (name8 bytes) = Some bytes
+as_name8 content = None
+
+-- a content that is a name of four bytes
+abbrev pub as_name4 : Content → Option (List ℕ)
+as_name4 (name4 bytes) = Some bytes
+as_name4 content = None
+
+-- a content that is a number
+abbrev pub as_amount : Content → Option ℕ
+as_amount (amount n) = Some n
+as_amount content = None
+
+-- the record that an option gives
+abbrev pub text_at : OptionWord → List Entry → Option (List ℕ)
+text_at option entries = option_and_then as_text (content_at option entries)
+
+-- the name of eight bytes that an option gives
+abbrev pub name8_at : OptionWord → List Entry → Option (List ℕ)
+name8_at option entries = option_and_then as_name8 (content_at option entries)
+
+-- the name of four bytes that an option gives
+abbrev pub name4_at : OptionWord → List Entry → Option (List ℕ)
+name4_at option entries = option_and_then as_name4 (content_at option entries)
+
+-- the number that an option gives
+abbrev pub amount_at : OptionWord → List Entry → Option ℕ
+amount_at option entries = option_and_then as_amount (content_at option entries)
+
+-- what a line can't do without, and what is made with it
+abbrev pub needed : {A B : Type 0} → Option A → (A → Result B LineFault) → Result B LineFault
+needed None make = Err MissingOption
+needed (Some value) make = make value

@@ -1,0 +1,82 @@
+-- What a reading of the program says in the words of the grammar.
+use Rattle.std.specs.Prelude.{◌≡◌, ◌<◌, ◌≤◌, ℕ, List, [], ◌∷◌, ◌++◌, map, length, Option, None, Some, Result, Ok, Err}
+use Rattle.std.specs.Borrow.{Bor}
+use Rattle.std.specs.declared.vec.Vec.{Vec}
+use Rattle.std.specs.declared.alloc.Global.{Global}
+use Rattle.cics_script.specs.declared.faults.LineFault.{LineFault}
+use Rattle.cics_script.specs.declared.tokens.Token as made
+use Rattle.cics_script.specs.declared.tokens.Token.TheVariants as token
+use Rattle.cics_script.specs.declared.options.Value.{Value}
+use Rattle.cics_script.specs.declared.options.Value.TheVariants as value
+use Rattle.cics_script.specs.declared.options.Found.{Found}
+use Rattle.cics_script.specs.declared.options.Next.{Next}
+use Rattle.cics_script.specs.declared.words.Form.{Form}
+use Rattle.cics_script.specs.declared.words.Kind.{Kind}
+use Rattle.cics_script.specs.Faults.{Refuses}
+use Rattle.cics_script.specs.Literals.{said, recorded}
+use Rattle.cics_script.specs.Tokens.{Token, word, number, literal, opening, closing, broken, capital, text_in, tokens}
+use Rattle.cics_script.specs.Options.{Content, text, name8, name4, amount, nothing, Entry, Place, at_option, reads}
+
+-- a token that lies in its line
+abbrev pub view : made.Token → Token
+view (token.Word w) = word (map capital w.now)
+view (token.Number n) = number n
+view (token.Literal l) = literal l.notation (said (text_in l.notation l.behind_quote.now))
+view token.Opening = opening
+view token.Closing = closing
+
+-- what reading the token in front gave, and the bytes behind it
+abbrev pub GivesToken : Result (made.Token × Bor (List ℕ)) LineFault → Token × List ℕ → Type 0
+GivesToken (Ok found) front = front ≡ (view found.0, found.1.now)
+GivesToken (Err fault) front = front ≡ (broken fault, [])
+
+-- what reading the next token gave
+abbrev pub Takes : List ℕ → Result (Option (made.Token × Bor (List ℕ))) LineFault → Type 0
+Takes bytes (Ok None) = tokens bytes ≡ []
+Takes bytes (Ok (Some found)) = (tokens bytes ≡ view found.0 ∷ tokens found.1.now) × (length found.1.now < length bytes)
+Takes bytes (Err fault) = tokens bytes ≡ broken fault ∷ []
+
+-- what reading a word and what follows it gave
+abbrev pub GivesWord : Result (List ℕ × List Token) LineFault → Result (Bor (List ℕ) × Bor (List ℕ)) LineFault → Type 0
+GivesWord read (Ok found) = read ≡ Ok (map capital found.0.now, tokens found.1.now)
+GivesWord read (Err fault) = read ≡ Err fault
+
+-- what reading a word that has to stand there gave
+abbrev pub GivesRest : Result (List Token) LineFault → Result (Bor (List ℕ)) LineFault → Type 0
+GivesRest read (Ok rest) = read ≡ Ok (tokens rest.now)
+GivesRest read (Err fault) = read ≡ Err fault
+
+-- an option's value
+abbrev pub content : Value → Content
+content (value.Text l) = text (recorded l.notation (said (text_in l.notation l.behind_quote.now)))
+content (value.Name8 n) = name8 n
+content (value.Name4 n) = name4 n
+content (value.Number n) = amount n
+content value.Nothing = nothing
+
+-- the options that were read
+abbrev pub entries : List Found → List Entry
+entries found = map (λ one. (one.option, content one.value)) found
+
+-- what reading a value gave
+abbrev pub GivesContent : Result Content LineFault → Result Value LineFault → Type 0
+GivesContent read (Ok value) = read ≡ Ok (content value)
+GivesContent read (Err fault) = Refuses read fault
+
+-- what a step of the options gave: a place further on, with the same reading from there, or the reading's fault
+abbrev pub Steps : {X : Type 0} → Form → List Entry → Place → List ℕ → (X → Place × List Entry × List ℕ) → Result X LineFault → Type 0
+Steps form found place bytes after (Ok x) =
+    (reads form place found (tokens bytes) ≡ reads form (after x).0 (after x).1 (tokens (after x).2)) × (length (after x).2 < length bytes)
+Steps form found place bytes after (Err fault) = Refuses (reads form place found (tokens bytes)) fault
+
+-- what reading an option behind its word gave
+abbrev pub Enters : Form → Option Kind → List Entry → List ℕ → List ℕ → Result Next LineFault → Type 0
+Enters form last found w bytes (Ok next) =
+    (reads form (at_option last) found (word w ∷ tokens bytes) ≡ reads form (at_option (Some next.kind)) (found ++ (next.one.option, content next.one.value) ∷ []) (tokens next.rest.now))
+    × (length next.rest.now ≤ length bytes)
+Enters form last found w bytes (Err fault) = Refuses (reads form (at_option last) found (word w ∷ tokens bytes)) fault
+
+-- what reading all options gave
+abbrev pub GivesEntries : Result (List Entry) LineFault → Result (Vec Found Global) LineFault → Type 0
+GivesEntries read (Ok found) = read ≡ Ok (entries found.items)
+GivesEntries read (Err fault) = Refuses read fault

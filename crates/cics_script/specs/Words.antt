@@ -1,0 +1,124 @@
+-- The words of the grammar: which word begins which line, and what each line and command takes.
+use Rattle.std.specs.Prelude.{ℕ, Bool, ◌==◌, ◌||◌, ◌&&◌, if◌then◌else◌, List, [], ◌∷◌, Option, Some, None}
+use Rattle.std.specs.List.{list_any}
+use Rattle.std.specs.Str.{bytes_eq}
+use Rattle.cics_script.specs.declared.words.Start.{Start}
+use Rattle.cics_script.specs.declared.words.Start.TheVariants as start
+use Rattle.cics_script.specs.declared.words.DefineObject.{DefineObject}
+use Rattle.cics_script.specs.declared.words.DefineObject.TheVariants as defined
+use Rattle.cics_script.specs.declared.words.LoadObject.{LoadObject}
+use Rattle.cics_script.specs.declared.words.LoadObject.TheVariants as loaded
+use Rattle.cics_script.specs.declared.words.CommandWord.{CommandWord}
+use Rattle.cics_script.specs.declared.words.CommandWord.TheVariants as command
+use Rattle.cics_script.specs.declared.words.Form.{Form}
+use Rattle.cics_script.specs.declared.words.Form.TheVariants as form
+use Rattle.cics_script.specs.declared.words.OptionWord.{OptionWord}
+use Rattle.cics_script.specs.declared.words.OptionWord.TheVariants.{File, KeyLength, KeyOffset, RecordSize, Recoverable, Unrecoverable, From, Transid, Ridfld, Resp, NoHandle}
+use Rattle.cics_script.specs.declared.words.Kind.{Kind}
+use Rattle.cics_script.specs.declared.words.Kind.TheVariants.{Flag, Text, Name8, Name4, Number, Area}
+use lib.Chars.{codes}
+
+-- what a table has for a word
+abbrev pub lookup : {X : Type 0} → List ℕ → List (List ℕ × X) → Option X
+lookup word [] = None
+lookup word (row ∷ rows) = if bytes_eq word row.0 then Some row.1 else lookup word rows
+
+-- the words that begin lines; none of them is a label
+abbrev pub starts : List (List ℕ × Start)
+starts =
+    (codes "DEFINE", start.Define) ∷ (codes "LOAD", start.Load) ∷ (codes "ATTACH", start.Attach)
+    ∷ (codes "CLOCK", start.Reserved) ∷ (codes "SHUTDOWN", start.Reserved) ∷ []
+
+-- what DEFINE can define; DATASET is another word for FILE
+abbrev pub define_objects : List (List ℕ × DefineObject)
+define_objects = (codes "FILE", defined.File) ∷ (codes "DATASET", defined.File) ∷ []
+
+-- what LOAD can load
+abbrev pub load_objects : List (List ℕ × LoadObject)
+load_objects = (codes "FILE", loaded.File) ∷ (codes "DATASET", loaded.File) ∷ []
+
+-- the verbs
+abbrev pub commands : List (List ℕ × CommandWord)
+commands =
+    (codes "READ", command.Read) ∷ (codes "WRITE", command.Write)
+    ∷ (codes "SYNCPOINT", command.Syncpoint) ∷ (codes "RETURN", command.Return) ∷ []
+
+-- the words that are options of some line
+abbrev pub option_words : List (List ℕ × OptionWord)
+option_words =
+    (codes "FILE", File) ∷ (codes "DATASET", File)
+    ∷ (codes "KEYLENGTH", KeyLength) ∷ (codes "KEYOFFSET", KeyOffset) ∷ (codes "RECORDSIZE", RecordSize)
+    ∷ (codes "RECOVERABLE", Recoverable) ∷ (codes "UNRECOVERABLE", Unrecoverable)
+    ∷ (codes "FROM", From) ∷ (codes "TRANSID", Transid) ∷ (codes "RIDFLD", Ridfld)
+    ∷ (codes "RESP", Resp) ∷ (codes "NOHANDLE", NoHandle) ∷ []
+
+-- the place of an option among the options
+abbrev pub place : OptionWord → ℕ
+place File = 0
+place KeyLength = 1
+place KeyOffset = 2
+place RecordSize = 3
+place Recoverable = 4
+place Unrecoverable = 5
+place From = 6
+place Transid = 7
+place Ridfld = 8
+place Resp = 9
+place NoHandle = 10
+
+-- whether two options are the same
+abbrev pub same : OptionWord → OptionWord → Bool
+same first second = place first == place second
+
+-- what an option takes, by these rows
+abbrev pub kind_among : OptionWord → List (OptionWord × Kind) → Option Kind
+kind_among option [] = None
+kind_among option (row ∷ rows) = if same row.0 option then Some row.1 else kind_among option rows
+
+-- what DEFINE takes, by what it defines
+abbrev pub options_of_define : DefineObject → List (OptionWord × Kind)
+options_of_define defined.File =
+    (File, Name8) ∷ (KeyLength, Number) ∷ (KeyOffset, Number) ∷ (RecordSize, Number) ∷ (Recoverable, Flag) ∷ (Unrecoverable, Flag) ∷ []
+
+-- what LOAD takes, by what it loads
+abbrev pub options_of_load : LoadObject → List (OptionWord × Kind)
+options_of_load loaded.File = (File, Name8) ∷ (From, Text) ∷ []
+
+-- what ATTACH takes
+abbrev pub options_of_attach : List (OptionWord × Kind)
+options_of_attach = (Transid, Name4) ∷ []
+
+-- what a command takes besides the options of every command
+abbrev pub options_of_command : CommandWord → List (OptionWord × Kind)
+options_of_command command.Read = (File, Name8) ∷ (Ridfld, Text) ∷ []
+options_of_command command.Write = (File, Name8) ∷ (Ridfld, Text) ∷ (From, Text) ∷ []
+options_of_command command.Syncpoint = []
+options_of_command command.Return = []
+
+-- what every command takes
+abbrev pub options_of_every_command : List (OptionWord × Kind)
+options_of_every_command = (Resp, Area) ∷ (NoHandle, Flag) ∷ []
+
+-- the first kind, or else the second
+abbrev pub or_else : Option Kind → Option Kind → Option Kind
+or_else (Some kind) other = Some kind
+or_else None other = other
+
+-- what an option of a line takes, or nothing where the line has no such option
+abbrev pub kind_in : Form → OptionWord → Option Kind
+kind_in (form.Define object) option = kind_among option (options_of_define object)
+kind_in (form.Load object) option = kind_among option (options_of_load object)
+kind_in form.Attach option = kind_among option options_of_attach
+kind_in (form.Command verb) option = or_else (kind_among option (options_of_command verb)) (kind_among option options_of_every_command)
+
+-- the pairs of options that one line can't have both
+abbrev pub exclusions : List (OptionWord × OptionWord)
+exclusions = (Recoverable, Unrecoverable) ∷ []
+
+-- whether a pair, in either order, is in these rows
+abbrev pub is_pair_in : OptionWord → OptionWord → List (OptionWord × OptionWord) → Bool
+is_pair_in first second rows = list_any (λ row. (same row.0 first && same row.1 second) || (same row.0 second && same row.1 first)) rows
+
+-- whether two options exclude each other
+abbrev pub excludes : OptionWord → OptionWord → Bool
+excludes first second = is_pair_in first second exclusions

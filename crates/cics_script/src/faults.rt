@@ -1,0 +1,69 @@
+//! Why a line can't be read.
+
+ghost use Rattle.std.specs.Prelude.{◌≡◌};
+ghost use Rattle.cics_script.specs.Faults.{number_of, title_of};
+
+/// Why a line can't be read. But for `NoMemory` it is the fault of the first token at which the
+/// line can't be read on, and a journal prints its number and its name.
+#[derive(Clone, Copy, Debug, PartialEq, Eq)]
+pub enum LineFault {
+    /// The line has more than 70,000 bytes.
+    TooLong,
+    /// A byte of the line is neither a tab nor one of the printable ASCII characters.
+    NotAscii,
+    /// No word, or none that can stand here, or a token that no line has.
+    UnknownWord,
+    /// A literal, a name or a flag's parenthesis that is wrong or missing.
+    BadLiteral,
+    /// A number that is wrong or missing, or above 18,446,744,073,709,551,615.
+    BadNumber,
+    /// The line ends, and an option that it needs was not there.
+    MissingOption,
+    /// An option that the line has already, in this or another spelling.
+    DoubledOption,
+    /// An option of another line, or one that an earlier option of this line excludes.
+    OptionNotHere,
+    /// A definition behind the first line that is neither blank nor a definition. It depends on the
+    /// lines before, so whoever reads the script finds it, and `read_line` never does.
+    DefineTooLate,
+    /// Memory was refused. The line may be a good one; no journal prints this.
+    NoMemory,
+}
+
+impl LineFault {
+    /// The number that a journal prints, from 1 on.
+    pub fn number(self) -> u64
+        ensures { result ≡ number_of self }
+    {
+        match self {
+            LineFault::TooLong => 1,
+            LineFault::NotAscii => 2,
+            LineFault::UnknownWord => 3,
+            LineFault::BadLiteral => 4,
+            LineFault::BadNumber => 5,
+            LineFault::MissingOption => 6,
+            LineFault::DoubledOption => 7,
+            LineFault::OptionNotHere => 8,
+            LineFault::DefineTooLate => 9,
+            LineFault::NoMemory => 10,
+        }
+    }
+
+    /// The name that a journal prints behind the number.
+    pub fn name(self) -> &'static str
+        ensures { result.now ≡ title_of self }
+    {
+        match self {
+            LineFault::TooLong => "TooLong",
+            LineFault::NotAscii => "NotAscii",
+            LineFault::UnknownWord => "UnknownWord",
+            LineFault::BadLiteral => "BadLiteral",
+            LineFault::BadNumber => "BadNumber",
+            LineFault::MissingOption => "MissingOption",
+            LineFault::DoubledOption => "DoubledOption",
+            LineFault::OptionNotHere => "OptionNotHere",
+            LineFault::DefineTooLate => "DefineTooLate",
+            LineFault::NoMemory => "NoMemory",
+        }
+    }
+}

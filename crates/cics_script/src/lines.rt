@@ -1,0 +1,325 @@
+//! The lines of a script.
+
+ghost use Rattle.std.specs.Prelude.{◌≡◌, ◌||◌, Ok, IsTrue, map, option_map, IfOk};
+ghost use Rattle.std.specs.List.{list_all};
+ghost use Rattle.cics_script.specs.Faults.{Reads};
+ghost use Rattle.cics_script.specs.Tokens.{capital, tokens, after_blanks, is_capital, is_digit};
+ghost use Rattle.cics_script.specs.Views.{entries, GivesWord, GivesRest};
+ghost use Rattle.cics_script.specs.Lines.{recovery_in, definition_in, load_in, attach_in, word_first, behind, label_in, define, load, attach, command_line, issue, statement, is_script_byte, is_empty_or_comment, line, IsFirstPathLine};
+
+use crate::commands::{is_handled, verb_of};
+use crate::faults::LineFault;
+use crate::options::{Found, has_option, read_options};
+use crate::tokens::{Token, next_token, skip_blanks};
+use crate::values::{name4_of, name8_of, number_of, text_of};
+use crate::words::{
+    DefineObject, Form, LoadObject, OptionWord, Start, capital_of, command_named, define_object,
+    is_spelled, load_object, start_of,
+};
+use cics_dispatch::Command;
+use cics_ksds::FileDef;
+use cics_names::{Name4, Name8, Record};
+use std::alloc::{AllocError, Global};
+
+const LIMIT: usize = 70_000;
+
+const RECORD_SIZE: u64 = 32_767;
+
+/// What a line of a script says.
+#[derive(Drop)]
+pub enum Line {
+    /// Nothing: the line is blank, or a comment.
+    Blank,
+    /// To define a file. Whether its numbers make a file is not looked at here.
+    DefineFile(Name8, FileDef),
+    /// To load one record into a file, before there are tasks.
+    LoadFile(Name8, Record),
+    /// To attach a task with this label and transaction. `dtimout` is how many seconds of the clock
+    /// a command of it may wait; 0 is no limit.
+    Attach {
+        label: Name8,
+        transaction: Name4,
+        dtimout: u64,
+    },
+    /// To issue a command of the task with this label.
+    Issue(Name8, Command),
+}
+
+// Whether a file is recoverable, where the line says it.
+fn recovery_of(found: &[Found<'_>]) -> Option<bool>
+    ensures { result ≡ recovery_in (entries found.now) }
+{
+    if has_option(found, OptionWord::Recoverable) {
+        Some(true)
+    } else if has_option(found, OptionWord::Unrecoverable) {
+        Some(false)
+    } else {
+        None
+    }
+}
+
+fn file_definition(found: &[Found<'_>]) -> Result<Line, LineFault>
+    ensures { result ≡ definition_in DefineObject.File (entries found.now) }
+{
+    let Some(name) = name8_of(found, OptionWord::File) else {
+        return Err(LineFault::MissingOption);
+    };
+    let Some(key_length) = number_of(found, OptionWord::KeyLength) else {
+        return Err(LineFault::MissingOption);
+    };
+    let Some(recoverable) = recovery_of(found) else {
+        return Err(LineFault::MissingOption);
+    };
+    let definition = FileDef {
+        key_length,
+        key_offset: number_of(found, OptionWord::KeyOffset).unwrap_or(0),
+        record_size: number_of(found, OptionWord::RecordSize).unwrap_or(RECORD_SIZE),
+        recoverable,
+    };
+    Ok(Line::DefineFile(name, definition))
+}
+
+fn file_load(alloc: Global, found: &[Found<'_>]) -> Result<Line, LineFault>
+    ensures { Reads (load_in LoadObject.File (entries found.now)) result }
+{
+    let Some(name) = name8_of(found, OptionWord::File) else {
+        return Err(LineFault::MissingOption);
+    };
+    match text_of(alloc, found, OptionWord::From) {
+        Ok(record) => Ok(Line::LoadFile(name, record)),
+        Err(fault) => Err(fault),
+    }
+}
+
+fn attach_line(label: Name8, found: &[Found<'_>]) -> Result<Line, LineFault>
+    ensures { result ≡ attach_in label (entries found.now) }
+{
+    match name4_of(found, OptionWord::Transid) {
+        Some(transaction) => Ok(Line::Attach {
+            label,
+            transaction,
+            dtimout: 0,
+        }),
+        None => Err(LineFault::MissingOption),
+    }
+}
+
+// The word in front, and the line behind it.
+fn first_word(bytes: &[u8]) -> Result<(&[u8], &[u8]), LineFault>
+    ensures { GivesWord (word_first (tokens bytes.now)) result }
+{
+    match next_token(bytes) {
+        Ok(Some((Token::Word(word), rest))) => Ok((word, rest)),
+        Ok(_) => Err(LineFault::UnknownWord),
+        Err(fault) => Err(fault),
+    }
+}
+
+// The line behind a word that has to stand in front.
+fn skip_word<'a>(bytes: &'a [u8], wanted: &[u8]) -> Result<&'a [u8], LineFault>
+    ensures { GivesRest (behind wanted.now (tokens bytes.entry.now)) result }
+{
+    match first_word(bytes) {
+        Ok((word, rest)) => {
+            if is_spelled(word, wanted) {
+                Ok(rest)
+            } else {
+                Err(LineFault::UnknownWord)
+            }
+        }
+        Err(fault) => Err(fault),
+    }
+}
+
+fn capitals(alloc: Global, word: &[u8]) -> Result<Vec<u8>, AllocError>
+    ensures { IfOk result (λ text. text.items ≡ map capital word.now) }
+{
+    word.iter().map(|byte| capital_of(*byte)).collect(alloc)
+}
+
+fn are_letters_and_digits(text: &[u8]) -> bool
+    ensures { result ≡ list_all (λ c. is_capital c || is_digit c) text.now }
+{
+    text.iter()
+        .all(|byte| byte.is_ascii_uppercase() || byte.is_ascii_digit())
+}
+
+// The label that a word is.
+fn label_of(alloc: Global, word: &[u8]) -> Result<Name8, LineFault>
+    ensures { Reads (label_in (map capital word.now)) result }
+{
+    if start_of(word).is_some() {
+        return Err(LineFault::UnknownWord);
+    }
+    let text = match capitals(alloc, word) {
+        Ok(text) => text,
+        Err(_) => return Err(LineFault::NoMemory),
+    };
+    if !are_letters_and_digits(&text) {
+        return Err(LineFault::UnknownWord);
+    }
+    match Name8::new(&text) {
+        Ok(label) => Ok(label),
+        Err(_) => Err(LineFault::UnknownWord),
+    }
+}
+
+// A DEFINE line behind its first word.
+fn read_define(alloc: Global, bytes: &[u8]) -> Result<Line, LineFault>
+    ensures { Reads (define (tokens bytes.now)) result }
+{
+    let word = match first_word(bytes) {
+        Ok((word, _)) => word,
+        Err(fault) => return Err(fault),
+    };
+    let Some(object) = define_object(word) else {
+        return Err(LineFault::UnknownWord);
+    };
+    match read_options(alloc, Form::Define(object), bytes) {
+        Ok(found) => match object {
+            DefineObject::File => file_definition(&found),
+        },
+        Err(fault) => Err(fault),
+    }
+}
+
+// A LOAD line behind its first word.
+fn read_load(alloc: Global, bytes: &[u8]) -> Result<Line, LineFault>
+    ensures { Reads (load (tokens bytes.now)) result }
+{
+    let word = match first_word(bytes) {
+        Ok((word, _)) => word,
+        Err(fault) => return Err(fault),
+    };
+    let Some(object) = load_object(word) else {
+        return Err(LineFault::UnknownWord);
+    };
+    match read_options(alloc, Form::Load(object), bytes) {
+        Ok(found) => match object {
+            LoadObject::File => file_load(alloc, &found),
+        },
+        Err(fault) => Err(fault),
+    }
+}
+
+// An ATTACH line behind its first word.
+fn read_attach(alloc: Global, bytes: &[u8]) -> Result<Line, LineFault>
+    ensures { Reads (attach (tokens bytes.now)) result }
+{
+    let (word, rest) = match first_word(bytes) {
+        Ok(first) => first,
+        Err(fault) => return Err(fault),
+    };
+    let label = match label_of(alloc, word) {
+        Ok(label) => label,
+        Err(fault) => return Err(fault),
+    };
+    match read_options(alloc, Form::Attach, rest) {
+        Ok(found) => attach_line(label, &found),
+        Err(fault) => Err(fault),
+    }
+}
+
+// A command behind EXEC CICS.
+fn read_command(alloc: Global, label: Name8, bytes: &[u8]) -> Result<Line, LineFault>
+    ensures made { Reads (command_line label (tokens bytes.now)) result }
+    ensures first_path { IfOk result IsFirstPathLine }
+{
+    let (word, rest) = match first_word(bytes) {
+        Ok(first) => first,
+        Err(fault) => return Err(fault),
+    };
+    let Some(command) = command_named(word) else {
+        return Err(LineFault::UnknownWord);
+    };
+    let found = match read_options(alloc, Form::Command(command), rest) {
+        Ok(found) => found,
+        Err(fault) => return Err(fault),
+    };
+    match verb_of(alloc, command, &found) {
+        Ok(verb) => {
+            let resp = is_handled(&found);
+            Ok(Line::Issue(label, Command { verb, resp }))
+        }
+        Err(fault) => Err(fault),
+    }
+}
+
+// The command of a task behind its label.
+fn read_issue(alloc: Global, label: Name8, bytes: &[u8]) -> Result<Line, LineFault>
+    ensures made { Reads (issue label (tokens bytes.now)) result }
+    ensures first_path { IfOk result IsFirstPathLine }
+{
+    let behind_exec = match skip_word(bytes, b"EXEC") {
+        Ok(rest) => rest,
+        Err(fault) => return Err(fault),
+    };
+    match skip_word(behind_exec, b"CICS") {
+        Ok(rest) => read_command(alloc, label, rest),
+        Err(fault) => Err(fault),
+    }
+}
+
+// A line that is neither blank nor a comment.
+fn read_statement(alloc: Global, bytes: &[u8]) -> Result<Line, LineFault>
+    ensures made { Reads (statement (tokens bytes.now)) result }
+    ensures first_path { IfOk result IsFirstPathLine }
+{
+    let (word, rest) = match first_word(bytes) {
+        Ok(first) => first,
+        Err(fault) => return Err(fault),
+    };
+    match start_of(word) {
+        Some(Start::Define) => read_define(alloc, rest),
+        Some(Start::Load) => read_load(alloc, rest),
+        Some(Start::Attach) => read_attach(alloc, rest),
+        Some(Start::Reserved) => Err(LineFault::UnknownWord),
+        None => match label_of(alloc, word) {
+            Ok(label) => read_issue(alloc, label, rest),
+            Err(fault) => Err(fault),
+        },
+    }
+}
+
+fn is_in_script(byte: u8) -> bool
+    ensures { result ≡ is_script_byte byte }
+{
+    byte == b'\t' || (b' '..=b'~').contains(&byte)
+}
+
+fn are_in_script(bytes: &[u8]) -> bool
+    ensures { result ≡ list_all is_script_byte bytes.now }
+{
+    bytes.iter().all(|byte| is_in_script(*byte))
+}
+
+fn is_blank_line(bytes: &[u8]) -> bool
+    ensures { result ≡ is_empty_or_comment (after_blanks bytes.now) }
+{
+    match skip_blanks(bytes).first() {
+        None => true,
+        Some(first) => *first == b'*',
+    }
+}
+
+/// What one line of a script says. `bytes` is the line without its LF, and without the CR right before
+/// that. `alloc` gives the memory of the records in the line; `NoMemory` is answered only where it was
+/// refused, and every other answer depends on the bytes alone. Of a line that can't be read the answer is
+/// the fault of the first token at which it can't be read on, and `MissingOption` where it ends too soon;
+/// a line of more than 70,000 bytes is `TooLong`, and then one with a byte that is neither a tab nor
+/// printable ASCII is `NotAscii`, before all others.
+pub fn read_line(alloc: Global, bytes: &[u8]) -> Result<Line, LineFault>
+    ensures line { Reads (line bytes.now) result }
+    ensures first_path { IfOk result IsFirstPathLine }
+{
+    if bytes.len() > LIMIT {
+        return Err(LineFault::TooLong);
+    }
+    if !are_in_script(bytes) {
+        return Err(LineFault::NotAscii);
+    }
+    if is_blank_line(bytes) {
+        return Ok(Line::Blank);
+    }
+    read_statement(alloc, bytes)
+}

@@ -1,0 +1,158 @@
+//! Literals of a line: `'characters'`, with `''` for a quote, and `X'hexadecimal digits'`.
+
+ghost use Rattle.std.specs.Prelude.{◌≡◌, IfOk, option_map};
+ghost use Rattle.cics_script.specs.Tokens.{is_quote, hex_value, text_in};
+ghost use Rattle.cics_script.specs.Literals.{Begins, said, encoded, encoded_text, recorded};
+
+use cics_names::{NoMemory, Record, to_ebcdic};
+use std::alloc::{AllocError, Global};
+
+const QUOTE: u8 = b'\'';
+
+const BLANK: u8 = 0x40;
+
+/// How a literal is written.
+#[derive(Clone, Copy, Debug, PartialEq, Eq)]
+pub enum Notation {
+    Quoted,
+    Hexadecimal,
+}
+
+/// A literal where it stands in its line.
+#[derive(Clone, Copy, Debug)]
+pub struct Literal<'a> {
+    pub notation: Notation,
+    /// The line behind the literal's first quote, up to the line's end.
+    pub behind_quote: &'a [u8],
+}
+
+/// In which code a literal's bytes are copied.
+#[derive(Clone, Copy, Debug, PartialEq, Eq)]
+pub enum Encoding {
+    AsWritten,
+    Ebcdic,
+}
+
+// What stands first in the rest of a literal.
+enum Piece<'a> {
+    End(&'a [u8]),
+    Byte(u8, &'a [u8]),
+    Bad,
+}
+
+/// Whether a byte is the quote around literals.
+pub fn is_quote_byte(byte: u8) -> bool
+    ensures { result ≡ is_quote byte }
+{
+    byte == QUOTE
+}
+
+fn hex_digit(byte: u8) -> Option<u8>
+    ensures { result ≡ hex_value byte }
+{
+    match byte {
+        b'0'..=b'9' => Some(byte - b'0'),
+        b'A'..=b'F' => Some(byte - 55),
+        b'a'..=b'f' => Some(byte - 87),
+        _ => None,
+    }
+}
+
+fn next_character(bytes: &[u8]) -> Piece<'_>
+    ensures { Begins (text_in Notation.Quoted) bytes.now result }
+{
+    let Some((first, rest)) = bytes.split_first() else {
+        return Piece::Bad;
+    };
+    if !is_quote_byte(*first) {
+        return match to_ebcdic(char::from(*first)) {
+            Some(_) => Piece::Byte(*first, rest),
+            None => Piece::Bad,
+        };
+    }
+    match rest.split_first() {
+        Some((second, after)) if is_quote_byte(*second) => Piece::Byte(*second, after),
+        _ => Piece::End(rest),
+    }
+}
+
+fn next_pair(bytes: &[u8]) -> Piece<'_>
+    ensures { Begins (text_in Notation.Hexadecimal) bytes.now result }
+{
+    let Some((first, rest)) = bytes.split_first() else {
+        return Piece::Bad;
+    };
+    if is_quote_byte(*first) {
+        return Piece::End(rest);
+    }
+    let Some((second, after)) = rest.split_first() else {
+        return Piece::Bad;
+    };
+    match (hex_digit(*first), hex_digit(*second)) {
+        (Some(high), Some(low)) => Piece::Byte(high * 16 + low, after),
+        _ => Piece::Bad,
+    }
+}
+
+fn next_piece(notation: Notation, bytes: &[u8]) -> Piece<'_>
+    ensures { Begins (text_in notation) bytes.now result }
+{
+    match notation {
+        Notation::Quoted => next_character(bytes),
+        Notation::Hexadecimal => next_pair(bytes),
+    }
+}
+
+// A character as its code, where the code is asked for.
+fn encoded_byte(encoding: Encoding, byte: u8) -> u8
+    ensures { result ≡ encoded encoding byte }
+{
+    match encoding {
+        Encoding::AsWritten => byte,
+        Encoding::Ebcdic => to_ebcdic(char::from(byte)).unwrap_or(BLANK),
+    }
+}
+
+impl<'a> Literal<'a> {
+    /// The line behind the literal, or nothing where the bytes behind the quote are no literal.
+    pub fn rest(self) -> Option<&'a [u8]>
+        ensures { option_map (λ rest. rest.now) result ≡ option_map (λ t. t.1) (text_in self.entry.notation self.entry.behind_quote.now) }
+    {
+        let mut rest = self.behind_quote;
+        'pieces: loop {
+            match next_piece(self.notation, rest) {
+                Piece::Byte(_, after) => rest = after,
+                Piece::End(after) => return Some(after),
+                Piece::Bad => return None,
+            }
+        }
+    }
+
+    /// What the literal says: its characters with `''` once, or the bytes that its digits make.
+    pub fn copy(self, alloc: Global, encoding: Encoding) -> Result<Vec<u8>, AllocError>
+        ensures { IfOk result (λ text. text.items ≡ encoded_text encoding (said (text_in self.entry.notation self.entry.behind_quote.now))) }
+    {
+        let mut text = Vec::new(alloc);
+        let mut rest = self.behind_quote;
+        'pieces: loop {
+            match next_piece(self.notation, rest) {
+                Piece::Byte(byte, after) => {
+                    text.push(encoded_byte(encoding, byte))?;
+                    rest = after;
+                }
+                Piece::End(_) => return Ok(text),
+                Piece::Bad => return Ok(Vec::new(alloc)),
+            }
+        }
+    }
+
+    /// The record that the literal writes: a quoted one in EBCDIC.
+    pub fn record(self, alloc: Global) -> Result<Record, NoMemory>
+        ensures { IfOk result (λ made. made ≡ recorded self.entry.notation (said (text_in self.entry.notation self.entry.behind_quote.now))) }
+    {
+        match self.notation {
+            Notation::Quoted => Ok(Record::new(self.copy(alloc, Encoding::Ebcdic)?)),
+            Notation::Hexadecimal => Ok(Record::new(self.copy(alloc, Encoding::AsWritten)?)),
+        }
+    }
+}

@@ -1,0 +1,272 @@
+//! Reads the options of a line.
+
+ghost use Rattle.std.specs.Prelude.{◌≡◌, ◌++◌, ◌∷◌, [], ◌<◌, List, Option, Some, None, length};
+ghost use Rattle.std.specs.List.{list_any};
+ghost use Rattle.cics_script.specs.Words.{same, excludes, kind_in};
+ghost use Rattle.cics_script.specs.Tokens.{tokens, capital};
+ghost use Rattle.cics_script.specs.Options.{Content, Entry, fault_of, content_in, surplus, allowed, at_option, at_opening, at_value, at_closing, options};
+ghost use Rattle.cics_script.specs.Views.{view, content, entries, GivesContent, Steps, Enters, GivesEntries};
+ghost use Rattle.std.specs.Prelude.{map};
+
+use crate::faults::LineFault;
+use crate::literals::{Encoding, Literal, Notation};
+use crate::tokens::{Token, next_token};
+use crate::words::{Form, Kind, OptionWord, is_excluded, is_same, kind_of, option_named};
+use cics_names::{Name4, Name8};
+use std::alloc::Global;
+
+/// What stood in an option's parentheses.
+#[derive(Clone, Copy, Debug)]
+pub enum Value<'a> {
+    Text(Literal<'a>),
+    Name8(Name8),
+    Name4(Name4),
+    Number(u64),
+    /// No parentheses, or what is read without effect.
+    Nothing,
+}
+
+/// An option that was read.
+#[derive(Clone, Copy, Debug)]
+pub struct Found<'a> {
+    pub option: OptionWord,
+    pub value: Value<'a>,
+}
+
+/// An option that was read, and the line behind it.
+#[derive(Clone, Copy, Debug)]
+struct Next<'a> {
+    one: Found<'a>,
+    kind: Kind,
+    rest: &'a [u8],
+}
+
+// The fault of a wrong or missing value or parenthesis.
+fn wrong_value(kind: Kind) -> LineFault
+    ensures { result ≡ fault_of kind }
+{
+    match kind {
+        Kind::Number => LineFault::BadNumber,
+        _ => LineFault::BadLiteral,
+    }
+}
+
+// The fault of a parenthesis where an option should stand.
+fn surplus_fault(last: Option<Kind>) -> LineFault
+    ensures { result ≡ surplus last }
+{
+    match last {
+        None => LineFault::UnknownWord,
+        Some(kind) => wrong_value(kind),
+    }
+}
+
+fn name8_of(alloc: Global, literal: Literal<'_>) -> Result<Value<'_>, LineFault>
+    ensures { GivesContent (content_in Kind.Name8 (view (Token.Literal literal.entry))) result }
+{
+    match literal.notation {
+        Notation::Quoted => match literal.copy(alloc, Encoding::AsWritten) {
+            Ok(text) => match Name8::new(&text) {
+                Ok(name) => Ok(Value::Name8(name)),
+                Err(_) => Err(LineFault::BadLiteral),
+            },
+            Err(_) => Err(LineFault::NoMemory),
+        },
+        Notation::Hexadecimal => Err(LineFault::BadLiteral),
+    }
+}
+
+fn name4_of(alloc: Global, literal: Literal<'_>) -> Result<Value<'_>, LineFault>
+    ensures { GivesContent (content_in Kind.Name4 (view (Token.Literal literal.entry))) result }
+{
+    match literal.notation {
+        Notation::Quoted => match literal.copy(alloc, Encoding::AsWritten) {
+            Ok(text) => match Name4::new(&text) {
+                Ok(name) => Ok(Value::Name4(name)),
+                Err(_) => Err(LineFault::BadLiteral),
+            },
+            Err(_) => Err(LineFault::NoMemory),
+        },
+        Notation::Hexadecimal => Err(LineFault::BadLiteral),
+    }
+}
+
+// A token as a value of this kind.
+fn value_of<'a>(alloc: Global, kind: Kind, token: Token<'a>) -> Result<Value<'a>, LineFault>
+    ensures { GivesContent (content_in kind (view token.entry)) result }
+{
+    match (kind, token) {
+        (Kind::Text, Token::Literal(literal)) => Ok(Value::Text(literal)),
+        (Kind::Name8, Token::Literal(literal)) => name8_of(alloc, literal),
+        (Kind::Name4, Token::Literal(literal)) => name4_of(alloc, literal),
+        (Kind::Number | Kind::Area, Token::Number(number)) => Ok(Value::Number(number)),
+        (Kind::Area, Token::Literal(_) | Token::Word(_)) => Ok(Value::Nothing),
+        _ => Err(wrong_value(kind)),
+    }
+}
+
+// The line behind an opening parenthesis.
+fn read_opening(kind: Kind, bytes: &[u8]) -> Result<&[u8], LineFault>
+    ensures { (f : Form) (found : List Entry) (w : OptionWord)
+        → Steps f found (at_opening w kind) bytes.now (λ rest. (at_value w kind, found, rest.now)) result }
+{
+    match next_token(bytes) {
+        Ok(Some((Token::Opening, rest))) => Ok(rest),
+        Ok(_) => Err(wrong_value(kind)),
+        Err(fault) => Err(fault),
+    }
+}
+
+// An option's value, and the line behind it.
+fn read_content(alloc: Global, kind: Kind, bytes: &[u8]) -> Result<(Value<'_>, &[u8]), LineFault>
+    ensures { (f : Form) (found : List Entry) (w : OptionWord)
+        → Steps f found (at_value w kind) bytes.now (λ x. (at_closing w kind (content x.0), found, x.1.now)) result }
+{
+    match next_token(bytes) {
+        Ok(Some((token, rest))) => match value_of(alloc, kind, token) {
+            Ok(value) => Ok((value, rest)),
+            Err(fault) => Err(fault),
+        },
+        Ok(None) => Err(wrong_value(kind)),
+        Err(fault) => Err(fault),
+    }
+}
+
+// The line behind a closing parenthesis.
+fn read_closing(kind: Kind, bytes: &[u8]) -> Result<&[u8], LineFault>
+    ensures { (f : Form) (found : List Entry) (w : OptionWord) (c : Content)
+        → Steps f found (at_closing w kind c) bytes.now (λ rest. (at_option (Some kind), found ++ (w, c) ∷ [], rest.now)) result }
+{
+    match next_token(bytes) {
+        Ok(Some((Token::Closing, rest))) => Ok(rest),
+        Ok(_) => Err(wrong_value(kind)),
+        Err(fault) => Err(fault),
+    }
+}
+
+// An option's value with its parentheses, and the line behind them.
+fn read_value(alloc: Global, kind: Kind, bytes: &[u8]) -> Result<(Value<'_>, &[u8]), LineFault>
+    ensures { (f : Form) (found : List Entry) (w : OptionWord)
+        → Steps f found (at_opening w kind) bytes.now (λ x. (at_option (Some kind), found ++ (w, content x.0) ∷ [], x.1.now)) result }
+{
+    let inside = match read_opening(kind, bytes) {
+        Ok(inside) => inside,
+        Err(fault) => return Err(fault),
+    };
+    let (value, behind) = match read_content(alloc, kind, inside) {
+        Ok(found) => found,
+        Err(fault) => return Err(fault),
+    };
+    match read_closing(kind, behind) {
+        Ok(rest) => Ok((value, rest)),
+        Err(fault) => Err(fault),
+    }
+}
+
+/// Whether an option is among those that were read.
+pub fn has_option(found: &[Found<'_>], option: OptionWord) -> bool
+    ensures { result ≡ list_any (λ entry. same entry.0 option) (entries found.now) }
+{
+    for one in found {
+        if is_same(one.option, option) {
+            return true;
+        }
+    }
+    false
+}
+
+fn has_excluded(found: &[Found<'_>], option: OptionWord) -> bool
+    ensures { result ≡ list_any (λ entry. excludes entry.0 option) (entries found.now) }
+{
+    for one in found {
+        if is_excluded(one.option, option) {
+            return true;
+        }
+    }
+    false
+}
+
+// What an option takes that may stand here.
+fn allowed_kind(form: Form, found: &[Found<'_>], option: OptionWord) -> Result<Kind, LineFault>
+    ensures { result ≡ allowed (entries found.now) option (kind_in form option) }
+{
+    let Some(kind) = kind_of(form, option) else {
+        return Err(LineFault::OptionNotHere);
+    };
+    if has_option(found, option) {
+        return Err(LineFault::DoubledOption);
+    }
+    if has_excluded(found, option) {
+        return Err(LineFault::OptionNotHere);
+    }
+    Ok(kind)
+}
+
+// The option of a word, with its value, and the line behind it.
+fn read_option<'a>(
+    alloc: Global,
+    form: Form,
+    found: &[Found<'a>],
+    word: &[u8],
+    bytes: &'a [u8],
+) -> Result<Next<'a>, LineFault>
+    ensures { (last : Option Kind) → Enters form last (entries found.now) (map capital word.now) bytes.entry.now result }
+{
+    let Some(option) = option_named(word) else {
+        return Err(LineFault::UnknownWord);
+    };
+    let kind = match allowed_kind(form, found, option) {
+        Ok(kind) => kind,
+        Err(fault) => return Err(fault),
+    };
+    match kind {
+        Kind::Flag => Ok(Next {
+            one: Found {
+                option,
+                value: Value::Nothing,
+            },
+            kind,
+            rest: bytes,
+        }),
+        _ => match read_value(alloc, kind, bytes) {
+            Ok((value, rest)) => Ok(Next {
+                one: Found { option, value },
+                kind,
+                rest,
+            }),
+            Err(fault) => Err(fault),
+        },
+    }
+}
+
+/// The options of a line behind its fixed part.
+pub fn read_options(alloc: Global, form: Form, bytes: &[u8]) -> Result<Vec<Found<'_>>, LineFault>
+    ensures { GivesEntries (options form (tokens bytes.now)) result }
+{
+    let mut found = Vec::new(alloc);
+    let mut last = None;
+    let mut rest = bytes;
+    'options: loop {
+        let (token, behind) = match next_token(rest) {
+            Ok(None) => return Ok(found),
+            Ok(Some(next)) => next,
+            Err(fault) => return Err(fault),
+        };
+        let word = match token {
+            Token::Word(word) => word,
+            Token::Opening | Token::Closing => return Err(surplus_fault(last)),
+            _ => return Err(LineFault::UnknownWord),
+        };
+        match read_option(alloc, form, &found, word, behind) {
+            Ok(next) => {
+                match found.push(next.one) {
+                    Ok(()) => {}
+                    Err(_) => return Err(LineFault::NoMemory),
+                }
+                last = Some(next.kind);
+                rest = next.rest;
+            }
+            Err(fault) => return Err(fault),
+        }
+    }
+}

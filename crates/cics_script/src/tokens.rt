@@ -1,0 +1,179 @@
+//! The tokens of a line: words, numbers, literals and parentheses.
+
+ghost use Rattle.std.specs.Prelude.{◌≡◌, ◌==◌, ◌+◌, ◌-◌, ◌*◌, ◌<◌, ◌≤◌, ◌^◌, Option, Some, None, length, nat_lt, if◌then◌else◌, option_map};
+ghost use Rattle.std.specs.List.{prefix_len};
+ghost use Rattle.cics_script.specs.Tokens.{is_blank, is_digit, is_letter, is_word_byte, after_blanks, value_of, text_in, token_at, number_at, word_at, as_literal, behind_x};
+ghost use Rattle.cics_script.specs.Views.{GivesToken, Takes};
+
+use crate::faults::LineFault;
+use crate::literals::{Literal, Notation, is_quote_byte};
+
+/// A token where it stands in its line.
+#[derive(Clone, Copy, Debug)]
+pub enum Token<'a> {
+    /// A word as it is written. Small letters count as capitals.
+    Word(&'a [u8]),
+    Number(u64),
+    Literal(Literal<'a>),
+    Opening,
+    Closing,
+}
+
+fn is_blank_byte(byte: u8) -> bool
+    ensures { result ≡ is_blank byte }
+{
+    byte == b' ' || byte == b'\t'
+}
+
+fn is_letter_byte(byte: u8) -> bool
+    ensures { result ≡ is_letter byte }
+{
+    byte.is_ascii_alphabetic()
+}
+
+fn is_in_word(byte: u8) -> bool
+    ensures { result ≡ is_word_byte byte }
+{
+    byte.is_ascii_alphanumeric() || byte == b'-'
+}
+
+fn blanks_len(bytes: &[u8]) -> usize
+    ensures value { result ≡ prefix_len is_blank bytes.now }
+    ensures within { result ≤ length bytes.now }
+{
+    bytes
+        .iter()
+        .take_while(|byte| is_blank_byte(**byte))
+        .count()
+}
+
+fn word_len(bytes: &[u8]) -> usize
+    ensures value { result ≡ prefix_len is_word_byte bytes.now }
+    ensures within { result ≤ length bytes.now }
+{
+    bytes.iter().take_while(|byte| is_in_word(**byte)).count()
+}
+
+fn digits_len(bytes: &[u8]) -> usize
+    ensures value { result ≡ prefix_len is_digit bytes.now }
+    ensures within { result ≤ length bytes.now }
+{
+    bytes
+        .iter()
+        .take_while(|byte| byte.is_ascii_digit())
+        .count()
+}
+
+/// The line behind the blanks in front.
+pub fn skip_blanks(bytes: &[u8]) -> &[u8]
+    ensures { result.now ≡ after_blanks bytes.now }
+{
+    bytes.split_at(blanks_len(bytes)).1
+}
+
+// A number with one digit more, where it fits.
+fn with_digit(value: u64, digit: u8) -> Option<u64>
+    ensures { result ≡ (if nat_lt (value * 10 + (digit - 48)) (2 ^ 64) then Some (value * 10 + (digit - 48)) else None) }
+{
+    value
+        .checked_mul(10)?
+        .checked_add(u64::from(digit.saturating_sub(b'0')))
+}
+
+// The value of digits, where it fits.
+fn number_of(digits: &[u8]) -> Option<u64>
+    ensures { result ≡ (if nat_lt (value_of digits.now) (2 ^ 64) then Some (value_of digits.now) else None) }
+{
+    let mut value = 0;
+    for digit in digits {
+        match with_digit(value, *digit) {
+            Some(next) => value = next,
+            None => return None,
+        }
+    }
+    Some(value)
+}
+
+fn read_number(bytes: &[u8]) -> Result<(Token<'_>, &[u8]), LineFault>
+    ensures { GivesToken result (number_at bytes.now) }
+{
+    let (digits, rest) = bytes.split_at(digits_len(bytes));
+    match number_of(digits) {
+        Some(number) => Ok((Token::Number(number), rest)),
+        None => Err(LineFault::BadNumber),
+    }
+}
+
+fn read_word(bytes: &[u8]) -> (Token<'_>, &[u8])
+    ensures { GivesToken (Ok result) (word_at bytes.now) }
+{
+    let (word, rest) = bytes.split_at(word_len(bytes));
+    (Token::Word(word), rest)
+}
+
+// A literal behind its first quote.
+fn read_literal(notation: Notation, behind_quote: &[u8]) -> Result<(Token<'_>, &[u8]), LineFault>
+    ensures { GivesToken result (as_literal notation (text_in notation behind_quote.now)) }
+{
+    let literal = Literal {
+        notation,
+        behind_quote,
+    };
+    match literal.rest() {
+        Some(rest) => Ok((Token::Literal(literal), rest)),
+        None => Err(LineFault::BadLiteral),
+    }
+}
+
+// The line behind X and a quote, where it begins so.
+fn hexadecimal_digits(bytes: &[u8]) -> Option<&[u8]>
+    ensures { option_map (λ digits. digits.now) result ≡ behind_x bytes.now }
+{
+    let (first, rest) = bytes.split_first()?;
+    let (second, digits) = rest.split_first()?;
+    if first.to_ascii_uppercase() == b'X' && is_quote_byte(*second) {
+        Some(digits)
+    } else {
+        None
+    }
+}
+
+// The token in front of bytes that begin with no blank, and the bytes behind it.
+fn read_token(bytes: &[u8]) -> Result<(Token<'_>, &[u8]), LineFault>
+    requires { 0 < length bytes.now }
+    ensures { GivesToken result (token_at bytes.now) }
+{
+    if let Some(digits) = hexadecimal_digits(bytes) {
+        return read_literal(Notation::Hexadecimal, digits);
+    }
+    let first = bytes[0];
+    if is_letter_byte(first) {
+        return Ok(read_word(bytes));
+    }
+    if first.is_ascii_digit() {
+        return read_number(bytes);
+    }
+    let rest = bytes.split_at(1).1;
+    if is_quote_byte(first) {
+        return read_literal(Notation::Quoted, rest);
+    }
+    match first {
+        b'(' => Ok((Token::Opening, rest)),
+        b')' => Ok((Token::Closing, rest)),
+        _ => Err(LineFault::UnknownWord),
+    }
+}
+
+/// The next token and the line behind it, or nothing at the line's end.
+pub fn next_token(bytes: &[u8]) -> Result<Option<(Token<'_>, &[u8])>, LineFault>
+    ensures { Takes bytes.now result }
+{
+    let front = skip_blanks(bytes);
+    if front.is_empty() {
+        return Ok(None);
+    }
+    match read_token(front) {
+        Ok((token, rest)) => Ok(Some((token, rest))),
+        Err(fault) => Err(fault),
+    }
+}

@@ -1,0 +1,70 @@
+//! What the options that were read give.
+
+ghost use Rattle.std.specs.Prelude.{◌≡◌, Ok, option_map};
+ghost use Rattle.cics_script.specs.Faults.{Reads};
+ghost use Rattle.cics_script.specs.Views.{content, entries};
+ghost use Rattle.cics_script.specs.Values.{content_at, text_at, name8_at, name4_at, amount_at, needed};
+
+use crate::faults::LineFault;
+use crate::options::{Found, Value};
+use crate::words::{OptionWord, is_same};
+use cics_names::{Name4, Name8, Record};
+use std::alloc::Global;
+
+// What stands in an option's parentheses.
+fn value_at<'a, 'l>(found: &'a [Found<'l>], option: OptionWord) -> Option<&'a Value<'l>>
+    ensures { option_map (λ value. content value.now) result ≡ content_at option (entries found.now) }
+{
+    for one in found {
+        if is_same(one.option, option) {
+            return Some(&one.value);
+        }
+    }
+    None
+}
+
+/// The record that an option gives; where there is none, `MissingOption`.
+pub fn text_of(alloc: Global, found: &[Found<'_>], option: OptionWord) -> Result<Record, LineFault>
+    ensures { Reads (needed (text_at option (entries found.now)) Ok) result }
+{
+    match value_at(found, option) {
+        Some(Value::Text(literal)) => match literal.record(alloc) {
+            Ok(record) => Ok(record),
+            Err(_) => Err(LineFault::NoMemory),
+        },
+        _ => Err(LineFault::MissingOption),
+    }
+}
+
+/// The name of eight bytes that an option gives.
+pub fn name8_of(found: &[Found<'_>], option: OptionWord) -> Option<Name8>
+    ensures { result ≡ name8_at option (entries found.now) }
+{
+    match value_at(found, option) {
+        Some(Value::Name8(name)) => Some(*name),
+        Some(_) => None,
+        None => None,
+    }
+}
+
+/// The name of four bytes that an option gives.
+pub fn name4_of(found: &[Found<'_>], option: OptionWord) -> Option<Name4>
+    ensures { result ≡ name4_at option (entries found.now) }
+{
+    match value_at(found, option) {
+        Some(Value::Name4(name)) => Some(*name),
+        Some(_) => None,
+        None => None,
+    }
+}
+
+/// The number that an option gives.
+pub fn number_of(found: &[Found<'_>], option: OptionWord) -> Option<u64>
+    ensures { result ≡ amount_at option (entries found.now) }
+{
+    match value_at(found, option) {
+        Some(Value::Number(number)) => Some(*number),
+        Some(_) => None,
+        None => None,
+    }
+}

@@ -1,0 +1,301 @@
+//! The words of the grammar: which word begins which line, and what each line and command takes.
+
+ghost use Rattle.std.specs.Prelude.{◌≡◌, ◌||◌, ◌&&◌, Option, Some, None, map};
+ghost use Rattle.std.specs.List.{list_any};
+ghost use Rattle.std.specs.Str.{bytes_eq};
+ghost use Rattle.cics_script.specs.Tokens.{capital};
+ghost use Rattle.cics_script.specs.Words.{lookup, starts, define_objects, load_objects, commands, option_words, same, kind_among, kind_in, options_of_command, is_pair_in, excludes};
+
+/// What the first word of a line makes of it, where the word is no label.
+#[derive(Clone, Copy, Debug, PartialEq, Eq)]
+pub enum Start {
+    Define,
+    Load,
+    Attach,
+    /// A word that begins no line yet and is no label.
+    Reserved,
+}
+
+/// What a DEFINE line defines.
+#[derive(Clone, Copy, Debug, PartialEq, Eq)]
+pub enum DefineObject {
+    File,
+}
+
+/// What a LOAD line loads.
+#[derive(Clone, Copy, Debug, PartialEq, Eq)]
+pub enum LoadObject {
+    File,
+}
+
+/// The verb of a command.
+#[derive(Clone, Copy, Debug, PartialEq, Eq)]
+pub enum CommandWord {
+    Read,
+    Write,
+    Syncpoint,
+    Return,
+}
+
+/// A line with options.
+#[derive(Clone, Copy, Debug, PartialEq, Eq)]
+pub enum Form {
+    Define(DefineObject),
+    Load(LoadObject),
+    Attach,
+    Command(CommandWord),
+}
+
+/// An option of some line. FILE and DATASET are one.
+#[derive(Clone, Copy, Debug, PartialEq, Eq)]
+pub enum OptionWord {
+    File,
+    KeyLength,
+    KeyOffset,
+    RecordSize,
+    Recoverable,
+    Unrecoverable,
+    From,
+    Transid,
+    Ridfld,
+    Resp,
+    NoHandle,
+}
+
+/// What an option takes in its parentheses.
+#[derive(Clone, Copy, Debug, PartialEq, Eq)]
+pub enum Kind {
+    /// No parentheses.
+    Flag,
+    /// Any literal.
+    Text,
+    /// A quoted literal that is a name of up to eight characters.
+    Name8,
+    /// A quoted literal that is a name of up to four characters.
+    Name4,
+    /// A number.
+    Number,
+    /// Any literal, number or word.
+    Area,
+}
+
+static STARTS: [(&str, Start); 5] = [
+    ("DEFINE", Start::Define),
+    ("LOAD", Start::Load),
+    ("ATTACH", Start::Attach),
+    ("CLOCK", Start::Reserved),
+    ("SHUTDOWN", Start::Reserved),
+];
+
+static DEFINE_OBJECTS: [(&str, DefineObject); 2] = [
+    ("FILE", DefineObject::File),
+    ("DATASET", DefineObject::File),
+];
+
+static LOAD_OBJECTS: [(&str, LoadObject); 2] = [
+    ("FILE", LoadObject::File),
+    ("DATASET", LoadObject::File),
+];
+
+static COMMANDS: [(&str, CommandWord); 4] = [
+    ("READ", CommandWord::Read),
+    ("WRITE", CommandWord::Write),
+    ("SYNCPOINT", CommandWord::Syncpoint),
+    ("RETURN", CommandWord::Return),
+];
+
+static OPTION_WORDS: [(&str, OptionWord); 12] = [
+    ("FILE", OptionWord::File),
+    ("DATASET", OptionWord::File),
+    ("KEYLENGTH", OptionWord::KeyLength),
+    ("KEYOFFSET", OptionWord::KeyOffset),
+    ("RECORDSIZE", OptionWord::RecordSize),
+    ("RECOVERABLE", OptionWord::Recoverable),
+    ("UNRECOVERABLE", OptionWord::Unrecoverable),
+    ("FROM", OptionWord::From),
+    ("TRANSID", OptionWord::Transid),
+    ("RIDFLD", OptionWord::Ridfld),
+    ("RESP", OptionWord::Resp),
+    ("NOHANDLE", OptionWord::NoHandle),
+];
+
+static DEFINE_FILE: [(OptionWord, Kind); 6] = [
+    (OptionWord::File, Kind::Name8),
+    (OptionWord::KeyLength, Kind::Number),
+    (OptionWord::KeyOffset, Kind::Number),
+    (OptionWord::RecordSize, Kind::Number),
+    (OptionWord::Recoverable, Kind::Flag),
+    (OptionWord::Unrecoverable, Kind::Flag),
+];
+
+static LOAD_FILE: [(OptionWord, Kind); 2] = [
+    (OptionWord::File, Kind::Name8),
+    (OptionWord::From, Kind::Text),
+];
+
+static ATTACH: [(OptionWord, Kind); 1] = [(OptionWord::Transid, Kind::Name4)];
+
+static READ: [(OptionWord, Kind); 2] = [
+    (OptionWord::File, Kind::Name8),
+    (OptionWord::Ridfld, Kind::Text),
+];
+
+static WRITE: [(OptionWord, Kind); 3] = [
+    (OptionWord::File, Kind::Name8),
+    (OptionWord::Ridfld, Kind::Text),
+    (OptionWord::From, Kind::Text),
+];
+
+static NO_OPTIONS: [(OptionWord, Kind); 0] = [];
+
+static EVERY_COMMAND: [(OptionWord, Kind); 2] = [
+    (OptionWord::Resp, Kind::Area),
+    (OptionWord::NoHandle, Kind::Flag),
+];
+
+static EXCLUSIONS: [(OptionWord, OptionWord); 1] = [(
+    OptionWord::Recoverable,
+    OptionWord::Unrecoverable,
+)];
+
+/// A letter's capital, and any other byte as it is.
+pub fn capital_of(byte: u8) -> u8
+    ensures { result ≡ capital byte }
+{
+    byte.to_ascii_uppercase()
+}
+
+/// Whether a word, in capitals or small letters, is this word in capitals.
+pub fn is_spelled(word: &[u8], name: &[u8]) -> bool
+    ensures { result ≡ bytes_eq (map capital word.now) name.now }
+{
+    let mut written = word;
+    let mut wanted = name;
+    'letters: loop {
+        match (written.split_first(), wanted.split_first()) {
+            (Some((letter, letters)), Some((capital, capitals))) => {
+                if capital_of(*letter) != *capital {
+                    return false;
+                }
+                written = letters;
+                wanted = capitals;
+            }
+            (None, None) => return true,
+            _ => return false,
+        }
+    }
+}
+
+// What a table has for a word.
+fn find_row<T: Copy>(rows: &[(&str, T)], word: &[u8]) -> Option<T>
+    ensures { result ≡ lookup (map capital word.now) (map (λ row. (row.0.now, row.1)) rows.now) }
+{
+    for row in rows {
+        if is_spelled(word, row.0.as_bytes()) {
+            return Some(row.1);
+        }
+    }
+    None
+}
+
+/// What a word begins that is no label.
+pub fn start_of(word: &[u8]) -> Option<Start>
+    ensures { result ≡ lookup (map capital word.now) starts }
+{
+    find_row(&STARTS, word)
+}
+
+/// What DEFINE defines by this word.
+pub fn define_object(word: &[u8]) -> Option<DefineObject>
+    ensures { result ≡ lookup (map capital word.now) define_objects }
+{
+    find_row(&DEFINE_OBJECTS, word)
+}
+
+/// What LOAD loads by this word.
+pub fn load_object(word: &[u8]) -> Option<LoadObject>
+    ensures { result ≡ lookup (map capital word.now) load_objects }
+{
+    find_row(&LOAD_OBJECTS, word)
+}
+
+/// The command of this verb.
+pub fn command_named(word: &[u8]) -> Option<CommandWord>
+    ensures { result ≡ lookup (map capital word.now) commands }
+{
+    find_row(&COMMANDS, word)
+}
+
+/// The option of this word, whatever the line.
+pub fn option_named(word: &[u8]) -> Option<OptionWord>
+    ensures { result ≡ lookup (map capital word.now) option_words }
+{
+    find_row(&OPTION_WORDS, word)
+}
+
+/// Whether two options are the same.
+pub fn is_same(first: OptionWord, second: OptionWord) -> bool
+    ensures { result ≡ same first second }
+{
+    first == second
+}
+
+// What an option takes, by these rows.
+fn find_kind(rows: &[(OptionWord, Kind)], option: OptionWord) -> Option<Kind>
+    ensures { result ≡ kind_among option rows.now }
+{
+    for row in rows {
+        if is_same(row.0, option) {
+            return Some(row.1);
+        }
+    }
+    None
+}
+
+// The options that a command has besides those of every command.
+fn options_of(command: CommandWord) -> &'static [(OptionWord, Kind)]
+    ensures { result.now ≡ options_of_command command }
+{
+    match command {
+        CommandWord::Read => &READ,
+        CommandWord::Write => &WRITE,
+        CommandWord::Syncpoint | CommandWord::Return => &NO_OPTIONS,
+    }
+}
+
+/// What an option of a line takes, or nothing where the line has no such option.
+pub fn kind_of(form: Form, option: OptionWord) -> Option<Kind>
+    ensures { result ≡ kind_in form option }
+{
+    match form {
+        Form::Define(DefineObject::File) => find_kind(&DEFINE_FILE, option),
+        Form::Load(LoadObject::File) => find_kind(&LOAD_FILE, option),
+        Form::Attach => find_kind(&ATTACH, option),
+        Form::Command(command) => match find_kind(options_of(command), option) {
+            Some(kind) => Some(kind),
+            None => find_kind(&EVERY_COMMAND, option),
+        },
+    }
+}
+
+// Whether a pair of options, in either order, is in these rows.
+fn has_pair(rows: &[(OptionWord, OptionWord)], first: OptionWord, second: OptionWord) -> bool
+    ensures { result ≡ is_pair_in first second rows.now }
+{
+    for row in rows {
+        if is_same(row.0, first) && is_same(row.1, second) {
+            return true;
+        }
+        if is_same(row.0, second) && is_same(row.1, first) {
+            return true;
+        }
+    }
+    false
+}
+
+/// Whether one line can't have both options.
+pub fn is_excluded(first: OptionWord, second: OptionWord) -> bool
+    ensures { result ≡ excludes first second }
+{
+    has_pair(&EXCLUSIONS, first, second)
+}
