@@ -1,0 +1,8 @@
+mod Characters
+mod Unfilled
+pub mod Known
+pub mod Playing
+pub mod Printing
+pub mod Steps
+pub mod Ending
+pub mod Reading

@@ -1,0 +1,123 @@
+-- Lines and journals, one byte or one line further.
+use Rattle.std.proofs.Common.{◌≡◌, ◌≢◌, ℕ, Bool, true, false, ◌==◌, ◌+◌, ◌≤◌, cond, List, [], ◌∷◌, ◌++◌, length, map, refl, rules, arith, ap, sym, ◌∙◌, subst, append_assoc, append-nil, Option, inl, inr}
+use Rattle.std.proofs.lemmas.List.Sums.{fold-append}
+use Rattle.std.proofs.lemmas.Bool.{cases_Bool, eqb-true}
+use Rattle.std.proofs.lemmas.List.{map-append}
+use Rattle.std.proofs.lemmas.Grind.{common_steps}
+use Rattle.std.specs.List.{fold}
+use Rattle.std.specs.Io.BufRead.{strip_last}
+use Rattle.std.specs.Io.KnownBytes.{Appends}
+use Rattle.cics_run.specs.Lines.{Pieces, pieces, with_first, completed, unfinished, last_line, all_lines}
+use Rattle.cics_run.specs.Stages.{step, Step}
+use Rattle.cics_run.specs.Running.{Played, next, stepped, play, start, journal, output, whole, ending, is_faulty}
+use Rattle.cics_run.specs.Printing.{IsFront, AppendsFront}
+use Rattle.cics_run.specs.declared.running.Options.{Options}
+
+-- a line that gained its LF
+with_first-complete : (c : ℕ) (p : Pieces) → with_first c (p.0 ++ p.1 ∷ [], []) ≡ ((with_first c p).0 ++ (with_first c p).1 ∷ [], [])
+with_first-complete c ([], after) = refl
+with_first-complete c (line ∷ lines, after) = refl
+
+with_first-byte : (c d : ℕ) (p : Pieces) → with_first c (p.0, p.1 ++ d ∷ []) ≡ ((with_first c p).0, (with_first c p).1 ++ d ∷ [])
+with_first-byte c d ([], after) = refl
+with_first-byte c d (line ∷ lines, after) = refl
+
+pub pieces-lf : (bytes : List ℕ) → pieces (bytes ++ 10 ∷ []) ≡ ((pieces bytes).0 ++ (pieces bytes).1 ∷ [], [])
+pieces-lf [] = refl
+pieces-lf (c ∷ bytes) =
+    elim (cases_Bool (c == 10)) [
+      | inl here ↦ rw (here, pieces-lf bytes) refl
+      | inr past ↦ rw (past, pieces-lf bytes) (with_first-complete c (pieces bytes))
+    ]
+
+pub pieces-byte : (bytes : List ℕ) (d : ℕ) → (d == 10) ≡ false → pieces (bytes ++ d ∷ []) ≡ ((pieces bytes).0, (pieces bytes).1 ++ d ∷ [])
+pieces-byte [] d other = rw other refl
+pieces-byte (c ∷ bytes) d other =
+    elim (cases_Bool (c == 10)) [
+      | inl here ↦ rw (here, pieces-byte bytes d other) refl
+      | inr past ↦ rw (past, pieces-byte bytes d other) (with_first-byte c d (pieces bytes))
+    ]
+
+-- one byte more
+pieces-grow : (bytes : List ℕ) (c : ℕ) → (lines : List (List ℕ)) × ((pieces (bytes ++ c ∷ [])).0 ≡ (pieces bytes).0 ++ lines)
+pieces-grow bytes c =
+    elim (cases_Bool (c == 10)) [
+      | inl here ↦ ((pieces bytes).1 ∷ [], rw (eqb-true c 10 here) (ap (λ p. p.0) (pieces-lf bytes)))
+      | inr past ↦ ([], ap (λ p. p.0) (pieces-byte bytes c past) ∙ sym (append-nil (pieces bytes).0))
+    ]
+
+-- the lines that were complete stay
+pub pieces-front : (bytes more : List ℕ) → (lines : List (List ℕ)) × ((pieces (bytes ++ more)).0 ≡ (pieces bytes).0 ++ lines)
+pieces-front bytes [] = ([], rw (append-nil bytes, append-nil (pieces bytes).0) refl)
+pieces-front bytes (c ∷ more) =
+    let (lines, e) = pieces-front (bytes ++ c ∷ []) more in
+    let (first, f) = pieces-grow bytes c in
+    (first ++ lines, ap (λ b. (pieces b).0) (sym (append_assoc bytes (c ∷ []) more)) ∙ e ∙ ap (λ x. x ++ lines) f ∙ append_assoc (pieces bytes).0 first lines)
+
+-- a text that is a front of itself, and of what goes on from it
+pub front-whole : (text : List ℕ) → IsFront text text
+front-whole text = ([], sym (append-nil text))
+
+pub front-trans : (a b c : List ℕ) → IsFront a b → IsFront b c → IsFront a c
+front-trans a b c (m, e) (n, f) = (m ++ n, f ∙ ap (λ x. x ++ n) e ∙ append_assoc a m n)
+
+-- one more line only adds to the journal
+journal-next : (p : Played) (line : List ℕ) → IsFront p.journal (next p line).journal
+journal-next p line =
+    elim (cases_Bool p.has_fault) [
+      | inl fault ↦ rw fault (front-whole p.journal)
+      | inr none ↦ rw none ((step (p.number + 1) p.stage line).text, refl)
+    ]
+
+pub journal-fold : (lines : List (List ℕ)) (p : Played) → IsFront p.journal (fold next p lines).journal
+journal-fold [] p = front-whole p.journal
+journal-fold (line ∷ lines) p = front-trans _ _ _ (journal-next p line) (journal-fold lines (next p line))
+
+next-fault : (p : Played) (line : List ℕ) → p.has_fault ≡ true → next p line ≡ p
+next-fault p line fault = subst (λ b. cond b p (stepped (p.number + 1) p.journal (step (p.number + 1) p.stage line)) ≡ p) (sym fault) refl
+
+pub next-going : (p : Played) (line : List ℕ) → p.has_fault ≡ false → next p line ≡ stepped (p.number + 1) p.journal (step (p.number + 1) p.stage line)
+next-going p line going = let s = stepped (p.number + 1) p.journal (step (p.number + 1) p.stage line) in subst (λ b. cond b p s ≡ s) (sym going) refl
+
+-- after a fault no line counts
+pub fault-fold : (lines : List (List ℕ)) (p : Played) → p.has_fault ≡ true → fold next p lines ≡ p
+fault-fold [] p fault = refl
+fault-fold (line ∷ lines) p fault = ap (λ q. fold next q lines) (next-fault p line fault) ∙ fault-fold lines p fault
+
+pub completed-front : (bytes more : List ℕ) → (lines : List (List ℕ)) × (completed (bytes ++ more) ≡ completed bytes ++ lines)
+completed-front bytes more =
+    let (lines, e) = pieces-front bytes more in
+    (map (strip_last 13) lines, ap (map (strip_last 13)) e ∙ map-append (strip_last 13) (pieces bytes).0 lines)
+
+pub journal-front : (bytes more : List ℕ) → IsFront (journal bytes) (journal (bytes ++ more))
+journal-front bytes more =
+    let (lines, e) = completed-front bytes more in
+    let same : play (completed (bytes ++ more)) ≡ fold next (play (completed bytes)) lines = ap play e ∙ fold-append next start (completed bytes) lines in
+    subst (λ p. IsFront (journal bytes) p.journal) (sym same) (journal-fold lines (play (completed bytes)))
+
+-- after a fault no byte counts
+pub fault-stays : (bytes more : List ℕ) → (play (completed bytes)).has_fault ≡ true → play (completed (bytes ++ more)) ≡ play (completed bytes)
+fault-stays bytes more fault =
+    let (lines, e) = completed-front bytes more in
+    ap play e ∙ fold-append next start (completed bytes) lines ∙ fault-fold lines (play (completed bytes)) fault
+
+chosen-true : (b : Bool) (x y : List ℕ) → b ≡ true → cond b x y ≡ x
+chosen-true b x y e = subst (λ v. cond v x y ≡ x) (sym e) refl
+
+pub fault-output : (options : Options) (bytes : List ℕ) → (play (completed bytes)).has_fault ≡ true → (output options bytes ≡ journal bytes) × (is_faulty bytes ≡ true)
+fault-output options bytes fault =
+    let same : play (all_lines bytes) ≡ play (completed bytes) = rw (fold-append next start (completed bytes) (last_line (unfinished bytes))) (fault-fold (last_line (unfinished bytes)) (play (completed bytes)) fault) in
+    let faulty : (play (all_lines bytes)).has_fault ≡ true = ap (λ p. p.has_fault) same ∙ fault in
+    (chosen-true _ _ _ faulty ∙ ap (λ p. p.journal) same, faulty)
+
+pub whole-front : (options : Options) (p : Played) → IsFront p.journal (whole options p)
+whole-front options p =
+    elim (cases_Bool p.has_fault) [
+      | inl fault ↦ rw fault (front-whole p.journal)
+      | inr none ↦ rw none (ending options p.stage, refl)
+    ]
+
+pub output-front : (options : Options) (bytes : List ℕ) → IsFront (journal bytes) (output options bytes)
+output-front options bytes =
+    front-trans _ _ _ (rw (fold-append next start (completed bytes) (last_line (unfinished bytes))) (journal-fold (last_line (unfinished bytes)) (play (completed bytes))))
+    (whole-front options (play (all_lines bytes)))

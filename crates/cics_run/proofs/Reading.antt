@@ -1,0 +1,83 @@
+-- What a read adds to the bytes that were read.
+use Rattle.std.proofs.Common.{◌≡◌, ℕ, Bool, true, false, ◌+◌, ◌≤◌, ◌<◌, List, [], ◌∷◌, ◌++◌, length, take, map, refl, arith, ap, sym, ◌∙◌, subst, append-nil, Option, length-append, inl, inr, ◌==◌, ◌≢◌}
+use Rattle.std.proofs.lemmas.List.{take-append-le, length-map, length-take-le}
+use Rattle.std.proofs.lemmas.List.Sums.{fold-append}
+use Rattle.std.proofs.lemmas.Bool.{cases_Bool}
+use Rattle.std.proofs.Math.Seq.{take-append_seam}
+use Rattle.std.specs.List.{fold}
+use Rattle.std.specs.Prelude.{Result, Ok, Err}
+use Rattle.std.specs.Io.KnownBytes.{Appends, Consumes, Keeps, IsAtEnd}
+use Rattle.std.specs.Io.BufRead.{strip_last}
+use Rattle.cics_run.specs.Lines.{Pieces, pieces, with_first, completed}
+use Rattle.cics_run.specs.Running.{Played, next, play, start, journal, output, is_faulty, Answers}
+use Rattle.cics_run.specs.Printing.{AppendsFront}
+use Rattle.cics_run.specs.Standing.{Stands, Stopped, Finishes, fault_of, ended}
+use Rattle.cics_run.specs.declared.writing.Stop.{Stop}
+use Rattle.cics_run.specs.declared.writing.Stop.TheVariants as stops
+use Rattle.cics_run.specs.declared.running.Status.{Status}
+use Rattle.cics_run.specs.declared.running.Status.TheVariants as status
+use Rattle.cics_run.specs.declared.running.Options.{Options}
+use Rattle.cics_run.specs.declared.session.Session.{Session}
+use Rattle.cics_run.proofs.Known.{consumes-append, consumes-keeps}
+use Rattle.cics_run.proofs.Printing.{front-longer}
+use Rattle.cics_run.proofs.Playing.{next-going, output-front, fault-output}
+
+-- there are no more lines than bytes
+with_first-lines : (c : ℕ) (p : Pieces) → length (with_first c p).0 ≡ length p.0
+with_first-lines c ([], after) = refl
+with_first-lines c (line ∷ lines, after) = refl
+
+pieces-lines : (bytes : List ℕ) → length (pieces bytes).0 ≤ length bytes
+pieces-lines [] = omega arith
+pieces-lines (c ∷ bytes) =
+    elim (cases_Bool (c == 10)) [
+      | inl here ↦ rw here (omega (arith, pieces-lines bytes))
+      | inr past ↦ rw past (omega (arith, pieces-lines bytes, with_first-lines c (pieces bytes)))
+    ]
+
+next-number : (p : Played) (line : List ℕ) → (next p line).number ≤ p.number + 1
+next-number p line = elim (cases_Bool p.has_fault) [ inl fault ↦ rw fault (omega arith) | inr going ↦ rw going (omega arith) ]
+
+fold-number : (lines : List (List ℕ)) (p : Played) → (fold next p lines).number ≤ p.number + length lines
+fold-number [] p = omega arith
+fold-number (line ∷ lines) p = omega (arith, fold-number lines (next p line), next-number p line)
+
+pub number-bound : (bytes : List ℕ) (before now : Option (List ℕ)) (s : Session) → Stands bytes before now s → s.number ≤ length bytes
+number-bound bytes before now s at = omega (arith, at.number, fold-number (completed bytes) start, length-map (pieces bytes).0 (strip_last 13), pieces-lines bytes)
+
+-- the bytes of a read, as `&buffer[..n]` has them
+pub front-of : (n : ℕ) (got rest : List ℕ) → n ≤ length got → take n (got ++ rest) ≡ take n got
+front-of n got rest fits = take-append-le n got rest fits
+
+pub stopped-output : (options : Options) (bytes : List ℕ) (before now : Option (List ℕ)) → Stopped bytes before now → Appends before now (output options bytes) × (is_faulty bytes ≡ true)
+stopped-output options bytes before now stop =
+    let (same, faulty) = fault-output options bytes stop.fault in
+    (subst (λ t. Appends before now t) (sym same) stop.written, faulty)
+
+pub front-journal : (options : Options) (bytes : List ℕ) (before now : Option (List ℕ)) → AppendsFront before now (journal bytes) → AppendsFront before now (output options bytes)
+front-journal options bytes before now front = front-longer before now (journal bytes) (output options bytes) (output-front options bytes) front
+
+-- one chunk more
+pub read_more : (a b c : Option (List ℕ)) (bytes got rest : List ℕ) (n : ℕ) → n ≤ length got → Consumes a b bytes → Consumes b c (take n got)
+    → Consumes a c (bytes ++ take n (got ++ rest))
+read_more a b c bytes got rest n fits p q = rw (front-of n got rest fits) (consumes-append a b c bytes (take n got) p q)
+
+pub read_nothing : (a b c : Option (List ℕ)) (bytes got : List ℕ) (n : ℕ) → n ≡ 0 → Consumes a b bytes → Consumes b c (take n got) → Consumes a c bytes
+read_nothing a b c bytes got n zero p q = rw append-nil at (consumes-append a b c bytes [] p (rw zero at q))
+
+-- the bytes are one more than may come
+pub one_more : (bytes got : List ℕ) (n limit : ℕ) → length bytes ≡ limit → n ≢ 0 → n ≤ length got → (limit < length (bytes ++ take n got)) × (take limit (bytes ++ take n got) ≡ bytes)
+one_more bytes got n limit full some fits =
+    (simp (length-append, length-take-le n got fits) (omega arith), rw (← full) (take-append_seam bytes (take n got)))
+
+-- the answers of a run that printing stopped
+pub answers-stop : (options : Options) (bytes : List ℕ) (rest before now : Option (List ℕ)) (stop : Stop) → AppendsFront before now (journal bytes) → Answers options bytes rest before now (Err (fault_of stop))
+answers-stop options bytes rest before now stops.NoMemory front = front-journal options bytes before now front
+answers-stop options bytes rest before now stops.WriteFault front = front-journal options bytes before now front
+
+-- the answers of a run that came to the input's end
+pub answers-ended : (options : Options) (bytes : List ℕ) (rest before now : Option (List ℕ)) (answer : Result Status Stop) → IsAtEnd rest → Finishes options bytes before now answer → Answers options bytes rest before now (ended answer)
+answers-ended options bytes rest before now (Ok status.Done) end (wrote, going) = (wrote, going, end)
+answers-ended options bytes rest before now (Ok status.LineFault) end wrote = wrote
+answers-ended options bytes rest before now (Err stops.NoMemory) end front = front
+answers-ended options bytes rest before now (Err stops.WriteFault) end front = front

@@ -1,0 +1,9 @@
+pub mod Texts
+pub mod Journal
+pub mod Listings
+pub mod Lines
+pub mod Stages
+pub mod Running
+pub mod Statuses
+pub mod Printing
+pub mod Standing

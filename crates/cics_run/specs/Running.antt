@@ -1,0 +1,75 @@
+-- What a run of a script writes.
+use Rattle.std.specs.Prelude.{◌≡◌, ℕ, Bool, true, false, ◌+◌, ◌<◌, if◌then◌else◌, List, [], ◌++◌, length, take, Option, Result, Ok, Err}
+use Rattle.std.specs.List.{fold}
+use Rattle.std.specs.Io.KnownBytes.{Appends, Consumes, IsAtEnd}
+use Rattle.cics_run.specs.Lines.{completed, all_lines}
+use Rattle.cics_run.specs.Stages.{step, Step, first_stage, listing_at}
+use Rattle.cics_run.specs.Printing.{AppendsFront}
+use Rattle.cics_run.specs.declared.running.TheConstants.{LIMIT}
+use Rattle.cics_run.specs.declared.stage.Stage.{Stage}
+use Rattle.cics_run.specs.declared.running.Status.{Status}
+use Rattle.cics_run.specs.declared.running.Status.TheVariants as status
+use Rattle.cics_run.specs.declared.running.RunFault.{RunFault}
+use Rattle.cics_run.specs.declared.running.RunFault.TheVariants as faults
+use Rattle.cics_run.specs.declared.running.Options.{Options}
+
+-- what stands behind some lines: the stage, how many lines there were, what was printed, and whether that ends with a fault
+pub record Played : Type 0 where
+  pub stage : Stage
+  pub number : ℕ
+  pub journal : List ℕ
+  pub has_fault : Bool
+
+-- a line's text is printed behind the journal so far
+abbrev pub stepped : ℕ → List ℕ → Step → Played
+stepped number journal s = record { stage = s.stage; number = number; journal = journal ++ s.text; has_fault = s.is_fault }
+
+-- One line more. Lines are numbered from 1, and behind a fault no line counts.
+abbrev pub next : Played → List ℕ → Played
+next p line = if p.has_fault then p else stepped (p.number + 1) p.journal (step (p.number + 1) p.stage line)
+
+-- before the first line
+abbrev pub start : Played
+start = record { stage = first_stage; number = 0; journal = []; has_fault = false }
+
+-- some lines, in their order
+abbrev pub play : List (List ℕ) → Played
+play lines = fold next start lines
+
+-- the journal of the lines that these bytes complete
+abbrev pub journal : List ℕ → List ℕ
+journal bytes = (play (completed bytes)).journal
+
+-- the listing stands behind the journal, unless it is left out
+abbrev pub ending : Options → Stage → List ℕ
+ending options stage = if options.no_list then [] else listing_at stage
+
+-- behind a fault stands no listing
+abbrev pub whole : Options → Played → List ℕ
+whole options p = if p.has_fault then p.journal else p.journal ++ ending options p.stage
+
+-- what a run over a whole script writes
+abbrev pub output : Options → List ℕ → List ℕ
+output options bytes = whole options (play (all_lines bytes))
+
+-- whether a fault is printed
+abbrev pub is_faulty : List ℕ → Bool
+is_faulty bytes = (play (all_lines bytes)).has_fault
+
+-- What a run has done at each answer, where bytes are the bytes that it read:
+-- - Done: the input is at its end, no fault was printed, and the whole output is written;
+-- - LineFault: a fault was printed, and the output is written up to its end, the fault;
+-- - InputTooLong: more bytes came than a script may have, and the journal of the lines that the first of them complete is written;
+-- - ReadFault: the journal of the lines that the bytes complete is written;
+-- - WriteFault and NoMemory: a front of the output is written.
+abbrev pub Answers : Options → List ℕ → Option (List ℕ) → Option (List ℕ) → Option (List ℕ) → Result Status RunFault → Type 0
+Answers options bytes rest old new (Ok status.Done) = Appends old new (output options bytes) × (is_faulty bytes ≡ false) × IsAtEnd rest
+Answers options bytes rest old new (Ok status.LineFault) = Appends old new (output options bytes) × (is_faulty bytes ≡ true)
+Answers options bytes rest old new (Err faults.InputTooLong) = (LIMIT < length bytes) × Appends old new (journal (take LIMIT bytes))
+Answers options bytes rest old new (Err faults.ReadFault) = Appends old new (journal bytes)
+Answers options bytes rest old new (Err faults.WriteFault) = AppendsFront old new (output options bytes)
+Answers options bytes rest old new (Err faults.NoMemory) = AppendsFront old new (output options bytes)
+
+-- some bytes were read, and what was written is what they call for
+abbrev pub RunsOver : Options → Option (List ℕ) → Option (List ℕ) → Option (List ℕ) → Option (List ℕ) → Result Status RunFault → Type 0
+RunsOver options input rest old new result = (bytes : List ℕ) × Consumes input rest bytes × Answers options bytes rest old new result

@@ -1,0 +1,84 @@
+//! The program's arguments and its exit status.
+
+ghost use Rattle.std.specs.Prelude.{◌≡◌};
+ghost use Rattle.cics_run.specs.Statuses.{status_of};
+
+use crate::running::{Options, RunFault, Status};
+use cics_names::NoMemory;
+use clap::error::ErrorKind;
+use clap::{Arg, ArgAction, Command, Error};
+use std::alloc::Global;
+
+const ABOUT: &str = "\
+Runs a script of CICS commands on a region in memory.
+
+The script comes from standard input: it defines and loads files, attaches a
+task and issues the task's commands. What comes of each line, the journal, goes
+to standard output, and behind it a listing of the files and of the task.";
+
+const STATUSES: &str = "\
+Exit status:
+  0  the whole script was run, or this help was printed
+  1  a line of the script is at fault: the journal ends with that line's fault
+  2  the arguments are wrong
+  3  there is no memory
+  4  a read or a write failed, or the script has more than 16,777,216 bytes
+
+Example, from the root of the repository:
+  printf \"ATTACH T1 TRANSID('AAAA')\\nT1 EXEC CICS RETURN\\n\" | bin/cicsrun";
+
+/// What a command line asks for.
+///
+/// - `Run`: a run of a script.
+/// - `Help`: the help, which is to go to standard output.
+/// - `Bad`: nothing that the program knows. The text says what is wrong, and is to go to standard
+///   error.
+#[derive(Drop)]
+pub enum Asked {
+    Run(Options),
+    Help(String),
+    Bad(String),
+}
+
+/// Reads the words of a command line, of which the first is the program's name.
+///
+/// The options are `--no-list`, which leaves out the listing, and `--help` (or `-h`). An option that
+/// is given twice is bad, and so is every other word. It is refused for want of memory alone.
+pub fn arguments(alloc: Global, words: Vec<String>) -> Result<Asked, NoMemory> {
+    match options(alloc, &words) {
+        Ok(options) => Ok(Asked::Run(options)),
+        Err(error) => match error.kind() {
+            ErrorKind::DisplayHelp => Ok(Asked::Help(error.to_string(alloc)?)),
+            ErrorKind::OutOfMemory => Err(NoMemory),
+            _ => Ok(Asked::Bad(error.to_string(alloc)?)),
+        },
+    }
+}
+
+fn options(alloc: Global, words: &[String]) -> Result<Options, Error> {
+    let no_list = Arg::new(alloc, "no-list")
+        .long("no-list")
+        .action(ArgAction::SetTrue)
+        .help("Leave out the listing");
+    let command = Command::new(alloc, "cicsrun")
+        .about(ABOUT)
+        .after_help(STATUSES)
+        .arg(no_list)?;
+    let matches = command.try_get_matches_from(words)?;
+    Ok(Options {
+        no_list: matches.get_flag("no-list"),
+    })
+}
+
+/// The exit status that tells the answer of a run: 0 done, 1 a fault of a line or a definition, 3 no
+/// memory, 4 a fault in reading or writing or too long a script.
+pub fn exit_status(answer: &Result<Status, RunFault>) -> u8
+    ensures { result ≡ status_of answer.now }
+{
+    match answer {
+        Ok(Status::Done) => 0,
+        Ok(Status::LineFault) => 1,
+        Err(RunFault::NoMemory) => 3,
+        Err(_) => 4,
+    }
+}

@@ -1,0 +1,231 @@
+//! The lines of the journal.
+
+ghost use Rattle.std.specs.Prelude.{◌≡◌, ◌++◌, OnOk, codes};
+ghost use Rattle.cics_run.specs.Journal.{numbered, condition_text, part, number_part, reply_text, abend_text, outcome_text, attached_line, outcome_line, woken_line, expired_line, clock_line, refusal_number, refusal_title, refusal_text, refused_line, clock_refused_line, define_number, define_title, define_fault_line, line_fault_line};
+ghost use Rattle.cics_run.specs.Texts.{text_of, name_text, bare};
+
+use crate::texts::{push_bare, push_name, push_number, push_str, push_text};
+use cics_dispatch::{Expired, Number, Outcome, Refused, Reply, Woken};
+use cics_names::{AbendCode, Condition, Name4, Name8, NoMemory, Record};
+use cics_script::LineFault;
+use cics_units::DefineFault;
+
+/// A task was attached, for a transaction.
+pub fn push_attached(out: &mut Vec<u8>, label: Name8, transaction: Name4) -> Result<(), NoMemory>
+    ensures { OnOk result (out.new.items ≡ out.old.items ++ attached_line label transaction) }
+{
+    push_bare(out, &label.bytes())?;
+    push_str(out, " ATTACHED ")?;
+    push_name(out, &transaction.bytes())?;
+    push_str(out, "\n")
+}
+
+/// What came of a command that was issued.
+pub fn push_outcome(out: &mut Vec<u8>, label: Name8, outcome: &Outcome) -> Result<(), NoMemory>
+    ensures { OnOk result (out.new.items ≡ out.old.items ++ outcome_line label outcome.now) }
+{
+    push_bare(out, &label.bytes())?;
+    push_str(out, " ")?;
+    push_what_came(out, outcome)?;
+    push_str(out, "\n")
+}
+
+/// A waiting command was executed.
+pub fn push_woken(out: &mut Vec<u8>, woken: &Woken) -> Result<(), NoMemory>
+    ensures { OnOk result (out.new.items ≡ out.old.items ++ woken_line woken.now) }
+{
+    push_bare(out, &woken.label.bytes())?;
+    push_str(out, " WOKEN ")?;
+    push_what_came(out, &woken.outcome)?;
+    push_str(out, "\n")
+}
+
+/// A waiting task was abended, since its time was over.
+pub fn push_expired(out: &mut Vec<u8>, expired: &Expired) -> Result<(), NoMemory>
+    ensures { OnOk result (out.new.items ≡ out.old.items ++ expired_line expired.now) }
+{
+    push_bare(out, &expired.label.bytes())?;
+    push_str(out, " ABEND ")?;
+    push_bare(out, &expired.code.0.bytes())?;
+    push_str(out, "\n")
+}
+
+/// The clock was set, in seconds.
+pub fn push_clock(out: &mut Vec<u8>, now: u64) -> Result<(), NoMemory>
+    ensures { OnOk result (out.new.items ≡ out.old.items ++ clock_line now) }
+{
+    push_str(out, "CLOCK ")?;
+    push_number(out, now)?;
+    push_str(out, "\n")
+}
+
+/// An attach or a command was refused.
+pub fn push_refused(out: &mut Vec<u8>, label: Name8, refusal: Refused) -> Result<(), NoMemory>
+    ensures { OnOk result (out.new.items ≡ out.old.items ++ refused_line label refusal) }
+{
+    push_bare(out, &label.bytes())?;
+    push_str(out, " ")?;
+    push_refusal(out, refusal)?;
+    push_str(out, "\n")
+}
+
+/// A setting of the clock was refused.
+pub fn push_clock_refused(out: &mut Vec<u8>, refusal: Refused) -> Result<(), NoMemory>
+    ensures { OnOk result (out.new.items ≡ out.old.items ++ clock_refused_line refusal) }
+{
+    push_str(out, "CLOCK ")?;
+    push_refusal(out, refusal)?;
+    push_str(out, "\n")
+}
+
+/// A definition or a load was refused, at this line of the script.
+pub fn push_define_fault(out: &mut Vec<u8>, at: u64, fault: DefineFault) -> Result<(), NoMemory>
+    ensures { OnOk result (out.new.items ≡ out.old.items ++ define_fault_line at fault) }
+{
+    push_str(out, "LINE ")?;
+    push_number(out, at)?;
+    push_str(out, " DEFINE ")?;
+    push_numbered(out, define_number(fault), define_title(fault))?;
+    push_str(out, "\n")
+}
+
+/// A line of the script can't be read, or stands where it may not.
+pub fn push_line_fault(out: &mut Vec<u8>, at: u64, fault: LineFault) -> Result<(), NoMemory>
+    ensures { OnOk result (out.new.items ≡ out.old.items ++ line_fault_line at fault) }
+{
+    push_str(out, "LINE ")?;
+    push_number(out, at)?;
+    push_str(out, " FAULT ")?;
+    push_numbered(out, fault.number(), fault.name())?;
+    push_str(out, "\n")
+}
+
+// A number and its name.
+fn push_numbered(out: &mut Vec<u8>, number: u64, title: &str) -> Result<(), NoMemory>
+    ensures { OnOk result (out.new.items ≡ out.old.items ++ numbered number title.now) }
+{
+    push_number(out, number)?;
+    push_str(out, " ")?;
+    push_str(out, title)
+}
+
+fn push_condition(out: &mut Vec<u8>, condition: Condition) -> Result<(), NoMemory>
+    ensures { OnOk result (out.new.items ≡ out.old.items ++ condition_text condition) }
+{
+    push_str(out, condition.name())?;
+    push_str(out, " ")?;
+    push_number(out, condition.number())
+}
+
+fn push_part(out: &mut Vec<u8>, title: &str, bytes: &Option<Record>) -> Result<(), NoMemory>
+    ensures { OnOk result (out.new.items ≡ out.old.items ++ part title.now bytes.now) }
+{
+    if let Some(bytes) = bytes {
+        push_str(out, title)?;
+        push_text(out, bytes.bytes())?;
+    }
+    Ok(())
+}
+
+fn push_number_part(out: &mut Vec<u8>, number: Option<Number>) -> Result<(), NoMemory>
+    ensures { OnOk result (out.new.items ≡ out.old.items ++ number_part number) }
+{
+    if let Some(Number::Item(item)) = number {
+        push_str(out, " ITEM ")?;
+        push_number(out, item)?;
+    }
+    Ok(())
+}
+
+fn push_reply(out: &mut Vec<u8>, reply: &Reply) -> Result<(), NoMemory>
+    ensures { OnOk result (out.new.items ≡ out.old.items ++ reply_text reply.now) }
+{
+    push_condition(out, reply.condition)?;
+    push_part(out, " KEY ", &reply.key)?;
+    push_number_part(out, reply.number)?;
+    push_part(out, " DATA ", &reply.content)
+}
+
+fn push_abend(out: &mut Vec<u8>, code: AbendCode, reply: &Option<Reply>) -> Result<(), NoMemory>
+    ensures { OnOk result (out.new.items ≡ out.old.items ++ abend_text code reply.now) }
+{
+    push_str(out, "ABEND ")?;
+    push_bare(out, &code.0.bytes())?;
+    if let Some(reply) = reply {
+        push_str(out, " ")?;
+        push_condition(out, reply.condition)?;
+    }
+    Ok(())
+}
+
+// What stands after the label where a command was issued or woken.
+fn push_what_came(out: &mut Vec<u8>, outcome: &Outcome) -> Result<(), NoMemory>
+    ensures { OnOk result (out.new.items ≡ out.old.items ++ outcome_text outcome.now) }
+{
+    match outcome {
+        Outcome::Replied(reply) => push_reply(out, reply),
+        Outcome::Waiting(holder) => {
+            push_str(out, "WAITING ")?;
+            push_bare(out, &holder.bytes())
+        }
+        Outcome::Abended(code, reply) => push_abend(out, *code, reply),
+        Outcome::Ended => push_str(out, "ENDED"),
+    }
+}
+
+fn push_refusal(out: &mut Vec<u8>, refusal: Refused) -> Result<(), NoMemory>
+    ensures { OnOk result (out.new.items ≡ out.old.items ++ refusal_text refusal) }
+{
+    push_str(out, "REFUSED ")?;
+    push_numbered(out, refusal_number(refusal), refusal_title(refusal))
+}
+
+fn refusal_number(refusal: Refused) -> u64
+    ensures { result ≡ refusal_number refusal }
+{
+    match refusal {
+        Refused::NoMemory => 1,
+        Refused::NoTask => 2,
+        Refused::TaskWaiting => 3,
+        Refused::TaskEnded => 4,
+        Refused::DuplicateLabel => 5,
+        Refused::ClockBack => 6,
+    }
+}
+
+fn refusal_title(refusal: Refused) -> &'static str
+    ensures { result.now ≡ refusal_title refusal }
+{
+    match refusal {
+        Refused::NoMemory => "NoMemory",
+        Refused::NoTask => "NoTask",
+        Refused::TaskWaiting => "TaskWaiting",
+        Refused::TaskEnded => "TaskEnded",
+        Refused::DuplicateLabel => "DuplicateLabel",
+        Refused::ClockBack => "ClockBack",
+    }
+}
+
+fn define_number(fault: DefineFault) -> u64
+    ensures { result ≡ define_number fault }
+{
+    match fault {
+        DefineFault::Duplicate => 1,
+        DefineFault::BadKey => 2,
+        DefineFault::BadLength => 3,
+        DefineFault::NotThere => 4,
+        DefineFault::NoMemory => 5,
+    }
+}
+
+fn define_title(fault: DefineFault) -> &'static str
+    ensures { result.now ≡ define_title fault }
+{
+    match fault {
+        DefineFault::Duplicate => "Duplicate",
+        DefineFault::BadKey => "BadKey",
+        DefineFault::BadLength => "BadLength",
+        DefineFault::NotThere => "NotThere",
+        DefineFault::NoMemory => "NoMemory",
+    }
+}

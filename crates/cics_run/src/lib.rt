@@ -1,0 +1,16 @@
+//! Runs the script of a region from a reader, and writes its journal and listings to a writer.
+#![tactic(auto)]
+
+mod command_line;
+mod journal;
+mod listing;
+mod running;
+mod session;
+mod stage;
+#[cfg(test)]
+mod tests;
+mod texts;
+mod writing;
+
+pub use command_line::{Asked, arguments, exit_status};
+pub use running::{LIMIT, Options, RunFault, Status, run};

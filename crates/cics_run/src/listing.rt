@@ -1,0 +1,161 @@
+//! The listings.
+
+ghost use Rattle.std.specs.Prelude.{◌≡◌, ◌++◌, OnOk, length};
+ghost use Rattle.std.specs.List.{flat_map};
+ghost use Rattle.cics_run.specs.Listings.{heading, recoverable_title, recovery_title, record_line, file_text, storage_text, transient_text, state_title, task_text, listing_text, count_text, parts_text};
+
+use crate::texts::{push_bare, push_name, push_number, push_str, push_text};
+use cics_names::{Items, Name4, Name8, NoMemory, Record};
+use cics_transdata::Recovery;
+use cics_units::{Listing, TaskState};
+
+/// The listing at the end of a run: files, temporary storage, transient data, tasks.
+pub fn push_listing(out: &mut Vec<u8>, listing: &Listing) -> Result<(), NoMemory>
+    ensures { OnOk result (out.new.items ≡ out.old.items ++ listing_text listing.now) }
+{
+    push_str(out, "LISTING\n")?;
+    push_files(out, listing.files.as_slice())?;
+    push_storage(out, listing.ts.as_slice())?;
+    push_transient(out, listing.td.as_slice())?;
+    push_tasks(out, listing.tasks.as_slice())
+}
+
+fn push_files(out: &mut Vec<u8>, files: &[(Name8, bool, Items<Record>)]) -> Result<(), NoMemory>
+    ensures { OnOk result (out.new.items ≡ out.old.items ++ flat_map file_text files.now) }
+{
+    for (name, recoverable, records) in files {
+        let records = records.as_slice();
+        push_heading(
+            out,
+            "FILE",
+            &name.bytes(),
+            recoverable_title(*recoverable),
+            "RECORDS",
+            records.len(),
+        )?;
+        push_records(out, records)?;
+    }
+    Ok(())
+}
+
+fn push_storage(out: &mut Vec<u8>, queues: &[(Name8, bool, Items<Record>)]) -> Result<(), NoMemory>
+    ensures { OnOk result (out.new.items ≡ out.old.items ++ flat_map storage_text queues.now) }
+{
+    for (name, recoverable, items) in queues {
+        let items = items.as_slice();
+        push_heading(
+            out,
+            "TSQUEUE",
+            &name.bytes(),
+            recoverable_title(*recoverable),
+            "ITEMS",
+            items.len(),
+        )?;
+        push_records(out, items)?;
+    }
+    Ok(())
+}
+
+fn push_transient(
+    out: &mut Vec<u8>,
+    queues: &[(Name4, Recovery, Items<Record>)],
+) -> Result<(), NoMemory>
+    ensures { OnOk result (out.new.items ≡ out.old.items ++ flat_map transient_text queues.now) }
+{
+    for (name, recovery, records) in queues {
+        let records = records.as_slice();
+        push_heading(
+            out,
+            "TDQUEUE",
+            &name.bytes(),
+            recovery_title(*recovery),
+            "RECORDS",
+            records.len(),
+        )?;
+        push_records(out, records)?;
+    }
+    Ok(())
+}
+
+fn push_tasks(out: &mut Vec<u8>, tasks: &[(Name8, TaskState)]) -> Result<(), NoMemory>
+    ensures { OnOk result (out.new.items ≡ out.old.items ++ flat_map task_text tasks.now) }
+{
+    for (label, state) in tasks {
+        push_str(out, "TASK ")?;
+        push_bare(out, &label.bytes())?;
+        push_str(out, " ")?;
+        push_str(out, state_title(*state))?;
+        push_str(out, "\n")?;
+    }
+    Ok(())
+}
+
+// The line above the records of a file or queue.
+fn push_heading(
+    out: &mut Vec<u8>,
+    kind: &str,
+    name: &[u8],
+    recovery: &str,
+    counted: &str,
+    count: usize,
+) -> Result<(), NoMemory>
+    ensures { OnOk result (out.new.items ≡ out.old.items ++ heading kind.now name.now recovery.now counted.now count) }
+{
+    push_str(out, kind)?;
+    push_str(out, " ")?;
+    push_name(out, name)?;
+    push_str(out, " ")?;
+    push_str(out, recovery)?;
+    push_count(out, counted, count)?;
+    push_str(out, "\n")
+}
+
+fn push_count(out: &mut Vec<u8>, counted: &str, count: usize) -> Result<(), NoMemory>
+    ensures { OnOk result (out.new.items ≡ out.old.items ++ count_text counted.now count) }
+{
+    push_str(out, " ")?;
+    push_str(out, counted)?;
+    push_str(out, " ")?;
+    push_number(out, count as u64)
+}
+
+fn push_records(out: &mut Vec<u8>, records: &[Record]) -> Result<(), NoMemory>
+    ensures { OnOk result (out.new.items ≡ out.old.items ++ flat_map record_line records.now) }
+{
+    for record in records {
+        push_str(out, "  ")?;
+        push_text(out, record.bytes())?;
+        push_str(out, "\n")?;
+    }
+    Ok(())
+}
+
+fn recoverable_title(recoverable: bool) -> &'static str
+    ensures { result.now ≡ recoverable_title recoverable }
+{
+    if recoverable {
+        "RECOVERABLE"
+    } else {
+        "UNRECOVERABLE"
+    }
+}
+
+fn recovery_title(recovery: Recovery) -> &'static str
+    ensures { result.now ≡ recovery_title recovery }
+{
+    match recovery {
+        Recovery::Logical => "LOGICAL",
+        Recovery::Physical => "PHYSICAL",
+        Recovery::Unrecovered => "NONE",
+    }
+}
+
+fn state_title(state: TaskState) -> &'static str
+    ensures { result.now ≡ state_title state }
+{
+    match state {
+        TaskState::Idle => "IDLE",
+        TaskState::HasUnit => "OPEN",
+        TaskState::IsWaiting => "WAITING",
+    }
+}

@@ -1,0 +1,101 @@
+//! The run of a script.
+
+ghost use Rattle.std.specs.Prelude.{◌≡◌};
+ghost use Rattle.cics_run.specs.Running.{RunsOver};
+ghost use Rattle.cics_run.specs.Standing.{ended, fault_of};
+
+use crate::session::Session;
+use crate::writing::Stop;
+use std::alloc::Global;
+use std::io::{Read, Write};
+use thiserror::Error;
+
+/// The greatest number of bytes that a script may have.
+pub const LIMIT: usize = 16_777_216;
+
+/// How many bytes are asked for at once.
+const CHUNK: usize = 65_536;
+
+/// How a run ended that wrote all that it had to.
+#[derive(Clone, Copy, Debug, PartialEq, Eq)]
+pub enum Status {
+    Done,
+    LineFault,
+}
+
+/// Why a run stopped.
+#[derive(Debug, Drop, Error)]
+pub enum RunFault {
+    #[error("no memory")]
+    NoMemory,
+    #[error("read fault")]
+    ReadFault,
+    #[error("write fault")]
+    WriteFault,
+    #[error("input too long")]
+    InputTooLong,
+}
+
+/// What a run is asked for.
+#[derive(Clone, Copy, Debug, PartialEq, Eq)]
+pub struct Options {
+    pub no_list: bool,
+}
+
+/// Runs the script that the reader gives, and writes its journal and listing.
+pub fn run<R: Read, W: Write>(
+    alloc: Global,
+    reader: &mut R,
+    writer: &mut W,
+    options: Options,
+) -> Result<Status, RunFault>
+    ensures { RunsOver options (R.remaining reader.old) (R.remaining reader.new) (W.contents writer.old) (W.contents writer.new) result }
+{
+    let mut session = Session::new(alloc);
+    let mut buffer = [0u8; CHUNK];
+    let mut room = LIMIT;
+    while room > 0 {
+        match session.write(writer) {
+            Ok(()) => {}
+            Err(stop) => return Err(fault_of(stop)),
+        }
+        let size = room.min(CHUNK);
+        match reader.read(&mut buffer[..size]) {
+            Ok(0) => return ended(session.finish(options, writer)),
+            Ok(n) => match session.feed(&buffer[..n], writer) {
+                Ok(false) => room -= n,
+                Ok(true) => return Ok(Status::LineFault),
+                Err(stop) => return Err(fault_of(stop)),
+            },
+            Err(_) => return Err(RunFault::ReadFault),
+        }
+    }
+    match session.write(writer) {
+        Ok(()) => {}
+        Err(stop) => return Err(fault_of(stop)),
+    }
+    match reader.read(&mut buffer[..1]) {
+        Ok(0) => ended(session.finish(options, writer)),
+        Ok(_) => Err(RunFault::InputTooLong),
+        Err(_) => Err(RunFault::ReadFault),
+    }
+}
+
+fn fault_of(stop: Stop) -> RunFault
+    ensures { result ≡ fault_of stop }
+{
+    match stop {
+        Stop::NoMemory => RunFault::NoMemory,
+        Stop::WriteFault => RunFault::WriteFault,
+    }
+}
+
+// The answer of a run that came to the input's end.
+fn ended(answer: Result<Status, Stop>) -> Result<Status, RunFault>
+    ensures { result ≡ ended answer }
+{
+    match answer {
+        Ok(status) => Ok(status),
+        Err(stop) => Err(fault_of(stop)),
+    }
+}

@@ -1,0 +1,210 @@
+//! A run between two reads.
+
+ghost use Rattle.std.specs.Prelude.{◌≡◌, ℕ, true, List, [], ◌++◌, ◌+◌, ◌<◌, ◌^◌, Option, length, IfOk, OnOk, OnErr};
+ghost use Rattle.std.specs.Io.BufRead.{strip_last};
+ghost use Rattle.cics_run.specs.Stages.{step, first_stage};
+ghost use Rattle.cics_run.specs.Printing.{AppendsFront, Prints};
+ghost use Rattle.std.specs.Io.KnownBytes.{Appends};
+ghost use Rattle.cics_run.specs.Running.{ending};
+ghost use Rattle.cics_run.specs.Standing.{line_step, Stands, Feeds, Writes, Closes, Finishes};
+
+use crate::running::{Options, Status};
+use crate::stage::Stage;
+use crate::writing::{Stop, write_full, write_pending};
+use cics_names::NoMemory;
+use std::alloc::Global;
+use std::io::Write;
+use std::mem::replace;
+
+const LF: u8 = 10;
+
+const CR: u8 = 13;
+
+/// What the lines so far have led to, how many there were, the bytes of the next line that have
+/// come, and the text that is printed and not yet written.
+#[derive(Drop)]
+pub struct Session {
+    pub stage: Stage,
+    pub number: u64,
+    pub line: Vec<u8>,
+    pub pending: Vec<u8>,
+}
+
+// A line without the CR right before its LF.
+fn without_cr(line: &[u8]) -> &[u8]
+    ensures { result.now ≡ strip_last 13 line.now }
+{
+    if !line.is_empty() && line[line.len() - 1] == CR {
+        &line[..line.len() - 1]
+    } else {
+        line
+    }
+}
+
+// Runs a line and prints what comes of it, and tells whether that is a fault. A fault is written
+// at once.
+fn run_one<W: Write>(
+    stage: &mut Stage,
+    number: u64,
+    line: &[u8],
+    pending: &mut Vec<u8>,
+    writer: &mut W,
+) -> Result<bool, Stop>
+    ensures stage { IfOk result (λ _. stage.new ≡ (step number stage.old line.now).stage) }
+    ensures fault { IfOk result (λ fault. fault ≡ (step number stage.old line.now).is_fault) }
+    ensures printed { OnOk result (Prints (W.contents writer.old) (W.contents writer.new) pending.old.items pending.new.items (step number stage.old line.now).text) }
+    ensures left { IfOk result (λ fault. fault ≡ true → pending.new.items ≡ []) }
+    ensures err { OnErr result (AppendsFront (W.contents writer.old) (W.contents writer.new) (pending.old.items ++ (step number stage.old line.now).text)) }
+{
+    let old = replace(stage, Stage::new(*pending.allocator()));
+    let ran = match old.run_line(number, line, pending) {
+        Ok(ran) => ran,
+        Err(_) => return Err(Stop::NoMemory),
+    };
+    *stage = ran.stage;
+    let written = if ran.is_fault {
+        write_pending(pending, writer)
+    } else {
+        write_full(pending, writer)
+    };
+    match written {
+        Ok(()) => Ok(ran.is_fault),
+        Err(stop) => Err(stop),
+    }
+}
+
+impl Session {
+    /// Before the first byte.
+    pub fn new(alloc: Global) -> Self
+        ensures stage { result.stage ≡ first_stage }
+        ensures number { result.number ≡ 0 }
+        ensures line { result.line.items ≡ [] }
+        ensures pending { result.pending.items ≡ [] }
+    {
+        Session {
+            stage: Stage::new(alloc),
+            number: 0,
+            line: Vec::new(alloc),
+            pending: Vec::new(alloc),
+        }
+    }
+
+    /// Writes all that was printed.
+    pub fn write<W: Write>(&mut self, writer: &mut W) -> Result<(), Stop>
+        ensures { (bytes : List ℕ) (before : Option (List ℕ)) → Stands bytes before (W.contents writer.old) self.old
+            → Writes bytes before (W.contents writer.new) self.new result }
+    {
+        write_pending(&mut self.pending, writer)
+    }
+
+    // Runs the line whose LF came.
+    fn end_line<W: Write>(&mut self, writer: &mut W) -> Result<bool, Stop>
+        requires { self.old.number + 1 < 2 ^ 64 }
+        ensures stage { IfOk result (λ _. self.new.stage ≡ (line_step self.old).stage) }
+        ensures number { OnOk result (self.new.number ≡ self.old.number + 1) }
+        ensures line { OnOk result (self.new.line.items ≡ []) }
+        ensures fault { IfOk result (λ fault. fault ≡ (line_step self.old).is_fault) }
+        ensures printed { OnOk result (Prints (W.contents writer.old) (W.contents writer.new) self.old.pending.items self.new.pending.items (line_step self.old).text) }
+        ensures left { IfOk result (λ fault. fault ≡ true → self.new.pending.items ≡ []) }
+        ensures err { OnErr result (AppendsFront (W.contents writer.old) (W.contents writer.new) (self.old.pending.items ++ (line_step self.old).text)) }
+    {
+        self.number += 1;
+        let line = without_cr(&self.line);
+        let fault = run_one(
+            &mut self.stage,
+            self.number,
+            line,
+            &mut self.pending,
+            writer,
+        )?;
+        self.line.clear();
+        Ok(fault)
+    }
+
+    /// Runs the lines that more bytes complete, up to the first fault, and tells whether there was
+    /// one: what was printed up to it is then written.
+    pub fn feed<W: Write>(&mut self, chunk: &[u8], writer: &mut W) -> Result<bool, Stop>
+        requires { self.old.number + length chunk.now < 2 ^ 64 }
+        ensures { (bytes : List ℕ) (before : Option (List ℕ)) → Stands bytes before (W.contents writer.old) self.old
+            → Feeds (bytes ++ chunk.now) before (W.contents writer.new) self.new result }
+    {
+        for byte in chunk {
+            if *byte == LF {
+                match self.end_line(writer) {
+                    Ok(false) => {}
+                    Ok(true) => return Ok(true),
+                    Err(stop) => return Err(stop),
+                }
+            } else {
+                match self.line.push(*byte) {
+                    Ok(()) => {}
+                    Err(_) => return Err(Stop::NoMemory),
+                }
+            }
+        }
+        Ok(false)
+    }
+
+    // Runs the last line where it lacks its LF.
+    fn end_input<W: Write>(&mut self, writer: &mut W) -> Result<bool, Stop>
+        requires { self.old.number + 1 < 2 ^ 64 }
+        ensures closes { (bytes : List ℕ) (before : Option (List ℕ)) → Stands bytes before (W.contents writer.old) self.old
+            → Closes bytes before (W.contents writer.new) self.new.pending.items self.new.stage result }
+        ensures left { IfOk result (λ fault. fault ≡ true → self.new.pending.items ≡ []) }
+    {
+        if self.line.is_empty() {
+            return Ok(false);
+        }
+        self.number += 1;
+        run_one(
+            &mut self.stage,
+            self.number,
+            &self.line,
+            &mut self.pending,
+            writer,
+        )
+    }
+
+    /// Runs the last line where it lacks its LF, and where no line was a fault, writes the listing.
+    pub fn finish<W: Write>(mut self, options: Options, writer: &mut W) -> Result<Status, Stop>
+        requires { self.number + 1 < 2 ^ 64 }
+        ensures { (bytes : List ℕ) (before : Option (List ℕ)) → Stands bytes before (W.contents writer.old) self
+            → Finishes options bytes before (W.contents writer.new) result }
+    {
+        match self.end_input(writer) {
+            Ok(false) => {}
+            Ok(true) => return Ok(Status::LineFault),
+            Err(stop) => return Err(stop),
+        }
+        match write_end(self.stage, options, self.pending, writer) {
+            Ok(()) => Ok(Status::Done),
+            Err(stop) => Err(stop),
+        }
+    }
+}
+
+// Writes what is pending, and behind it the listing, unless it is left out.
+fn write_end<W: Write>(
+    stage: Stage,
+    options: Options,
+    mut pending: Vec<u8>,
+    writer: &mut W,
+) -> Result<(), Stop>
+    ensures ok { OnOk result (Appends (W.contents writer.old) (W.contents writer.new) (pending.items ++ ending options stage)) }
+    ensures err { OnErr result (AppendsFront (W.contents writer.old) (W.contents writer.new) (pending.items ++ ending options stage)) }
+{
+    match push_ending(stage, options, &mut pending) {
+        Ok(()) => write_pending(&mut pending, writer),
+        Err(_) => Err(Stop::NoMemory),
+    }
+}
+
+// Prints the listing, unless it is left out.
+fn push_ending(stage: Stage, options: Options, out: &mut Vec<u8>) -> Result<(), NoMemory>
+    ensures { OnOk result (out.new.items ≡ out.old.items ++ ending options stage) }
+{
+    if options.no_list {
+        return Ok(());
+    }
+    stage.push_listing(out)
+}

@@ -1,0 +1,137 @@
+//! The texts of byte strings, names and numbers, each put at the end of what was printed before.
+
+ghost use Rattle.std.specs.Prelude.{◌≡◌, ◌++◌, ◌<◌, OnOk, codes};
+ghost use Rattle.std.specs.List.{flat_map, list_all};
+ghost use Rattle.std.specs.Fmt.{decimal};
+ghost use Rattle.cics_run.specs.Texts.{has_character, doubled, quoted, digit, hexadecimal, text_of, unfilled, name_text, bare, shown};
+
+use cics_names::{NoMemory, from_ebcdic};
+
+const BLANK: u8 = 0x40;
+
+/// Puts the characters of a text at the end.
+pub fn push_str(out: &mut Vec<u8>, text: &str) -> Result<(), NoMemory>
+    ensures { OnOk result (out.new.items ≡ out.old.items ++ text.now) }
+{
+    out.extend_from_slice(text.as_bytes())?;
+    Ok(())
+}
+
+/// Puts a number at the end, in decimal.
+pub fn push_number(out: &mut Vec<u8>, number: u64) -> Result<(), NoMemory>
+    ensures { OnOk result (out.new.items ≡ out.old.items ++ decimal number) }
+{
+    let digits = number.to_string(*out.allocator())?;
+    push_str(out, &digits)
+}
+
+/// Puts a byte string at the end, in quotes: in characters where each byte has one, else in hexadecimal.
+pub fn push_text(out: &mut Vec<u8>, bytes: &[u8]) -> Result<(), NoMemory>
+    ensures { OnOk result (out.new.items ≡ out.old.items ++ text_of bytes.now) }
+{
+    if has_characters(bytes) {
+        push_str(out, "'")?;
+        push_quoted(out, bytes)?;
+    } else {
+        push_str(out, "X'")?;
+        push_hexadecimal(out, bytes)?;
+    }
+    push_str(out, "'")
+}
+
+/// Puts a name at the end, in quotes and without the blanks that fill it up.
+pub fn push_name(out: &mut Vec<u8>, name: &[u8]) -> Result<(), NoMemory>
+    ensures { OnOk result (out.new.items ≡ out.old.items ++ name_text name.now) }
+{
+    push_text(out, unfilled(name))
+}
+
+/// Puts a label or an abend code at the end: its characters alone.
+pub fn push_bare(out: &mut Vec<u8>, name: &[u8]) -> Result<(), NoMemory>
+    ensures { OnOk result (out.new.items ≡ out.old.items ++ bare name.now) }
+{
+    let bytes = unfilled(name);
+    for code in bytes {
+        push_shown(out, *code)?;
+    }
+    Ok(())
+}
+
+// Whether a byte is the code of a character.
+fn has_character(code: &u8) -> bool
+    ensures { result ≡ has_character code.now }
+{
+    from_ebcdic(*code).is_some()
+}
+
+// Whether every byte is the code of a character.
+fn has_characters(bytes: &[u8]) -> bool
+    ensures { result ≡ list_all has_character bytes.now }
+{
+    bytes.iter().all(|code| has_character(code))
+}
+
+// The character of a byte, where it has one.
+fn push_shown(out: &mut Vec<u8>, code: u8) -> Result<(), NoMemory>
+    ensures { OnOk result (out.new.items ≡ out.old.items ++ shown code) }
+{
+    if let Some(character) = from_ebcdic(code) {
+        out.push(character as u8)?;
+    }
+    Ok(())
+}
+
+// A byte's character as it stands between quotes.
+fn push_quoted_byte(out: &mut Vec<u8>, code: u8) -> Result<(), NoMemory>
+    ensures { OnOk result (out.new.items ≡ out.old.items ++ quoted code) }
+{
+    if let Some(character) = from_ebcdic(code) {
+        if character == '\'' {
+            out.push(b'\'')?;
+        }
+        out.push(character as u8)?;
+    }
+    Ok(())
+}
+
+fn push_quoted(out: &mut Vec<u8>, bytes: &[u8]) -> Result<(), NoMemory>
+    ensures { OnOk result (out.new.items ≡ out.old.items ++ flat_map quoted bytes.now) }
+{
+    for code in bytes {
+        push_quoted_byte(out, *code)?;
+    }
+    Ok(())
+}
+
+// A hexadecimal digit of a number below 16.
+fn digit(number: u8) -> u8
+    requires { number < 16 }
+    ensures { result ≡ digit number }
+{
+    if number < 10 {
+        b'0' + number
+    } else {
+        b'A' + (number - 10)
+    }
+}
+
+fn push_hexadecimal(out: &mut Vec<u8>, bytes: &[u8]) -> Result<(), NoMemory>
+    ensures { OnOk result (out.new.items ≡ out.old.items ++ flat_map hexadecimal bytes.now) }
+{
+    for code in bytes {
+        out.push(digit(*code / 16))?;
+        out.push(digit(*code % 16))?;
+    }
+    Ok(())
+}
+
+// The bytes of a name without the blanks that fill it up.
+fn unfilled(name: &[u8]) -> &[u8]
+    ensures { result.now ≡ unfilled name.now }
+{
+    let mut end = name.len();
+    while end > 0 && name[end - 1] == BLANK {
+        end -= 1;
+    }
+    &name[..end]
+}
