@@ -88,6 +88,13 @@ impl Browse {
         }
     }
 
+    /// Whether the browse was started, or last reset, with GENERIC.
+    pub fn is_generic(&self) -> bool
+        ensures { result ≡ self.now.generic }
+    {
+        self.generic
+    }
+
     /// RESETBR: makes the key the position, as `start` with the same arguments would. Where that
     /// finds nothing the answer is NOTFND, and the position and its `generic` stay.
     pub fn reset<F: Ordered>(

@@ -1,6 +1,6 @@
 //! A list of values on the heap.
 
-ghost use Rattle.std.specs.Prelude.{◌≡◌, ◌↔◌, [], ◌∷◌, ◌++◌, IsTrue, OnOk, OnErr, length};
+ghost use Rattle.std.specs.Prelude.{◌≡◌, ◌↔◌, ◌<◌, [], ◌∷◌, ◌++◌, IsTrue, OnOk, OnErr, length, slice_set};
 
 use crate::records::NoMemory;
 use std::alloc::Global;
@@ -84,5 +84,13 @@ impl<T: Drop> Items<T> {
     {
         self.items.push(value)?;
         Ok(())
+    }
+
+    /// Puts a value in the place of the one at `index` (from 0), which is dropped. It takes no memory.
+    pub fn set(&mut self, index: usize, value: T)
+        requires { index < length self.old }
+        ensures { self.new ≡ slice_set self.old index value }
+    {
+        self.items[index] = value;
     }
 }

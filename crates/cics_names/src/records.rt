@@ -3,6 +3,7 @@
 ghost use Rattle.std.specs.Prelude.{◌≡◌, ◌↔◌, ◌+◌, ◌≤◌, [], IsTrue, IfOk, length, take, drop};
 
 use std::alloc::{AllocError, AllocFailed, Global};
+use std::cmp::Ordering;
 use std::marker::Model;
 
 /// Memory was refused: a growth was asked for and not granted.
@@ -25,7 +26,8 @@ impl<T: Drop> From<AllocFailed<T>> for NoMemory {
 
 /// The bytes of a record, of an item or of a key, as they stand in EBCDIC.
 ///
-/// Contracts see the bytes alone. Two records are equal where they have the same bytes.
+/// Contracts see the bytes alone. Two records are equal where they have the same bytes, and are ordered by the first
+/// byte that differs, the bytes unsigned, or else by their length.
 #[derive(Debug, Drop)]
 pub struct Record {
     bytes: Vec<u8>,
@@ -125,4 +127,36 @@ impl Eq for Record {
     ghost use Rattle.std.specs.Cmp.Rules.{comparing};
 
     ghost laws = { Prim.search (comparing, rules) };
+}
+
+impl PartialOrd for Record {
+    ghost use Rattle.std.specs.Prelude.{Some};
+    ghost use Rattle.std.specs.Ordering.{nat_cmp};
+    ghost use Rattle.std.specs.Cmp.Lexicographic.{slice_cmp, texts_po};
+
+    ghost partial_cmp = { λ a b. Some (slice_cmp nat_cmp a b) };
+
+    ghost laws = { texts_po };
+
+    fn partial_cmp(&self, other: &Record) -> Option<Ordering> {
+        Some(self.cmp(other))
+    }
+}
+
+impl Ord for Record {
+    ghost use Rattle.std.specs.Prelude.{refl};
+    ghost use Rattle.std.specs.Ordering.{nat_cmp};
+    ghost use Rattle.std.specs.Cmp.Lexicographic.{slice_cmp, nat_list_cmp_total, texts_ties};
+
+    ghost cmp = { slice_cmp nat_cmp };
+
+    ghost total = { nat_list_cmp_total };
+
+    ghost matches_partial_cmp = { λ a b. refl };
+
+    ghost matches_eq = { λ a b. texts_ties a b };
+
+    fn cmp(&self, other: &Record) -> Ordering {
+        self.bytes.as_slice().cmp(other.bytes.as_slice())
+    }
 }
