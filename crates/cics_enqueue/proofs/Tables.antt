@@ -2,9 +2,8 @@
 use Rattle.std.proofs.Common.{◌≡◌, ◌+◌, ◌-◌, ℕ, suc, ◌&&◌, ◌==◌, not, Bool, true, false, cond, T, Option, Some, None, List, [], ◌∷◌, slice_get, refl, sym, ap, subst, ◌∙◌}
 use Rattle.std.specs.Prelude.{option_map, nat_le, nat_lt, if◌then◌else◌}
 use Rattle.std.specs.Map.{lookup, lookup_key, set_value}
-use Rattle.std.specs.declared.cmp.Ordering.{Ordering}
 use Rattle.std.specs.declared.cmp.Ordering.TheVariants.{Less, Equal, Greater}
-use Rattle.std.specs.Ordering.{is_eq, is_lt}
+use Rattle.std.specs.Ordering.{is_eq}
 use Rattle.std.specs.Cmp.{eq_by_cmp_equiv}
 use Rattle.std.specs.FinMap as map_by
 use Rattle.std.specs.FinMap.Entries.{find-put, find-where_key, is_sorted-put, is_sorted-where_key, same_entries, below_all, by_order}
@@ -16,6 +15,7 @@ use Rattle.cics_enqueue.specs.declared.enqueues.Holding.{Holding}
 use Rattle.cics_enqueue.specs.contracts.resources.ResourcePartialEq.TheImpl as own
 use Rattle.cics_enqueue.specs.Lists.{table_of, seen}
 use Rattle.cics_enqueue.specs.Resources.{Table, Held, held_at, holder_of, count_of, count_in, is_one, is_user, is_full, most_count, raised_count, is_in_order, resource_cmp, with_holder, freed, released, taken, given_back, given_back_of}
+use Rattle.cics_enqueue.specs.TableLaws.{left_of, right_of, not_tied}
 use Rattle.cics_enqueue.specs.ResourceLaws.{resource_cmp_total, is_one-cmp, is_one-eq, same_resources}
 
 -- the program's `==` of resources
@@ -89,25 +89,12 @@ module _ (es fs : List (Resource × Holding)) (r : Resource) where
       step false o = refl
 
 -- ---- what a unit gives up
-left_of : (a b : Bool) → T (a && b) → T a
-left_of true b p = tt
-left_of false b p = absurd p
-
-right_of : (a b : Bool) → T (a && b) → T b
-right_of true b p = p
-right_of false b p = absurd p
-
 -- a resource that comes before all of a table isn't in it
 freed-before : (r : Resource) (t : Table) → T (below_all resource_cmp r t) → freed t r ≡ t
 freed-before r [] below = refl
 freed-before r (e ∷ es) below =
-    ap (λ b. cond (not b) (e ∷ freed es r) (freed es r)) (is_one-cmp r e.0 ∙ apart (resource_cmp r e.0) (left_of _ _ below))
+    ap (λ b. cond (not b) (e ∷ freed es r) (freed es r)) (is_one-cmp r e.0 ∙ not_tied (resource_cmp r e.0) (left_of _ _ below))
     ∙ ap (λ t. e ∷ t) (freed-before r es (right_of _ _ below))
-  where
-    apart : (o : Ordering) → T (is_lt o) → is_eq o ≡ false
-    apart Less p = refl
-    apart Equal p = absurd p
-    apart Greater p = refl
 
 -- to free first what the unit gives up anyway changes nothing
 pub released-freed : (t : Table) (r : Resource) (u : ℕ) → T (is_in_order t) → ((h : Held) → held_at r t ≡ Some h → h.unit ≡ u) → released (freed t r) u ≡ released t u

@@ -1,3 +1,4 @@
 pub mod Lists
 pub mod Resources
 pub mod ResourceLaws
+pub mod TableLaws

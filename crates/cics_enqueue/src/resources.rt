@@ -1,7 +1,8 @@
 //! Resources, and the units that hold them.
 
-ghost use Rattle.std.specs.Prelude.{◌≡◌};
-ghost use Rattle.cics_enqueue.specs.Resources.{is_user};
+ghost use Rattle.std.specs.Prelude.{◌≡◌, ◌≤◌, length};
+ghost use Rattle.cics_enqueue.specs.Resources.{is_user, bytes_of};
+ghost use Rattle.cics_enqueue.specs.declared.resources.Resource.TheVariants.{FileKey, User};
 
 use arrayvec::ArrayVec;
 use cics_names::{Name4, Name8};
@@ -49,7 +50,35 @@ pub enum Resource {
     User(ArrayVec<u8, 255>),
 }
 
+// Bytes as a resource keeps them.
+fn kept(bytes: &[u8]) -> ArrayVec<u8, 255>
+    requires most { length bytes.now ≤ 255 }
+    ensures { result ≡ bytes_of bytes.now }
+{
+    let mut kept = ArrayVec::new();
+    match kept.try_extend_from_slice(bytes) {
+        Ok(()) => kept,
+        Err(_) => unreachable!(),
+    }
+}
+
 impl Resource {
+    /// The record of a file under this key, of at most 255 bytes, whether it is there or not.
+    pub fn record(file: Name8, key: &[u8]) -> Resource
+        requires most { length key.now ≤ 255 }
+        ensures { result ≡ FileKey file (bytes_of key.now) }
+    {
+        Resource::FileKey(file, kept(key))
+    }
+
+    /// A user's value of at most 255 bytes.
+    pub fn value(bytes: &[u8]) -> Resource
+        requires most { length bytes.now ≤ 255 }
+        ensures { result ≡ User (bytes_of bytes.now) }
+    {
+        Resource::User(kept(bytes))
+    }
+
     /// Whether it is a user's value: only such a resource can be held more than once.
     pub fn is_user(&self) -> bool
         ensures { result ≡ is_user self.now }
