@@ -59,10 +59,10 @@ any_append : {A : Type 0} (p : A → Bool) (xs ys : List A) → list_any p (xs +
     (list_any p xs ≡ true) ⊎ (list_any p ys ≡ true)
 any_append p xs ys h = or_cases (list_any p xs) (list_any p ys) (sym (list_any-append p xs ys) ∙ h)
 
-any_only : {A : Type 0} (p : A → Bool) (x : A) → list_any p (x ∷ []) ≡ true → p x ≡ true
+pub any_only : {A : Type 0} (p : A → Bool) (x : A) → list_any p (x ∷ []) ≡ true → p x ≡ true
 any_only p x h = elim (or_cases (p x) false h) [ inl y ↦ y | inr n ↦ absurd (false≢true n) ]
 
-any_if : {A : Type 0} (p : A → Bool) (b : Bool) (xs : List A) → list_any p (if b then xs else []) ≡ true →
+pub any_if : {A : Type 0} (p : A → Bool) (b : Bool) (xs : List A) → list_any p (if b then xs else []) ≡ true →
     (b ≡ true) × (list_any p xs ≡ true)
 any_if p true xs h = (refl, h)
 any_if p false xs h = absurd (false≢true h)
@@ -102,7 +102,7 @@ HoldsBy o es reads counts n p =
     ⊎ ((list_any (λ r. list_any p (held_by_read o n r)) reads ≡ true)
     ⊎ (list_any (λ c. list_any p (held_by_count n c)) counts ≡ true))
 
-held_cases : (s : UnitsState) (n : ℕ) (p : Resource → Bool) → list_any p (held_by s n) ≡ true →
+pub held_cases : (s : UnitsState) (n : ℕ) (p : Resource → Bool) → list_any p (held_by s n) ≡ true →
     (is_open (outcome_of s.outcomes n) ≡ true) × HoldsBy s.opening s.trace s.reads s.counts n p
 held_cases s n p h =
     let a = any_if p (is_open (outcome_of s.outcomes n)) _ h in (

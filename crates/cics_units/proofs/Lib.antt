@@ -28,3 +28,17 @@ pub mod Changing
 pub mod FilesInPlace
 pub mod MarkedParts
 pub mod Refilled
+mod FileChanges
+mod PartChanges
+pub mod OpenReads
+pub mod HeldReads
+pub mod HeldSums
+pub mod TableChanges
+pub mod TableInPlace
+pub mod Plain
+pub mod PlainOpening
+pub mod PlainTrace
+pub mod TableValues
+mod KeptUnits
+mod ShownUnits
+mod Enqueuing

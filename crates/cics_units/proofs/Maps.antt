@@ -8,7 +8,7 @@ pub cases_Option : {A : Type 0} (o : Option A) → (o ≡ None) ⊎ ((x : A) × 
 cases_Option None = inl refl
 cases_Option (Some x) = inr (x, refl)
 
-to_T : (b : Bool) → b ≡ true → T b
+pub to_T : (b : Bool) → b ≡ true → T b
 to_T b e = subst T (sym e) tt
 
 of_T : (b : Bool) → T b → b ≡ true

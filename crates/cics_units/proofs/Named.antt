@@ -12,11 +12,11 @@ use Rattle.std.proofs.lemmas.Map.Steps.{set_value_same}
 use Rattle.cics_names.specs.RisingLaws.{rising-with_value}
 use Rattle.cics_names.specs.Keyed.{Bytes, Map, bytes_cmp, is_same, value_at, with_value, is_rising}
 
-first : (a b : Bool) → T (a && b) → T a
+pub first : (a b : Bool) → T (a && b) → T a
 first true b p = tt
 first false b p = p
 
-second : (a b : Bool) → T (a && b) → T b
+pub second : (a b : Bool) → T (a && b) → T b
 second true b p = p
 second false b p = absurd p
 
@@ -53,7 +53,7 @@ module _ {X : Type 0} where
       ]
 
   -- a key below all isn't there
-  value_at-below : (k : Bytes) (es : Map X) → T (below_all bytes_cmp k es) → value_at k es ≡ None
+  pub value_at-below : (k : Bytes) (es : Map X) → T (below_all bytes_cmp k es) → value_at k es ≡ None
   value_at-below k [] below = refl
   value_at-below k (e ∷ es) below =
       ap (λ b. cond b (Some e.1) (value_at k es)) (not_equal (bytes_cmp k e.0) (first _ _ below)) ∙ value_at-below k es (second _ _ below)

@@ -12,7 +12,7 @@ use Rattle.cics_names.specs.KeyedLaws.{same_bytes}
 use Rattle.cics_names.specs.RisingLaws.{rising-with_value}
 use Rattle.cics_ksds.specs.Files.{FileValue, key_of, fits_file, written, filled}
 use Rattle.cics_ksds.specs.declared.definition.FileDef.{FileDef}
-use Rattle.cics_units.specs.Openings.{OpeningState, FileOpening, with_record, loaded_file, is_record_size, is_key, file_fault, load_fault, is_in_order, IsOpeningInOrder}
+use Rattle.cics_units.specs.Openings.{OpeningState, FileOpening, with_record, loaded_file, is_record_size, is_key, file_fault, load_fault, is_in_order, HasLawfulKeys, IsOpeningInOrder}
 use Rattle.cics_units.specs.declared.opening.DefineFault.{DefineFault}
 use Rattle.cics_units.specs.declared.opening.DefineFault.TheVariants.{Duplicate, BadKey, BadLength, NotThere}
 use Rattle.cics_units.specs.RegionFiles.{opening_of, openings_of, opened_files, IsLoaded, AreLoaded}
@@ -73,8 +73,8 @@ All-value_at P k m x all there = subst (λ o. IfSome o P) (lookup-value_at k m �
 abbrev pub opening_with : Map FileValue → OpeningState
 opening_with m = record { files = openings_of m; prefixes = []; queues = [] }
 
-pub IsLoaded-new : (d : FileDef) → IsLoaded (record { definition = d; records = []; empties = [] })
-IsLoaded-new d = record { content = record { rising = tt; keyed = All-nil (λ e. (e.0 ≡ key_of d e.1) × IsTrue (fits_file d e.1)) }; empties = refl }
+pub IsLoaded-new : (d : FileDef) → is_key d ≡ true → IsLoaded (record { definition = d; records = []; empties = [] })
+IsLoaded-new d lawful = record { lawful = lawful; content = record { rising = tt; keyed = All-nil (λ e. (e.0 ≡ key_of d e.1) × IsTrue (fits_file d e.1)) }; empties = refl }
 
 pub IsLoaded-written : (f : FileValue) (r : Bytes) → IsTrue (fits_file f.definition r) → IsLoaded f → IsLoaded (written f r)
 IsLoaded-written f r fits loaded =
@@ -82,6 +82,7 @@ IsLoaded-written f r fits loaded =
     elim (has_key key f.records) as (λ b. IsLoaded (if b then f else filled f key r)) [
       | true ↦ loaded
       | false ↦ record {
+        lawful = loaded.lawful;
         content = record {
           rising = rising-with_value key r f.records loaded.content.rising;
           keyed = All-with_value (λ e. (e.0 ≡ key_of f.definition e.1) × IsTrue (fits_file f.definition e.1)) key r f.records (refl, fits) loaded.content.keyed;
@@ -91,10 +92,10 @@ IsLoaded-written f r fits loaded =
     ]
 
 module _ (m : Map FileValue) (are : AreLoaded m) where
-  pub AreLoaded-defined : (name : Bytes) (d : FileDef) → AreLoaded (with_value name (record { definition = d; records = []; empties = [] }) m)
-  AreLoaded-defined name d = record {
+  pub AreLoaded-defined : (name : Bytes) (d : FileDef) → is_key d ≡ true → AreLoaded (with_value name (record { definition = d; records = []; empties = [] }) m)
+  AreLoaded-defined name d lawful = record {
     rising = rising-with_value name (record { definition = d; records = []; empties = [] }) m are.rising;
-    loaded = All-with_value (λ e. IsLoaded e.1) name (record { definition = d; records = []; empties = [] }) m (IsLoaded-new d) are.loaded;
+    loaded = All-with_value (λ e. IsLoaded e.1) name (record { definition = d; records = []; empties = [] }) m (IsLoaded-new d lawful) are.loaded;
   }
 
   pub AreLoaded-written : (name r : Bytes) (f : FileValue) → value_at name m ≡ Some f → IsTrue (fits_file f.definition r) → AreLoaded (with_value name (written f r) m)
@@ -102,6 +103,16 @@ module _ (m : Map FileValue) (are : AreLoaded m) where
     rising = rising-with_value name (written f r) m are.rising;
     loaded = All-with_value (λ e. IsLoaded e.1) name (written f r) m (IsLoaded-written f r fits (All-value_at IsLoaded name m f are.loaded there)) are.loaded;
   }
+
+  pub HasLawfulKeys-with : HasLawfulKeys (opening_with m)
+  HasLawfulKeys-with name file found = by (value_at name m) refl (sym (value_at-each opening_of name m) ∙ found)
+    where
+      by : (o : Option FileValue) → value_at name m ≡ o → option_map opening_of o ≡ Some file → is_key file.definition ≡ true
+      by None at is = absurd (none_some is)
+        where
+          none_some : None ≡ Some file → ⊥
+          none_some e = cc
+      by (Some f) at is = let same : opening_of f ≡ file = cc in ap (λ x. is_key x.definition) (sym same) ∙ (All-value_at IsLoaded name m f are.loaded at).lawful
 
   pub IsOpeningInOrder-with : IsOpeningInOrder (opening_with m)
   IsOpeningInOrder-with = record {

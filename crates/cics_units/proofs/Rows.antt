@@ -1,6 +1,7 @@
 -- Worked examples of units of work: what commands answer, who waits for whom, and what stands after units have ended,
 -- computed from the definitions.
-use Rattle.std.specs.Prelude.{◌≡◌, true, false, Some, None, List, [], ◌∷◌, refl}
+use Rattle.std.specs.Prelude.{◌≡◌, true, false, Some, None, List, [], ◌∷◌, ◌++◌, refl}
+use Rattle.std.specs.BTreeMap.{BTreeMap}
 use Rattle.cics_names.specs.Keyed.{Bytes}
 use Rattle.cics_names.specs.declared.conditions.Condition.TheVariants.{Normal, Duprec, Notfnd, Qzero, Itemerr, Qiderr}
 use Rattle.cics_ksds.specs.declared.definition.FileDef.{FileDef}
@@ -8,8 +9,9 @@ use Rattle.cics_transdata.specs.declared.queues.Recovery.TheVariants.{Logical, U
 use Rattle.cics_units.specs.Openings.{OpeningState, nothing_defined, with_file, with_record, with_queue, with_prefix, with_td_record}
 use Rattle.cics_units.specs.Store.{only, with_content, numbered}
 use Rattle.cics_units.specs.History.{kept}
-use Rattle.cics_units.specs.Holding.{UnitsState, store_of, committed_for, held_by}
-use Rattle.cics_units.specs.Execution.{execution, after_execution, after_end, after_unlock, enqueue, after_enqueue, after_dequeue, is_ready_op, place_at, ts_reading, after_ts_reading, item_asked, read_at}
+use Rattle.cics_units.specs.Holding.{UnitsState, UpdateRead, store_of, committed_for, held_by}
+use Rattle.cics_units.specs.Execution.{execution, after_execution, after_end, after_unlock, enqueue, after_enqueue, after_dequeue, is_ready_op, place_at, ts_reading, after_ts_reading, item_asked, read_at, with_read}
+use Rattle.cics_units.specs.OpenReads.{reads_of, reads_in, is_read_key}
 use Rattle.cics_units.specs.Headline.{beginning}
 use Rattle.cics_units.specs.Listings.{listing_of}
 use Rattle.cics_units.specs.declared.ops.Op.{Op}
@@ -396,6 +398,23 @@ ready = (refl, refl, refl, refl)
 -- a REWRITE without an update read, a second READ UPDATE, a key that isn't the record's, and a queue that isn't defined
 not_ready : (is_ready_op start None (Rewrite acct k1 (codes "0001b")) ≡ false) × (is_ready_op read_0 (Some 0) (ReadUpdate acct k2) ≡ false) × (is_ready_op start None (Write acct k1 (codes "0002b")) ≡ false) × (is_ready_op start None (TdRead rq) ≡ false)
 not_ready = (refl, refl, refl, refl)
+
+-- ---- Update reads
+
+-- unit 0 has read a log entry, and unit 7 a record of each file; the files of a unit are in the order of their names
+abbrev reads_open : List UpdateRead
+reads_open = reads_of 0 ((log, k1) ∷ []) ++ reads_of 7 ((acct, k2) ∷ (log, k1) ∷ [])
+
+one_more_read : with_read (record { unit = 0; file = acct; key = k1 }) reads_open ≡ reads_of 0 ((acct, k1) ∷ (log, k1) ∷ []) ++ reads_of 7 ((acct, k2) ∷ (log, k1) ∷ [])
+one_more_read = refl
+
+-- a read is of one key
+read_is_of : (is_read_key (read_at reads_open 7 acct) k2 ≡ true) × (is_read_key (read_at reads_open 7 acct) k1 ≡ false) × (is_read_key (read_at reads_open 0 acct) k2 ≡ false)
+read_is_of = (refl, refl, refl)
+
+-- the rows of the units show their reads one after the other
+rows_shown : (m n : BTreeMap Bytes Bytes) → reads_in ((0, m) ∷ (7, n) ∷ []) ≡ reads_of 0 m.entries ++ (reads_of 7 n.entries ++ [])
+rows_shown m n = refl
 
 -- ---- Listings
 

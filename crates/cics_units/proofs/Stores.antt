@@ -143,7 +143,7 @@ none_full x e = cc
 full : (d : Bytes) (ds : List Bytes) → Some (d ∷ ds) ≡ Some [] → ⊥
 full d ds e = cc
 
-file_canonical : (s : Store) → IsCanonical s → (f : Bytes) (m : Map Bytes) → is_rising m ≡ true →
+pub file_canonical : (s : Store) → IsCanonical s → (f : Bytes) (m : Map Bytes) → is_rising m ≡ true →
     IsCanonical (with_file s f m)
 file_canonical s c f m r =
     record {

@@ -115,6 +115,11 @@ abbrev pub state_of : UnitsState → Option ℕ → Op → Option ℕ → UnitsS
 state_of s u op (Some holder) = s
 state_of s u op None = entered s u op (apply (store_of s) op).answer
 
+-- what holds of the unit that is to be waited for, where a command has to wait
+abbrev pub IfMustWait : Done → (ℕ → Type 0) → Type 0
+IfMustWait (Answered unit a) P = Unit {0}
+IfMustWait (MustWait holder) P = P holder
+
 -- what comes of a command of a unit, or of a task without one
 abbrev pub execution : UnitsState → Option ℕ → Op → Done
 execution s u op = done_of s u op (awaited s u op)
@@ -157,6 +162,12 @@ with_counts s outcomes counts = record { opening = s.opening; trace = s.trace; o
 abbrev pub enq_of : UnitsState → Option ℕ → Bytes → Option ℕ → Enqueued
 enq_of s u v (Some holder) = EnqMustWait holder
 enq_of s u v None = if nat_le most_count (count_at s.counts (unit_or_next u s.outcomes) v) then CountFull else Taken (unit_or_next u s.outcomes)
+
+-- what holds of the unit that is to be waited for, where ENQ has to wait
+abbrev pub IfEnqMustWait : Enqueued → (ℕ → Type 0) → Type 0
+IfEnqMustWait (Taken unit) P = Unit {0}
+IfEnqMustWait (EnqMustWait holder) P = P holder
+IfEnqMustWait CountFull P = Unit {0}
 
 -- what comes of an ENQ
 abbrev pub enqueue : UnitsState → Option ℕ → Bytes → Enqueued

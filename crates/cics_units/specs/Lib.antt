@@ -23,3 +23,7 @@ pub mod InPlace
 pub mod FilesInPlace
 pub mod UnitImages
 pub mod TableInPlace
+pub mod Parts
+pub mod OpenReads
+pub mod Replaying
+pub mod KeptUnits

@@ -123,6 +123,15 @@ abbrev pub is_in_order : Option (Map Bytes) → Bool
 is_in_order None = true
 is_in_order (Some records) = is_rising records
 
+-- each file's key has 1 to 255 bytes and ends within the record
+abbrev pub HasLawfulKeys : OpeningState → Type 0
+HasLawfulKeys o = (f : Bytes) (file : FileOpening) → value_at f o.files ≡ Some file → is_key file.definition ≡ true
+
+-- an opening that defines files alone
+pub record HasFilesAlone (o : OpeningState) : Type 0 where
+  pub prefixes : o.prefixes ≡ []
+  pub queues : o.queues ≡ []
+
 -- an opening is in order: the names of its files and of its queues rise, and so do the keys of each file
 pub record IsOpeningInOrder (o : OpeningState) : Type 0 where
   pub files : is_rising o.files ≡ true

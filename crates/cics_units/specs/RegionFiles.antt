@@ -1,8 +1,8 @@
 -- The files of a region, by name, and those of an opening.
-use Rattle.std.specs.Prelude.{◌≡◌, Bool, IsTrue, T, All, Option, Some, None, List, [], map, fold}
+use Rattle.std.specs.Prelude.{◌≡◌, Bool, true, IsTrue, T, All, Option, Some, None, List, [], map, fold}
 use Rattle.cics_names.specs.Keyed.{Bytes, Map, with_value, is_rising}
 use Rattle.cics_ksds.specs.Files.{FileValue, IsContent, key_of, fits_file, records_of, written, rewritten, deleted}
-use Rattle.cics_units.specs.Openings.{FileOpening}
+use Rattle.cics_units.specs.Openings.{FileOpening, is_key}
 
 -- a record can be written to a file that is there and that it fits
 abbrev pub IsFitFor : Option FileValue → Bytes → Type 0
@@ -58,8 +58,10 @@ file_of f = record { definition = f.definition; records = f.records; empties = [
 abbrev pub opened_files : Map FileOpening → Map FileValue
 opened_files files = map (λ e. (e.0, file_of e.1)) files
 
--- a file has loaded records alone: each stands under its own key, fits, and the keys rise; no place is empty
+-- a file has loaded records alone: its key is lawful, each record stands under its own key, fits, and the keys rise; no
+-- place is empty
 pub record IsLoaded (f : FileValue) : Type 0 where
+  pub lawful : is_key f.definition ≡ true
   pub content : IsContent f.definition f.records
   pub empties : f.empties ≡ []
 

@@ -1,15 +1,120 @@
--- Task control: the table of enqueues tells who holds what, as the history does.
-use Rattle.std.specs.Prelude.{◌≡◌, ℕ, ◌==◌, Bool, false, Option, Some, None}
+-- Task control: the table of enqueues and the open update reads tell who holds what, as the history does.
+use Rattle.std.specs.Prelude.{◌≡◌, ℕ, ◌==◌, ◌≤◌, Bool, true, false, not, ◌&&◌, ◌||◌, if◌then◌else◌, T, Option, Some, None, All, List, [], ◌∷◌, length, nat_le}
 use Rattle.std.specs.List.{list_any}
-use Rattle.cics_enqueue.specs.Resources.{Table, overlaps, holder_of}
+use Rattle.cics_names.specs.Keyed.{Bytes}
+use Rattle.cics_names.specs.declared.conditions.Condition.{Condition}
+use Rattle.cics_enqueue.specs.Resources.{Table, Held, bytes_of, overlaps, is_other, is_user, is_in_order, holder_of, count_of, taken, given_back}
 use Rattle.cics_enqueue.specs.declared.resources.Resource.{Resource}
-use Rattle.cics_units.specs.Holding.{UnitsState, held_by}
+use Rattle.cics_enqueue.specs.declared.resources.Resource.TheVariants.{FileKey, User}
+use Rattle.cics_units.specs.Openings.{OpeningState, file_recoverable}
+use Rattle.cics_units.specs.Store.{is_normal, is_recoverable}
+use Rattle.cics_units.specs.Holding.{UnitsState, UpdateRead, EnqCount, held_by}
+use Rattle.cics_units.specs.Execution.{is_read_of, covers}
+use Rattle.cics_units.specs.declared.ops.Op.{Op}
+use Rattle.cics_units.specs.declared.ops.Op.TheVariants.{Write, Rewrite, Delete, ReadUpdate, TsWrite, TsRewrite, TsDelete, TdWrite, TdRead, TdDelete}
+
+-- ---- Commands on files
+
+-- a command on a record of a file
+abbrev pub is_file_op : Op → Bool
+is_file_op (Write f k r) = true
+is_file_op (Rewrite f k r) = true
+is_file_op (Delete f k) = true
+is_file_op (ReadUpdate f k) = true
+is_file_op (TsWrite q d) = false
+is_file_op (TsRewrite q n d) = false
+is_file_op (TsDelete q) = false
+is_file_op (TdWrite q d) = false
+is_file_op (TdRead q) = false
+is_file_op (TdDelete q) = false
+
+-- the file that such a command names
+abbrev pub file_of : Op → Bytes
+file_of (Write f k r) = f
+file_of (Rewrite f k r) = f
+file_of (Delete f k) = f
+file_of (ReadUpdate f k) = f
+file_of _ = []
+
+-- the key that such a command names
+abbrev pub key_of : Op → Bytes
+key_of (Write f k r) = k
+key_of (Rewrite f k r) = k
+key_of (Delete f k) = k
+key_of (ReadUpdate f k) = k
+key_of _ = []
+
+-- a key of a file as a resource
+abbrev pub record_of : Bytes → Bytes → Resource
+record_of f k = FileKey f (bytes_of k)
+
+-- a value as a resource
+abbrev pub value_of : Bytes → Resource
+value_of v = User (bytes_of v)
+
+-- READ UPDATE holds its record in any file, the other commands only in a recoverable one
+abbrev pub is_read : Op → Bool
+is_read (ReadUpdate f k) = true
+is_read _ = false
+
+-- ---- The table
 
 -- a unit is the one that holds
 abbrev pub is_holder : ℕ → Option ℕ → Bool
 is_holder u None = false
 is_holder u (Some v) = v == u
 
--- a resource that the table has held by a unit is one that the unit holds, and the other way round
-abbrev pub IsTableOf : UnitsState → Table → Type 0
-IsTableOf s table = (r : Resource) (u : ℕ) → list_any (overlaps r) (held_by s u) ≡ is_holder u (holder_of r table)
+-- the holder, where it is another unit than the one that asks
+abbrev pub other_holder : Option ℕ → Option ℕ → Option ℕ
+other_holder asking None = None
+other_holder asking (Some v) = if is_other asking v then Some v else None
+
+-- a value that is held is counted
+abbrev pub counted_before : Resource → Held → List EnqCount → List EnqCount
+counted_before (User v) h counts = record { value = v.items; unit = h.unit; count = h.count } ∷ counts
+counted_before _ h counts = counts
+
+-- how many times each value is held, by the values' order
+abbrev pub counts_in : Table → List EnqCount
+counts_in [] = []
+counts_in (e ∷ es) = counted_before e.0 e.1 (counts_in es)
+
+-- a unit has one open update read of a file at most
+abbrev pub AreOnce : List UpdateRead → Type 0
+AreOnce [] = Unit {0}
+AreOnce (r ∷ rs) = (list_any (is_read_of r.unit r.file) rs ≡ false) × AreOnce rs
+
+-- the table has what the history, the open update reads and the counts make the units hold, and nothing else
+pub record IsTableOf (s : UnitsState) (table : Table) : Type 0 where
+  -- a resource that the table has held by a unit is one that the unit holds, and the other way round
+  pub holders : (r : Resource) (u : ℕ) → list_any (overlaps r) (held_by s u) ≡ is_holder u (holder_of r table)
+  -- only a value is held more than once
+  pub single : (r : Resource) → is_user r ≡ false → nat_le (count_of r table) 1 ≡ true
+  pub in_order : T (is_in_order table)
+  pub counts : s.counts ≡ counts_in table
+  pub once : AreOnce s.reads
+  -- a key of a file has at most 255 bytes
+  pub keys : All (λ r. length r.key ≤ 255) s.reads
+
+-- ---- What each call makes of the table
+
+-- a command that is answered NORMAL takes its record, where the file is recoverable or the record is read for update; in
+-- another file a command that covers the update read gives its record back
+abbrev pub table_changed : Bool → ℕ → Op → List UpdateRead → Table → Table
+table_changed recoverable u op reads t =
+    if recoverable || is_read op then taken t (record_of (file_of op) (key_of op)) u
+    else if list_any (covers u op) reads then given_back t (record_of (file_of op) (key_of op)) u
+    else t
+
+-- an executed command changes the table where it is answered NORMAL
+abbrev pub table_executed : OpeningState → ℕ → Op → Condition → List UpdateRead → Table → Table
+table_executed o u op c reads t = if not (is_normal c) then t else table_changed (file_recoverable o (file_of op)) u op reads t
+
+-- UNLOCK gives the record of an update read back, where the file isn't recoverable
+abbrev pub table_given_back : Bool → ℕ → Bytes → Option Bytes → Table → Table
+table_given_back recoverable u f None t = t
+table_given_back recoverable u f (Some k) t = if recoverable then t else given_back t (record_of f k) u
+
+-- the same, by the opening
+abbrev pub table_unlocked : OpeningState → ℕ → Bytes → Option Bytes → Table → Table
+table_unlocked o u f k t = table_given_back (file_recoverable o f) u f k t

@@ -3,16 +3,13 @@
 mod changes;
 mod images;
 
-ghost use Rattle.std.specs.Prelude.{◌≡◌, ◌<◌, ◌^◌, [], length, IfOk, IfSome, OnOk, OnErr, Some, None};
+ghost use Rattle.std.specs.Prelude.{◌≡◌, ◌<◌, ◌^◌, [], length, T, IfOk, OnOk, OnErr, Some, None};
 ghost use Rattle.std.specs.Option.{option_copied};
 ghost use Rattle.std.specs.Map.Iter.{ShowsInOrder, deref_pair};
-ghost use Rattle.cics_names.specs.Keyed.{has_key, value_at, with_value};
-ghost use Rattle.cics_ksds.specs.Files.{key_of, write_condition};
-ghost use Rattle.cics_ksds.specs.Undo.{written_image};
-ghost use Rattle.cics_units.specs.RegionFiles.{IsFitFor, replaced, written_in, files_listed};
+ghost use Rattle.cics_names.specs.Keyed.{has_key, value_at, with_value, is_rising};
+ghost use Rattle.cics_units.specs.RegionFiles.{replaced, files_listed};
 
-use cics_images::Changed;
-use cics_ksds::{File, FileImage};
+use cics_ksds::File;
 use cics_names::{Items, Name8, NoMemory, Record};
 pub use images::FilesImage;
 use std::alloc::Global;
@@ -74,9 +71,10 @@ impl Files {
         self.alloc
     }
 
-    /// The file of a name, or `None` where there is none.
+    /// The file of a name, or `None` where there is none. The names of all files rise.
     pub fn get(&self, name: &Name8) -> Option<&File>
-        ensures { option_copied result ≡ value_at name.now self.now }
+        ensures file { option_copied result ≡ value_at name.now self.now }
+        ensures in_order { T (is_rising self.now) }
     {
         self.rows.get(name)
     }
@@ -106,30 +104,6 @@ impl Files {
             return None;
         };
         Some(mem::replace(place, file))
-    }
-
-    /// Writes a record to the file of a name, as `File::write` does: a key that is there is DUPREC.
-    ///
-    /// `keep` asks for the image that undoes the write. The file has to be there, and the record has
-    /// to fit it. Where memory is refused all files stay as they were.
-    pub fn write(
-        &mut self,
-        name: &Name8,
-        content: Record,
-        keep: bool,
-    ) -> Result<Changed<FileImage>, NoMemory>
-        requires { IsFitFor (value_at name.now self.old) content }
-        ensures condition { IfOk result (λ changed. IfSome (value_at name.now self.old)
-            (λ f. changed.condition ≡ write_condition f.records (key_of f.definition content))) }
-        ensures image { IfOk result (λ changed. IfSome (value_at name.now self.old)
-            (λ f. changed.image ≡ written_image keep f content)) }
-        ensures files { OnOk result (self.new ≡ written_in self.old name.now content (value_at name.now self.old)) }
-        ensures err { OnErr result (self.new ≡ self.old) }
-    {
-        match self.rows.get_mut(name) {
-            Some(file) => file.write(content, keep),
-            None => unreachable!(),
-        }
     }
 
     /// The files with their names, in the order of the names.

@@ -4,14 +4,37 @@
 mod files;
 pub mod laws;
 mod listings;
+mod open_reads;
 mod opening;
 mod ops;
+mod parts;
+mod replay;
+mod undoable_files;
 mod unit_images;
+mod units;
 
 pub use files::{Files, FilesImage};
 pub use listings::{Listing, TaskState};
 pub use opening::{DefineFault, Opening};
 pub use ops::{Answer, Done, Enqueued, Entry, Op, UnitState};
+pub use replay::plain_replay;
+pub use units::Units;
 
 #[cfg(test)]
+mod enq_tests;
+#[cfg(test)]
+mod fixtures;
+#[cfg(test)]
+mod guarded_calls;
+#[cfg(test)]
+mod open_reads_tests;
+#[cfg(test)]
+mod refusals_tests;
+#[cfg(test)]
+mod replay_tests;
+#[cfg(test)]
+mod scenarios;
+#[cfg(test)]
 mod tests;
+#[cfg(test)]
+mod units_tests;

@@ -87,9 +87,10 @@ impl Model for Opening {
 }
 
 impl Opening {
-    ghost use Rattle.cics_units.specs.Openings.{nothing_defined, file_fault, load_fault, with_file, with_record, IsOpeningInOrder};
+    ghost use Rattle.cics_units.specs.Openings.{nothing_defined, file_fault, load_fault, with_file, with_record, HasLawfulKeys, HasFilesAlone, IsOpeningInOrder};
     ghost use Rattle.cics_units.specs.Faults.{IsRefused};
-    ghost use Rattle.cics_units.specs.RegionFiles.{opened_files};
+    ghost use Rattle.cics_units.specs.RegionFiles.{opened_files, AreLoaded};
+    ghost use Rattle.cics_units.specs.Replaying.{files_alone};
 
     /// An opening that defines nothing. `alloc` gives the memory for all that is defined and loaded.
     pub fn new(alloc: Global) -> Opening
@@ -149,9 +150,22 @@ impl Opening {
     }
 
     /// The files that are defined, with what was loaded into each.
+    ///
+    /// Their names rise, and so do the keys of each; each key is one that a definition may have.
     pub fn files(&self) -> &Files
         ensures files { result.now ≡ opened_files self.now.files }
         ensures in_order { IsOpeningInOrder self.now }
+        ensures lawful_keys { HasLawfulKeys self.now }
+        ensures files_alone { HasFilesAlone self.now }
+    {
+        &self.files
+    }
+
+    /// The files with what was loaded into each: all that is defined, since no prefix and no transient
+    /// data queue is.
+    pub(crate) fn defined(&self) -> &Files
+        ensures all { self.now ≡ files_alone result.now }
+        ensures loaded { AreLoaded result.now }
     {
         &self.files
     }

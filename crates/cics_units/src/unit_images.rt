@@ -42,15 +42,19 @@ impl UnitImages {
         }
     }
 
-    /// Makes room for one more image of a unit.
+    /// Makes room for one more image of a unit, which may be the next one, that has yet to begin.
     pub(crate) fn make_room(&mut self, unit: UnitId) -> Result<(), NoMemory>
-        requires begun { unit < length self.old }
-        ensures kept { kept_by self.new unit ≡ kept_by self.old unit }
+        requires begun { unit ≤ length self.old }
+        ensures kept { (w : ℕ) → kept_by self.new w ≡ kept_by self.old w }
+        ensures longer { length self.old ≤ length self.new }
+        ensures begun { OnOk result (unit < length self.new) }
         ensures room { OnOk result (0 < room_of self.new unit) }
-        ensures others { AreOthersKept self.old self.new unit }
     {
         let at = unit.number() as usize;
-        self.rows[at].make_room()
+        if at == self.rows.len() {
+            self.rows.push(Images::new(self.alloc))?;
+        }
+        Ok(self.rows[at].make_room()?)
     }
 
     /// Adds the newest image of a unit.
@@ -62,18 +66,6 @@ impl UnitImages {
     {
         let at = unit.number() as usize;
         self.rows[at].store(image);
-    }
-
-    /// Makes room for one more unit.
-    pub(crate) fn make_room_for_unit(&mut self) -> Result<Images<Files>, NoMemory>
-        ensures kept { self.new ≡ self.old }
-        ensures none { IfOk result (λ fresh. fresh.newest_first ≡ []) }
-        ensures room { IfOk result (λ fresh. 0 < fresh.room) }
-    {
-        self.rows.reserve(1)?;
-        let mut fresh = Images::new(self.alloc);
-        fresh.make_room()?;
-        Ok(fresh)
     }
 
     /// Backs a unit out: its images are undone, newest first. It keeps none from then on.

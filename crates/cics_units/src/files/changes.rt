@@ -3,9 +3,9 @@
 ghost use Rattle.std.specs.Prelude.{◌≡◌, IfOk, IfSome, OnOk, OnErr, Some, option_map};
 ghost use Rattle.cics_names.specs.Keyed.{value_at};
 ghost use Rattle.cics_images.specs.Cells.{is_other};
-ghost use Rattle.cics_ksds.specs.Files.{change_condition};
-ghost use Rattle.cics_ksds.specs.Undo.{rewritten_image, deleted_image};
-ghost use Rattle.cics_units.specs.RegionFiles.{IsFitFor, IsThere, key_in, rewritten_in, deleted_in, refilled};
+ghost use Rattle.cics_ksds.specs.Files.{key_of, write_condition, change_condition};
+ghost use Rattle.cics_ksds.specs.Undo.{written_image, rewritten_image, deleted_image};
+ghost use Rattle.cics_units.specs.RegionFiles.{IsFitFor, IsThere, key_in, written_in, rewritten_in, deleted_in, refilled};
 ghost use Rattle.cics_units.specs.FilesImages.{cell_of, FilesKeep};
 ghost use Rattle.cics_units.specs.FilesChanges.{IsFilesImage};
 
@@ -15,6 +15,34 @@ use cics_ksds::FileImage;
 use cics_names::{Name8, NoMemory, Record};
 
 impl Files {
+    /// Writes a record to the file of a name, as `File::write` does: a key that is there is DUPREC.
+    ///
+    /// `keep` asks for the image that undoes the write. The file has to be there, and the record has
+    /// to fit it. Where memory is refused all files stay as they were.
+    pub fn write(
+        &mut self,
+        name: &Name8,
+        content: Record,
+        keep: bool,
+    ) -> Result<Changed<FileImage>, NoMemory>
+        requires { IsFitFor (value_at name.now self.old) content }
+        ensures condition { IfOk result (λ changed. IfSome (value_at name.now self.old)
+            (λ f. changed.condition ≡ write_condition f.records (key_of f.definition content))) }
+        ensures image { IfOk result (λ changed. IfSome (value_at name.now self.old)
+            (λ f. changed.image ≡ written_image keep f content)) }
+        ensures files { OnOk result (self.new ≡ written_in self.old name.now content (value_at name.now self.old)) }
+        ensures undoable { IfOk result (λ changed. IfSome (value_at name.now self.old) (λ f. IfSome changed.image
+            (λ i. IsFilesImage self.old self.new (cell_of name.now (key_in f content)) (record { file = name.now; image = i })))) }
+        ensures others { IfSome (value_at name.now self.old) (λ f.
+            FilesKeep (is_other (cell_of name.now (key_in f content))) self.old self.new) }
+        ensures err { OnErr result (self.new ≡ self.old) }
+    {
+        match self.rows.get_mut(name) {
+            Some(file) => file.write(content, keep),
+            None => unreachable!(),
+        }
+    }
+
     /// Replaces the record of its key in the file of a name: REWRITE. It takes no memory.
     pub fn rewrite(&mut self, name: &Name8, content: Record, keep: bool) -> Changed<FileImage>
         requires { IsFitFor (value_at name.now self.old) content }

@@ -1,4 +1,4 @@
-use Rattle.std.proofs.Common.{◌≡◌, None, ◌∙◌, ap, subst, sym, refl}
+use Rattle.std.proofs.Common.{None, ◌∙◌, ap, subst, sym, refl}
 use Rattle.cics_names.specs.Keyed.{with_value}
 use Rattle.cics_units.specs.RegionFiles.{IsThere, deleted_in}
 use Rattle.cics_units.proofs.Named.{value_at-looked_up, unchanged-set, OnOk-more, OnErr-more}

@@ -1,4 +1,4 @@
-use Rattle.std.proofs.Common.{◌≡◌, None, ◌∙◌, ap, subst, sym}
+use Rattle.std.proofs.Common.{None, ◌∙◌, ap, subst, sym}
 use Rattle.cics_names.specs.Keyed.{with_value}
 use Rattle.cics_units.specs.RegionFiles.{IsFitFor, key_in, rewritten_in}
 use Rattle.cics_units.proofs.Named.{value_at-looked_up}

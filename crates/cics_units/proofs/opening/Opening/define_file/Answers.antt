@@ -27,7 +27,7 @@ returns-in_err-insert-clause-fault c = subst (IsRefused {X = Unit {0}} c.from_re
 
 pub invariant_of-self-2 : goal.invariant_of-self-2
 invariant_of-self-2 c = subst AreLoaded
-    (sym (c.in_ok-insert.ensures.files ∙ ap (λ f. with_value c.args.name f c.self.inside.files) c.new.ensures)) (AreLoaded-defined c.self.inside.files c.self.invariant c.args.name c.args.definition)
+    (sym (c.in_ok-insert.ensures.files ∙ ap (λ f. with_value c.args.name f c.self.inside.files) c.new.ensures)) (AreLoaded-defined c.self.inside.files c.self.invariant c.args.name c.args.definition (sym c.if-not-is_key.ensures))
 
 pub returns-clause-fault : goal.returns-clause-fault
 returns-clause-fault c = subst (IsRefused {X = Unit {0}} (Ok (tt {0})))

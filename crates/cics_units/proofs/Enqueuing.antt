@@ -1,0 +1,183 @@
+-- ENQ and DEQ: what they answer is what the table tells, and they keep the units.
+use Rattle.std.proofs.Common.{◌≡◌, ℕ, ◌<◌, ◌≤◌, Bool, true, false, cond, Option, Some, None, List, [], ◌∷◌, length, length-append, refl, ap, sym, subst, ◌∙◌, inl, inr, arith}
+use Rattle.std.specs.Prelude.{if◌then◌else◌, nat_le, ◌==◌}
+use Rattle.std.specs.Ordering.{is_eq}
+use Rattle.std.proofs.lemmas.Bool.{cases_Bool, eq-eqb, and_from, and_right}
+use Rattle.cics_names.specs.Keyed.{Bytes, is_same}
+use Rattle.cics_names.specs.RisingLaws.{is_same-turned}
+use Rattle.cics_enqueue.specs.Resources.{Table, Held, resource_cmp, most_count, held_at, holder_of, count_in, count_of, is_full, IsFreeFor, taken, given_back}
+use Rattle.cics_enqueue.specs.TableLaws.{unit_in}
+use Rattle.cics_enqueue.specs.declared.resources.Resource.{Resource}
+use Rattle.cics_enqueue.specs.declared.resources.Resource.TheVariants.{FileKey, TsQueue, TdRead as ReadingEnd, TdWrite as WritingEnd, User}
+use Rattle.cics_units.specs.Openings.{OpeningState}
+use Rattle.cics_units.specs.History.{is_open}
+use Rattle.cics_units.specs.Holding.{UnitsState, EnqCount, value_holder}
+use Rattle.cics_units.specs.Execution.{unit_or_next, outcomes_with, count_at, enq_of, enqueue, after_enqueued, after_enqueue, after_dequeue}
+use Rattle.cics_units.specs.Events.{may_act}
+use Rattle.cics_units.specs.Isolation.{IsSound}
+use Rattle.cics_units.specs.Cells.{content}
+use Rattle.cics_units.specs.Undo.{IsUndoable}
+use Rattle.cics_units.specs.Matching.{store_of_files}
+use Rattle.cics_units.specs.TableInPlace.{value_of, other_holder, counted_before, counts_in}
+use Rattle.cics_units.specs.Parts.{UndoableValue, PartsValue, AreRoomier, AreEnqueued, ArePartsKept}
+use Rattle.cics_units.specs.KeptUnits.{state_shown, AreKept}
+use Rattle.cics_units.specs.declared.ops.Entry.{Entry}
+use Rattle.cics_units.specs.declared.ops.UnitState.{UnitState}
+use Rattle.cics_units.specs.declared.ops.UnitState.TheVariants.{Open}
+use Rattle.cics_units.specs.declared.ops.Enqueued.TheVariants.{Taken, MustWait as EnqMustWait, CountFull}
+use Rattle.cics_units.proofs.Outcomes.{outcome_of-with}
+use Rattle.cics_units.proofs.States.{enqueue-IsSound, dequeue-IsSound}
+use Rattle.cics_units.proofs.TableInPlace.{table_holder, table_free}
+use Rattle.cics_units.proofs.TableValues.{table_enqueued_of, table_dequeued_of}
+use Rattle.cics_units.proofs.KeptUnits.{kept_roomier}
+
+-- ---- How often a unit has enqueued on a value
+
+module _ (v : Bytes) (u : ℕ) where
+  count_first : (r : Resource) (h : Held) (es : Table) →
+      ((g : Held) → held_at (value_of v) ((r, h) ∷ es) ≡ Some g → g.unit ≡ u) →
+      (is_eq (resource_cmp (value_of v) r) ≡ false → count_at (counts_in es) u v ≡ count_of (value_of v) es) →
+      count_at (counted_before r h (counts_in es)) u v ≡ count_of (value_of v) ((r, h) ∷ es)
+  count_first (User w) h es own rest =
+      let c : EnqCount = record { value = w.items; unit = h.unit; count = h.count } in
+      elim (cases_Bool (is_eq (resource_cmp (value_of v) (User w)))) [
+        | inl tied ↦
+            let at : held_at (value_of v) ((User w, h) ∷ es) ≡ Some h = ap (λ b. cond b (Some h) (held_at (value_of v) es)) tied in
+            ap (λ b. if b then h.count else count_at (counts_in es) u v) (and_from (h.unit == u) (is_same w.items v) (eq-eqb h.unit u (own h at)) (is_same-turned w.items v ∙ tied))
+            ∙ sym (ap (λ b. count_in (cond b (Some h) (held_at (value_of v) es))) tied)
+        | inr other ↦
+            ap (λ b. if b then h.count else count_at (counts_in es) u v) (and_right (h.unit == u) (is_same w.items v) (is_same-turned w.items v ∙ other))
+            ∙ rest other
+            ∙ sym (ap (λ b. count_in (cond b (Some h) (held_at (value_of v) es))) other)
+      ]
+  count_first (FileKey f k) h es own rest = rest refl
+  count_first (TsQueue q) h es own rest = rest refl
+  count_first (ReadingEnd q) h es own rest = rest refl
+  count_first (WritingEnd q) h es own rest = rest refl
+
+  -- the count of a value that no other unit holds is the table's
+  pub count_at-table : (t : Table) → ((g : Held) → held_at (value_of v) t ≡ Some g → g.unit ≡ u) →
+      count_at (counts_in t) u v ≡ count_of (value_of v) t
+  count_at-table [] own = refl
+  count_at-table (e ∷ es) own =
+      count_first e.0 e.1 es own (λ other. count_at-table es (λ g at. own g (ap (λ b. cond b (Some e.1) (held_at (value_of v) es)) other ∙ at)))
+
+-- ---- What ENQ answers
+
+module _ (s : UnitsState) (st : UndoableValue) (t : Table) (is : AreKept s st t) (u : Option ℕ) (v : Bytes) where
+  abbrev pub taker : ℕ
+  taker = unit_or_next u s.outcomes
+
+  pub value_held : value_holder s u v ≡ other_holder u (holder_of (value_of v) t)
+  value_held = table_holder s t is.sound is.table u (value_of v)
+
+  -- another unit holds the value
+  pub enqueue-waits : (h : ℕ) → other_holder u (holder_of (value_of v) t) ≡ Some h → enqueue s u v ≡ EnqMustWait h
+  enqueue-waits h held = ap (enq_of s u v) (value_held ∙ held)
+
+  module _ (none : other_holder u (holder_of (value_of v) t) ≡ None) where
+    pub value_free : IsFreeFor t (value_of v) taker
+    value_free = table_free s t is.sound is.table u (value_of v) none
+
+    enqueue-by : (b : Bool) → is_full (value_of v) t ≡ b → enqueue s u v ≡ (if b then CountFull else Taken taker)
+    enqueue-by b full =
+        ap (enq_of s u v) (value_held ∙ none)
+        ∙ ap (λ n. if nat_le most_count n then CountFull else Taken taker)
+        (ap (λ cs. count_at cs taker v) is.table.counts ∙ count_at-table v taker t (λ g at. value_free g.unit (ap unit_in at)))
+        ∙ ap (λ f. if f then CountFull else Taken taker) full
+
+    -- the unit takes the value, or holds it the most times
+    pub enqueue-takes : is_full (value_of v) t ≡ false → enqueue s u v ≡ Taken taker
+    enqueue-takes room = enqueue-by false room
+
+    pub enqueue-full : is_full (value_of v) t ≡ true → enqueue s u v ≡ CountFull
+    enqueue-full full = enqueue-by true full
+
+-- ---- What ENQ and DEQ leave
+
+module _ (s : UnitsState) (st new : UndoableValue) (t : Table) (is : AreKept s st t) (u : Option ℕ) (v : Bytes) (acts : may_act s u ≡ true)
+    (takes : enqueue s u v ≡ Taken (unit_or_next u s.outcomes)) (room : AreRoomier st new) (begun : unit_or_next u s.outcomes < length new.images) where
+  pub kept_enqueued : AreKept (after_enqueued s u v (Taken (unit_or_next u s.outcomes))) new (taken t (value_of v) (unit_or_next u s.outcomes))
+  kept_enqueued =
+      let roomier = kept_roomier s st t is new room.files room.kept room.longer in
+      record {
+        in_order = is.in_order;
+        lawful_keys = is.lawful_keys;
+        files_alone = is.files_alone;
+        sound = subst (λ e. IsSound (after_enqueued s u v e)) takes (enqueue-IsSound s u v is.sound acts);
+        canonical = roomier.canonical;
+        place = record {
+          changes = roomier.place.changes;
+          place = subst (λ out. IsUndoable s.opening s.trace out (record { cells = content (store_of_files new.files); images = roomier.place.changes })) (λ i n. sym (outcome_of-with u s.outcomes n) i) roomier.place.place;
+          kept = roomier.place.kept;
+          ready = roomier.place.ready;
+          over = λ w shut. roomier.place.over w (ap is_open (sym (outcome_of-with u s.outcomes w)) ∙ shut);
+        };
+        definitions = roomier.definitions;
+        table = table_enqueued_of s t u v (unit_or_next u s.outcomes) is.sound is.table acts takes;
+        begun = begun_by u begun;
+      }
+    where
+      begun_by : (u : Option ℕ) → unit_or_next u s.outcomes < length new.images → length (outcomes_with u s.outcomes) ≤ length new.images
+      begun_by None begun = omega (arith, length-append s.outcomes (Open ∷ []), begun)
+      begun_by (Some w) begun = omega (arith, is.begun, room.longer)
+
+module _ (s : UnitsState) (st : UndoableValue) (t : Table) (is : AreKept s st t) (u : ℕ) (v : Bytes) where
+  pub kept_dequeued : AreKept (after_dequeue s u v) st (given_back t (value_of v) u)
+  kept_dequeued = record {
+    in_order = is.in_order;
+    lawful_keys = is.lawful_keys;
+    files_alone = is.files_alone;
+    sound = dequeue-IsSound s u v is.sound;
+    canonical = is.canonical;
+    place = record { changes = is.place.changes; place = is.place.place; kept = is.place.kept; ready = is.place.ready; over = is.place.over };
+    definitions = is.definitions;
+    table = table_dequeued_of s t u v is.table;
+    begun = is.begun;
+  }
+
+-- ---- What the units show
+
+module _ (o : OpeningState) (trace : List Entry) (outcomes : List UnitState) (p new : PartsValue)
+    (is : AreKept (state_shown o trace outcomes p) p.stores p.table) where
+  abbrev before : UnitsState
+  before = state_shown o trace outcomes p
+
+  -- ENQ that takes its value
+  module _ (u : Option ℕ) (v : Bytes) (acts : may_act before u ≡ true) (takes : enqueue before u v ≡ Taken (unit_or_next u outcomes))
+      (done : AreEnqueued p new (unit_or_next u outcomes) v) where
+    kept_then : AreKept (after_enqueued before u v (Taken (unit_or_next u outcomes))) new.stores (taken p.table (value_of v) (unit_or_next u outcomes))
+    kept_then = kept_enqueued before p.stores new.stores p.table is u v acts takes done.stores done.begun
+
+    enqueued_state : state_shown o trace (outcomes_with u outcomes) new ≡ after_enqueued before u v (Taken (unit_or_next u outcomes))
+    enqueued_state = λ i. record before {
+      outcomes = outcomes_with u outcomes;
+      reads = done.reads i;
+      counts = (ap counts_in done.table ∙ sym kept_then.table.counts) i;
+    }
+
+    pub enqueued_shown : state_shown o trace (outcomes_with u outcomes) new ≡ after_enqueue before u v
+    enqueued_shown = enqueued_state ∙ ap (after_enqueued before u v) (sym takes)
+
+    pub enqueued_kept : AreKept (state_shown o trace (outcomes_with u outcomes) new) new.stores new.table
+    enqueued_kept = subst (λ s. AreKept s new.stores new.table) (sym enqueued_state)
+        (subst (AreKept (after_enqueued before u v (Taken (unit_or_next u outcomes))) new.stores) (sym done.table) kept_then)
+
+  -- a refused call shows what was there
+  pub refused_shown : ArePartsKept p new → (outs : List UnitState) → outs ≡ outcomes → state_shown o trace outs new ≡ before
+  refused_shown same outs outs_same = λ i. record before { outcomes = outs_same i; reads = same.reads i; counts = counts_in (same.table i) }
+
+  -- DEQ
+  module _ (u : ℕ) (v : Bytes) (done : new ≡ record p { table = given_back p.table (value_of v) u }) where
+    abbrev after : PartsValue
+    after = record p { table = given_back p.table (value_of v) u }
+
+    after_state : state_shown o trace outcomes after ≡ after_dequeue before u v
+    after_state = λ i. record before { counts = sym (kept_dequeued before p.stores p.table is u v).table.counts i }
+
+    pub dequeued_shown : state_shown o trace outcomes new ≡ after_dequeue before u v
+    dequeued_shown = ap (state_shown o trace outcomes) done ∙ after_state
+
+    pub dequeued_kept : AreKept (state_shown o trace outcomes new) new.stores new.table
+    dequeued_kept = subst (λ n. AreKept (state_shown o trace outcomes n) n.stores n.table) (sym done)
+        (subst (λ s. AreKept s p.stores (given_back p.table (value_of v) u)) (sym after_state) (kept_dequeued before p.stores p.table is u v))

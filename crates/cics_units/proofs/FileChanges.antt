@@ -1,0 +1,253 @@
+-- What an executed command on a file makes of the files and of the images of its unit.
+use Rattle.std.specs.Prelude.{◌≡◌, ◌≢◌, ℕ, Bool, true, false, not, cond, if◌then◌else◌, T, IsTrue, Option, Some, None, is_some, option_map, IfSome, List, [], ◌∷◌, map, refl}
+use Rattle.std.proofs.Common.{sym, ap, ◌∙◌, subst}
+use Rattle.std.proofs.lemmas.Bool.{true≢false, false≢true}
+use Rattle.cics_names.specs.Keyed.{Bytes, Map, value_at, has_key, with_value, without, is_rising}
+use Rattle.cics_names.specs.declared.conditions.Condition.TheVariants.{Normal, Duprec, Notfnd}
+use Rattle.cics_images.specs.Cells.{Kept, is_other}
+use Rattle.cics_ksds.specs.Files.{FileValue, key_of, written, rewritten, deleted, filled, emptied, dropped, write_condition, change_condition, records_after_write, records_after_rewrite, records_after_delete}
+use Rattle.cics_ksds.specs.Undo.{ImageValue, written_image, rewritten_image, deleted_image}
+use Rattle.cics_units.specs.Store.{Store, apply, apply_write, apply_rewrite, apply_delete, apply_read, answered, only, with_file, with_content, found_condition, is_normal}
+use Rattle.cics_units.specs.Cells.{Key, Content, content, listed, record_in}
+use Rattle.cics_units.specs.Undo.{changes}
+use Rattle.cics_units.specs.declared.ops.Op.{Op}
+use Rattle.cics_units.specs.declared.ops.Op.TheVariants.{Write, Rewrite, Delete, ReadUpdate}
+use Rattle.cics_units.specs.declared.ops.Answer.{Answer}
+use Rattle.cics_units.specs.RegionFiles.{IsThere, key_in, written_in, rewritten_in, deleted_in}
+use Rattle.cics_units.specs.FilesImages.{cell_of, FilesKeep, KeepsIn, definitions_of}
+use Rattle.cics_units.specs.FilesChanges.{IsFilesImage}
+use Rattle.cics_units.specs.Matching.{store_of_files}
+use Rattle.cics_units.specs.UnitImages.{kept_by, AreOthersKept}
+use Rattle.cics_units.specs.Parts.{UndoableValue, is_recoverable_in, IsRecordOf, with_newest, HasNewest, AreImagesAfter, AreChanged}
+use Rattle.cics_units.proofs.Named.{with_value-same}
+use Rattle.cics_units.proofs.Opened.{with_value-each}
+use Rattle.cics_units.proofs.Stores.{value_at_each}
+
+-- what one of the files has of a record's key, and what a command on it is answered
+module _ (m : Map FileValue) (name : Bytes) (f : FileValue) (there : value_at name m ≡ Some f) where
+  records_there : value_at name (store_of_files m).files ≡ Some f.records
+  records_there = value_at_each (λ x. x.records) name m ∙ ap (option_map (λ x. x.records)) there
+
+  cell_there : (k : Bytes) → content (store_of_files m) (Key name k) ≡ Some (listed (value_at k f.records))
+  cell_there k = ap (record_in k) records_there
+
+  pub write_answer : (k r : Bytes) → (apply (store_of_files m) (Write name k r)).answer ≡ only (write_condition f.records k)
+  write_answer k r = ap (λ o. (apply_write (store_of_files m) name k r o).answer) records_there
+
+  pub rewrite_answer : (k r : Bytes) → (apply (store_of_files m) (Rewrite name k r)).answer ≡ only (change_condition f.records k)
+  rewrite_answer k r = ap (λ o. (apply_rewrite (store_of_files m) name k r o).answer) records_there
+
+  pub delete_answer : (k : Bytes) → (apply (store_of_files m) (Delete name k)).answer ≡ only (change_condition f.records k)
+  delete_answer k = ap (λ o. (apply_delete (store_of_files m) name k o).answer) records_there
+
+  pub read_answer : (k : Bytes) → (apply (store_of_files m) (ReadUpdate name k)).answer ≡ with_content (found_condition (value_at k f.records)) (value_at k f.records)
+  read_answer k = ap (λ o. (apply_read (store_of_files m) k o).answer) records_there
+
+  module _ (rising : T (is_rising m)) where
+    kept_store : store_of_files (with_value name f m) ≡ store_of_files m
+    kept_store = ap store_of_files (with_value-same name f m rising there)
+
+    changed_store : (g : FileValue) → store_of_files (with_value name g m) ≡ with_file (store_of_files m) name g.records
+    changed_store g = λ i. record { files = with_value-each (λ x. x.records) name g m i; ts = []; td = [] }
+
+    pub write_store : (r : Bytes) → store_of_files (with_value name (written f r) m) ≡ (apply (store_of_files m) (Write name (key_of f.definition r) r)).store
+    write_store r =
+        let k = key_of f.definition r in
+        let s = store_of_files m in
+        elim (has_key k f.records) as (λ b. store_of_files (with_value name (if b then f else filled f k r) m)
+        ≡ (answered s (only (if b then Duprec else Normal)) (with_file s name (if b then f.records else with_value k r f.records))).store) [
+          | true ↦ kept_store
+          | false ↦ changed_store (filled f k r)
+        ]
+        ∙ sym (ap (λ o. (apply_write s name k r o).store) records_there)
+
+    pub rewrite_store : (r : Bytes) → store_of_files (with_value name (rewritten f r) m) ≡ (apply (store_of_files m) (Rewrite name (key_of f.definition r) r)).store
+    rewrite_store r =
+        let k = key_of f.definition r in
+        let s = store_of_files m in
+        elim (has_key k f.records) as (λ b. store_of_files (with_value name (if b then filled f k r else f) m)
+        ≡ (answered s (only (if b then Normal else Notfnd)) (with_file s name (if b then with_value k r f.records else f.records))).store) [
+          | true ↦ changed_store (filled f k r)
+          | false ↦ kept_store
+        ]
+        ∙ sym (ap (λ o. (apply_rewrite s name k r o).store) records_there)
+
+    pub delete_store : (keep : Bool) (k : Bytes) → store_of_files (with_value name (deleted keep f k) m) ≡ (apply (store_of_files m) (Delete name k)).store
+    delete_store keep k =
+        let s = store_of_files m in
+        elim (has_key k f.records) as (λ b. store_of_files (with_value name (if b then if keep then emptied f k else dropped f k else f) m)
+        ≡ (answered s (only (if b then Normal else Notfnd)) (with_file s name (without k f.records))).store) [
+          | true ↦ elim keep as (λ b. store_of_files (with_value name (if b then emptied f k else dropped f k) m) ≡ with_file s name (without k f.records)) [
+            | true ↦ changed_store (emptied f k)
+            | false ↦ changed_store (dropped f k)
+          ]
+          | false ↦ kept_store
+        ]
+        ∙ sym (ap (λ o. (apply_delete s name k o).store) records_there)
+
+-- what leaves the other cells leaves the definitions
+pub kept_definitions : (p : List ℕ → Bool) (m n : Map FileValue) → FilesKeep p m n → definitions_of n ≡ definitions_of m
+kept_definitions p m n kept = λ i q. by (λ key. p (cell_of q key)) (value_at q m) (value_at q n) (kept q) i
+  where
+    by : (p : List ℕ → Bool) (a b : Option FileValue) → KeepsIn p a b → option_map (λ f. f.definition) b ≡ option_map (λ f. f.definition) a
+    by p None None k = refl
+    by p None (Some g) k = absurd k
+    by p (Some f) None k = absurd k
+    by p (Some f) (Some g) k = ap Some k.same_file
+
+-- a change's image, where there is one, is kept as the newest of the unit; and there is one just where it is asked for
+module _ (old new : UndoableValue) (unit : ℕ) (name key : Bytes) (image : Option ImageValue)
+    (kept : kept_by new.images unit ≡ with_newest name image (kept_by old.images unit))
+    (undoes : IfSome image (λ i. IsFilesImage old.files new.files (cell_of name key) (record { file = name; image = i }))) where
+  none_kept : image ≡ None → kept_by new.images unit ≡ kept_by old.images unit
+  none_kept none = kept ∙ ap (λ o. with_newest name o (kept_by old.images unit)) none
+
+  newest_kept : (o : Option ImageValue) → image ≡ o → is_some o ≡ true → HasNewest old new unit name key
+  newest_kept None is some = absurd (false≢true some)
+  newest_kept (Some i) is some = record {
+    image = record { file = name; image = i };
+    undoes = subst (λ o. IfSome o (λ i. IsFilesImage old.files new.files (cell_of name key) (record { file = name; image = i }))) is undoes;
+    newest = kept ∙ ap (λ o. with_newest name o (kept_by old.images unit)) is;
+  }
+
+  pub images_after : (recoverable changed : Bool) → (recoverable ≡ false → image ≡ None) → (changed ≡ false → (image ≡ None) × (old.files ≡ new.files)) →
+      (recoverable ≡ true → changed ≡ true → is_some image ≡ true) → AreImagesAfter old new unit name key recoverable changed
+  images_after false changed plain still asked = none_kept (plain refl)
+  images_after true true plain still asked = newest_kept image refl (asked refl refl)
+  images_after true false plain still asked = ((still refl).1, none_kept (still refl).0)
+
+-- the images of WRITE, REWRITE and DELETE, by what the key has
+module _ (name : Bytes) (m : Map FileValue) (f : FileValue) (there : value_at name m ≡ Some f) (rising : T (is_rising m)) where
+  abbrev same_files : FileValue → Type 0
+  same_files g = m ≡ with_value name g m
+
+  as_it_was : same_files f
+  as_it_was = sym (with_value-same name f m rising there)
+
+  write_plain : (r : Bytes) (o : Option Bytes) → value_at (key_of f.definition r) f.records ≡ o → written_image false f r ≡ None
+  write_plain r None at = rw at refl
+  write_plain r (Some x) at = rw at refl
+
+  write_still : (keep : Bool) (r : Bytes) (o : Option Bytes) → value_at (key_of f.definition r) f.records ≡ o → changes (Write name (key_of f.definition r) r) (Some (listed o)) ≡ false →
+      (written_image keep f r ≡ None) × same_files (written f r)
+  write_still keep r None at still = absurd (true≢false still)
+  write_still keep r (Some x) at still = (rw at refl, rw at as_it_was)
+
+  write_asked : (r : Bytes) (o : Option Bytes) → value_at (key_of f.definition r) f.records ≡ o → changes (Write name (key_of f.definition r) r) (Some (listed o)) ≡ true →
+      is_some (written_image true f r) ≡ true
+  write_asked r None at changed = rw at refl
+  write_asked r (Some x) at changed = absurd (false≢true changed)
+
+  rewrite_still : (keep : Bool) (r : Bytes) (o : Option Bytes) → value_at (key_of f.definition r) f.records ≡ o → changes (Rewrite name (key_of f.definition r) r) (Some (listed o)) ≡ false →
+      (rewritten_image keep f r ≡ None) × same_files (rewritten f r)
+  rewrite_still true r None at still = (rw at refl, rw at as_it_was)
+  rewrite_still false r None at still = (refl, rw at as_it_was)
+  rewrite_still keep r (Some x) at still = absurd (true≢false still)
+
+  rewrite_asked : (r : Bytes) (o : Option Bytes) → value_at (key_of f.definition r) f.records ≡ o → changes (Rewrite name (key_of f.definition r) r) (Some (listed o)) ≡ true →
+      is_some (rewritten_image true f r) ≡ true
+  rewrite_asked r None at changed = absurd (false≢true changed)
+  rewrite_asked r (Some x) at changed = rw at refl
+
+  delete_still : (keep : Bool) (k : Bytes) (o : Option Bytes) → value_at k f.records ≡ o → changes (Delete name k) (Some (listed o)) ≡ false →
+      (deleted_image keep f k ≡ None) × same_files (deleted keep f k)
+  delete_still true k None at still = (rw at refl, rw at as_it_was)
+  delete_still false k None at still = (refl, rw at as_it_was)
+  delete_still keep k (Some x) at still = absurd (true≢false still)
+
+  delete_asked : (k : Bytes) (o : Option Bytes) → value_at k f.records ≡ o → changes (Delete name k) (Some (listed o)) ≡ true →
+      is_some (deleted_image true f k) ≡ true
+  delete_asked k None at changed = absurd (false≢true changed)
+  delete_asked k (Some x) at changed = rw at refl
+
+-- ---- A command on a file that is there has changed the files
+module _ (old new : UndoableValue) (unit : ℕ) (name : Bytes) (f : FileValue) (there : value_at name old.files ≡ Some f) (rising : T (is_rising old.files))
+    (apart : AreOthersKept old.images new.images unit) (image : Option ImageValue) (kept : kept_by new.images unit ≡ with_newest name image (kept_by old.images unit)) where
+  -- what is said of the file is said of the files
+  images_of_change : (op : Op) (k : Bytes) → AreImagesAfter old new unit name k f.definition.recoverable (changes op (Some (listed (value_at k f.records)))) →
+      AreImagesAfter old new unit name k (is_recoverable_in (value_at name old.files)) (changes op (content (store_of_files old.files) (Key name k)))
+  images_of_change op k after =
+      subst (λ b. AreImagesAfter old new unit name k b (changes op (content (store_of_files old.files) (Key name k)))) (sym (ap is_recoverable_in there))
+      (subst (λ c. AreImagesAfter old new unit name k f.definition.recoverable (changes op c)) (sym (cell_there old.files name f there k)) after)
+
+  -- an image that isn't kept is none
+  asked_of : (Bool → Option ImageValue) → Type 0
+  asked_of given = image ≡ given f.definition.recoverable
+
+  pub write_changed : (r : Bytes) → new.files ≡ with_value name (written f r) old.files → image ≡ written_image f.definition.recoverable f r →
+      IfSome image (λ i. IsFilesImage old.files new.files (cell_of name (key_of f.definition r)) (record { file = name; image = i })) →
+      FilesKeep (is_other (cell_of name (key_of f.definition r))) old.files new.files → AreChanged old new unit (Write name (key_of f.definition r) r)
+  write_changed r files is undoes others =
+      let k = key_of f.definition r in
+      record {
+        store = ap store_of_files files ∙ write_store old.files name f there rising r;
+        others = others;
+        apart = apart;
+        images = images_of_change (Write name k r) k (images_after old new unit name k image kept undoes f.definition.recoverable (changes (Write name k r) (Some (listed (value_at k f.records))))
+            (λ plain. is ∙ ap (λ b. written_image b f r) plain ∙ write_plain name old.files f there rising r (value_at k f.records) refl)
+            (λ still. let w = write_still name old.files f there rising f.definition.recoverable r (value_at k f.records) refl still in (is ∙ w.0, w.1 ∙ sym files))
+            (λ rec changed. ap is_some (is ∙ ap (λ b. written_image b f r) rec) ∙ write_asked name old.files f there rising r (value_at k f.records) refl changed));
+      }
+
+  pub rewrite_changed : (r : Bytes) → new.files ≡ with_value name (rewritten f r) old.files → image ≡ rewritten_image f.definition.recoverable f r →
+      IfSome image (λ i. IsFilesImage old.files new.files (cell_of name (key_of f.definition r)) (record { file = name; image = i })) →
+      FilesKeep (is_other (cell_of name (key_of f.definition r))) old.files new.files → AreChanged old new unit (Rewrite name (key_of f.definition r) r)
+  rewrite_changed r files is undoes others =
+      let k = key_of f.definition r in
+      record {
+        store = ap store_of_files files ∙ rewrite_store old.files name f there rising r;
+        others = others;
+        apart = apart;
+        images = images_of_change (Rewrite name k r) k (images_after old new unit name k image kept undoes f.definition.recoverable (changes (Rewrite name k r) (Some (listed (value_at k f.records))))
+            (λ plain. is ∙ ap (λ b. rewritten_image b f r) plain)
+            (λ still. let w = rewrite_still name old.files f there rising f.definition.recoverable r (value_at k f.records) refl still in (is ∙ w.0, w.1 ∙ sym files))
+            (λ rec changed. ap is_some (is ∙ ap (λ b. rewritten_image b f r) rec) ∙ rewrite_asked name old.files f there rising r (value_at k f.records) refl changed));
+      }
+
+  pub delete_changed : (k : Bytes) → new.files ≡ with_value name (deleted f.definition.recoverable f k) old.files → image ≡ deleted_image f.definition.recoverable f k →
+      IfSome image (λ i. IsFilesImage old.files new.files (cell_of name k) (record { file = name; image = i })) →
+      FilesKeep (is_other (cell_of name k)) old.files new.files → AreChanged old new unit (Delete name k)
+  delete_changed k files is undoes others = record {
+    store = ap store_of_files files ∙ delete_store old.files name f there rising f.definition.recoverable k;
+    others = others;
+    apart = apart;
+    images = images_of_change (Delete name k) k (images_after old new unit name k image kept undoes f.definition.recoverable (changes (Delete name k) (Some (listed (value_at k f.records))))
+        (λ plain. is ∙ ap (λ b. deleted_image b f k) plain)
+        (λ still. let w = delete_still name old.files f there rising f.definition.recoverable k (value_at k f.records) refl still in (is ∙ w.0, w.1 ∙ sym files))
+        (λ rec changed. ap is_some (is ∙ ap (λ b. deleted_image b f k) rec) ∙ delete_asked name old.files f there rising k (value_at k f.records) refl changed));
+  }
+
+-- ---- What is told of the file of a name where it is there
+-- the file of a name is there, and what is said of it is said of the files
+pub of_file : {Q : Type 0} (m : Map FileValue) (name : Bytes) (P : FileValue → Type 0) → IsThere (value_at name m) → IfSome (value_at name m) P →
+    ((f : FileValue) → value_at name m ≡ Some f → P f → Q) → Q
+of_file {Q} m name P is told follows = by (value_at name m) refl is told
+  where
+    by : (o : Option FileValue) → value_at name m ≡ o → IsThere o → IfSome o P → Q
+    by None e is told = absurd is
+    by (Some f) e is told = follows f e told
+
+-- what is said of the file of a name, where it is known
+pub of_this : (m : Map FileValue) (name : Bytes) (P : FileValue → Type 0) (f : FileValue) → value_at name m ≡ Some f → IfSome (value_at name m) P → P f
+of_this m name P f there told = subst (λ o. IfSome o P) there told
+
+pub record_there : (o : Option FileValue) (k r : Bytes) → IsRecordOf o k r → IsThere o
+record_there None k r is = absurd is
+record_there (Some f) k r is = tt
+
+-- the file of a record is there, and the record has this key
+pub of_record : {Q : Type 0} (m : Map FileValue) (name k r : Bytes) → IsRecordOf (value_at name m) k r →
+    ((f : FileValue) → value_at name m ≡ Some f → key_of f.definition r ≡ k → Q) → Q
+of_record {Q} m name k r is follows = by (value_at name m) refl is
+  where
+    by : (o : Option FileValue) → value_at name m ≡ o → IsRecordOf o k r → Q
+    by None e is = absurd is
+    by (Some f) e is = follows f e is.1
+
+-- the file of a name is there
+pub of_there : {Q : Type 0} (m : Map FileValue) (name : Bytes) → IsThere (value_at name m) → ((f : FileValue) → value_at name m ≡ Some f → Q) → Q
+of_there {Q} m name is follows = by (value_at name m) refl is
+  where
+    by : (o : Option FileValue) → value_at name m ≡ o → IsThere o → Q
+    by None e is = absurd is
+    by (Some f) e is = follows f e

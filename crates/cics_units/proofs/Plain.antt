@@ -1,0 +1,216 @@
+-- Files and queues in plain maps: what a command leaves of them where it is applied in place.
+use Rattle.std.specs.Prelude.{◌≡◌, ℕ, ◌-◌, ◌<◌, ◌≤◌, Bool, true, false, not, cond, if◌then◌else◌, T, Option, Some, None, is_some, unwrap_or, [], ◌∷◌, ◌++◌, length, slice_set, nat_lt, refl}
+use Rattle.std.proofs.Common.{sym, ap, ◌∙◌, subst, arith}
+use Rattle.std.proofs.lemmas.Bool.{le-ltb, lt-ltb}
+use Rattle.std.proofs.lemmas.Bool.Decides.{nat_tests}
+use Rattle.std.proofs.lemmas.List.{length-set}
+use Rattle.std.specs.declared.cmp.Ordering.TheVariants.{Less, Equal, Greater}
+use Rattle.std.specs.Ordering.{is_eq}
+use Rattle.std.specs.FinMap.Entries.{below_all}
+use Rattle.std.specs.Map.{lookup, set_value, remove_entry}
+use Rattle.std.specs.BTreeMap.{is_at}
+use Rattle.cics_names.specs.Keyed.{Bytes, Map, bytes_cmp, value_at, has_key, with_value, without, is_rising}
+use Rattle.cics_names.specs.KeyedLaws.{same_bytes}
+use Rattle.cics_names.specs.RisingLaws.{without-absent, rising-without}
+use Rattle.cics_names.specs.declared.conditions.Condition.TheVariants.{Normal, Duprec, Notfnd, Itemerr, Qiderr}
+use Rattle.cics_ksds.specs.Files.{records_after_write, records_after_rewrite, records_after_delete}
+use Rattle.cics_tempstor.specs.Queues.{Queue, most_items, has_item, is_there}
+use Rattle.cics_units.specs.Store.{Store, is_normal, apply_write, apply_rewrite, apply_delete, apply_ts_write, apply_ts_rewrite, apply_ts_delete, ts_queue, with_ts, with_file}
+use Rattle.cics_units.proofs.Named.{first, second, value_at-below, value_at-looked_up, with_value-set, rising-set, with_value-same}
+
+absent : {X : Type 0} (o : Option X) → is_some o ≡ false → o ≡ None
+absent None e = refl
+absent (Some x) e = cc
+
+module _ {X : Type 0} where
+  -- the first entry of a key is the only one where the keys rise
+  pub remove_entry-without : (k : Bytes) (es : Map X) → T (is_rising es) → remove_entry (is_at (bytes_cmp k)) es ≡ without k es
+  remove_entry-without k [] rising = refl
+  remove_entry-without k (e ∷ es) rising =
+      elim (bytes_cmp k e.0) as (λ o. bytes_cmp k e.0 ≡ o → cond (is_eq o) es (e ∷ remove_entry (is_at (bytes_cmp k)) es) ≡ cond (not (is_eq o)) (e ∷ without k es) (without k es)) [
+        | Less ↦ λ is. ap (λ r. e ∷ r) (remove_entry-without k es (second _ _ rising))
+        | Equal ↦ λ is. sym (without-absent k es (value_at-below k es (subst (λ q. T (below_all bytes_cmp q es)) (sym (same_bytes k e.0 is)) (first _ _ rising))))
+        | Greater ↦ λ is. ap (λ r. e ∷ r) (remove_entry-without k es (second _ _ rising))
+      ] refl
+
+  pub removed-rising : (k : Bytes) (es new : Map X) → T (is_rising es) → new ≡ remove_entry (is_at (bytes_cmp k)) es → T (is_rising new)
+  removed-rising k es new rising is = subst (λ m. T (is_rising m)) (sym (is ∙ remove_entry-without k es rising)) (rising-without k es rising)
+
+  -- a value that is there and is set
+  module _ (k : Bytes) (x : X) (es : Map X) (rising : T (is_rising es)) (found : Some x ≡ lookup (is_at (bytes_cmp k)) es) where
+    pub here : value_at k es ≡ Some x
+    here = value_at-looked_up k es es (Some x) found refl
+
+    pub kept_rising : (y : X) (new : Map X) → new ≡ set_value (is_at (bytes_cmp k)) es y → T (is_rising new)
+    kept_rising y new set = rising-set k y x es new rising here set
+
+    pub put_here : (y : X) (new : Map X) → new ≡ set_value (is_at (bytes_cmp k)) es y → new ≡ with_value k y es
+    put_here y new set = with_value-set k y x es new rising here set
+
+-- a store without a transient data queue
+abbrev pub store_of : Map (Map Bytes) → Map Queue → Store
+store_of files ts = record { files = files; ts = ts; td = [] }
+
+-- ---- commands on files
+module _ (files new_files : Map (Map Bytes)) (ts : Map Queue) (s : Store) (is : store_of files ts ≡ s) (f k r : Bytes) where
+  module _ (missing : None ≡ lookup (is_at (bytes_cmp f)) files) (same : new_files ≡ files) where
+    gone : value_at f files ≡ None
+    gone = value_at-looked_up f files files None missing refl
+
+    pub write_nowhere : store_of new_files ts ≡ (apply_write s f k r (value_at f s.files)).store
+    write_nowhere = ap (λ n. store_of n ts) same ∙ ap (λ o. (apply_write (store_of files ts) f k r o).store) (sym gone) ∙ ap (λ s. (apply_write s f k r (value_at f s.files)).store) is
+
+    pub rewrite_nowhere : store_of new_files ts ≡ (apply_rewrite s f k r (value_at f s.files)).store
+    rewrite_nowhere = ap (λ n. store_of n ts) same ∙ ap (λ o. (apply_rewrite (store_of files ts) f k r o).store) (sym gone) ∙ ap (λ s. (apply_rewrite s f k r (value_at f s.files)).store) is
+
+    pub delete_nowhere : store_of new_files ts ≡ (apply_delete s f k (value_at f s.files)).store
+    delete_nowhere = ap (λ n. store_of n ts) same ∙ ap (λ o. (apply_delete (store_of files ts) f k o).store) (sym gone) ∙ ap (λ s. (apply_delete s f k (value_at f s.files)).store) is
+
+  module _ (records new : Map Bytes) (rising : T (is_rising files)) (found : Some records ≡ lookup (is_at (bytes_cmp f)) files) (set : new_files ≡ set_value (is_at (bytes_cmp f)) files new) where
+    there : value_at f files ≡ Some records
+    there = here f records files rising found
+
+    put : (after : Map Bytes) → new ≡ after → store_of new_files ts ≡ store_of (with_value f after files) ts
+    put after e = ap (λ n. store_of n ts) (put_here f records files rising found new new_files set) ∙ ap (λ n. store_of (with_value f n files) ts) e
+
+    unchanged : store_of (with_value f records files) ts ≡ store_of files ts
+    unchanged = ap (λ n. store_of n ts) (with_value-same f records files rising there)
+
+    pub write_there : new ≡ records_after_write records k r → store_of new_files ts ≡ (apply_write s f k r (value_at f s.files)).store
+    write_there e =
+        put (records_after_write records k r) e
+        ∙ elim (has_key k records) as (λ b. store_of (with_value f (if b then records else with_value k r records) files) ts ≡ (if is_normal (if b then Duprec else Normal) then with_file (store_of files ts) f (if b then records else with_value k r records) else store_of files ts)) [
+          | true ↦ unchanged
+          | false ↦ refl
+        ]
+        ∙ ap (λ o. (apply_write (store_of files ts) f k r o).store) (sym there)
+        ∙ ap (λ s. (apply_write s f k r (value_at f s.files)).store) is
+
+    pub rewrite_there : new ≡ records_after_rewrite records k r → store_of new_files ts ≡ (apply_rewrite s f k r (value_at f s.files)).store
+    rewrite_there e =
+        put (records_after_rewrite records k r) e
+        ∙ elim (has_key k records) as (λ b. store_of (with_value f (if b then with_value k r records else records) files) ts ≡ (if is_normal (if b then Normal else Notfnd) then with_file (store_of files ts) f (if b then with_value k r records else records) else store_of files ts)) [
+          | true ↦ refl
+          | false ↦ unchanged
+        ]
+        ∙ ap (λ o. (apply_rewrite (store_of files ts) f k r o).store) (sym there)
+        ∙ ap (λ s. (apply_rewrite s f k r (value_at f s.files)).store) is
+
+    pub delete_there : new ≡ records_after_delete records k → store_of new_files ts ≡ (apply_delete s f k (value_at f s.files)).store
+    delete_there e =
+        put (without k records) e
+        ∙ elim (has_key k records) as (λ b. has_key k records ≡ b → store_of (with_value f (without k records) files) ts ≡ (if is_normal (if b then Normal else Notfnd) then with_file (store_of files ts) f (without k records) else store_of files ts)) [
+          | true ↦ λ h. refl
+          | false ↦ λ h. ap (λ n. store_of (with_value f n files) ts) (without-absent k records (absent (value_at k records) h)) ∙ unchanged
+        ] refl
+        ∙ ap (λ o. (apply_delete (store_of files ts) f k o).store) (sym there)
+        ∙ ap (λ s. (apply_delete s f k (value_at f s.files)).store) is
+
+-- ---- commands on temporary storage queues
+test_false : (a b : ℕ) → b ≤ a → nat_lt a b ≡ false
+test_false a b h = le-ltb a b h
+
+-- a queue without an item isn't there, and any other is
+pub not_there : (items : Queue) → items ≡ [] → is_there items ≡ false
+not_there items e = ap is_there e
+
+pub is_there_if : (items : Queue) → (items ≡ [] → false ≡ true) → is_there items ≡ true
+is_there_if [] h = h refl
+is_there_if (x ∷ xs) h = refl
+
+-- what a write, a rewrite and a delete leave of a queue with these items
+module _ (st : Store) (q d : Bytes) where
+  full : (items : Queue) (b : Bool) → b ≡ false → (if is_normal (if b then Normal else Itemerr) then with_ts st q (if b then items ++ d ∷ [] else items) else st) ≡ st
+  full items true e = cc
+  full items false e = refl
+
+  room : (items : Queue) (b : Bool) → b ≡ true → (if is_normal (if b then Normal else Itemerr) then with_ts st q (if b then items ++ d ∷ [] else items) else st) ≡ with_ts st q (items ++ d ∷ [])
+  room items true e = refl
+  room items false e = cc
+
+  one_more : (items : Queue) → with_ts st q (items ++ d ∷ []) ≡ record { files = st.files; ts = with_value q (items ++ d ∷ []) st.ts; td = st.td }
+  one_more [] = refl
+  one_more (x ∷ xs) = refl
+
+  some_items : (items : Queue) → 0 < length items → with_ts st q items ≡ record { files = st.files; ts = with_value q items st.ts; td = st.td }
+  some_items [] low = absurd (omega arith)
+  some_items (x ∷ xs) low = refl
+
+  unless : (items : Queue) (n : ℕ) (b : Bool) → b ≡ false → (if is_normal (if b then Normal else if is_there items then Itemerr else Qiderr) then with_ts st q (if b then slice_set items (n - 1) d else items) else st) ≡ st
+  unless items n true e = cc
+  unless items n false e = elim (is_there items) as (λ b. (if is_normal (if b then Itemerr else Qiderr) then with_ts st q items else st) ≡ st) [ true ↦ refl | false ↦ refl ]
+
+  set_item : (items : Queue) (n : ℕ) (b : Bool) → b ≡ true → (if is_normal (if b then Normal else if is_there items then Itemerr else Qiderr) then with_ts st q (if b then slice_set items (n - 1) d else items) else st) ≡ with_ts st q (slice_set items (n - 1) d)
+  set_item items n true e = refl
+  set_item items n false e = cc
+
+  kept_away : (items : Queue) → is_there items ≡ false → (apply_ts_delete st q items).store ≡ st
+  kept_away items e = ap (λ b. if is_normal (if b then Normal else Qiderr) then with_ts st q [] else st) e
+
+  taken_away : (items : Queue) → is_there items ≡ true → (apply_ts_delete st q items).store ≡ with_ts st q []
+  taken_away items e = ap (λ b. if is_normal (if b then Normal else Qiderr) then with_ts st q [] else st) e
+
+module _ (files : Map (Map Bytes)) (ts : Map Queue) (s : Store) (is : store_of files ts ≡ s) (q d : Bytes) where
+  abbrev write_after : Queue → Store
+  write_after items = (apply_ts_write (store_of files ts) q d items).store
+
+  write_is : (items : Queue) → ts_queue (store_of files ts) q ≡ items → write_after items ≡ (apply_ts_write s q d (ts_queue s q)).store
+  write_is items e = ap write_after (sym e) ∙ ap (λ s. (apply_ts_write s q d (ts_queue s q)).store) is
+
+  rewrite_is : (n : ℕ) (items : Queue) → ts_queue (store_of files ts) q ≡ items → (apply_ts_rewrite (store_of files ts) q n d items).store ≡ (apply_ts_rewrite s q n d (ts_queue s q)).store
+  rewrite_is n items e = ap (λ i. (apply_ts_rewrite (store_of files ts) q n d i).store) (sym e) ∙ ap (λ s. (apply_ts_rewrite s q n d (ts_queue s q)).store) is
+
+  delete_is : (items : Queue) → ts_queue (store_of files ts) q ≡ items → (apply_ts_delete (store_of files ts) q items).store ≡ (apply_ts_delete s q (ts_queue s q)).store
+  delete_is items e = ap (λ i. (apply_ts_delete (store_of files ts) q i).store) (sym e) ∙ ap (λ s. (apply_ts_delete s q (ts_queue s q)).store) is
+
+  module _ (missing : None ≡ lookup (is_at (bytes_cmp q)) ts) (new_ts : Map Queue) (same : new_ts ≡ ts) where
+    no_queue : ts_queue (store_of files ts) q ≡ []
+    no_queue = ap (λ o. unwrap_or o []) (value_at-looked_up q ts ts None missing refl)
+
+    pub ts_made : (made : Store) → made ≡ with_ts (store_of files new_ts) q (d ∷ []) → made ≡ (apply_ts_write s q d (ts_queue s q)).store
+    ts_made made e = e ∙ ap (λ n. with_ts (store_of files n) q (d ∷ [])) same ∙ write_is [] no_queue
+
+    pub ts_rewrite_nowhere : (n : ℕ) → store_of files new_ts ≡ (apply_ts_rewrite s q n d (ts_queue s q)).store
+    ts_rewrite_nowhere n = ap (store_of files) same ∙ sym (unless (store_of files ts) q d [] n (has_item [] n) (no_item n)) ∙ rewrite_is n [] no_queue
+      where
+        no_item : (n : ℕ) → has_item [] n ≡ false
+        no_item n = grind (arith, nat_tests)
+
+    pub ts_delete_nowhere : s ≡ (apply_ts_delete s q (ts_queue s q)).store
+    ts_delete_nowhere = sym is ∙ delete_is [] no_queue
+
+  module _ (items : Queue) (rising : T (is_rising ts)) (found : Some items ≡ lookup (is_at (bytes_cmp q)) ts) where
+    queue : ts_queue (store_of files ts) q ≡ items
+    queue = ap (λ o. unwrap_or o []) (here q items ts rising found)
+
+    pub ts_delete_empty : is_there items ≡ false → s ≡ (apply_ts_delete s q (ts_queue s q)).store
+    ts_delete_empty e = sym is ∙ sym (kept_away (store_of files ts) q d items e) ∙ delete_is items queue
+
+    pub ts_delete_there : is_there items ≡ true → (new_ts : Map Queue) → new_ts ≡ remove_entry (is_at (bytes_cmp q)) ts → store_of files new_ts ≡ (apply_ts_delete s q (ts_queue s q)).store
+    ts_delete_there e new_ts removed = ap (store_of files) (removed ∙ remove_entry-without q ts rising) ∙ sym (taken_away (store_of files ts) q d items e) ∙ delete_is items queue
+
+    module _ (new : Queue) (new_ts : Map Queue) (set : new_ts ≡ set_value (is_at (bytes_cmp q)) ts new) where
+      put_queue : new_ts ≡ with_value q new ts
+      put_queue = put_here q items ts rising found new new_ts set
+
+      queue_same : new ≡ items → store_of files new_ts ≡ store_of files ts
+      queue_same e = ap (store_of files) (put_queue ∙ ap (λ n. with_value q n ts) e ∙ with_value-same q items ts rising (here q items ts rising found))
+
+      pub ts_write_full : new ≡ items → most_items ≤ length items → store_of files new_ts ≡ (apply_ts_write s q d (ts_queue s q)).store
+      ts_write_full e full_up = queue_same e ∙ sym (full (store_of files ts) q d items (nat_lt (length items) most_items) (test_false (length items) most_items full_up)) ∙ write_is items queue
+
+      pub ts_write_there : new ≡ items ++ d ∷ [] → length items < most_items → store_of files new_ts ≡ (apply_ts_write s q d (ts_queue s q)).store
+      ts_write_there e low =
+          ap (store_of files) (put_queue ∙ ap (λ n. with_value q n ts) e) ∙ sym (one_more (store_of files ts) q d items)
+          ∙ sym (room (store_of files ts) q d items (nat_lt (length items) most_items) (lt-ltb (length items) most_items low)) ∙ write_is items queue
+
+      pub ts_rewrite_none : (n : ℕ) → new ≡ items → has_item items n ≡ false → store_of files new_ts ≡ (apply_ts_rewrite s q n d (ts_queue s q)).store
+      ts_rewrite_none n e none = queue_same e ∙ sym (unless (store_of files ts) q d items n (has_item items n) none) ∙ rewrite_is n items queue
+
+      pub ts_rewrite_there : (n : ℕ) → new ≡ slice_set items (n - 1) d → has_item items n ≡ true → store_of files new_ts ≡ (apply_ts_rewrite s q n d (ts_queue s q)).store
+      ts_rewrite_there n e has =
+          ap (store_of files) (put_queue ∙ ap (λ n. with_value q n ts) e) ∙ sym (some_items (store_of files ts) q d (slice_set items (n - 1) d) (has_some items n has))
+          ∙ sym (set_item (store_of files ts) q d items n (has_item items n) has) ∙ rewrite_is n items queue
+        where
+          has_some : (items : Queue) (n : ℕ) → has_item items n ≡ true → 0 < length (slice_set items (n - 1) d)
+          has_some items n has = let e = length-set items (n - 1) d in grind (arith, nat_tests)

@@ -1,0 +1,181 @@
+-- What the table of enqueues becomes where a unit holds a record more, a record less, or nothing any more.
+use Rattle.std.proofs.Common.{◌≡◌, ℕ, ◌≤◌, Bool, true, false, cond, ◌&&◌, ◌||◌, not, Option, Some, None, List, [], ◌∷◌, ◌-◌, length, refl, ap, sym, ◌∙◌, eqb, ltb}
+use Rattle.std.specs.Prelude.{if◌then◌else◌, ◌==◌, All, filter}
+use Rattle.std.specs.List.{list_any}
+use Rattle.std.specs.FinMap as map_by
+use Rattle.std.specs.declared.cmp.Ordering.TheVariants.{Less, Equal, Greater}
+use Rattle.std.specs.FinMap.Entries.{by_order}
+use Rattle.std.proofs.Math.Bool.{or-false, and-true, and-false}
+use Rattle.std.proofs.lemmas.Bool.{true≢false, eq-eqb, eqb-true}
+use Rattle.cics_names.specs.Keyed.{Bytes}
+use Rattle.cics_enqueue.specs.Resources.{Table, Held, overlaps, is_one, resource_cmp, held_at, holder_of, IsFreeFor, with_holder, freed, taken, given_back, given_back_of, raised_count, released}
+use Rattle.cics_enqueue.specs.ResourceLaws.{is_one-eq, same_resources}
+use Rattle.cics_enqueue.specs.TableLaws.{holder_without, holder_of-taken, holder_of-given_back, holder_of-released, once-taken, once-given_back, once-released, is_in_order-taken, is_in_order-given_back, is_in_order-released}
+use Rattle.cics_enqueue.specs.declared.resources.Resource.{Resource}
+use Rattle.cics_enqueue.specs.declared.resources.Resource.TheVariants.{FileKey, TsQueue, TdRead as ReadingEnd, TdWrite as WritingEnd, User}
+use Rattle.cics_units.specs.Holding.{UnitsState, EnqCount, held_by}
+use Rattle.cics_units.specs.TableInPlace.{record_of, is_holder, counted_before, counts_in, AreOnce, IsTableOf}
+
+-- ---- The counts of values
+
+counts_in-put : (f k : Bytes) (h : Held) (t : Table) → counts_in (map_by.put resource_cmp (record_of f k) h t) ≡ counts_in t
+counts_in-put f k h [] = refl
+counts_in-put f k h (e ∷ es) =
+    elim (resource_cmp (record_of f k) e.0) as (λ o. resource_cmp (record_of f k) e.0 ≡ o →
+    counts_in (by_order o ((record_of f k, h) ∷ e ∷ es) ((e.0, h) ∷ es) (e ∷ map_by.put resource_cmp (record_of f k) h es)) ≡ counted_before e.0 e.1 (counts_in es)) [
+      | Less ↦ λ tied. refl
+      | Equal ↦ λ tied.
+          let same = same_resources (record_of f k) e.0 tied in
+          sym (ap (λ r. counted_before r h (counts_in es)) same) ∙ ap (λ r. counted_before r e.1 (counts_in es)) same
+      | Greater ↦ λ tied. ap (counted_before e.0 e.1) (counts_in-put f k h es)
+    ] refl
+
+counts_in-freed : (f k : Bytes) (t : Table) → counts_in (freed t (record_of f k)) ≡ counts_in t
+counts_in-freed f k [] = refl
+counts_in-freed f k (e ∷ es) =
+    elim (is_one (record_of f k) e.0) as (λ b. is_one (record_of f k) e.0 ≡ b →
+    counts_in (cond (not b) (e ∷ freed es (record_of f k)) (freed es (record_of f k))) ≡ counted_before e.0 e.1 (counts_in es)) [
+      | true ↦ λ one.
+          counts_in-freed f k es ∙ ap (λ r. counted_before r e.1 (counts_in es)) (is_one-eq (record_of f k) e.0 one)
+      | false ↦ λ other. ap (counted_before e.0 e.1) (counts_in-freed f k es)
+    ] refl
+
+counts_in-given_back : (f k : Bytes) (u : ℕ) (t : Table) → counts_in (given_back t (record_of f k) u) ≡ counts_in t
+counts_in-given_back f k u t =
+    elim (held_at (record_of f k) t) as (λ o. counts_in (given_back_of o t (record_of f k) u) ≡ counts_in t) [
+      | None ↦ refl
+      | Some h ↦ elim (h.unit == u) as (λ b. counts_in (if b then (if ltb 1 h.count then with_holder t (record_of f k) u (h.count - 1) else freed t (record_of f k)) else t) ≡ counts_in t) [
+        | true ↦ elim (ltb 1 h.count) as (λ b. counts_in (if b then with_holder t (record_of f k) u (h.count - 1) else freed t (record_of f k)) ≡ counts_in t) [
+          | true ↦ counts_in-put f k (record { unit = u; count = h.count - 1 }) t
+          | false ↦ counts_in-freed f k t
+        ]
+        | false ↦ refl
+      ]
+    ]
+
+counts_in-released : (u : ℕ) (t : Table) → filter (λ c. not (c.unit == u)) (counts_in t) ≡ counts_in (released t u)
+counts_in-released u [] = refl
+counts_in-released u (e ∷ es) = step (counts_in-released u es) e.0
+  where
+    same : (b : Bool) (r : Resource) → ((cs : List EnqCount) → counted_before r e.1 cs ≡ cs) → counts_in (released es u) ≡ counts_in (cond (not b) ((r, e.1) ∷ released es u) (released es u))
+    same true r h = refl
+    same false r h = sym (h (counts_in (released es u)))
+
+    step : filter (λ c. not (c.unit == u)) (counts_in es) ≡ counts_in (released es u) → (r : Resource) →
+        filter (λ c. not (c.unit == u)) (counted_before r e.1 (counts_in es)) ≡ counts_in (cond (not (e.1.unit == u)) ((r, e.1) ∷ released es u) (released es u))
+    step rest (User v) = elim (e.1.unit == u) as (λ b.
+        (if not b then record { value = v.items; unit = e.1.unit; count = e.1.count } ∷ filter (λ c. not (c.unit == u)) (counts_in es) else filter (λ c. not (c.unit == u)) (counts_in es))
+        ≡ counts_in (cond (not b) ((User v, e.1) ∷ released es u) (released es u))) [
+          | true ↦ rest
+          | false ↦ ap (λ cs. record { value = v.items; unit = e.1.unit; count = e.1.count } ∷ cs) rest
+        ]
+    step rest (FileKey f k) = rest ∙ same (e.1.unit == u) (FileKey f k) (λ cs. refl)
+    step rest (TsQueue q) = rest ∙ same (e.1.unit == u) (TsQueue q) (λ cs. refl)
+    step rest (ReadingEnd q) = rest ∙ same (e.1.unit == u) (ReadingEnd q) (λ cs. refl)
+    step rest (WritingEnd q) = rest ∙ same (e.1.unit == u) (WritingEnd q) (λ cs. refl)
+
+-- ---- A record more in the table, a record less, all of a unit less
+
+-- who holds what another unit doesn't
+without_is : (n v : ℕ) (h : Option ℕ) → is_holder n (holder_without v h) ≡ (is_holder n h && not (v == n))
+without_is n v None = refl
+without_is n v (Some w) =
+    elim (eqb w v) as (λ b. eqb w v ≡ b → is_holder n (if b then None else Some w) ≡ ((w == n) && not (v == n))) [
+      | true ↦ λ own. sym (ap (λ z. (z == n) && not (v == n)) (eqb-true w v own) ∙ never (v == n))
+      | false ↦ λ other. apart (w == n) (v == n) (λ a b. true≢false (sym (eq-eqb w v (eqb-true w n a ∙ sym (eqb-true v n b))) ∙ other))
+    ] refl
+  where
+    never : (b : Bool) → (b && not b) ≡ false
+    never true = refl
+    never false = refl
+
+    apart : (a b : Bool) → (a ≡ true → b ≡ true → ⊥) → a ≡ (a && not b)
+    apart true true h = absurd (h refl refl)
+    apart true false h = refl
+    apart false b h = refl
+
+module _ (s next : UnitsState) (t : Table) (k : IsTableOf s t) (once : AreOnce next.reads)
+    (keys : All (λ r. length r.key ≤ 255) next.reads) where
+  -- where the units hold the same, the table stays
+  pub table_same : next.counts ≡ s.counts →
+      ((r : Resource) (n : ℕ) → list_any (overlaps r) (held_by next n) ≡ list_any (overlaps r) (held_by s n)) →
+      IsTableOf next t
+  table_same counts held = record {
+    holders = λ r n. held r n ∙ k.holders r n;
+    single = k.single;
+    in_order = k.in_order;
+    counts = counts ∙ k.counts;
+    once = once;
+    keys = keys;
+  }
+
+  -- where a unit holds a free record more, it takes it
+  pub table_taken : next.counts ≡ s.counts → (v : ℕ) (f l : Bytes) → IsFreeFor t (record_of f l) v →
+      ((r : Resource) (n : ℕ) → list_any (overlaps r) (held_by next n)
+      ≡ (list_any (overlaps r) (held_by s n) || ((v == n) && overlaps r (record_of f l)))) →
+      IsTableOf next (taken t (record_of f l) v)
+  table_taken counts v f l free held = record {
+    holders = λ r n. held r n
+        ∙ ap (λ b. b || ((v == n) && overlaps r (record_of f l))) (k.holders r n)
+        ∙ elim (is_one r (record_of f l)) as (λ b. is_one r (record_of f l) ≡ b →
+        (is_holder n (holder_of r t) || ((v == n) && b)) ≡ is_holder n (if b then Some v else holder_of r t)) [
+          | true ↦ λ one. own n (holder_of r t) (λ w at. free w (ap (λ q. holder_of q t) (sym (is_one-eq r (record_of f l) one)) ∙ at))
+          | false ↦ λ other. ap (λ b. is_holder n (holder_of r t) || b) (and-false (v == n)) ∙ or-false (is_holder n (holder_of r t))
+        ] refl
+        ∙ sym (ap (is_holder n) (holder_of-taken t (record_of f l) v r));
+    single = λ r other. once-taken t (record_of f l) v r other (k.single r other);
+    in_order = is_in_order-taken t (record_of f l) v k.in_order;
+    counts = counts ∙ k.counts ∙ sym (counts_in-put f l (record { unit = v; count = raised_count (record_of f l) (held_at (record_of f l) t) }) t);
+    once = once;
+    keys = keys;
+  }
+    where
+      either : (b : Bool) → (b || (b && true)) ≡ b
+      either true = refl
+      either false = refl
+
+      own : (n : ℕ) (h : Option ℕ) → ((w : ℕ) → h ≡ Some w → w ≡ v) → (is_holder n h || ((v == n) && true)) ≡ (v == n)
+      own n None only = and-true (v == n)
+      own n (Some w) only = ap (λ z. (z == n) || ((v == n) && true)) (only w refl) ∙ either (v == n)
+
+  -- where a unit holds a record less, it gives it back
+  pub table_given : next.counts ≡ s.counts → (v : ℕ) (f l : Bytes) →
+      ((r : Resource) (n : ℕ) → list_any (overlaps r) (held_by next n)
+      ≡ (list_any (overlaps r) (held_by s n) && not ((v == n) && overlaps r (record_of f l)))) →
+      IsTableOf next (given_back t (record_of f l) v)
+  table_given counts v f l held = record {
+    holders = λ r n. held r n
+        ∙ ap (λ b. b && not ((v == n) && overlaps r (record_of f l))) (k.holders r n)
+        ∙ elim (is_one r (record_of f l)) as (λ b. is_one r (record_of f l) ≡ b →
+        (is_holder n (holder_of r t) && not ((v == n) && b)) ≡ is_holder n (if b then holder_without v (holder_of (record_of f l) t) else holder_of r t)) [
+          | true ↦ λ one.
+              ap (λ b. is_holder n (holder_of r t) && not b) (and-true (v == n))
+              ∙ ap (λ q. is_holder n (holder_of q t) && not (v == n)) (is_one-eq r (record_of f l) one)
+              ∙ sym (without_is n v (holder_of (record_of f l) t))
+          | false ↦ λ other.
+              ap (λ b. is_holder n (holder_of r t) && not b) (and-false (v == n))
+              ∙ and-true (is_holder n (holder_of r t))
+        ] refl
+        ∙ sym (ap (is_holder n) (holder_of-given_back t (record_of f l) v r (k.single (record_of f l) refl)));
+    single = λ r other. once-given_back t (record_of f l) v r (k.single r other);
+    in_order = is_in_order-given_back t (record_of f l) v k.in_order;
+    counts = counts ∙ k.counts ∙ sym (counts_in-given_back f l v t);
+    once = once;
+    keys = keys;
+  }
+
+  -- where a unit holds nothing any more, all that it held is free
+  pub table_released : (v : ℕ) → next.counts ≡ filter (λ c. not (c.unit == v)) s.counts →
+      ((r : Resource) (n : ℕ) → list_any (overlaps r) (held_by next n) ≡ (list_any (overlaps r) (held_by s n) && not (v == n))) →
+      IsTableOf next (released t v)
+  table_released v counts held = record {
+    holders = λ r n. held r n
+        ∙ ap (λ b. b && not (v == n)) (k.holders r n)
+        ∙ sym (without_is n v (holder_of r t))
+        ∙ sym (ap (is_holder n) (holder_of-released t v r k.in_order));
+    single = λ r other. once-released t v r k.in_order (k.single r other);
+    in_order = is_in_order-released t v k.in_order;
+    counts = counts ∙ ap (filter (λ c. not (c.unit == v))) k.counts ∙ counts_in-released v t;
+    once = once;
+    keys = keys;
+  }

@@ -1,0 +1,9 @@
+use Rattle.std.proofs.Common.{◌≡◌, take}
+use Rattle.cics_units.specs.History.{kept, replay}
+use Rattle.cics_units.specs.Replaying.{files_alone}
+use Rattle.cics_units.specs.Store.{initial_store}
+use Rattle.cics_units.proofs.replay.replayed.Given as goal
+
+-- the entries that were passed are replayed
+abbrev pub invariant-loop-entry : goal.invariant-loop-entry
+invariant-loop-entry l = l.store ≡ replay (initial_store (files_alone l.files)) (kept (files_alone l.files) (take l.entry-index l.trace) l.outcomes)

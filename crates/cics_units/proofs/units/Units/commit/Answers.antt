@@ -1,0 +1,48 @@
+use Rattle.std.proofs.Common.{◌∙◌, sym, ap, subst}
+use Rattle.std.specs.Prelude.{slice_set}
+use Rattle.cics_units.specs.Execution.{IsOpenUnit, after_end}
+use Rattle.cics_units.specs.KeptUnits.{state_shown}
+use Rattle.cics_units.specs.declared.ops.UnitState.TheVariants.{Committed}
+use Rattle.cics_units.proofs.KeptUnits.{kept_headline, kept_committed, committed_store}
+use Rattle.cics_units.proofs.ShownUnits.{live_of, ended_state, ended_kept}
+use Rattle.cics_units.proofs.units.Units.commit.Goals as goal
+
+pub invariant_of-self : goal.invariant_of-self
+invariant_of-self c =
+    let u = c.self.inside in
+    rw c.number.ensures (
+    ended_kept u.opening u.trace.items u.outcomes.items u.parts c.commit.new.self c.self.invariant c.args.unit
+    (live_of (state_shown u.opening u.trace.items u.outcomes.items u.parts) c.args.unit (subst (λ v. IsOpenUnit v.state c.args.unit) (sym c.self.view_is) c.requires.is_open))
+    Committed c.commit.ensures.table c.commit.ensures.reads (kept_committed (state_shown u.opening u.trace.items u.outcomes.items u.parts) u.parts.stores c.commit.new.self.stores u.parts.table c.self.invariant c.args.unit
+    (live_of (state_shown u.opening u.trace.items u.outcomes.items u.parts) c.args.unit (subst (λ v. IsOpenUnit v.state c.args.unit) (sym c.self.view_is) c.requires.is_open))
+    c.commit.ensures.cells c.commit.ensures.definitions c.commit.ensures.none c.commit.ensures.others c.commit.ensures.contents c.commit.ensures.whole))
+
+pub returns-clause-state : goal.returns-clause-state
+returns-clause-state c =
+    let u = c.self.inside in
+    rw c.number.ensures (
+    ended_state u.opening u.trace.items u.outcomes.items u.parts c.commit.new.self c.self.invariant c.args.unit
+    (live_of (state_shown u.opening u.trace.items u.outcomes.items u.parts) c.args.unit (subst (λ v. IsOpenUnit v.state c.args.unit) (sym c.self.view_is) c.requires.is_open))
+    Committed c.commit.ensures.table c.commit.ensures.reads (kept_committed (state_shown u.opening u.trace.items u.outcomes.items u.parts) u.parts.stores c.commit.new.self.stores u.parts.table c.self.invariant c.args.unit
+    (live_of (state_shown u.opening u.trace.items u.outcomes.items u.parts) c.args.unit (subst (λ v. IsOpenUnit v.state c.args.unit) (sym c.self.view_is) c.requires.is_open))
+    c.commit.ensures.cells c.commit.ensures.definitions c.commit.ensures.none c.commit.ensures.others c.commit.ensures.contents c.commit.ensures.whole)
+    ∙ ap (λ v. after_end v.state c.args.unit Committed) c.self.view_is)
+
+pub returns-clause-headline : goal.returns-clause-headline
+returns-clause-headline c =
+    let u = c.self.inside in
+    rw c.number.ensures (
+    kept_headline (state_shown u.opening u.trace.items (slice_set u.outcomes.items c.args.unit Committed) c.commit.new.self) c.commit.new.self.stores c.commit.new.self.table
+    (ended_kept u.opening u.trace.items u.outcomes.items u.parts c.commit.new.self c.self.invariant c.args.unit
+    (live_of (state_shown u.opening u.trace.items u.outcomes.items u.parts) c.args.unit (subst (λ v. IsOpenUnit v.state c.args.unit) (sym c.self.view_is) c.requires.is_open))
+    Committed c.commit.ensures.table c.commit.ensures.reads (kept_committed (state_shown u.opening u.trace.items u.outcomes.items u.parts) u.parts.stores c.commit.new.self.stores u.parts.table c.self.invariant c.args.unit
+    (live_of (state_shown u.opening u.trace.items u.outcomes.items u.parts) c.args.unit (subst (λ v. IsOpenUnit v.state c.args.unit) (sym c.self.view_is) c.requires.is_open))
+    c.commit.ensures.cells c.commit.ensures.definitions c.commit.ensures.none c.commit.ensures.others c.commit.ensures.contents c.commit.ensures.whole)))
+
+pub returns-clause-store : goal.returns-clause-store
+returns-clause-store c =
+    let u = c.self.inside in
+    committed_store (state_shown u.opening u.trace.items u.outcomes.items u.parts) u.parts.stores c.commit.new.self.stores u.parts.table c.self.invariant c.args.unit
+    (live_of (state_shown u.opening u.trace.items u.outcomes.items u.parts) c.args.unit (subst (λ v. IsOpenUnit v.state c.args.unit) (sym c.self.view_is) c.requires.is_open))
+    c.commit.ensures.cells c.commit.ensures.definitions c.commit.ensures.none c.commit.ensures.others c.commit.ensures.contents c.commit.ensures.whole
+    ∙ ap (λ v. v.store) c.self.view_is

@@ -1,0 +1,138 @@
+use Rattle.std.proofs.Common.{◌≡◌, ◌∙◌, sym, ap, subst, refl, true, None}
+use Rattle.cics_enqueue.specs.Resources.{holder_of, is_full}
+use Rattle.cics_units.specs.Execution.{IsOpenOrNone, unit_or_next, outcomes_with, enqueue, after_enqueued, after_enqueue}
+use Rattle.cics_units.specs.Events.{may_act}
+use Rattle.cics_units.specs.Headline.{IsHeadline}
+use Rattle.cics_units.specs.KeptUnits.{state_shown, AreKept}
+use Rattle.cics_units.specs.Matching.{store_of_files}
+use Rattle.cics_units.specs.Parts.{AreEnqueued}
+use Rattle.cics_units.specs.TableInPlace.{value_of, other_holder}
+use Rattle.cics_units.specs.declared.ops.Enqueued.TheVariants.{Taken}
+use Rattle.cics_units.proofs.KeptUnits.{kept_headline}
+use Rattle.cics_units.proofs.ShownUnits.{acts_of, refused_kept, holder_open}
+use Rattle.cics_units.specs.Execution.{IsOpenUnit}
+use Rattle.cics_units.proofs.Enqueuing.{enqueue-waits, enqueue-takes, enqueue-full, enqueued_shown, enqueued_kept, refused_shown}
+use Rattle.cics_units.proofs.units.Units.enq.Goals as goal
+
+pub returns-in-Some-clause-done : goal.returns-in-Some-clause-done
+returns-in-Some-clause-done c =
+    let u = c.self.inside in
+    let v = c.args.value.now in
+    let s = state_shown u.opening u.trace.items u.outcomes.items u.parts in
+    sym (enqueue-waits s u.parts.stores u.parts.table c.self.invariant c.args.unit v c.in-Some.holder
+    (ap (λ r. other_holder c.args.unit (holder_of r u.parts.table)) (sym c.value-resource.ensures) ∙ sym c.other_holder.ensures ∙ c.in-Some.is))
+    ∙ ap (λ w. enqueue w.state c.args.unit v) c.self.view_is
+
+pub returns-in-Some-clause-state : goal.returns-in-Some-clause-state
+returns-in-Some-clause-state c =
+    let u = c.self.inside in
+    let v = c.args.value.now in
+    let s = state_shown u.opening u.trace.items u.outcomes.items u.parts in
+    subst (λ w. w.state ≡ after_enqueue w.state c.args.unit v) c.self.view_is
+    (sym (ap (after_enqueued s c.args.unit v) (enqueue-waits s u.parts.stores u.parts.table c.self.invariant c.args.unit v c.in-Some.holder
+    (ap (λ r. other_holder c.args.unit (holder_of r u.parts.table)) (sym c.value-resource.ensures) ∙ sym c.other_holder.ensures ∙ c.in-Some.is))))
+
+pub returns-in-Some-clause-headline : goal.returns-in-Some-clause-headline
+returns-in-Some-clause-headline c =
+    let u = c.self.inside in
+    subst IsHeadline c.self.view_is (kept_headline (state_shown u.opening u.trace.items u.outcomes.items u.parts) u.parts.stores u.parts.table c.self.invariant)
+
+pub returns-in_err-reserve-clause-headline : goal.returns-in_err-reserve-clause-headline
+returns-in_err-reserve-clause-headline c =
+    let u = c.self.inside in
+    subst (λ outs. IsHeadline (record { state = state_shown u.opening u.trace.items outs u.parts; store = store_of_files u.parts.stores.files })) (sym c.reserve.ensures.items)
+    (kept_headline (state_shown u.opening u.trace.items u.outcomes.items u.parts) u.parts.stores u.parts.table c.self.invariant)
+
+pub returns-in-Err-Full-clause-done : goal.returns-in-Err-Full-clause-done
+returns-in-Err-Full-clause-done c =
+    let u = c.self.inside in
+    let v = c.args.value.now in
+    let s = state_shown u.opening u.trace.items u.outcomes.items u.parts in
+    let none : other_holder c.args.unit (holder_of (value_of v) u.parts.table) ≡ None = ap (λ r. other_holder c.args.unit (holder_of r u.parts.table)) (sym c.value-resource.ensures) ∙ sym c.other_holder.ensures ∙ c.in_default.is in
+    let full : is_full (value_of v) u.parts.table ≡ true = c.in-Err-Full.ensures.full c.in-Err-Full.field-0-is in
+    sym (enqueue-full s u.parts.stores u.parts.table c.self.invariant c.args.unit v none full) ∙ ap (λ w. enqueue w.state c.args.unit v) c.self.view_is
+
+pub returns-in-Err-Full-clause-state : goal.returns-in-Err-Full-clause-state
+returns-in-Err-Full-clause-state c =
+    let u = c.self.inside in
+    let v = c.args.value.now in
+    let s = state_shown u.opening u.trace.items u.outcomes.items u.parts in
+    let none : other_holder c.args.unit (holder_of (value_of v) u.parts.table) ≡ None = ap (λ r. other_holder c.args.unit (holder_of r u.parts.table)) (sym c.value-resource.ensures) ∙ sym c.other_holder.ensures ∙ c.in_default.is in
+    let full : is_full (value_of v) u.parts.table ≡ true = c.in-Err-Full.ensures.full c.in-Err-Full.field-0-is in
+    refused_shown u.opening u.trace.items u.outcomes.items u.parts c.enq.new.self c.self.invariant c.in-Err-Full.ensures.err c.reserve.new.self.items c.reserve.ensures.items
+    ∙ sym (ap (after_enqueued s c.args.unit v) (enqueue-full s u.parts.stores u.parts.table c.self.invariant c.args.unit v none full))
+    ∙ ap (λ w. after_enqueue w.state c.args.unit v) c.self.view_is
+
+pub returns-in-Err-Full-clause-headline : goal.returns-in-Err-Full-clause-headline
+returns-in-Err-Full-clause-headline c =
+    let u = c.self.inside in
+    kept_headline (state_shown u.opening u.trace.items c.reserve.new.self.items c.enq.new.self) c.enq.new.self.stores c.enq.new.self.table
+    (refused_kept u.opening u.trace.items u.outcomes.items u.parts c.enq.new.self c.self.invariant c.in-Err-Full.ensures.err u.trace.items c.reserve.new.self.items refl c.reserve.ensures.items)
+
+pub returns-in-Err-NoMemory-clause-headline : goal.returns-in-Err-NoMemory-clause-headline
+returns-in-Err-NoMemory-clause-headline c =
+    let u = c.self.inside in
+    kept_headline (state_shown u.opening u.trace.items c.reserve.new.self.items c.enq.new.self) c.enq.new.self.stores c.enq.new.self.table
+    (refused_kept u.opening u.trace.items u.outcomes.items u.parts c.enq.new.self c.self.invariant c.in-Err-NoMemory.ensures.err u.trace.items c.reserve.new.self.items refl c.reserve.ensures.items)
+
+pub invariant_of-self-2 : goal.invariant_of-self-2
+invariant_of-self-2 c =
+    let u = c.self.inside in
+    let v = c.args.value.now in
+    let s = state_shown u.opening u.trace.items u.outcomes.items u.parts in
+    let none : other_holder c.args.unit (holder_of (value_of v) u.parts.table) ≡ None = ap (λ r. other_holder c.args.unit (holder_of r u.parts.table)) (sym c.value-resource.ensures) ∙ sym c.other_holder.ensures ∙ c.in_default.is in
+    let acts : may_act s c.args.unit ≡ true = acts_of s c.args.unit (subst (λ w. IsOpenOrNone w.state c.args.unit) (sym c.self.view_is) c.requires.is_open) in
+    let acting : c.unit_or_next-acting.result ≡ unit_or_next c.args.unit u.outcomes.items = c.unit_or_next-acting.ensures ∙ ap (unit_or_next c.args.unit) c.as_slice.ensures.value in
+    let done : AreEnqueued u.parts c.enq.new.self (unit_or_next c.args.unit u.outcomes.items) v = subst (λ n. AreEnqueued u.parts c.enq.new.self n v) acting c.in-Ok.ensures.enqueued in
+    let outcomes : c.begin.new.outcomes.items ≡ outcomes_with c.args.unit u.outcomes.items = c.begin.ensures ∙ ap (outcomes_with c.args.unit) c.reserve.ensures.items in
+    subst (λ o. AreKept (state_shown u.opening u.trace.items o c.enq.new.self) c.enq.new.self.stores c.enq.new.self.table) (sym outcomes)
+    (enqueued_kept u.opening u.trace.items u.outcomes.items u.parts c.enq.new.self c.self.invariant c.args.unit v acts
+    (enqueue-takes s u.parts.stores u.parts.table c.self.invariant c.args.unit v none c.in-Ok.ensures.room) done)
+
+pub returns-clause-done : goal.returns-clause-done
+returns-clause-done c =
+    let u = c.self.inside in
+    let v = c.args.value.now in
+    let s = state_shown u.opening u.trace.items u.outcomes.items u.parts in
+    let none : other_holder c.args.unit (holder_of (value_of v) u.parts.table) ≡ None = ap (λ r. other_holder c.args.unit (holder_of r u.parts.table)) (sym c.value-resource.ensures) ∙ sym c.other_holder.ensures ∙ c.in_default.is in
+    let acting : c.unit_or_next-acting.result ≡ unit_or_next c.args.unit u.outcomes.items = c.unit_or_next-acting.ensures ∙ ap (unit_or_next c.args.unit) c.as_slice.ensures.value in
+    ap Taken acting
+    ∙ sym (enqueue-takes s u.parts.stores u.parts.table c.self.invariant c.args.unit v none c.in-Ok.ensures.room)
+    ∙ ap (λ w. enqueue w.state c.args.unit v) c.self.view_is
+
+pub returns-clause-state : goal.returns-clause-state
+returns-clause-state c =
+    let u = c.self.inside in
+    let v = c.args.value.now in
+    let s = state_shown u.opening u.trace.items u.outcomes.items u.parts in
+    let none : other_holder c.args.unit (holder_of (value_of v) u.parts.table) ≡ None = ap (λ r. other_holder c.args.unit (holder_of r u.parts.table)) (sym c.value-resource.ensures) ∙ sym c.other_holder.ensures ∙ c.in_default.is in
+    let acts : may_act s c.args.unit ≡ true = acts_of s c.args.unit (subst (λ w. IsOpenOrNone w.state c.args.unit) (sym c.self.view_is) c.requires.is_open) in
+    let acting : c.unit_or_next-acting.result ≡ unit_or_next c.args.unit u.outcomes.items = c.unit_or_next-acting.ensures ∙ ap (unit_or_next c.args.unit) c.as_slice.ensures.value in
+    let done : AreEnqueued u.parts c.enq.new.self (unit_or_next c.args.unit u.outcomes.items) v = subst (λ n. AreEnqueued u.parts c.enq.new.self n v) acting c.in-Ok.ensures.enqueued in
+    let outcomes : c.begin.new.outcomes.items ≡ outcomes_with c.args.unit u.outcomes.items = c.begin.ensures ∙ ap (outcomes_with c.args.unit) c.reserve.ensures.items in
+    ap (λ o. state_shown u.opening u.trace.items o c.enq.new.self) outcomes
+    ∙ enqueued_shown u.opening u.trace.items u.outcomes.items u.parts c.enq.new.self c.self.invariant c.args.unit v acts
+    (enqueue-takes s u.parts.stores u.parts.table c.self.invariant c.args.unit v none c.in-Ok.ensures.room) done
+    ∙ ap (λ w. after_enqueue w.state c.args.unit v) c.self.view_is
+
+pub returns-clause-headline : goal.returns-clause-headline
+returns-clause-headline c =
+    let u = c.self.inside in
+    let v = c.args.value.now in
+    let s = state_shown u.opening u.trace.items u.outcomes.items u.parts in
+    let none : other_holder c.args.unit (holder_of (value_of v) u.parts.table) ≡ None = ap (λ r. other_holder c.args.unit (holder_of r u.parts.table)) (sym c.value-resource.ensures) ∙ sym c.other_holder.ensures ∙ c.in_default.is in
+    let acts : may_act s c.args.unit ≡ true = acts_of s c.args.unit (subst (λ w. IsOpenOrNone w.state c.args.unit) (sym c.self.view_is) c.requires.is_open) in
+    let acting : c.unit_or_next-acting.result ≡ unit_or_next c.args.unit u.outcomes.items = c.unit_or_next-acting.ensures ∙ ap (unit_or_next c.args.unit) c.as_slice.ensures.value in
+    let done : AreEnqueued u.parts c.enq.new.self (unit_or_next c.args.unit u.outcomes.items) v = subst (λ n. AreEnqueued u.parts c.enq.new.self n v) acting c.in-Ok.ensures.enqueued in
+    let outcomes : c.begin.new.outcomes.items ≡ outcomes_with c.args.unit u.outcomes.items = c.begin.ensures ∙ ap (outcomes_with c.args.unit) c.reserve.ensures.items in
+    kept_headline (state_shown u.opening u.trace.items c.begin.new.outcomes.items c.enq.new.self) c.enq.new.self.stores c.enq.new.self.table
+    (subst (λ o. AreKept (state_shown u.opening u.trace.items o c.enq.new.self) c.enq.new.self.stores c.enq.new.self.table) (sym outcomes)
+    (enqueued_kept u.opening u.trace.items u.outcomes.items u.parts c.enq.new.self c.self.invariant c.args.unit v acts
+    (enqueue-takes s u.parts.stores u.parts.table c.self.invariant c.args.unit v none c.in-Ok.ensures.room) done))
+
+pub returns-in-Some-clause-holder_open : goal.returns-in-Some-clause-holder_open
+returns-in-Some-clause-holder_open c =
+    let u = c.self.inside in
+    let s = state_shown u.opening u.trace.items u.outcomes.items u.parts in
+    subst (λ w. IsOpenUnit w.state c.in-Some.holder) c.self.view_is
+    (holder_open s u.parts.table c.self.invariant.sound c.self.invariant.table c.args.unit c.value-resource.result c.in-Some.holder (sym c.other_holder.ensures ∙ c.in-Some.is))

@@ -1,0 +1,128 @@
+//! What the tests share: an opening of two files, commands on them, and what listings show.
+
+use crate::{DefineFault, Listing, Op, Opening};
+use cics_ksds::FileDef;
+use cics_names::{Items, Name8, NoMemory, Record};
+use std::alloc::Global;
+
+/// A recoverable file of records of up to 10 bytes that begin with a key of 2 bytes.
+pub(crate) const KEYED: FileDef = FileDef {
+    key_length: 2,
+    key_offset: 0,
+    record_size: 10,
+    recoverable: true,
+};
+
+/// The recoverable file ACCT and the unrecoverable file LOG, with these records in each.
+pub(crate) fn opened(alloc: Global, lines: &[&[u8]]) -> Result<Opening, DefineFault> {
+    let mut opening = Opening::new(alloc);
+    let plain = FileDef {
+        recoverable: false,
+        ..KEYED
+    };
+    for (name, definition) in [(b"ACCT".as_slice(), KEYED), (b"LOG".as_slice(), plain)] {
+        let Ok(name) = Name8::new(name) else {
+            return Err(DefineFault::NotThere);
+        };
+        opening.define_file(name, definition)?;
+        for line in lines {
+            opening.load_file(name, Record::from_slice(alloc, line)?)?;
+        }
+    }
+    Ok(opening)
+}
+
+/// A WRITE of a record under a key.
+pub(crate) fn write(alloc: Global, file: Name8, key: &[u8], from: &[u8]) -> Result<Op, NoMemory> {
+    Ok(Op::Write {
+        file,
+        key: Record::from_slice(alloc, key)?,
+        from: Record::from_slice(alloc, from)?,
+    })
+}
+
+/// A REWRITE of the record of a key.
+pub(crate) fn rewrite(alloc: Global, file: Name8, key: &[u8], from: &[u8]) -> Result<Op, NoMemory> {
+    Ok(Op::Rewrite {
+        file,
+        key: Record::from_slice(alloc, key)?,
+        from: Record::from_slice(alloc, from)?,
+    })
+}
+
+/// A DELETE of the record of a key.
+pub(crate) fn delete(alloc: Global, file: Name8, key: &[u8]) -> Result<Op, NoMemory> {
+    Ok(Op::Delete {
+        file,
+        key: Record::from_slice(alloc, key)?,
+    })
+}
+
+/// A READ UPDATE of the record of a key.
+pub(crate) fn read_update(alloc: Global, file: Name8, key: &[u8]) -> Result<Op, NoMemory> {
+    Ok(Op::ReadUpdate {
+        file,
+        key: Record::from_slice(alloc, key)?,
+    })
+}
+
+/// Whether these are the records of these bytes, in this order.
+pub(crate) fn are_records(records: &Items<Record>, lines: &[&[u8]]) -> bool {
+    records.len() == lines.len()
+        && records
+            .as_slice()
+            .iter()
+            .zip(lines)
+            .all(|(record, line)| record.bytes() == *line)
+}
+
+/// Whether a line of a listing is of this name and has these records.
+pub(crate) fn shows(
+    listed: &Items<(Name8, bool, Items<Record>)>,
+    at: usize,
+    name: &[u8],
+    recoverable: bool,
+    lines: &[&[u8]],
+) -> bool {
+    match listed.as_slice().get(at) {
+        Some((listed_name, listed_recoverable, records)) => {
+            Name8::new(name) == Ok(*listed_name)
+                && *listed_recoverable == recoverable
+                && are_records(records, lines)
+        }
+        None => false,
+    }
+}
+
+// Whether two files are listed alike, record by record.
+fn is_same_file(
+    first: &(Name8, bool, Items<Record>),
+    second: &(Name8, bool, Items<Record>),
+) -> bool {
+    let ((name, recoverable, records), (other_name, other_recoverable, others)) = (first, second);
+    *name == *other_name
+        && *recoverable == *other_recoverable
+        && records.len() == others.len()
+        && records
+            .as_slice()
+            .iter()
+            .zip(others.as_slice())
+            .all(|(record, other)| record.bytes() == other.bytes())
+}
+
+/// Whether two listings of files alone are the same, record by record.
+pub(crate) fn is_same_listing(first: &Listing, second: &Listing) -> bool {
+    first.files.len() == second.files.len()
+        && first
+            .files
+            .as_slice()
+            .iter()
+            .zip(second.files.as_slice())
+            .all(|(file, other)| is_same_file(file, other))
+        && first.ts.is_empty()
+        && second.ts.is_empty()
+        && first.td.is_empty()
+        && second.td.is_empty()
+        && first.tasks.is_empty()
+        && second.tasks.is_empty()
+}

@@ -1,0 +1,160 @@
+//! Calls on units for tests: each sees to what its call needs, and tells where that isn't so.
+
+ghost use Rattle.std.specs.Prelude.{◌≡◌, ◌&&◌, true, IsTrue};
+ghost use Rattle.std.specs.Option.{option_copied};
+ghost use Rattle.cics_names.specs.Keyed.{value_at, has_key, is_same};
+ghost use Rattle.cics_units.specs.Execution.{has_read, is_fit_for, is_ready_op, IsOpenUnit, IsOpenOrNone};
+ghost use Rattle.cics_units.specs.OpenReads.{is_read_key};
+ghost use Rattle.cics_units.specs.TableInPlace.{is_file_op};
+
+use crate::{Done, Op, UnitState, Units};
+use cics_enqueue::{Resource, UnitId};
+use cics_names::{Condition, Name8, NoMemory, Record};
+
+/// What came of a call; units are told by their numbers.
+#[derive(Clone, Copy, Debug, PartialEq, Eq)]
+pub(crate) enum Told {
+    /// The command was executed for this unit, with this condition.
+    Answered(u64, Condition),
+    /// The command has to wait for this unit.
+    Waits(u64),
+    /// What answers nothing was done.
+    Done,
+    /// The call may not be made here, and wasn't.
+    MayNot,
+}
+
+/// Whether a unit has begun and not ended.
+pub(crate) fn is_open(units: &Units, unit: UnitId) -> bool
+    ensures { result ≡ true → IsOpenUnit units.now.state unit }
+{
+    unit.number() < units.outcomes().len() as u64 && units.outcome(unit) == UnitState::Open
+}
+
+// Whether a task has an open unit or none.
+fn is_open_or_none(units: &Units, unit: Option<UnitId>) -> bool
+    ensures { result ≡ true → IsOpenOrNone units.now.state unit }
+{
+    match unit {
+        Some(unit) => is_open(units, unit),
+        None => true,
+    }
+}
+
+// The key that a unit, if it is one, has read for update in a file.
+fn has_read<'a>(units: &'a Units, unit: Option<UnitId>, file: &Name8) -> Option<&'a Record>
+    ensures { option_copied result ≡ has_read units.now.state unit file.now }
+{
+    match unit {
+        Some(unit) => units.open_read(unit, file),
+        None => None,
+    }
+}
+
+// Whether a unit, if it is one, has read the record of this key for update.
+fn has_read_key(units: &Units, unit: Option<UnitId>, file: &Name8, key: &Record) -> bool
+    ensures { result ≡ is_read_key (has_read units.now.state unit file.now) key.now }
+{
+    match has_read(units, unit, file) {
+        Some(read) => read.bytes() == key.bytes(),
+        None => false,
+    }
+}
+
+// Whether a file is defined.
+fn is_defined(units: &Units, file: &Name8) -> bool
+    ensures { result ≡ has_key file.now units.now.state.opening.files }
+{
+    units.file(file).is_some()
+}
+
+// Whether a file is defined, a record fits it, and the key is the one that lies in the record.
+fn is_fit(units: &Units, file: &Name8, key: &Record, from: &Record) -> bool
+    ensures { result ≡ is_fit_for (value_at file.now units.now.state.opening.files) key.now from.now }
+{
+    match units.file(file) {
+        Some(file) => {
+            let definition = file.definition();
+            definition.fits(from.bytes()) && definition.key_in(from.bytes()) == key.bytes()
+        }
+        None => false,
+    }
+}
+
+// Whether a command on a file may be executed for a unit, or for the next one.
+fn is_ready(units: &Units, unit: Option<UnitId>, op: &Op) -> bool
+    ensures { result ≡ is_file_op op.now && is_ready_op units.now.state unit op.now }
+{
+    match op {
+        Op::Write { file, key, from } => is_fit(units, file, key, from),
+        Op::Rewrite { file, key, from } => {
+            is_fit(units, file, key, from) && has_read_key(units, unit, file, key)
+        }
+        Op::Delete { file, .. } => is_defined(units, file),
+        Op::ReadUpdate { file, .. } => {
+            is_defined(units, file) && has_read(units, unit, file).is_none()
+        }
+        _ => false,
+    }
+}
+
+/// Executes a command where that may be done, and tells what came of it.
+pub(crate) fn execute(units: &mut Units, unit: Option<UnitId>, op: &Op) -> Result<Told, NoMemory> {
+    let Some((_, key)) = op.record() else {
+        return Ok(Told::MayNot);
+    };
+    if key.len() > 255 || !is_open_or_none(units, unit) || !is_ready(units, unit, op) {
+        return Ok(Told::MayNot);
+    }
+    Ok(match units.execute(unit, op)? {
+        Done::Answered(acting, answer) => Told::Answered(acting.number(), answer.condition),
+        Done::MustWait(holder) => Told::Waits(holder.number()),
+    })
+}
+
+/// Unlocks a file for a unit, where the unit is open.
+pub(crate) fn unlock(units: &mut Units, unit: UnitId, file: &Name8) -> Told {
+    if !is_open(units, unit) {
+        return Told::MayNot;
+    }
+    units.unlock(unit, file);
+    Told::Done
+}
+
+/// Ends a unit, where it is open.
+pub(crate) fn end(units: &mut Units, unit: UnitId, commits: bool) -> Told {
+    if !is_open(units, unit) {
+        return Told::MayNot;
+    }
+    if commits {
+        units.commit(unit);
+    } else {
+        units.back_out(unit);
+    }
+    Told::Done
+}
+
+/// How a unit stands, if it has begun.
+pub(crate) fn outcome(units: &Units, unit: UnitId) -> Option<UnitState> {
+    if unit.number() < units.outcomes().len() as u64 {
+        Some(units.outcome(unit))
+    } else {
+        None
+    }
+}
+
+/// The unit that holds the record of a key against a task without a unit.
+pub(crate) fn holder(units: &Units, file: Name8, key: &[u8]) -> Option<UnitId> {
+    if key.len() > 255 {
+        return None;
+    }
+    units.holder(None, &Resource::record(file, key))
+}
+
+/// Whether a unit has a read of a file open that is of this key.
+pub(crate) fn has_open(units: &Units, unit: UnitId, file: &Name8, key: &[u8]) -> bool {
+    match units.open_read(unit, file) {
+        Some(read) => read.bytes() == key,
+        None => false,
+    }
+}

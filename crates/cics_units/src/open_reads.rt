@@ -1,0 +1,119 @@
+//! The records that units of work have read for update, and not yet rewritten, deleted or unlocked.
+
+ghost use Rattle.std.specs.Prelude.{◌≡◌, ◌==◌, ◌&&◌, not, filter, [], None, OnOk, OnErr};
+ghost use Rattle.std.specs.Option.{option_copied};
+ghost use Rattle.cics_names.specs.Keyed.{is_same};
+ghost use Rattle.cics_units.specs.Execution.{is_read_of, read_at, with_read};
+ghost use Rattle.cics_units.specs.OpenReads.{is_read_key};
+
+use cics_enqueue::UnitId;
+use cics_names::{Name8, NoMemory, Record};
+use std::alloc::Global;
+use std::collections::BTreeMap;
+use std::marker::Model;
+
+/// The update reads that are open: at most one for each unit and file.
+///
+/// Contracts see them in the order of their units, and those of a unit in the order of their files'
+/// names. A look-up costs the logarithm of the number of units and that of the unit's files.
+#[derive(Drop)]
+pub(crate) struct OpenReads {
+    rows: BTreeMap<u64, BTreeMap<Name8, Record>>,
+    alloc: Global,
+}
+
+impl Model for OpenReads {
+    ghost use Rattle.std.specs.Prelude.{List};
+    ghost use Rattle.cics_units.specs.Holding.{UpdateRead};
+    ghost use Rattle.cics_units.specs.OpenReads.{reads_in, AreRising};
+
+    ghost Value = { List UpdateRead };
+
+    ghost view = { λ r. reads_in r.rows.entries };
+
+    ghost invariant = { λ r. AreRising r.rows.entries };
+}
+
+impl OpenReads {
+    /// No update read is open. `alloc` gives the memory for those that are opened.
+    pub(crate) fn new(alloc: Global) -> OpenReads
+        ensures { result ≡ [] }
+    {
+        OpenReads {
+            rows: BTreeMap::new(alloc),
+            alloc,
+        }
+    }
+
+    /// The key of the record that a unit has read for update in a file, or `None` where it has none.
+    pub(crate) fn key(&self, unit: UnitId, file: &Name8) -> Option<&Record>
+        ensures { option_copied result ≡ read_at self.now unit file.now }
+    {
+        self.rows.get(&unit.number())?.get(file)
+    }
+
+    /// Opens a unit's update read of the record of a key in a file.
+    ///
+    /// The unit has to have none open in that file. Where memory is refused, all reads stay as they were.
+    pub(crate) fn open(&mut self, unit: UnitId, file: Name8, key: Record) -> Result<(), NoMemory>
+        requires { read_at self.old unit file ≡ None }
+        ensures reads { OnOk result (self.new ≡ with_read (record { unit = unit; file = file; key = key }) self.old) }
+        ensures err { OnErr result (self.new ≡ self.old) }
+    {
+        let number = unit.number();
+        // What an insertion answers is what stood in the place: nothing.
+        match self.rows.get_mut(&number) {
+            Some(files) => {
+                drop(files.insert(file, key)?);
+            }
+            None => {
+                let mut files = BTreeMap::new(self.alloc);
+                drop(files.insert(file, key)?);
+                drop(self.rows.insert(number, files)?);
+            }
+        }
+        Ok(())
+    }
+
+    // Whether a unit has an update read of a file, and it is of this key.
+    fn is_of_key(&self, unit: UnitId, file: &Name8, key: &[u8]) -> bool
+        ensures { result ≡ is_read_key (read_at self.now unit file.now) key.now }
+    {
+        match self.key(unit, file) {
+            Some(read) => read.bytes() == key,
+            None => false,
+        }
+    }
+
+    /// Ends a unit's update read of a file if it is of this key, and tells whether it was.
+    ///
+    /// This takes no memory.
+    pub(crate) fn cover(&mut self, unit: UnitId, file: &Name8, key: &[u8]) -> bool
+        ensures reads { self.new ≡ filter (λ r. not (is_read_of unit file.now r && is_same r.key key.now)) self.old }
+        ensures covered { result ≡ is_read_key (read_at self.old unit file.now) key.now }
+    {
+        let _rows = &self.rows;
+        let is_covered = self.is_of_key(unit, file, key);
+        if is_covered {
+            self.close(unit, file);
+        }
+        is_covered
+    }
+
+    /// Ends a unit's update read of a file, and answers the key that it was of, or `None` where there was none.
+    ///
+    /// This takes no memory.
+    pub(crate) fn close(&mut self, unit: UnitId, file: &Name8) -> Option<Record>
+        ensures reads { self.new ≡ filter (λ r. not (is_read_of unit file.now r)) self.old }
+        ensures key { result ≡ read_at self.old unit file.now }
+    {
+        self.rows.get_mut(&unit.number())?.remove(file)
+    }
+
+    /// Ends all update reads of a unit. This takes no memory.
+    pub(crate) fn end(&mut self, unit: UnitId)
+        ensures { self.new ≡ filter (λ r. not (r.unit == unit)) self.old }
+    {
+        self.rows.remove(&unit.number());
+    }
+}

@@ -1,0 +1,345 @@
+//! All that units change where it stands: the files with their images, who holds what, and the open
+//! update reads.
+
+ghost use Rattle.std.specs.Prelude.{◌≡◌, ◌==◌, ◌<◌, ◌≤◌, ℕ, Bool, if◌then◌else◌, true, false, not, [], None, is_none, length, filter, fold, List, T, IsTrue, IfOk, IfErr, IfSome, OnOk, OnErr};
+ghost use Rattle.std.specs.List.{list_any};
+ghost use Rattle.std.specs.Option.{option_copied};
+ghost use Rattle.cics_names.specs.Keyed.{value_at};
+ghost use Rattle.cics_names.specs.declared.conditions.Condition.TheVariants.{Normal};
+ghost use Rattle.cics_images.specs.Cells.{AreReadyInTurn, LeadBack, images_of, is_unnamed};
+ghost use Rattle.cics_ksds.specs.Undo.{Leads};
+ghost use Rattle.cics_enqueue.specs.Resources.{IsFreeFor, is_full, is_in_order, holder_of, taken, given_back, released};
+ghost use Rattle.cics_units.specs.Execution.{covers, reads_after, read_at, with_read, is_read_of};
+ghost use Rattle.cics_units.specs.FilesImages.{cell_of_image, files_content, IsReadyFor, files_undone, files_settled, FilesKeep, definitions_of};
+ghost use Rattle.cics_units.specs.UnitImages.{kept_by, room_of, AreOthersKept};
+ghost use Rattle.cics_units.specs.TableInPlace.{is_file_op, is_read, file_of, key_of, record_of, value_of, other_holder, AreOnce, table_changed, table_given_back};
+ghost use Rattle.cics_units.specs.Parts.{IsFitOp, is_recoverable_in, AreChanged, AreExecuted, AreEnqueued, ArePartsKept};
+ghost use Rattle.cics_units.specs.Store.{apply};
+ghost use Rattle.cics_units.specs.Matching.{store_of_files};
+
+use crate::files::Files;
+use crate::open_reads::OpenReads;
+use crate::ops::Op;
+use crate::undoable_files::UndoableFiles;
+use cics_enqueue::{Enqueues, Resource, TakeFault, UnitId};
+use cics_names::{Condition, Name8, NoMemory, Record};
+use std::alloc::Global;
+use std::marker::Model;
+
+/// The files as they stand with the images of the open units, the enqueues, and the open update reads.
+#[derive(Drop)]
+pub(crate) struct Parts {
+    files: UndoableFiles,
+    enqueues: Enqueues,
+    reads: OpenReads,
+}
+
+impl Model for Parts {
+    ghost use Rattle.cics_units.specs.Parts.{PartsValue};
+
+    ghost Value = { PartsValue };
+
+    ghost view = { λ p. record { stores = p.files; table = p.enqueues; reads = p.reads } };
+}
+
+// Takes a record for a unit, unless the unit holds it already, and tells whether it was free.
+fn hold(enqueues: &mut Enqueues, file: Name8, key: &[u8], unit: UnitId) -> Result<bool, NoMemory>
+    requires most { length key.now ≤ 255 }
+    requires free { IsFreeFor enqueues.old (record_of file key.now) unit }
+    requires in_order { T (is_in_order enqueues.old) }
+    ensures taken { OnOk result (enqueues.new ≡ taken enqueues.old (record_of file key.now) unit) }
+    ensures was_free { IfOk result (λ was_free. was_free ≡ is_none (holder_of (record_of file key.now) enqueues.old)) }
+    ensures err { OnErr result (enqueues.new ≡ enqueues.old) }
+{
+    let resource = Resource::record(file, key);
+    if enqueues.holder(&resource).is_some() {
+        return Ok(false);
+    }
+    match enqueues.take(resource, unit) {
+        Ok(()) => Ok(true),
+        Err(_) => Err(NoMemory),
+    }
+}
+
+// Gives a record back that was taken for a command which then found no memory.
+fn let_go(enqueues: &mut Enqueues, file: Name8, key: &[u8], unit: UnitId, was_free: bool)
+    requires most { length key.now ≤ 255 }
+    ensures { enqueues.new ≡ (if was_free then given_back enqueues.old (record_of file key.now) unit else enqueues.old) }
+{
+    if was_free {
+        enqueues.give_back(&Resource::record(file, key), unit);
+    }
+}
+
+impl Parts {
+    /// These files, and no unit that holds or has read anything.
+    pub(crate) fn new(alloc: Global, files: Files) -> Parts
+        ensures { result ≡ record { stores = record { files = files; images = [] }; table = []; reads = [] } }
+    {
+        Parts {
+            files: UndoableFiles::new(alloc, files),
+            enqueues: Enqueues::new(alloc),
+            reads: OpenReads::new(alloc),
+        }
+    }
+
+    /// The files as they stand, with the images of the open units.
+    pub(crate) fn files(&self) -> &UndoableFiles
+        ensures { result.now ≡ self.now.stores }
+    {
+        &self.files
+    }
+
+    /// The key that a unit has read for update in a file.
+    pub(crate) fn open_read(&self, unit: UnitId, file: &Name8) -> Option<&Record>
+        ensures { option_copied result ≡ read_at self.now.reads unit file.now }
+    {
+        self.reads.key(unit, file)
+    }
+
+    /// The unit that holds a resource, if it is another than the one that asks.
+    pub(crate) fn other_holder(&self, asking: Option<UnitId>, resource: &Resource) -> Option<UnitId>
+        ensures { result ≡ other_holder asking (holder_of resource.now self.now.table) }
+    {
+        let holder = self.enqueues.holder(resource)?;
+        if asking == Some(holder) {
+            None
+        } else {
+            Some(holder)
+        }
+    }
+
+    // Ends the update read that a command covers, and tells whether there was one.
+    fn cover(&mut self, unit: UnitId, op: &Op) -> bool
+        requires once { AreOnce self.old.reads }
+        ensures covered { result ≡ list_any (covers unit op.now) self.old.reads }
+        ensures rest { self.new ≡ record self.old { reads = filter (λ r. not (covers unit op.now r)) self.old.reads } }
+    {
+        match op {
+            Op::Rewrite { file, key, .. } => self.reads.cover(unit, file, key.bytes()),
+            Op::Delete { file, key } => self.reads.cover(unit, file, key.bytes()),
+            _ => false,
+        }
+    }
+
+    // READ UPDATE: the unit holds the record, and has read it for update.
+    fn read_for_update(&mut self, unit: UnitId, file: Name8, key: &Record) -> Result<(), NoMemory>
+        requires most { length key.now ≤ 255 }
+        requires free { IsFreeFor self.old.table (record_of file key.now) unit }
+        requires in_order { T (is_in_order self.old.table) }
+        requires none_open { read_at self.old.reads unit file ≡ None }
+        ensures parts { OnOk result (self.new ≡ record self.old {
+          table = taken self.old.table (record_of file key.now) unit;
+          reads = with_read (record { unit = unit; file = file; key = key.now }) self.old.reads;
+        }) }
+        ensures err { OnErr result (self.new ≡ self.old) }
+    {
+        let copy = key.copy()?;
+        let was_free = hold(&mut self.enqueues, file, key.bytes(), unit)?;
+        match self.reads.open(unit, file, copy) {
+            Ok(()) => Ok(()),
+            Err(refused) => {
+                let_go(&mut self.enqueues, file, key.bytes(), unit, was_free);
+                Err(refused)
+            }
+        }
+    }
+
+    // A change of a recoverable file: the unit holds the record until it ends.
+    fn change_held(
+        &mut self,
+        unit: UnitId,
+        file: Name8,
+        key: &Record,
+        op: &Op,
+    ) -> Result<(), NoMemory>
+        requires named { (file_of op.now ≡ file) × (key_of op.now ≡ key.now) }
+        requires fit { IsFitOp self.old.stores.files op.now }
+        requires begun { unit < length self.old.stores.images }
+        requires room { 0 < room_of self.old.stores.images unit }
+        requires most { length key.now ≤ 255 }
+        requires free { IsFreeFor self.old.table (record_of file key.now) unit }
+        requires in_order { T (is_in_order self.old.table) }
+        requires once { AreOnce self.old.reads }
+        ensures changed { OnOk result (AreChanged self.old.stores self.new.stores unit op.now) }
+        ensures table { OnOk result (self.new.table ≡ taken self.old.table (record_of file key.now) unit) }
+        ensures reads { OnOk result (self.new.reads ≡ filter (λ r. not (covers unit op.now r)) self.old.reads) }
+        ensures err { OnErr result (self.new ≡ self.old) }
+    {
+        let was_free = hold(&mut self.enqueues, file, key.bytes(), unit)?;
+        match self.files.change(unit, op) {
+            Ok(()) => {
+                self.cover(unit, op);
+                Ok(())
+            }
+            Err(refused) => {
+                let_go(&mut self.enqueues, file, key.bytes(), unit, was_free);
+                Err(refused)
+            }
+        }
+    }
+
+    // A change of a file that isn't recoverable: it gives the record of the update read back that it covers.
+    fn change_plain(
+        &mut self,
+        unit: UnitId,
+        file: Name8,
+        key: &Record,
+        op: &Op,
+    ) -> Result<(), NoMemory>
+        requires fit { IsFitOp self.old.stores.files op.now }
+        requires begun { unit < length self.old.stores.images }
+        requires room { 0 < room_of self.old.stores.images unit }
+        requires most { length key.now ≤ 255 }
+        requires once { AreOnce self.old.reads }
+        ensures changed { OnOk result (AreChanged self.old.stores self.new.stores unit op.now) }
+        ensures table { OnOk result (self.new.table ≡ (if list_any (covers unit op.now) self.old.reads then given_back self.old.table (record_of file key.now) unit else self.old.table)) }
+        ensures reads { OnOk result (self.new.reads ≡ filter (λ r. not (covers unit op.now r)) self.old.reads) }
+        ensures err { OnErr result (self.new ≡ self.old) }
+    {
+        self.files.change(unit, op)?;
+        if self.cover(unit, op) {
+            self.enqueues
+                .give_back(&Resource::record(file, key.bytes()), unit);
+        }
+        Ok(())
+    }
+
+    // Executes a command on a file that is to be answered NORMAL.
+    fn change(&mut self, unit: UnitId, op: &Op) -> Result<(), NoMemory>
+        requires fit { IsFitOp self.old.stores.files op.now }
+        requires begun { unit < length self.old.stores.images }
+        requires room { 0 < room_of self.old.stores.images unit }
+        requires most { length (key_of op.now) ≤ 255 }
+        requires free { IsFreeFor self.old.table (record_of (file_of op.now) (key_of op.now)) unit }
+        requires in_order { T (is_in_order self.old.table) }
+        requires once { AreOnce self.old.reads }
+        requires none_open { is_read op.now ≡ true → read_at self.old.reads unit (file_of op.now) ≡ None }
+        ensures changed { OnOk result (AreChanged self.old.stores self.new.stores unit op.now) }
+        ensures table { OnOk result (self.new.table ≡ table_changed (is_recoverable_in (value_at (file_of op.now) self.old.stores.files)) unit op.now self.old.reads self.old.table) }
+        ensures reads { OnOk result (self.new.reads ≡ reads_after unit op.now Normal self.old.reads) }
+        ensures err { OnErr result (self.new ≡ self.old) }
+    {
+        let Some((file, key)) = op.record() else {
+            unreachable!();
+        };
+        if let Op::ReadUpdate { .. } = op {
+            return self.read_for_update(unit, *file, key);
+        }
+        if self.files.is_recoverable(file) {
+            self.change_held(unit, *file, key, op)
+        } else {
+            self.change_plain(unit, *file, key, op)
+        }
+    }
+
+    /// Executes a command on a file for a unit that needn't wait, and may be the next one to begin; the
+    /// condition is the one that the command is answered. Where memory is refused nothing has
+    /// changed.
+    pub(crate) fn execute(
+        &mut self,
+        unit: UnitId,
+        op: &Op,
+        condition: Condition,
+    ) -> Result<(), NoMemory>
+        requires fit { IsFitOp self.old.stores.files op.now }
+        requires file { is_file_op op.now ≡ true }
+        requires begun { unit ≤ length self.old.stores.images }
+        requires most { length (key_of op.now) ≤ 255 }
+        requires free { IsFreeFor self.old.table (record_of (file_of op.now) (key_of op.now)) unit }
+        requires in_order { T (is_in_order self.old.table) }
+        requires once { AreOnce self.old.reads }
+        requires none_open { is_read op.now ≡ true → read_at self.old.reads unit (file_of op.now) ≡ None }
+        requires answered { condition ≡ (apply (store_of_files self.old.stores.files) op.now).answer.condition }
+        ensures executed { OnOk result (AreExecuted self.old self.new unit op.now condition) }
+        ensures err { OnErr result (ArePartsKept self.old self.new) }
+    {
+        self.files.make_room(unit)?;
+        if condition == Condition::Normal {
+            self.change(unit, op)?;
+        }
+        Ok(())
+    }
+
+    /// A unit, which may be the next one to begin, takes a value that no other unit holds, once more
+    /// where it holds it already. Full where it holds it 65,535 times, and NoMemory where memory is
+    /// refused: then nothing has changed.
+    pub(crate) fn enq(&mut self, unit: UnitId, value: &[u8]) -> Result<(), TakeFault>
+        requires begun { unit ≤ length self.old.stores.images }
+        requires most { length value.now ≤ 255 }
+        requires free { IsFreeFor self.old.table (value_of value.now) unit }
+        ensures enqueued { OnOk result (AreEnqueued self.old self.new unit value.now) }
+        ensures room { OnOk result (is_full (value_of value.now) self.old.table ≡ false) }
+        ensures full { IfErr result (λ fault. fault ≡ TakeFault.Full → is_full (value_of value.now) self.old.table ≡ true) }
+        ensures err { OnErr result (ArePartsKept self.old self.new) }
+    {
+        self.files.make_room(unit)?;
+        self.enqueues.take(Resource::value(value), unit)
+    }
+
+    /// Gives back one take of a value, if the unit holds it: with the last one the value is free. It
+    /// takes no memory.
+    pub(crate) fn deq(&mut self, unit: UnitId, value: &[u8])
+        requires most { length value.now ≤ 255 }
+        ensures { self.new ≡ record self.old { table = given_back self.old.table (value_of value.now) unit } }
+    {
+        self.enqueues.give_back(&Resource::value(value), unit);
+    }
+
+    /// Ends a unit's update read of a file, and gives its record back where the file isn't
+    /// recoverable: UNLOCK. It takes no memory.
+    pub(crate) fn unlock(&mut self, unit: UnitId, file: &Name8)
+        requires keys { IfSome (read_at self.old.reads unit file.now) (λ key. length key ≤ 255) }
+        ensures stores { self.new.stores ≡ self.old.stores }
+        ensures table { self.new.table ≡ table_given_back (is_recoverable_in (value_at file.now self.old.stores.files)) unit file.now (read_at self.old.reads unit file.now) self.old.table }
+        ensures reads { self.new.reads ≡ filter (λ r. not (is_read_of unit file.now r)) self.old.reads }
+    {
+        let Some(key) = self.reads.close(unit, file) else {
+            return;
+        };
+        let recoverable = match self.files.files().get(file) {
+            Some(file) => file.definition().recoverable,
+            None => false,
+        };
+        if !recoverable {
+            self.enqueues
+                .give_back(&Resource::record(*file, key.bytes()), unit);
+        }
+    }
+
+    /// Backs a unit out: its images are undone, newest first, and it holds nothing more. It takes no
+    /// memory.
+    pub(crate) fn back_out(&mut self, unit: UnitId)
+        requires begun { unit < length self.old.stores.images }
+        requires ready { AreReadyInTurn IsReadyFor files_undone self.old.stores.files (kept_by self.old.stores.images unit) }
+        ensures none { kept_by self.new.stores.images unit ≡ [] }
+        ensures others { AreOthersKept self.old.stores.images self.new.stores.images unit }
+        ensures led_back { (c : List ℕ) → LeadBack (λ i. Leads i.image) (images_of cell_of_image c (kept_by self.old.stores.images unit)) (files_content self.old.stores.files c) (files_content self.new.stores.files c) }
+        ensures cells { FilesKeep (is_unnamed cell_of_image (kept_by self.old.stores.images unit)) self.old.stores.files self.new.stores.files }
+        ensures definitions { definitions_of self.new.stores.files ≡ definitions_of self.old.stores.files }
+        ensures whole { self.new.stores.files ≡ fold files_undone self.old.stores.files (kept_by self.old.stores.images unit) }
+        ensures table { self.new.table ≡ released self.old.table unit }
+        ensures reads { self.new.reads ≡ filter (λ r. not (r.unit == unit)) self.old.reads }
+    {
+        self.files.back_out(unit);
+        self.enqueues.release_all(unit);
+        self.reads.end(unit);
+    }
+
+    /// Commits a unit: its images are given up, and it holds nothing more. It takes no memory.
+    pub(crate) fn commit(&mut self, unit: UnitId)
+        requires begun { unit < length self.old.stores.images }
+        ensures none { kept_by self.new.stores.images unit ≡ [] }
+        ensures others { AreOthersKept self.old.stores.images self.new.stores.images unit }
+        ensures contents { (c : List ℕ) → files_content self.new.stores.files c ≡ files_content self.old.stores.files c }
+        ensures cells { FilesKeep (is_unnamed cell_of_image (kept_by self.old.stores.images unit)) self.old.stores.files self.new.stores.files }
+        ensures definitions { definitions_of self.new.stores.files ≡ definitions_of self.old.stores.files }
+        ensures whole { self.new.stores.files ≡ fold files_settled self.old.stores.files (kept_by self.old.stores.images unit) }
+        ensures table { self.new.table ≡ released self.old.table unit }
+        ensures reads { self.new.reads ≡ filter (λ r. not (r.unit == unit)) self.old.reads }
+    {
+        self.files.commit(unit);
+        self.enqueues.release_all(unit);
+        self.reads.end(unit);
+    }
+}

@@ -1,0 +1,308 @@
+//! Units of work: their commands, what they hold, and their ends.
+
+ghost use Rattle.std.specs.Prelude.{◌≡◌, ◌<◌, ◌≤◌, ◌++◌, ◌∷◌, [], true, length, vec_len, vec_capacity, IsTrue, Option, Some, None, option_map, IfOk, IfErr, IfSome, OnOk, OnErr};
+ghost use Rattle.std.specs.Option.{option_copied};
+ghost use Rattle.cics_names.specs.Keyed.{value_at};
+ghost use Rattle.cics_units.specs.Openings.{is_key};
+ghost use Rattle.cics_units.specs.History.{outcome_of};
+ghost use Rattle.cics_units.specs.Holding.{held_table, first_holder, awaited};
+ghost use Rattle.cics_units.specs.Execution.{IfMustWait, IfEnqMustWait, unit_or_next, outcomes_with, IsOpenUnit, IsOpenOrNone, is_ready_op, execution, after_execution, enqueue, after_enqueue, after_dequeue, after_unlock, read_at, after_end};
+ghost use Rattle.cics_units.specs.Headline.{IsHeadline, LeavesNoTrace, beginning};
+ghost use Rattle.cics_units.specs.Listings.{listing_of};
+ghost use Rattle.cics_units.specs.TableInPlace.{is_file_op, file_of, key_of, record_of};
+ghost use Rattle.cics_units.specs.declared.ops.Op.{Op as OpValue};
+ghost use Rattle.cics_units.specs.declared.ops.UnitState.TheVariants.{Committed, BackedOut};
+
+use crate::listings::Listing;
+use crate::opening::Opening;
+use crate::ops::{Done, Enqueued, Entry, Op, UnitState};
+use crate::parts::Parts;
+use cics_enqueue::{Resource, TakeFault, UnitId};
+use cics_ksds::File;
+use cics_names::{Items, Name8, NoMemory, Record};
+use std::alloc::Global;
+use std::marker::Model;
+
+/// The units of work of a region, with its files.
+///
+/// Contracts see the state of the units, which is what was opened, the executed commands in their
+/// order, the outcome of each unit and the open update reads, and beside it the store, which is read
+/// off the files themselves. After every call the store is what replaying the commands of the units
+/// that weren't backed out gives, and each of these commands has the answer that it was given
+/// (`headline`).
+#[derive(Drop)]
+pub struct Units {
+    opening: Opening,
+    parts: Parts,
+    trace: Vec<Entry>,
+    outcomes: Vec<UnitState>,
+    alloc: Global,
+}
+
+impl Model for Units {
+    ghost use Rattle.cics_units.specs.Execution.{UnitsValue};
+    ghost use Rattle.cics_units.specs.Matching.{store_of_files};
+    ghost use Rattle.cics_units.specs.KeptUnits.{state_shown, AreKept};
+
+    ghost Value = { UnitsValue };
+
+    ghost view = { λ u. record {
+      state = state_shown u.opening u.trace.items u.outcomes.items u.parts;
+      store = store_of_files u.parts.stores.files;
+    } };
+
+    ghost invariant = { λ u.
+        AreKept (state_shown u.opening u.trace.items u.outcomes.items u.parts) u.parts.stores u.parts.table };
+}
+
+// The unit that acts: the one that is handed in, or the next one to begin.
+fn unit_or_next(unit: Option<UnitId>, outcomes: &[UnitState]) -> UnitId
+    ensures { result ≡ unit_or_next unit outcomes.now }
+{
+    match unit {
+        Some(unit) => unit,
+        None => UnitId::new(outcomes.len() as u64),
+    }
+}
+
+// A task without a unit begins one.
+fn begin(outcomes: &mut Vec<UnitState>, unit: Option<UnitId>)
+    requires room { vec_len outcomes.old < vec_capacity outcomes.old }
+    ensures { outcomes.new.items ≡ outcomes_with unit outcomes.old.items }
+{
+    if unit.is_none() {
+        outcomes.push_reserved(UnitState::Open);
+    }
+}
+
+// Enters an executed command, and the unit that began with it where there was none.
+fn enter(trace: &mut Vec<Entry>, outcomes: &mut Vec<UnitState>, unit: Option<UnitId>, entry: Entry)
+    requires trace_room { vec_len trace.old < vec_capacity trace.old }
+    requires outcomes_room { vec_len outcomes.old < vec_capacity outcomes.old }
+    ensures trace { trace.new.items ≡ trace.old.items ++ entry ∷ [] }
+    ensures outcomes { outcomes.new.items ≡ outcomes_with unit outcomes.old.items }
+{
+    begin(outcomes, unit);
+    trace.push_reserved(entry);
+}
+
+impl Units {
+    /// Starts with what an opening holds: no command is executed, and no unit has begun. It takes
+    /// memory for a copy of the files; where that is refused the opening comes back.
+    pub fn start(opening: Opening) -> Result<Units, Opening>
+        ensures state { IfOk result (λ units. units.state ≡ beginning opening) }
+        ensures headline { IfOk result IsHeadline }
+        ensures err { IfErr result (λ back. back ≡ opening) }
+    {
+        let alloc = opening.files().allocator();
+        let Ok(files) = opening.files().copy() else {
+            return Err(opening);
+        };
+        Ok(Units {
+            opening,
+            parts: Parts::new(alloc, files),
+            trace: Vec::new(alloc),
+            outcomes: Vec::new(alloc),
+            alloc,
+        })
+    }
+
+    /// The unit that holds a resource, if it is another than the one that asks; `asking` is None for
+    /// a task without a unit.
+    ///
+    /// - `awaits`: so it is the unit that a command on that record of a file has to wait for.
+    pub fn holder(&self, asking: Option<UnitId>, resource: &Resource) -> Option<UnitId>
+        ensures holder { result ≡ first_holder (held_table self.now.state) asking resource.now }
+        ensures is_open { IfSome result (IsOpenUnit self.now.state) }
+        ensures awaits { (op : OpValue) → is_file_op op ≡ true → resource.now ≡ record_of (file_of op) (key_of op) → result ≡ awaited self.now.state asking op }
+    {
+        let _trace = &self.trace;
+        self.parts.other_holder(asking, resource)
+    }
+
+    /// Executes a command on a file for a unit, or for the next one, which begins with it, or answers
+    /// the unit to wait for; then nothing changes.
+    ///
+    /// An executed command is entered in the trace with its answer. The unit has to be open, the
+    /// file defined, a record that is written has to fit it under the command's key, REWRITE has to
+    /// be of the record that the unit has read for update, READ UPDATE needs that the unit has none
+    /// open in the file, and a key has at most 255 bytes. Where memory is refused nothing changes.
+    pub fn execute(&mut self, unit: Option<UnitId>, op: &Op) -> Result<Done, NoMemory>
+        requires is_open { IsOpenOrNone self.old.state unit }
+        requires file { IsTrue (is_file_op op.now) }
+        requires ready { IsTrue (is_ready_op self.old.state unit op.now) }
+        requires key { length (key_of op.now) ≤ 255 }
+        ensures done { IfOk result (λ done. done ≡ execution self.old.state unit op.now) }
+        ensures holder_open { IfOk result (λ done. IfMustWait done (IsOpenUnit self.old.state)) }
+        ensures state { OnOk result (self.new.state ≡ after_execution self.old.state unit op.now) }
+        ensures headline { IsHeadline self.new }
+        ensures err { OnErr result (self.new ≡ self.old) }
+    {
+        let Some((file, key)) = op.record() else {
+            unreachable!();
+        };
+        let resource = Resource::record(*file, key.bytes());
+        if let Some(holder) = self.parts.other_holder(unit, &resource) {
+            return Ok(Done::MustWait(holder));
+        }
+        let acting = unit_or_next(unit, self.outcomes.as_slice());
+        let answer = self.parts.files().answer(op)?;
+        let entry = Entry {
+            unit: acting,
+            op: op.copy()?,
+            answer: answer.copy()?,
+        };
+        self.trace.reserve(1)?;
+        self.outcomes.reserve(1)?;
+        self.parts.execute(acting, op, answer.condition)?;
+        enter(&mut self.trace, &mut self.outcomes, unit, entry);
+        Ok(Done::Answered(acting, answer))
+    }
+
+    /// Enqueues on a value for a unit, or for the next one, which begins with it: ENQ.
+    ///
+    /// Taken has the unit, which holds the value from then on, once more where it held it already.
+    /// MustWait has the other unit that holds the value, and CountFull says that the unit holds it
+    /// 65,535 times: then nothing changes, and neither where memory is refused. The unit has to be
+    /// open, and a value has at most 255 bytes.
+    pub fn enq(&mut self, unit: Option<UnitId>, value: &[u8]) -> Result<Enqueued, NoMemory>
+        requires is_open { IsOpenOrNone self.old.state unit }
+        requires most { length value.now ≤ 255 }
+        ensures done { IfOk result (λ done. done ≡ enqueue self.old.state unit value.now) }
+        ensures holder_open { IfOk result (λ done. IfEnqMustWait done (IsOpenUnit self.old.state)) }
+        ensures state { OnOk result (self.new.state ≡ after_enqueue self.old.state unit value.now) }
+        ensures headline { IsHeadline self.new }
+        ensures store { self.new.store ≡ self.old.store }
+        ensures err { OnErr result (self.new ≡ self.old) }
+    {
+        // A copy for each call that the unit is handed to.
+        let asking = unit;
+        let begins = unit;
+        let resource = Resource::value(value);
+        if let Some(holder) = self.parts.other_holder(asking, &resource) {
+            return Ok(Enqueued::MustWait(holder));
+        }
+        let acting = unit_or_next(unit, self.outcomes.as_slice());
+        self.outcomes.reserve(1)?;
+        match self.parts.enq(acting, value) {
+            Ok(()) => {}
+            Err(TakeFault::Full) => return Ok(Enqueued::CountFull),
+            Err(TakeFault::NoMemory) => return Err(NoMemory),
+        }
+        begin(&mut self.outcomes, begins);
+        Ok(Enqueued::Taken(acting))
+    }
+
+    /// Dequeues from a value for a unit: DEQ. With as many as it enqueued the value is free.
+    ///
+    /// A value that the unit doesn't hold stays as it is, another unit's too. It takes no memory.
+    /// The unit has to be open, and a value has at most 255 bytes.
+    pub fn deq(&mut self, unit: UnitId, value: &[u8])
+        requires is_open { IsOpenUnit self.old.state unit }
+        requires most { length value.now ≤ 255 }
+        ensures state { self.new.state ≡ after_dequeue self.old.state unit value.now }
+        ensures headline { IsHeadline self.new }
+        ensures store { self.new.store ≡ self.old.store }
+    {
+        self.parts.deq(unit, value);
+    }
+
+    /// The key of the record that a unit has read for update in a file, if it has.
+    pub fn open_read(&self, unit: UnitId, file: &Name8) -> Option<&Record>
+        ensures key { option_copied result ≡ read_at self.now.state.reads unit file.now }
+        ensures most { IfSome result (λ key. length key.now ≤ 255) }
+    {
+        let _trace = &self.trace;
+        self.parts.open_read(unit, file)
+    }
+
+    /// Ends a unit's update read of a file, if it has one: UNLOCK. What its commands hold stays held.
+    /// It takes no memory.
+    pub fn unlock(&mut self, unit: UnitId, file: &Name8)
+        requires is_open { IsOpenUnit self.old.state unit }
+        ensures state { self.new.state ≡ after_unlock self.old.state unit file.now }
+        ensures headline { IsHeadline self.new }
+        ensures store { self.new.store ≡ self.old.store }
+    {
+        self.parts.unlock(unit, file);
+    }
+
+    /// Commits a unit: what it did stays, and it holds nothing more. It takes no memory.
+    pub fn commit(&mut self, unit: UnitId)
+        requires is_open { IsOpenUnit self.old.state unit }
+        ensures state { self.new.state ≡ after_end self.old.state unit Committed }
+        ensures headline { IsHeadline self.new }
+        ensures store { self.new.store ≡ self.old.store }
+    {
+        self.parts.commit(unit);
+        self.outcomes[unit.number() as usize] = UnitState::Committed;
+    }
+
+    /// Backs a unit out: each recoverable file holds what it would hold if the unit had executed
+    /// nothing, and the unit holds nothing more. It takes no memory.
+    ///
+    /// - `alone`: a unit that ran alone from some command on leaves what stood before it.
+    pub fn back_out(&mut self, unit: UnitId)
+        requires is_open { IsOpenUnit self.old.state unit }
+        ensures state { self.new.state ≡ after_end self.old.state unit BackedOut }
+        ensures headline { IsHeadline self.new }
+        ensures alone { LeavesNoTrace self.old self.new unit }
+    {
+        self.parts.back_out(unit);
+        self.outcomes[unit.number() as usize] = UnitState::BackedOut;
+    }
+
+    /// The file of a name as it stands, the changes of open units included; None where no file of
+    /// the name is defined.
+    pub fn file(&self, name: &Name8) -> Option<&File>
+        ensures records { value_at name.now self.now.store.files ≡ option_map (λ f. f.records) (option_copied result) }
+        ensures definition { option_map (λ f. f.definition) (value_at name.now self.now.state.opening.files) ≡ option_map (λ f. f.definition) (option_copied result) }
+        ensures lawful { IfSome result (λ f. is_key f.now.definition ≡ true) }
+    {
+        let _trace = &self.trace;
+        self.parts.files().files().get(name)
+    }
+
+    /// What the units started with.
+    pub fn opening(&self) -> &Opening
+        ensures { result.now ≡ self.now.state.opening }
+    {
+        &self.opening
+    }
+
+    /// The executed commands with their units and answers, in the order of their execution.
+    pub fn trace(&self) -> &[Entry]
+        ensures { result.now ≡ self.now.state.trace }
+    {
+        self.trace.as_slice()
+    }
+
+    /// Whether a unit that has begun has ended, and how.
+    pub fn outcome(&self, unit: UnitId) -> UnitState
+        requires begun { unit < length self.now.state.outcomes }
+        ensures { result ≡ outcome_of self.now.state.outcomes unit }
+    {
+        self.outcomes[unit.number() as usize]
+    }
+
+    /// The outcome of each unit that has begun, in the order in which they began.
+    pub fn outcomes(&self) -> &[UnitState]
+        ensures { result.now ≡ self.now.state.outcomes }
+    {
+        self.outcomes.as_slice()
+    }
+
+    /// What stands in the files, the changes of open units included, and no task. It takes memory
+    /// for a copy of each record.
+    pub fn listing(&self) -> Result<Listing, NoMemory>
+        ensures { IfOk result (λ listing. listing ≡ listing_of self.now.state.opening self.now.store) }
+    {
+        let _trace = &self.trace;
+        Ok(Listing {
+            files: self.parts.files().files().listing()?,
+            ts: Items::new(self.alloc),
+            td: Items::new(self.alloc),
+            tasks: Items::new(self.alloc),
+        })
+    }
+}
