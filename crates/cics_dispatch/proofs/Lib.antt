@@ -1,8 +1,24 @@
-pub mod PutBack
-pub mod Backout
 mod Examples
 mod Journal
-mod OneTaskRows
 mod FileRows
 mod QueueRows
 mod TaskRows
+pub mod Asked
+pub mod Ready
+mod Browsing
+mod TaskTable
+mod WaitTable
+pub mod KeptTasks
+pub mod OtherUnits
+pub mod TaskPlaces
+pub mod OwnedUnits
+mod RegionSteps
+mod RegionBrowses
+mod RegionEnqueuing
+mod RegionListing
+mod RegionWaking
+mod RegionPerforming
+pub mod KeptSteps
+mod OneTaskRows
+mod PutBack
+mod Backout

@@ -9,6 +9,7 @@ use Rattle.cics_names.specs.declared.conditions.Condition.TheVariants.{Normal, N
 use Rattle.cics_names.specs.declared.conditions.AbendCode.{AbendCode}
 use Rattle.cics_browse.specs.Positions.{Position, finds_start, start_at, read_next, after_next, read_prev, after_prev, reset_condition, after_reset}
 use Rattle.cics_browse.specs.declared.browses.Browsed.{Browsed}
+use Rattle.cics_units.specs.Holding.{UnitsState}
 use Rattle.cics_units.specs.Execution.{execution, after_execution, enqueue, after_enqueue, after_dequeue, after_unlock, ts_reading, after_ts_reading, item_asked}
 use Rattle.cics_units.specs.declared.ops.Op.{Op}
 use Rattle.cics_units.specs.declared.ops.Op.TheVariants as op
@@ -124,10 +125,14 @@ enqueued m t c value (Taken unit) =
     let owner = with_unit t unit in
     answered (with_task (with_units m (after_enqueue m.units t.unit value)) owner) owner c.resp (plain Normal)
 
+-- the units once a task's unit has given a value back once; a task without a unit changes none
+abbrev pub units_dequeued : UnitsState → Option ℕ → Bytes → UnitsState
+units_dequeued s None value = s
+units_dequeued s (Some u) value = after_dequeue s u value
+
 -- DEQ gives the value back once; a task without a unit holds none
 abbrev pub dequeued : Machine → Option ℕ → Bytes → Machine
-dequeued m None value = m
-dequeued m (Some u) value = with_units m (after_dequeue m.units u value)
+dequeued m unit value = with_units m (units_dequeued m.units unit value)
 
 -- ---- Files: plain READ, UNLOCK and browses
 
@@ -178,6 +183,11 @@ ts_read m t resp q n item = answered (with_units m (after_ts_reading m.units q i
 
 -- ---- The commands
 
+-- the code that ABEND gives, or the one without ABCODE
+abbrev pub code_of : Option Bytes → AbendCode
+code_of None = no_code
+code_of (Some code) = record { 0 = code }
+
 -- ABEND ends the task with its code
 abbrev pub abended_with : Machine → Task → AbendCode → Stepped Outcome
 abended_with m t code = record { outcome = Abended code None; machine = abended m t }
@@ -197,8 +207,7 @@ other_command m t c (Deq value n) = answered (dequeued m t.unit (take n value)) 
 other_command m t c Syncpoint = record { outcome = Replied (plain Normal); machine = unit_closed m t Committed false }
 other_command m t c Rollback = record { outcome = Replied (plain Normal); machine = unit_closed m t BackedOut false }
 other_command m t c Return = record { outcome = Ended; machine = unit_closed m t Committed true }
-other_command m t c (Abend None) = abended_with m t no_code
-other_command m t c (Abend (Some code)) = abended_with m t (record { 0 = code })
+other_command m t c (Abend code) = abended_with m t (code_of code)
 other_command m t c _ = answered m t c.resp (plain Invreq)
 
 -- an updating command waits or is executed; another is answered

@@ -1,6 +1,10 @@
 -- Waiting commands (chapter on task control): which one goes on, which one's time is over, and the clock.
 use Rattle.std.specs.Prelude.{ℕ, ◌-◌, Bool, false, ◌&&◌, if◌then◌else◌, Option, Some, None, is_none, Result, nat_le, nat_lt, take, List, [], ◌∷◌}
 use Rattle.cics_units.specs.Holding.{awaited, value_holder}
+use Rattle.cics_enqueue.specs.Resources.{bytes_of}
+use Rattle.cics_enqueue.specs.declared.resources.Resource.{Resource}
+use Rattle.cics_enqueue.specs.declared.resources.Resource.TheVariants.{User}
+use Rattle.cics_units.specs.TableInPlace.{record_of, file_of, key_of}
 use Rattle.cics_units.specs.declared.ops.Op.{Op}
 use Rattle.cics_dispatch.specs.Machine.{Machine, Task, Suspended, task_at, with_waiting, not_waiting, abended, timed_out}
 use Rattle.cics_dispatch.specs.Steps.{Stepped, op_of, performed, refused_or}
@@ -28,6 +32,12 @@ abbrev pub holder_for : Machine → Task → Verb → Option Op → Option ℕ
 holder_for m t verb (Some o) = awaited m.units t.unit o
 holder_for m t (Enq value n nosuspend) None = value_holder m.units t.unit (take n value)
 holder_for m t _ None = None
+
+-- what a command needs that another unit may hold: an updating command its record, and ENQ its value
+abbrev pub resource_for : Verb → Option Op → Option Resource
+resource_for verb (Some o) = Some (record_of (file_of o) (key_of o))
+resource_for (Enq value n nosuspend) None = Some (User (bytes_of (take n value)))
+resource_for _ None = None
 
 -- a waiting command may go on where it needn't wait any more
 abbrev pub may_go_on : Machine → Suspended → Option Task → Bool

@@ -5,6 +5,8 @@ ghost use Rattle.std.specs.Option.{option_copied};
 ghost use Rattle.cics_names.specs.Keyed.{is_same};
 ghost use Rattle.cics_ksds.specs.Files.{key_of, fits_file};
 ghost use Rattle.cics_dispatch.specs.Lengths.{is_length_given, is_key_length, key_fault, is_within, used_of, from_fault, own_key_fault, write_fault};
+ghost use Rattle.cics_dispatch.specs.Checks.{resource_fault, read_fault, rewrite_fault, delete_fault};
+ghost use Rattle.cics_dispatch.specs.Faults.{startbr_fault, resetbr_fault, absent_fault, backward_fault};
 
 use cics_ksds::FileDef;
 use cics_names::{Condition, NoMemory, Record};
@@ -81,6 +83,145 @@ pub(crate) fn write_fault(
         None
     } else {
         Some(Condition::Invreq)
+    }
+}
+
+/// The first fault of a READ: INVREQ where UPDATE goes with GTEQ or GENERIC, for its key's length, and with
+/// UPDATE where the task has an open update read of the file, whose key is `open_key`.
+pub(crate) fn read_fault(
+    definition: FileDef,
+    open_key: Option<&Record>,
+    key: &[u8],
+    given: Option<u64>,
+    generic: bool,
+    gteq: bool,
+    update: bool,
+) -> Option<Condition>
+    ensures { result ≡ read_fault definition (option_copied open_key.entry) key.now given generic gteq update }
+{
+    if update && (gteq || generic) {
+        return Some(Condition::Invreq);
+    }
+    if let Some(fault) = key_fault(definition, key, given, generic) {
+        return Some(fault);
+    }
+    if update && open_key.is_some() {
+        Some(Condition::Invreq)
+    } else {
+        None
+    }
+}
+
+/// The first fault of a REWRITE: LENGERR for its record's length, INVREQ without an open update read of
+/// the file, or where the key in the record isn't `open_key`, the key that was read.
+pub(crate) fn rewrite_fault(
+    definition: FileDef,
+    open_key: Option<&Record>,
+    from: &[u8],
+    length: Option<u64>,
+) -> Option<Condition>
+    ensures { result ≡ rewrite_fault definition (option_copied open_key.entry) from.now length }
+{
+    let Some(content) = used(from, length) else {
+        return Some(Condition::Lengerr);
+    };
+    if !definition.fits(content) {
+        return Some(Condition::Lengerr);
+    }
+    match open_key {
+        Some(key) if definition.key_in(content).cmp(key.bytes()).is_eq() => None,
+        _ => Some(Condition::Invreq),
+    }
+}
+
+/// The fault of a DELETE: INVREQ for the length of its key, and without RIDFLD where KEYLENGTH is given or
+/// the task has no open update read of the file.
+pub(crate) fn delete_fault(
+    definition: FileDef,
+    open_key: Option<&Record>,
+    ridfld: Option<&Record>,
+    given: Option<u64>,
+) -> Option<Condition>
+    ensures { result ≡ delete_fault definition (option_copied open_key.entry) (option_copied ridfld.entry) given }
+{
+    if let Some(key) = ridfld {
+        return key_fault(definition, key.bytes(), given, false);
+    }
+    if given.is_none() && open_key.is_some() {
+        None
+    } else {
+        Some(Condition::Invreq)
+    }
+}
+
+/// LENGERR of an ENQ or DEQ whose LENGTH isn't 1 to 255, or is above the length of its value as written.
+pub(crate) fn resource_fault(value: &[u8], length: u64) -> Option<Condition>
+    ensures { result ≡ resource_fault value.now length }
+{
+    if 1 <= length && length <= 255 && length <= value.len() as u64 {
+        None
+    } else {
+        Some(Condition::Lengerr)
+    }
+}
+
+/// The first fault of a STARTBR: INVREQ for its key's length, and where a browse of the file is open.
+///
+/// Here and below `browse` is the task's browse of the file, by whether it was started with GENERIC, and
+/// None where there is none.
+pub(crate) fn startbr_fault(
+    definition: FileDef,
+    browse: Option<bool>,
+    key: &[u8],
+    given: Option<u64>,
+    generic: bool,
+) -> Option<Condition>
+    ensures { result ≡ startbr_fault definition browse key.now given generic }
+{
+    if let Some(fault) = key_fault(definition, key, given, generic) {
+        return Some(fault);
+    }
+    if browse.is_none() {
+        None
+    } else {
+        Some(Condition::Invreq)
+    }
+}
+
+/// The first fault of a RESETBR: INVREQ for its key's length, and where no browse of the file is open.
+pub(crate) fn resetbr_fault(
+    definition: FileDef,
+    browse: Option<bool>,
+    key: &[u8],
+    given: Option<u64>,
+    generic: bool,
+) -> Option<Condition>
+    ensures { result ≡ resetbr_fault definition browse key.now given generic }
+{
+    if let Some(fault) = key_fault(definition, key, given, generic) {
+        return Some(fault);
+    }
+    absent_fault(browse)
+}
+
+/// INVREQ of a READNEXT or ENDBR where no browse of the file is open.
+pub(crate) fn absent_fault(browse: Option<bool>) -> Option<Condition>
+    ensures { result ≡ absent_fault browse }
+{
+    if browse.is_some() {
+        None
+    } else {
+        Some(Condition::Invreq)
+    }
+}
+
+/// INVREQ of a READPREV where no browse of the file is open, or a generic one.
+pub(crate) fn backward_fault(browse: Option<bool>) -> Option<Condition>
+    ensures { result ≡ backward_fault browse }
+{
+    match browse {
+        Some(false) => None,
+        _ => Some(Condition::Invreq),
     }
 }
 

@@ -1,6 +1,11 @@
 //! The commands of a task.
 
-use cics_names::{Name4, Name8, Record};
+ghost use Rattle.std.specs.Prelude.{◌≡◌, IfOk};
+ghost use Rattle.std.specs.Option.{option_copied};
+ghost use Rattle.cics_dispatch.specs.Faults.{file_named};
+ghost use Rattle.cics_dispatch.specs.Steps.{length_of};
+
+use cics_names::{Name4, Name8, NoMemory, Record};
 
 /// A command, as a task issues it.
 #[derive(Drop)]
@@ -152,4 +157,206 @@ pub enum Verb {
     Abend {
         code: Option<Name4>,
     },
+}
+
+impl Command {
+    /// Another command that asks for the same. `NoMemory` where the memory for it is refused.
+    pub(crate) fn copy(&self) -> Result<Command, NoMemory>
+        ensures { IfOk result (λ copy. copy ≡ self.now) }
+    {
+        Ok(Command {
+            verb: self.verb.copy()?,
+            resp: self.resp,
+        })
+    }
+}
+
+// A copy of a record, where there is one.
+fn copy_of(found: &Option<Record>) -> Result<Option<Record>, NoMemory>
+    ensures { IfOk result (λ copy. copy ≡ found.now) }
+{
+    match found {
+        Some(record) => Ok(Some(record.copy()?)),
+        None => Ok(None),
+    }
+}
+
+impl Verb {
+    // Another verb that asks for the same, with the same options.
+    fn copy(&self) -> Result<Verb, NoMemory>
+        ensures { IfOk result (λ copy. copy ≡ self.now) }
+    {
+        match self {
+            Verb::Read {
+                file,
+                ridfld,
+                key_length,
+                length,
+                generic,
+                gteq,
+                update,
+            } => Ok(Verb::Read {
+                file: *file,
+                ridfld: ridfld.copy()?,
+                key_length: *key_length,
+                length: *length,
+                generic: *generic,
+                gteq: *gteq,
+                update: *update,
+            }),
+            Verb::Write {
+                file,
+                ridfld,
+                key_length,
+                from,
+                length,
+            } => Ok(Verb::Write {
+                file: *file,
+                ridfld: ridfld.copy()?,
+                key_length: *key_length,
+                from: from.copy()?,
+                length: *length,
+            }),
+            Verb::Rewrite { file, from, length } => Ok(Verb::Rewrite {
+                file: *file,
+                from: from.copy()?,
+                length: *length,
+            }),
+            Verb::Delete {
+                file,
+                ridfld,
+                key_length,
+            } => Ok(Verb::Delete {
+                file: *file,
+                ridfld: copy_of(ridfld)?,
+                key_length: *key_length,
+            }),
+            Verb::Unlock { file } => Ok(Verb::Unlock { file: *file }),
+            Verb::StartBr {
+                file,
+                ridfld,
+                key_length,
+                generic,
+                equal,
+            } => Ok(Verb::StartBr {
+                file: *file,
+                ridfld: ridfld.copy()?,
+                key_length: *key_length,
+                generic: *generic,
+                equal: *equal,
+            }),
+            Verb::ResetBr {
+                file,
+                ridfld,
+                key_length,
+                generic,
+                equal,
+            } => Ok(Verb::ResetBr {
+                file: *file,
+                ridfld: ridfld.copy()?,
+                key_length: *key_length,
+                generic: *generic,
+                equal: *equal,
+            }),
+            Verb::ReadNext { file, length } => Ok(Verb::ReadNext {
+                file: *file,
+                length: *length,
+            }),
+            Verb::ReadPrev { file, length } => Ok(Verb::ReadPrev {
+                file: *file,
+                length: *length,
+            }),
+            Verb::EndBr { file } => Ok(Verb::EndBr { file: *file }),
+            Verb::WriteqTs {
+                queue,
+                from,
+                length,
+                item,
+            } => Ok(Verb::WriteqTs {
+                queue: *queue,
+                from: from.copy()?,
+                length: *length,
+                item: *item,
+            }),
+            Verb::ReadqTs {
+                queue,
+                length,
+                item,
+            } => Ok(Verb::ReadqTs {
+                queue: *queue,
+                length: *length,
+                item: *item,
+            }),
+            Verb::DeleteqTs { queue } => Ok(Verb::DeleteqTs { queue: *queue }),
+            Verb::WriteqTd {
+                queue,
+                from,
+                length,
+            } => Ok(Verb::WriteqTd {
+                queue: *queue,
+                from: from.copy()?,
+                length: *length,
+            }),
+            Verb::ReadqTd {
+                queue,
+                length,
+                nosuspend,
+            } => Ok(Verb::ReadqTd {
+                queue: *queue,
+                length: *length,
+                nosuspend: *nosuspend,
+            }),
+            Verb::DeleteqTd { queue } => Ok(Verb::DeleteqTd { queue: *queue }),
+            Verb::Enq {
+                resource,
+                length,
+                nosuspend,
+            } => Ok(Verb::Enq {
+                resource: resource.copy()?,
+                length: *length,
+                nosuspend: *nosuspend,
+            }),
+            Verb::Deq { resource, length } => Ok(Verb::Deq {
+                resource: resource.copy()?,
+                length: *length,
+            }),
+            Verb::Syncpoint => Ok(Verb::Syncpoint),
+            Verb::Rollback => Ok(Verb::Rollback),
+            Verb::Return => Ok(Verb::Return),
+            Verb::Abend { code } => Ok(Verb::Abend { code: *code }),
+        }
+    }
+
+    /// The file that the command names, or None where it names none.
+    pub fn file(&self) -> Option<&Name8>
+        ensures { option_copied result ≡ file_named self.now }
+    {
+        match self {
+            Verb::Read { file, .. }
+            | Verb::Write { file, .. }
+            | Verb::Rewrite { file, .. }
+            | Verb::Delete { file, .. }
+            | Verb::Unlock { file }
+            | Verb::StartBr { file, .. }
+            | Verb::ResetBr { file, .. }
+            | Verb::ReadNext { file, .. }
+            | Verb::ReadPrev { file, .. }
+            | Verb::EndBr { file } => Some(file),
+            _ => None,
+        }
+    }
+
+    /// LENGTH of a command that reads, where it is given: how many bytes the task takes.
+    pub fn length(&self) -> Option<u64>
+        ensures { result ≡ length_of self.now }
+    {
+        match self {
+            Verb::Read { length, .. } => *length,
+            Verb::ReadNext { length, .. } => *length,
+            Verb::ReadPrev { length, .. } => *length,
+            Verb::ReadqTs { length, .. } => *length,
+            Verb::ReadqTd { length, .. } => *length,
+            _ => None,
+        }
+    }
 }

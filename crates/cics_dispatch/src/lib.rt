@@ -5,11 +5,19 @@
 //! now, a region of one task over files, whose own definitions are in `specs/OneTask`.
 #![tactic(auto)]
 
+mod browses;
 mod checks;
 mod commands;
+mod faults;
 mod one_task;
 mod outcomes;
 mod reads;
+mod regions;
+mod replies;
+mod task;
+mod tasks;
+mod updates;
+mod waits;
 
 pub use commands::{Command, Verb};
 pub use one_task::Region;

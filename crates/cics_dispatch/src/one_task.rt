@@ -74,6 +74,22 @@ fn move_back(mut copies: Vec<(Name8, File)>, files: &mut Files)
     }
 }
 
+impl Verb {
+    ghost use Rattle.cics_dispatch.specs.OneTask.{is_first_path};
+
+    /// Whether a region of one task executes this command: READ without UPDATE, WRITE, SYNCPOINT
+    /// without ROLLBACK, and RETURN.
+    pub fn is_first_path(&self) -> bool
+        ensures { result ≡ is_first_path self.now }
+    {
+        match self {
+            Verb::Read { update, .. } => !*update,
+            Verb::Write { .. } | Verb::Syncpoint | Verb::Return => true,
+            _ => false,
+        }
+    }
+}
+
 impl Region {
     ghost use Rattle.cics_dispatch.specs.OneTask.{OneTask, AreInOrder, opened, attached, issued, is_first_path, may_want, IsStep, IsBackedOut, IfAbended, listing_of, answered, abended, ended_task, refusal_of, with_written, written_to, tasks_listed};
 

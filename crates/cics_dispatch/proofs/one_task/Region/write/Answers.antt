@@ -11,7 +11,7 @@ returns-clause-backed_out c =
     let mid = c.write_in_unit.new.self in
     let file = c.in-Some.file.now in
     let content = c.in_ok-content.content in
-    let inside : Some file ≡ value_at c.args.name c.self.inside.files = c.in-Some.ensures in
+    let inside : Some file ≡ value_at c.args.name c.self.inside.files = c.in-Some.ensures.file in
     let found : value_at c.args.name old.files ≡ Some file = sym (inside ∙ ap (λ s. value_at c.args.name s.files) c.self.view_is) in
     backed_out-written old mid c.answer-2.new.self c.args.name file content found
     (subst (λ o. IfSome o (λ file. mid ≡ with_written old c.args.name file content)) found c.in_ok-condition.ensures.state)

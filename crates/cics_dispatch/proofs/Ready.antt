@@ -1,0 +1,236 @@
+-- A command whose checks have passed asks for an updating command that is ready to be executed, on a file and with a key
+-- of no more bytes than a key may have.
+use Rattle.std.specs.Prelude.{◌≡◌, ℕ, ◌+◌, ◌≤◌, Bool, true, false, not, ◌&&◌, ◌||◌, Option, Some, None, is_some, nat_le, option_map, length, [], ◌∷◌, refl}
+use Rattle.std.proofs.Common.{sym, subst, arith}
+use Rattle.std.proofs.lemmas.Bool.{leb-true, eqb-true}
+use Rattle.cics_names.specs.Keyed.{Bytes, value_at, is_same}
+use Rattle.cics_names.specs.KeyedLaws.{is_same-self}
+use Rattle.cics_names.specs.declared.conditions.Condition.{Condition}
+use Rattle.cics_names.specs.declared.conditions.Condition.TheVariants.{Invreq, Lengerr}
+use Rattle.cics_ksds.specs.Files.{key_of as key_in, fits_file}
+use Rattle.cics_ksds.specs.declared.definition.FileDef.{FileDef}
+use Rattle.cics_units.specs.Openings.{FileOpening, is_key}
+use Rattle.cics_units.specs.Execution.{is_fit_for, is_ready_op}
+use Rattle.cics_units.specs.declared.ops.Op.{Op}
+use Rattle.cics_units.specs.declared.ops.Op.TheVariants as op
+use Rattle.cics_units.specs.declared.ops.Op.TheVariants.{TsWrite, TsRewrite, TsDelete, TdWrite, TdRead, TdDelete}
+use Rattle.cics_dispatch.specs.Lengths.{fault_unless, first_fault, is_length_given, is_key_length, key_fault, is_within, used_of, from_fault, own_key_fault, write_fault}
+use Rattle.cics_dispatch.specs.Machine.{Machine, Task, definition_of}
+use Rattle.cics_dispatch.specs.Checks.{defined_fault, open_key, read_fault, rewrite_fault, delete_fault, fault_of}
+use Rattle.cics_dispatch.specs.Steps.{op_of}
+use Rattle.cics_dispatch.specs.Faults.{file_named}
+use Rattle.cics_dispatch.specs.Verbs.{asks_no_queue}
+use Rattle.cics_dispatch.specs.declared.commands.Verb.{Verb}
+use Rattle.cics_dispatch.specs.declared.commands.Verb.TheVariants.{Read, Write, Rewrite, Delete}
+
+-- a command on a record of a file
+abbrev pub is_file_op : Op → Bool
+is_file_op (op.Write f k r) = true
+is_file_op (op.Rewrite f k r) = true
+is_file_op (op.Delete f k) = true
+is_file_op (op.ReadUpdate f k) = true
+is_file_op (op.TsWrite q d) = false
+is_file_op (op.TsRewrite q n d) = false
+is_file_op (op.TsDelete q) = false
+is_file_op (op.TdWrite q d) = false
+is_file_op (op.TdRead q) = false
+is_file_op (op.TdDelete q) = false
+
+-- the key that such a command names
+abbrev pub key_of : Op → Bytes
+key_of (op.Write f k r) = k
+key_of (op.Rewrite f k r) = k
+key_of (op.Delete f k) = k
+key_of (op.ReadUpdate f k) = k
+key_of _ = []
+
+-- ---- Checks that have passed
+
+-- where no fault is the first, each check has passed
+two_pass : (a b : Option Condition) → first_fault (a ∷ b ∷ []) ≡ None → (a ≡ None) × (b ≡ None)
+two_pass None None e = (refl, refl)
+two_pass None (Some c) e = cc
+two_pass (Some c) b e = cc
+
+three_pass : (a b c : Option Condition) → first_fault (a ∷ b ∷ c ∷ []) ≡ None → (a ≡ None) × (b ≡ None) × (c ≡ None)
+three_pass None b c e = let rest = two_pass b c e in (refl, rest.0, rest.1)
+three_pass (Some x) b c e = cc
+
+-- a check without a fault has passed
+pub holds : (p : Bool) (c : Condition) → fault_unless p c ≡ None → p ≡ true
+holds true c e = refl
+holds false c e = cc
+
+pub both : (a b : Bool) → (a && b) ≡ true → (a ≡ true) × (b ≡ true)
+both true b e = (refl, e)
+both false b e = cc
+
+and_both : (a b : Bool) → a ≡ true → b ≡ true → (a && b) ≡ true
+and_both true b e1 e2 = e2
+and_both false b e1 e2 = cc
+
+-- the file of a command that passes its checks is defined
+defined : (file : Option FileOpening) (check : FileDef → Option Condition) → defined_fault (option_map (λ e. e.definition) file) check ≡ None → is_some file ≡ true
+defined None check e = cc
+defined (Some file) check e = refl
+
+-- what is written fits, with the key that lies in it
+fit : (d : FileDef) (k from : Bytes) (n : Option ℕ) → from_fault d from n ≡ None → own_key_fault d k from n ≡ None →
+    (fits_file d (used_of from n) && is_same (key_in d (used_of from n)) k) ≡ true
+fit d k from n lengths own =
+    and_both (fits_file d (used_of from n)) (is_same (key_in d (used_of from n)) k)
+    (both (is_within from n) (fits_file d (used_of from n)) (holds (is_within from n && fits_file d (used_of from n)) Lengerr lengths)).1
+    (holds (is_same (key_in d (used_of from n)) k) Invreq own)
+
+-- WRITE
+fit_to_write : (file : Option FileOpening) (k : Bytes) (given : Option ℕ) (from : Bytes) (n : Option ℕ) →
+    defined_fault (option_map (λ e. e.definition) file) (λ d. write_fault d k given from n) ≡ None → is_fit_for file k (used_of from n) ≡ true
+fit_to_write None k given from n e = cc
+fit_to_write (Some file) k given from n e =
+    let d = file.definition in
+    let passed = three_pass (key_fault d k given false) (from_fault d from n) (own_key_fault d k from n) e in
+    fit d k from n passed.1 passed.2
+
+-- REWRITE with an update read
+fit_to_rewrite : (file : Option FileOpening) (k : Bytes) (from : Bytes) (n : Option ℕ) →
+    defined_fault (option_map (λ e. e.definition) file) (λ d. rewrite_fault d (Some k) from n) ≡ None → is_fit_for file k (used_of from n) ≡ true
+fit_to_rewrite None k from n e = cc
+fit_to_rewrite (Some file) k from n e =
+    let d = file.definition in
+    let passed = two_pass (from_fault d from n) (own_key_fault d k from n) e in
+    fit d k from n passed.0 passed.1
+
+-- READ UPDATE finds no update read open
+none_open : (o : Option FileDef) (k : Option Bytes) (key : Bytes) (given : Option ℕ) (generic gteq : Bool) →
+    defined_fault o (λ d. read_fault d k key given generic gteq true) ≡ None → not (is_some k) ≡ true
+none_open None k key given generic gteq e = cc
+none_open (Some d) k key given generic gteq e =
+    let passed = three_pass (fault_unless (not (gteq || generic)) Invreq) (key_fault d key given generic) (fault_unless (not (is_some k)) Invreq) e in
+    holds (not (is_some k)) Invreq passed.2
+
+-- a key of the right length is no longer than a key may be
+within : (d : FileDef) (n : ℕ) (generic : Bool) → is_key d ≡ true → is_key_length d generic n ≡ true → n ≤ 255
+within d n generic lawful right = of generic right where
+  at_most : d.key_length ≤ 255
+  at_most =
+      leb-true d.key_length 255
+      (both (nat_le 1 d.key_length) (nat_le d.key_length 255)
+      (both (nat_le 1 d.key_length && nat_le d.key_length 255) (nat_le (d.key_offset + d.key_length) d.record_size) lawful).0).1
+
+  of : (generic : Bool) → is_key_length d generic n ≡ true → n ≤ 255
+  of true right = let below = leb-true n d.key_length right in omega (arith, at_most, below)
+  of false right = let same = eqb-true n d.key_length right in omega (arith, at_most, same)
+
+key_within : (d : FileDef) (key : Bytes) (given : Option ℕ) (generic : Bool) → is_key d ≡ true → key_fault d key given generic ≡ None → length key ≤ 255
+key_within d key given generic lawful passes =
+    within d (length key) generic lawful
+    (both (is_length_given given (length key)) (is_key_length d generic (length key))
+    (holds (is_length_given given (length key) && is_key_length d generic (length key)) Invreq passes)).1
+
+-- so is the key of a command whose checks have passed
+key_short : (o : Option FileDef) (check : FileDef → Option Condition) (key : Bytes) (given : Option ℕ) (generic : Bool) →
+    ((d : FileDef) → o ≡ Some d → is_key d ≡ true) → ((d : FileDef) → check d ≡ None → key_fault d key given generic ≡ None) →
+    defined_fault o check ≡ None → length key ≤ 255
+key_short None check key given generic lawful first e = cc
+key_short (Some d) check key given generic lawful first e = key_within d key given generic (lawful d refl) (first d e)
+
+-- ---- What is ready
+
+-- a REWRITE that has its update read
+rewrite_ready : (m : Machine) (t : Task) (f from : Bytes) (n : Option ℕ) (o : Option Bytes) (c : Op) → open_key m t f ≡ o →
+    defined_fault (definition_of m f) (λ d. rewrite_fault d o from n) ≡ None → option_map (λ key. op.Rewrite f key (used_of from n)) o ≡ Some c →
+    is_ready_op m.units t.unit c ≡ true
+rewrite_ready m t f from n None c there passes is = cc
+rewrite_ready m t f from n (Some k) c there passes is =
+    let e : op.Rewrite f k (used_of from n) ≡ c = cc in
+    let fits = fit_to_rewrite (value_at f m.units.opening.files) k from n passes in
+    subst (λ c. is_ready_op m.units t.unit c ≡ true) e (rw (there, fits) (is_same-self k))
+
+-- a DELETE of the record that was read
+delete_ready : (m : Machine) (t : Task) (f : Bytes) (given : Option ℕ) (o : Option Bytes) (c : Op) →
+    defined_fault (definition_of m f) (λ d. delete_fault d o None given) ≡ None → option_map (λ key. op.Delete f key) o ≡ Some c →
+    is_ready_op m.units t.unit c ≡ true
+delete_ready m t f given None c passes is = cc
+delete_ready m t f given (Some k) c passes is =
+    let e : op.Delete f k ≡ c = cc in
+    subst (λ c. is_ready_op m.units t.unit c ≡ true) e (defined (value_at f m.units.opening.files) (λ d. delete_fault d (Some k) None given) passes)
+
+-- a command whose checks have passed is ready
+pub ready_of : (m : Machine) (t : Task) (verb : Verb) (c : Op) → fault_of m t verb ≡ None → op_of m t verb ≡ Some c → asks_no_queue verb ≡ true →
+    is_ready_op m.units t.unit c ≡ true
+ready_of m t (Read f key given n generic gteq false) c passes is asks = cc
+ready_of m t (Read f key given n generic gteq true) c passes is asks =
+    let e : op.ReadUpdate f key ≡ c = cc in
+    let file = value_at f m.units.opening.files in
+    subst (λ c. is_ready_op m.units t.unit c ≡ true) e
+    (and_both (is_some file) (not (is_some (open_key m t f)))
+    (defined file (λ d. read_fault d (open_key m t f) key given generic gteq true) passes)
+    (none_open (definition_of m f) (open_key m t f) key given generic gteq passes))
+ready_of m t (Write f key given from n) c passes is asks =
+    let e : op.Write f key (used_of from n) ≡ c = cc in
+    subst (λ c. is_ready_op m.units t.unit c ≡ true) e (fit_to_write (value_at f m.units.opening.files) key given from n passes)
+ready_of m t (Rewrite f from n) c passes is asks = rewrite_ready m t f from n (open_key m t f) c refl passes is
+ready_of m t (Delete f (Some key) given) c passes is asks =
+    let e : op.Delete f key ≡ c = cc in
+    subst (λ c. is_ready_op m.units t.unit c ≡ true) e (defined (value_at f m.units.opening.files) (λ d. delete_fault d (open_key m t f) (Some key) given) passes)
+ready_of m t (Delete f None given) c passes is asks = delete_ready m t f given (open_key m t f) c passes is
+ready_of m t verb c passes is asks = cc
+
+-- it is a command on a file
+pub is_file_op_of : (m : Machine) (t : Task) (verb : Verb) (c : Op) → op_of m t verb ≡ Some c → asks_no_queue verb ≡ true → is_file_op c ≡ true
+is_file_op_of m t (Read f key given n generic gteq false) c is asks = cc
+is_file_op_of m t (Read f key given n generic gteq true) c is asks = let e : op.ReadUpdate f key ≡ c = cc in subst (λ c. is_file_op c ≡ true) e refl
+is_file_op_of m t (Write f key given from n) c is asks = let e : op.Write f key (used_of from n) ≡ c = cc in subst (λ c. is_file_op c ≡ true) e refl
+is_file_op_of m t (Rewrite f from n) c is asks = of (open_key m t f) is where
+  of : (o : Option Bytes) → option_map (λ key. op.Rewrite f key (used_of from n)) o ≡ Some c → is_file_op c ≡ true
+  of None is = cc
+  of (Some k) is = let e : op.Rewrite f k (used_of from n) ≡ c = cc in subst (λ c. is_file_op c ≡ true) e refl
+is_file_op_of m t (Delete f (Some key) given) c is asks = let e : op.Delete f key ≡ c = cc in subst (λ c. is_file_op c ≡ true) e refl
+is_file_op_of m t (Delete f None given) c is asks = of (open_key m t f) is where
+  of : (o : Option Bytes) → option_map (λ key. op.Delete f key) o ≡ Some c → is_file_op c ≡ true
+  of None is = cc
+  of (Some k) is = let e : op.Delete f k ≡ c = cc in subst (λ c. is_file_op c ≡ true) e refl
+is_file_op_of m t verb c is asks = cc
+
+-- the key that was read, where the command takes it over
+of_read : (make : Bytes → Op) (o : Option Bytes) (c : Op) → ((k : Bytes) → key_of (make k) ≡ k) → ((k : Bytes) → o ≡ Some k → length k ≤ 255) →
+    option_map make o ≡ Some c → length (key_of c) ≤ 255
+of_read make None c same were_short is = cc
+of_read make (Some k) c same were_short is =
+    let e : make k ≡ c = cc in
+    subst (λ c. length (key_of c) ≤ 255) e (subst (λ key. length key ≤ 255) (sym (same k)) (were_short k refl))
+
+-- its key has no more bytes than a key may have, where the definition of its file is lawful and so is the key that was read
+pub named_key_short : (m : Machine) (t : Task) (verb : Verb) →
+    ((f : Bytes) (d : FileDef) → file_named verb ≡ Some f → definition_of m f ≡ Some d → is_key d ≡ true) →
+    ((f k : Bytes) → file_named verb ≡ Some f → open_key m t f ≡ Some k → length k ≤ 255) →
+    (c : Op) → fault_of m t verb ≡ None → op_of m t verb ≡ Some c → asks_no_queue verb ≡ true → length (key_of c) ≤ 255
+named_key_short m t (Read f key given n generic gteq false) lawful were_short c passes is asks = cc
+named_key_short m t (Read f key given n generic gteq true) lawful were_short c passes is asks =
+    let e : op.ReadUpdate f key ≡ c = cc in
+    let open_read = open_key m t f in
+    subst (λ c. length (key_of c) ≤ 255) e
+    (key_short (definition_of m f) (λ d. read_fault d open_read key given generic gteq true) key given generic (λ d. lawful f d refl)
+    (λ d none. (three_pass (fault_unless (not (gteq || generic)) Invreq) (key_fault d key given generic) (fault_unless (not (is_some open_read)) Invreq) none).1)
+    passes)
+named_key_short m t (Write f key given from n) lawful were_short c passes is asks =
+    let e : op.Write f key (used_of from n) ≡ c = cc in
+    subst (λ c. length (key_of c) ≤ 255) e
+    (key_short (definition_of m f) (λ d. write_fault d key given from n) key given false (λ d. lawful f d refl)
+    (λ d none. (three_pass (key_fault d key given false) (from_fault d from n) (own_key_fault d key from n) none).0) passes)
+named_key_short m t (Rewrite f from n) lawful were_short c passes is asks =
+    of_read (λ key. op.Rewrite f key (used_of from n)) (open_key m t f) c (λ k. refl) (λ k. were_short f k refl) is
+named_key_short m t (Delete f (Some key) given) lawful were_short c passes is asks =
+    let e : op.Delete f key ≡ c = cc in
+    subst (λ c. length (key_of c) ≤ 255) e
+    (key_short (definition_of m f) (λ d. key_fault d key given false) key given false (λ d. lawful f d refl)
+    (λ d none. none) passes)
+named_key_short m t (Delete f None given) lawful were_short c passes is asks =
+    of_read (λ key. op.Delete f key) (open_key m t f) c (λ k. refl) (λ k. were_short f k refl) is
+named_key_short m t verb lawful were_short c passes is asks = cc
+
+-- the same, where the definitions of all files are lawful and so are all keys that were read
+pub key_of_op_short : (m : Machine) (t : Task) → ((f : Bytes) (d : FileDef) → definition_of m f ≡ Some d → is_key d ≡ true) →
+    ((f k : Bytes) → open_key m t f ≡ Some k → length k ≤ 255) →
+    (verb : Verb) (c : Op) → fault_of m t verb ≡ None → op_of m t verb ≡ Some c → asks_no_queue verb ≡ true → length (key_of c) ≤ 255
+key_of_op_short m t lawful were_short verb = named_key_short m t verb (λ f d named. lawful f d) (λ f k named. were_short f k)

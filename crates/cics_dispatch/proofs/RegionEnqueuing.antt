@@ -1,0 +1,93 @@
+-- ENQ and DEQ leave what a region keeps, and the task stands where it stood.
+use Rattle.std.specs.Prelude.{◌≡◌, ℕ, if◌then◌else◌, Bool, true, false, Option, Some, None, slice_get, List, refl}
+use Rattle.std.proofs.Common.{sym, ap, ◌∙◌, subst}
+use Rattle.std.proofs.lemmas.Bool.{false≢true}
+use Rattle.cics_names.specs.Keyed.{Bytes}
+use Rattle.cics_names.specs.declared.conditions.Condition.TheVariants.{Normal, Invreq, Enqbusy}
+use Rattle.cics_units.specs.Execution.{UnitsValue, unit_or_next, enqueue, enq_of, after_enqueue, after_enqueued}
+use Rattle.cics_units.specs.Holding.{UnitsState, value_holder}
+use Rattle.cics_units.specs.Headline.{IsHeadline}
+use Rattle.cics_units.specs.declared.ops.Enqueued.TheVariants.{Taken, CountFull}
+use Rattle.cics_dispatch.specs.Machine.{Machine, Task, Suspended, replaced, is_waiting, with_units, with_task, with_unit}
+use Rattle.cics_dispatch.specs.Replies.{plain}
+use Rattle.cics_dispatch.specs.Steps.{answered, made_to_wait, busy_of, enqueued, dequeued, units_dequeued}
+use Rattle.cics_dispatch.specs.Regions.{region_of, IsRegionKept}
+use Rattle.cics_dispatch.specs.Tasks.{HasNoOwner}
+use Rattle.cics_dispatch.specs.declared.commands.Command.{Command}
+use Rattle.cics_dispatch.specs.declared.commands.Verb.TheVariants.{Enq}
+use Rattle.cics_dispatch.specs.declared.outcomes.Reply.{Reply}
+use Rattle.cics_dispatch.proofs.KeptTasks.{with_task_placed, kept_enqueued, kept_dequeued, no_owner_next}
+use Rattle.cics_dispatch.proofs.OwnedUnits.{owned_enqueued, owned_dequeued}
+use Rattle.cics_dispatch.proofs.RegionSteps.{kept_as}
+
+-- an ENQ with NOSUSPEND is told that its value is busy
+pub busy_answered : (m : Machine) (t : Task) (resource : Bytes) (n : ℕ) (nosuspend resp : Bool) (holder : ℕ) (r : Reply) → nosuspend ≡ true → r ≡ plain Enqbusy →
+    answered m t resp r ≡ made_to_wait m t (record { verb = Enq resource n nosuspend; resp = resp }) holder (busy_of (Enq resource n nosuspend))
+busy_answered m t resource n true resp holder r is told = ap (answered m t resp) told
+busy_answered m t resource n false resp holder r is told = absurd (false≢true is)
+
+-- ---- DEQ
+module _ (units : UnitsValue) (tasks : List Task) (waiting : List Suspended) (clock : ℕ) (kept : IsRegionKept (region_of units tasks waiting clock))
+    (at : ℕ) (t : Task) (there : slice_get tasks at ≡ Some t) (value : Bytes) (after : UnitsValue) (state : after.state ≡ units_dequeued units.state t.unit value) where
+  abbrev machine : Machine
+  machine = (region_of units tasks waiting clock).machine
+
+  -- the tasks stay, and each open unit is its task's
+  pub dequeued_kept : is_waiting waiting t.label ≡ false → IsHeadline after → IsRegionKept (region_of after tasks waiting clock)
+  dequeued_kept awake headline =
+      kept_as (region_of after tasks waiting clock) (dequeued machine t.unit value) (λ i. with_units machine (state i))
+      (kept_dequeued machine at t kept.tasks there awake value) (owned_dequeued machine t.unit value kept.owned) (record { headline = headline })
+
+  -- the task is told that it is done
+  pub dequeue_answered : (resp : Bool) (r : Reply) → r ≡ plain Normal →
+      answered (region_of after tasks waiting clock).machine t resp r ≡ answered (dequeued machine t.unit value) t resp (plain Normal)
+  dequeue_answered resp r told = λ i. answered (with_units machine (state i)) t resp (told i)
+
+-- ---- ENQ
+
+-- an ENQ takes its value for its task's unit, or for the next one
+takes_for : (s : UnitsState) (u : Option ℕ) (value : Bytes) (unit : ℕ) → enqueue s u value ≡ Taken unit → unit_or_next u s.outcomes ≡ unit
+takes_for s u value unit = by (value_holder s u value)
+  where
+    full : (b : Bool) → (if b then CountFull else Taken (unit_or_next u s.outcomes)) ≡ Taken unit → unit_or_next u s.outcomes ≡ unit
+    full true is = cc
+    full false is = cc
+
+    by : (holder : Option ℕ) → enq_of s u value holder ≡ Taken unit → unit_or_next u s.outcomes ≡ unit
+    by (Some holder) is = cc
+    by None is = full _ is
+
+module _ (units : UnitsValue) (tasks : List Task) (waiting : List Suspended) (clock : ℕ) (kept : IsRegionKept (region_of units tasks waiting clock))
+    (at : ℕ) (t : Task) (there : slice_get tasks at ≡ Some t) (value : Bytes) (after : UnitsValue) (state : after.state ≡ after_enqueue units.state t.unit value) where
+  abbrev m : Machine
+  m = (region_of units tasks waiting clock).machine
+
+  -- one of a value that the unit holds the most times leaves the units, and is told so
+  pub full_step : (ts : List Task) → ts ≡ tasks → (c : Command) (r : Reply) → enqueue units.state t.unit value ≡ CountFull → r ≡ plain Invreq →
+      answered (region_of after ts waiting clock).machine t c.resp r ≡ enqueued m t c value (enqueue units.state t.unit value)
+  full_step ts same c r full told =
+      (λ i. answered (record m { units = (state ∙ ap (after_enqueued units.state t.unit value) full) i; tasks = same i }) t c.resp (told i)) ∙ ap (enqueued m t c value) (sym full)
+
+  -- one that takes its value makes its unit the task's
+  module _ (unit : ℕ) (taken : enqueue units.state t.unit value ≡ Taken unit) where
+    -- no other task has the unit that begins
+    pub owner_free : t.unit ≡ None → HasNoOwner tasks unit
+    owner_free none = subst (HasNoOwner tasks) (ap (λ u. unit_or_next u units.state.outcomes) (sym none) ∙ takes_for units.state t.unit value unit taken) (no_owner_next m kept.tasks)
+
+    module _ (ts : List Task) (is : ts ≡ replaced tasks (with_unit t unit)) where
+      -- the task stands where it stood
+      pub owner_there : slice_get ts at ≡ Some (with_unit t unit)
+      owner_there = ap (λ l. slice_get l at) is ∙ with_task_placed m at t (with_unit t unit) kept.tasks there refl
+
+      taken_machine : (region_of after ts waiting clock).machine ≡ with_task (with_units m (after_enqueue units.state t.unit value)) (with_unit t unit)
+      taken_machine = λ i. record { units = state i; tasks = is i; waiting = waiting; clock = clock }
+
+      pub taken_kept : is_waiting waiting t.label ≡ false → IsHeadline after → IsRegionKept (region_of after ts waiting clock)
+      taken_kept awake headline =
+          kept_as (region_of after ts waiting clock) _ taken_machine
+          (kept_enqueued m at t kept.tasks there awake value unit taken) (owned_enqueued m t at there kept.tasks.labels kept.owned value unit taken) (record { headline = headline })
+
+      -- the task is told that the value is its own
+      pub taken_step : (c : Command) (r : Reply) → r ≡ plain Normal →
+          answered (region_of after ts waiting clock).machine (with_unit t unit) c.resp r ≡ enqueued m t c value (enqueue units.state t.unit value)
+      taken_step c r told = (λ i. answered (taken_machine i) (with_unit t unit) c.resp (told i)) ∙ ap (enqueued m t c value) (sym taken)

@@ -1,0 +1,163 @@
+-- The commands of the tasks of a region: what their checks tell, and what they answer.
+use Rattle.std.specs.Prelude.{◌≡◌, ℕ, ◌≤◌, ◌&&◌, if◌then◌else◌, Bool, true, false, Option, Some, None, is_some, is_none, nat_le, Result, Ok, Err, IfOk, IfSome, OnErr, IsTrue, IsErr, IsErrAnd, option_map, length, slice_get, refl}
+use Rattle.std.specs.Option.{option_copied}
+use Rattle.std.proofs.Common.{◌∙◌, sym, ap, subst}
+use Rattle.std.proofs.lemmas.Bool.{false≢true, leb-true}
+use Rattle.cics_names.specs.Keyed.{Bytes, value_at}
+use Rattle.cics_names.specs.declared.conditions.Condition.{Condition}
+use Rattle.cics_names.specs.declared.conditions.Condition.TheVariants.{Lengerr}
+use Rattle.cics_browse.specs.Positions.{Position}
+use Rattle.cics_ksds.specs.declared.definition.FileDef.{FileDef}
+use Rattle.cics_units.specs.Openings.{is_key}
+use Rattle.cics_units.specs.TableInPlace.{key_of}
+use Rattle.cics_units.specs.declared.ops.Op.{Op}
+use Rattle.cics_dispatch.specs.Machine.{Machine, Task, RegionValue, definition_of, task_at, is_waiting}
+use Rattle.cics_dispatch.specs.Checks.{defined_fault, browse_fault, back_fault, resource_fault, fault_of, open_key}
+use Rattle.cics_dispatch.specs.Faults.{file_named, is_generic, fault_by_file}
+use Rattle.cics_dispatch.specs.Steps.{Stepped, op_of, by_op, performed, other_command, checked, issue_refusal, refused_or, issued_by, issued}
+use Rattle.cics_dispatch.specs.Answers.{is_growing, passes_checks, may_want, IsStep}
+use Rattle.cics_dispatch.specs.Updates.{verb_op}
+use Rattle.cics_dispatch.specs.Verbs.{asks_no_queue}
+use Rattle.cics_dispatch.specs.declared.commands.Command.{Command}
+use Rattle.cics_dispatch.specs.declared.commands.Verb.{Verb}
+use Rattle.cics_dispatch.specs.declared.commands.Verb.TheVariants.{Unlock, ResetBr, ReadNext, ReadPrev, EndBr, Enq, Deq, Syncpoint, Rollback, Return, Abend}
+use Rattle.cics_dispatch.specs.declared.outcomes.Outcome.{Outcome}
+use Rattle.cics_dispatch.specs.declared.outcomes.Refused.{Refused}
+use Rattle.cics_dispatch.specs.declared.outcomes.Refused.TheVariants.{NoMemory, TaskEnded, TaskWaiting}
+use Rattle.cics_dispatch.proofs.TaskPlaces.{place_of_task}
+use Rattle.cics_dispatch.proofs.Asked.{op_of-named, fault_of-named}
+use Rattle.cics_dispatch.proofs.Ready.{both, holds, named_key_short}
+
+-- ---- The updating command that is asked for
+
+-- of a result that is one thing, what holds of that thing holds
+pub IfOk-is : {A E : Type 0} (P : A → Type 0) (r : Result A E) (x : A) → IfOk r (λ a. a ≡ x) → P x → IfOk r P
+IfOk-is P (Ok a) x is p = subst P (sym is) p
+IfOk-is P (Err e) x is p = tt
+
+-- its key has no more bytes than a key may have, where that is so wherever it is there
+pub short_if : (o : Option Op) → ((c : Op) → o ≡ Some c → length (key_of c) ≤ 255) → IfSome o (λ c. length (key_of c) ≤ 255)
+short_if None short = tt
+short_if (Some c) short = short c refl
+
+-- the key of the updating command that a command on a file asks for, told by the file's definition and the key of its
+-- task's open update read, has no more bytes than a key may have
+pub op_short : (m : Machine) (t : Task) (verb : Verb) (f : Bytes) (definition : Option FileDef) (open_read : Option Bytes) →
+    asks_no_queue verb ≡ true → fault_of m t verb ≡ None → file_named verb ≡ Some f → definition_of m f ≡ definition →
+    ((d : FileDef) → definition ≡ Some d → is_key d ≡ true) → open_read ≡ open_key m t f → ((k : Bytes) → open_read ≡ Some k → length k ≤ 255) →
+    IfSome (verb_op open_read verb) (λ c. length (key_of c) ≤ 255)
+op_short m t verb f definition open_read asks passes named is_definition lawful is_open short =
+    short_if (verb_op open_read verb) (λ c is.
+    named_key_short m t verb
+    (λ g d other there. lawful d (sym is_definition ∙ ap (definition_of m) (one_file g other) ∙ there))
+    (λ g k other there. short k (is_open ∙ ap (open_key m t) (one_file g other) ∙ there)) c passes
+    (op_of-named m t f verb named ∙ ap (λ x. verb_op x verb) (sym is_open) ∙ is) asks)
+  where
+    one_file : (g : Bytes) → file_named verb ≡ Some g → f ≡ g
+    one_file g other = cc
+
+-- a command that asks for an updating command takes memory
+pub op_grows : (m : Machine) (t : Task) (verb : Verb) (c : Op) → op_of m t verb ≡ Some c → is_growing verb ≡ true
+op_grows m t (Unlock f) c is = cc
+op_grows m t (ResetBr f key given generic equal) c is = cc
+op_grows m t (EndBr f) c is = cc
+op_grows m t (Deq value n) c is = cc
+op_grows m t Syncpoint c is = cc
+op_grows m t Rollback c is = cc
+op_grows m t Return c is = cc
+op_grows m t (Abend code) c is = cc
+op_grows m t verb c is = refl
+
+-- what holds holds of a refusal
+pub on_error : {A E Q : Type 0} (r : Result A E) → Q → OnErr r Q
+on_error (Ok a) q = tt
+on_error (Err e) q = q
+
+-- a command that asks for no updating command is another command
+pub performed_other : (m : Machine) (t : Task) (c : Command) → op_of m t c.verb ≡ None → other_command m t c c.verb ≡ performed m t c
+performed_other m t c none = ap (by_op m t c) (sym none)
+
+-- ---- A command that is issued
+
+module _ (m : Machine) (label : Bytes) (c : Command) (t : Task) (is : task_at m.tasks label ≡ Some t) where
+  -- whether it is refused
+  refusal : (ended waits : Bool) → t.has_ended ≡ ended → is_waiting m.waiting label ≡ waits →
+      issue_refusal m (task_at m.tasks label) ≡ (if ended then Some TaskEnded else if waits then Some TaskWaiting else None)
+  refusal ended waits has waiting =
+      ap (issue_refusal m) is
+      ∙ (λ i. if has i then Some TaskEnded else if (ap (is_waiting m.waiting) (place_of_task m.tasks label t is).2 ∙ waiting) i then Some TaskWaiting else None)
+
+  -- of a task that waits it is refused
+  pub issued_waiting : t.has_ended ≡ false → is_waiting m.waiting label ≡ true → (issued m label c).outcome ≡ Err TaskWaiting
+  issued_waiting has waiting =
+      ap (λ o. (issued_by m c o).outcome) is
+      ∙ ap (λ r. (refused_or m r (checked m t c (fault_of m t c.verb))).outcome) (sym (ap (issue_refusal m) is) ∙ refusal false true has waiting)
+
+  -- of a task that goes on it is checked
+  pub issued_checked : (fault : Option Condition) → t.has_ended ≡ false → is_waiting m.waiting label ≡ false → fault_of m t c.verb ≡ fault →
+      issued m label c ≡ refused_or m None (checked m t c fault)
+  issued_checked fault has waiting checks =
+      ap (issued_by m c) is
+      ∙ (λ i. refused_or m ((sym (ap (issue_refusal m) is) ∙ refusal false false has waiting) i) (checked m t c (checks i)))
+
+  -- and it may want memory where it takes some and its checks have passed
+  pub wants_memory : t.has_ended ≡ false → is_waiting m.waiting label ≡ false → fault_of m t c.verb ≡ None → is_growing c.verb ≡ true → may_want m label c ≡ true
+  wants_memory has waiting passes grows =
+      (λ i. is_none (refusal false false has waiting i) && grows i && (ap (passes_checks m c.verb) is ∙ ap is_none passes) i)
+
+-- a refusal for want of memory, which may come and changes nothing, is the step's
+pub refused_memory : {X : Type 0} (wants : Bool) (old : RegionValue) (s : Stepped (Result X Refused)) (r : Result X Refused) (new : RegionValue) →
+    IsErr r × IsErrAnd r (λ e. e ≡ NoMemory) → wants ≡ true → new ≡ old → IsStep wants old s r new
+refused_memory wants old s (Ok x) new is may same = absurd (false≢true is.0)
+refused_memory wants old s (Err e) new is may same = subst (λ e. IsStep wants old s (Err e) new) (sym is.1) (may, same)
+
+-- ---- A command that updates nothing
+
+-- the file of a command whose checks have passed is defined
+pub file_there : (m : Machine) (t : Task) (verb : Verb) (f : Bytes) → asks_no_queue verb ≡ true → file_named verb ≡ Some f → fault_of m t verb ≡ None →
+    is_some (definition_of m f) ≡ true
+file_there m t verb f asks named passes =
+    by (definition_of m f) (open_key m t f) (is_generic (value_at f t.browses))
+    (subst (λ n. fault_by_file n (definition_of m f) (open_key m t f) (is_generic (value_at f t.browses)) verb ≡ None) named
+    (sym (fault_of-named m t f verb asks named) ∙ passes))
+  where
+    by : (o : Option FileDef) (open_read : Option Bytes) (browse : Option Bool) → fault_by_file (Some f) o open_read browse verb ≡ None → is_some o ≡ true
+    by None open_read browse e = cc
+    by (Some d) open_read browse e = refl
+
+-- the browse of a READNEXT whose checks have passed is open
+pub browse_there : (m : Machine) (t : Task) (verb : Verb) (f : Bytes) (n : Option ℕ) → verb ≡ ReadNext f n → fault_of m t verb ≡ None →
+    is_some (value_at f t.browses) ≡ true
+browse_there m t verb f n is passes = by (definition_of m f) (value_at f t.browses) (subst (λ v. fault_of m t v ≡ None) is passes)
+  where
+    by : (o : Option FileDef) (browse : Option Position) → defined_fault o (λ d. browse_fault browse) ≡ None → is_some browse ≡ true
+    by None browse e = cc
+    by (Some d) None e = cc
+    by (Some d) (Some p) e = refl
+
+-- and so is that of a READPREV
+pub back_there : (m : Machine) (t : Task) (verb : Verb) (f : Bytes) (n : Option ℕ) → verb ≡ ReadPrev f n → fault_of m t verb ≡ None →
+    is_some (value_at f t.browses) ≡ true
+back_there m t verb f n is passes = by (definition_of m f) (value_at f t.browses) (subst (λ v. fault_of m t v ≡ None) is passes)
+  where
+    by : (o : Option FileDef) (browse : Option Position) → defined_fault o (λ d. back_fault browse) ≡ None → is_some browse ≡ true
+    by None browse e = cc
+    by (Some d) None e = cc
+    by (Some d) (Some p) e = refl
+
+-- LENGTH of a value that has passed its check
+value_within : (value : Bytes) (n : ℕ) → resource_fault value n ≡ None → (1 ≤ n) × (n ≤ 255) × (n ≤ length value)
+value_within value n passes =
+    let parts = both (nat_le 1 n && nat_le n 255) (nat_le n (length value)) (holds (nat_le 1 n && nat_le n 255 && nat_le n (length value)) Lengerr passes) in
+    let bounds = both (nat_le 1 n) (nat_le n 255) parts.0 in
+    (leb-true 1 n bounds.0, leb-true n 255 bounds.1, leb-true n (length value) parts.1)
+
+-- LENGTH of an ENQ whose checks have passed
+pub enq_count : (m : Machine) (t : Task) (verb : Verb) (value : Bytes) (n : ℕ) (nosuspend : Bool) → verb ≡ Enq value n nosuspend → fault_of m t verb ≡ None →
+    (1 ≤ n) × (n ≤ 255) × (n ≤ length value)
+enq_count m t verb value n nosuspend is passes = value_within value n (subst (λ v. fault_of m t v ≡ None) is passes)
+
+-- LENGTH of a DEQ whose checks have passed
+pub deq_count : (m : Machine) (t : Task) (verb : Verb) (value : Bytes) (n : ℕ) → verb ≡ Deq value n → fault_of m t verb ≡ None →
+    (1 ≤ n) × (n ≤ 255) × (n ≤ length value)
+deq_count m t verb value n is passes = value_within value n (subst (λ v. fault_of m t v ≡ None) is passes)

@@ -1,0 +1,18 @@
+-- A region as it is kept: its machine, and the store of its units.
+use Rattle.std.specs.Prelude.{ℕ, List}
+use Rattle.cics_units.specs.Execution.{UnitsValue}
+use Rattle.cics_dispatch.specs.Machine.{Task, Suspended, RegionValue}
+use Rattle.cics_dispatch.specs.Answers.{IsHeadlineRegion}
+use Rattle.cics_dispatch.specs.KeptTasks.{AreTasksKept}
+use Rattle.cics_dispatch.specs.OwnedUnits.{AreUnitsOwned}
+
+-- the region that these parts are
+abbrev pub region_of : UnitsValue → List Task → List Suspended → ℕ → RegionValue
+region_of units tasks waiting clock =
+    record { machine = record { units = units.state; tasks = tasks; waiting = waiting; clock = clock }; store = units.store }
+
+-- what every call of a region keeps
+pub record IsRegionKept (r : RegionValue) : Type 0 where
+  pub tasks : AreTasksKept r.machine
+  pub owned : AreUnitsOwned r.machine
+  pub headline : IsHeadlineRegion r

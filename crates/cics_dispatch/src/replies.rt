@@ -1,0 +1,73 @@
+//! What a task is told of a read.
+
+ghost use Rattle.std.specs.Prelude.{◌≡◌, take};
+ghost use Rattle.cics_dispatch.specs.Replies.{cut};
+ghost use Rattle.cics_dispatch.specs.Steps.{browse_reply, reply_of};
+
+use crate::outcomes::{Number, Reply};
+use cics_browse::Browsed;
+use cics_names::{Condition, Record};
+use cics_units::Answer;
+
+// The first bytes of a content, in its own place.
+fn first_bytes(content: Record, count: usize) -> Record
+    ensures { result ≡ take count content }
+{
+    let mut bytes = content.into_bytes();
+    bytes.truncate(count);
+    Record::new(bytes)
+}
+
+// A reply to a command with this LENGTH: a longer content is LENGERR, with its first bytes.
+fn cut(reply: Reply, length: Option<u64>) -> Reply
+    ensures { result ≡ cut length reply }
+{
+    let Reply {
+        condition,
+        key,
+        content,
+        number,
+    } = reply;
+    match (content, length) {
+        (Some(content), Some(length)) if length < content.len() as u64 => Reply {
+            condition: Condition::Lengerr,
+            key,
+            content: Some(first_bytes(content, length as usize)),
+            number,
+        },
+        (content, _) => Reply {
+            condition,
+            key,
+            content,
+            number,
+        },
+    }
+}
+
+/// What a read of a browse answered as the task is told it, with no more of the content than LENGTH. It
+/// takes no memory.
+pub(crate) fn reply_of_browsed(browsed: Browsed, length: Option<u64>) -> Reply
+    ensures { result ≡ cut length (browse_reply browsed) }
+{
+    let reply = Reply {
+        condition: browsed.condition,
+        key: browsed.key,
+        content: browsed.content,
+        number: None,
+    };
+    cut(reply, length)
+}
+
+/// What an executed command answered as the task is told it, with no more of the content than LENGTH. It
+/// takes no memory, so nothing fails after the change.
+pub(crate) fn reply_of_answer(answer: Answer, length: Option<u64>) -> Reply
+    ensures { result ≡ reply_of length answer }
+{
+    let reply = Reply {
+        condition: answer.condition,
+        key: None,
+        content: answer.content,
+        number: answer.number.map(Number::Item),
+    };
+    cut(reply, length)
+}

@@ -1,0 +1,164 @@
+//! A task.
+
+ghost use Rattle.std.specs.Prelude.{◌≡◌, [], None, OnOk, OnErr, IfOk};
+ghost use Rattle.std.specs.Option.{option_copied, option_map};
+ghost use Rattle.cics_names.specs.Keyed.{value_at, with_value, without};
+ghost use Rattle.cics_browse.specs.Positions.{reset_condition, after_reset, read_next, after_next, read_prev, after_prev};
+ghost use Rattle.cics_dispatch.specs.Browses.{moved};
+ghost use Rattle.cics_dispatch.specs.Machine.{is_unit, with_unit, with_browses};
+ghost use Rattle.cics_dispatch.specs.Steps.{new_task};
+
+use crate::browses::Browses;
+use cics_browse::{Browse, Browsed};
+use cics_enqueue::UnitId;
+use cics_ksds::File;
+use cics_names::{Condition, Name8, NoMemory, Record};
+use std::alloc::Global;
+use std::marker::Model;
+
+/// A task: its label, how long it may wait, its open unit of work, its browses, and whether it has ended.
+#[derive(Drop)]
+pub(crate) struct Task {
+    label: Name8,
+    dtimout: u64,
+    unit: Option<UnitId>,
+    browses: Browses,
+    has_ended: bool,
+}
+
+impl Model for Task {
+    ghost use Rattle.cics_dispatch.specs.Machine.{Task as TaskValue};
+
+    ghost Value = { TaskValue };
+
+    ghost view = { λ t. record { label = t.label; dtimout = t.dtimout; unit = t.unit; browses = t.browses; has_ended = t.has_ended } };
+}
+
+impl Task {
+    /// A task without a unit and a browse. `alloc` gives the memory for its browses, `dtimout` is the seconds that
+    /// it may wait, 0 for no limit.
+    pub(crate) fn new(alloc: Global, label: Name8, dtimout: u64) -> Task
+        ensures { result ≡ new_task label dtimout }
+    {
+        Task {
+            label,
+            dtimout,
+            unit: None,
+            browses: Browses::new(alloc),
+            has_ended: false,
+        }
+    }
+
+    /// Its label.
+    pub(crate) fn label(&self) -> Name8
+        ensures { result ≡ self.now.label }
+    {
+        self.label
+    }
+
+    /// The seconds that it may wait, 0 for no limit.
+    pub(crate) fn dtimout(&self) -> u64
+        ensures { result ≡ self.now.dtimout }
+    {
+        self.dtimout
+    }
+
+    /// Its open unit of work, if it has one.
+    pub(crate) fn unit(&self) -> Option<UnitId>
+        ensures { result ≡ self.now.unit }
+    {
+        self.unit
+    }
+
+    /// Whether it has ended.
+    pub(crate) fn has_ended(&self) -> bool
+        ensures { result ≡ self.now.has_ended }
+    {
+        self.has_ended
+    }
+
+    /// Its browse of a file, or `None` where none is open.
+    pub(crate) fn browse(&self, file: &Name8) -> Option<&Browse>
+        ensures { option_copied result ≡ value_at file.now self.now.browses }
+    {
+        self.browses.get(file)
+    }
+
+    /// Whether this is its unit.
+    pub(crate) fn has_unit(&self, unit: UnitId) -> bool
+        ensures { result ≡ is_unit self.now.unit unit }
+    {
+        match self.unit {
+            Some(own) => own.number() == unit.number(),
+            None => false,
+        }
+    }
+
+    /// Gives it a unit.
+    pub(crate) fn begin_unit(&mut self, unit: UnitId)
+        ensures { self.new ≡ with_unit self.old unit }
+    {
+        self.unit = Some(unit);
+    }
+
+    /// Takes its unit, if it has one, and all its browses away; `has_ended` says whether it ends too. Answers the unit
+    /// that it had.
+    pub(crate) fn close_unit(&mut self, has_ended: bool) -> Option<UnitId>
+        ensures unit { result ≡ self.old.unit }
+        ensures task { self.new ≡ record self.old { unit = None; browses = []; has_ended = has_ended } }
+    {
+        let unit = self.unit;
+        self.unit = None;
+        self.browses.end_all();
+        self.has_ended = has_ended;
+        unit
+    }
+
+    /// Opens a browse of a file, as `Browses::put` does.
+    pub(crate) fn put_browse(&mut self, file: Name8, browse: Browse) -> Result<(), NoMemory>
+        ensures ok { OnOk result (self.new ≡ with_browses self.old (with_value file browse self.old.browses)) }
+        ensures err { OnErr result (self.new ≡ self.old) }
+    {
+        self.browses.put(file, browse)
+    }
+
+    /// Ends its browse of a file.
+    pub(crate) fn end_browse(&mut self, file: &Name8)
+        ensures { self.new ≡ with_browses self.old (without file.now self.old.browses) }
+    {
+        self.browses.end(file);
+    }
+
+    /// RESETBR of its browse of a file, as `Browses::reset` does.
+    pub(crate) fn reset_browse(
+        &mut self,
+        file: &Name8,
+        records: &File,
+        key: Record,
+        generic: bool,
+        equal: bool,
+    ) -> Option<Condition>
+        ensures condition { result ≡ option_map (λ p. reset_condition records.now.records key generic equal) (value_at file.now self.old.browses) }
+        ensures task { self.new ≡ with_browses self.old (moved (λ p. after_reset records.now.records p key generic equal) file.now (value_at file.now self.old.browses) self.old.browses) }
+    {
+        self.browses.reset(file, records, key, generic, equal)
+    }
+
+    /// READNEXT of its browse of a file, as `Browses::next` does.
+    pub(crate) fn next(&mut self, file: &Name8, records: &File) -> Result<Option<Browsed>, NoMemory>
+        ensures reply { IfOk result (λ reply. reply ≡ option_map (read_next records.now.records) (value_at file.now self.old.browses)) }
+        ensures task { OnOk result (self.new ≡ with_browses self.old (moved (after_next records.now.records) file.now (value_at file.now self.old.browses) self.old.browses)) }
+        ensures err { OnErr result (self.new ≡ self.old) }
+    {
+        self.browses.next(file, records)
+    }
+
+    /// READPREV of its browse of a file, as `Browses::prev` does.
+    pub(crate) fn prev(&mut self, file: &Name8, records: &File) -> Result<Option<Browsed>, NoMemory>
+        ensures reply { IfOk result (λ reply. reply ≡ option_map (read_prev records.now.records) (value_at file.now self.old.browses)) }
+        ensures task { OnOk result (self.new ≡ with_browses self.old (moved (after_prev records.now.records) file.now (value_at file.now self.old.browses) self.old.browses)) }
+        ensures err { OnErr result (self.new ≡ self.old) }
+    {
+        self.browses.prev(file, records)
+    }
+}

@@ -1,0 +1,247 @@
+//! The tasks of a region.
+
+ghost use Rattle.std.specs.Prelude.{◌≡◌, ◌<◌, ℕ, [], ◌∷◌, ◌++◌, Some, None, length, slice_get, unwrap_or, OnOk, OnErr, IfOk, IfSome, IfNone};
+ghost use Rattle.std.specs.Option.{option_map};
+ghost use Rattle.cics_names.specs.Keyed.{value_at, with_value, without};
+ghost use Rattle.cics_browse.specs.Positions.{reset_condition, after_reset, read_next, after_next, read_prev, after_prev};
+ghost use Rattle.cics_dispatch.specs.Browses.{moved};
+ghost use Rattle.cics_dispatch.specs.Machine.{Task as TaskValue, task_at, replaced, label_of, with_unit, with_browses};
+ghost use Rattle.cics_dispatch.specs.Steps.{new_task};
+ghost use Rattle.cics_dispatch.specs.Tasks.{HasNoOwner};
+
+use crate::task::Task;
+use cics_browse::{Browse, Browsed};
+use cics_enqueue::UnitId;
+use cics_ksds::File;
+use cics_names::{Condition, Name8, NoMemory, Record};
+use indexmap::IndexMap;
+use std::alloc::Global;
+use std::marker::Model;
+
+/// The tasks of a region, in the order of attach, those that have ended included.
+///
+/// A task has a place, which counts from 0 and stays. It is found by its label, and by its unit of work, without a
+/// look at the others.
+#[derive(Drop)]
+pub(crate) struct Tasks {
+    rows: IndexMap<Name8, Task>,
+    // The place of the task that has a unit. An entry may be missing, and is then found by looking at all tasks, and
+    // one may be out of date: so what it says is looked at before it is believed.
+    owners: IndexMap<UnitId, usize>,
+    alloc: Global,
+}
+
+impl Model for Tasks {
+    ghost use Rattle.std.specs.Prelude.{List};
+    ghost use Rattle.std.specs.Map.{values_of};
+    ghost use Rattle.cics_dispatch.specs.Machine.{Task as TaskValue};
+    ghost use Rattle.cics_dispatch.specs.Tasks.{AreKept};
+
+    ghost Value = { List TaskValue };
+
+    ghost view = { λ t. values_of t.rows.entries };
+
+    ghost invariant = { λ t. AreKept t.rows.entries };
+}
+
+impl Tasks {
+    /// No task yet. `alloc` gives the memory for tasks and their browses.
+    pub(crate) fn new(alloc: Global) -> Tasks
+        ensures { result ≡ [] }
+    {
+        Tasks {
+            rows: IndexMap::new(alloc),
+            owners: IndexMap::new(alloc),
+            alloc,
+        }
+    }
+
+    /// How many tasks were attached.
+    pub(crate) fn len(&self) -> usize
+        ensures { result ≡ length self.now }
+    {
+        self.rows.len()
+    }
+
+    /// Begins a task, last of all, where no task has its label. `dtimout` is the seconds that it may wait, 0 for no
+    /// limit.
+    pub(crate) fn attach(&mut self, label: Name8, dtimout: u64) -> Result<(), NoMemory>
+        requires { task_at self.old label ≡ None }
+        ensures ok { OnOk result (self.new ≡ self.old ++ new_task label dtimout ∷ []) }
+        ensures err { OnErr result (self.new ≡ self.old) }
+    {
+        let task = Task::new(self.alloc, label, dtimout);
+        self.rows.insert(label, task)?;
+        Ok(())
+    }
+
+    /// The place of the task of a label, or `None` where no task has it.
+    pub(crate) fn find(&self, label: &Name8) -> Option<usize>
+        ensures task { IfSome result (λ at. slice_get self.now at ≡ task_at self.now label.now) }
+        ensures within { IfSome result (λ at. at < length self.now) }
+        ensures none { IfNone result (task_at self.now label.now ≡ None) }
+    {
+        self.rows.get_index_of(label)
+    }
+
+    /// The task at a place.
+    pub(crate) fn get(&self, at: usize) -> &Task
+        requires { at < length self.now }
+        ensures { slice_get self.now at ≡ Some result.now }
+    {
+        &self.rows[at]
+    }
+
+    /// The label of the task whose open unit of work this is, or `None` where it is no task's.
+    pub(crate) fn label_of(&self, unit: UnitId) -> Option<Name8>
+        ensures label { unwrap_or result [] ≡ label_of self.now unit }
+        ensures none { IfNone result (HasNoOwner self.now unit) }
+    {
+        if let Some(at) = self.owners.get(&unit) {
+            if *at < self.len() {
+                let task = self.get(*at);
+                if task.has_unit(unit) {
+                    return Some(task.label());
+                }
+            }
+        }
+        for at in 0..self.len() {
+            let task = self.get(at);
+            if task.has_unit(unit) {
+                return Some(task.label());
+            }
+        }
+        None
+    }
+
+    /// Makes room for the unit of one more task, so that the next `begin_unit` takes no memory.
+    pub(crate) fn make_room_for_unit(&mut self) -> Result<(), NoMemory>
+        ensures { self.new ≡ self.old }
+    {
+        self.owners.reserve(1)?;
+        Ok(())
+    }
+
+    /// Gives the task at a place a unit that no task has.
+    ///
+    /// It takes no memory after `make_room_for_unit`. Without room, and where memory is refused, the unit is the
+    /// task's all the same; `label_of` then looks at all tasks to find it.
+    pub(crate) fn begin_unit(&mut self, at: usize, unit: UnitId)
+        requires within { at < length self.old }
+        requires free { HasNoOwner self.old unit }
+        ensures { (t : TaskValue) → slice_get self.old at ≡ Some t → self.new ≡ replaced self.old (with_unit t unit) }
+    {
+        self.rows[at].begin_unit(unit);
+        let _ = self.owners.insert(unit, at);
+    }
+
+    /// Gives the task at a place a unit, unless it is its unit already; no other task has it.
+    ///
+    /// It takes no memory after `make_room_for_unit`.
+    pub(crate) fn own_unit(&mut self, at: usize, unit: UnitId)
+        requires within { at < length self.old }
+        requires free { (t : TaskValue) → slice_get self.old at ≡ Some t → t.unit ≡ None → HasNoOwner self.old unit }
+        requires own { (t : TaskValue) (u : ℕ) → slice_get self.old at ≡ Some t → t.unit ≡ Some u → u ≡ unit }
+        ensures { (t : TaskValue) → slice_get self.old at ≡ Some t → self.new ≡ replaced self.old (with_unit t unit) }
+    {
+        let _rows = &self.rows;
+        if self.get(at).unit().is_none() {
+            self.begin_unit(at, unit);
+        }
+    }
+
+    /// Takes the unit of the task at a place, if it has one, and all its browses away; `has_ended` says whether the
+    /// task ends too. Answers the unit that it had. Takes no memory.
+    pub(crate) fn close_unit(&mut self, at: usize, has_ended: bool) -> Option<UnitId>
+        requires { at < length self.old }
+        ensures unit { (t : TaskValue) → slice_get self.old at ≡ Some t → result ≡ t.unit }
+        ensures task { (t : TaskValue) → slice_get self.old at ≡ Some t → self.new ≡ replaced self.old (record t { unit = None; browses = []; has_ended = has_ended }) }
+    {
+        let unit = self.rows[at].close_unit(has_ended);
+        if let Some(ended) = unit {
+            self.owners.swap_remove(&ended);
+        }
+        unit
+    }
+
+    /// Puts a browse of a file into the task at a place, in the place of the one that was open.
+    ///
+    /// Where memory is refused all tasks stay as they were, and the browse that was handed in goes.
+    pub(crate) fn put_browse(
+        &mut self,
+        at: usize,
+        file: Name8,
+        browse: Browse,
+    ) -> Result<(), NoMemory>
+        requires { at < length self.old }
+        ensures ok { (t : TaskValue) → slice_get self.old at ≡ Some t → OnOk result (self.new ≡ replaced self.old (with_browses t (with_value file browse t.browses))) }
+        ensures err { OnErr result (self.new ≡ self.old) }
+    {
+        self.rows[at].put_browse(file, browse)
+    }
+
+    /// Ends the browse of a file of the task at a place, if one is open. Takes no memory.
+    pub(crate) fn end_browse(&mut self, at: usize, file: &Name8)
+        requires { at < length self.old }
+        ensures { (t : TaskValue) → slice_get self.old at ≡ Some t → self.new ≡ replaced self.old (with_browses t (without file.now t.browses)) }
+    {
+        self.rows[at].end_browse(file);
+    }
+
+    /// RESETBR: makes a key the position of the browse of a file of the task at a place, and answers the condition, or
+    /// `None` where no browse of the file is open. Takes no memory.
+    ///
+    /// `records` is the file itself as it stands; `generic` and `equal` are those of `Browse::reset`.
+    pub(crate) fn reset_browse(
+        &mut self,
+        at: usize,
+        file: &Name8,
+        records: &File,
+        key: Record,
+        generic: bool,
+        equal: bool,
+    ) -> Option<Condition>
+        requires { at < length self.old }
+        ensures condition { (t : TaskValue) → slice_get self.old at ≡ Some t → result ≡ option_map (λ p. reset_condition records.now.records key generic equal) (value_at file.now t.browses) }
+        ensures position { (t : TaskValue) → slice_get self.old at ≡ Some t → self.new ≡ replaced self.old (with_browses t (moved (λ p. after_reset records.now.records p key generic equal) file.now (value_at file.now t.browses) t.browses)) }
+    {
+        self.rows[at].reset_browse(file, records, key, generic, equal)
+    }
+
+    /// READNEXT: reads on in the browse of a file of the task at a place; `None` where no browse of the file is open.
+    ///
+    /// `records` is the file itself as it stands. `Err` comes only where memory for the copies is refused, and then
+    /// all tasks stay as they were.
+    pub(crate) fn next(
+        &mut self,
+        at: usize,
+        file: &Name8,
+        records: &File,
+    ) -> Result<Option<Browsed>, NoMemory>
+        requires { at < length self.old }
+        ensures reply { (t : TaskValue) → slice_get self.old at ≡ Some t → IfOk result (λ reply. reply ≡ option_map (read_next records.now.records) (value_at file.now t.browses)) }
+        ensures position { (t : TaskValue) → slice_get self.old at ≡ Some t → OnOk result (self.new ≡ replaced self.old (with_browses t (moved (after_next records.now.records) file.now (value_at file.now t.browses) t.browses))) }
+        ensures err { OnErr result (self.new ≡ self.old) }
+    {
+        self.rows[at].next(file, records)
+    }
+
+    /// READPREV: reads back in the browse of a file of the task at a place; `None` where no browse of the file is
+    /// open.
+    ///
+    /// `records` is the file itself as it stands. `Err` comes only where memory for the copies is refused, and then
+    /// all tasks stay as they were.
+    pub(crate) fn prev(
+        &mut self,
+        at: usize,
+        file: &Name8,
+        records: &File,
+    ) -> Result<Option<Browsed>, NoMemory>
+        requires { at < length self.old }
+        ensures reply { (t : TaskValue) → slice_get self.old at ≡ Some t → IfOk result (λ reply. reply ≡ option_map (read_prev records.now.records) (value_at file.now t.browses)) }
+        ensures position { (t : TaskValue) → slice_get self.old at ≡ Some t → OnOk result (self.new ≡ replaced self.old (with_browses t (moved (after_prev records.now.records) file.now (value_at file.now t.browses) t.browses))) }
+        ensures err { OnErr result (self.new ≡ self.old) }
+    {
+        self.rows[at].prev(file, records)
+    }
+}

@@ -1,0 +1,210 @@
+//! The commands of a region that wait.
+
+ghost use Rattle.std.specs.Prelude.{◌≡◌, ◌↔◌, [], ◌∷◌, ◌++◌, false, length, IsTrue, OnOk, OnErr, IfErr, IfSome, option_map};
+ghost use Rattle.std.specs.Option.{option_copied};
+ghost use Rattle.std.specs.Map.Iter.{ShowsInOrder, deref};
+ghost use Rattle.cics_dispatch.specs.Machine.{is_waiting, not_waiting};
+ghost use Rattle.cics_dispatch.specs.Waits.{wait_of, AreBelow};
+
+use crate::commands::Command;
+use cics_names::{Name8, NoMemory};
+use indexmap::IndexMap;
+use std::alloc::Global;
+use std::collections::BTreeMap;
+use std::collections::btree_map::Values;
+use std::marker::Model;
+
+/// A command that waits.
+#[derive(Drop)]
+pub(crate) struct Suspended {
+    label: Name8,
+    command: Command,
+    since: u64,
+}
+
+impl Model for Suspended {
+    ghost use Rattle.cics_dispatch.specs.Machine.{Suspended as SuspendedValue};
+
+    ghost Value = { SuspendedValue };
+
+    ghost view = { λ w. record { label = w.label; command = w.command; since = w.since } };
+}
+
+impl Suspended {
+    /// The label of its task.
+    pub(crate) fn label(&self) -> Name8
+        ensures { result ≡ self.now.label }
+    {
+        self.label
+    }
+
+    /// The command, whole.
+    pub(crate) fn command(&self) -> &Command
+        ensures { result.now ≡ self.now.command }
+    {
+        &self.command
+    }
+
+    /// The clock when the wait began, in seconds.
+    pub(crate) fn since(&self) -> u64
+        ensures { result ≡ self.now.since }
+    {
+        self.since
+    }
+}
+
+/// The commands that wait, in the order in which the waits began. A task has one of them at most.
+///
+/// To find the wait of a label, to add one and to take one out costs the logarithm of the number of waits.
+#[derive(Drop)]
+pub(crate) struct Waits {
+    // Each wait under a number that is above those of the waits that began before.
+    rows: BTreeMap<u64, Suspended>,
+    // The number of each label's wait.
+    numbers: IndexMap<Name8, u64>,
+}
+
+impl Model for Waits {
+    ghost use Rattle.std.specs.Prelude.{List};
+    ghost use Rattle.std.specs.Map.{values_of};
+    ghost use Rattle.cics_dispatch.specs.Machine.{Suspended as SuspendedValue};
+    ghost use Rattle.cics_dispatch.specs.Waits.{AreNumbered};
+
+    ghost Value = { List SuspendedValue };
+
+    ghost view = { λ w. values_of w.rows.entries };
+
+    ghost invariant = { λ w. AreNumbered w.rows.entries w.numbers.entries };
+}
+
+// A number above those of all waits, or None where the greatest is the last that there is.
+fn next_number(rows: &BTreeMap<u64, Suspended>) -> Option<u64>
+    ensures { IfSome result (λ n. AreBelow n rows.now.entries) }
+{
+    match rows.last_key_value() {
+        Some((last, _)) if *last < u64::MAX => Some(*last + 1),
+        Some(_) => None,
+        None => Some(0),
+    }
+}
+
+// Adds a wait, last of all, under a number above those of all waits. Without memory it comes back.
+fn add(
+    rows: &mut BTreeMap<u64, Suspended>,
+    number: u64,
+    suspended: Suspended,
+) -> Result<(), Suspended>
+    requires { AreBelow number rows.old.entries }
+    ensures ok { OnOk result (rows.new.entries ≡ rows.old.entries ++ (number, suspended) ∷ []) }
+    ensures err { IfErr result (λ back. (back ≡ suspended) × (rows.new.entries ≡ rows.old.entries)) }
+{
+    match rows.insert(number, suspended) {
+        Ok(_) => Ok(()),
+        Err(refused) => Err(refused.value.1),
+    }
+}
+
+impl Waits {
+    /// No command waits. `alloc` gives the memory for those that will.
+    pub(crate) fn new(alloc: Global) -> Waits
+        ensures { result ≡ [] }
+    {
+        Waits {
+            rows: BTreeMap::new(alloc),
+            numbers: IndexMap::new(alloc),
+        }
+    }
+
+    /// How many commands wait.
+    pub(crate) fn len(&self) -> usize
+        ensures { result ≡ length self.now }
+    {
+        self.rows.len()
+    }
+
+    /// Whether no command waits.
+    pub(crate) fn is_empty(&self) -> bool
+        ensures { IsTrue result ↔ (self.now ≡ []) }
+    {
+        self.rows.len() == 0
+    }
+
+    /// The wait of a label's task, or `None` where no command of it waits.
+    pub(crate) fn get(&self, label: &Name8) -> Option<&Suspended>
+        ensures { option_copied result ≡ wait_of self.now label.now }
+    {
+        let number = self.numbers.get(label)?;
+        self.rows.get(number)
+    }
+
+    /// Whether a command of a label's task waits.
+    pub(crate) fn is_waiting(&self, label: &Name8) -> bool
+        ensures { result ≡ is_waiting self.now label.now }
+    {
+        self.numbers.contains_key(label)
+    }
+
+    /// The waits, in the order in which they began.
+    pub(crate) fn iter(&self) -> Values<'_, u64, Suspended>
+        ensures rest { result ≡ self.now }
+        ensures runs { ShowsInOrder (deref {X = Suspended}) }
+    {
+        self.rows.values()
+    }
+
+    /// Adds the wait of a command, last of all, where none of its task's waits. `since` is the clock, in seconds.
+    ///
+    /// `Err` gives the command back: memory was refused, or 2^64 - 1 waits have begun while never all had ended. All
+    /// waits are as they were then.
+    pub(crate) fn push(&mut self, label: Name8, command: Command, since: u64) -> Result<(), Command>
+        requires { is_waiting self.old label ≡ false }
+        ensures ok { OnOk result (self.new ≡ self.old ++ record { label = label; command = command; since = since } ∷ []) }
+        ensures err { IfErr result (λ back. (back ≡ command) × (self.new ≡ self.old)) }
+    {
+        let Some(number) = next_number(&self.rows) else {
+            return Err(command);
+        };
+        if self.numbers.reserve(1).is_err() {
+            return Err(command);
+        }
+        let suspended = Suspended {
+            label,
+            command,
+            since,
+        };
+        if let Err(suspended) = add(&mut self.rows, number, suspended) {
+            return Err(suspended.command);
+        }
+        let _ = self.numbers.insert(label, number);
+        Ok(())
+    }
+
+    /// Adds the wait of a command as `push` does; where it is refused the command goes.
+    pub(crate) fn begin(
+        &mut self,
+        label: Name8,
+        command: Command,
+        since: u64,
+    ) -> Result<(), NoMemory>
+        requires { is_waiting self.old label ≡ false }
+        ensures ok { OnOk result (self.new ≡ self.old ++ record { label = label; command = command; since = since } ∷ []) }
+        ensures err { OnErr result (self.new ≡ self.old) }
+    {
+        match self.push(label, command, since) {
+            Ok(()) => Ok(()),
+            Err(_) => Err(NoMemory),
+        }
+    }
+
+    /// Ends the wait of a label's task, if a command of it waits, and gives the command. Takes no memory.
+    pub(crate) fn remove(&mut self, label: &Name8) -> Option<Command>
+        ensures command { result ≡ option_map (λ w. w.command) (wait_of self.old label.now) }
+        ensures others { self.new ≡ not_waiting self.old label.now }
+    {
+        let number = self.numbers.swap_remove(label)?;
+        match self.rows.remove(&number) {
+            Some(suspended) => Some(suspended.command),
+            None => unreachable!(),
+        }
+    }
+}
