@@ -4,3 +4,6 @@ pub mod TokenSteps
 pub mod OptionSteps
 pub mod Rows
 pub mod Orders
+pub mod Layouts
+pub mod Written
+pub mod Spelled

@@ -7,37 +7,53 @@ use Rattle.cics_script.specs.declared.faults.LineFault.{LineFault}
 use Rattle.cics_script.specs.declared.tokens.Token as made
 use Rattle.cics_script.specs.declared.tokens.Token.TheVariants as token
 use Rattle.cics_script.specs.declared.options.Found.{Found}
+use Rattle.cics_script.specs.declared.options.Next.{Next}
 use Rattle.cics_script.specs.declared.words.Form.{Form}
 use Rattle.cics_script.specs.declared.words.OptionWord.{OptionWord}
 use Rattle.cics_script.specs.declared.words.Kind.{Kind}
-use Rattle.cics_script.specs.declared.words.Kind.TheVariants.{Flag, Text, Name8, Name4, Number, Area}
+use Rattle.cics_script.specs.declared.words.Kind.TheVariants.{Flag, Text, Name8, Name4, Number, Area, Last}
 use Rattle.cics_script.specs.Faults.{◌>>=◌, Refuses}
 use Rattle.cics_script.specs.Tokens.{Token, word, capital, tokens}
 use Rattle.cics_script.specs.Words.{lookup, option_words, kind_in}
-use Rattle.cics_script.specs.Options.{Entry, at_option, at_opening, reads, named, entered, allowed}
-use Rattle.cics_script.specs.Views.{Takes, view, content, entries}
+use Rattle.cics_script.specs.Options.{Entry, Place, at_option, at_opening, behind_option, reads, named, entered, allowed}
+use Rattle.cics_script.specs.Views.{Takes, Enters, view, content, entries}
 use Rattle.std.specs.Prelude.{map}
 
 -- a fault behind a step is the fault of the whole
 pub refuses_behind : {A : Type 0} (read rest : Result A LineFault) (fault : LineFault) → read ≡ rest → Refuses rest fault → Refuses read fault
 refuses_behind read rest fault step refuses = λ remembered. step ∙ refuses remembered
 
-entered-value : (option : OptionWord) (found : List Entry) (kind : Kind) → kind ≢ Flag → entered option found kind ≡ (at_opening option kind, found)
-entered-value option found Flag valued = absurd (valued refl)
-entered-value option found Text valued = refl
-entered-value option found Name8 valued = refl
-entered-value option found Name4 valued = refl
-entered-value option found Number valued = refl
-entered-value option found Area valued = refl
+entered-value : (option : OptionWord) (found : List Entry) (kind : Kind) → kind ≢ Flag → kind ≢ Last → entered option found kind ≡ (at_opening option kind, found)
+entered-value option found Flag valued more = absurd (valued refl)
+entered-value option found Text valued more = refl
+entered-value option found Name8 valued more = refl
+entered-value option found Name4 valued more = refl
+entered-value option found Number valued more = refl
+entered-value option found Area valued more = refl
+entered-value option found Last valued more = absurd (more refl)
+
+-- behind every option but the last one another option can stand
+pub behind_option-open : (kind : Kind) → kind ≢ Last → behind_option kind ≡ at_option (Some kind)
+behind_option-open Flag more = refl
+behind_option-open Text more = refl
+behind_option-open Name8 more = refl
+behind_option-open Name4 more = refl
+behind_option-open Number more = refl
+behind_option-open Area more = refl
+behind_option-open Last more = absurd (more refl)
+
+pub reads-further : (form : Form) (kind : Kind) (found : List Entry) (rest : List Token) → kind ≢ Last
+    → reads form (at_option (Some kind)) found rest ≡ reads form (behind_option kind) found rest
+reads-further form kind found rest more = ap (λ place. reads form place found rest) (sym (behind_option-open kind more))
 
 -- an option with a value, behind its word
 pub reads-opening : (form : Form) (last : Option Kind) (found : List Entry) (w : List ℕ) (option : OptionWord) (kind : Kind) (rest : List Token)
-    → Some option ≡ lookup w option_words → Ok kind ≡ allowed found option (kind_in form option) → kind ≢ Flag
+    → Some option ≡ lookup w option_words → Ok kind ≡ allowed found option (kind_in form option) → kind ≢ Flag → kind ≢ Last
     → reads form (at_option last) found (word w ∷ rest) ≡ reads form (at_opening option kind) found rest
-reads-opening form last found w option kind rest is may value =
+reads-opening form last found w option kind rest is may valued more =
     ap (λ o. named form found o >>= λ s. reads form s.0 s.1 rest) (sym is)
     ∙ ap (λ r. (r >>= λ k. Ok (entered option found k)) >>= λ s. reads form s.0 s.1 rest) (sym may)
-    ∙ ap (λ s. reads form s.0 s.1 rest) (entered-value option found kind value)
+    ∙ ap (λ s. reads form s.0 s.1 rest) (entered-value option found kind valued more)
 
 -- what stands first where the token that was read is a word
 pub first-word : (bytes : List ℕ) (result : Option (made.Token × Bor (List ℕ))) (next : made.Token × Bor (List ℕ)) (w : Bor (List ℕ))
@@ -48,5 +64,15 @@ first-word bytes result next w takes is word_is =
     (here.0 ∙ ap (λ t. view t ∷ tokens next.1.now) word_is, here.1)
 
 -- one option more
-pub entries-more : (found : List Found) (one : Found) → entries (found ++ one ∷ []) ≡ entries found ++ (one.option, content one.value) ∷ []
+entries-more : (found : List Found) (one : Found) → entries (found ++ one ∷ []) ≡ entries found ++ (one.option, content one.value) ∷ []
 entries-more found one = map-append (λ f. (f.option, content f.value)) found (one ∷ [])
+
+-- what is still to be read from the place behind an option that was read
+pub reads-past : (form : Form) (last : Option Kind) (found : List Found) (bytes w behind : List ℕ) (next : Next) (place : Place) (whole : Result (List Entry) LineFault)
+    → reads form (at_option last) (entries found) (tokens bytes) ≡ whole → tokens bytes ≡ word w ∷ tokens behind
+    → Enters form last (entries found) w behind (Ok next) → behind_option next.kind ≡ place
+    → reads form place (entries (found ++ next.one ∷ [])) (tokens next.rest.now) ≡ whole
+reads-past form last found bytes w behind next place whole so_far first enters here =
+    ap (λ es. reads form place es (tokens next.rest.now)) (entries-more found next.one)
+    ∙ ap (λ p. reads form p (entries found ++ (next.one.option, content next.one.value) ∷ []) (tokens next.rest.now)) (sym here)
+    ∙ sym enters.0 ∙ sym (ap (λ ts. reads form (at_option last) (entries found) ts) first) ∙ so_far

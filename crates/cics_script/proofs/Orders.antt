@@ -1,24 +1,32 @@
 -- Options that are written one after another are read one after another, whatever their order.
 use Rattle.std.proofs.Common.{◌≡◌, ◌≢◌, Bool, true, false, ◌||◌, ℕ, List, [], ◌∷◌, ◌++◌, refl, ap, sym, ◌∙◌, subst, Option, Some, None, inl, inr, append-nil, append_assoc}
-use Rattle.std.specs.Prelude.{Ok, if◌then◌else◌}
+use Rattle.std.specs.Prelude.{Result, Ok, Err, if◌then◌else◌, is_some, option_map, IfSome}
 use Rattle.std.specs.List.{list_any, flat_map}
 use Rattle.std.proofs.lemmas.List.Folds.{list_any-append}
-use Rattle.cics_script.specs.declared.literals.Notation.{Notation}
 use Rattle.cics_script.specs.declared.words.Form.{Form}
 use Rattle.cics_script.specs.declared.words.OptionWord.{OptionWord}
-use Rattle.cics_script.specs.declared.words.OptionWord.TheVariants.{File, KeyLength, KeyOffset, RecordSize, Recoverable, Unrecoverable, From, Transid, Ridfld, Resp, NoHandle}
+use Rattle.cics_script.specs.declared.words.OptionWord.TheVariants.{File, KeyLength, KeyOffset, RecordSize, Recoverable, Unrecoverable, From, Transid, Dtimout, Ridfld, Length, Into, Generic, Equal, Gteq, Update, Resource, NoSuspend, Rollback, AbCode, Cancel, NoDump, Resp, Resp2, NoHandle, EndExec}
 use Rattle.cics_script.specs.declared.words.Kind.{Kind}
-use Rattle.cics_script.specs.declared.words.Kind.TheVariants.{Flag, Text, Name8, Name4, Number, Area}
+use Rattle.cics_script.specs.declared.words.Kind.TheVariants.{Flag, Text, Name8, Name4, Number, Area, Last}
 use Rattle.cics_script.specs.Faults.{◌>>=◌}
-use Rattle.cics_script.specs.Tokens.{Token, word, literal, opening, closing}
-use Rattle.cics_script.specs.Words.{lookup, option_words, same, excludes, kind_in}
-use Rattle.cics_script.specs.Options.{Content, Entry, Place, name8, text, content_in, nothing, at_option, at_closing, reads, named, entered, allowed, options}
-use Rattle.cics_script.specs.Values.{content_at}
-use Rattle.cics_script.specs.Commands.{verb_in}
+use Rattle.cics_script.specs.Tokens.{Token, word, number, literal, opening, closing, broken}
+use Rattle.cics_script.specs.Words.{lookup, option_words, commands, same, excludes, kind_in}
+use Rattle.cics_script.specs.Options.{Content, Entry, Place, name8, name4, text, amount, content_in, nothing, at_option, at_value, at_closing, behind_option, moves, reads, named, entered, allowed, options}
+use Rattle.cics_script.specs.Values.{content_at, has, amount_at, text_at, name4_at, name8_at}
+use Rattle.cics_script.specs.Commands.{verb_in, is_handled}
+use Rattle.cics_dispatch.specs.declared.commands.Command.{Command}
+use Rattle.cics_dispatch.specs.declared.commands.Verb.{Verb}
 use Rattle.cics_dispatch.specs.declared.commands.Verb.TheVariants as verb
+use Rattle.cics_script.specs.declared.faults.LineFault.TheVariants.{BadLiteral}
+use Rattle.cics_script.specs.declared.lines.Line.TheVariants.{Issue}
+use Rattle.cics_script.specs.declared.words.CommandWord.{CommandWord}
+use Rattle.cics_script.specs.Lines.{command_line, known}
+use Rattle.cics_script.specs.declared.lines.Line.{Line}
+use Rattle.cics_script.specs.declared.faults.LineFault.{LineFault}
+use Rattle.std.proofs.lemmas.Bool.{cases_Bool}
 use Rattle.cics_script.specs.declared.words.CommandWord.TheVariants as command
-use Rattle.cics_script.specs.Spelling.{Written, option_word, value_tokens, option_tokens, IsValue, AreOptions, AreApart, Stands}
-use Rattle.cics_script.proofs.OptionSteps.{reads-opening}
+use Rattle.cics_script.specs.Spelling.{Written, option_word, command_word, value_tokens, option_tokens, is_bare, IsValue, MayPrecede, IsWritten, AreOptions, AreApart, Stands, Gives, flag, options_of, word_of, AllGiven, Says}
+use Rattle.cics_script.proofs.OptionSteps.{reads-opening, reads-further}
 
 lookup-option_word : (option : OptionWord) → Some option ≡ lookup (option_word option) option_words
 lookup-option_word File = refl
@@ -29,11 +37,26 @@ lookup-option_word Recoverable = refl
 lookup-option_word Unrecoverable = refl
 lookup-option_word From = refl
 lookup-option_word Transid = refl
+lookup-option_word Dtimout = refl
 lookup-option_word Ridfld = refl
+lookup-option_word Length = refl
+lookup-option_word Into = refl
+lookup-option_word Generic = refl
+lookup-option_word Equal = refl
+lookup-option_word Gteq = refl
+lookup-option_word Update = refl
+lookup-option_word Resource = refl
+lookup-option_word NoSuspend = refl
+lookup-option_word Rollback = refl
+lookup-option_word AbCode = refl
+lookup-option_word Cancel = refl
+lookup-option_word NoDump = refl
 lookup-option_word Resp = refl
+lookup-option_word Resp2 = refl
 lookup-option_word NoHandle = refl
+lookup-option_word EndExec = refl
 
-both_false : (a b : Bool) → (a || b) ≡ false → (a ≡ false) × (b ≡ false)
+pub both_false : (a b : Bool) → (a || b) ≡ false → (a ≡ false) × (b ≡ false)
 both_false true b e = let wrong : true ≡ false = e in cc
 both_false false b e = (refl, e)
 
@@ -60,68 +83,120 @@ allowed-apart found option kind new free = rw new (rw free refl)
 abbrev behind_value : OptionWord → Kind → List Entry → Content → Place × List Entry
 behind_value option kind found content = (at_closing option kind content, found)
 
-module _ (form : Form) (last : Option Kind) (found : List Entry) (option : OptionWord) (rest : List Token) where
-  reads-flag : kind_in form option ≡ Some Flag → Ok Flag ≡ allowed found option (Some Flag)
-      → reads form (at_option last) found (word (option_word option) ∷ rest) ≡ reads form (at_option (Some Flag)) (found ++ (option, nothing) ∷ []) rest
-  reads-flag is may =
+content_in-broken : (kind : Kind) (fault : LineFault) → content_in kind (broken fault) ≡ Err fault
+content_in-broken Flag fault = refl
+content_in-broken Text fault = refl
+content_in-broken Name8 fault = refl
+content_in-broken Name4 fault = refl
+content_in-broken Number fault = refl
+content_in-broken Area fault = refl
+content_in-broken Last fault = refl
+
+-- a token where a value has to stand
+moves-value : (form : Form) (option : OptionWord) (kind : Kind) (found : List Entry) (value : Token)
+    → moves form (at_value option kind) found value ≡ content_in kind value >>= λ content. Ok (behind_value option kind found content)
+moves-value form option kind found (word w) = refl
+moves-value form option kind found (number n) = refl
+moves-value form option kind found (literal notation said) = refl
+moves-value form option kind found opening = refl
+moves-value form option kind found closing = refl
+moves-value form option kind found (broken fault) = ap (λ r. r >>= λ content. Ok (behind_value option kind found content)) (sym (content_in-broken kind fault))
+
+-- an option that stands alone is whole behind its word
+entered-bare : (option : OptionWord) (found : List Entry) (kind : Kind) → is_bare kind ≡ true → entered option found kind ≡ (behind_option kind, found ++ (option, nothing) ∷ [])
+entered-bare option found Flag bare = refl
+entered-bare option found Last bare = refl
+entered-bare option found Text bare = let wrong : false ≡ true = bare in cc
+entered-bare option found Name8 bare = let wrong : false ≡ true = bare in cc
+entered-bare option found Name4 bare = let wrong : false ≡ true = bare in cc
+entered-bare option found Number bare = let wrong : false ≡ true = bare in cc
+entered-bare option found Area bare = let wrong : false ≡ true = bare in cc
+
+-- a kind that has values doesn't stand alone
+no_value : (kind : Kind) (token : Token) (content : Content) → is_bare kind ≡ true → content_in kind token ≡ Ok content → ⊥
+no_value Flag (word w) content bare e = let wrong : Err BadLiteral ≡ Ok content = e in cc
+no_value Flag (number n) content bare e = let wrong : Err BadLiteral ≡ Ok content = e in cc
+no_value Flag (literal notation said) content bare e = let wrong : Err BadLiteral ≡ Ok content = e in cc
+no_value Flag opening content bare e = let wrong : Err BadLiteral ≡ Ok content = e in cc
+no_value Flag closing content bare e = let wrong : Err BadLiteral ≡ Ok content = e in cc
+no_value Flag (broken fault) content bare e = let wrong : Err fault ≡ Ok content = e in cc
+no_value Last (word w) content bare e = let wrong : Err BadLiteral ≡ Ok content = e in cc
+no_value Last (number n) content bare e = let wrong : Err BadLiteral ≡ Ok content = e in cc
+no_value Last (literal notation said) content bare e = let wrong : Err BadLiteral ≡ Ok content = e in cc
+no_value Last opening content bare e = let wrong : Err BadLiteral ≡ Ok content = e in cc
+no_value Last closing content bare e = let wrong : Err BadLiteral ≡ Ok content = e in cc
+no_value Last (broken fault) content bare e = let wrong : Err fault ≡ Ok content = e in cc
+no_value Text token content bare e = let wrong : false ≡ true = bare in cc
+no_value Name8 token content bare e = let wrong : false ≡ true = bare in cc
+no_value Name4 token content bare e = let wrong : false ≡ true = bare in cc
+no_value Number token content bare e = let wrong : false ≡ true = bare in cc
+no_value Area token content bare e = let wrong : false ≡ true = bare in cc
+
+valued : (kind bare : Kind) (token : Token) (content : Content) → is_bare bare ≡ true → content_in kind token ≡ Ok content → kind ≢ bare
+valued kind bare token content stands value = λ is. no_value bare token content stands (subst (λ k. content_in k token ≡ Ok content) is value)
+
+module _ (form : Form) (last : Option Kind) (found : List Entry) (option : OptionWord) (rest : List Token) (kind : Kind) (content : Content) where
+  -- an option as it is written, and the place behind it
+  reads-written : (value : Option Token) → kind_in form option ≡ Some kind → IsValue kind value content
+      → list_any (λ earlier. same earlier.0 option) found ≡ false → list_any (λ earlier. excludes earlier.0 option) found ≡ false
+      → reads form (at_option last) found (word (option_word option) ∷ (value_tokens value ++ rest)) ≡ reads form (behind_option kind) (found ++ (option, content) ∷ []) rest
+  reads-written None is holds new free =
       ap (λ o. named form found o >>= λ s. reads form s.0 s.1 rest) (sym (lookup-option_word option))
       ∙ ap (λ k. (allowed found option k >>= λ k. Ok (entered option found k)) >>= λ s. reads form s.0 s.1 rest) is
-      ∙ ap (λ r. (r >>= λ k. Ok (entered option found k)) >>= λ s. reads form s.0 s.1 rest) (sym may)
+      ∙ ap (λ r. (r >>= λ k. Ok (entered option found k)) >>= λ s. reads form s.0 s.1 rest) (sym (allowed-apart found option kind new free))
+      ∙ ap (λ s. reads form s.0 s.1 rest) (entered-bare option found kind holds.0)
+      ∙ ap (λ c. reads form (behind_option kind) (found ++ (option, c) ∷ []) rest) holds.1
+  reads-written (Some value) is holds new free =
+      reads-opening form last found (option_word option) option kind (opening ∷ value ∷ closing ∷ rest)
+      (lookup-option_word option) (allowed-apart found option kind new free ∙ ap (allowed found option) (sym is))
+      (valued kind Flag value content refl holds) (valued kind Last value content refl holds)
+      ∙ ap (λ r. r >>= λ s. reads form s.0 s.1 (closing ∷ rest)) (moves-value form option kind found value)
+      ∙ ap (λ r. (r >>= λ c. Ok (behind_value option kind found c)) >>= λ s. reads form s.0 s.1 (closing ∷ rest)) holds
+      ∙ reads-further form kind (found ++ (option, content) ∷ []) rest (valued kind Last value content refl holds)
 
-  reads-value : (kind : Kind) (notation : Notation) (said : List ℕ) (content : Content)
-      → kind_in form option ≡ Some kind → Ok kind ≡ allowed found option (Some kind) → kind ≢ Flag → content_in kind (literal notation said) ≡ Ok content
-      → reads form (at_option last) found (word (option_word option) ∷ opening ∷ literal notation said ∷ closing ∷ rest)
-      ≡ reads form (at_option (Some kind)) (found ++ (option, content) ∷ []) rest
-  reads-value kind notation said content is may valued value =
-      reads-opening form last found (option_word option) option kind (opening ∷ literal notation said ∷ closing ∷ rest)
-      (lookup-option_word option) (may ∙ ap (allowed found option) (sym is)) valued
-      ∙ ap (λ r. (r >>= λ c. Ok (behind_value option kind found c)) >>= λ s. reads form s.0 s.1 (closing ∷ rest)) value
+module _ (form : Form) (found : List Entry) (entry : Entry) where
+  -- behind END-EXEC stands nothing, and behind any other option what can be read behind it
+  reads-others : (kind : Kind) (others : List Written) (entries : List Entry) → MayPrecede kind others → AreOptions form others entries
+      → ((last : Option Kind) → reads form (at_option last) (found ++ entry ∷ []) (flat_map option_tokens others) ≡ Ok (found ++ entry ∷ entries))
+      → reads form (behind_option kind) (found ++ entry ∷ []) (flat_map option_tokens others) ≡ Ok (found ++ entry ∷ entries)
+  reads-others Last [] [] may are others_read = refl
+  reads-others Last [] (later ∷ entries) may are others_read = absurd are
+  reads-others Last (other ∷ others) entries may are others_read = absurd may
+  reads-others Flag others entries may are others_read = others_read (Some Flag)
+  reads-others Text others entries may are others_read = others_read (Some Text)
+  reads-others Name8 others entries may are others_read = others_read (Some Name8)
+  reads-others Name4 others entries may are others_read = others_read (Some Name4)
+  reads-others Number others entries may are others_read = others_read (Some Number)
+  reads-others Area others entries may are others_read = others_read (Some Area)
 
-  -- an option as it is written, and the place behind it
-  reads-written : (kind : Option Kind) (value : Option (Notation × List ℕ)) (content : Content)
-      → kind_in form option ≡ kind → IsValue kind value content
-      → list_any (λ earlier. same earlier.0 option) found ≡ false → list_any (λ earlier. excludes earlier.0 option) found ≡ false
-      → (k : Kind) × (reads form (at_option last) found (word (option_word option) ∷ (value_tokens value ++ rest)) ≡ reads form (at_option (Some k)) (found ++ (option, content) ∷ []) rest)
-  reads-written None value content is holds new free = absurd holds
-  reads-written (Some Flag) None content is holds new free =
-      (Flag, reads-flag is (allowed-apart found option Flag new free) ∙ ap (λ c. reads form (at_option (Some Flag)) (found ++ (option, c) ∷ []) rest) holds)
-  reads-written (Some Flag) (Some value) content is holds new free = absurd holds
-  reads-written (Some Text) None content is holds new free = absurd holds
-  reads-written (Some Text) (Some value) content is holds new free =
-      (Text, reads-value Text value.0 value.1 content is (allowed-apart found option Text new free) (λ e. cc) holds)
-  reads-written (Some Name8) None content is holds new free = absurd holds
-  reads-written (Some Name8) (Some value) content is holds new free =
-      (Name8, reads-value Name8 value.0 value.1 content is (allowed-apart found option Name8 new free) (λ e. cc) holds)
-  reads-written (Some Name4) None content is holds new free = absurd holds
-  reads-written (Some Name4) (Some value) content is holds new free =
-      (Name4, reads-value Name4 value.0 value.1 content is (allowed-apart found option Name4 new free) (λ e. cc) holds)
-  reads-written (Some Number) None content is holds new free = absurd holds
-  reads-written (Some Number) (Some value) content is holds new free =
-      (Number, reads-value Number value.0 value.1 content is (allowed-apart found option Number new free) (λ e. cc) holds)
-  reads-written (Some Area) None content is holds new free = absurd holds
-  reads-written (Some Area) (Some value) content is holds new free =
-      (Area, reads-value Area value.0 value.1 content is (allowed-apart found option Area new free) (λ e. cc) holds)
+  reads-first : (last : Option Kind) (one : Written) (others : List Written) (entries : List Entry) (kind : Option Kind) → kind_in form entry.0 ≡ kind
+      → one.option ≡ entry.0 → IsWritten kind one.value entry.1 others → AreOptions form others entries
+      → list_any (λ earlier. same earlier.0 entry.0) found ≡ false → list_any (λ earlier. excludes earlier.0 entry.0) found ≡ false
+      → ((last : Option Kind) → reads form (at_option last) (found ++ entry ∷ []) (flat_map option_tokens others) ≡ Ok (found ++ entry ∷ entries))
+      → reads form (at_option last) found (flat_map option_tokens (one ∷ others)) ≡ Ok (found ++ entry ∷ entries)
+  reads-first last one others entries None is here written are new free others_read = absurd written
+  reads-first last one others entries (Some kind) is here written are new free others_read =
+      ap (λ o. reads form (at_option last) found (word (option_word o) ∷ (value_tokens one.value ++ flat_map option_tokens others))) here
+      ∙ reads-written form last found entry.0 (flat_map option_tokens others) kind entry.1 one.value is written.0 new free
+      ∙ reads-others kind others entries written.1 are others_read
 
 -- options as they are written, behind those that were read
-reads-options : (form : Form) (last : Option Kind) (found : List Entry) (written : List Written) (entries : List Entry)
+reads-options : (form : Form) (written : List Written) (last : Option Kind) (found entries : List Entry)
     → AreOptions form written entries → AreApart (found ++ entries)
     → reads form (at_option last) found (flat_map option_tokens written) ≡ Ok (found ++ entries)
-reads-options form last found [] [] are apart = ap Ok (sym (append-nil found))
-reads-options form last found [] (entry ∷ entries) are apart = absurd are
-reads-options form last found (one ∷ others) [] are apart = absurd are
-reads-options form last found (one ∷ others) (entry ∷ entries) are apart =
+reads-options form [] last found [] are apart = ap Ok (sym (append-nil found))
+reads-options form [] last found (entry ∷ entries) are apart = absurd are
+reads-options form (one ∷ others) last found [] are apart = absurd are
+reads-options form (one ∷ others) last found (entry ∷ entries) are apart =
     let clear = apart_later found entry entries apart in
-    let step = reads-written form last found entry.0 (flat_map option_tokens others) (kind_in form entry.0) one.value entry.1 refl are.1 clear.0 clear.1 in
     let behind = append_assoc found (entry ∷ []) entries in
-    ap (λ o. reads form (at_option last) found (word (option_word o) ∷ (value_tokens one.value ++ flat_map option_tokens others))) are.0
-    ∙ step.1
-    ∙ reads-options form (Some step.0) (found ++ entry ∷ []) others entries are.2 (subst AreApart (sym behind) apart)
-    ∙ ap Ok behind
+    reads-first form found entry last one others entries (kind_in form entry.0) refl are.0 are.1 are.2 clear.0 clear.1
+    (λ last. reads-options form others last (found ++ entry ∷ []) entries are.2 (subst AreApart (sym behind) apart) ∙ ap Ok behind)
 
 -- the options of a line, as they are written
 pub options-written : (form : Form) (written : List Written) (entries : List Entry)
     → AreOptions form written entries → AreApart entries → options form (flat_map option_tokens written) ≡ Ok entries
-options-written form written entries are apart = reads-options form None [] written entries are apart
+options-written form written entries are apart = reads-options form written None [] entries are apart
 
 same-itself : (option : OptionWord) → same option option ≡ true
 same-itself File = refl
@@ -132,9 +207,24 @@ same-itself Recoverable = refl
 same-itself Unrecoverable = refl
 same-itself From = refl
 same-itself Transid = refl
+same-itself Dtimout = refl
 same-itself Ridfld = refl
+same-itself Length = refl
+same-itself Into = refl
+same-itself Generic = refl
+same-itself Equal = refl
+same-itself Gteq = refl
+same-itself Update = refl
+same-itself Resource = refl
+same-itself NoSuspend = refl
+same-itself Rollback = refl
+same-itself AbCode = refl
+same-itself Cancel = refl
+same-itself NoDump = refl
 same-itself Resp = refl
+same-itself Resp2 = refl
 same-itself NoHandle = refl
+same-itself EndExec = refl
 
 -- an option that stands behind another one is another
 stands-other : (first : OptionWord) (entry : Entry) (entries : List Entry) → Stands entry entries
@@ -154,11 +244,111 @@ content_at-stands option content (first ∷ entries) apart (inl is) =
 content_at-stands option content (first ∷ entries) apart (inr stands) =
     rw (stands-other first.0 (option, content) entries stands apart.0) (content_at-stands option content entries apart.1 stands)
 
--- READ and WRITE, by what their options give
-pub verb_in-read : (entries : List Entry) (file ridfld : List ℕ) → content_at File entries ≡ Some (name8 file) → content_at Ridfld entries ≡ Some (text ridfld)
-    → verb_in command.Read entries ≡ Ok (verb.Read file ridfld None None false false false)
-verb_in-read entries file ridfld has_file has_ridfld = rw has_file (rw has_ridfld refl)
+-- what stands at an option that isn't there
+content_at-absent : (option : OptionWord) (entries : List Entry) → has option entries ≡ false → content_at option entries ≡ None
+content_at-absent option [] absent = refl
+content_at-absent option (first ∷ entries) absent =
+    let parts = both_false (same first.0 option) (has option entries) absent in
+    rw parts.0 (content_at-absent option entries parts.1)
 
-pub verb_in-write : (entries : List Entry) (file ridfld from : List ℕ) → content_at File entries ≡ Some (name8 file) → content_at Ridfld entries ≡ Some (text ridfld)
-    → content_at From entries ≡ Some (text from) → verb_in command.Write entries ≡ Ok (verb.Write file ridfld None from None)
-verb_in-write entries file ridfld from has_file has_ridfld has_from = rw has_file (rw has_ridfld (rw has_from refl))
+has-content_at : (option : OptionWord) (entries : List Entry) → has option entries ≡ is_some (content_at option entries)
+has-content_at option [] = refl
+has-content_at option (first ∷ entries) =
+    elim (cases_Bool (same first.0 option)) [ inl here ↦ rw here refl | inr other ↦ rw other (has-content_at option entries) ]
+
+module _ (entries : List Entry) (apart : AreApart entries) where
+  -- what an option gives that is there with this content, or isn't there
+  content_at-gives : (option : OptionWord) (content : Option Content) → Gives option content entries → content_at option entries ≡ content
+  content_at-gives option None absent = content_at-absent option entries absent
+  content_at-gives option (Some content) stands = content_at-stands option content entries apart stands
+
+  pub has-gives : (option : OptionWord) (b : Bool) → Gives option (flag b) entries → has option entries ≡ b
+  has-gives option true gives = has-content_at option entries ∙ ap is_some (content_at-gives option (Some nothing) gives)
+  has-gives option false gives = gives
+
+  amount_at-gives : (option : OptionWord) (n : Option ℕ) → Gives option (option_map amount n) entries → amount_at option entries ≡ n
+  amount_at-gives option None gives = rw (content_at-gives option None gives) refl
+  amount_at-gives option (Some n) gives = rw (content_at-gives option (Some (amount n)) gives) refl
+
+  name4_at-gives : (option : OptionWord) (name : Option (List ℕ)) → Gives option (option_map name4 name) entries → name4_at option entries ≡ name
+  name4_at-gives option None gives = rw (content_at-gives option None gives) refl
+  name4_at-gives option (Some name) gives = rw (content_at-gives option (Some (name4 name)) gives) refl
+
+  text_at-gives : (option : OptionWord) (said : List ℕ) → Gives option (Some (text said)) entries → text_at option entries ≡ Some said
+  text_at-gives option said gives = rw (content_at-gives option (Some (text said)) gives) refl
+
+  name8_at-gives : (option : OptionWord) (name : List ℕ) → Gives option (Some (name8 name)) entries → name8_at option entries ≡ Some name
+  name8_at-gives option name gives = rw (content_at-gives option (Some (name8 name)) gives) refl
+
+  -- what a command asks for, by what its options give
+  verb_in-given : (asked : Verb) → AllGiven (options_of asked) entries → IfSome (word_of asked) (λ first. verb_in first entries ≡ Ok asked)
+  verb_in-given (verb.Read file ridfld key_length length generic gteq update) given =
+      rw (name8_at-gives File file given.0, text_at-gives Ridfld ridfld given.1.0, amount_at-gives KeyLength key_length given.1.1.0, amount_at-gives Length length given.1.1.1.0, has-gives Generic generic given.1.1.1.1.0, has-gives Gteq gteq given.1.1.1.1.1.0, has-gives Update update given.1.1.1.1.1.1.0) refl
+  verb_in-given (verb.Write file ridfld key_length from length) given =
+      rw (name8_at-gives File file given.0, text_at-gives Ridfld ridfld given.1.0, amount_at-gives KeyLength key_length given.1.1.0, text_at-gives From from given.1.1.1.0, amount_at-gives Length length given.1.1.1.1.0) refl
+  verb_in-given (verb.Rewrite file from length) given =
+      rw (name8_at-gives File file given.0, text_at-gives From from given.1.0, amount_at-gives Length length given.1.1.0) refl
+  verb_in-given (verb.Delete file None (Some key_length)) given = tt
+  verb_in-given (verb.Delete file None None) given =
+      rw (name8_at-gives File file given.0, content_at-absent Ridfld entries given.1.0, amount_at-gives KeyLength None given.1.1.0) refl
+  verb_in-given (verb.Delete file (Some ridfld) key_length) given =
+      rw (name8_at-gives File file given.0, text_at-gives Ridfld ridfld given.1.0, amount_at-gives KeyLength key_length given.1.1.0) refl
+  verb_in-given (verb.Unlock file) given = rw (name8_at-gives File file given.0) refl
+  verb_in-given (verb.StartBr file ridfld key_length generic equal) given =
+      rw (name8_at-gives File file given.0, text_at-gives Ridfld ridfld given.1.0, amount_at-gives KeyLength key_length given.1.1.0, has-gives Generic generic given.1.1.1.0, has-gives Equal equal given.1.1.1.1.0) refl
+  verb_in-given (verb.ResetBr file ridfld key_length generic equal) given =
+      rw (name8_at-gives File file given.0, text_at-gives Ridfld ridfld given.1.0, amount_at-gives KeyLength key_length given.1.1.0, has-gives Generic generic given.1.1.1.0, has-gives Equal equal given.1.1.1.1.0) refl
+  verb_in-given (verb.ReadNext file length) given =
+      rw (name8_at-gives File file given.0, amount_at-gives Length length given.1.0) refl
+  verb_in-given (verb.ReadPrev file length) given =
+      rw (name8_at-gives File file given.0, amount_at-gives Length length given.1.0) refl
+  verb_in-given (verb.EndBr file) given = rw (name8_at-gives File file given.0) refl
+  verb_in-given (verb.WriteqTs queue from length item) given = tt
+  verb_in-given (verb.ReadqTs queue length item) given = tt
+  verb_in-given (verb.DeleteqTs queue) given = tt
+  verb_in-given (verb.WriteqTd queue from length) given = tt
+  verb_in-given (verb.ReadqTd queue length nosuspend) given = tt
+  verb_in-given (verb.DeleteqTd queue) given = tt
+  verb_in-given (verb.Enq resource length nosuspend) given =
+      rw (text_at-gives Resource resource given.0, amount_at-gives Length (Some length) given.1.0, has-gives NoSuspend nosuspend given.1.1.0) refl
+  verb_in-given (verb.Deq resource length) given =
+      rw (text_at-gives Resource resource given.0, amount_at-gives Length (Some length) given.1.0) refl
+  verb_in-given verb.Syncpoint given = rw (has-gives Rollback false given.0) refl
+  verb_in-given verb.Rollback given = rw (has-gives Rollback true given.0) refl
+  verb_in-given verb.Return given = refl
+  verb_in-given (verb.Abend code) given = rw (name4_at-gives AbCode code given.0) refl
+
+lookup-command_word : (first : CommandWord) → Some first ≡ lookup (command_word first) commands
+lookup-command_word command.Read = refl
+lookup-command_word command.Write = refl
+lookup-command_word command.Rewrite = refl
+lookup-command_word command.Delete = refl
+lookup-command_word command.Unlock = refl
+lookup-command_word command.StartBr = refl
+lookup-command_word command.ResetBr = refl
+lookup-command_word command.ReadNext = refl
+lookup-command_word command.ReadPrev = refl
+lookup-command_word command.EndBr = refl
+lookup-command_word command.Enq = refl
+lookup-command_word command.Deq = refl
+lookup-command_word command.Syncpoint = refl
+lookup-command_word command.Return = refl
+lookup-command_word command.Abend = refl
+
+given-word : (found : Option CommandWord) (first : CommandWord) (P : CommandWord → Type 0) → found ≡ Some first → IfSome found P → P first
+given-word found first P is holds = subst (λ o. IfSome o P) is holds
+
+-- what is made of the options that were read
+abbrev made_of : List ℕ → CommandWord → List Entry → Result Line LineFault
+made_of label first entries = verb_in first entries >>= λ made. Ok (Issue label (record { verb = made; resp = is_handled entries }))
+
+-- the line of a command, as it is written
+pub command-written : (label : List ℕ) (asked : Command) (first : CommandWord) (written : List Written) (entries : List Entry)
+    → word_of asked.verb ≡ Some first → AreOptions (Form.Command first) written entries → AreApart entries → Says asked entries
+    → command_line label (word (command_word first) ∷ flat_map option_tokens written) ≡ Ok (Issue label asked)
+command-written label asked first written entries is are apart says =
+    ap (λ found. known found >>= λ verb. options (Form.Command verb) (flat_map option_tokens written) >>= made_of label verb) (sym (lookup-command_word first))
+    ∙ ap (λ read. read >>= made_of label first) (options-written (Form.Command first) written entries are apart)
+    ∙ ap (λ made. made >>= λ made. Ok (Issue label (record { verb = made; resp = is_handled entries })))
+    (given-word (word_of asked.verb) first (λ first. verb_in first entries ≡ Ok asked.verb) is (verb_in-given entries apart asked.verb says.0))
+    ∙ ap (λ resp. Ok (Issue label (record { verb = asked.verb; resp = resp }))) says.1

@@ -112,11 +112,11 @@ pub token-within : (c : ℕ) (bytes : List ℕ) → length (token_at (c ∷ byte
 token-within c [] = plain-within c []
 token-within c (d ∷ bytes) = hexadecimal_or-within c d bytes (plain_at c (d ∷ bytes)) (plain-within c (d ∷ bytes))
 
-blanks-within : (bytes : List ℕ) → length (after_blanks bytes) ≤ length bytes
+pub blanks-within : (bytes : List ℕ) → length (after_blanks bytes) ≤ length bytes
 blanks-within bytes = simp length-drop (omega arith)
 
 -- so many tokens or more are all of them
-enough : (n m : ℕ) (bytes : List ℕ) → length bytes ≤ n → length bytes ≤ m → tokens_in n bytes ≡ tokens_in m bytes
+pub enough : (n m : ℕ) (bytes : List ℕ) → length bytes ≤ n → length bytes ≤ m → tokens_in n bytes ≡ tokens_in m bytes
 enough zero zero bytes h k = refl
 enough zero (suc m) [] h k = refl
 enough zero (suc m) (c ∷ bytes) h k = absurd (omega arith)

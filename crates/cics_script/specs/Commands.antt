@@ -1,24 +1,57 @@
 -- What a command asks for, by its verb and its options.
-use Rattle.std.specs.Prelude.{Bool, true, false, not, ◌||◌, List, None, Result, Ok}
+use Rattle.std.specs.Prelude.{ℕ, Bool, ◌||◌, if◌then◌else◌, List, Option, None, Some, Result, Ok, Err}
 use Rattle.cics_dispatch.specs.declared.commands.Verb.{Verb}
 use Rattle.cics_dispatch.specs.declared.commands.Verb.TheVariants as verb
 use Rattle.cics_script.specs.declared.faults.LineFault.{LineFault}
+use Rattle.cics_script.specs.declared.faults.LineFault.TheVariants.{MissingOption}
 use Rattle.cics_script.specs.declared.words.CommandWord.{CommandWord}
 use Rattle.cics_script.specs.declared.words.CommandWord.TheVariants as command
-use Rattle.cics_script.specs.declared.words.OptionWord.TheVariants.{File, From, Ridfld, Resp, NoHandle}
+use Rattle.cics_script.specs.declared.words.OptionWord.TheVariants.{File, KeyLength, From, Ridfld, Length, Generic, Equal, Gteq, Update, Resource, NoSuspend, Rollback, AbCode, Resp, NoHandle}
+use Rattle.cics_script.specs.Faults.{◌>>=◌}
 use Rattle.cics_script.specs.Options.{Entry}
-use Rattle.cics_script.specs.Values.{has, text_at, name8_at, needed}
+use Rattle.cics_script.specs.Values.{has, text_at, name8_at, name4_at, amount_at, needed}
+
+-- the file of a command, and the key that it names
+abbrev pub keyed_in : List Entry → Result (List ℕ × List ℕ) LineFault
+keyed_in entries = needed (name8_at File entries) λ file. needed (text_at Ridfld entries) λ ridfld. Ok (file, ridfld)
+
+-- the value that a command enqueues on or gives back, and how many of its bytes count
+abbrev pub enqueued_in : List Entry → Result (List ℕ × ℕ) LineFault
+enqueued_in entries = needed (text_at Resource entries) λ resource. needed (amount_at Length entries) λ length. Ok (resource, length)
+
+-- DELETE of the record of a key, or without a key of the one that was read for update; KEYLENGTH needs a key
+abbrev pub delete_of : List ℕ → Option (List ℕ) → Option ℕ → Result Verb LineFault
+delete_of file None (Some key_length) = Err MissingOption
+delete_of file None None = Ok (verb.Delete file None None)
+delete_of file (Some ridfld) key_length = Ok (verb.Delete file (Some ridfld) key_length)
 
 -- what a command asks for
 abbrev pub verb_in : CommandWord → List Entry → Result Verb LineFault
 verb_in command.Read entries =
-    needed (name8_at File entries) λ file. needed (text_at Ridfld entries) λ ridfld.
-    Ok (verb.Read file ridfld None None false false false)
+    keyed_in entries >>= λ keyed.
+    Ok (verb.Read keyed.0 keyed.1 (amount_at KeyLength entries) (amount_at Length entries) (has Generic entries) (has Gteq entries) (has Update entries))
 verb_in command.Write entries =
-    needed (name8_at File entries) λ file. needed (text_at Ridfld entries) λ ridfld. needed (text_at From entries) λ from.
-    Ok (verb.Write file ridfld None from None)
-verb_in command.Syncpoint entries = Ok verb.Syncpoint
+    keyed_in entries >>= λ keyed. needed (text_at From entries) λ from.
+    Ok (verb.Write keyed.0 keyed.1 (amount_at KeyLength entries) from (amount_at Length entries))
+verb_in command.Rewrite entries =
+    needed (name8_at File entries) λ file. needed (text_at From entries) λ from. Ok (verb.Rewrite file from (amount_at Length entries))
+verb_in command.Delete entries =
+    needed (name8_at File entries) λ file. delete_of file (text_at Ridfld entries) (amount_at KeyLength entries)
+verb_in command.Unlock entries = needed (name8_at File entries) λ file. Ok (verb.Unlock file)
+verb_in command.StartBr entries =
+    keyed_in entries >>= λ keyed.
+    Ok (verb.StartBr keyed.0 keyed.1 (amount_at KeyLength entries) (has Generic entries) (has Equal entries))
+verb_in command.ResetBr entries =
+    keyed_in entries >>= λ keyed.
+    Ok (verb.ResetBr keyed.0 keyed.1 (amount_at KeyLength entries) (has Generic entries) (has Equal entries))
+verb_in command.ReadNext entries = needed (name8_at File entries) λ file. Ok (verb.ReadNext file (amount_at Length entries))
+verb_in command.ReadPrev entries = needed (name8_at File entries) λ file. Ok (verb.ReadPrev file (amount_at Length entries))
+verb_in command.EndBr entries = needed (name8_at File entries) λ file. Ok (verb.EndBr file)
+verb_in command.Enq entries = enqueued_in entries >>= λ value. Ok (verb.Enq value.0 value.1 (has NoSuspend entries))
+verb_in command.Deq entries = enqueued_in entries >>= λ value. Ok (verb.Deq value.0 value.1)
+verb_in command.Syncpoint entries = Ok (if has Rollback entries then verb.Rollback else verb.Syncpoint)
 verb_in command.Return entries = Ok verb.Return
+verb_in command.Abend entries = Ok (verb.Abend (name4_at AbCode entries))
 
 -- RESP and NOHANDLE handle a command's conditions
 abbrev pub is_handled : List Entry → Bool

@@ -7,4 +7,5 @@ pub mod Views
 pub mod Values
 pub mod Commands
 pub mod Lines
+pub mod Layout
 pub mod Spelling

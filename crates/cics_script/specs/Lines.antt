@@ -7,7 +7,7 @@ use Rattle.cics_names.specs.declared.names.NameFault.{NameFault}
 use Rattle.cics_script.specs.declared.lines.Line.{Line}
 use Rattle.cics_script.specs.declared.lines.Line.TheVariants as line_of
 use Rattle.cics_script.specs.declared.faults.LineFault.{LineFault}
-use Rattle.cics_script.specs.declared.faults.LineFault.TheVariants.{TooLong, NotAscii, UnknownWord}
+use Rattle.cics_script.specs.declared.faults.LineFault.TheVariants.{TooLong, NotAscii, UnknownWord, BadNumber}
 use Rattle.cics_script.specs.declared.words.Start.{Start}
 use Rattle.cics_script.specs.declared.words.Start.TheVariants as start
 use Rattle.cics_script.specs.declared.words.DefineObject.{DefineObject}
@@ -15,12 +15,12 @@ use Rattle.cics_script.specs.declared.words.DefineObject.TheVariants as defined
 use Rattle.cics_script.specs.declared.words.LoadObject.{LoadObject}
 use Rattle.cics_script.specs.declared.words.LoadObject.TheVariants as loaded
 use Rattle.cics_script.specs.declared.words.Form.TheVariants as form
-use Rattle.cics_script.specs.declared.words.OptionWord.TheVariants.{File, KeyLength, KeyOffset, RecordSize, Recoverable, Unrecoverable, From, Transid}
+use Rattle.cics_script.specs.declared.words.OptionWord.TheVariants.{File, KeyLength, KeyOffset, RecordSize, Recoverable, Unrecoverable, From, Transid, Dtimout}
 use Rattle.cics_script.specs.Faults.{◌>>=◌}
-use Rattle.cics_script.specs.Tokens.{Token, word, broken, is_capital, is_digit, after_blanks, tokens}
+use Rattle.cics_script.specs.Tokens.{Token, word, number, broken, is_capital, is_digit, after_blanks, tokens}
 use Rattle.cics_script.specs.Words.{lookup, starts, define_objects, load_objects, commands}
 use Rattle.cics_script.specs.Values.{has, text_at, name8_at, name4_at, amount_at, needed}
-use Rattle.cics_dispatch.specs.OneTask.{is_first_path}
+use Rattle.cics_dispatch.specs.Verbs.{asks_no_queue}
 use Rattle.cics_script.specs.Commands.{verb_in, is_handled}
 use Rattle.cics_script.specs.Options.{Entry, options}
 use lib.Chars.{codes}
@@ -46,9 +46,9 @@ load_in loaded.File entries =
     needed (name8_at File entries) λ name. needed (text_at From entries) λ record_bytes.
     Ok (line_of.LoadFile name record_bytes)
 
--- what ATTACH attaches, without a time-out
+-- what ATTACH attaches; its commands wait without a limit, where the line does not say otherwise
 abbrev pub attach_in : List ℕ → List Entry → Result Line LineFault
-attach_in label entries = needed (name4_at Transid entries) λ transaction. Ok (line_of.Attach label transaction 0)
+attach_in label entries = needed (name4_at Transid entries) λ transaction. Ok (line_of.Attach label transaction (unwrap_or (amount_at Dtimout entries) 0))
 
 -- the word in front, where a word has to stand
 abbrev pub word_first : List Token → Result (List ℕ × List Token) LineFault
@@ -96,6 +96,17 @@ attach rest =
     word_first rest >>= λ first. label_in first.0 >>= λ label.
     options form.Attach first.1 >>= λ entries. attach_in label entries
 
+-- the number in front, where a number has to stand
+abbrev pub number_first : List Token → Result (ℕ × List Token) LineFault
+number_first [] = Err BadNumber
+number_first (number n ∷ rest) = Ok (n, rest)
+number_first (broken fault ∷ rest) = Err fault
+number_first (token ∷ rest) = Err BadNumber
+
+-- CLOCK, behind the word; it has no options
+abbrev pub clock : List Token → Result Line LineFault
+clock rest = number_first rest >>= λ first. options form.Clock first.1 >>= λ entries. Ok (line_of.Clock first.0)
+
 -- a command of the task with this label, from its verb on
 abbrev pub command_line : List ℕ → List Token → Result Line LineFault
 command_line label rest =
@@ -112,6 +123,7 @@ abbrev pub begun : Option Start → List ℕ → List Token → Result Line Line
 begun (Some start.Define) first rest = define rest
 begun (Some start.Load) first rest = load rest
 begun (Some start.Attach) first rest = attach rest
+begun (Some start.Clock) first rest = clock rest
 begun (Some start.Reserved) first rest = Err UnknownWord
 begun None first rest = label_in first >>= λ label. issue label rest
 
@@ -136,7 +148,7 @@ line bytes =
     else if is_empty_or_comment (after_blanks bytes) then Ok line_of.Blank
     else statement (tokens bytes)
 
--- a command that is read is one that a region of one task executes
-abbrev pub IsFirstPathLine : Line → Type 0
-IsFirstPathLine (line_of.Issue label command) = IsTrue (is_first_path command.verb)
-IsFirstPathLine _ = Unit {0}
+-- a command that is read asks nothing of a queue
+abbrev pub AsksNoQueue : Line → Type 0
+AsksNoQueue (line_of.Issue label command) = IsTrue (asks_no_queue command.verb)
+AsksNoQueue _ = Unit {0}

@@ -9,7 +9,7 @@ use Rattle.cics_script.specs.declared.literals.Notation.TheVariants.{Quoted}
 use Rattle.cics_script.specs.declared.words.Form.{Form}
 use Rattle.cics_script.specs.declared.words.OptionWord.{OptionWord}
 use Rattle.cics_script.specs.declared.words.Kind.{Kind}
-use Rattle.cics_script.specs.declared.words.Kind.TheVariants.{Flag, Text, Name8, Name4, Number, Area}
+use Rattle.cics_script.specs.declared.words.Kind.TheVariants.{Flag, Text, Name8, Name4, Number, Area, Last}
 use Rattle.cics_script.specs.Faults.{◌>>=◌}
 use Rattle.cics_script.specs.Tokens.{Token, word, number, literal, opening, closing, broken}
 use Rattle.cics_script.specs.Literals.{recorded}
@@ -27,12 +27,13 @@ pub data Content : Type 0 where
 abbrev pub Entry : Type 0
 Entry = OptionWord × Content
 
--- what stands next: an option (behind one of this kind, or none), or a part of an option's value
+-- what stands next: an option (behind one of this kind, or none), a part of an option's value, or nothing more
 pub data Place : Type 0 where
   at_option : Option Kind → Place
   at_opening : OptionWord → Kind → Place
   at_value : OptionWord → Kind → Place
   at_closing : OptionWord → Kind → Content → Place
+  at_end : Place
 
 -- the fault of a wrong or missing value or parenthesis
 abbrev pub fault_of : Kind → LineFault
@@ -69,9 +70,10 @@ allowed found option (Some kind) =
     else if list_any (λ entry. excludes entry.0 option) found then Err OptionNotHere
     else Ok kind
 
--- behind an option's word: a flag is whole, any other option has its value to come
+-- behind an option's word: a flag is whole, the last option ends the line, and any other option has its value to come
 abbrev pub entered : OptionWord → List Entry → Kind → Place × List Entry
 entered option found Flag = (at_option (Some Flag), found ++ (option, nothing) ∷ [])
+entered option found Last = (at_end, found ++ (option, nothing) ∷ [])
 entered option found kind = (at_opening option kind, found)
 
 -- an option's word: of no line, or what it takes in this line
@@ -91,6 +93,7 @@ moves form (at_opening option kind) found token = Err (fault_of kind)
 moves form (at_value option kind) found token = content_in kind token >>= λ content. Ok (at_closing option kind content, found)
 moves form (at_closing option kind content) found closing = Ok (at_option (Some kind), found ++ (option, content) ∷ [])
 moves form (at_closing option kind content) found token = Err (fault_of kind)
+moves form at_end found token = Err UnknownWord
 
 -- the line's end: a token that is missing has the fault of a wrong one
 abbrev pub ends : Place → List Entry → Result (List Entry) LineFault
@@ -98,11 +101,17 @@ ends (at_option last) found = Ok found
 ends (at_opening option kind) found = Err (fault_of kind)
 ends (at_value option kind) found = Err (fault_of kind)
 ends (at_closing option kind content) found = Err (fault_of kind)
+ends at_end found = Ok found
 
 -- the options from here to the line's end
 abbrev pub reads : Form → Place → List Entry → List Token → Result (List Entry) LineFault
 reads form place found [] = ends place found
 reads form place found (token ∷ tokens) = moves form place found token >>= λ next. reads form next.0 next.1 tokens
+
+-- the place behind a whole option
+abbrev pub behind_option : Kind → Place
+behind_option Last = at_end
+behind_option kind = at_option (Some kind)
 
 -- the options of a line behind its fixed part
 abbrev pub options : Form → List Token → Result (List Entry) LineFault

@@ -1,17 +1,24 @@
 -- How commands can be written: the options of a command in any order.
-use Rattle.std.specs.Prelude.{◌≡◌, ℕ, false, ◌||◌, ◌⊎◌, List, [], ◌∷◌, Option, None, Some, Ok}
-use Rattle.std.specs.List.{list_any}
-use Rattle.cics_script.specs.declared.literals.Notation.{Notation}
+use Rattle.std.specs.Prelude.{◌≡◌, ◌<◌, ◌^◌, ℕ, Bool, true, false, not, ◌&&◌, ◌||◌, ◌⊎◌, IsTrue, nat_lt, List, [], ◌∷◌, Option, None, Some, option_map, Ok, IfSome}
+use Rattle.std.specs.List.{list_any, list_all, flat_map}
+use Rattle.cics_names.specs.Names.{name_of}
+use Rattle.cics_dispatch.specs.declared.commands.Command.{Command}
+use Rattle.cics_dispatch.specs.declared.commands.Verb.{Verb}
+use Rattle.cics_dispatch.specs.declared.commands.Verb.TheVariants as verb
 use Rattle.cics_script.specs.declared.words.CommandWord.{CommandWord}
 use Rattle.cics_script.specs.declared.words.CommandWord.TheVariants as command
 use Rattle.cics_script.specs.declared.words.Form.{Form}
+use Rattle.cics_script.specs.declared.words.Form.TheVariants as form
 use Rattle.cics_script.specs.declared.words.OptionWord.{OptionWord}
-use Rattle.cics_script.specs.declared.words.OptionWord.TheVariants.{File, KeyLength, KeyOffset, RecordSize, Recoverable, Unrecoverable, From, Transid, Ridfld, Resp, NoHandle}
+use Rattle.cics_script.specs.declared.words.OptionWord.TheVariants.{File, KeyLength, KeyOffset, RecordSize, Recoverable, Unrecoverable, From, Transid, Dtimout, Ridfld, Length, Into, Generic, Equal, Gteq, Update, Resource, NoSuspend, Rollback, AbCode, Cancel, NoDump, Resp, Resp2, NoHandle, EndExec}
 use Rattle.cics_script.specs.declared.words.Kind.{Kind}
-use Rattle.cics_script.specs.declared.words.Kind.TheVariants.{Flag}
-use Rattle.cics_script.specs.Tokens.{Token, word, literal, opening, closing}
+use Rattle.cics_script.specs.declared.words.Kind.TheVariants.{Flag, Last}
+use Rattle.cics_script.specs.Tokens.{Token, word, opening, closing}
 use Rattle.cics_script.specs.Words.{same, excludes, kind_in}
-use Rattle.cics_script.specs.Options.{Content, nothing, content_in, Entry}
+use Rattle.cics_script.specs.Options.{Content, text, name8, name4, amount, nothing, content_in, Entry}
+use Rattle.cics_script.specs.Values.{has}
+use Rattle.cics_script.specs.Commands.{is_handled}
+use Rattle.cics_script.specs.Layout.{IsWritable}
 use lib.Chars.{codes}
 
 -- the word of an option
@@ -24,38 +31,77 @@ option_word Recoverable = codes "RECOVERABLE"
 option_word Unrecoverable = codes "UNRECOVERABLE"
 option_word From = codes "FROM"
 option_word Transid = codes "TRANSID"
+option_word Dtimout = codes "DTIMOUT"
 option_word Ridfld = codes "RIDFLD"
+option_word Length = codes "LENGTH"
+option_word Into = codes "INTO"
+option_word Generic = codes "GENERIC"
+option_word Equal = codes "EQUAL"
+option_word Gteq = codes "GTEQ"
+option_word Update = codes "UPDATE"
+option_word Resource = codes "RESOURCE"
+option_word NoSuspend = codes "NOSUSPEND"
+option_word Rollback = codes "ROLLBACK"
+option_word AbCode = codes "ABCODE"
+option_word Cancel = codes "CANCEL"
+option_word NoDump = codes "NODUMP"
 option_word Resp = codes "RESP"
+option_word Resp2 = codes "RESP2"
 option_word NoHandle = codes "NOHANDLE"
+option_word EndExec = codes "END-EXEC"
 
 -- the word of a command
 abbrev pub command_word : CommandWord → List ℕ
 command_word command.Read = codes "READ"
 command_word command.Write = codes "WRITE"
+command_word command.Rewrite = codes "REWRITE"
+command_word command.Delete = codes "DELETE"
+command_word command.Unlock = codes "UNLOCK"
+command_word command.StartBr = codes "STARTBR"
+command_word command.ResetBr = codes "RESETBR"
+command_word command.ReadNext = codes "READNEXT"
+command_word command.ReadPrev = codes "READPREV"
+command_word command.EndBr = codes "ENDBR"
+command_word command.Enq = codes "ENQ"
+command_word command.Deq = codes "DEQ"
 command_word command.Syncpoint = codes "SYNCPOINT"
 command_word command.Return = codes "RETURN"
+command_word command.Abend = codes "ABEND"
 
--- an option as it is written: its word, and a literal in parentheses where it has a value
+-- an option as it is written: its word, and a token in parentheses where it has a value
 pub record Written : Type 0 where
   pub option : OptionWord
-  pub value : Option (Notation × List ℕ)
+  pub value : Option Token
 
 -- the tokens of a value
-abbrev pub value_tokens : Option (Notation × List ℕ) → List Token
+abbrev pub value_tokens : Option Token → List Token
 value_tokens None = []
-value_tokens (Some value) = opening ∷ literal value.0 value.1 ∷ closing ∷ []
+value_tokens (Some value) = opening ∷ value ∷ closing ∷ []
 
 -- the tokens of an option
 abbrev pub option_tokens : Written → List Token
 option_tokens written = word (option_word written.option) ∷ value_tokens written.value
 
--- a flag has no value, and any other option of the line a literal of its kind
-abbrev pub IsValue : Option Kind → Option (Notation × List ℕ) → Content → Type 0
-IsValue None value content = ⊥
-IsValue (Some Flag) None content = nothing ≡ content
-IsValue (Some Flag) (Some value) content = ⊥
-IsValue (Some kind) None content = ⊥
-IsValue (Some kind) (Some value) content = content_in kind (literal value.0 value.1) ≡ Ok content
+-- whether an option of this kind stands alone
+abbrev pub is_bare : Kind → Bool
+is_bare Flag = true
+is_bare Last = true
+is_bare kind = false
+
+-- an option that stands alone gives nothing, and any other has a token that is a value of its kind
+abbrev pub IsValue : Kind → Option Token → Content → Type 0
+IsValue kind None content = (is_bare kind ≡ true) × (nothing ≡ content)
+IsValue kind (Some value) content = content_in kind value ≡ Ok content
+
+-- nothing follows END-EXEC
+abbrev pub MayPrecede : Kind → List Written → Type 0
+MayPrecede Last (other ∷ others) = ⊥
+MayPrecede kind others = Unit {0}
+
+-- an option that the line has, with its value, before these others
+abbrev pub IsWritten : Option Kind → Option Token → Content → List Written → Type 0
+IsWritten None value content others = ⊥
+IsWritten (Some kind) value content others = IsValue kind value content × MayPrecede kind others
 
 -- options of the line as they are written, and what each gives
 abbrev pub AreOptions : Form → List Written → List Entry → Type 0
@@ -63,7 +109,7 @@ AreOptions form [] [] = Unit {0}
 AreOptions form [] (entry ∷ entries) = ⊥
 AreOptions form (written ∷ others) [] = ⊥
 AreOptions form (written ∷ others) (entry ∷ entries) =
-    (written.option ≡ entry.0) × IsValue (kind_in form entry.0) written.value entry.1 × AreOptions form others entries
+    (written.option ≡ entry.0) × IsWritten (kind_in form entry.0) written.value entry.1 others × AreOptions form others entries
 
 -- no option stands twice, and no two exclude each other
 abbrev pub AreApart : List Entry → Type 0
@@ -74,3 +120,117 @@ AreApart (entry ∷ entries) = (list_any (λ later. same entry.0 later.0 || excl
 abbrev pub Stands : Entry → List Entry → Type 0
 Stands option [] = ⊥
 Stands option (entry ∷ entries) = (option ≡ entry) ⊎ Stands option entries
+
+-- an option stands among others with what it is to give, or doesn't stand there
+abbrev pub Gives : OptionWord → Option Content → List Entry → Type 0
+Gives option None entries = has option entries ≡ false
+Gives option (Some content) entries = Stands (option, content) entries
+
+-- what a flag gives
+abbrev pub flag : Bool → Option Content
+flag true = Some nothing
+flag false = None
+
+-- the options that make a command what it is, each with what it gives, or with nothing where it has to be left out
+abbrev pub options_of : Verb → List (OptionWord × Option Content)
+options_of (verb.Read file ridfld key_length length generic gteq update) =
+    (File, Some (name8 file)) ∷ (Ridfld, Some (text ridfld)) ∷ (KeyLength, option_map amount key_length) ∷ (Length, option_map amount length)
+    ∷ (Generic, flag generic) ∷ (Gteq, flag gteq) ∷ (Update, flag update) ∷ []
+options_of (verb.Write file ridfld key_length from length) =
+    (File, Some (name8 file)) ∷ (Ridfld, Some (text ridfld)) ∷ (KeyLength, option_map amount key_length) ∷ (From, Some (text from))
+    ∷ (Length, option_map amount length) ∷ []
+options_of (verb.Rewrite file from length) = (File, Some (name8 file)) ∷ (From, Some (text from)) ∷ (Length, option_map amount length) ∷ []
+options_of (verb.Delete file ridfld key_length) =
+    (File, Some (name8 file)) ∷ (Ridfld, option_map text ridfld) ∷ (KeyLength, option_map amount key_length) ∷ []
+options_of (verb.Unlock file) = (File, Some (name8 file)) ∷ []
+options_of (verb.StartBr file ridfld key_length generic equal) =
+    (File, Some (name8 file)) ∷ (Ridfld, Some (text ridfld)) ∷ (KeyLength, option_map amount key_length)
+    ∷ (Generic, flag generic) ∷ (Equal, flag equal) ∷ []
+options_of (verb.ResetBr file ridfld key_length generic equal) =
+    (File, Some (name8 file)) ∷ (Ridfld, Some (text ridfld)) ∷ (KeyLength, option_map amount key_length)
+    ∷ (Generic, flag generic) ∷ (Equal, flag equal) ∷ []
+options_of (verb.ReadNext file length) = (File, Some (name8 file)) ∷ (Length, option_map amount length) ∷ []
+options_of (verb.ReadPrev file length) = (File, Some (name8 file)) ∷ (Length, option_map amount length) ∷ []
+options_of (verb.EndBr file) = (File, Some (name8 file)) ∷ []
+options_of (verb.Enq resource length nosuspend) =
+    (Resource, Some (text resource)) ∷ (Length, Some (amount length)) ∷ (NoSuspend, flag nosuspend) ∷ []
+options_of (verb.Deq resource length) = (Resource, Some (text resource)) ∷ (Length, Some (amount length)) ∷ []
+options_of verb.Syncpoint = (Rollback, None) ∷ []
+options_of verb.Rollback = (Rollback, Some nothing) ∷ []
+options_of (verb.Abend code) = (AbCode, option_map name4 code) ∷ []
+options_of _ = []
+
+-- the word of a command, where the grammar has one: it has none for the commands on queues, and DELETE takes KEYLENGTH with RIDFLD only
+abbrev pub word_of : Verb → Option CommandWord
+word_of (verb.Read file ridfld key_length length generic gteq update) = Some command.Read
+word_of (verb.Write file ridfld key_length from length) = Some command.Write
+word_of (verb.Rewrite file from length) = Some command.Rewrite
+word_of (verb.Delete file None (Some key_length)) = None
+word_of (verb.Delete file None None) = Some command.Delete
+word_of (verb.Delete file (Some ridfld) key_length) = Some command.Delete
+word_of (verb.Unlock file) = Some command.Unlock
+word_of (verb.StartBr file ridfld key_length generic equal) = Some command.StartBr
+word_of (verb.ResetBr file ridfld key_length generic equal) = Some command.ResetBr
+word_of (verb.ReadNext file length) = Some command.ReadNext
+word_of (verb.ReadPrev file length) = Some command.ReadPrev
+word_of (verb.EndBr file) = Some command.EndBr
+word_of (verb.Enq resource length nosuspend) = Some command.Enq
+word_of (verb.Deq resource length) = Some command.Deq
+word_of verb.Syncpoint = Some command.Syncpoint
+word_of verb.Rollback = Some command.Syncpoint
+word_of verb.Return = Some command.Return
+word_of (verb.Abend code) = Some command.Abend
+word_of _ = None
+
+-- each of these options is there with what it is to give, or left out
+abbrev pub AllGiven : List (OptionWord × Option Content) → List Entry → Type 0
+AllGiven [] entries = Unit {0}
+AllGiven (option ∷ options) entries = Gives option.0 option.1 entries × AllGiven options entries
+
+-- the options of a command say it: those that make it what it is are there, and RESP or NOHANDLE where its conditions are handled
+abbrev pub Says : Command → List Entry → Type 0
+Says command entries = AllGiven (options_of command.verb) entries × (is_handled entries ≡ command.resp)
+
+-- the tokens of a command's line: its task's label, EXEC CICS, its word and its options
+abbrev pub command_tokens : List ℕ → CommandWord → List Written → List Token
+command_tokens label first options =
+    word label ∷ word (codes "EXEC") ∷ word (codes "CICS") ∷ word (command_word first) ∷ flat_map option_tokens options
+
+-- options whose values can be written
+abbrev pub AreWritten : List Written → Type 0
+AreWritten [] = Unit {0}
+AreWritten (option ∷ options) = IfSome option.value IsWritable × AreWritten options
+
+-- a name that a text writes
+abbrev pub IsName : ℕ → List ℕ → Type 0
+IsName width name = (said : List ℕ) × (name_of width said ≡ Ok name)
+
+-- what an option can give: a record of bytes, a name, or a number of 64 bits
+abbrev pub CanBeGiven : Content → Type 0
+CanBeGiven (text bytes) = IsTrue (list_all (λ byte. nat_lt byte 256) bytes)
+CanBeGiven (name8 name) = IsName 8 name
+CanBeGiven (name4 name) = IsName 4 name
+CanBeGiven (amount n) = n < 2 ^ 64
+CanBeGiven nothing = Unit {0}
+
+-- options of which each can give what it is to give
+abbrev pub AllCanBeGiven : List (OptionWord × Option Content) → Type 0
+AllCanBeGiven [] = Unit {0}
+AllCanBeGiven (option ∷ options) = IfSome option.1 CanBeGiven × AllCanBeGiven options
+
+-- options that go together: UPDATE with neither GENERIC nor GTEQ, and KEYLENGTH of DELETE with RIDFLD only
+abbrev pub go_together : Verb → Bool
+go_together (verb.Read file ridfld key_length length generic gteq update) = not (update && (generic || gteq))
+go_together (verb.Delete file None (Some key_length)) = false
+go_together _ = true
+
+-- the options of a command, as they are written and as they are read, that make a line of it
+pub record Spelling (asked : Command) : Type 0 where
+  pub first : CommandWord
+  pub options : List Written
+  pub entries : List Entry
+  pub word : word_of asked.verb ≡ Some first
+  pub are_options : AreOptions (form.Command first) options entries
+  pub are_apart : AreApart entries
+  pub says : Says asked entries
+  pub are_written : AreWritten options

@@ -15,7 +15,7 @@ use Rattle.cics_script.specs.declared.words.Kind.{Kind}
 use Rattle.cics_script.specs.Faults.{Refuses}
 use Rattle.cics_script.specs.Literals.{said, recorded}
 use Rattle.cics_script.specs.Tokens.{Token, word, number, literal, opening, closing, broken, capital, text_in, tokens}
-use Rattle.cics_script.specs.Options.{Content, text, name8, name4, amount, nothing, Entry, Place, at_option, reads}
+use Rattle.cics_script.specs.Options.{Content, text, name8, name4, amount, nothing, Entry, Place, at_option, at_end, behind_option, reads}
 
 -- a token that lies in its line
 abbrev pub view : made.Token → Token
@@ -40,6 +40,11 @@ Takes bytes (Err fault) = tokens bytes ≡ broken fault ∷ []
 abbrev pub GivesWord : Result (List ℕ × List Token) LineFault → Result (Bor (List ℕ) × Bor (List ℕ)) LineFault → Type 0
 GivesWord read (Ok found) = read ≡ Ok (map capital found.0.now, tokens found.1.now)
 GivesWord read (Err fault) = read ≡ Err fault
+
+-- what reading a number and what follows it gave
+abbrev pub GivesNumber : Result (ℕ × List Token) LineFault → Result (ℕ × Bor (List ℕ)) LineFault → Type 0
+GivesNumber read (Ok found) = read ≡ Ok (found.0, tokens found.1.now)
+GivesNumber read (Err fault) = read ≡ Err fault
 
 -- what reading a word that has to stand there gave
 abbrev pub GivesRest : Result (List Token) LineFault → Result (Bor (List ℕ)) LineFault → Type 0
@@ -72,9 +77,14 @@ Steps form found place bytes after (Err fault) = Refuses (reads form place found
 -- what reading an option behind its word gave
 abbrev pub Enters : Form → Option Kind → List Entry → List ℕ → List ℕ → Result Next LineFault → Type 0
 Enters form last found w bytes (Ok next) =
-    (reads form (at_option last) found (word w ∷ tokens bytes) ≡ reads form (at_option (Some next.kind)) (found ++ (next.one.option, content next.one.value) ∷ []) (tokens next.rest.now))
+    (reads form (at_option last) found (word w ∷ tokens bytes) ≡ reads form (behind_option next.kind) (found ++ (next.one.option, content next.one.value) ∷ []) (tokens next.rest.now))
     × (length next.rest.now ≤ length bytes)
 Enters form last found w bytes (Err fault) = Refuses (reads form (at_option last) found (word w ∷ tokens bytes)) fault
+
+-- what looking for the line's end gave
+abbrev pub Ends : List ℕ → Result Unit LineFault → Type 0
+Ends bytes (Ok end) = (form : Form) (found : List Entry) → reads form at_end found (tokens bytes) ≡ Ok found
+Ends bytes (Err fault) = (form : Form) (found : List Entry) → Refuses (reads form at_end found (tokens bytes)) fault
 
 -- what reading all options gave
 abbrev pub GivesEntries : Result (List Entry) LineFault → Result (Vec Found Global) LineFault → Type 0

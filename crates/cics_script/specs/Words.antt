@@ -13,9 +13,9 @@ use Rattle.cics_script.specs.declared.words.CommandWord.TheVariants as command
 use Rattle.cics_script.specs.declared.words.Form.{Form}
 use Rattle.cics_script.specs.declared.words.Form.TheVariants as form
 use Rattle.cics_script.specs.declared.words.OptionWord.{OptionWord}
-use Rattle.cics_script.specs.declared.words.OptionWord.TheVariants.{File, KeyLength, KeyOffset, RecordSize, Recoverable, Unrecoverable, From, Transid, Ridfld, Resp, NoHandle}
+use Rattle.cics_script.specs.declared.words.OptionWord.TheVariants.{File, KeyLength, KeyOffset, RecordSize, Recoverable, Unrecoverable, From, Transid, Dtimout, Ridfld, Length, Into, Generic, Equal, Gteq, Update, Resource, NoSuspend, Rollback, AbCode, Cancel, NoDump, Resp, Resp2, NoHandle, EndExec}
 use Rattle.cics_script.specs.declared.words.Kind.{Kind}
-use Rattle.cics_script.specs.declared.words.Kind.TheVariants.{Flag, Text, Name8, Name4, Number, Area}
+use Rattle.cics_script.specs.declared.words.Kind.TheVariants.{Flag, Text, Name8, Name4, Number, Area, Last}
 use lib.Chars.{codes}
 
 -- what a table has for a word
@@ -27,7 +27,7 @@ lookup word (row ∷ rows) = if bytes_eq word row.0 then Some row.1 else lookup 
 abbrev pub starts : List (List ℕ × Start)
 starts =
     (codes "DEFINE", start.Define) ∷ (codes "LOAD", start.Load) ∷ (codes "ATTACH", start.Attach)
-    ∷ (codes "CLOCK", start.Reserved) ∷ (codes "SHUTDOWN", start.Reserved) ∷ []
+    ∷ (codes "CLOCK", start.Clock) ∷ (codes "SHUTDOWN", start.Reserved) ∷ []
 
 -- what DEFINE can define; DATASET is another word for FILE
 abbrev pub define_objects : List (List ℕ × DefineObject)
@@ -40,17 +40,24 @@ load_objects = (codes "FILE", loaded.File) ∷ (codes "DATASET", loaded.File) �
 -- the verbs
 abbrev pub commands : List (List ℕ × CommandWord)
 commands =
-    (codes "READ", command.Read) ∷ (codes "WRITE", command.Write)
-    ∷ (codes "SYNCPOINT", command.Syncpoint) ∷ (codes "RETURN", command.Return) ∷ []
+    (codes "READ", command.Read) ∷ (codes "WRITE", command.Write) ∷ (codes "REWRITE", command.Rewrite)
+    ∷ (codes "DELETE", command.Delete) ∷ (codes "UNLOCK", command.Unlock) ∷ (codes "STARTBR", command.StartBr)
+    ∷ (codes "RESETBR", command.ResetBr) ∷ (codes "READNEXT", command.ReadNext) ∷ (codes "READPREV", command.ReadPrev)
+    ∷ (codes "ENDBR", command.EndBr) ∷ (codes "ENQ", command.Enq) ∷ (codes "DEQ", command.Deq)
+    ∷ (codes "SYNCPOINT", command.Syncpoint) ∷ (codes "RETURN", command.Return) ∷ (codes "ABEND", command.Abend) ∷ []
 
 -- the words that are options of some line
 abbrev pub option_words : List (List ℕ × OptionWord)
 option_words =
-    (codes "FILE", File) ∷ (codes "DATASET", File)
-    ∷ (codes "KEYLENGTH", KeyLength) ∷ (codes "KEYOFFSET", KeyOffset) ∷ (codes "RECORDSIZE", RecordSize)
-    ∷ (codes "RECOVERABLE", Recoverable) ∷ (codes "UNRECOVERABLE", Unrecoverable)
-    ∷ (codes "FROM", From) ∷ (codes "TRANSID", Transid) ∷ (codes "RIDFLD", Ridfld)
-    ∷ (codes "RESP", Resp) ∷ (codes "NOHANDLE", NoHandle) ∷ []
+    (codes "FILE", File) ∷ (codes "DATASET", File) ∷ (codes "KEYLENGTH", KeyLength)
+    ∷ (codes "KEYOFFSET", KeyOffset) ∷ (codes "RECORDSIZE", RecordSize) ∷ (codes "RECOVERABLE", Recoverable)
+    ∷ (codes "UNRECOVERABLE", Unrecoverable) ∷ (codes "FROM", From) ∷ (codes "TRANSID", Transid)
+    ∷ (codes "DTIMOUT", Dtimout) ∷ (codes "RIDFLD", Ridfld) ∷ (codes "LENGTH", Length)
+    ∷ (codes "INTO", Into) ∷ (codes "GENERIC", Generic) ∷ (codes "EQUAL", Equal)
+    ∷ (codes "GTEQ", Gteq) ∷ (codes "UPDATE", Update) ∷ (codes "RESOURCE", Resource)
+    ∷ (codes "NOSUSPEND", NoSuspend) ∷ (codes "ROLLBACK", Rollback) ∷ (codes "ABCODE", AbCode)
+    ∷ (codes "CANCEL", Cancel) ∷ (codes "NODUMP", NoDump) ∷ (codes "RESP", Resp)
+    ∷ (codes "RESP2", Resp2) ∷ (codes "NOHANDLE", NoHandle) ∷ (codes "END-EXEC", EndExec) ∷ []
 
 -- the place of an option among the options
 abbrev pub place : OptionWord → ℕ
@@ -62,9 +69,24 @@ place Recoverable = 4
 place Unrecoverable = 5
 place From = 6
 place Transid = 7
-place Ridfld = 8
-place Resp = 9
-place NoHandle = 10
+place Dtimout = 8
+place Ridfld = 9
+place Length = 10
+place Into = 11
+place Generic = 12
+place Equal = 13
+place Gteq = 14
+place Update = 15
+place Resource = 16
+place NoSuspend = 17
+place Rollback = 18
+place AbCode = 19
+place Cancel = 20
+place NoDump = 21
+place Resp = 22
+place Resp2 = 23
+place NoHandle = 24
+place EndExec = 25
 
 -- whether two options are the same
 abbrev pub same : OptionWord → OptionWord → Bool
@@ -86,18 +108,39 @@ options_of_load loaded.File = (File, Name8) ∷ (From, Text) ∷ []
 
 -- what ATTACH takes
 abbrev pub options_of_attach : List (OptionWord × Kind)
-options_of_attach = (Transid, Name4) ∷ []
+options_of_attach = (Transid, Name4) ∷ (Dtimout, Number) ∷ []
+
+-- what the commands take that give a browse its place: STARTBR and RESETBR
+abbrev pub options_of_browse_start : List (OptionWord × Kind)
+options_of_browse_start = (File, Name8) ∷ (Ridfld, Text) ∷ (KeyLength, Number) ∷ (Generic, Flag) ∷ (Equal, Flag) ∷ (Gteq, Flag) ∷ []
+
+-- what the commands take that go on with a browse: READNEXT and READPREV, of which RIDFLD is read without effect
+abbrev pub options_of_browse_read : List (OptionWord × Kind)
+options_of_browse_read = (File, Name8) ∷ (Into, Area) ∷ (Ridfld, Area) ∷ (Length, Number) ∷ []
 
 -- what a command takes besides the options of every command
 abbrev pub options_of_command : CommandWord → List (OptionWord × Kind)
-options_of_command command.Read = (File, Name8) ∷ (Ridfld, Text) ∷ []
-options_of_command command.Write = (File, Name8) ∷ (Ridfld, Text) ∷ (From, Text) ∷ []
-options_of_command command.Syncpoint = []
+options_of_command command.Read =
+    (File, Name8) ∷ (Ridfld, Text) ∷ (KeyLength, Number) ∷ (Length, Number) ∷ (Into, Area)
+    ∷ (Generic, Flag) ∷ (Equal, Flag) ∷ (Gteq, Flag) ∷ (Update, Flag) ∷ []
+options_of_command command.Write = (File, Name8) ∷ (Ridfld, Text) ∷ (From, Text) ∷ (Length, Number) ∷ (KeyLength, Number) ∷ []
+options_of_command command.Rewrite = (File, Name8) ∷ (From, Text) ∷ (Length, Number) ∷ []
+options_of_command command.Delete = (File, Name8) ∷ (Ridfld, Text) ∷ (KeyLength, Number) ∷ []
+options_of_command command.Unlock = (File, Name8) ∷ []
+options_of_command command.StartBr = options_of_browse_start
+options_of_command command.ResetBr = options_of_browse_start
+options_of_command command.ReadNext = options_of_browse_read
+options_of_command command.ReadPrev = options_of_browse_read
+options_of_command command.EndBr = (File, Name8) ∷ []
+options_of_command command.Enq = (Resource, Text) ∷ (Length, Number) ∷ (NoSuspend, Flag) ∷ []
+options_of_command command.Deq = (Resource, Text) ∷ (Length, Number) ∷ []
+options_of_command command.Syncpoint = (Rollback, Flag) ∷ []
 options_of_command command.Return = []
+options_of_command command.Abend = (AbCode, Name4) ∷ (Cancel, Flag) ∷ (NoDump, Flag) ∷ []
 
 -- what every command takes
 abbrev pub options_of_every_command : List (OptionWord × Kind)
-options_of_every_command = (Resp, Area) ∷ (NoHandle, Flag) ∷ []
+options_of_every_command = (Resp, Area) ∷ (Resp2, Area) ∷ (NoHandle, Flag) ∷ (EndExec, Last) ∷ []
 
 -- the first kind, or else the second
 abbrev pub or_else : Option Kind → Option Kind → Option Kind
@@ -109,11 +152,12 @@ abbrev pub kind_in : Form → OptionWord → Option Kind
 kind_in (form.Define object) option = kind_among option (options_of_define object)
 kind_in (form.Load object) option = kind_among option (options_of_load object)
 kind_in form.Attach option = kind_among option options_of_attach
+kind_in form.Clock option = None
 kind_in (form.Command verb) option = or_else (kind_among option (options_of_command verb)) (kind_among option options_of_every_command)
 
 -- the pairs of options that one line can't have both
 abbrev pub exclusions : List (OptionWord × OptionWord)
-exclusions = (Recoverable, Unrecoverable) ∷ []
+exclusions = (Recoverable, Unrecoverable) ∷ (Equal, Gteq) ∷ (Update, Gteq) ∷ (Update, Generic) ∷ []
 
 -- whether a pair, in either order, is in these rows
 abbrev pub is_pair_in : OptionWord → OptionWord → List (OptionWord × OptionWord) → Bool

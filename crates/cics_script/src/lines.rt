@@ -4,8 +4,8 @@ ghost use Rattle.std.specs.Prelude.{◌≡◌, ◌||◌, Ok, IsTrue, map, option
 ghost use Rattle.std.specs.List.{list_all};
 ghost use Rattle.cics_script.specs.Faults.{Reads};
 ghost use Rattle.cics_script.specs.Tokens.{capital, tokens, after_blanks, is_capital, is_digit};
-ghost use Rattle.cics_script.specs.Views.{entries, GivesWord, GivesRest};
-ghost use Rattle.cics_script.specs.Lines.{recovery_in, definition_in, load_in, attach_in, word_first, behind, label_in, define, load, attach, command_line, issue, statement, is_script_byte, is_empty_or_comment, line, IsFirstPathLine};
+ghost use Rattle.cics_script.specs.Views.{entries, GivesWord, GivesNumber, GivesRest};
+ghost use Rattle.cics_script.specs.Lines.{recovery_in, definition_in, load_in, attach_in, word_first, behind, label_in, define, load, attach, number_first, clock, command_line, issue, statement, is_script_byte, is_empty_or_comment, line, AsksNoQueue};
 
 use crate::commands::{is_handled, verb_of};
 use crate::faults::LineFault;
@@ -41,6 +41,8 @@ pub enum Line {
         transaction: Name4,
         dtimout: u64,
     },
+    /// To set the clock, in seconds.
+    Clock(u64),
     /// To issue a command of the task with this label.
     Issue(Name8, Command),
 }
@@ -98,7 +100,7 @@ fn attach_line(label: Name8, found: &[Found<'_>]) -> Result<Line, LineFault>
         Some(transaction) => Ok(Line::Attach {
             label,
             transaction,
-            dtimout: 0,
+            dtimout: number_of(found, OptionWord::Dtimout).unwrap_or(0),
         }),
         None => Err(LineFault::MissingOption),
     }
@@ -220,10 +222,35 @@ fn read_attach(alloc: Global, bytes: &[u8]) -> Result<Line, LineFault>
     }
 }
 
+// The number in front, and the line behind it.
+fn first_number(bytes: &[u8]) -> Result<(u64, &[u8]), LineFault>
+    ensures { GivesNumber (number_first (tokens bytes.now)) result }
+{
+    match next_token(bytes) {
+        Ok(Some((Token::Number(number), rest))) => Ok((number, rest)),
+        Ok(_) => Err(LineFault::BadNumber),
+        Err(fault) => Err(fault),
+    }
+}
+
+// A CLOCK line behind its first word.
+fn read_clock(alloc: Global, bytes: &[u8]) -> Result<Line, LineFault>
+    ensures { Reads (clock (tokens bytes.now)) result }
+{
+    let (seconds, rest) = match first_number(bytes) {
+        Ok(first) => first,
+        Err(fault) => return Err(fault),
+    };
+    match read_options(alloc, Form::Clock, rest) {
+        Ok(_) => Ok(Line::Clock(seconds)),
+        Err(fault) => Err(fault),
+    }
+}
+
 // A command behind EXEC CICS.
 fn read_command(alloc: Global, label: Name8, bytes: &[u8]) -> Result<Line, LineFault>
     ensures made { Reads (command_line label (tokens bytes.now)) result }
-    ensures first_path { IfOk result IsFirstPathLine }
+    ensures no_queue { IfOk result AsksNoQueue }
 {
     let (word, rest) = match first_word(bytes) {
         Ok(first) => first,
@@ -248,7 +275,7 @@ fn read_command(alloc: Global, label: Name8, bytes: &[u8]) -> Result<Line, LineF
 // The command of a task behind its label.
 fn read_issue(alloc: Global, label: Name8, bytes: &[u8]) -> Result<Line, LineFault>
     ensures made { Reads (issue label (tokens bytes.now)) result }
-    ensures first_path { IfOk result IsFirstPathLine }
+    ensures no_queue { IfOk result AsksNoQueue }
 {
     let behind_exec = match skip_word(bytes, b"EXEC") {
         Ok(rest) => rest,
@@ -263,7 +290,7 @@ fn read_issue(alloc: Global, label: Name8, bytes: &[u8]) -> Result<Line, LineFau
 // A line that is neither blank nor a comment.
 fn read_statement(alloc: Global, bytes: &[u8]) -> Result<Line, LineFault>
     ensures made { Reads (statement (tokens bytes.now)) result }
-    ensures first_path { IfOk result IsFirstPathLine }
+    ensures no_queue { IfOk result AsksNoQueue }
 {
     let (word, rest) = match first_word(bytes) {
         Ok(first) => first,
@@ -273,6 +300,7 @@ fn read_statement(alloc: Global, bytes: &[u8]) -> Result<Line, LineFault>
         Some(Start::Define) => read_define(alloc, rest),
         Some(Start::Load) => read_load(alloc, rest),
         Some(Start::Attach) => read_attach(alloc, rest),
+        Some(Start::Clock) => read_clock(alloc, rest),
         Some(Start::Reserved) => Err(LineFault::UnknownWord),
         None => match label_of(alloc, word) {
             Ok(label) => read_issue(alloc, label, rest),
@@ -310,7 +338,7 @@ fn is_blank_line(bytes: &[u8]) -> bool
 /// printable ASCII is `NotAscii`, before all others.
 pub fn read_line(alloc: Global, bytes: &[u8]) -> Result<Line, LineFault>
     ensures line { Reads (line bytes.now) result }
-    ensures first_path { IfOk result IsFirstPathLine }
+    ensures no_queue { IfOk result AsksNoQueue }
 {
     if bytes.len() > LIMIT {
         return Err(LineFault::TooLong);

@@ -5,7 +5,7 @@ ghost use Rattle.std.specs.List.{list_any};
 ghost use Rattle.cics_script.specs.Words.{same, excludes, kind_in};
 ghost use Rattle.cics_script.specs.Tokens.{tokens, capital};
 ghost use Rattle.cics_script.specs.Options.{Content, Entry, fault_of, content_in, surplus, allowed, at_option, at_opening, at_value, at_closing, options};
-ghost use Rattle.cics_script.specs.Views.{view, content, entries, GivesContent, Steps, Enters, GivesEntries};
+ghost use Rattle.cics_script.specs.Views.{view, content, entries, GivesContent, Steps, Enters, Ends, GivesEntries};
 ghost use Rattle.std.specs.Prelude.{map};
 
 use crate::faults::LineFault;
@@ -220,7 +220,7 @@ fn read_option<'a>(
         Err(fault) => return Err(fault),
     };
     match kind {
-        Kind::Flag => Ok(Next {
+        Kind::Flag | Kind::Last => Ok(Next {
             one: Found {
                 option,
                 value: Value::Nothing,
@@ -236,6 +236,17 @@ fn read_option<'a>(
             }),
             Err(fault) => Err(fault),
         },
+    }
+}
+
+// The line's end, behind the option that is the last.
+fn read_end(bytes: &[u8]) -> Result<(), LineFault>
+    ensures { Ends bytes.now result }
+{
+    match next_token(bytes) {
+        Ok(None) => Ok(()),
+        Ok(Some(_)) => Err(LineFault::UnknownWord),
+        Err(fault) => Err(fault),
     }
 }
 
@@ -263,8 +274,16 @@ pub fn read_options(alloc: Global, form: Form, bytes: &[u8]) -> Result<Vec<Found
                     Ok(()) => {}
                     Err(_) => return Err(LineFault::NoMemory),
                 }
-                last = Some(next.kind);
-                rest = next.rest;
+                match next.kind {
+                    Kind::Last => match read_end(next.rest) {
+                        Ok(()) => return Ok(found),
+                        Err(fault) => return Err(fault),
+                    },
+                    kind => {
+                        last = Some(kind);
+                        rest = next.rest;
+                    }
+                }
             }
             Err(fault) => return Err(fault),
         }

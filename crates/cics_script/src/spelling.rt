@@ -1,37 +1,35 @@
 //! How commands can be written.
 
-ghost use Rattle.std.specs.Prelude.{◌≡◌, ◌∷◌, ℕ, List, Option, None, Ok, false};
+ghost use Rattle.std.specs.Prelude.{◌≡◌, ◌∷◌, ◌≤◌, ℕ, Bool, List, length, Option, Some, Ok, IsTrue};
 ghost use Rattle.std.specs.List.{flat_map};
+ghost use Rattle.cics_dispatch.specs.Verbs.{asks_no_queue};
 ghost use Rattle.cics_script.specs.Tokens.{Token, word};
-ghost use Rattle.cics_script.specs.Options.{Entry, text, name8};
-ghost use Rattle.cics_script.specs.Lines.{command_line};
-ghost use Rattle.cics_script.specs.Commands.{is_handled};
-ghost use Rattle.cics_script.specs.Spelling.{Written, command_word, option_tokens, AreOptions, AreApart, Stands};
+ghost use Rattle.cics_script.specs.Options.{Entry};
+ghost use Rattle.cics_script.specs.Lines.{command_line, label_in, line};
+ghost use Rattle.cics_script.specs.Layout.{is_word, laid_out};
+ghost use Rattle.cics_script.specs.Spelling.{Written, command_word, option_tokens, command_tokens, options_of, word_of, AreOptions, AreApart, Says, AreWritten, AllCanBeGiven, go_together, Spelling};
 
 use crate::lines::Line;
-use crate::words::{CommandWord, Form, OptionWord};
+use crate::words::{CommandWord, Form};
 use cics_dispatch::{Command, Verb};
 
-/// Each command is read from its options in any order, with RESP or NOHANDLE among them or not: behind
-/// EXEC CICS stands the command's word, and then options of the command of which none stands twice and
-/// no two exclude each other.
+/// Each command is read from its options in any order: behind EXEC CICS stands the command's word, and
+/// then options of the command of which none stands twice and no two exclude each other, END-EXEC last
+/// of all if it is there. They say the command: what makes it what it is is among them, what it does
+/// without is not, and RESP or NOHANDLE is there where its conditions are handled. The options that are
+/// read without effect may stand among them or not. That holds of the tokens, and of the bytes of a whole
+/// line in which each token is written with a blank behind it. Each command that asks nothing of a queue
+/// has such options, if those that it needs go together.
 pub fn commands_in_any_order()
-    ensures read { (label : List ℕ) (written : List Written) (entries : List Entry) (file ridfld : List ℕ)
-        → AreOptions (Form.Command CommandWord.Read) written entries → AreApart entries
-        → Stands (OptionWord.File, name8 file) entries → Stands (OptionWord.Ridfld, text ridfld) entries
-        → command_line label (word (command_word CommandWord.Read) ∷ flat_map option_tokens written)
-        ≡ Ok (Line.Issue label (record { verb = Verb.Read file ridfld None None false false false; resp = is_handled entries })) }
-    ensures write { (label : List ℕ) (written : List Written) (entries : List Entry) (file ridfld from : List ℕ)
-        → AreOptions (Form.Command CommandWord.Write) written entries → AreApart entries
-        → Stands (OptionWord.File, name8 file) entries → Stands (OptionWord.Ridfld, text ridfld) entries → Stands (OptionWord.From, text from) entries
-        → command_line label (word (command_word CommandWord.Write) ∷ flat_map option_tokens written)
-        ≡ Ok (Line.Issue label (record { verb = Verb.Write file ridfld None from None; resp = is_handled entries })) }
-    ensures syncpoint { (label : List ℕ) (written : List Written) (entries : List Entry)
-        → AreOptions (Form.Command CommandWord.Syncpoint) written entries → AreApart entries
-        → command_line label (word (command_word CommandWord.Syncpoint) ∷ flat_map option_tokens written)
-        ≡ Ok (Line.Issue label (record { verb = Verb.Syncpoint; resp = is_handled entries })) }
-    ensures return_ { (label : List ℕ) (written : List Written) (entries : List Entry)
-        → AreOptions (Form.Command CommandWord.Return) written entries → AreApart entries
-        → command_line label (word (command_word CommandWord.Return) ∷ flat_map option_tokens written)
-        ≡ Ok (Line.Issue label (record { verb = Verb.Return; resp = is_handled entries })) }
+    ensures read { (label : List ℕ) (command : Command) (first : CommandWord) (written : List Written) (entries : List Entry)
+        → word_of command.verb ≡ Some first
+        → AreOptions (Form.Command first) written entries → AreApart entries → Says command entries
+        → command_line label (word (command_word first) ∷ flat_map option_tokens written) ≡ Ok (Line.Issue label command) }
+    ensures bytes { (label padded : List ℕ) (command : Command) (first : CommandWord) (written : List Written) (entries : List Entry)
+        → IsTrue (is_word label) → label_in label ≡ Ok padded → word_of command.verb ≡ Some first
+        → AreOptions (Form.Command first) written entries → AreApart entries → Says command entries → AreWritten written
+        → length (laid_out (command_tokens label first written)) ≤ 70000
+        → line (laid_out (command_tokens label first written)) ≡ Ok (Line.Issue padded command) }
+    ensures each { (verb : Verb) (resp : Bool) → IsTrue (asks_no_queue verb) → IsTrue (go_together verb) → AllCanBeGiven (options_of verb)
+        → Spelling (record { verb = verb; resp = resp }) }
 {}

@@ -69,11 +69,54 @@ fn first_faults(rt: HostRuntime) -> Result<(), Fail> {
         ("DEFINE FILE('A        ') KEYLENGTH(4) RECOVERABLE", literal),
         ("DEFINE FILE('   ') KEYLENGTH(4) RECOVERABLE", literal),
         // what no line has yet
-        ("ATTACH T1 TRANSID('A') DTIMOUT(5)", unknown),
-        ("T1 EXEC CICS READ FILE('A') RIDFLD('1') UPDATE", unknown),
-        ("T1 EXEC CICS RETURN END-EXEC", unknown),
-        ("CLOCK 5", unknown),
+        ("T1 EXEC CICS READQ TS QUEUE('A')", unknown),
+        ("T1 EXEC CICS READ QUEUE('A')", unknown),
+        ("T1 EXEC CICS DELETE FILE('A') NUMREC(N)", unknown),
         ("SHUTDOWN EXEC CICS RETURN", unknown),
+    ];
+    for (text, want) in rows {
+        assert_eq!(rt; fault_in(&rt, text.as_bytes()), want, "at {text}");
+    }
+    Ok(())
+}
+
+#[test]
+fn faults_of_commands(rt: HostRuntime) -> Result<(), Fail> {
+    let unknown = (3, "UnknownWord");
+    let literal = (4, "BadLiteral");
+    let number = (5, "BadNumber");
+    let missing = (6, "MissingOption");
+    let doubled = (7, "DoubledOption");
+    let elsewhere = (8, "OptionNotHere");
+    let rows = [
+        // nothing follows END-EXEC, but a broken token stands there too
+        ("T1 EXEC CICS RETURN END-EXEC END-EXEC", unknown),
+        ("T1 EXEC CICS RETURN END-EXEC )", unknown),
+        ("T1 EXEC CICS READ END-EXEC RIDFLD('1')", unknown),
+        ("T1 EXEC CICS RETURN END-EXEC X'0", literal),
+        ("T1 EXEC CICS RETURN END-EXEC 99999999999999999999", number),
+        ("ATTACH T1 TRANSID('A') END-EXEC", elsewhere),
+        // the clock
+        ("CLOCK", number),
+        ("CLOCK '5'", number),
+        ("CLOCK (5)", number),
+        ("CLOCK -5", unknown),
+        ("CLOCK 5)", unknown),
+        ("CLOCK 5 RESP(R)", elsewhere),
+        ("ATTACH T1 TRANSID('A') DTIMOUT(5X)", number),
+        // options that exclude each other, and an option of other commands
+        ("T1 EXEC CICS READ EQUAL GTEQ '", elsewhere),
+        ("T1 EXEC CICS READ GENERIC UPDATE", elsewhere),
+        ("T1 EXEC CICS RESETBR GTEQ EQUAL", elsewhere),
+        ("T1 EXEC CICS DELETE GENERIC", elsewhere),
+        ("T1 EXEC CICS DEQ NOSUSPEND", elsewhere),
+        ("T1 EXEC CICS SYNCPOINT ROLLBACK ROLLBACK", doubled),
+        ("T1 EXEC CICS SYNCPOINT ROLLBACK(", literal),
+        // what a command can't do without
+        ("T1 EXEC CICS DELETE FILE('A') KEYLENGTH(4)", missing),
+        ("T1 EXEC CICS READPREV", missing),
+        ("T1 EXEC CICS DEQ RESOURCE('A')", missing),
+        ("T1 EXEC CICS ENQ RESOURCE('A') LENGTH('1')", number),
     ];
     for (text, want) in rows {
         assert_eq!(rt; fault_in(&rt, text.as_bytes()), want, "at {text}");
@@ -122,7 +165,7 @@ fn definitions(rt: HostRuntime) -> Result<(), Fail> {
 
 #[test]
 fn attaches(rt: HostRuntime) -> Result<(), Fail> {
-    let line = read_line(rt.alloc(), b"attach t1 transid('aAAA')");
+    let line = read_line(rt.alloc(), b"attach t1 dtimout(30)transid('aAAA')");
     match &line {
         Ok(
             Line::Attach {
@@ -133,67 +176,327 @@ fn attaches(rt: HostRuntime) -> Result<(), Fail> {
         ) => {
             assert!(rt; is_name8(*label, "T1"));
             assert!(rt; is_name4(*transaction, "aAAA"));
-            assert_eq!(rt; *dtimout, 0);
+            assert_eq!(rt; *dtimout, 30);
         }
         _ => assert!(rt; false, "ATTACH"),
+    }
+    match &read_line(rt.alloc(), b"ATTACH T1 TRANSID('A')") {
+        Ok(Line::Attach { dtimout, .. }) => assert_eq!(rt; *dtimout, 0),
+        _ => assert!(rt; false, "ATTACH"),
+    }
+    match &read_line(rt.alloc(), b"CLOCK 18446744073709551615") {
+        Ok(Line::Clock(seconds)) => assert_eq!(rt; *seconds, 18_446_744_073_709_551_615),
+        _ => assert!(rt; false, "CLOCK"),
     }
     Ok(())
 }
 
-// What a command of T1 asks for: its verb, RIDFLD and FROM, and whether its conditions are handled.
-fn parts_of(line: &Line) -> (&'static str, &[u8], &[u8], bool) {
-    let nothing = b"".as_slice();
-    match line {
-        Line::Issue(label, command) if is_name8(*label, "T1") => match &command.verb {
-            Verb::Read {
-                file,
-                ridfld,
-                update: false,
-                ..
-            } if is_name8(*file, "ACCT") => { ("READ", ridfld.bytes(), nothing, command.resp) }
-            Verb::Write {
-                file,
-                ridfld,
-                from,
-                ..
-            } if is_name8(*file, "ACCT") => {
-                ("WRITE", ridfld.bytes(), from.bytes(), command.resp)
-            }
-            Verb::Syncpoint => ("SYNCPOINT", nothing, nothing, command.resp),
-            Verb::Return => ("RETURN", nothing, nothing, command.resp),
-            _ => ("another command", nothing, nothing, command.resp),
-        },
-        _ => ("another line", nothing, nothing, false),
+// What a command asks for: its verb, its key or resource, FROM, KEYLENGTH and LENGTH, and its flags.
+type Asked<'a> = (
+    &'static str,
+    &'a [u8],
+    &'a [u8],
+    (Option<u64>, Option<u64>),
+    (bool, bool, bool),
+);
+
+fn asked_of_record(verb: &Verb) -> Option<Asked<'_>> {
+    let none = b"".as_slice();
+    let no = (false, false, false);
+    match verb {
+        Verb::Read {
+            file,
+            ridfld,
+            key_length,
+            length,
+            generic,
+            gteq,
+            update,
+        } if is_name8(*file, "ACCT") => {
+            let flags = (*generic, *gteq, *update);
+            Some(("READ", ridfld.bytes(), none, (*key_length, *length), flags))
+        }
+        Verb::Write {
+            file,
+            ridfld,
+            key_length,
+            from,
+            length,
+        } if is_name8(*file, "ACCT") => {
+            Some((
+                "WRITE",
+                ridfld.bytes(),
+                from.bytes(),
+                (*key_length, *length),
+                no,
+            ))
+        }
+        Verb::Rewrite { file, from, length } if is_name8(*file, "ACCT") => {
+            Some(("REWRITE", none, from.bytes(), (None, *length), no))
+        }
+        Verb::Delete {
+            file,
+            ridfld: Some(ridfld),
+            key_length,
+        } if is_name8(*file, "ACCT") => {
+            Some((
+                "DELETE of a key",
+                ridfld.bytes(),
+                none,
+                (*key_length, None),
+                no,
+            ))
+        }
+        Verb::Delete {
+            file,
+            ridfld: None,
+            key_length,
+        } if is_name8(*file, "ACCT") => Some(("DELETE", none, none, (*key_length, None), no)),
+        _ => None,
     }
 }
 
+fn asked_of_browse(verb: &Verb) -> Option<Asked<'_>> {
+    let none = b"".as_slice();
+    let no = (false, false, false);
+    match verb {
+        Verb::StartBr {
+            file,
+            ridfld,
+            key_length,
+            generic,
+            equal,
+        } if is_name8(*file, "ACCT") => {
+            let flags = (*generic, *equal, false);
+            Some(("STARTBR", ridfld.bytes(), none, (*key_length, None), flags))
+        }
+        Verb::ResetBr {
+            file,
+            ridfld,
+            key_length,
+            generic,
+            equal,
+        } if is_name8(*file, "ACCT") => {
+            let flags = (*generic, *equal, false);
+            Some(("RESETBR", ridfld.bytes(), none, (*key_length, None), flags))
+        }
+        Verb::ReadNext { file, length } if is_name8(*file, "ACCT") => {
+            Some(("READNEXT", none, none, (None, *length), no))
+        }
+        Verb::ReadPrev { file, length } if is_name8(*file, "ACCT") => {
+            Some(("READPREV", none, none, (None, *length), no))
+        }
+        Verb::EndBr { file } if is_name8(*file, "ACCT") => {
+            Some(("ENDBR", none, none, (None, None), no))
+        }
+        _ => None,
+    }
+}
+
+fn asked_of_unit(verb: &Verb) -> Option<Asked<'_>> {
+    let none = b"".as_slice();
+    let no = (false, false, false);
+    match verb {
+        Verb::Unlock { file } if is_name8(*file, "ACCT") => {
+            Some(("UNLOCK", none, none, (None, None), no))
+        }
+        Verb::Enq {
+            resource,
+            length,
+            nosuspend,
+        } => {
+            let flags = (*nosuspend, false, false);
+            Some(("ENQ", resource.bytes(), none, (None, Some(*length)), flags))
+        }
+        Verb::Deq { resource, length } => {
+            Some(("DEQ", resource.bytes(), none, (None, Some(*length)), no))
+        }
+        Verb::Syncpoint => Some(("SYNCPOINT", none, none, (None, None), no)),
+        Verb::Rollback => Some(("ROLLBACK", none, none, (None, None), no)),
+        Verb::Return => Some(("RETURN", none, none, (None, None), no)),
+        Verb::Abend { code: None } => Some(("ABEND", none, none, (None, None), no)),
+        Verb::Abend { code: Some(code) } if is_name4(*code, "AAAA") => {
+            Some(("ABEND AAAA", none, none, (None, None), no))
+        }
+        _ => None,
+    }
+}
+
+// What a command of T1 asks for, and whether its conditions are handled.
+fn asked_in(line: &Line) -> Option<(Asked<'_>, bool)> {
+    match line {
+        Line::Issue(label, command) if is_name8(*label, "T1") => {
+            let verb = &command.verb;
+            let asked = match asked_of_record(verb) {
+                Some(asked) => asked,
+                None => match asked_of_browse(verb) {
+                    Some(asked) => asked,
+                    None => asked_of_unit(verb)?,
+                },
+            };
+            Some((asked, command.resp))
+        }
+        _ => None,
+    }
+}
+
+const NO: (bool, bool, bool) = (false, false, false);
+
 #[test]
-fn commands(rt: HostRuntime) -> Result<(), Fail> {
+fn commands_of_records(rt: HostRuntime) -> Result<(), Fail> {
     let zero = b"\xF0".as_slice();
     let both = b"\xF0\xC1".as_slice();
-    let nothing = b"".as_slice();
+    let none = b"".as_slice();
+    let no = (None, None);
     let rows = [
         (
             "T1 EXEC CICS READ FILE('ACCT') RIDFLD('0')",
-            ("READ", zero, nothing, false),
+            (("READ", zero, none, no, NO), false),
         ),
         (
-            "t1 exec cics Read ridfld('0')DATASET('ACCT')resp(r)",
-            ("READ", zero, nothing, true),
+            "T1 EXEC CICS Read ridfld('0')DATASET('ACCT')update equal resp(r)",
+            (("READ", zero, none, no, (false, false, true)), true),
+        ),
+        (
+            "T1 EXEC CICS READ GTEQ INTO('A') RIDFLD(X'f0C1') GENERIC LENGTH(0) KEYLENGTH(2) FILE('ACCT') END-EXEC",
+            (
+                ("READ", both, none, (Some(2), Some(0)), (true, true, false)),
+                false,
+            ),
         ),
         (
             "T1 EXEC CICS WRITE FROM(X'f0C1') FILE('ACCT') RIDFLD('0')",
-            ("WRITE", zero, both, false),
+            (("WRITE", zero, both, no, NO), false),
         ),
         (
-            "T1 EXEC CICS SYNCPOINT NOHANDLE",
-            ("SYNCPOINT", nothing, nothing, true),
+            "T1 EXEC CICS WRITE KEYLENGTH(1) FROM('0A') LENGTH(2) FILE('ACCT') RIDFLD('0') NOHANDLE",
+            (("WRITE", zero, both, (Some(1), Some(2)), NO), true),
         ),
-        ("T1 EXEC CICS RETURN", ("RETURN", nothing, nothing, false)),
+        (
+            "T1 EXEC CICS REWRITE FROM('0A') LENGTH(2) FILE('ACCT')",
+            (("REWRITE", none, both, (None, Some(2)), NO), false),
+        ),
+        (
+            "T1 EXEC CICS DELETE FILE('ACCT')",
+            (("DELETE", none, none, no, NO), false),
+        ),
+        (
+            "T1 EXEC CICS DELETE FILE('ACCT') KEYLENGTH(1) RIDFLD('0')",
+            (("DELETE of a key", zero, none, (Some(1), None), NO), false),
+        ),
+        (
+            "T1 EXEC CICS UNLOCK FILE('ACCT')",
+            (("UNLOCK", none, none, no, NO), false),
+        ),
     ];
     for (text, want) in rows {
         match &read_line(rt.alloc(), text.as_bytes()) {
-            Ok(line) => assert_eq!(rt; parts_of(line), want, "at {text}"),
+            Ok(line) => match asked_in(line) {
+                Some(asked) => assert_eq!(rt; asked, want, "at {text}"),
+                None => assert!(rt; false, "at {text}"),
+            },
+            Err(_) => assert!(rt; false, "at {text}"),
+        }
+    }
+    Ok(())
+}
+
+#[test]
+fn commands_of_browses(rt: HostRuntime) -> Result<(), Fail> {
+    let zero = b"\xF0".as_slice();
+    let both = b"\xF0\xC1".as_slice();
+    let none = b"".as_slice();
+    let no = (None, None);
+    let rows = [
+        (
+            "T1 EXEC CICS STARTBR FILE('ACCT') RIDFLD('0') GTEQ",
+            (("STARTBR", zero, none, no, NO), false),
+        ),
+        (
+            "T1 EXEC CICS STARTBR EQUAL FILE('ACCT') GENERIC RIDFLD('') KEYLENGTH(0)",
+            (
+                ("STARTBR", none, none, (Some(0), None), (true, true, false)),
+                false,
+            ),
+        ),
+        (
+            "T1 EXEC CICS RESETBR FILE('ACCT') RIDFLD('0A') GENERIC RESP(R)",
+            (("RESETBR", both, none, no, (true, false, false)), true),
+        ),
+        (
+            "T1 EXEC CICS READNEXT FILE('ACCT') LENGTH(5) RIDFLD(K) INTO(5)",
+            (("READNEXT", none, none, (None, Some(5)), NO), false),
+        ),
+        (
+            "T1 EXEC CICS READPREV FILE('ACCT') RIDFLD('0')",
+            (("READPREV", none, none, no, NO), false),
+        ),
+        (
+            "T1 EXEC CICS ENDBR FILE('ACCT')",
+            (("ENDBR", none, none, no, NO), false),
+        ),
+    ];
+    for (text, want) in rows {
+        match &read_line(rt.alloc(), text.as_bytes()) {
+            Ok(line) => match asked_in(line) {
+                Some(asked) => assert_eq!(rt; asked, want, "at {text}"),
+                None => assert!(rt; false, "at {text}"),
+            },
+            Err(_) => assert!(rt; false, "at {text}"),
+        }
+    }
+    Ok(())
+}
+
+#[test]
+fn commands_of_units(rt: HostRuntime) -> Result<(), Fail> {
+    let zero = b"\xF0".as_slice();
+    let both = b"\xF0\xC1".as_slice();
+    let none = b"".as_slice();
+    let no = (None, None);
+    let rows = [
+        (
+            "T1 EXEC CICS ENQ RESOURCE('0A') LENGTH(1)",
+            (("ENQ", both, none, (None, Some(1)), NO), false),
+        ),
+        (
+            "T1 EXEC CICS ENQ NOSUSPEND LENGTH(1) RESOURCE('0')",
+            (
+                ("ENQ", zero, none, (None, Some(1)), (true, false, false)),
+                false,
+            ),
+        ),
+        (
+            "T1 EXEC CICS DEQ RESOURCE('0A') LENGTH(2)",
+            (("DEQ", both, none, (None, Some(2)), NO), false),
+        ),
+        (
+            "T1 EXEC CICS SYNCPOINT NOHANDLE",
+            (("SYNCPOINT", none, none, no, NO), true),
+        ),
+        (
+            "T1 EXEC CICS SYNCPOINT ROLLBACK END-EXEC",
+            (("ROLLBACK", none, none, no, NO), false),
+        ),
+        (
+            "T1 EXEC CICS RETURN RESP2(R)",
+            (("RETURN", none, none, no, NO), false),
+        ),
+        (
+            "T1 EXEC CICS ABEND CANCEL",
+            (("ABEND", none, none, no, NO), false),
+        ),
+        (
+            "T1 EXEC CICS ABEND NODUMP ABCODE('AAAA')",
+            (("ABEND AAAA", none, none, no, NO), false),
+        ),
+    ];
+    for (text, want) in rows {
+        match &read_line(rt.alloc(), text.as_bytes()) {
+            Ok(line) => match asked_in(line) {
+                Some(asked) => assert_eq!(rt; asked, want, "at {text}"),
+                None => assert!(rt; false, "at {text}"),
+            },
             Err(_) => assert!(rt; false, "at {text}"),
         }
     }

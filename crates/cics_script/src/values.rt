@@ -36,6 +36,24 @@ pub fn text_of(alloc: Global, found: &[Found<'_>], option: OptionWord) -> Result
     }
 }
 
+/// The record that an option gives, where it is there.
+pub fn optional_text_of(
+    alloc: Global,
+    found: &[Found<'_>],
+    option: OptionWord,
+) -> Result<Option<Record>, LineFault>
+    ensures { Reads (Ok (text_at option (entries found.now))) result }
+{
+    match value_at(found, option) {
+        Some(Value::Text(literal)) => match literal.record(alloc) {
+            Ok(record) => Ok(Some(record)),
+            Err(_) => Err(LineFault::NoMemory),
+        },
+        Some(_) => Ok(None),
+        None => Ok(None),
+    }
+}
+
 /// The name of eight bytes that an option gives.
 pub fn name8_of(found: &[Found<'_>], option: OptionWord) -> Option<Name8>
     ensures { result ≡ name8_at option (entries found.now) }

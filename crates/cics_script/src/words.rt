@@ -12,6 +12,7 @@ pub enum Start {
     Define,
     Load,
     Attach,
+    Clock,
     /// A word that begins no line yet and is no label.
     Reserved,
 }
@@ -33,8 +34,19 @@ pub enum LoadObject {
 pub enum CommandWord {
     Read,
     Write,
+    Rewrite,
+    Delete,
+    Unlock,
+    StartBr,
+    ResetBr,
+    ReadNext,
+    ReadPrev,
+    EndBr,
+    Enq,
+    Deq,
     Syncpoint,
     Return,
+    Abend,
 }
 
 /// A line with options.
@@ -43,6 +55,7 @@ pub enum Form {
     Define(DefineObject),
     Load(LoadObject),
     Attach,
+    Clock,
     Command(CommandWord),
 }
 
@@ -57,9 +70,24 @@ pub enum OptionWord {
     Unrecoverable,
     From,
     Transid,
+    Dtimout,
     Ridfld,
+    Length,
+    Into,
+    Generic,
+    Equal,
+    Gteq,
+    Update,
+    Resource,
+    NoSuspend,
+    Rollback,
+    AbCode,
+    Cancel,
+    NoDump,
     Resp,
+    Resp2,
     NoHandle,
+    EndExec,
 }
 
 /// What an option takes in its parentheses.
@@ -77,13 +105,15 @@ pub enum Kind {
     Number,
     /// Any literal, number or word.
     Area,
+    /// No parentheses, and nothing may follow on the line.
+    Last,
 }
 
 static STARTS: [(&str, Start); 5] = [
     ("DEFINE", Start::Define),
     ("LOAD", Start::Load),
     ("ATTACH", Start::Attach),
-    ("CLOCK", Start::Reserved),
+    ("CLOCK", Start::Clock),
     ("SHUTDOWN", Start::Reserved),
 ];
 
@@ -97,14 +127,25 @@ static LOAD_OBJECTS: [(&str, LoadObject); 2] = [
     ("DATASET", LoadObject::File),
 ];
 
-static COMMANDS: [(&str, CommandWord); 4] = [
+static COMMANDS: [(&str, CommandWord); 15] = [
     ("READ", CommandWord::Read),
     ("WRITE", CommandWord::Write),
+    ("REWRITE", CommandWord::Rewrite),
+    ("DELETE", CommandWord::Delete),
+    ("UNLOCK", CommandWord::Unlock),
+    ("STARTBR", CommandWord::StartBr),
+    ("RESETBR", CommandWord::ResetBr),
+    ("READNEXT", CommandWord::ReadNext),
+    ("READPREV", CommandWord::ReadPrev),
+    ("ENDBR", CommandWord::EndBr),
+    ("ENQ", CommandWord::Enq),
+    ("DEQ", CommandWord::Deq),
     ("SYNCPOINT", CommandWord::Syncpoint),
     ("RETURN", CommandWord::Return),
+    ("ABEND", CommandWord::Abend),
 ];
 
-static OPTION_WORDS: [(&str, OptionWord); 12] = [
+static OPTION_WORDS: [(&str, OptionWord); 27] = [
     ("FILE", OptionWord::File),
     ("DATASET", OptionWord::File),
     ("KEYLENGTH", OptionWord::KeyLength),
@@ -114,9 +155,24 @@ static OPTION_WORDS: [(&str, OptionWord); 12] = [
     ("UNRECOVERABLE", OptionWord::Unrecoverable),
     ("FROM", OptionWord::From),
     ("TRANSID", OptionWord::Transid),
+    ("DTIMOUT", OptionWord::Dtimout),
     ("RIDFLD", OptionWord::Ridfld),
+    ("LENGTH", OptionWord::Length),
+    ("INTO", OptionWord::Into),
+    ("GENERIC", OptionWord::Generic),
+    ("EQUAL", OptionWord::Equal),
+    ("GTEQ", OptionWord::Gteq),
+    ("UPDATE", OptionWord::Update),
+    ("RESOURCE", OptionWord::Resource),
+    ("NOSUSPEND", OptionWord::NoSuspend),
+    ("ROLLBACK", OptionWord::Rollback),
+    ("ABCODE", OptionWord::AbCode),
+    ("CANCEL", OptionWord::Cancel),
+    ("NODUMP", OptionWord::NoDump),
     ("RESP", OptionWord::Resp),
+    ("RESP2", OptionWord::Resp2),
     ("NOHANDLE", OptionWord::NoHandle),
+    ("END-EXEC", OptionWord::EndExec),
 ];
 
 static DEFINE_FILE: [(OptionWord, Kind); 6] = [
@@ -133,30 +189,95 @@ static LOAD_FILE: [(OptionWord, Kind); 2] = [
     (OptionWord::From, Kind::Text),
 ];
 
-static ATTACH: [(OptionWord, Kind); 1] = [(OptionWord::Transid, Kind::Name4)];
-
-static READ: [(OptionWord, Kind); 2] = [
-    (OptionWord::File, Kind::Name8),
-    (OptionWord::Ridfld, Kind::Text),
+static ATTACH: [(OptionWord, Kind); 2] = [
+    (OptionWord::Transid, Kind::Name4),
+    (OptionWord::Dtimout, Kind::Number),
 ];
 
-static WRITE: [(OptionWord, Kind); 3] = [
+static READ: [(OptionWord, Kind); 9] = [
+    (OptionWord::File, Kind::Name8),
+    (OptionWord::Ridfld, Kind::Text),
+    (OptionWord::KeyLength, Kind::Number),
+    (OptionWord::Length, Kind::Number),
+    (OptionWord::Into, Kind::Area),
+    (OptionWord::Generic, Kind::Flag),
+    (OptionWord::Equal, Kind::Flag),
+    (OptionWord::Gteq, Kind::Flag),
+    (OptionWord::Update, Kind::Flag),
+];
+
+static WRITE: [(OptionWord, Kind); 5] = [
     (OptionWord::File, Kind::Name8),
     (OptionWord::Ridfld, Kind::Text),
     (OptionWord::From, Kind::Text),
+    (OptionWord::Length, Kind::Number),
+    (OptionWord::KeyLength, Kind::Number),
 ];
+
+static REWRITE: [(OptionWord, Kind); 3] = [
+    (OptionWord::File, Kind::Name8),
+    (OptionWord::From, Kind::Text),
+    (OptionWord::Length, Kind::Number),
+];
+
+static DELETE: [(OptionWord, Kind); 3] = [
+    (OptionWord::File, Kind::Name8),
+    (OptionWord::Ridfld, Kind::Text),
+    (OptionWord::KeyLength, Kind::Number),
+];
+
+static FILE_ALONE: [(OptionWord, Kind); 1] = [(OptionWord::File, Kind::Name8)];
+
+static BROWSE_START: [(OptionWord, Kind); 6] = [
+    (OptionWord::File, Kind::Name8),
+    (OptionWord::Ridfld, Kind::Text),
+    (OptionWord::KeyLength, Kind::Number),
+    (OptionWord::Generic, Kind::Flag),
+    (OptionWord::Equal, Kind::Flag),
+    (OptionWord::Gteq, Kind::Flag),
+];
+
+static BROWSE_READ: [(OptionWord, Kind); 4] = [
+    (OptionWord::File, Kind::Name8),
+    (OptionWord::Into, Kind::Area),
+    (OptionWord::Ridfld, Kind::Area),
+    (OptionWord::Length, Kind::Number),
+];
+
+static ENQ: [(OptionWord, Kind); 3] = [
+    (OptionWord::Resource, Kind::Text),
+    (OptionWord::Length, Kind::Number),
+    (OptionWord::NoSuspend, Kind::Flag),
+];
+
+static DEQ: [(OptionWord, Kind); 2] = [
+    (OptionWord::Resource, Kind::Text),
+    (OptionWord::Length, Kind::Number),
+];
+
+static SYNCPOINT: [(OptionWord, Kind); 1] = [(OptionWord::Rollback, Kind::Flag)];
 
 static NO_OPTIONS: [(OptionWord, Kind); 0] = [];
 
-static EVERY_COMMAND: [(OptionWord, Kind); 2] = [
-    (OptionWord::Resp, Kind::Area),
-    (OptionWord::NoHandle, Kind::Flag),
+static ABEND: [(OptionWord, Kind); 3] = [
+    (OptionWord::AbCode, Kind::Name4),
+    (OptionWord::Cancel, Kind::Flag),
+    (OptionWord::NoDump, Kind::Flag),
 ];
 
-static EXCLUSIONS: [(OptionWord, OptionWord); 1] = [(
-    OptionWord::Recoverable,
-    OptionWord::Unrecoverable,
-)];
+static EVERY_COMMAND: [(OptionWord, Kind); 4] = [
+    (OptionWord::Resp, Kind::Area),
+    (OptionWord::Resp2, Kind::Area),
+    (OptionWord::NoHandle, Kind::Flag),
+    (OptionWord::EndExec, Kind::Last),
+];
+
+static EXCLUSIONS: [(OptionWord, OptionWord); 4] = [
+    (OptionWord::Recoverable, OptionWord::Unrecoverable),
+    (OptionWord::Equal, OptionWord::Gteq),
+    (OptionWord::Update, OptionWord::Gteq),
+    (OptionWord::Update, OptionWord::Generic),
+];
 
 /// A letter's capital, and any other byte as it is.
 pub fn capital_of(byte: u8) -> u8
@@ -259,7 +380,16 @@ fn options_of(command: CommandWord) -> &'static [(OptionWord, Kind)]
     match command {
         CommandWord::Read => &READ,
         CommandWord::Write => &WRITE,
-        CommandWord::Syncpoint | CommandWord::Return => &NO_OPTIONS,
+        CommandWord::Rewrite => &REWRITE,
+        CommandWord::Delete => &DELETE,
+        CommandWord::Unlock | CommandWord::EndBr => &FILE_ALONE,
+        CommandWord::StartBr | CommandWord::ResetBr => &BROWSE_START,
+        CommandWord::ReadNext | CommandWord::ReadPrev => &BROWSE_READ,
+        CommandWord::Enq => &ENQ,
+        CommandWord::Deq => &DEQ,
+        CommandWord::Syncpoint => &SYNCPOINT,
+        CommandWord::Return => &NO_OPTIONS,
+        CommandWord::Abend => &ABEND,
     }
 }
 
@@ -271,6 +401,7 @@ pub fn kind_of(form: Form, option: OptionWord) -> Option<Kind>
         Form::Define(DefineObject::File) => find_kind(&DEFINE_FILE, option),
         Form::Load(LoadObject::File) => find_kind(&LOAD_FILE, option),
         Form::Attach => find_kind(&ATTACH, option),
+        Form::Clock => find_kind(&NO_OPTIONS, option),
         Form::Command(command) => match find_kind(options_of(command), option) {
             Some(kind) => Some(kind),
             None => find_kind(&EVERY_COMMAND, option),

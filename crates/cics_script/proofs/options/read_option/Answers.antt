@@ -1,16 +1,16 @@
 use Rattle.std.proofs.Common.{arith, ◌∙◌, map}
 use Rattle.cics_script.specs.Tokens.{capital}
 use Rattle.cics_script.specs.Views.{entries}
-use Rattle.cics_script.proofs.OptionSteps.{refuses_behind, reads-opening}
+use Rattle.cics_script.proofs.OptionSteps.{refuses_behind, reads-opening, reads-further}
 use Rattle.cics_script.proofs.options.read_option.Goals as goal
 
 pub returns-in-Ok-read_value : goal.returns-in-Ok-read_value
 returns-in-Ok-read_value c last =
     let step = c.in-Ok-read_value.ensures c.args.form (entries c.args.found.now) c.in-Some.option in
-    (reads-opening c.args.form last (entries c.args.found.now) (map capital c.args.word.now) c.in-Some.option c.in-Ok.kind _ c.in-Some.ensures c.in-Ok.ensures c.in_default-kind.not-Flag ∙ step.0, omega (arith, step.1))
+    (reads-opening c.args.form last (entries c.args.found.now) (map capital c.args.word.now) c.in-Some.option c.in-Ok.kind _ c.in-Some.ensures c.in-Ok.ensures c.in_default-kind.not-Flag c.in_default-kind.not-Last ∙ step.0 ∙ reads-further c.args.form c.in-Ok.kind _ _ c.in_default-kind.not-Last, omega (arith, step.1))
 
 pub returns-in-Err-read_value : goal.returns-in-Err-read_value
 returns-in-Err-read_value c last =
     refuses_behind _ _ c.in-Err-read_value.fault
-    (reads-opening c.args.form last (entries c.args.found.now) (map capital c.args.word.now) c.in-Some.option c.in-Ok.kind _ c.in-Some.ensures c.in-Ok.ensures c.in_default-kind.not-Flag)
+    (reads-opening c.args.form last (entries c.args.found.now) (map capital c.args.word.now) c.in-Some.option c.in-Ok.kind _ c.in-Some.ensures c.in-Ok.ensures c.in_default-kind.not-Flag c.in_default-kind.not-Last)
     (c.in-Err-read_value.ensures c.args.form (entries c.args.found.now) c.in-Some.option)

@@ -1,7 +1,7 @@
 use Rattle.std.proofs.Common.{arith, ◌<◌, ◌∙◌, sym, ap, length}
-use Rattle.cics_script.specs.Options.{reads, at_option}
+use Rattle.cics_script.specs.Options.{reads, at_option, behind_option}
 use Rattle.cics_script.specs.Views.{entries}
-use Rattle.cics_script.proofs.OptionSteps.{refuses_behind, first-word, entries-more}
+use Rattle.cics_script.proofs.OptionSteps.{refuses_behind, first-word, behind_option-open, reads-past}
 use Rattle.cics_script.proofs.options.read_options.Goals as goal
 
 pub returns-in-Err-read_option : goal.returns-in-Err-read_option
@@ -21,6 +21,22 @@ options-smaller c =
 pub options-preserved : goal.options-preserved
 options-preserved c =
     let first = first-word c.options.rest.now c.in-Ok-Some.field-0 c.in-Ok-Some.next c.in-Word.word c.in-Ok-Some.ensures c.in-Ok-Some.field-0-is c.in-Word.is in
-    let step = rw c.deref.ensures.value at (c.in-Ok.ensures c.options.last).0 in
-    rw (c.in-Ok-push.ensures.items, entries-more c.options.found.items c.in-Ok.next.one)
-    (sym step ∙ sym (ap (λ ts. reads c.args.form (at_option c.options.last) (entries c.options.found.items) ts) first.0) ∙ c.options.invariant)
+    let step = rw c.deref.ensures.value at c.in-Ok.ensures c.options.last in
+    rw c.in-Ok-push.ensures.items
+    (reads-past c.args.form c.options.last c.options.found.items c.options.rest.now _ _ c.in-Ok.next _ _ c.options.invariant first.0 step (behind_option-open c.in-Ok.next.kind c.in_default-kind.not-Last))
+
+pub returns-in-Ok-read_end : goal.returns-in-Ok-read_end
+returns-in-Ok-read_end c =
+    let first = first-word c.options.rest.now c.in-Ok-Some.field-0 c.in-Ok-Some.next c.in-Word.word c.in-Ok-Some.ensures c.in-Ok-Some.field-0-is c.in-Word.is in
+    let step = rw c.deref.ensures.value at c.in-Ok.ensures c.options.last in
+    rw c.in-Ok-push.ensures.items
+    (sym (reads-past c.args.form c.options.last c.options.found.items c.options.rest.now _ _ c.in-Ok.next _ _ c.options.invariant first.0 step (ap behind_option c.in-Last.is))
+    ∙ c.in-Ok-read_end.ensures c.args.form _)
+
+pub returns-in-Err-read_end : goal.returns-in-Err-read_end
+returns-in-Err-read_end c =
+    let first = first-word c.options.rest.now c.in-Ok-Some.field-0 c.in-Ok-Some.next c.in-Word.word c.in-Ok-Some.ensures c.in-Ok-Some.field-0-is c.in-Word.is in
+    let step = rw c.deref.ensures.value at c.in-Ok.ensures c.options.last in
+    refuses_behind _ _ c.in-Err-read_end.fault
+    (sym (reads-past c.args.form c.options.last c.options.found.items c.options.rest.now _ _ c.in-Ok.next _ _ c.options.invariant first.0 step (ap behind_option c.in-Last.is)))
+    (c.in-Err-read_end.ensures c.args.form _)

@@ -1,0 +1,311 @@
+-- Each command has a spelling.
+use Rattle.std.proofs.Common.{◌≡◌, Bool, true, false, not, ◌&&◌, ◌||◌, ℕ, List, [], ◌∷◌, length, refl, sym, ◌∙◌, subst, arith, Option, Some, None, inl, inr}
+use Rattle.std.proofs.lemmas.Bool.Decides.{nat_tests}
+use Rattle.std.specs.Prelude.{Ok, Err, IsTrue, IfSome, nat_lt, if◌then◌else◌, is_some, option_map}
+use Rattle.std.specs.Option.{option_and_then}
+use Rattle.std.specs.List.{list_any, list_all}
+use Rattle.cics_names.specs.Names.{name_of, name_of_codes}
+use Rattle.cics_names.specs.Ebcdic.{code_of, codes_of}
+use Rattle.cics_names.specs.declared.names.NameFault.TheVariants.{TooLong, BadCharacter}
+use Rattle.cics_dispatch.specs.Verbs.{asks_no_queue}
+use Rattle.cics_dispatch.specs.declared.commands.Command.{Command}
+use Rattle.cics_dispatch.specs.declared.commands.Verb.{Verb}
+use Rattle.cics_dispatch.specs.declared.commands.Verb.TheVariants as verb
+use Rattle.cics_script.specs.declared.literals.Notation.TheVariants.{Quoted, Hexadecimal}
+use Rattle.cics_script.specs.declared.words.CommandWord.{CommandWord}
+use Rattle.cics_script.specs.declared.words.CommandWord.TheVariants as command
+use Rattle.cics_script.specs.declared.words.Form.{Form}
+use Rattle.cics_script.specs.declared.words.Form.TheVariants as form
+use Rattle.cics_script.specs.declared.words.OptionWord.{OptionWord}
+use Rattle.cics_script.specs.declared.words.OptionWord.TheVariants.{KeyLength, Length, Generic, Equal, Gteq, Update, NoSuspend, AbCode, Resp, NoHandle}
+use Rattle.cics_script.specs.declared.words.Kind.{Kind}
+use Rattle.cics_script.specs.declared.words.Kind.TheVariants.{Flag, Text, Name8, Name4, Number}
+use Rattle.cics_script.specs.Tokens.{Token, number, literal}
+use Rattle.cics_script.specs.Words.{same, excludes, kind_in}
+use Rattle.cics_script.specs.Options.{Content, text, name8, name4, amount, nothing, Entry}
+use Rattle.cics_script.specs.Values.{has}
+use Rattle.cics_script.specs.Layout.{IsWritable}
+use Rattle.cics_script.specs.Spelling.{Written, AreOptions, IsWritten, AreApart, flag, options_of, word_of, AllGiven, AreWritten, CanBeGiven, AllCanBeGiven, go_together, Spelling}
+use Rattle.cics_script.proofs.Layouts.{both_true}
+use Rattle.cics_script.proofs.Orders.{both_false, has-gives}
+
+-- options, each with what it is to give, or with nothing
+abbrev Asked : Type 0
+Asked = List (OptionWord × Option Content)
+
+abbrev with_content : OptionWord → Option Content → List Entry → List Entry
+with_content option None entries = entries
+with_content option (Some content) entries = (option, content) ∷ entries
+
+-- the options that give something
+abbrev present : Asked → List Entry
+present [] = []
+present (row ∷ rows) = with_content row.0 row.1 (present rows)
+
+-- no option stands twice, and no two that give something exclude each other
+abbrev are_plain : Asked → Bool
+are_plain [] = true
+are_plain (row ∷ rows) =
+    (not (list_any (λ later. same row.0 later.0) rows)
+    && not (list_any (λ later. excludes row.0 later.0 && (is_some row.1 && is_some later.1)) rows))
+    && are_plain rows
+
+not-true : (b : Bool) → not b ≡ true → b ≡ false
+not-true true e = let wrong : false ≡ true = e in cc
+not-true false e = refl
+
+record Plain (option : OptionWord) (content : Option Content) (rows : Asked) : Type 0 where
+  others : list_any (λ later. same option later.0) rows ≡ false
+  free : list_any (λ later. excludes option later.0 && (is_some content && is_some later.1)) rows ≡ false
+  rest : are_plain rows ≡ true
+
+plain : (row : OptionWord × Option Content) (rows : Asked) → are_plain (row ∷ rows) ≡ true → Plain row.0 row.1 rows
+plain row rows e =
+    let parts = both_true _ (are_plain rows) e in
+    let tests = both_true _ _ parts.0 in
+    record { others = not-true _ tests.0; free = not-true _ tests.1; rest = parts.1 }
+
+same-sym : (first second : OptionWord) → same first second ≡ same second first
+same-sym first second = grind (arith, nat_tests)
+
+-- an option that isn't among the rows isn't among those that give something
+has-present : (option : OptionWord) (rows : Asked) → list_any (λ later. same option later.0) rows ≡ false → has option (present rows) ≡ false
+has-present option [] others = refl
+has-present option ((other, None) ∷ rows) others = has-present option rows (both_false (same option other) _ others).1
+has-present option ((other, Some content) ∷ rows) others =
+    let parts = both_false (same option other) _ others in
+    rw (same-sym other option ∙ parts.0) (has-present option rows parts.1)
+
+and-true : (b : Bool) → (b && true) ≡ false → b ≡ false
+and-true true e = let wrong : true ≡ false = e in cc
+and-true false e = refl
+
+apart-present-first : (option : OptionWord) (rows : Asked) → list_any (λ later. same option later.0) rows ≡ false
+    → list_any (λ later. excludes option later.0 && (true && is_some later.1)) rows ≡ false
+    → list_any (λ later. same option later.0 || excludes option later.0) (present rows) ≡ false
+apart-present-first option [] others free = refl
+apart-present-first option ((other, None) ∷ rows) others free =
+    apart-present-first option rows (both_false (same option other) _ others).1 (both_false (excludes option other && false) _ free).1
+apart-present-first option ((other, Some content) ∷ rows) others free =
+    let new = both_false (same option other) _ others in
+    let clear = both_false (excludes option other && true) _ free in
+    let apart : excludes option other ≡ false = and-true (excludes option other) clear.0 in
+    rw (new.0, apart) (apart-present-first option rows new.1 clear.1)
+
+apart-present : (rows : Asked) → are_plain rows ≡ true → AreApart (present rows)
+apart-present [] e = tt
+apart-present ((option, None) ∷ rows) e = apart-present rows (plain (option, None) rows e).rest
+apart-present ((option, Some content) ∷ rows) e =
+    let p = plain (option, Some content) rows e in
+    (apart-present-first option rows p.others p.free, apart-present rows p.rest)
+
+-- one option more in front, which is none of these
+given-more : (rows : Asked) (entry : Entry) (entries : List Entry) → list_any (λ later. same entry.0 later.0) rows ≡ false → AllGiven rows entries → AllGiven rows (entry ∷ entries)
+given-more [] entry entries others given = tt
+given-more ((option, None) ∷ rows) entry entries others given =
+    let parts = both_false (same entry.0 option) _ others in
+    (rw parts.0 given.0, given-more rows entry entries parts.1 given.1)
+given-more ((option, Some content) ∷ rows) entry entries others given =
+    (inr given.0, given-more rows entry entries (both_false (same entry.0 option) _ others).1 given.1)
+
+given-present : (rows : Asked) → are_plain rows ≡ true → AllGiven rows (present rows)
+given-present [] e = tt
+given-present ((option, None) ∷ rows) e =
+    let p = plain (option, None) rows e in
+    (has-present option rows p.others, given-present rows p.rest)
+given-present ((option, Some content) ∷ rows) e =
+    let p = plain (option, Some content) rows e in
+    (inl refl, given-more rows (option, content) (present rows) p.others (given-present rows p.rest))
+
+-- ---- what is written
+
+-- the kind of the options that give this
+abbrev kind_giving : Content → Kind
+kind_giving (text bytes) = Text
+kind_giving (name8 name) = Name8
+kind_giving (name4 name) = Name4
+kind_giving (amount n) = Number
+kind_giving nothing = Flag
+
+-- an option of a line that gives this, as it is written
+record Spelled (kind : Option Kind) (content : Content) : Type 0 where
+  value : Option Token
+  is_written : (others : List Written) → IsWritten kind value content others
+  is_writable : IfSome value IsWritable
+
+known-both : (first : Option ℕ) (others : Option (List ℕ)) → is_some (option_and_then (λ code. option_map (λ codes. code ∷ codes) others) first) ≡ true
+    → (is_some first ≡ true) × (is_some others ≡ true)
+known-both None others e = let wrong : false ≡ true = e in cc
+known-both (Some code) None e = let wrong : false ≡ true = e in cc
+known-both (Some code) (Some codes) e = (refl, refl)
+
+codes-known : (said : List ℕ) → is_some (codes_of said) ≡ true → list_all (λ c. is_some (code_of c)) said ≡ true
+codes-known [] e = refl
+codes-known (c ∷ said) e =
+    let parts = known-both (code_of c) (codes_of said) e in
+    rw parts.0 (codes-known said parts.1)
+
+name-known-codes : (long : Bool) (width : ℕ) (codes : Option (List ℕ)) (name : List ℕ)
+    → (if long then Err TooLong else name_of_codes width codes) ≡ Ok name → is_some codes ≡ true
+name-known-codes true width codes name e = let wrong : Err TooLong ≡ Ok name = e in cc
+name-known-codes false width None name e = let wrong : Err BadCharacter ≡ Ok name = e in cc
+name-known-codes false width (Some codes) name e = refl
+
+-- a text that writes a name has characters that EBCDIC has
+name-known : (width : ℕ) (said name : List ℕ) → name_of width said ≡ Ok name → list_all (λ c. is_some (code_of c)) said ≡ true
+name-known width said name e = codes-known said (name-known-codes (nat_lt width (length said)) width (codes_of said) name e)
+
+spelled-content : (content : Content) → CanBeGiven content → Spelled (Some (kind_giving content)) content
+spelled-content (text bytes) can = record { value = Some (literal Hexadecimal bytes); is_written = λ others. (refl, tt); is_writable = can }
+spelled-content (name8 name) can =
+    record { value = Some (literal Quoted can.0); is_written = λ others. (rw can.1 refl, tt); is_writable = name-known 8 can.0 name can.1 }
+spelled-content (name4 name) can =
+    record { value = Some (literal Quoted can.0); is_written = λ others. (rw can.1 refl, tt); is_writable = name-known 4 can.0 name can.1 }
+spelled-content (amount n) can = record { value = Some (number n); is_written = λ others. (refl, tt); is_writable = can }
+spelled-content nothing can = record { value = None; is_written = λ others. ((refl, refl), tt); is_writable = tt }
+
+-- options of which each that gives something is of the kind that gives it
+abbrev AreOfKind : Form → Asked → Type 0
+AreOfKind line [] = Unit {0}
+AreOfKind line (row ∷ rows) = IfSome row.1 (λ content. kind_in line row.0 ≡ Some (kind_giving content)) × AreOfKind line rows
+
+-- options as they are written that give these
+record AllSpelled (line : Form) (entries : List Entry) : Type 0 where
+  options : List Written
+  are_options : AreOptions line options entries
+  are_written : AreWritten options
+
+all-spelled : (line : Form) (rows : Asked) → AreOfKind line rows → AllCanBeGiven rows → AllSpelled line (present rows)
+all-spelled line [] of_kind can = record { options = []; are_options = tt; are_written = tt }
+all-spelled line ((option, None) ∷ rows) of_kind can = all-spelled line rows of_kind.1 can.1
+all-spelled line ((option, Some content) ∷ rows) of_kind can =
+    let rest = all-spelled line rows of_kind.1 can.1 in
+    let one = subst (λ kind. Spelled kind content) (sym of_kind.0) (spelled-content content can.0) in
+    record {
+      options = record { option = option; value = one.value } ∷ rest.options;
+      are_options = (refl, one.is_written rest.options, rest.are_options);
+      are_written = (one.is_writable, rest.are_written);
+    }
+
+-- ---- commands
+
+-- the options of a command, with NOHANDLE where its conditions are handled
+abbrev asked_of : Command → Asked
+asked_of asked = (NoHandle, flag asked.resp) ∷ options_of asked.verb
+
+flag-given : (b : Bool) → IfSome (flag b) CanBeGiven
+flag-given true = tt
+flag-given false = tt
+
+spelling-of : (asked : Command) (first : CommandWord) → word_of asked.verb ≡ Some first → are_plain (asked_of asked) ≡ true
+    → list_any (λ later. same Resp later.0) (asked_of asked) ≡ false → AreOfKind (form.Command first) (asked_of asked) → AllCanBeGiven (options_of asked.verb)
+    → Spelling asked
+spelling-of asked first is apart other of_kind can =
+    let rows = asked_of asked in
+    let all = all-spelled (form.Command first) rows of_kind (flag-given asked.resp, can) in
+    let clear = apart-present rows apart in
+    let given = given-present rows apart in
+    let handled = has-gives (present rows) clear NoHandle asked.resp given.0 in
+    record {
+      first = first;
+      options = all.options;
+      entries = present rows;
+      word = is;
+      are_options = all.are_options;
+      are_apart = clear;
+      says = (given.1, rw (has-present Resp rows other) handled);
+      are_written = all.are_written;
+    }
+
+module _ (P : Content → Type 0) where
+  flags : (b : Bool) → P nothing → IfSome (flag b) P
+  flags true h = h
+  flags false h = tt
+
+  amounts : (n : Option ℕ) → ((m : ℕ) → P (amount m)) → IfSome (option_map amount n) P
+  amounts None h = tt
+  amounts (Some m) h = h m
+
+  texts : (said : Option (List ℕ)) → ((bytes : List ℕ) → P (text bytes)) → IfSome (option_map text said) P
+  texts None h = tt
+  texts (Some bytes) h = h bytes
+
+  name4s : (name : Option (List ℕ)) → ((bytes : List ℕ) → P (name4 bytes)) → IfSome (option_map name4 name) P
+  name4s None h = tt
+  name4s (Some bytes) h = h bytes
+
+abbrev OfKind : Form → OptionWord → Content → Type 0
+OfKind line option content = kind_in line option ≡ Some (kind_giving content)
+
+read-plain : (resp : Bool) (file ridfld : List ℕ) (key_length length : Option ℕ) (generic gteq update : Bool) → not (update && (generic || gteq)) ≡ true
+    → are_plain (asked_of (record { verb = verb.Read file ridfld key_length length generic gteq update; resp = resp })) ≡ true
+read-plain resp file ridfld key_length length true true false together = refl
+read-plain resp file ridfld key_length length true true true together = let wrong : false ≡ true = together in cc
+read-plain resp file ridfld key_length length true false false together = refl
+read-plain resp file ridfld key_length length true false true together = let wrong : false ≡ true = together in cc
+read-plain resp file ridfld key_length length false true false together = refl
+read-plain resp file ridfld key_length length false true true together = let wrong : false ≡ true = together in cc
+read-plain resp file ridfld key_length length false false false together = refl
+read-plain resp file ridfld key_length length false false true together = refl
+
+-- each command that asks nothing of a queue and whose options go together has a spelling
+pub spelling : (asked : Verb) (resp : Bool) → IsTrue (asks_no_queue asked) → IsTrue (go_together asked) → AllCanBeGiven (options_of asked)
+    → Spelling (record { verb = asked; resp = resp })
+spelling (verb.Read file ridfld key_length length generic gteq update) resp acts together can =
+    spelling-of (record { verb = verb.Read file ridfld key_length length generic gteq update; resp = resp }) command.Read refl (read-plain resp file ridfld key_length length generic gteq update together) refl
+    (flags (OfKind (form.Command command.Read) NoHandle) resp refl, (refl, (refl, (amounts (OfKind (form.Command command.Read) KeyLength) key_length (λ x. refl), (amounts (OfKind (form.Command command.Read) Length) length (λ x. refl), (flags (OfKind (form.Command command.Read) Generic) generic refl, (flags (OfKind (form.Command command.Read) Gteq) gteq refl, (flags (OfKind (form.Command command.Read) Update) update refl, tt)))))))) can
+spelling (verb.Write file ridfld key_length from length) resp acts together can =
+    spelling-of (record { verb = verb.Write file ridfld key_length from length; resp = resp }) command.Write refl refl refl
+    (flags (OfKind (form.Command command.Write) NoHandle) resp refl, (refl, (refl, (amounts (OfKind (form.Command command.Write) KeyLength) key_length (λ x. refl), (refl, (amounts (OfKind (form.Command command.Write) Length) length (λ x. refl), tt)))))) can
+spelling (verb.Rewrite file from length) resp acts together can =
+    spelling-of (record { verb = verb.Rewrite file from length; resp = resp }) command.Rewrite refl refl refl
+    (flags (OfKind (form.Command command.Rewrite) NoHandle) resp refl, (refl, (refl, (amounts (OfKind (form.Command command.Rewrite) Length) length (λ x. refl), tt)))) can
+spelling (verb.Delete file None (Some key_length)) resp acts together can = let wrong : false ≡ true = together in cc
+spelling (verb.Delete file None None) resp acts together can =
+    spelling-of (record { verb = verb.Delete file None None; resp = resp }) command.Delete refl refl refl
+    (flags (OfKind (form.Command command.Delete) NoHandle) resp refl, (refl, (tt, (tt, tt)))) can
+spelling (verb.Delete file (Some ridfld) key_length) resp acts together can =
+    spelling-of (record { verb = verb.Delete file (Some ridfld) key_length; resp = resp }) command.Delete refl refl refl
+    (flags (OfKind (form.Command command.Delete) NoHandle) resp refl, (refl, (refl, (amounts (OfKind (form.Command command.Delete) KeyLength) key_length (λ x. refl), tt)))) can
+spelling (verb.Unlock file) resp acts together can =
+    spelling-of (record { verb = verb.Unlock file; resp = resp }) command.Unlock refl refl refl
+    (flags (OfKind (form.Command command.Unlock) NoHandle) resp refl, (refl, tt)) can
+spelling (verb.StartBr file ridfld key_length generic equal) resp acts together can =
+    spelling-of (record { verb = verb.StartBr file ridfld key_length generic equal; resp = resp }) command.StartBr refl refl refl
+    (flags (OfKind (form.Command command.StartBr) NoHandle) resp refl, (refl, (refl, (amounts (OfKind (form.Command command.StartBr) KeyLength) key_length (λ x. refl), (flags (OfKind (form.Command command.StartBr) Generic) generic refl, (flags (OfKind (form.Command command.StartBr) Equal) equal refl, tt)))))) can
+spelling (verb.ResetBr file ridfld key_length generic equal) resp acts together can =
+    spelling-of (record { verb = verb.ResetBr file ridfld key_length generic equal; resp = resp }) command.ResetBr refl refl refl
+    (flags (OfKind (form.Command command.ResetBr) NoHandle) resp refl, (refl, (refl, (amounts (OfKind (form.Command command.ResetBr) KeyLength) key_length (λ x. refl), (flags (OfKind (form.Command command.ResetBr) Generic) generic refl, (flags (OfKind (form.Command command.ResetBr) Equal) equal refl, tt)))))) can
+spelling (verb.ReadNext file length) resp acts together can =
+    spelling-of (record { verb = verb.ReadNext file length; resp = resp }) command.ReadNext refl refl refl
+    (flags (OfKind (form.Command command.ReadNext) NoHandle) resp refl, (refl, (amounts (OfKind (form.Command command.ReadNext) Length) length (λ x. refl), tt))) can
+spelling (verb.ReadPrev file length) resp acts together can =
+    spelling-of (record { verb = verb.ReadPrev file length; resp = resp }) command.ReadPrev refl refl refl
+    (flags (OfKind (form.Command command.ReadPrev) NoHandle) resp refl, (refl, (amounts (OfKind (form.Command command.ReadPrev) Length) length (λ x. refl), tt))) can
+spelling (verb.EndBr file) resp acts together can =
+    spelling-of (record { verb = verb.EndBr file; resp = resp }) command.EndBr refl refl refl
+    (flags (OfKind (form.Command command.EndBr) NoHandle) resp refl, (refl, tt)) can
+spelling (verb.Enq resource length nosuspend) resp acts together can =
+    spelling-of (record { verb = verb.Enq resource length nosuspend; resp = resp }) command.Enq refl refl refl
+    (flags (OfKind (form.Command command.Enq) NoHandle) resp refl, (refl, (refl, (flags (OfKind (form.Command command.Enq) NoSuspend) nosuspend refl, tt)))) can
+spelling (verb.Deq resource length) resp acts together can =
+    spelling-of (record { verb = verb.Deq resource length; resp = resp }) command.Deq refl refl refl
+    (flags (OfKind (form.Command command.Deq) NoHandle) resp refl, (refl, (refl, tt))) can
+spelling verb.Syncpoint resp acts together can =
+    spelling-of (record { verb = verb.Syncpoint; resp = resp }) command.Syncpoint refl refl refl
+    (flags (OfKind (form.Command command.Syncpoint) NoHandle) resp refl, (tt, tt)) can
+spelling verb.Rollback resp acts together can =
+    spelling-of (record { verb = verb.Rollback; resp = resp }) command.Syncpoint refl refl refl
+    (flags (OfKind (form.Command command.Syncpoint) NoHandle) resp refl, (refl, tt)) can
+spelling verb.Return resp acts together can =
+    spelling-of (record { verb = verb.Return; resp = resp }) command.Return refl refl refl
+    (flags (OfKind (form.Command command.Return) NoHandle) resp refl, tt) can
+spelling (verb.Abend code) resp acts together can =
+    spelling-of (record { verb = verb.Abend code; resp = resp }) command.Abend refl refl refl
+    (flags (OfKind (form.Command command.Abend) NoHandle) resp refl, (name4s (OfKind (form.Command command.Abend) AbCode) code (λ x. refl), tt)) can
+spelling (verb.WriteqTs queue from length item) resp acts together can = let wrong : false ≡ true = acts in cc
+spelling (verb.ReadqTs queue length item) resp acts together can = let wrong : false ≡ true = acts in cc
+spelling (verb.DeleteqTs queue) resp acts together can = let wrong : false ≡ true = acts in cc
+spelling (verb.WriteqTd queue from length) resp acts together can = let wrong : false ≡ true = acts in cc
+spelling (verb.ReadqTd queue length nosuspend) resp acts together can = let wrong : false ≡ true = acts in cc
+spelling (verb.DeleteqTd queue) resp acts together can = let wrong : false ≡ true = acts in cc

@@ -1,0 +1,110 @@
+-- A command's line, as it is written, is read as the command.
+use Rattle.std.proofs.Common.{◌≡◌, ◌≤◌, true, false, ℕ, List, [], ◌∷◌, ◌++◌, length, not, refl, ap, ◌∙◌, arith, Option, Some, None}
+use Rattle.std.proofs.lemmas.Bool.Decides.{nat_tests}
+use Rattle.std.specs.Prelude.{Result, Ok, Err, IsTrue, IfSome, nat_lt, if◌then◌else◌, is_some}
+use Rattle.std.specs.List.{flat_map, list_all}
+use Rattle.cics_dispatch.specs.declared.commands.Command.{Command}
+use Rattle.cics_script.specs.declared.faults.LineFault.{LineFault}
+use Rattle.cics_script.specs.declared.faults.LineFault.TheVariants.{TooLong, NotAscii, UnknownWord}
+use Rattle.cics_script.specs.declared.lines.Line.TheVariants.{Blank, Issue}
+use Rattle.cics_script.specs.declared.words.Start.{Start}
+use Rattle.cics_script.specs.declared.words.CommandWord.{CommandWord}
+use Rattle.cics_script.specs.declared.words.CommandWord.TheVariants as command
+use Rattle.cics_script.specs.declared.words.Form.TheVariants as form
+use Rattle.cics_script.specs.declared.words.OptionWord.{OptionWord}
+use Rattle.cics_script.specs.declared.words.OptionWord.TheVariants.{File, KeyLength, KeyOffset, RecordSize, Recoverable, Unrecoverable, From, Transid, Dtimout, Ridfld, Length, Into, Generic, Equal, Gteq, Update, Resource, NoSuspend, Rollback, AbCode, Cancel, NoDump, Resp, Resp2, NoHandle, EndExec}
+use Rattle.cics_script.specs.Faults.{◌>>=◌}
+use Rattle.cics_script.specs.Tokens.{Token, word, tokens, after_blanks}
+use Rattle.cics_script.specs.Words.{lookup, starts}
+use Rattle.cics_script.specs.Options.{Entry}
+use Rattle.cics_script.specs.Lines.{is_script_byte, is_empty_or_comment, label_in, begun, issue, statement, line}
+use Rattle.cics_script.specs.Layout.{is_word, IsWritable, AreWritable, laid_out}
+use Rattle.cics_script.specs.Spelling.{Written, option_word, command_word, value_tokens, option_tokens, command_tokens, word_of, AreOptions, AreApart, Says, AreWritten}
+use Rattle.cics_script.proofs.Layouts.{if-false, tokens-laid_out, script-laid_out, no_comment-word}
+use Rattle.cics_script.proofs.Orders.{command-written}
+use lib.Chars.{codes}
+
+is_word-option : (option : OptionWord) → is_word (option_word option) ≡ true
+is_word-option File = refl
+is_word-option KeyLength = refl
+is_word-option KeyOffset = refl
+is_word-option RecordSize = refl
+is_word-option Recoverable = refl
+is_word-option Unrecoverable = refl
+is_word-option From = refl
+is_word-option Transid = refl
+is_word-option Dtimout = refl
+is_word-option Ridfld = refl
+is_word-option Length = refl
+is_word-option Into = refl
+is_word-option Generic = refl
+is_word-option Equal = refl
+is_word-option Gteq = refl
+is_word-option Update = refl
+is_word-option Resource = refl
+is_word-option NoSuspend = refl
+is_word-option Rollback = refl
+is_word-option AbCode = refl
+is_word-option Cancel = refl
+is_word-option NoDump = refl
+is_word-option Resp = refl
+is_word-option Resp2 = refl
+is_word-option NoHandle = refl
+is_word-option EndExec = refl
+
+is_word-command : (first : CommandWord) → is_word (command_word first) ≡ true
+is_word-command command.Read = refl
+is_word-command command.Write = refl
+is_word-command command.Rewrite = refl
+is_word-command command.Delete = refl
+is_word-command command.Unlock = refl
+is_word-command command.StartBr = refl
+is_word-command command.ResetBr = refl
+is_word-command command.ReadNext = refl
+is_word-command command.ReadPrev = refl
+is_word-command command.EndBr = refl
+is_word-command command.Enq = refl
+is_word-command command.Deq = refl
+is_word-command command.Syncpoint = refl
+is_word-command command.Return = refl
+is_word-command command.Abend = refl
+
+writable-value : (value : Option Token) (rest : List Token) → IfSome value IsWritable → AreWritable rest → AreWritable (value_tokens value ++ rest)
+writable-value None rest can others = others
+writable-value (Some value) rest can others = (tt, (can, (tt, others)))
+
+writable-options : (options : List Written) → AreWritten options → AreWritable (flat_map option_tokens options)
+writable-options [] are = tt
+writable-options (option ∷ options) are =
+    (is_word-option option.option, writable-value option.value (flat_map option_tokens options) are.0 (writable-options options are.1))
+
+-- a label begins no other line
+known-label : (found : Option Start) (other : Result (List ℕ) LineFault) (padded : List ℕ)
+    → (if is_some found then Err UnknownWord else other) ≡ Ok padded → found ≡ None
+known-label None other padded e = refl
+known-label (Some begins) other padded e = let wrong : Err UnknownWord ≡ Ok padded = e in cc
+
+-- a line of few enough bytes of a script that begins no comment is what its tokens are
+line-statement : (bytes : List ℕ) → length bytes ≤ 70000 → list_all is_script_byte bytes ≡ true → is_empty_or_comment (after_blanks bytes) ≡ false
+    → line bytes ≡ statement (tokens bytes)
+line-statement bytes short script begins =
+    let within : nat_lt 70000 (length bytes) ≡ false = grind (arith, nat_tests) in
+    if-false (nat_lt 70000 (length bytes)) (Err TooLong) _ within
+    ∙ if-false (not (list_all is_script_byte bytes)) (Err NotAscii) _ (ap not script)
+    ∙ if-false (is_empty_or_comment (after_blanks bytes)) (Ok Blank) _ begins
+
+pub line-written : (label padded : List ℕ) (asked : Command) (first : CommandWord) (written : List Written) (entries : List Entry)
+    → IsTrue (is_word label) → label_in label ≡ Ok padded → word_of asked.verb ≡ Some first
+    → AreOptions (form.Command first) written entries → AreApart entries → Says asked entries → AreWritten written
+    → length (laid_out (command_tokens label first written)) ≤ 70000
+    → line (laid_out (command_tokens label first written)) ≡ Ok (Issue padded asked)
+line-written label padded asked first written entries labelled is_label is are apart says can short =
+    let whole = command_tokens label first written in
+    let rest = word (codes "CICS") ∷ word (command_word first) ∷ flat_map option_tokens written in
+    let writable : AreWritable whole = (labelled, (refl, (refl, (is_word-command first, writable-options written can)))) in
+    let behind_label = word (codes "EXEC") ∷ rest in
+    line-statement (laid_out whole) short (script-laid_out whole writable) (no_comment-word label (32 ∷ laid_out behind_label) labelled)
+    ∙ ap statement (tokens-laid_out whole writable)
+    ∙ ap (λ found. begun found label behind_label) (known-label (lookup label starts) _ padded is_label)
+    ∙ ap (λ found. found >>= λ padded. issue padded behind_label) is_label
+    ∙ command-written padded asked first written entries is are apart says

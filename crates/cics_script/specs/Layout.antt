@@ -1,0 +1,60 @@
+-- How the tokens of a line can be written: one behind another, with a blank behind each.
+use Rattle.std.specs.Prelude.{◌<◌, ◌+◌, ◌/◌, ◌%◌, ◌^◌, ◌==◌, ◌&&◌, ◌||◌, ℕ, Bool, false, IsTrue, nat_lt, if◌then◌else◌, List, [], ◌∷◌, ◌++◌, is_some}
+use Rattle.std.specs.List.{list_all}
+use Rattle.std.specs.Fmt.{decimal}
+use Rattle.cics_names.specs.Ebcdic.{code_of}
+use Rattle.cics_script.specs.declared.literals.Notation.TheVariants.{Quoted, Hexadecimal}
+use Rattle.cics_script.specs.Tokens.{Token, word, number, literal, opening, closing, broken, is_capital, is_digit, is_quote}
+
+-- characters up to the quote that ends them, each quote among them twice
+abbrev pub quoted : List ℕ → List ℕ
+quoted [] = 39 ∷ []
+quoted (c ∷ text) = if is_quote c then 39 ∷ 39 ∷ quoted text else c ∷ quoted text
+
+-- a hexadecimal digit
+abbrev pub hexadecimal_digit : ℕ → ℕ
+hexadecimal_digit n = if nat_lt n 10 then 48 + n else 55 + n
+
+-- bytes as pairs of hexadecimal digits, up to the quote that ends them
+abbrev pub hexadecimal : List ℕ → List ℕ
+hexadecimal [] = 39 ∷ []
+hexadecimal (byte ∷ bytes) = hexadecimal_digit (byte / 16) ∷ hexadecimal_digit (byte % 16) ∷ hexadecimal bytes
+
+-- a token as it is written; a broken one isn't
+abbrev pub token_bytes : Token → List ℕ
+token_bytes (word w) = w
+token_bytes (number n) = decimal n
+token_bytes (literal Quoted text) = 39 ∷ quoted text
+token_bytes (literal Hexadecimal bytes) = 88 ∷ 39 ∷ hexadecimal bytes
+token_bytes opening = 40 ∷ []
+token_bytes closing = 41 ∷ []
+token_bytes (broken fault) = []
+
+-- what a word in capitals has behind its first letter
+abbrev pub is_in_capitals : ℕ → Bool
+is_in_capitals c = is_capital c || is_digit c || (c == 45)
+
+-- a word in capitals
+abbrev pub is_word : List ℕ → Bool
+is_word [] = false
+is_word (c ∷ letters) = is_capital c && list_all is_in_capitals letters
+
+-- a token that can be written: a word in capitals, a number of 64 bits, a literal of characters that EBCDIC has or of bytes, or a parenthesis
+abbrev pub IsWritable : Token → Type 0
+IsWritable (word w) = IsTrue (is_word w)
+IsWritable (number n) = n < 2 ^ 64
+IsWritable (literal Quoted text) = IsTrue (list_all (λ c. is_some (code_of c)) text)
+IsWritable (literal Hexadecimal bytes) = IsTrue (list_all (λ byte. nat_lt byte 256) bytes)
+IsWritable opening = Unit {0}
+IsWritable closing = Unit {0}
+IsWritable (broken fault) = ⊥
+
+-- tokens that can be written
+abbrev pub AreWritable : List Token → Type 0
+AreWritable [] = Unit {0}
+AreWritable (token ∷ tokens) = IsWritable token × AreWritable tokens
+
+-- tokens as they are written, with a blank behind each
+abbrev pub laid_out : List Token → List ℕ
+laid_out [] = []
+laid_out (token ∷ tokens) = token_bytes token ++ 32 ∷ laid_out tokens
