@@ -4,13 +4,13 @@ use Rattle.cics_names.specs.Keyed.{Bytes, value_at}
 use Rattle.cics_ksds.specs.declared.definition.FileDef.{FileDef}
 use Rattle.cics_units.specs.Openings.{OpeningState, nothing_defined, file_fault, load_fault, with_file, with_record}
 use Rattle.cics_units.specs.declared.opening.DefineFault.{DefineFault}
-use Rattle.cics_dispatch.specs.OneTask.{OneTask, Stepped, opened, attached, issued, listing_of}
+use Rattle.cics_dispatch.specs.OneTask.{OneTask, Stepped, opened, attached, issued, listing_of, is_first_path}
 use Rattle.cics_dispatch.specs.declared.commands.Command.{Command}
 use Rattle.cics_dispatch.specs.declared.outcomes.Outcome.{Outcome}
 use Rattle.cics_dispatch.specs.declared.outcomes.Refused.{Refused}
 use Rattle.cics_script.specs.Lines.{line}
 use Rattle.cics_script.specs.declared.lines.Line.{Line}
-use Rattle.cics_script.specs.declared.lines.Line.TheVariants.{Blank, DefineFile, LoadFile, Attach, Issue}
+use Rattle.cics_script.specs.declared.lines.Line.TheVariants.{Blank, DefineFile, LoadFile, Attach, Clock, Issue}
 use Rattle.cics_script.specs.declared.faults.LineFault.{LineFault}
 use Rattle.cics_script.specs.declared.faults.LineFault.TheVariants.{UnknownWord, DefineTooLate}
 use Rattle.cics_run.specs.Journal.{attached_line, outcome_line, refused_line, line_fault_line, define_fault_line}
@@ -79,13 +79,15 @@ answered r label (Err refusal) next = told (Running r) (refused_line label refus
 abbrev pub command_issued : OneTask → Bytes → Command → Step
 command_issued r label command = answered r label (issued r label command).outcome (issued r label command).state
 
--- a line that was read, or its fault
+-- a region of one task has no clock, and of the commands only some; the others are words that no line has
 abbrev pub followed : ℕ → Stage → Result Line LineFault → Step
 followed number stage (Ok Blank) = silent stage
 followed number stage (Ok (DefineFile name d)) = file_defined number stage name d
 followed number stage (Ok (LoadFile name content)) = file_loaded number stage name content
 followed number stage (Ok (Attach label transaction dtimout)) = task_attached number (region_of stage) label transaction
-followed number stage (Ok (Issue label command)) = command_issued (region_of stage) label command
+followed number stage (Ok (Clock seconds)) = faulty stage (line_fault_line number UnknownWord)
+followed number stage (Ok (Issue label command)) =
+    if is_first_path command.verb then command_issued (region_of stage) label command else faulty stage (line_fault_line number UnknownWord)
 followed number stage (Err fault) = faulty stage (line_fault_line number fault)
 
 -- the bytes of a line, whose number is given

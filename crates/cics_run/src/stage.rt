@@ -4,7 +4,6 @@ ghost use Rattle.std.specs.Prelude.{◌≡◌, ◌++◌, OnOk, OnErr, IfOk, IsTr
 ghost use Rattle.cics_units.specs.Openings.{OpeningState};
 ghost use Rattle.cics_units.specs.Faults.{IsRefused};
 ghost use Rattle.cics_units.specs.declared.opening.DefineFault.{DefineFault};
-ghost use Rattle.cics_script.specs.Lines.{IsFirstPathLine};
 ghost use Rattle.cics_dispatch.specs.OneTask.{is_first_path};
 ghost use Rattle.cics_run.specs.Journal.{line_fault_line};
 ghost use Rattle.cics_dispatch.specs.OneTask.{listing_of};
@@ -80,7 +79,6 @@ impl Stage {
 
     // Runs a line that was read.
     fn follow(self, number: u64, line: Line, out: &mut Vec<u8>) -> Result<Ran, NoMemory>
-        requires { IsFirstPathLine line }
         ensures { Leads (followed number self (Ok line)) out.old.items out.new.items result }
     {
         match line {
@@ -99,7 +97,14 @@ impl Stage {
                 dtimout,
                 out,
             ),
-            Line::Issue(label, command) => issue(self.into_region()?, label, command, out),
+            Line::Clock(_) => print_fault(self, number, LineFault::UnknownWord, out),
+            Line::Issue(label, command) => {
+                if command.verb.is_first_path() {
+                    issue(self.into_region()?, label, command, out)
+                } else {
+                    print_fault(self, number, LineFault::UnknownWord, out)
+                }
+            }
         }
     }
 
