@@ -1,3 +1,4 @@
 pub mod Entries
 pub mod Listing
+pub mod TableLaws
 pub mod Tables

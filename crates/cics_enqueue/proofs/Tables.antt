@@ -15,7 +15,7 @@ use Rattle.cics_enqueue.specs.declared.enqueues.Holding.{Holding}
 use Rattle.cics_enqueue.specs.contracts.resources.ResourcePartialEq.TheImpl as own
 use Rattle.cics_enqueue.specs.Lists.{table_of, seen}
 use Rattle.cics_enqueue.specs.Resources.{Table, Held, held_at, holder_of, count_of, count_in, is_one, is_user, is_full, most_count, raised_count, is_in_order, resource_cmp, with_holder, freed, released, taken, given_back, given_back_of}
-use Rattle.cics_enqueue.specs.TableLaws.{left_of, right_of, not_tied}
+use Rattle.cics_enqueue.proofs.TableLaws.{left_of, right_of, not_tied}
 use Rattle.cics_enqueue.specs.ResourceLaws.{resource_cmp_total, is_one-cmp, is_one-eq, same_resources}
 
 -- the program's `==` of resources

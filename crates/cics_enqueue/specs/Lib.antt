@@ -1,4 +1,3 @@
 pub mod Lists
 pub mod Resources
 pub mod ResourceLaws
-pub mod TableLaws

@@ -1,5 +1,5 @@
 -- One of the files is changed where it stands: what the files have then, and what its image is among them.
-use Rattle.std.specs.Prelude.{◌≡◌, T, Option, Some, None, IfSome, Result, Ok, Err, IfOk, List}
+use Rattle.std.specs.Prelude.{◌≡◌, T, Option, Some, None, IfSome, Result, Ok, Err, IfOk}
 use Rattle.std.proofs.Common.{sym, ap, ◌∙◌, subst, refl}
 use Rattle.std.specs.Map.{lookup, set_value}
 use Rattle.std.specs.BTreeMap.{is_at}

@@ -6,7 +6,7 @@ use Rattle.std.proofs.lemmas.Bool.{cases_Bool, eq-eqb, and_from, and_right}
 use Rattle.cics_names.specs.Keyed.{Bytes, is_same}
 use Rattle.cics_names.specs.RisingLaws.{is_same-turned}
 use Rattle.cics_enqueue.specs.Resources.{Table, Held, resource_cmp, most_count, held_at, holder_of, count_in, count_of, is_full, IsFreeFor, taken, given_back}
-use Rattle.cics_enqueue.specs.TableLaws.{unit_in}
+use Rattle.cics_enqueue.proofs.TableLaws.{unit_in}
 use Rattle.cics_enqueue.specs.declared.resources.Resource.{Resource}
 use Rattle.cics_enqueue.specs.declared.resources.Resource.TheVariants.{FileKey, TsQueue, TdRead as ReadingEnd, TdWrite as WritingEnd, User}
 use Rattle.cics_units.specs.Openings.{OpeningState}

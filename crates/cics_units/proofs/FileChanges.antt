@@ -1,19 +1,18 @@
 -- What an executed command on a file makes of the files and of the images of its unit.
-use Rattle.std.specs.Prelude.{◌≡◌, ◌≢◌, ℕ, Bool, true, false, not, cond, if◌then◌else◌, T, IsTrue, Option, Some, None, is_some, option_map, IfSome, List, [], ◌∷◌, map, refl}
+use Rattle.std.specs.Prelude.{◌≡◌, ℕ, Bool, true, false, if◌then◌else◌, T, Option, Some, None, is_some, option_map, IfSome, List, [], refl}
 use Rattle.std.proofs.Common.{sym, ap, ◌∙◌, subst}
 use Rattle.std.proofs.lemmas.Bool.{true≢false, false≢true}
 use Rattle.cics_names.specs.Keyed.{Bytes, Map, value_at, has_key, with_value, without, is_rising}
 use Rattle.cics_names.specs.declared.conditions.Condition.TheVariants.{Normal, Duprec, Notfnd}
-use Rattle.cics_images.specs.Cells.{Kept, is_other}
-use Rattle.cics_ksds.specs.Files.{FileValue, key_of, written, rewritten, deleted, filled, emptied, dropped, write_condition, change_condition, records_after_write, records_after_rewrite, records_after_delete}
+use Rattle.cics_images.specs.Cells.{is_other}
+use Rattle.cics_ksds.specs.Files.{FileValue, key_of, written, rewritten, deleted, filled, emptied, dropped, write_condition, change_condition}
 use Rattle.cics_ksds.specs.Undo.{ImageValue, written_image, rewritten_image, deleted_image}
-use Rattle.cics_units.specs.Store.{Store, apply, apply_write, apply_rewrite, apply_delete, apply_read, answered, only, with_file, with_content, found_condition, is_normal}
-use Rattle.cics_units.specs.Cells.{Key, Content, content, listed, record_in}
+use Rattle.cics_units.specs.Store.{apply, apply_write, apply_rewrite, apply_delete, apply_read, answered, only, with_file, with_content, found_condition}
+use Rattle.cics_units.specs.Cells.{Key, content, listed, record_in}
 use Rattle.cics_units.specs.Undo.{changes}
 use Rattle.cics_units.specs.declared.ops.Op.{Op}
 use Rattle.cics_units.specs.declared.ops.Op.TheVariants.{Write, Rewrite, Delete, ReadUpdate}
-use Rattle.cics_units.specs.declared.ops.Answer.{Answer}
-use Rattle.cics_units.specs.RegionFiles.{IsThere, key_in, written_in, rewritten_in, deleted_in}
+use Rattle.cics_units.specs.RegionFiles.{IsThere}
 use Rattle.cics_units.specs.FilesImages.{cell_of, FilesKeep, KeepsIn, definitions_of}
 use Rattle.cics_units.specs.FilesChanges.{IsFilesImage}
 use Rattle.cics_units.specs.Matching.{store_of_files}

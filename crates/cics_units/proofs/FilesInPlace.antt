@@ -1,12 +1,12 @@
 -- Each call keeps the files and the images in place.
-use Rattle.std.proofs.Common.{◌≡◌, ◌≢◌, ℕ, Bool, true, false, ◌&&◌, not, Option, Some, None, List, [], ◌∷◌, ◌++◌, length, refl, ap, sym, subst, ◌∙◌, eqb, inl, inr, ◌<◌, ◌⊎◌}
-use Rattle.std.specs.Prelude.{if◌then◌else◌, cond, is_some, map, option_map, unwrap_or, slice_get, slice_set, MatchBool, IfSome}
-use Rattle.std.proofs.lemmas.Bool.{true≢false, false≢true, cases_Bool, cond_both, eqb-true, eqb-false, eq-eqb, and_parts, and_from, and_cases, and_left, and_right, or_parts, or_left, or_right, or_from, false_from_ne_true, true_from_ne_false}
+use Rattle.std.proofs.Common.{◌≡◌, ◌≢◌, ℕ, Bool, true, false, ◌&&◌, not, Option, Some, None, List, [], ◌∷◌, ◌++◌, refl, ap, sym, subst, ◌∙◌, eqb, inl, inr, ◌⊎◌}
+use Rattle.std.specs.Prelude.{if◌then◌else◌, is_some, option_map, slice_set}
+use Rattle.std.proofs.lemmas.Bool.{true≢false, cases_Bool, cond_both, eqb-true, eqb-false, eq-eqb, and_parts, and_from, and_left, or_parts, or_left, or_right, or_from, false_from_ne_true, true_from_ne_false}
 use Rattle.cics_names.specs.Keyed.{Bytes, Map, value_at}
 use Rattle.cics_images.specs.Cells.{Kept, is_other, is_unnamed, AreOf, AreReadyInTurn, LeadBack, images_of}
 use Rattle.cics_images.specs.Turns.{in_turn_kept, one_before}
 use Rattle.cics_ksds.specs.Files.{FileValue}
-use Rattle.cics_ksds.specs.Undo.{key_of_image, content_at, Leads as FileLeads}
+use Rattle.cics_ksds.specs.Undo.{key_of_image, Leads as FileLeads}
 use Rattle.cics_units.specs.Openings.{OpeningState}
 use Rattle.cics_units.specs.Store.{Store, apply, is_recoverable, initial_store}
 use Rattle.cics_units.specs.History.{outcome_of, is_open, kept}
@@ -21,12 +21,11 @@ use Rattle.cics_units.proofs.Undoing.{Leads-none, undone-at}
 use Rattle.cics_ksds.specs.UndoLaws as file
 use Rattle.cics_enqueue.specs.Resources.{overlaps}
 use Rattle.std.specs.List.{list_any}
-use Rattle.cics_units.specs.declared.ops.Entry.{Entry}
 use Rattle.cics_units.specs.declared.files.images.FilesImage.{FilesImage}
-use Rattle.cics_units.specs.Cells.{Cell, Key, Ts, Td, Content, content, cell_of as cell_of_op, same_cell, touches, effect, listed, record_in, Writing, uses, recovers}
+use Rattle.cics_units.specs.Cells.{Cell, Key, Ts, Td, content, cell_of as cell_of_op, same_cell, touches, effect, listed, record_in, Writing, uses, recovers}
 use Rattle.cics_units.specs.Events.{is_live, may_act}
-use Rattle.cics_units.specs.Isolation.{Outcomes, used, IsSound, IsFree}
-use Rattle.cics_units.specs.Undo.{Image, Cells, Leads, names, is_plain, changes, AreImages, image_of, Place, IsPlaceOf, after, put, place_executed, without_images, undone}
+use Rattle.cics_units.specs.Isolation.{used, IsSound}
+use Rattle.cics_units.specs.Undo.{Image, Cells, Leads, names, is_plain, changes, image_of, IsPlaceOf, after, put, without_images, undone}
 use Rattle.cics_units.specs.FilesImages.{cell_of, cell_of_image, content_in, files_content, IsReadyFor, files_undone, FilesKeep, definitions_of}
 use Rattle.cics_units.specs.FilesImagesLaws as files
 use Rattle.cics_units.specs.FilesImagesLaws.{content_of_cell}

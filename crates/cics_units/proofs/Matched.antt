@@ -1,18 +1,16 @@
 -- The images that are kept lead each cell back as the changes do that they stand for.
-use Rattle.std.specs.Prelude.{◌≡◌, ◌≢◌, ℕ, Bool, true, false, ◌&&◌, not, cond, if◌then◌else◌, Option, Some, None, List, [], ◌∷◌, ◌++◌, length, take, drop, is_some, refl}
-use Rattle.std.proofs.Common.{sym, ap, ◌∙◌, subst, ◌⊎◌, inl, inr}
+use Rattle.std.specs.Prelude.{◌≡◌, Bool, true, false, not, Option, Some, None, List, [], ◌∷◌, take, drop, is_some, refl}
+use Rattle.std.proofs.Common.{sym, ap, ◌∙◌, subst, inl, inr}
 use Rattle.std.specs.Bool.{Decides}
 use Rattle.std.specs.Str.{bytes_eq}
 use Rattle.std.proofs.lemmas.Slice.Eq.{bytes_eq-Decides}
-use Rattle.std.proofs.lemmas.Bool.{true≢false, false≢true, cases_Bool, and_parts, and_from, or_parts, false_from_ne_true, true_from_ne_false}
+use Rattle.std.proofs.lemmas.Bool.{true≢false, false≢true, cases_Bool, and_parts, and_from, or_parts, false_from_ne_true}
 use Rattle.cics_names.specs.Keyed.{Bytes, Map, is_same, value_at}
 use Rattle.cics_names.specs.KeyedLaws.{is_same-self, is_same-eq}
 use Rattle.cics_images.specs.Cells.{images_of, is_other, AreOf, LeadBack}
 use Rattle.cics_images.specs.Cells as images
-use Rattle.cics_images.specs.Turns.{one_before}
-use Rattle.cics_ksds.specs.Files.{FileValue}
 use Rattle.cics_ksds.specs.Undo.{key_of_image, Leads as FileLeads}
-use Rattle.cics_units.specs.Cells.{Cell, Key, Ts, Td, Content, content, same_cell, listed, record_in}
+use Rattle.cics_units.specs.Cells.{Key, Content, same_cell, listed, record_in}
 use Rattle.cics_units.specs.Undo.{Image, Leads, names}
 use Rattle.cics_units.specs.FilesImages.{cell_of, cell_of_image}
 use Rattle.cics_units.specs.FilesImagesLaws.{took, left}

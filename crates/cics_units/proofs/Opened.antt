@@ -15,6 +15,7 @@ use Rattle.cics_ksds.specs.declared.definition.FileDef.{FileDef}
 use Rattle.cics_units.specs.Openings.{OpeningState, FileOpening, with_record, loaded_file, is_record_size, is_key, file_fault, load_fault, is_in_order, HasLawfulKeys, IsOpeningInOrder}
 use Rattle.cics_units.specs.declared.opening.DefineFault.{DefineFault}
 use Rattle.cics_units.specs.declared.opening.DefineFault.TheVariants.{Duplicate, BadKey, BadLength, NotThere}
+use Rattle.cics_units.specs.Replaying.{files_alone}
 use Rattle.cics_units.specs.RegionFiles.{opening_of, openings_of, opened_files, IsLoaded, AreLoaded}
 use Rattle.cics_units.proofs.Named.{lookup-value_at}
 
@@ -70,8 +71,6 @@ pub All-value_at : {X : Type 0} (P : X → Type 0) (k : Bytes) (m : Map X) (x : 
 All-value_at P k m x all there = subst (λ o. IfSome o P) (lookup-value_at k m ∙ there) (All-lookup P (is_at (bytes_cmp k)) m all)
 
 -- ---- the files of an opening
-abbrev pub opening_with : Map FileValue → OpeningState
-opening_with m = record { files = openings_of m; prefixes = []; queues = [] }
 
 pub IsLoaded-new : (d : FileDef) → is_key d ≡ true → IsLoaded (record { definition = d; records = []; empties = [] })
 IsLoaded-new d lawful = record { lawful = lawful; content = record { rising = tt; keyed = All-nil (λ e. (e.0 ≡ key_of d e.1) × IsTrue (fits_file d e.1)) }; empties = refl }
@@ -104,7 +103,7 @@ module _ (m : Map FileValue) (are : AreLoaded m) where
     loaded = All-with_value (λ e. IsLoaded e.1) name (written f r) m (IsLoaded-written f r fits (All-value_at IsLoaded name m f are.loaded there)) are.loaded;
   }
 
-  pub HasLawfulKeys-with : HasLawfulKeys (opening_with m)
+  pub HasLawfulKeys-with : HasLawfulKeys (files_alone m)
   HasLawfulKeys-with name file found = by (value_at name m) refl (sym (value_at-each opening_of name m) ∙ found)
     where
       by : (o : Option FileValue) → value_at name m ≡ o → option_map opening_of o ≡ Some file → is_key file.definition ≡ true
@@ -114,7 +113,7 @@ module _ (m : Map FileValue) (are : AreLoaded m) where
           none_some e = cc
       by (Some f) at is = let same : opening_of f ≡ file = cc in ap (λ x. is_key x.definition) (sym same) ∙ (All-value_at IsLoaded name m f are.loaded at).lawful
 
-  pub IsOpeningInOrder-with : IsOpeningInOrder (opening_with m)
+  pub IsOpeningInOrder-with : IsOpeningInOrder (files_alone m)
   IsOpeningInOrder-with = record {
     files = rising-each opening_of m ∙ is_true (is_rising m) are.rising;
     records = λ f. ap (λ o. is_in_order (option_map (λ e. e.records) o)) (value_at-each opening_of f m) ∙ in_order (value_at f m) (λ x. All-value_at IsLoaded f m x are.loaded);
@@ -139,7 +138,7 @@ opened_files-openings_of (e ∷ m) all =
 abbrev define_fault : Bool → Bool → Bool → Option DefineFault
 define_fault there sized keyed = if there then Some Duplicate else if not sized then Some BadLength else if not keyed then Some BadKey else None
 
-pub file_fault-tested : (m : Map FileValue) (o : OpeningState) (name : Bytes) (d : FileDef) (there sized keyed : Bool) → opening_with m ≡ o →
+pub file_fault-tested : (m : Map FileValue) (o : OpeningState) (name : Bytes) (d : FileDef) (there sized keyed : Bool) → files_alone m ≡ o →
     there ≡ has_key name m → sized ≡ is_record_size d.record_size → keyed ≡ is_key d → define_fault there sized keyed ≡ file_fault o name d
 file_fault-tested m o name d there sized keyed is t s k =
     ap (λ b. define_fault b sized keyed) (t ∙ sym (has_key-each opening_of name m))
@@ -150,7 +149,7 @@ file_fault-tested m o name d there sized keyed is t s k =
 abbrev record_fault : Bool → Bool → Option DefineFault
 record_fault fits there = if not fits then Some BadLength else if there then Some Duplicate else None
 
-module _ (m : Map FileValue) (o : OpeningState) (name r : Bytes) (is : opening_with m ≡ o) where
+module _ (m : Map FileValue) (o : OpeningState) (name r : Bytes) (is : files_alone m ≡ o) where
   pub load_fault-absent : value_at name m ≡ None → load_fault (value_at name o.files) r ≡ Some NotThere
   load_fault-absent absent =
       ap (λ p. load_fault (value_at name p.files) r) (sym is) ∙ ap (λ f. load_fault f r) (value_at-each opening_of name m ∙ ap (option_map opening_of) absent)
@@ -179,9 +178,9 @@ with_record-found : (o : OpeningState) (name r : Bytes) (f : FileOpening) → va
 with_record-found o name r f found = rw found refl
 
 -- a record that is written to a file is loaded into it, where its key is new
-pub opening_with-written : (m : Map FileValue) (name r : Bytes) (f : FileValue) → value_at name m ≡ Some f → has_key (key_of f.definition r) f.records ≡ false →
-    opening_with (with_value name (written f r) m) ≡ with_record (opening_with m) name r
-opening_with-written m name r f found new =
-    ap (λ b. opening_with (with_value name (if b then f else filled f (key_of f.definition r) r) m)) new
+pub files_alone-written : (m : Map FileValue) (name r : Bytes) (f : FileValue) → value_at name m ≡ Some f → has_key (key_of f.definition r) f.records ≡ false →
+    files_alone (with_value name (written f r) m) ≡ with_record (files_alone m) name r
+files_alone-written m name r f found new =
+    ap (λ b. files_alone (with_value name (if b then f else filled f (key_of f.definition r) r) m)) new
     ∙ ap (λ files. record { files = files; prefixes = []; queues = [] }) (with_value-each opening_of name (filled f (key_of f.definition r) r) m)
-    ∙ sym (with_record-found (opening_with m) name r (opening_of f) (value_at-each opening_of name m ∙ ap (option_map opening_of) found))
+    ∙ sym (with_record-found (files_alone m) name r (opening_of f) (value_at-each opening_of name m ∙ ap (option_map opening_of) found))

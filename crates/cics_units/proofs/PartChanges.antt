@@ -6,11 +6,11 @@ use Rattle.std.specs.declared.cmp.Ordering.TheVariants.{Less, Equal, Greater}
 use Rattle.std.specs.Ordering.{is_eq}
 use Rattle.std.specs.FinMap as map_by
 use Rattle.std.specs.FinMap.Entries.{find-put, is_sorted-put, same_entries}
-use Rattle.std.proofs.lemmas.Bool.{true≢false, false≢true, eqb-true, and_parts, and_left, false_from_ne_true}
+use Rattle.std.proofs.lemmas.Bool.{true≢false, false≢true, eqb-true, and_parts, false_from_ne_true}
 use Rattle.cics_names.specs.Keyed.{Bytes, is_same}
 use Rattle.cics_names.specs.KeyedLaws.{is_same-eq}
 use Rattle.cics_enqueue.specs.Resources.{Table, Held, held_at, holder_of, IsFreeFor, is_user, is_in_order, raised_count, resource_cmp, taken, given_back}
-use Rattle.cics_enqueue.specs.TableLaws.{given_back-taken}
+use Rattle.cics_enqueue.proofs.TableLaws.{given_back-taken}
 use Rattle.cics_enqueue.specs.ResourceLaws.{resource_cmp_total, same_resources}
 use Rattle.cics_enqueue.specs.declared.resources.Resource.{Resource}
 use Rattle.cics_units.specs.Holding.{UpdateRead}

@@ -1,6 +1,6 @@
 -- What the units show after each call is what the call makes of their state.
-use Rattle.std.proofs.Common.{◌≡◌, ℕ, ◌<◌, ◌≤◌, Bool, true, false, ◌&&◌, not, Option, Some, None, List, [], ◌∷◌, ◌++◌, length, refl, ap, sym, subst, ◌∙◌, arith}
-use Rattle.std.specs.Prelude.{if◌then◌else◌, IsTrue, T, map, IfSome, filter, slice_set, fold, ◌==◌, All}
+use Rattle.std.proofs.Common.{◌≡◌, ℕ, ◌<◌, ◌≤◌, Bool, true, false, not, Option, Some, None, List, [], ◌∷◌, ◌++◌, length, refl, ap, sym, subst, ◌∙◌, arith}
+use Rattle.std.specs.Prelude.{if◌then◌else◌, T, map, IfSome, filter, slice_set, ◌==◌, All}
 use Rattle.std.specs.Option.{option_copied}
 use Rattle.std.proofs.Common.{Bor}
 use Rattle.std.proofs.lemmas.List.Elements.{All-head, All-tail}
@@ -13,28 +13,25 @@ use Rattle.std.specs.List.{list_any}
 use Rattle.std.specs.Prelude.{is_some}
 use Rattle.std.proofs.Common.{inl, inr, eqb}
 use Rattle.cics_names.specs.Keyed.{has_key}
-use Rattle.std.proofs.lemmas.Bool.{cases_Bool, and_parts, or_left, or_right, true≢false, false≢true, and_from, lt-ltb}
+use Rattle.std.proofs.lemmas.Bool.{cases_Bool, and_parts, or_left, or_right, false≢true, and_from, lt-ltb}
 use Rattle.cics_names.specs.Keyed.{Bytes, Map, value_at}
 use Rattle.cics_names.specs.declared.conditions.Condition.{Condition}
 use Rattle.cics_names.specs.declared.conditions.Condition.TheVariants.{Normal}
-use Rattle.cics_images.specs.Cells.{is_other, LeadBack, images_of, is_unnamed}
+use Rattle.cics_images.specs.Cells.{is_other}
 use Rattle.cics_ksds.specs.Files.{FileValue}
-use Rattle.cics_ksds.specs.Undo.{Leads}
 use Rattle.cics_enqueue.specs.Resources.{Table, overlaps, is_other as is_other_unit, holder_of, released}
 use Rattle.cics_enqueue.specs.declared.resources.Resource.{Resource}
 use Rattle.cics_units.specs.Openings.{OpeningState, file_recoverable}
-use Rattle.cics_units.specs.Store.{Store, apply, apply_write, apply_rewrite, apply_delete, apply_read, is_normal}
-use Rattle.cics_units.specs.History.{outcome_of, is_open}
+use Rattle.cics_units.specs.Store.{Store, apply, apply_write, apply_rewrite, apply_delete, is_normal}
 use Rattle.cics_units.specs.Holding.{UnitsState, UpdateRead, store_of, awaited, held_by}
 use Rattle.cics_units.specs.Execution.{execution, done_of, state_of, has_read, IsOpenUnit, IsOpenOrNone, unit_or_next, outcomes_with, reads_after, is_read_of, read_at, entered, after_execution, after_unlock, after_end, is_ready_op}
 use Rattle.cics_units.specs.Headline.{beginning}
-use Rattle.cics_units.specs.Cells.{Key, content, cell_of as cell_of_op, effect}
+use Rattle.cics_units.specs.Cells.{content, cell_of as cell_of_op}
 use Rattle.cics_units.specs.Events.{is_live, may_act}
 use Rattle.cics_units.specs.Undo.{changes}
-use Rattle.cics_units.specs.FilesImages.{cell_of, cell_of_image, files_content, FilesKeep, files_undone, files_settled, definitions_of}
+use Rattle.cics_units.specs.FilesImages.{cell_of}
 use Rattle.cics_units.specs.FilesImagesLaws as files
 use Rattle.cics_units.specs.Matching.{store_of_files}
-use Rattle.cics_units.specs.UnitImages.{kept_by, AreOthersKept}
 use Rattle.cics_units.specs.TableInPlace.{is_holder, IsTableOf, is_file_op, is_read, file_of, key_of, record_of, other_holder, counts_in, table_changed, table_executed, table_given_back}
 use Rattle.cics_units.specs.Parts.{UndoableValue, PartsValue, AreExecuted, ArePartsKept, is_recoverable_in, AreImagesAfter, AreChanged}
 use Rattle.cics_units.specs.KeptUnits.{state_shown, AreKept}
@@ -44,13 +41,12 @@ use Rattle.cics_units.specs.declared.ops.Answer.{Answer}
 use Rattle.cics_units.specs.declared.ops.Done.TheVariants.{Answered, MustWait}
 use Rattle.cics_units.specs.declared.ops.Entry.{Entry}
 use Rattle.cics_units.specs.declared.ops.UnitState.{UnitState}
-use Rattle.cics_units.specs.declared.ops.UnitState.TheVariants.{Committed, BackedOut}
 use Rattle.cics_units.specs.Isolation.{IsSound}
 use Rattle.std.proofs.lemmas.Bool.{eq-eqb}
 use Rattle.cics_units.proofs.Holders.{holder_begun, held_cases}
 use Rattle.cics_units.proofs.Joining.{apply-answer, read_only}
 use Rattle.cics_units.proofs.TableInPlace.{awaited-file, table_holder}
-use Rattle.cics_units.proofs.KeptUnits.{kept_roomier, recoverable_alike, store_is, is_entered, next_none, key_op, kept_executed, kept_unlocked, kept_committed, kept_backed_out}
+use Rattle.cics_units.proofs.KeptUnits.{kept_roomier, recoverable_alike, store_is, is_entered, next_none, key_op, kept_executed, kept_unlocked}
 
 -- a unit that is open has begun and not ended
 pub live_of : (s : UnitsState) (u : ℕ) → IsOpenUnit s u → is_live s u ≡ true

@@ -10,7 +10,7 @@ use Rattle.std.proofs.lemmas.Bool.{true≢false, eq-eqb, eqb-true}
 use Rattle.cics_names.specs.Keyed.{Bytes}
 use Rattle.cics_enqueue.specs.Resources.{Table, Held, overlaps, is_one, resource_cmp, held_at, holder_of, IsFreeFor, with_holder, freed, taken, given_back, given_back_of, raised_count, released}
 use Rattle.cics_enqueue.specs.ResourceLaws.{is_one-eq, same_resources}
-use Rattle.cics_enqueue.specs.TableLaws.{holder_without, holder_of-taken, holder_of-given_back, holder_of-released, once-taken, once-given_back, once-released, is_in_order-taken, is_in_order-given_back, is_in_order-released}
+use Rattle.cics_enqueue.proofs.TableLaws.{holder_without, holder_of-taken, holder_of-given_back, holder_of-released, once-taken, once-given_back, once-released, is_in_order-taken, is_in_order-given_back, is_in_order-released}
 use Rattle.cics_enqueue.specs.declared.resources.Resource.{Resource}
 use Rattle.cics_enqueue.specs.declared.resources.Resource.TheVariants.{FileKey, TsQueue, TdRead as ReadingEnd, TdWrite as WritingEnd, User}
 use Rattle.cics_units.specs.Holding.{UnitsState, EnqCount, held_by}

@@ -1,14 +1,14 @@
 -- What a change of one file is among the files of a region: its image is an image of the region's files, and the other
 -- cells keep what they have.
-use Rattle.std.specs.Prelude.{◌≡◌, ◌≢◌, Bool, true, Option, Some, None, refl}
-use Rattle.std.proofs.Common.{sym, ap, ◌∙◌, subst, ◌⊎◌, inl, inr}
+use Rattle.std.specs.Prelude.{◌≡◌, ◌≢◌, true, Option, Some}
+use Rattle.std.proofs.Common.{sym, ap, ◌∙◌, subst, inl, inr}
 use Rattle.std.specs.Option.{option_map}
 use Rattle.cics_names.specs.Keyed.{Bytes, Map, value_at, with_value}
 use Rattle.cics_names.specs.KeyedLaws.{value_at-with_value_same, value_at-with_value_other}
 use Rattle.cics_images.specs.Cells.{Cell, is_other}
 use Rattle.cics_images.specs.Turns.{IsImageOf}
 use Rattle.cics_ksds.specs.Files.{FileValue}
-use Rattle.cics_ksds.specs.Undo.{ImageValue, content_at, key_of_image, Leads, undone, KeepsKeys, IsFileImage}
+use Rattle.cics_ksds.specs.Undo.{ImageValue, content_at, Leads, undone, KeepsKeys, IsFileImage}
 use Rattle.cics_ksds.specs.UndoLaws as file
 use Rattle.cics_units.specs.FilesImages.{cell_of, cell_of_image, content_in, files_content, IsReadyIn, IsReadyFor, files_undone, KeepsIn, FilesKeep}
 use Rattle.cics_units.specs.FilesImagesLaws.{same_or_other, other_cell, keeps_itself_in, content_of_cell, here, elsewhere}

@@ -1,6 +1,6 @@
 -- Recovery (chapter on recovery): the files of a region as one value whose changes are undone. A cell is a key of a file.
 -- Every law ranges over all lists, also over those whose names do not rise.
-use Rattle.std.specs.Prelude.{Bool, ℕ, if◌then◌else◌, nat_le, Option, Some, None, [], ◌∷◌, ◌++◌, length, take, drop}
+use Rattle.std.specs.Prelude.{Bool, if◌then◌else◌, nat_le, Option, Some, None, [], ◌∷◌, ◌++◌, length, take, drop}
 use Rattle.std.specs.Option.{option_map}
 use Rattle.cics_names.specs.Keyed.{Bytes, Map, value_at, with_value}
 use Rattle.cics_images.specs.Cells.{Cell, Content}

@@ -1,5 +1,5 @@
 -- Undoing changes of files, newest first: the laws that the trait of undoable values asks for.
-use Rattle.std.specs.Prelude.{◌≡◌, ◌≢◌, ℕ, Bool, true, false, not, cond, if◌then◌else◌, nat_le, Option, Some, None, [], ◌∷◌, ◌++◌, length, map, take, drop, refl}
+use Rattle.std.specs.Prelude.{◌≡◌, ◌≢◌, ℕ, Bool, true, false, not, cond, nat_le, Option, Some, None, [], ◌∷◌, ◌++◌, length, take, drop, refl}
 use Rattle.std.proofs.Common.{sym, ap, ◌∙◌, subst, ◌⊎◌, inl, inr}
 use Rattle.std.specs.Bool.{Decides}
 use Rattle.std.specs.Option.{option_map}
@@ -8,11 +8,11 @@ use Rattle.std.proofs.lemmas.Slice.Eq.{bytes_eq-Decides}
 use Rattle.std.proofs.lemmas.Bool.{leb-true, le-leb}
 use Rattle.std.proofs.lemmas.List.{length-append, length-take-le, take-append-drop}
 use Rattle.std.proofs.Common.{arith}
-use Rattle.cics_names.specs.Keyed.{Bytes, Map, value_at, with_value}
+use Rattle.cics_names.specs.Keyed.{Bytes, Map, value_at}
 use Rattle.cics_names.specs.KeyedLaws.{value_at-with_value_same, value_at-with_value_other}
-use Rattle.cics_images.specs.Cells.{Cell, Content, is_other}
+use Rattle.cics_images.specs.Cells.{Cell, is_other}
 use Rattle.cics_ksds.specs.Files.{FileValue}
-use Rattle.cics_ksds.specs.Undo.{ImageValue, content_at, key_of_image, Leads, IsReadyImage, undone, settled, KeepsKeys}
+use Rattle.cics_ksds.specs.Undo.{ImageValue, key_of_image, Leads, undone, settled}
 use Rattle.cics_ksds.specs.UndoLaws as file
 use Rattle.cics_units.specs.FilesImages.{cell_of, cell_of_image, content_in, files_content, IsReadyIn, IsReadyFor, changed_where, changed_at, files_undone, files_settled, KeepsIn, FilesKeep, definitions_of}
 use Rattle.cics_units.specs.declared.files.images.FilesImage.{FilesImage}

@@ -1,5 +1,5 @@
 -- Recovery: what holds between the state of the units and the files as they stand, with the images that open units keep.
-use Rattle.std.specs.Prelude.{◌≡◌, ℕ, true, false, List, []}
+use Rattle.std.specs.Prelude.{◌≡◌, ℕ, false, List, []}
 use Rattle.cics_names.specs.Keyed.{Map}
 use Rattle.cics_images.specs.Cells.{Kept, AreReadyInTurn}
 use Rattle.cics_ksds.specs.Files.{FileValue}

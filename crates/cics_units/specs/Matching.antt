@@ -1,7 +1,7 @@
 -- Recovery: the before images that the program keeps stand for changes of cells of the store, without the contents that
 -- an undo finds in place.
-use Rattle.std.specs.Prelude.{◌≡◌, Option, Some, None, List, [], ◌∷◌, map, is_some}
-use Rattle.cics_names.specs.Keyed.{Bytes, Map}
+use Rattle.std.specs.Prelude.{◌≡◌, Some, None, List, [], ◌∷◌, map}
+use Rattle.cics_names.specs.Keyed.{Map}
 use Rattle.cics_images.specs.Cells.{Content as Shown}
 use Rattle.cics_ksds.specs.Files.{FileValue}
 use Rattle.cics_ksds.specs.Undo.{key_of_image, Leads as FileLeads}

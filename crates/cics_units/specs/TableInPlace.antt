@@ -1,5 +1,5 @@
 -- Task control: the table of enqueues and the open update reads tell who holds what, as the history does.
-use Rattle.std.specs.Prelude.{◌≡◌, ℕ, ◌==◌, ◌≤◌, Bool, true, false, not, ◌&&◌, ◌||◌, if◌then◌else◌, T, Option, Some, None, All, List, [], ◌∷◌, length, nat_le}
+use Rattle.std.specs.Prelude.{◌≡◌, ℕ, ◌==◌, ◌≤◌, Bool, true, false, not, ◌||◌, if◌then◌else◌, T, Option, Some, None, All, List, [], ◌∷◌, length, nat_le}
 use Rattle.std.specs.List.{list_any}
 use Rattle.cics_names.specs.Keyed.{Bytes}
 use Rattle.cics_names.specs.declared.conditions.Condition.{Condition}
@@ -7,7 +7,7 @@ use Rattle.cics_enqueue.specs.Resources.{Table, Held, bytes_of, overlaps, is_oth
 use Rattle.cics_enqueue.specs.declared.resources.Resource.{Resource}
 use Rattle.cics_enqueue.specs.declared.resources.Resource.TheVariants.{FileKey, User}
 use Rattle.cics_units.specs.Openings.{OpeningState, file_recoverable}
-use Rattle.cics_units.specs.Store.{is_normal, is_recoverable}
+use Rattle.cics_units.specs.Store.{is_normal}
 use Rattle.cics_units.specs.Holding.{UnitsState, UpdateRead, EnqCount, held_by}
 use Rattle.cics_units.specs.Execution.{is_read_of, covers}
 use Rattle.cics_units.specs.declared.ops.Op.{Op}

@@ -1,5 +1,5 @@
 -- Recovery: the before images that each unit of work keeps, by the unit's number.
-use Rattle.std.specs.Prelude.{◌≡◌, ◌≢◌, ℕ, List, [], length, slice_get, unwrap_or, map}
+use Rattle.std.specs.Prelude.{◌≡◌, ◌≢◌, ℕ, List, [], length, slice_get, unwrap_or}
 use Rattle.cics_images.specs.Cells.{Kept}
 use Rattle.cics_units.specs.declared.files.images.FilesImage.{FilesImage}
 

@@ -1,8 +1,7 @@
 //! Values that two units enqueue on side by side.
 
-use crate::guarded_calls::is_open;
-use crate::{Enqueued, Opening, UnitState, Units};
-use cics_enqueue::UnitId;
+use crate::scenarios::first_wrong_of;
+use crate::{Opening, Units};
 use cics_names::NoMemory;
 use std::alloc::Global;
 use std::test::Fail;
@@ -15,101 +14,69 @@ fn start(alloc: Global) -> Result<Units, NoMemory> {
     }
 }
 
-// What comes of an enqueue, if the unit is open and the value is no longer than 255 bytes.
-fn enq(
-    units: &mut Units,
-    unit: Option<UnitId>,
-    value: &[u8],
-) -> Option<Result<Enqueued, NoMemory>> {
-    if value.len() > 255 {
-        return None;
-    }
-    let Some(asking) = unit else {
-        return Some(units.enq(None, value));
-    };
-    if !is_open(units, asking) {
-        return None;
-    }
-    Some(units.enq(Some(asking), value))
-}
-
-// Dequeues, and tells whether the unit is open and the value no longer than 255 bytes.
-fn deq(units: &mut Units, unit: UnitId, value: &[u8]) -> bool {
-    if value.len() > 255 || !is_open(units, unit) {
-        return false;
-    }
-    units.deq(unit, value);
-    true
-}
-
-// Ends a unit, and tells whether it was open.
-fn end(units: &mut Units, unit: UnitId, outcome: UnitState) -> bool {
-    if !is_open(units, unit) {
-        return false;
-    }
-    if outcome == UnitState::Committed {
-        units.commit(unit);
-    } else {
-        units.back_out(unit);
-    }
-    true
-}
+/// A task that waits begins no unit, and one that takes its value does; another unit's value stays as
+/// it is.
+const SIDE_BY_SIDE: &str = "\
+- enq A = taken 0
+0 enq A = taken 0
+- enq A = waits 0
+? units = 1
+- enq B = taken 1
+? units = 2
+0 enq B = waits 1
+1 deq A
+0 deq A
+1 enq A = waits 0
+0 deq A
+1 enq A = taken 1
+? entries = 0
+";
 
 #[test]
 fn a_value_is_one_units_until_it_dequeues_as_often(rt: HostRuntime) -> Result<(), Fail> {
-    let (first, second) = (UnitId::new(0), UnitId::new(1));
     let mut units = start(rt.alloc())?;
-    assert!(rt; enq(&mut units, None, b"A") == Some(Ok(Enqueued::Taken(first))));
-    assert!(rt; enq(&mut units, Some(first), b"A") == Some(Ok(Enqueued::Taken(first))));
-    // A task that waits begins no unit; one that takes its value does.
-    assert!(rt; enq(&mut units, None, b"A") == Some(Ok(Enqueued::MustWait(first))));
-    assert_eq!(rt; units.outcomes().len(), 1);
-    assert!(rt; enq(&mut units, None, b"B") == Some(Ok(Enqueued::Taken(second))));
-    assert_eq!(rt; units.outcomes().len(), 2);
-    assert!(rt; enq(&mut units, Some(first), b"B") == Some(Ok(Enqueued::MustWait(second))));
-    // Another unit's value stays as it is.
-    assert!(rt; deq(&mut units, second, b"A"));
-    assert!(rt; deq(&mut units, first, b"A"));
-    assert!(rt; enq(&mut units, Some(second), b"A") == Some(Ok(Enqueued::MustWait(first))));
-    assert!(rt; deq(&mut units, first, b"A"));
-    assert!(rt; enq(&mut units, Some(second), b"A") == Some(Ok(Enqueued::Taken(second))));
-    assert!(rt; units.trace().is_empty());
+    assert_eq!(rt; first_wrong_of(&mut units, rt.alloc(), SIDE_BY_SIDE)?, None);
     Ok(())
 }
+
+/// The end of a unit, one way or the other, lets its values go.
+const ENDED: &str = "\
+- enq A = taken 0
+- enq B = taken 1
+0 enq A = taken 0
+0 commit
+1 enq A = taken 1
+1 backout
+- enq A = taken 2
+2 enq B = taken 2
+0 enq C = no
+";
 
 #[test]
 fn the_end_of_a_unit_frees_its_values(rt: HostRuntime) -> Result<(), Fail> {
-    let (first, second, third) = (UnitId::new(0), UnitId::new(1), UnitId::new(2));
     let mut units = start(rt.alloc())?;
-    assert!(rt; enq(&mut units, None, b"A") == Some(Ok(Enqueued::Taken(first))));
-    assert!(rt; enq(&mut units, None, b"B") == Some(Ok(Enqueued::Taken(second))));
-    assert!(rt; enq(&mut units, Some(first), b"A") == Some(Ok(Enqueued::Taken(first))));
-    assert!(rt; end(&mut units, first, UnitState::Committed));
-    assert!(rt; enq(&mut units, Some(second), b"A") == Some(Ok(Enqueued::Taken(second))));
-    assert!(rt; end(&mut units, second, UnitState::BackedOut));
-    assert!(rt; enq(&mut units, None, b"A") == Some(Ok(Enqueued::Taken(third))));
-    assert!(rt; enq(&mut units, Some(third), b"B") == Some(Ok(Enqueued::Taken(third))));
-    assert!(rt; enq(&mut units, Some(first), b"C").is_none());
+    assert_eq!(rt; first_wrong_of(&mut units, rt.alloc(), ENDED)?, None);
     Ok(())
 }
 
+/// A value that a unit has taken 65,535 times is full, and another isn't; it is free with the last of as
+/// many dequeues.
+const FULL: &str = "\
+- enq A = taken 0
+65534 times 0 enq A = taken 0
+0 enq A = full
+0 enq  = taken 0
+0 deq A
+0 enq A = taken 0
+65534 times 0 deq A
+- enq A = waits 0
+0 deq A
+- enq A = taken 1
+";
+
 #[test]
 fn a_value_is_taken_65535_times_and_no_more(rt: HostRuntime) -> Result<(), Fail> {
-    let (first, second) = (UnitId::new(0), UnitId::new(1));
     let mut units = start(rt.alloc())?;
-    assert!(rt; enq(&mut units, None, b"A") == Some(Ok(Enqueued::Taken(first))));
-    for _ in 1..65_535 {
-        assert!(rt; enq(&mut units, Some(first), b"A") == Some(Ok(Enqueued::Taken(first))));
-    }
-    assert!(rt; enq(&mut units, Some(first), b"A") == Some(Ok(Enqueued::CountFull)));
-    assert!(rt; enq(&mut units, Some(first), b"") == Some(Ok(Enqueued::Taken(first))));
-    assert!(rt; deq(&mut units, first, b"A"));
-    assert!(rt; enq(&mut units, Some(first), b"A") == Some(Ok(Enqueued::Taken(first))));
-    for _ in 1..65_535 {
-        assert!(rt; deq(&mut units, first, b"A"));
-    }
-    assert!(rt; enq(&mut units, None, b"A") == Some(Ok(Enqueued::MustWait(first))));
-    assert!(rt; deq(&mut units, first, b"A"));
-    assert!(rt; enq(&mut units, None, b"A") == Some(Ok(Enqueued::Taken(second))));
+    assert_eq!(rt; first_wrong_of(&mut units, rt.alloc(), FULL)?, None);
     Ok(())
 }

@@ -1,4 +1,4 @@
-//! What the tests share: an opening of two files, commands on them, and what listings show.
+//! What the tests share: an opening of two files, commands on them, and when listings are the same.
 
 use crate::{DefineFault, Listing, Op, Opening};
 use cics_ksds::FileDef;
@@ -13,22 +13,36 @@ pub(crate) const KEYED: FileDef = FileDef {
     recoverable: true,
 };
 
-/// The recoverable file ACCT and the unrecoverable file LOG, with these records in each.
-pub(crate) fn opened(alloc: Global, lines: &[&[u8]]) -> Result<Opening, DefineFault> {
-    let mut opening = Opening::new(alloc);
-    let plain = FileDef {
-        recoverable: false,
+// Defines a file of these records, which have a stroke between them.
+fn define(
+    opening: &mut Opening,
+    alloc: Global,
+    name: &str,
+    recoverable: bool,
+    records: &str,
+) -> Result<(), DefineFault> {
+    let Ok(name) = Name8::new(name.as_bytes()) else {
+        return Err(DefineFault::NotThere);
+    };
+    let definition = FileDef {
+        recoverable,
         ..KEYED
     };
-    for (name, definition) in [(b"ACCT".as_slice(), KEYED), (b"LOG".as_slice(), plain)] {
-        let Ok(name) = Name8::new(name) else {
-            return Err(DefineFault::NotThere);
-        };
-        opening.define_file(name, definition)?;
-        for line in lines {
-            opening.load_file(name, Record::from_slice(alloc, line)?)?;
+    opening.define_file(name, definition)?;
+    for record in records.split('|') {
+        if !record.is_empty() {
+            opening.load_file(name, Record::from_slice(alloc, record.as_bytes())?)?;
         }
     }
+    Ok(())
+}
+
+/// The recoverable file ACCT and the unrecoverable file LOG, with these records in each, which have a
+/// stroke between them.
+pub(crate) fn opened(alloc: Global, records: &str) -> Result<Opening, DefineFault> {
+    let mut opening = Opening::new(alloc);
+    define(&mut opening, alloc, "ACCT", true, records)?;
+    define(&mut opening, alloc, "LOG", false, records)?;
     Ok(opening)
 }
 
@@ -64,34 +78,6 @@ pub(crate) fn read_update(alloc: Global, file: Name8, key: &[u8]) -> Result<Op, 
         file,
         key: Record::from_slice(alloc, key)?,
     })
-}
-
-/// Whether these are the records of these bytes, in this order.
-pub(crate) fn are_records(records: &Items<Record>, lines: &[&[u8]]) -> bool {
-    records.len() == lines.len()
-        && records
-            .as_slice()
-            .iter()
-            .zip(lines)
-            .all(|(record, line)| record.bytes() == *line)
-}
-
-/// Whether a line of a listing is of this name and has these records.
-pub(crate) fn shows(
-    listed: &Items<(Name8, bool, Items<Record>)>,
-    at: usize,
-    name: &[u8],
-    recoverable: bool,
-    lines: &[&[u8]],
-) -> bool {
-    match listed.as_slice().get(at) {
-        Some((listed_name, listed_recoverable, records)) => {
-            Name8::new(name) == Ok(*listed_name)
-                && *listed_recoverable == recoverable
-                && are_records(records, lines)
-        }
-        None => false,
-    }
 }
 
 // Whether two files are listed alike, record by record.

@@ -7,7 +7,7 @@ ghost use Rattle.cics_units.specs.Execution.{has_read, is_fit_for, is_ready_op, 
 ghost use Rattle.cics_units.specs.OpenReads.{is_read_key};
 ghost use Rattle.cics_units.specs.TableInPlace.{is_file_op};
 
-use crate::{Done, Op, UnitState, Units};
+use crate::{Done, Enqueued, Op, UnitState, Units};
 use cics_enqueue::{Resource, UnitId};
 use cics_names::{Condition, Name8, NoMemory, Record};
 
@@ -16,6 +16,10 @@ use cics_names::{Condition, Name8, NoMemory, Record};
 pub(crate) enum Told {
     /// The command was executed for this unit, with this condition.
     Answered(u64, Condition),
+    /// The value is this unit's.
+    Taken(u64),
+    /// The unit has taken the value as often as it may.
+    Full,
     /// The command has to wait for this unit.
     Waits(u64),
     /// What answers nothing was done.
@@ -112,6 +116,27 @@ pub(crate) fn execute(units: &mut Units, unit: Option<UnitId>, op: &Op) -> Resul
     })
 }
 
+/// Enqueues on a value where that may be done, and tells what came of it.
+pub(crate) fn enq(units: &mut Units, unit: Option<UnitId>, value: &[u8]) -> Result<Told, NoMemory> {
+    if value.len() > 255 || !is_open_or_none(units, unit) {
+        return Ok(Told::MayNot);
+    }
+    Ok(match units.enq(unit, value)? {
+        Enqueued::Taken(acting) => Told::Taken(acting.number()),
+        Enqueued::MustWait(holder) => Told::Waits(holder.number()),
+        Enqueued::CountFull => Told::Full,
+    })
+}
+
+/// Dequeues from a value, where the unit is open.
+pub(crate) fn deq(units: &mut Units, unit: UnitId, value: &[u8]) -> Told {
+    if value.len() > 255 || !is_open(units, unit) {
+        return Told::MayNot;
+    }
+    units.deq(unit, value);
+    Told::Done
+}
+
 /// Unlocks a file for a unit, where the unit is open.
 pub(crate) fn unlock(units: &mut Units, unit: UnitId, file: &Name8) -> Told {
     if !is_open(units, unit) {
@@ -149,12 +174,4 @@ pub(crate) fn holder(units: &Units, file: Name8, key: &[u8]) -> Option<UnitId> {
         return None;
     }
     units.holder(None, &Resource::record(file, key))
-}
-
-/// Whether a unit has a read of a file open that is of this key.
-pub(crate) fn has_open(units: &Units, unit: UnitId, file: &Name8, key: &[u8]) -> bool {
-    match units.open_read(unit, file) {
-        Some(read) => read.bytes() == key,
-        None => false,
-    }
 }

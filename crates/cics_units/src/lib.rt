@@ -27,6 +27,8 @@ mod fixtures;
 #[cfg(test)]
 mod guarded_calls;
 #[cfg(test)]
+mod looks;
+#[cfg(test)]
 mod open_reads_tests;
 #[cfg(test)]
 mod refusals_tests;

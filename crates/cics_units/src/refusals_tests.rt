@@ -4,45 +4,42 @@
 //! Whatever allocation it is that is refused, this test has to end as it does with none refused.
 
 use crate::fixtures::opened;
-use crate::guarded_calls::Told::{self, Answered, Done, Waits};
-use crate::guarded_calls::{has_open, holder};
-use crate::scenarios::Call::{BackOut, Commit, Delete, Lists, ReadUpdate, Rewrite, Unlock, Write};
-use crate::scenarios::{Row, is_replayed, make};
+use crate::guarded_calls::holder;
+use crate::scenarios::{comes_out, is_replayed};
 use crate::{DefineFault, Opening, Units};
 use cics_enqueue::UnitId;
-use cics_names::Condition::{Duprec, Normal, Notfnd};
 use cics_names::{Name8, NoMemory};
 use std::alloc::Global;
 use std::test::Fail;
 
 /// Two units that change both files, wait for one another and are refused, by the file's condition too.
-const CALLS: [Row; 18] = [
-    (None, ReadUpdate, "ACCT", "k1", Answered(0, Normal)),
-    (Some(0), Rewrite, "ACCT", "k1 zero", Answered(0, Normal)),
-    (None, Write, "ACCT", "k3 one", Answered(1, Normal)),
-    (Some(1), Delete, "ACCT", "k1", Waits(0)),
-    (Some(0), Delete, "ACCT", "k2", Answered(0, Normal)),
-    (Some(1), ReadUpdate, "LOG", "k2", Answered(1, Normal)),
-    (Some(0), Write, "LOG", "k1 zero", Answered(0, Duprec)),
-    (Some(0), Delete, "LOG", "k1", Answered(0, Normal)),
-    (Some(0), Write, "LOG", "k3 zero", Answered(0, Normal)),
-    (Some(1), Delete, "LOG", "k2", Answered(1, Normal)),
-    (Some(1), ReadUpdate, "LOG", "k3", Answered(1, Normal)),
-    (Some(1), Unlock, "LOG", "", Done),
-    (Some(0), Delete, "ACCT", "k3", Waits(1)),
-    (Some(1), Delete, "ACCT", "k3", Answered(1, Normal)),
-    (Some(0), BackOut, "", "", Done),
-    (Some(1), Delete, "LOG", "k1", Answered(1, Notfnd)),
-    (Some(1), Commit, "", "", Done),
-    (None, Lists, "ACCT", "k1 old|k2 old", Done),
-];
+const CALLS: &str = "\
+- read ACCT k1 = NORMAL 0
+0 rewrite ACCT k1 zero = NORMAL 0
+- write ACCT k3 one = NORMAL 1
+1 delete ACCT k1 = waits 0
+0 delete ACCT k2 = NORMAL 0
+1 read LOG k2 = NORMAL 1
+0 write LOG k1 zero = DUPREC 0
+0 delete LOG k1 = NORMAL 0
+0 write LOG k3 zero = NORMAL 0
+1 delete LOG k2 = NORMAL 1
+1 read LOG k3 = NORMAL 1
+1 unlock LOG
+0 delete ACCT k3 = waits 1
+1 delete ACCT k3 = NORMAL 1
+0 backout
+1 delete LOG k1 = NOTFND 1
+1 commit
+? file ACCT = k1 old|k2 old
+? entries = 12
+";
 
 /// The opening, where memory for it may be refused once.
 fn opened_again(alloc: Global) -> Result<Opening, DefineFault> {
-    let lines: [&[u8]; 2] = [b"k1 old", b"k2 old"];
-    match opened(alloc, &lines) {
+    match opened(alloc, "k1 old|k2 old") {
         Ok(opening) => Ok(opening),
-        Err(_) => opened(alloc, &lines),
+        Err(_) => opened(alloc, "k1 old|k2 old"),
     }
 }
 
@@ -67,7 +64,8 @@ fn push_holds(seen: &mut Vec<u64>, units: &Units, file: Name8) -> Result<(), NoM
         };
         seen.push(held)?;
         for unit in [0, 1, 2] {
-            seen.push(has_open(units, UnitId::new(unit), &file, key.as_bytes()) as u64)?;
+            let read = units.open_read(UnitId::new(unit), &file);
+            seen.push(read.is_some_and(|read| read.bytes() == key.as_bytes()) as u64)?;
         }
     }
     Ok(())
@@ -103,36 +101,38 @@ fn seen(units: &Units, alloc: Global) -> Result<Vec<u64>, NoMemory> {
     Ok(seen)
 }
 
-/// Makes the call of a row, and once more where memory was refused; None where the units then weren't
-/// as they were before.
-fn make_again(units: &mut Units, alloc: Global, row: &Row) -> Result<Option<Told>, NoMemory> {
+/// Whether a line comes out as it says, where memory may be refused once; then the units are as they
+/// were before, and the call is made again.
+fn comes_out_again(units: &mut Units, alloc: Global, line: &str) -> Result<bool, NoMemory> {
     let before = match seen(units, alloc) {
         Ok(before) => before,
         Err(_) => seen(units, alloc)?,
     };
-    match make(units, alloc, row) {
-        Ok(told) => Ok(Some(told)),
+    match comes_out(units, alloc, line) {
+        Ok(is_so) => Ok(is_so),
         Err(_) => {
-            if seen(units, alloc)?.as_slice() != before.as_slice() {
-                return Ok(None);
-            }
-            Ok(Some(make(units, alloc, row)?))
+            Ok(
+                seen(units, alloc)?.as_slice() == before.as_slice()
+                    && comes_out(units, alloc, line)?,
+            )
         }
+    }
+}
+
+/// Whether the files are what the plain replay gives, where memory may be refused once.
+fn is_replayed_again(units: &Units) -> Result<bool, NoMemory> {
+    match is_replayed(units) {
+        Ok(replayed) => Ok(replayed),
+        Err(_) => is_replayed(units),
     }
 }
 
 #[test]
 fn a_refused_command_leaves_the_units_as_they_were(rt: HostRuntime) -> Result<(), Fail> {
     let mut units = started_again(opened_again(rt.alloc())?)?;
-    for row in &CALLS {
-        let told = make_again(&mut units, rt.alloc(), row)?;
-        assert_eq!(rt; told, Some(row.4));
-        let replayed = match is_replayed(&units) {
-            Ok(replayed) => replayed,
-            Err(_) => is_replayed(&units)?,
-        };
-        assert!(rt; replayed);
+    for line in CALLS.lines() {
+        assert!(rt; comes_out_again(&mut units, rt.alloc(), line)?, "{line}");
+        assert!(rt; is_replayed_again(&units)?, "{line}");
     }
-    assert_eq!(rt; units.trace().len(), 12);
     Ok(())
 }

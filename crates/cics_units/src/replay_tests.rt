@@ -1,13 +1,18 @@
 //! What a plain replay lists: what a backed-out unit did to a recoverable file leaves no trace, and
 //! what it did elsewhere stays.
+//!
+//! A replay is a text of a line for each command, with the unit that executed it, as in a scenario.
 
-use crate::fixtures::{delete, opened, rewrite, shows, write};
-use crate::{Answer, Entry, Op, Opening, UnitState, plain_replay};
+use crate::fixtures::{opened, write};
+use crate::looks::is_listed;
+use crate::scenarios::{command, cut, halves};
+use crate::{Answer, Entry, Op, UnitState, plain_replay};
 use cics_enqueue::UnitId;
-use cics_names::{Condition, Name4, Name8, NoMemory, Record};
+use cics_names::{Condition, Items, Name4, Name8, NoMemory, Record};
 use std::alloc::Global;
 use std::test::Fail;
 
+// An entry of a command, which was answered NORMAL.
 fn entry(unit: u64, op: Op) -> Entry {
     Entry {
         unit: UnitId::new(unit),
@@ -20,195 +25,214 @@ fn entry(unit: u64, op: Op) -> Entry {
     }
 }
 
-fn ts_write(alloc: Global, queue: Name8, from: &[u8]) -> Result<Op, NoMemory> {
-    Ok(Op::TsWrite {
-        queue,
-        from: Record::from_slice(alloc, from)?,
-    })
+// A new item of a queue, as `item QUEUE 2 two`; None where a text is none.
+fn new_item(alloc: Global, queue: Name8, rest: &str) -> Result<Option<Op>, NoMemory> {
+    let (item, from) = cut(rest);
+    let Ok(item) = item.parse::<u64>() else {
+        return Ok(None);
+    };
+    let from = Record::from_slice(alloc, from.as_bytes())?;
+    Ok(Some(Op::TsRewrite { queue, item, from }))
 }
 
-/// Two units that change both files and a queue in turn.
-fn two_units(alloc: Global) -> Result<Vec<Entry>, Fail> {
-    let accounts = Name8::new(b"ACCT")?;
-    let log = Name8::new(b"LOG")?;
-    let queue = Name8::new(b"QUEUE")?;
-    let mut trace = Vec::new(alloc);
-    trace.push(entry(0, write(alloc, accounts, b"k2", b"k2 zero")?))?;
-    trace.push(entry(1, rewrite(alloc, accounts, b"k1", b"k1 one")?))?;
-    trace.push(entry(1, write(alloc, log, b"k2", b"k2 one")?))?;
-    trace.push(entry(0, write(alloc, log, b"k3", b"k3 zero")?))?;
-    trace.push(entry(1, delete(alloc, accounts, b"k2")?))?;
-    trace.push(entry(1, ts_write(alloc, queue, b"one")?))?;
-    trace.push(entry(1, write(alloc, accounts, b"k4", b"k4 one")?))?;
-    Ok(trace)
+// A WRITE under a key that doesn't lie in the record, as `store LOG k3 a`.
+fn store(alloc: Global, file: Name8, rest: &str) -> Result<Option<Op>, NoMemory> {
+    let (key, from) = cut(rest);
+    Ok(Some(write(alloc, file, key.as_bytes(), from.as_bytes())?))
 }
 
-/// Whether the replay of the two units leaves these records in ACCT, and in LOG and the queue all
-/// that was written: neither is recoverable.
-fn leaves(
-    opening: &Opening,
-    trace: &[Entry],
-    outcomes: &[UnitState],
-    accounts: &[&[u8]],
+// A record for a transient data queue, as `put DEST lost`; None where a text is none.
+fn put(alloc: Global, queue: &str, from: &str) -> Result<Option<Op>, NoMemory> {
+    let Ok(queue) = Name4::new(queue.as_bytes()) else {
+        return Ok(None);
+    };
+    let from = Record::from_slice(alloc, from.as_bytes())?;
+    Ok(Some(Op::TdWrite { queue, from }))
+}
+
+// An item behind the others of a queue, as `append QUEUE one`.
+fn append(alloc: Global, queue: Name8, from: &str) -> Result<Option<Op>, NoMemory> {
+    let from = Record::from_slice(alloc, from.as_bytes())?;
+    Ok(Some(Op::TsWrite { queue, from }))
+}
+
+// The command of a text, if it is one.
+fn any_command(alloc: Global, text: &str) -> Result<Option<Op>, NoMemory> {
+    let (word, rest) = cut(text);
+    let (name, rest) = cut(rest);
+    if word == "put" {
+        return put(alloc, name, rest);
+    }
+    let Ok(name) = Name8::new(name.as_bytes()) else {
+        return Ok(None);
+    };
+    match word {
+        "append" => append(alloc, name, rest),
+        "item" => new_item(alloc, name, rest),
+        "drop" => Ok(Some(Op::TsDelete { queue: name })),
+        "store" => store(alloc, name, rest),
+        _ => command(alloc, word, name, rest.as_bytes()),
+    }
+}
+
+// The entries of a text; None where a line is none.
+fn entries(alloc: Global, text: &str) -> Result<Option<Vec<Entry>>, NoMemory> {
+    let mut entries = Vec::new(alloc);
+    for line in text.lines() {
+        let (unit, text) = cut(line);
+        let (Ok(unit), Some(op)) = (unit.parse::<u64>(), any_command(alloc, text)?) else {
+            return Ok(None);
+        };
+        entries.push(entry(unit, op))?;
+    }
+    Ok(Some(entries))
+}
+
+// How the units of a text ended, one after the other; None where a word says nothing of it.
+fn outcomes(alloc: Global, text: &str) -> Result<Option<Vec<UnitState>>, NoMemory> {
+    let mut outcomes = Vec::new(alloc);
+    for word in text.split_whitespace() {
+        outcomes.push(match word {
+            "open" => UnitState::Open,
+            "committed" => UnitState::Committed,
+            "backed-out" => UnitState::BackedOut,
+            _ => return Ok(None),
+        })?;
+    }
+    Ok(Some(outcomes))
+}
+
+// Whether these queues are listed and no others, each of a line with its name and its items.
+fn shows_queues(
+    alloc: Global,
+    listed: &Items<(Name8, bool, Items<Record>)>,
+    queues: &str,
 ) -> Result<bool, NoMemory> {
-    let listing = plain_replay(opening, trace, outcomes)?;
+    for (at, queue) in queues.lines().enumerate() {
+        let (name, items) = cut(queue);
+        if !is_listed(alloc, listed, at, name, false, items)? {
+            return Ok(false);
+        }
+    }
+    Ok(listed.len() == queues.lines().count())
+}
+
+// Whether the replay of a text, from one record in each file and with these outcomes, leaves these
+// records in ACCT, which is recoverable, and in LOG, which isn't, and these queues.
+fn leaves(
+    alloc: Global,
+    replay: &str,
+    ends: &str,
+    accounts: &str,
+    log: &str,
+    queues: &str,
+) -> Result<bool, Fail> {
+    let opening = opened(alloc, "k1 old")?;
+    let (Some(trace), Some(outcomes)) = (entries(alloc, replay)?, outcomes(alloc, ends)?) else {
+        return Ok(false);
+    };
+    let listing = plain_replay(&opening, &trace, &outcomes)?;
     Ok(
         listing.files.len() == 2
-            && shows(&listing.files, 0, b"ACCT", true, accounts)
-            && shows(
-                &listing.files,
-                1,
-                b"LOG",
-                false,
-                &[b"k1 old", b"k2 one", b"k3 zero"],
-            )
-            && listing.ts.len() == 1
-            && shows(&listing.ts, 0, b"QUEUE", false, &[b"one"])
+            && is_listed(alloc, &listing.files, 0, "ACCT", true, accounts)?
+            && is_listed(alloc, &listing.files, 1, "LOG", false, log)?
+            && shows_queues(alloc, &listing.ts, queues)?
             && listing.td.is_empty()
             && listing.tasks.is_empty(),
     )
 }
 
+/// Two units that change both files and a queue in turn.
+const TWO_UNITS: &str = "\
+0 write ACCT k2 zero
+1 rewrite ACCT k1 one
+1 write LOG k2 one
+0 write LOG k3 zero
+1 delete ACCT k2
+1 append QUEUE one
+1 write ACCT k4 one
+";
+
+// Whether the replay of the two units leaves what a line says in ACCT, and in LOG and the queue all
+// that was written: neither is recoverable.
+fn leaves_of_two(alloc: Global, line: &str) -> Result<bool, Fail> {
+    let (ends, accounts) = halves(line);
+    let log = "k1 old|k2 one|k3 zero";
+    leaves(alloc, TWO_UNITS, ends, accounts, log, "QUEUE one")
+}
+
+/// A unit without an outcome is open.
+const OPEN_AND_COMMITTED: &str = "\
+committed committed = k1 one|k4 one
+committed open = k1 one|k4 one
+open = k1 one|k4 one
+";
+
 #[test]
 fn what_open_and_committed_units_did_stays(rt: HostRuntime) -> Result<(), Fail> {
-    use UnitState::{Committed, Open};
-    let opening = opened(rt.alloc(), &[b"k1 old"])?;
-    let trace = two_units(rt.alloc())?;
-    assert!(rt;
-        leaves(
-            &opening,
-            &trace,
-            &[Committed, Committed],
-            &[b"k1 one", b"k4 one"]
-        )?
-    );
-    assert!(rt;
-        leaves(
-            &opening,
-            &trace,
-            &[Committed, Open],
-            &[b"k1 one", b"k4 one"]
-        )?
-    );
-    // A unit without an outcome is open.
-    assert!(rt; leaves(&opening, &trace, &[Open], &[b"k1 one", b"k4 one"])?);
+    for line in OPEN_AND_COMMITTED.lines() {
+        assert!(rt; leaves_of_two(rt.alloc(), line)?, "{line}");
+    }
     Ok(())
 }
+
+/// Without the first unit's record the second one's DELETE is NOTFND.
+const BACKED_OUT: &str = "\
+committed backed-out = k1 old|k2 zero
+open backed-out = k1 old|k2 zero
+backed-out committed = k1 one|k4 one
+backed-out backed-out = k1 old
+";
 
 #[test]
 fn a_backed_out_unit_leaves_no_trace_in_recoverable_files(rt: HostRuntime) -> Result<(), Fail> {
-    use UnitState::{BackedOut, Committed, Open};
-    let opening = opened(rt.alloc(), &[b"k1 old"])?;
-    let trace = two_units(rt.alloc())?;
-    assert!(rt;
-        leaves(
-            &opening,
-            &trace,
-            &[Committed, BackedOut],
-            &[b"k1 old", b"k2 zero"]
-        )?
-    );
-    assert!(rt;
-        leaves(
-            &opening,
-            &trace,
-            &[Open, BackedOut],
-            &[b"k1 old", b"k2 zero"]
-        )?
-    );
-    // Without its record the other unit's DELETE is NOTFND.
-    assert!(rt;
-        leaves(
-            &opening,
-            &trace,
-            &[BackedOut, Committed],
-            &[b"k1 one", b"k4 one"]
-        )?
-    );
-    assert!(rt; leaves(&opening, &trace, &[BackedOut, BackedOut], &[b"k1 old"])?);
+    for line in BACKED_OUT.lines() {
+        assert!(rt; leaves_of_two(rt.alloc(), line)?, "{line}");
+    }
     Ok(())
 }
 
+/// A key that is there or isn't, a read, and a file and queues that aren't there.
+const REFUSED: &str = "\
+7 write ACCT k1 new
+7 rewrite ACCT k2 new
+7 delete ACCT k3
+7 write NONE k1 new
+7 read ACCT k1
+7 drop QUEUE
+7 put DEST lost
+";
+
 #[test]
 fn refused_commands_leave_everything_as_it_was(rt: HostRuntime) -> Result<(), Fail> {
-    let alloc = rt.alloc();
-    let opening = opened(alloc, &[b"k1 old"])?;
-    let accounts = Name8::new(b"ACCT")?;
-    let missing = Name8::new(b"NONE")?;
-    let queue = Name8::new(b"QUEUE")?;
-    let mut trace = Vec::new(alloc);
-    trace.push(entry(7, write(alloc, accounts, b"k1", b"k1 new")?))?;
-    trace.push(entry(7, rewrite(alloc, accounts, b"k2", b"k2 new")?))?;
-    trace.push(entry(7, delete(alloc, accounts, b"k3")?))?;
-    trace.push(entry(7, write(alloc, missing, b"k1", b"k1 new")?))?;
-    trace.push(entry(
-        7,
-        Op::ReadUpdate {
-            file: accounts,
-            key: Record::from_slice(alloc, b"k1")?,
-        },
-    ))?;
-    trace.push(entry(7, Op::TsDelete { queue }))?;
-    trace.push(entry(
-        7,
-        Op::TdWrite {
-            queue: Name4::new(b"DEST")?,
-            from: Record::from_slice(alloc, b"lost")?,
-        },
-    ))?;
-    let listing = plain_replay(&opening, &trace, &[])?;
-    assert_eq!(rt; listing.files.len(), 2);
-    assert!(rt; shows(&listing.files, 0, b"ACCT", true, &[b"k1 old"]));
-    assert!(rt; shows(&listing.files, 1, b"LOG", false, &[b"k1 old"]));
-    assert!(rt; listing.ts.is_empty());
-    assert!(rt; listing.td.is_empty());
+    assert!(rt; leaves(rt.alloc(), REFUSED, "", "k1 old", "k1 old", "")?);
     Ok(())
 }
 
 #[test]
 fn a_key_that_is_not_in_its_record_counts(rt: HostRuntime) -> Result<(), Fail> {
-    let alloc = rt.alloc();
-    let opening = opened(alloc, &[b"k1 old"])?;
-    let log = Name8::new(b"LOG")?;
-    let mut trace = Vec::new(alloc);
-    trace.push(entry(0, write(alloc, log, b"k3", b"a")?))?;
-    trace.push(entry(0, write(alloc, log, b"k", b"b")?))?;
-    let listing = plain_replay(&opening, &trace, &[UnitState::BackedOut])?;
-    assert!(rt; shows(&listing.files, 1, b"LOG", false, &[b"b", b"k1 old", b"a"]));
+    let stores = "0 store LOG k3 a\n0 store LOG k b";
+    assert!(rt; leaves(rt.alloc(), stores, "backed-out", "k1 old", "b|k1 old|a", "")?);
     Ok(())
 }
 
+/// Two queues, new items of the first of which only one has a number that is there; then the first goes.
+const ITEMS: &str = "\
+0 append QB x
+0 append QA a
+0 append QA b
+0 item QA 0 0
+0 item QA 2 2
+0 item QA 3 3
+0 append QA c
+0 drop QA
+";
+
 #[test]
 fn the_items_of_a_queue_are_numbered_from_one(rt: HostRuntime) -> Result<(), Fail> {
-    let alloc = rt.alloc();
-    let opening = opened(alloc, &[b"k1 old"])?;
-    let (first, second) = (Name8::new(b"QA")?, Name8::new(b"QB")?);
-    let mut trace = Vec::new(alloc);
-    trace.push(entry(0, ts_write(alloc, second, b"x")?))?;
-    trace.push(entry(0, ts_write(alloc, first, b"a")?))?;
-    trace.push(entry(0, ts_write(alloc, first, b"b")?))?;
-    for (item, from) in [
-        (0, b"0".as_slice()),
-        (2, b"2".as_slice()),
-        (3, b"3".as_slice()),
-    ] {
-        trace.push(entry(
-            0,
-            Op::TsRewrite {
-                queue: first,
-                item,
-                from: Record::from_slice(alloc, from)?,
-            },
-        ))?;
-    }
-    trace.push(entry(0, ts_write(alloc, first, b"c")?))?;
-    let listing = plain_replay(&opening, &trace, &[])?;
-    assert_eq!(rt; listing.ts.len(), 2);
-    assert!(rt; shows(&listing.ts, 0, b"QA", false, &[b"a", b"2", b"c"]));
-    assert!(rt; shows(&listing.ts, 1, b"QB", false, &[b"x"]));
-    trace.push(entry(0, Op::TsDelete { queue: first }))?;
-    let listing = plain_replay(&opening, &trace, &[])?;
-    assert_eq!(rt; listing.ts.len(), 1);
-    assert!(rt; shows(&listing.ts, 0, b"QB", false, &[b"x"]));
+    let before = ITEMS.strip_suffix("0 drop QA\n").unwrap_or("");
+    let queues = "QA a|2|c\nQB x";
+    assert!(rt; leaves(rt.alloc(), before, "", "k1 old", "k1 old", queues)?);
+    assert!(rt; leaves(rt.alloc(), ITEMS, "", "k1 old", "k1 old", "QB x")?);
     Ok(())
 }

@@ -1,47 +1,54 @@
-//! Scenarios of units: calls in turn, each with what is to come of it.
+//! Scenarios of units, as texts of a line for each call, with what is to come of it:
+//!
+//! - `- write ACCT k1 one = NORMAL 0`: a call of the unit with this number, or of the next one to
+//!   begin (`-`), and what it is answered. A call that is answered nothing stands alone (`0 commit`),
+//!   and one that may not be made is answered `no`.
+//! - `9 times 0 enq A = taken 0`: a call that is made so often, with the same answer each time.
+//! - `? file ACCT = k1 one|k2 two`: a look at the units, and what they show (`looks`).
 
 use crate::fixtures::{KEYED, delete, is_same_listing, opened, read_update, rewrite, write};
-use crate::guarded_calls::{Told, end, execute, has_open, holder, unlock};
+use crate::guarded_calls::{Told, deq, end, enq, execute, unlock};
+use crate::looks::shows;
 use crate::{Op, Units, plain_replay};
 use cics_enqueue::UnitId;
-use cics_names::{Items, Name8, NoMemory, Record};
+use cics_names::{Name8, NoMemory};
 use std::alloc::Global;
 use std::test::Fail;
 
-/// A call on units, or a look at them.
-#[derive(Clone, Copy, Debug, PartialEq, Eq)]
-pub(crate) enum Call {
-    /// WRITE of the record, under the key of 2 bytes with which it begins.
-    Write,
-    /// REWRITE of the record.
-    Rewrite,
-    /// DELETE of the key.
-    Delete,
-    /// READ UPDATE of the key.
-    ReadUpdate,
-    /// UNLOCK of the file.
-    Unlock,
-    /// The unit's commit.
-    Commit,
-    /// The unit's backout.
-    BackOut,
-    /// Whether the unit has the key read for update: done, or may not.
-    HasRead,
-    /// Who holds the key against a unit that has yet to begin: it waits, or done.
-    Holder,
-    /// Whether the file has these records and no others, with a stroke between them: done, or may not.
-    Lists,
-}
-
-/// A call, the unit that makes it (None for the next one to begin), the file and the record or key of
-/// it where it has them, and what is to come of it.
-pub(crate) type Row = (Option<u64>, Call, &'static str, &'static str, Told);
-
-/// Units over the recoverable file ACCT and the unrecoverable file LOG, with these records in each.
-pub(crate) fn started(alloc: Global, lines: &[&[u8]]) -> Result<Units, Fail> {
-    match Units::start(opened(alloc, lines)?) {
+/// Units over the recoverable file ACCT and the unrecoverable file LOG, with these records in each, a
+/// stroke between them.
+pub(crate) fn started(alloc: Global, records: &str) -> Result<Units, Fail> {
+    match Units::start(opened(alloc, records)?) {
         Ok(units) => Ok(units),
         Err(_) => Err(NoMemory.into()),
+    }
+}
+
+/// The first word of a text, and what comes behind it.
+pub(crate) fn cut(text: &str) -> (&str, &str) {
+    text.split_once(' ').unwrap_or((text, ""))
+}
+
+/// A call, and what is to come of it.
+pub(crate) fn halves(line: &str) -> (&str, &str) {
+    line.split_once(" = ").unwrap_or((line, ""))
+}
+
+// Whether a text is a word and a unit's number.
+fn is_of(text: &str, word: &str, unit: u64) -> bool {
+    let (first, number) = cut(text);
+    first == word && number.parse::<u64>().ok() == Some(unit)
+}
+
+// Whether a text says that this came of a call.
+fn is_told(told: Told, text: &str) -> bool {
+    match told {
+        Told::Answered(unit, condition) => is_of(text, condition.name(), unit),
+        Told::Taken(unit) => is_of(text, "taken", unit),
+        Told::Waits(unit) => is_of(text, "waits", unit),
+        Told::Full => text == "full",
+        Told::Done => text.is_empty(),
+        Told::MayNot => text == "no",
     }
 }
 
@@ -54,82 +61,83 @@ fn key_of(from: &[u8]) -> &[u8] {
     }
 }
 
-// The command of a call, if it is one.
-fn command(alloc: Global, call: Call, file: Name8, record: &[u8]) -> Result<Option<Op>, NoMemory> {
-    Ok(match call {
-        Call::Write => Some(write(alloc, file, key_of(record), record)?),
-        Call::Rewrite => Some(rewrite(alloc, file, key_of(record), record)?),
-        Call::Delete => Some(delete(alloc, file, record)?),
-        Call::ReadUpdate => Some(read_update(alloc, file, record)?),
+/// The command on a file of a word, if it is one: a record's key is the 2 bytes with which it begins.
+pub(crate) fn command(
+    alloc: Global,
+    word: &str,
+    file: Name8,
+    record: &[u8],
+) -> Result<Option<Op>, NoMemory> {
+    Ok(match word {
+        "write" => Some(write(alloc, file, key_of(record), record)?),
+        "rewrite" => Some(rewrite(alloc, file, key_of(record), record)?),
+        "delete" => Some(delete(alloc, file, record)?),
+        "read" => Some(read_update(alloc, file, record)?),
         _ => None,
     })
 }
 
-// Done where something is so.
-fn done_if(is_so: bool) -> Told {
-    if is_so { Told::Done } else { Told::MayNot }
-}
-
-// Makes a call of a unit that has begun, other than a command.
-fn act(units: &mut Units, unit: UnitId, call: Call, file: &Name8, record: &[u8]) -> Told {
-    match call {
-        Call::Unlock => unlock(units, unit, file),
-        Call::Commit => end(units, unit, true),
-        Call::BackOut => end(units, unit, false),
-        Call::HasRead => done_if(has_open(units, unit, file, record)),
-        _ => Told::MayNot,
-    }
-}
-
-// The records with a stroke between them.
-fn joined(alloc: Global, records: &Items<Record>) -> Result<Vec<u8>, NoMemory> {
-    let mut text = Vec::new(alloc);
-    for record in records.as_slice() {
-        if !text.is_empty() {
-            text.push(b'|')?;
-        }
-        text.extend_from_slice(record.bytes())?;
-    }
-    Ok(text)
-}
-
-// Whether a file has these records and no others.
-fn lists(units: &Units, alloc: Global, name: &Name8, lines: &[u8]) -> Result<bool, NoMemory> {
-    match units.file(name) {
-        Some(file) => Ok(joined(alloc, &file.listing()?)?.as_slice() == lines),
-        None => Ok(false),
-    }
-}
-
-// The name of a row's file, or another where it has none.
-fn name_of(file: &str) -> Option<Name8> {
-    Name8::new(if file.is_empty() {
-        b"NONE".as_slice()
-    } else {
-        file.as_bytes()
-    })
-    .ok()
-}
-
-/// Makes the call of a row, and tells what came of it.
-pub(crate) fn make(units: &mut Units, alloc: Global, row: &Row) -> Result<Told, NoMemory> {
-    let (unit, call, file, record, _) = *row;
-    let Some(file) = name_of(file) else {
-        return Ok(Told::MayNot);
+// Makes a call that names a file, for a unit or for the next one to begin.
+fn call_on_file(
+    units: &mut Units,
+    alloc: Global,
+    unit: Option<UnitId>,
+    word: &str,
+    rest: &str,
+) -> Result<Option<Told>, NoMemory> {
+    let (file, record) = cut(rest);
+    let Ok(file) = Name8::new(file.as_bytes()) else {
+        return Ok(None);
     };
-    let acting = unit.map(UnitId::new);
-    if let Some(op) = command(alloc, call, file, record.as_bytes())? {
-        return execute(units, acting, &op);
-    }
-    Ok(match (call, acting) {
-        (Call::Lists, _) => done_if(lists(units, alloc, &file, record.as_bytes())?),
-        (Call::Holder, _) => match holder(units, file, record.as_bytes()) {
-            Some(holder) => Told::Waits(holder.number()),
-            None => Told::Done,
+    match (word, unit) {
+        ("unlock", Some(unit)) => Ok(Some(unlock(units, unit, &file))),
+        _ => match command(alloc, word, file, record.as_bytes())? {
+            Some(op) => Ok(Some(execute(units, unit, &op)?)),
+            None => Ok(None),
         },
-        (_, Some(unit)) => act(units, unit, call, &file, record.as_bytes()),
-        (_, None) => Told::MayNot,
-    })
+    }
+}
+
+// Makes a call, and tells what came of it; None for a text that is no call.
+fn make(units: &mut Units, alloc: Global, call: &str) -> Result<Option<Told>, NoMemory> {
+    let (unit, rest) = cut(call);
+    let (word, rest) = cut(rest);
+    let unit = unit.parse::<u64>().ok().map(UnitId::new);
+    match (word, unit) {
+        ("enq", _) => Ok(Some(enq(units, unit, rest.as_bytes())?)),
+        ("deq", Some(unit)) => Ok(Some(deq(units, unit, rest.as_bytes()))),
+        ("commit", Some(unit)) => Ok(Some(end(units, unit, true))),
+        ("backout", Some(unit)) => Ok(Some(end(units, unit, false))),
+        _ => call_on_file(units, alloc, unit, word, rest),
+    }
+}
+
+/// Whether a line comes out as it says.
+pub(crate) fn comes_out(units: &mut Units, alloc: Global, line: &str) -> Result<bool, NoMemory> {
+    let (call, expected) = halves(line);
+    match cut(call) {
+        ("?", look) => shows(units, alloc, look, expected),
+        _ => match make(units, alloc, call)? {
+            Some(told) => Ok(is_told(told, expected)),
+            None => Ok(false),
+        },
+    }
+}
+
+// Whether a line comes out as it says, as often as it says.
+fn comes_out_each_time(units: &mut Units, alloc: Global, line: &str) -> Result<bool, NoMemory> {
+    let Some((times, call)) = line.split_once(" times ") else {
+        return comes_out(units, alloc, line);
+    };
+    let Ok(times) = times.parse::<u64>() else {
+        return Ok(false);
+    };
+    for _ in 0..times {
+        if !comes_out(units, alloc, call)? {
+            return Ok(false);
+        }
+    }
+    Ok(true)
 }
 
 /// Whether the files themselves list the same as the plain replay of what was executed.
@@ -138,17 +146,27 @@ pub(crate) fn is_replayed(units: &Units) -> Result<bool, NoMemory> {
     Ok(is_same_listing(&units.listing()?, &replayed))
 }
 
-/// Makes the calls of a scenario in turn, and answers the place of the first that something else
-/// comes of, or after which the files aren't what the plain replay gives.
-pub(crate) fn first_wrong(
+/// Makes the calls of a scenario in turn, and answers the first line that comes out otherwise, or
+/// after which the files aren't what the plain replay gives, with its number.
+pub(crate) fn first_wrong_of<'a>(
     units: &mut Units,
     alloc: Global,
-    rows: &[Row],
-) -> Result<Option<usize>, NoMemory> {
-    for (at, row) in rows.iter().enumerate() {
-        if make(units, alloc, row)? != row.4 || !is_replayed(units)? {
-            return Ok(Some(at));
+    scenario: &'a str,
+) -> Result<Option<(usize, &'a str)>, NoMemory> {
+    for (before, line) in scenario.lines().enumerate() {
+        if !comes_out_each_time(units, alloc, line)? || !is_replayed(units)? {
+            return Ok(Some((before.saturating_add(1), line)));
         }
     }
     Ok(None)
+}
+
+/// As `first_wrong_of`, of units with these records in each file, a stroke between them.
+pub(crate) fn first_wrong<'a>(
+    alloc: Global,
+    records: &str,
+    scenario: &'a str,
+) -> Result<Option<(usize, &'a str)>, Fail> {
+    let mut units = started(alloc, records)?;
+    Ok(first_wrong_of(&mut units, alloc, scenario)?)
 }

@@ -1,5 +1,7 @@
 //! What an opening accepts and refuses, and what its files show.
 
+use crate::looks::is_listed;
+use crate::scenarios::{cut, halves};
 use crate::{DefineFault, Files, Opening};
 use cics_ksds::{File, FileDef};
 use cics_names::{Name8, NoMemory, Record};
@@ -14,149 +16,203 @@ const TAGGED: FileDef = FileDef {
     recoverable: true,
 };
 
-fn record(alloc: Global, bytes: &[u8]) -> Result<Record, NoMemory> {
-    Ok(Record::new(bytes.to_vec(alloc)?))
+// The definition of a file, recoverable or not, of these numbers: the length of the key, where it
+// begins and the size of a record.
+fn definition(text: &str, recoverable: bool) -> Option<FileDef> {
+    let (key_length, rest) = cut(text);
+    let (key_offset, record_size) = cut(rest);
+    let (Ok(key_length), Ok(key_offset), Ok(record_size)) = (
+        key_length.parse::<u64>(),
+        key_offset.parse::<u64>(),
+        record_size.parse::<u64>(),
+    ) else {
+        return None;
+    };
+    Some(FileDef {
+        key_length,
+        key_offset,
+        record_size,
+        recoverable,
+    })
 }
 
-/// Loads records into a file, and tells whether each load came out as it stands beside it.
-fn loads(
+// Whether a text says that this came of a definition or a load.
+fn is_told(told: Result<(), DefineFault>, text: &str) -> bool {
+    match told {
+        Ok(()) => text.is_empty(),
+        Err(DefineFault::Duplicate) => text == "duplicate",
+        Err(DefineFault::BadLength) => text == "bad length",
+        Err(DefineFault::BadKey) => text == "bad key",
+        Err(DefineFault::NotThere) => text == "not there",
+        Err(DefineFault::NoMemory) => false,
+    }
+}
+
+// Defines a recoverable file, as `define ACCT 4 2 10`, or another, as `plain LOG 4 2 10`, or loads a
+// record, as `load ACCT xx0001`; None where a text says none of these.
+fn make(
     opening: &mut Opening,
     alloc: Global,
-    file: Name8,
-    lines: &[(&[u8], Result<(), DefineFault>)],
-) -> Result<bool, NoMemory> {
-    for (bytes, expected) in lines {
-        if opening.load_file(file, record(alloc, bytes)?) != *expected {
-            return Ok(false);
+    call: &str,
+) -> Result<Option<Result<(), DefineFault>>, NoMemory> {
+    let (word, rest) = cut(call);
+    let (name, rest) = cut(rest);
+    let Ok(name) = Name8::new(name.as_bytes()) else {
+        return Ok(None);
+    };
+    let recoverable = match word {
+        "load" => {
+            let record = Record::from_slice(alloc, rest.as_bytes())?;
+            return Ok(Some(opening.load_file(name, record)));
         }
-    }
-    Ok(true)
+        "define" => true,
+        "plain" => false,
+        _ => return Ok(None),
+    };
+    Ok(definition(rest, recoverable).map(|definition| opening.define_file(name, definition)))
 }
 
-#[test]
-fn a_definition_is_refused_by_its_first_fault(rt: HostRuntime) {
-    let mut opening = Opening::new(rt.alloc());
-    let accounts = Name8::new(b"ACCT").expect(&rt, "a name");
-    let others = Name8::new(b"LOG").expect(&rt, "a name");
-    assert_eq!(rt; opening.define_file(accounts, TAGGED), Ok(()));
-    for (name, key_length, key_offset, record_size, expected) in [
-        // The name comes before the record size, and the record size before the key.
-        (accounts, 0, 0, 0, Err(DefineFault::Duplicate)),
-        (others, 0, 0, 0, Err(DefineFault::BadLength)),
-        (others, 4, 0, 32_768, Err(DefineFault::BadLength)),
-        (others, 0, 0, 80, Err(DefineFault::BadKey)),
-        (others, 256, 0, 32_767, Err(DefineFault::BadKey)),
-        (others, 4, 77, 80, Err(DefineFault::BadKey)),
-        (others, 4, u64::MAX, 80, Err(DefineFault::BadKey)),
-        (others, 4, u64::MAX - 3, 80, Err(DefineFault::BadKey)),
-        (others, 255, 32_512, 32_767, Ok(())),
-        (others, 4, 0, 80, Err(DefineFault::Duplicate)),
-    ] {
-        let definition = FileDef {
-            key_length,
-            key_offset,
-            record_size,
-            recoverable: true,
-        };
-        assert_eq!(rt; opening.define_file(name, definition), expected);
+/// The first line that comes out otherwise than it says: a call, and the fault that it has, if any.
+fn first_wrong<'a>(
+    opening: &mut Opening,
+    alloc: Global,
+    lines: &'a str,
+) -> Result<Option<&'a str>, NoMemory> {
+    for line in lines.lines() {
+        let (call, fault) = halves(line);
+        match make(opening, alloc, call)? {
+            Some(told) if is_told(told, fault) => {}
+            _ => return Ok(Some(line)),
+        }
     }
-    assert_eq!(rt; opening.files().len(), 2);
+    Ok(None)
 }
+
+/// The name comes before the record size, and the record size before the key.
+const DEFINITIONS: &str = "\
+define ACCT 4 2 10
+define ACCT 0 0 0 = duplicate
+define LOG 0 0 0 = bad length
+define LOG 4 0 32768 = bad length
+define LOG 0 0 80 = bad key
+define LOG 256 0 32767 = bad key
+define LOG 4 77 80 = bad key
+define LOG 4 18446744073709551615 80 = bad key
+define LOG 4 18446744073709551612 80 = bad key
+define LOG 255 32512 32767
+define LOG 4 0 80 = duplicate
+";
+
+#[test]
+fn a_definition_is_refused_by_its_first_fault(rt: HostRuntime) -> Result<(), Fail> {
+    let mut opening = Opening::new(rt.alloc());
+    assert_eq!(rt; first_wrong(&mut opening, rt.alloc(), DEFINITIONS)?, None);
+    assert_eq!(rt; opening.files().len(), 2);
+    Ok(())
+}
+
+/// That the file isn't there comes before what is wrong with the record.
+const LOADS: &str = "\
+define ACCT 4 2 10
+load ACCT xx0001
+load ACCT xx000 = bad length
+load ACCT xx0001mnopq = bad length
+load ACCT = bad length
+load ACCT yy0001 = duplicate
+load ACCT yy0002mnop
+load LOG xx = not there
+";
 
 #[test]
 fn a_record_is_refused_by_its_first_fault(rt: HostRuntime) -> Result<(), Fail> {
     let mut opening = Opening::new(rt.alloc());
-    let accounts = Name8::new(b"ACCT").expect(&rt, "a name");
-    let others = Name8::new(b"LOG").expect(&rt, "a name");
-    assert_eq!(rt; opening.define_file(accounts, TAGGED), Ok(()));
-    let lines = [
-        (b"xx0001".as_slice(), Ok(())),
-        (b"xx000".as_slice(), Err(DefineFault::BadLength)),
-        (b"xx0001mnopq".as_slice(), Err(DefineFault::BadLength)),
-        (b"".as_slice(), Err(DefineFault::BadLength)),
-        (b"yy0001".as_slice(), Err(DefineFault::Duplicate)),
-        (b"yy0002mnop".as_slice(), Ok(())),
-    ];
-    assert!(rt; loads(&mut opening, rt.alloc(), accounts, &lines)?);
-    // That the file isn't there comes before what is wrong with the record.
-    let missing = [(b"xx".as_slice(), Err(DefineFault::NotThere))];
-    assert!(rt; loads(&mut opening, rt.alloc(), others, &missing)?);
+    assert_eq!(rt; first_wrong(&mut opening, rt.alloc(), LOADS)?, None);
     Ok(())
+}
+
+/// The files and the records in another order than that of names and keys.
+const OUT_OF_ORDER: &str = "\
+plain LOG 4 2 10
+define ACCT 4 2 10
+load ACCT aa0002
+load ACCT bb0003
+load ACCT cc0001
+";
+
+// Whether the files are listed in the order of their names, and their records in that of their keys.
+fn is_in_order(alloc: Global, files: &Files) -> Result<bool, NoMemory> {
+    let listed = files.listing()?;
+    Ok(
+        listed.len() == 2
+            && is_listed(alloc, &listed, 0, "ACCT", true, "cc0001|aa0002|bb0003")?
+            && is_listed(alloc, &listed, 1, "LOG", false, "")?,
+    )
 }
 
 #[test]
 fn a_listing_has_the_order_of_names_and_keys(rt: HostRuntime) -> Result<(), Fail> {
     let mut opening = Opening::new(rt.alloc());
-    let accounts = Name8::new(b"ACCT").expect(&rt, "a name");
-    let others = Name8::new(b"LOG").expect(&rt, "a name");
-    let plain = FileDef {
-        recoverable: false,
-        ..TAGGED
-    };
-    assert_eq!(rt; opening.define_file(others, plain), Ok(()));
-    assert_eq!(rt; opening.define_file(accounts, TAGGED), Ok(()));
-    let lines = [
-        (b"aa0002".as_slice(), Ok(())),
-        (b"bb0003".as_slice(), Ok(())),
-        (b"cc0001".as_slice(), Ok(())),
-    ];
-    assert!(rt; loads(&mut opening, rt.alloc(), accounts, &lines)?);
-    let listed = opening.files().listing()?;
-    let [
-        (first, first_recoverable, records),
-        (second, second_recoverable, none),
-    ] = listed.as_slice()
-    else {
-        panic!(rt; "the listing has two files");
-    };
-    assert_eq!(rt; (*first, *first_recoverable), (accounts, true));
-    assert_eq!(rt; (*second, *second_recoverable), (others, false));
-    let [least, middle, greatest] = records.as_slice() else {
-        panic!(rt; "the first file has three records");
-    };
-    assert_eq!(rt; least.bytes(), b"cc0001".as_slice());
-    assert_eq!(rt; middle.bytes(), b"aa0002".as_slice());
-    assert_eq!(rt; greatest.bytes(), b"bb0003".as_slice());
-    assert!(rt; none.as_slice().is_empty());
+    assert_eq!(rt; first_wrong(&mut opening, rt.alloc(), OUT_OF_ORDER)?, None);
+    assert!(rt; is_in_order(rt.alloc(), opening.files())?);
     Ok(())
+}
+
+// A copy of each file, under its name; None where a name has two.
+fn saved(alloc: Global, files: &Files) -> Result<Option<Files>, NoMemory> {
+    let mut saved = Files::new(alloc);
+    for (name, file) in files.iter() {
+        if saved.insert(*name, file.copy()?)?.is_some() {
+            return Ok(None);
+        }
+    }
+    Ok(Some(saved))
+}
+
+// Whether an empty file goes in the place of ACCT, and none in that of LOG, which isn't there.
+fn is_emptied(alloc: Global, files: &mut Files, accounts: &Name8, others: &Name8) -> bool {
+    let taken = files.replace(accounts, File::new(alloc, TAGGED));
+    let missing = files.replace(others, File::new(alloc, TAGGED));
+    taken.is_some() && missing.is_none() && !files.contains(others)
+}
+
+// Whether a file is there and has the record of a key.
+fn has_record(file: Option<&File>, key: &[u8]) -> bool {
+    match file {
+        Some(file) => file.read(key).is_some(),
+        None => false,
+    }
+}
+
+// Moves the saved files back, and tells whether each took the place of a file without the record.
+fn is_moved_back(files: &mut Files, saved: Files) -> bool {
+    for (name, file) in saved {
+        let changed = files.replace(&name, file);
+        if changed.is_none() || has_record(changed.as_ref(), b"0001") {
+            return false;
+        }
+    }
+    true
+}
+
+// Whether the record is there again once the files are saved, emptied and moved back.
+fn is_restored(alloc: Global, files: &mut Files) -> Result<bool, Fail> {
+    let (accounts, others) = (Name8::new(b"ACCT")?, Name8::new(b"LOG")?);
+    let Some(saved) = saved(alloc, files)? else {
+        return Ok(false);
+    };
+    Ok(
+        is_emptied(alloc, files, &accounts, &others)
+            && is_moved_back(files, saved)
+            && has_record(files.get(&accounts), b"0001"),
+    )
 }
 
 #[test]
 fn a_saved_file_is_moved_back(rt: HostRuntime) -> Result<(), Fail> {
     let mut opening = Opening::new(rt.alloc());
-    let accounts = Name8::new(b"ACCT").expect(&rt, "a name");
-    let others = Name8::new(b"LOG").expect(&rt, "a name");
-    assert_eq!(rt; opening.define_file(accounts, TAGGED), Ok(()));
-    assert!(rt;
-        loads(
-            &mut opening,
-            rt.alloc(),
-            accounts,
-            &[(b"xx0001".as_slice(), Ok(()))]
-        )?
-    );
+    let loads = "define ACCT 4 2 10\nload ACCT xx0001";
+    assert_eq!(rt; first_wrong(&mut opening, rt.alloc(), loads)?, None);
     let mut files = opening.into_files();
-    let mut saved = Files::new(rt.alloc());
-    for (name, file) in files.iter() {
-        let old = saved.insert(*name, file.copy()?)?;
-        assert!(rt; old.is_none());
-    }
-    let empty = File::new(rt.alloc(), TAGGED);
-    assert!(rt; files.replace(&accounts, empty).is_some());
-    assert!(rt;
-        files
-            .replace(&others, File::new(rt.alloc(), TAGGED))
-            .is_none()
-    );
-    assert!(rt; !files.contains(&others));
-    for (name, file) in saved {
-        let changed = files.replace(&name, file);
-        assert!(rt; changed.is_some_and(|file| file.read(b"0001").is_none()));
-    }
-    assert!(rt;
-        files
-            .get(&accounts)
-            .is_some_and(|file| file.read(b"0001").is_some())
-    );
+    assert!(rt; is_restored(rt.alloc(), &mut files)?);
     Ok(())
 }

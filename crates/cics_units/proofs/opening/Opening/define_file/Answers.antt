@@ -5,7 +5,8 @@ use Rattle.cics_units.specs.Faults.{IsRefused}
 use Rattle.cics_units.specs.Openings.{with_file, is_record_size, is_key}
 use Rattle.cics_units.specs.RegionFiles.{AreLoaded, opening_of}
 use Rattle.cics_units.specs.declared.opening.DefineFault.TheVariants.{Duplicate, BadLength, BadKey}
-use Rattle.cics_units.proofs.Opened.{opening_with, file_fault-tested, AreLoaded-defined, with_value-each}
+use Rattle.cics_units.specs.Replaying.{files_alone}
+use Rattle.cics_units.proofs.Opened.{file_fault-tested, AreLoaded-defined, with_value-each}
 use Rattle.cics_units.proofs.opening.Opening.define_file.Goals as goal
 
 pub returns-then-contains-clause-fault : goal.returns-then-contains-clause-fault
@@ -35,6 +36,6 @@ returns-clause-fault c = subst (IsRefused {X = Unit {0}} (Ok (tt {0})))
 
 pub returns-clause-ok : goal.returns-clause-ok
 returns-clause-ok c =
-    ap opening_with (c.in_ok-insert.ensures.files ∙ ap (λ f. with_value c.args.name f c.self.inside.files) c.new.ensures)
+    ap files_alone (c.in_ok-insert.ensures.files ∙ ap (λ f. with_value c.args.name f c.self.inside.files) c.new.ensures)
     ∙ ap (λ files. record { files = files; prefixes = []; queues = [] }) (with_value-each opening_of c.args.name (record { definition = c.args.definition; records = []; empties = [] }) c.self.inside.files)
     ∙ ap (λ o. with_file o c.args.name c.args.definition) c.self.view_is

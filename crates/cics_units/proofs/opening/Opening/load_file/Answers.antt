@@ -7,7 +7,8 @@ use Rattle.cics_units.specs.Faults.{IsRefused}
 use Rattle.cics_units.specs.Openings.{with_record}
 use Rattle.cics_units.specs.RegionFiles.{AreLoaded, written_in}
 use Rattle.cics_units.specs.declared.opening.DefineFault.TheVariants.{Duplicate, BadLength, NotThere}
-use Rattle.cics_units.proofs.Opened.{opening_with, load_fault-absent, load_fault-tested, has_key-read, load_fault-read, AreLoaded-written, opening_with-written}
+use Rattle.cics_units.specs.Replaying.{files_alone}
+use Rattle.cics_units.proofs.Opened.{load_fault-absent, load_fault-tested, has_key-read, load_fault-read, AreLoaded-written, files_alone-written}
 use Rattle.cics_units.proofs.opening.Opening.load_file.Goals as goal
 
 pub returns-in_default-clause-fault : goal.returns-in_default-clause-fault
@@ -50,8 +51,8 @@ invariant_of-self-2 c =
 pub returns-clause-ok : goal.returns-clause-ok
 returns-clause-ok c =
     let there : value_at c.args.name c.self.inside.files ≡ Some c.in-Some.file.now = sym c.in-Some.ensures.file in
-    ap opening_with (c.in_ok-write_loaded.ensures.files ∙ ap (written_in c.self.inside.files c.args.name c.args.content) there)
-    ∙ opening_with-written c.self.inside.files c.args.name c.args.content c.in-Some.file.now there
+    ap files_alone (c.in_ok-write_loaded.ensures.files ∙ ap (written_in c.self.inside.files c.args.name c.args.content) there)
+    ∙ files_alone-written c.self.inside.files c.args.name c.args.content c.in-Some.file.now there
     (sym (has_key-read c.self.inside.files c.args.self.now c.args.name c.args.content c.self.view_is c.in-Some.file.now
     c.definition-definition.result c.bytes.result.now c.key_in.result.now c.read.result false
     c.definition-definition.ensures.definition c.bytes.ensures (c.key_in.ensures ∙ ap (key_of c.definition-definition.result) (c.bytes-2.ensures ∙ sym c.bytes.ensures)) c.if-is_some.ensures c.read.ensures))
