@@ -19,6 +19,11 @@ mod RegionListing
 mod RegionWaking
 mod RegionPerforming
 pub mod KeptSteps
-mod OneTaskRows
-mod PutBack
-mod Backout
+pub mod Blocked
+pub mod OthersHold
+pub mod ActsAlone
+pub mod KeepsOwn
+pub mod KeptHeld
+pub mod Remembered
+mod RegionRemembers
+pub mod FewerWaits

@@ -86,13 +86,13 @@ read_at-reads_after u v f op c xs apart =
 -- ---- Units that begin
 
 -- a unit has begun and not ended, by the outcomes
-abbrev lives : List UnitState → ℕ → Bool
+abbrev pub lives : List UnitState → ℕ → Bool
 lives outs v = nat_lt v (length outs) && is_open (outcome_of outs v)
 
 pub begun : (s : UnitsState) (v : ℕ) → is_live s v ≡ true → v < length s.outcomes
 begun s v live = ltb-true v (length s.outcomes) (and_parts (nat_lt v (length s.outcomes)) (is_open (outcome_of s.outcomes v)) live).0
 
-lives_with : (u : Option ℕ) (outs : List UnitState) (v : ℕ) → lives outs v ≡ true → lives (outcomes_with u outs) v ≡ true
+pub lives_with : (u : Option ℕ) (outs : List UnitState) (v : ℕ) → lives outs v ≡ true → lives (outcomes_with u outs) v ≡ true
 lives_with None outs v live =
     let parts = and_parts (nat_lt v (length outs)) (is_open (outcome_of outs v)) live in
     let below : v < length outs = ltb-true v (length outs) parts.0 in
@@ -107,7 +107,7 @@ acting_lives s None acts =
 acting_lives s (Some u) acts = acts
 
 -- and is no other that has begun
-acting_other : (s : UnitsState) (u : Option ℕ) (v : ℕ) → (u ≡ Some v → ⊥) → is_live s v ≡ true → unit_or_next u s.outcomes ≢ v
+pub acting_other : (s : UnitsState) (u : Option ℕ) (v : ℕ) → (u ≡ Some v → ⊥) → is_live s v ≡ true → unit_or_next u s.outcomes ≢ v
 acting_other s None v other live = λ e. let below : v < length s.outcomes = begun s v live in omega arith
 acting_other s (Some u) v other live = λ e. other (ap Some e)
 

@@ -14,4 +14,4 @@ pub mod Tasks
 pub mod Regions
 pub mod Waits
 pub mod OwnedUnits
-pub mod OneTask
+pub mod Settled

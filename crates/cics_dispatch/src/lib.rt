@@ -1,15 +1,15 @@
 //! The tasks of a region and their commands.
 //!
-//! `specs/Machine`, `Checks`, `Steps`, `Waking` and `Answers` define the region of many tasks: the order of
-//! checks, what each command answers and leaves, waiting, waking, time-out and abends. `Region` is, for
-//! now, a region of one task over files, whose own definitions are in `specs/OneTask`.
+//! `specs/Machine`, `Checks`, `Steps`, `Waking` and `Answers` define a region: the order of checks, what
+//! each command answers and leaves, waiting, waking, time-out and abends. Each call of `Region` is one step
+//! of that.
 #![tactic(auto)]
 
 mod browses;
 mod checks;
 mod commands;
+mod dispatcher;
 mod faults;
-mod one_task;
 mod outcomes;
 mod reads;
 mod regions;
@@ -20,8 +20,16 @@ mod updates;
 mod waits;
 
 pub use commands::{Command, Verb};
-pub use one_task::Region;
 pub use outcomes::{Expired, Number, Outcome, Refused, Reply, Woken};
+pub use regions::Region;
 
 #[cfg(test)]
 mod tests;
+#[cfg(test)]
+mod tests_commands;
+#[cfg(test)]
+mod tests_playing;
+#[cfg(test)]
+mod tests_refusals;
+#[cfg(test)]
+mod tests_told;

@@ -1,46 +1,20 @@
 //! A region: tasks that share files, their waits, and their units of work.
 
-mod browsing;
-mod enqueuing;
-mod listing;
-mod performing;
-mod waking;
-
-ghost use Rattle.std.specs.Prelude.{◌≡◌, ◌<◌, ◌≤◌, Bool, true, false, Option, Some, None, option_map, is_none, is_some, take, length, slice_get, IsTrue, IfOk, IfErr, IfSome, IfNone, OnOk, OnErr, if◌then◌else◌, Result, Ok, Err};
-ghost use Rattle.std.specs.Option.{option_copied};
-ghost use Rattle.cics_units.specs.Store.{initial_store};
-ghost use Rattle.cics_units.specs.declared.ops.UnitState.TheVariants.{Committed, BackedOut};
-ghost use Rattle.cics_units.specs.declared.ops.Answer.{Answer as AnswerValue};
-ghost use Rattle.cics_dispatch.specs.Machine.{units_after, definition_of, records_in, Machine, Task as TaskValue, RegionValue, beginning_region, task_at, is_waiting, abended, unit_closed, with_waiting, not_waiting};
-ghost use Rattle.cics_dispatch.specs.Checks.{fault_of, open_key};
-ghost use Rattle.cics_units.specs.Execution.{execution, enqueue, IsOpenUnit, IsOpenOrNone};
-ghost use Rattle.cics_units.specs.Headline.{IsHeadline};
-ghost use Rattle.cics_units.specs.TableInPlace.{key_of};
-ghost use Rattle.cics_names.specs.declared.conditions.Condition.TheVariants.{Normal};
-ghost use Rattle.cics_dispatch.specs.Replies.{plain, cut, read_reply};
-ghost use Rattle.cics_dispatch.specs.Steps.{unlocked, dequeued, started, reset, browsed, browse_ended, enqueued, Stepped, answered, attached, issued, performed, executed, other_command, op_of, new_task, reply_of, length_of, suspended};
-ghost use Rattle.cics_dispatch.specs.Waking.{clock_set, woken, expired, first_free, first_late};
-ghost use Rattle.cics_dispatch.specs.Answers.{IsStep, always, may_want, is_growing, IsHeadlineRegion, region_listing, replayed_listing};
+ghost use Rattle.std.specs.Prelude.{◌≡◌, ◌&&◌, ◌||◌, not, true, false, IsTrue, IfOk, IfErr};
+ghost use Rattle.cics_dispatch.specs.Machine.{beginning_region};
+ghost use Rattle.cics_dispatch.specs.Steps.{attached, issued};
+ghost use Rattle.cics_dispatch.specs.Waking.{clock_set, woken, expired};
+ghost use Rattle.cics_dispatch.specs.Answers.{IsStep, always, may_want, IsHeadlineRegion, region_listing, replayed_listing};
+ghost use Rattle.cics_dispatch.specs.Settled.{is_blocker, goes_on};
 ghost use Rattle.cics_dispatch.specs.Verbs.{asks_no_queue};
-ghost use Rattle.cics_dispatch.specs.Faults.{is_generic};
-ghost use Rattle.cics_names.specs.Keyed.{value_at};
-ghost use Rattle.cics_browse.specs.Positions.{read_next, after_next, read_prev, after_prev};
-ghost use Rattle.cics_dispatch.specs.declared.commands.Verb.TheVariants.{Enq};
 
-use crate::commands::{Command, Verb};
-use crate::faults::fault_of_verb;
-use crate::outcomes::{Expired, Outcome, Refused, Reply, Woken};
-use crate::reads::{plain_reply, read_plain};
-use crate::replies::{reply_of_answer, reply_of_browsed};
-use crate::tasks::Tasks;
-use crate::updates::updating;
-use crate::waits::Waits;
-use cics_browse::Browse;
+use crate::commands::Command;
+use crate::dispatcher::Dispatcher;
+use crate::outcomes::{Expired, Outcome, Refused, Woken};
 use cics_enqueue::UnitId;
-use cics_ksds::FileDef;
-use cics_names::{AbendCode, Condition, Items, Name4, Name8, NoMemory, Record};
-use cics_units::{Done, Enqueued, Listing, Op, Opening, TaskState, UnitState, Units, plain_replay};
-use std::alloc::Global;
+use cics_names::{Name4, Name8, NoMemory};
+use cics_units::{Listing, Opening, Units};
+use indexmap::IndexSet;
 use std::marker::Model;
 
 /// The tasks of a region, their waiting commands, and the files and units of work that they share.
@@ -48,40 +22,47 @@ use std::marker::Model;
 /// Each call is one step of the region's machine: its answer and the state that it leaves are those of
 /// the step. After each call the files hold what replaying the commands of the units that weren't
 /// backed out gives, and each of these commands has the answer that its task was given.
+///
+/// The region remembers what it found when it last looked at the waiting commands, so that `wake` and
+/// `expire` needn't look at each of them again where nothing has changed for them.
 #[derive(Drop)]
 pub struct Region {
-    units: Units,
-    tasks: Tasks,
-    waits: Waits,
-    clock: u64,
-    alloc: Global,
+    dispatcher: Dispatcher,
+    // Each waiting command has to wait yet, for one of `blockers`.
+    is_settled: bool,
+    // No task has waited too long yet.
+    is_in_time: bool,
+    // The units that the waiting commands wait for, and perhaps others.
+    blockers: IndexSet<UnitId>,
 }
 
 impl Model for Region {
     ghost use Rattle.cics_dispatch.specs.Machine.{RegionValue};
-    ghost use Rattle.cics_dispatch.specs.Regions.{region_of, IsRegionKept};
+    ghost use Rattle.cics_dispatch.specs.Settled.{IsRemembered};
 
     ghost Value = { RegionValue };
 
-    ghost view = { λ r. region_of r.units r.tasks r.waits r.clock };
+    ghost view = { λ r. r.dispatcher };
 
-    ghost invariant = { λ r. IsRegionKept (region_of r.units r.tasks r.waits r.clock) };
+    ghost invariant = { λ r. IsRemembered r.dispatcher.machine r.is_settled r.is_in_time r.blockers.keys };
 }
 
-// Commits a unit or backs it out, if there is one.
-fn end_unit(units: &mut Units, unit: Option<UnitId>, commits: bool)
-    requires is_open { IsOpenOrNone units.old.state unit }
-    requires headline { IsHeadline units.old }
-    ensures state { units.new.state ≡ units_after units.old.state unit (if commits then Committed else BackedOut) }
-    ensures headline { IsHeadline units.new }
+// Whether what was settled stays settled after a command: its task's unit is no blocker, or the command gives up nothing
+// and its task goes on.
+fn stays_settled(is_settled: bool, blocks: bool, keeps: bool, outcome: &Outcome) -> bool
+    ensures { result ≡ is_settled && (not blocks || (keeps && goes_on outcome.now)) }
 {
-    let Some(unit) = unit else {
-        return;
-    };
-    if commits {
-        units.commit(unit);
-    } else {
-        units.back_out(unit);
+    let goes_on = matches!(outcome, Outcome::Replied(_) | Outcome::Waiting(_));
+    is_settled && (!blocks || (keeps && goes_on))
+}
+
+// Whether a unit, if there is one, is a blocker.
+fn is_blocker(blockers: &IndexSet<UnitId>, unit: Option<UnitId>) -> bool
+    ensures { result ≡ is_blocker blockers.now.keys unit }
+{
+    match unit {
+        Some(unit) => blockers.contains(&unit),
+        None => false,
     }
 }
 
@@ -94,13 +75,12 @@ impl Region {
         ensures err { IfErr result (λ back. back ≡ opening) }
     {
         let alloc = opening.files().allocator();
-        let units = Units::start(opening)?;
+        let dispatcher = Dispatcher::new(opening)?;
         Ok(Region {
-            units,
-            tasks: Tasks::new(alloc),
-            waits: Waits::new(alloc),
-            clock: 0,
-            alloc,
+            dispatcher,
+            is_settled: false,
+            is_in_time: false,
+            blockers: IndexSet::new(alloc),
         })
     }
 
@@ -109,16 +89,12 @@ impl Region {
     ///
     /// It is refused where a task has or had the label (`DuplicateLabel`), and for want of memory
     /// (`NoMemory`). A refusal changes nothing.
-    pub fn attach(&mut self, label: Name8, _transaction: Name4, dtimout: u64) -> Result<(), Refused>
+    pub fn attach(&mut self, label: Name8, transaction: Name4, dtimout: u64) -> Result<(), Refused>
         ensures step { IsStep true self.old (attached self.old.machine label dtimout) result self.new }
         ensures headline { IsHeadlineRegion self.new }
     {
-        let _units = &self.units;
-        if self.tasks.find(&label).is_some() {
-            return Err(Refused::DuplicateLabel);
-        }
-        self.tasks.attach(label, dtimout)?;
-        Ok(())
+        self.dispatcher.keeps();
+        self.dispatcher.attach(label, transaction, dtimout)
     }
 
     /// Sets the clock to so many seconds. It is refused where the clock would go back (`ClockBack`).
@@ -126,138 +102,115 @@ impl Region {
         ensures step { IsStep false self.old (clock_set self.old.machine now) result self.new }
         ensures headline { IsHeadlineRegion self.new }
     {
-        let _units = &self.units;
-        if now < self.clock {
-            return Err(Refused::ClockBack);
+        self.is_in_time = false;
+        self.dispatcher.set_clock(now)
+    }
+
+    /// Executes a command of the task of a label: it is answered, or it waits, or its task ends.
+    ///
+    /// It is refused where no task has the label (`NoTask`), where the task has ended (`TaskEnded`),
+    /// where a command of it waits (`TaskWaiting`), in this order; and once its checks have passed,
+    /// for want of memory (`NoMemory`), but for UNLOCK, RESETBR, ENDBR, DEQ, SYNCPOINT, ROLLBACK,
+    /// RETURN and ABEND, which take none. A refusal changes nothing. A condition that neither RESP
+    /// nor NOHANDLE handles abends the task with the condition's default code (chapter on the
+    /// exceptional conditions).
+    pub fn issue(&mut self, label: Name8, command: Command) -> Result<Outcome, Refused>
+        requires no_queue { IsTrue (asks_no_queue command.verb) }
+        ensures step { IsStep (may_want self.old.machine label command) self.old (issued self.old.machine label command) result self.new }
+        ensures headline { IsHeadlineRegion self.new }
+    {
+        self.dispatcher.keeps();
+        let unit = self.dispatcher.unit_of(&label);
+        let blocks = is_blocker(&self.blockers, unit);
+        let keeps = self.dispatcher.is_keeping(&command.verb);
+        let outcome = self.dispatcher.issue(label, command)?;
+        let stays = stays_settled(self.is_settled, blocks, keeps, &outcome);
+        let noted = &mut self.blockers;
+        self.is_settled = self.dispatcher.note_blocker(stays, &label, noted);
+        Ok(outcome)
+    }
+
+    /// Lets the first waiting command go on that needn't wait any more, and answers its task's label
+    /// with what came of it; `None` where each has to wait.
+    ///
+    /// The order is that in which the waits began. The command goes on from the look at what other
+    /// units hold, and doesn't wait again. It is refused for want of memory alone (`NoMemory`), and
+    /// changes nothing then: the command waits as it did. Where it answered `None`, and no unit that
+    /// a command waits for may have given up anything since, it looks at no wait; unless it had no
+    /// memory to note these units.
+    pub fn wake(&mut self) -> Result<Option<Woken>, Refused>
+        ensures step { IsStep true self.old (always (woken self.old.machine)) result self.new }
+        ensures headline { IsHeadlineRegion self.new }
+    {
+        self.dispatcher.keeps();
+        if self.is_settled {
+            return Ok(None);
         }
-        self.clock = now;
-        Ok(())
-    }
-
-    // The key of the record that the task at a place has read for update in a file.
-    fn open_key(&self, at: usize, file: &Name8) -> Option<&Record>
-        requires within { at < length self.now.machine.tasks }
-        ensures key { (t : TaskValue) → slice_get self.now.machine.tasks at ≡ Some t → option_copied result ≡ open_key self.now.machine t file.now }
-        ensures most { IfSome result (λ key. length key.now ≤ 255) }
-    {
-        let unit = self.tasks.get(at).unit()?;
-        self.units.open_read(unit, file)
-    }
-
-    // The definition of a file, if the file is defined.
-    fn definition(&self, name: &Name8) -> Option<FileDef>
-        ensures { result ≡ definition_of self.now.machine name.now }
-    {
-        let file = self.units.file(name)?;
-        Some(file.definition())
-    }
-
-    // Whether the browse of a file of the task at a place was started with GENERIC, if one is open.
-    fn browse(&self, at: usize, name: &Name8) -> Option<bool>
-        requires within { at < length self.now.machine.tasks }
-        ensures { (t : TaskValue) → slice_get self.now.machine.tasks at ≡ Some t → result ≡ is_generic (value_at name.now t.browses) }
-    {
-        let browse = self.tasks.get(at).browse(name)?;
-        Some(browse.is_generic())
-    }
-
-    // The first fault of a command of the task at a place.
-    fn fault(&self, at: usize, verb: &Verb) -> Option<Condition>
-        requires within { at < length self.now.machine.tasks }
-        requires no_queue { asks_no_queue verb.now ≡ true }
-        ensures fault { (t : TaskValue) → slice_get self.now.machine.tasks at ≡ Some t → result ≡ fault_of self.now.machine t verb.now }
-    {
-        let Some(name) = verb.file() else {
-            return fault_of_verb(verb, None, None, None);
-        };
-        let definition = self.definition(name);
-        let browse = self.browse(at, name);
-        fault_of_verb(verb, definition, self.open_key(at, name), browse)
-    }
-
-    // Ends the unit of the task at a place and its browses; the task ends too where that is said.
-    fn close(&mut self, at: usize, commits: bool, has_ended: bool)
-        requires within { at < length self.old.machine.tasks }
-        requires awake { (t : TaskValue) → slice_get self.old.machine.tasks at ≡ Some t → is_waiting self.old.machine.waiting t.label ≡ false }
-        ensures machine { (t : TaskValue) → slice_get self.old.machine.tasks at ≡ Some t → self.new.machine ≡ unit_closed self.old.machine t (if commits then Committed else BackedOut) has_ended }
-        ensures headline { IsHeadlineRegion self.new }
-    {
-        let unit = self.tasks.close_unit(at, has_ended);
-        end_unit(&mut self.units, unit, commits);
-    }
-
-    // Abends the task at a place: its unit is backed out, its wait ends, and so does the task.
-    fn abend(&mut self, at: usize)
-        requires within { at < length self.old.machine.tasks }
-        ensures machine { (t : TaskValue) → slice_get self.old.machine.tasks at ≡ Some t → self.new.machine ≡ abended self.old.machine t }
-        ensures headline { IsHeadlineRegion self.new }
-    {
-        let label = self.tasks.get(at).label();
-        let unit = self.tasks.close_unit(at, true);
-        end_unit(&mut self.units, unit, false);
-        self.waits.remove(&label);
-    }
-
-    // Tells the task at a place a reply, or abends it for a condition that nothing handles.
-    fn answer(&mut self, at: usize, resp: bool, reply: Reply) -> Outcome
-        requires within { at < length self.old.machine.tasks }
-        ensures outcome { (t : TaskValue) → slice_get self.old.machine.tasks at ≡ Some t → result ≡ (answered self.old.machine t resp reply).outcome }
-        ensures machine { (t : TaskValue) → slice_get self.old.machine.tasks at ≡ Some t → self.new.machine ≡ (answered self.old.machine t resp reply).machine }
-        ensures headline { IsHeadlineRegion self.new }
-    {
-        let _units = &self.units;
-        match reply.condition.default_abend() {
-            Some(code) if !resp => {
-                self.abend(at);
-                Outcome::Abended(code, Some(reply))
-            }
-            _ => Outcome::Replied(reply),
-        }
-    }
-
-    // Makes a command of the task at a place wait, last of all, for a unit that another task has.
-    fn suspend(&mut self, at: usize, command: Command, holder: UnitId) -> Result<Outcome, NoMemory>
-        requires within { at < length self.old.machine.tasks }
-        requires awake { (t : TaskValue) → slice_get self.old.machine.tasks at ≡ Some t → is_waiting self.old.machine.waiting t.label ≡ false }
-        requires passed { (t : TaskValue) → slice_get self.old.machine.tasks at ≡ Some t → fault_of self.old.machine t command.verb ≡ None }
-        requires no_queue { asks_no_queue command.verb ≡ true }
-        requires is_open { IsOpenUnit self.old.machine.units holder }
-        ensures outcome { IfOk result (λ outcome. (t : TaskValue) → slice_get self.old.machine.tasks at ≡ Some t → outcome ≡ (suspended self.old.machine t command holder).outcome) }
-        ensures machine { OnOk result ((t : TaskValue) → slice_get self.old.machine.tasks at ≡ Some t → self.new.machine ≡ (suspended self.old.machine t command holder).machine) }
-        ensures headline { IsHeadlineRegion self.new }
-        ensures err { OnErr result (self.new ≡ self.old) }
-    {
-        let _units = &self.units;
-        let label = self.tasks.get(at).label();
-        let Some(owner) = self.tasks.label_of(holder) else {
-            unreachable!();
-        };
-        self.waits.begin(label, command, self.clock)?;
-        Ok(Outcome::Waiting(owner))
-    }
-
-    // Executes the updating command that a command of the task at a place asks for, or makes it wait.
-    fn update(&mut self, at: usize, command: Command, op: &Op) -> Result<Outcome, NoMemory>
-        requires within { at < length self.old.machine.tasks }
-        requires awake { (t : TaskValue) → slice_get self.old.machine.tasks at ≡ Some t → is_waiting self.old.machine.waiting t.label ≡ false }
-        requires passed { (t : TaskValue) → slice_get self.old.machine.tasks at ≡ Some t → fault_of self.old.machine t command.verb ≡ None }
-        requires no_queue { asks_no_queue command.verb ≡ true }
-        requires asked { (t : TaskValue) → slice_get self.old.machine.tasks at ≡ Some t → op_of self.old.machine t command.verb ≡ Some op.now }
-        requires short { length (key_of op.now) ≤ 255 }
-        ensures outcome { IfOk result (λ outcome. (t : TaskValue) → slice_get self.old.machine.tasks at ≡ Some t → outcome ≡ (executed self.old.machine t command op.now (execution self.old.machine.units t.unit op.now)).outcome) }
-        ensures machine { OnOk result ((t : TaskValue) → slice_get self.old.machine.tasks at ≡ Some t → self.new.machine ≡ (executed self.old.machine t command op.now (execution self.old.machine.units t.unit op.now)).machine) }
-        ensures headline { IsHeadlineRegion self.new }
-        ensures err { OnErr result (self.new ≡ self.old) }
-    {
-        let unit = self.tasks.get(at).unit();
-        self.tasks.make_room_for_unit()?;
-        match self.units.execute(unit, op)? {
-            Done::MustWait(holder) => self.suspend(at, command, holder),
-            Done::Answered(unit, answer) => {
-                self.tasks.own_unit(at, unit);
-                let reply = reply_of_answer(answer, command.verb.length());
-                Ok(self.answer(at, command.resp, reply))
+        let woken = self.dispatcher.wake()?;
+        match woken {
+            Some(_) => self.is_in_time = false,
+            None => {
+                self.blockers.clear();
+                self.is_settled = self.dispatcher.note_blockers(&mut self.blockers);
             }
         }
+        Ok(woken)
+    }
+
+    /// Abends the first task that has waited too long, by the code AKCS, and answers its label; `None`
+    /// where no task has.
+    ///
+    /// The order is that in which the waits began. A task has waited too long once the clock is its
+    /// `dtimout` past the begin of its wait; a `dtimout` of 0 is no limit. Its unit of work is backed
+    /// out, its wait ends, and so does the task. Takes no memory. Where it answered `None`, and since
+    /// then the clock wasn't set and no waiting command went on, it looks at no wait.
+    pub fn expire(&mut self) -> Option<Expired>
+        ensures outcome { result ≡ (expired self.old.machine).outcome }
+        ensures machine { self.new.machine ≡ (expired self.old.machine).machine }
+        ensures headline { IsHeadlineRegion self.new }
+    {
+        self.dispatcher.keeps();
+        if self.is_in_time {
+            return None;
+        }
+        let expired = self.dispatcher.expire();
+        match expired {
+            Some(_) => self.is_settled = false,
+            None => self.is_in_time = true,
+        }
+        expired
+    }
+
+    /// The units of work of the region, with the files that they share, their history and its outcomes.
+    pub fn units(&self) -> &Units
+        ensures { result.now ≡ record { state = self.now.machine.units; store = self.now.store } }
+    {
+        self.dispatcher.units()
+    }
+
+    /// What stands in the files, the changes of open units included, and what each task that hasn't
+    /// ended does, in the order in which the tasks were attached. This is what a user is shown of the
+    /// region.
+    ///
+    /// It is refused only for want of memory, which it takes for a copy of each record and for the
+    /// tasks (`NoMemory`). It changes nothing. Each task costs one look-up of its wait, however many
+    /// commands wait.
+    pub fn listing(&self) -> Result<Listing, NoMemory>
+        ensures { IfOk result (λ listing. listing ≡ region_listing self.now) }
+    {
+        self.dispatcher.listing()
+    }
+
+    /// What stands in the files after the history of the region is applied anew, command by command,
+    /// to what was loaded; a command on a recoverable file whose unit was backed out is left out. It
+    /// has no tasks. It goes by no before image, so the files of `listing` can be held against it.
+    ///
+    /// It is refused only for want of memory, which it takes for a copy of each record (`NoMemory`).
+    /// It changes nothing. It takes time in proportion to the records that were loaded and the
+    /// commands that were executed, each with the logarithm of the records in its file.
+    pub fn replayed(&self) -> Result<Listing, NoMemory>
+        ensures { IfOk result (λ listing. listing ≡ replayed_listing self.now) }
+    {
+        self.dispatcher.replayed()
     }
 }

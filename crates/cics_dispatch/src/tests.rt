@@ -1,220 +1,302 @@
-//! One task over an accounts file that is recoverable and a log that isn't.
+//! Scenarios of a region: tasks that share a recoverable file and one that isn't.
 
-ghost use Rattle.std.specs.Prelude.{◌≡◌, IfOk, IsTrue, IsNone, false};
-ghost use Rattle.cics_dispatch.specs.OneTask.{is_first_path};
-
-use crate::{Command, Outcome, Refused, Region, Reply, Verb};
-use cics_ksds::FileDef;
-use cics_names::{Condition, Name4, Name8, NoMemory, Record};
-use cics_units::{Opening, TaskState};
-use std::alloc::Global;
+use crate::tests_playing::first_wrong;
 use std::test::Fail;
 
-fn file(recoverable: bool) -> FileDef {
-    FileDef {
-        key_length: 4,
-        key_offset: 0,
-        record_size: 32_767,
-        recoverable,
-    }
-}
+const ONE_DELETED_KEY: &str = "\
+load ACCT 0001aa
+attach T1 dtimout=5 = ok
+attach T2 dtimout=5 = ok
+attach T3 = ok
+tasks = T1 idle T2 idle T3 idle
+T1 delete ACCT 0001 = NORMAL
+T2 write ACCT 0001 0001zz = WAITING T1
+T3 write ACCT 0001 0001zz = WAITING T1
+wake = none
+tasks = T1 unit T2 waiting T3 waiting
+T1 syncpoint = NORMAL
+wake = T2 NORMAL
+wake = none
+tasks = T1 idle T2 unit T3 waiting
+T2 rollback = NORMAL
+wake = T3 NORMAL
+wake = none
+files = ACCT 0001zz LOG
+tasks = T1 idle T2 idle T3 unit
+units = committed backed-out open
+";
 
-fn record(alloc: Global, bytes: &[u8]) -> Result<Record, NoMemory> {
-    Ok(Record::new(bytes.to_vec(alloc)?))
-}
+const UPDATE_READS: &str = "\
+load ACCT 0001aa
+attach T1 = ok
+attach T2 = ok
+attach T3 = ok
+T1 read ACCT 0001 update length=5 = LENGERR 0001a
+T2 read ACCT 0001 update length=4 = WAITING T1
+T2 read ACCT 0001 = refused TaskWaiting
+T1 rewrite ACCT 0001bb = NORMAL
+T3 read ACCT 0001 = NORMAL 0001bb
+wake = none
+T1 return = ENDED
+T1 syncpoint = refused TaskEnded
+wake = T2 LENGERR 0001
+T3 delete ACCT 0001 = WAITING T2
+T2 rewrite ACCT 0001cc = NORMAL
+files = ACCT 0001cc LOG
+T2 rollback = NORMAL
+files = ACCT 0001bb LOG
+wake = T3 NORMAL
+tasks = T2 idle T3 unit
+units = committed backed-out open
+";
 
-/// A region with ACCT, which has the record 0001aa, and LOG, which has none.
-fn region(alloc: Global) -> Result<Region, Fail>
-    ensures { IfOk result (λ region. IsNone region.task) }
-{
-    let mut opening = Opening::new(alloc);
-    let accounts = Name8::new(b"ACCT")?;
-    opening.define_file(accounts, file(true))?;
-    opening.load_file(accounts, record(alloc, b"0001aa")?)?;
-    opening.define_file(Name8::new(b"LOG")?, file(false))?;
-    match Region::new(opening) {
-        Ok(region) => Ok(region),
-        Err(_opening) => Err("no memory".into()),
-    }
-}
+const DEADLOCK: &str = "\
+load ACCT 0001aa
+load ACCT 0002bb
+attach T1 dtimout=5 = ok
+attach T2 dtimout=5 = ok
+T1 delete ACCT 0001 = NORMAL
+T2 delete ACCT 0002 = NORMAL
+clock 3 = ok
+T1 delete ACCT 0002 = WAITING T2
+T2 delete ACCT 0001 = WAITING T1
+wake = none
+clock 7 = ok
+expire = none
+clock 8 = ok
+wake = none
+expire = T1 AKCS
+files = ACCT 0001aa LOG
+T1 return = refused TaskEnded
+attach T1 = refused DuplicateLabel
+wake = T2 NORMAL
+expire = none
+clock 7 = refused ClockBack
+T2 return = ENDED
+files = ACCT LOG
+tasks =
+units = backed-out committed
+";
 
-/// The same with the task T1.
-fn with_task(alloc: Global) -> Result<Region, Fail> {
-    let mut region = region(alloc)?;
-    region.attach(Name8::new(b"T1")?, Name4::new(b"AAAA")?, 0)?;
-    Ok(region)
-}
+const WOKEN_IN_TIME: &str = "\
+load ACCT 0001aa
+attach T1 = ok
+attach T2 dtimout=5 = ok
+attach T3 = ok
+attach T4 dtimout=0 = ok
+T1 delete ACCT 0001 = NORMAL
+T4 delete ACCT 0001 unhandled = WAITING T1
+T2 write ACCT 0001 0001yy = WAITING T1
+clock 5 = ok
+T1 syncpoint = NORMAL
+wake = T4 ABEND AEIM NOTFND
+wake = T2 NORMAL
+expire = none
+T3 delete ACCT 0001 = WAITING T2
+clock 18446744073709551615 = ok
+expire = none
+T2 abend WXYZ = ABEND WXYZ
+wake = T3 NOTFND
+files = ACCT LOG
+tasks = T1 idle T3 unit
+units = committed backed-out backed-out open
+";
 
-fn read(alloc: Global, file: &[u8], key: &[u8]) -> Result<Verb, Fail>
-    ensures { IfOk result (λ verb. IsTrue (is_first_path verb)) }
-{
-    Ok(Verb::Read {
-        file: Name8::new(file)?,
-        ridfld: record(alloc, key)?,
-        key_length: None,
-        length: None,
-        generic: false,
-        gteq: false,
-        update: false,
-    })
-}
+const FREE_RECORDS: &str = "\
+load ACCT 0001aa
+load ACCT 0002bb
+attach T1 = ok
+attach T2 = ok
+attach T3 = ok
+T1 delete ACCT 0001 = NORMAL
+T2 delete ACCT 0001 = WAITING T1
+T3 delete ACCT 0002 = NORMAL
+T1 syncpoint = NORMAL
+T3 write ACCT 0001 0001zz = NORMAL
+wake = none
+tasks = T1 idle T2 waiting T3 unit
+T3 rollback = NORMAL
+wake = T2 NOTFND
+files = ACCT 0002bb LOG
+units = committed backed-out open
+";
 
-fn write(alloc: Global, file: &[u8], key: &[u8], from: &[u8]) -> Result<Verb, Fail>
-    ensures { IfOk result (λ verb. IsTrue (is_first_path verb)) }
-{
-    Ok(Verb::Write {
-        file: Name8::new(file)?,
-        ridfld: record(alloc, key)?,
-        key_length: None,
-        from: record(alloc, from)?,
-        length: None,
-    })
-}
+const ENQUEUES: &str = "\
+attach T1 = ok
+attach T2 = ok
+T1 enq ABCD length=2 = NORMAL
+T1 enq ABXX length=2 = NORMAL
+T2 enq AB length=2 nosuspend = ENQBUSY
+T2 enq AB length=2 nosuspend unhandled = ENQBUSY
+units = open
+T2 enq ABC length=3 nosuspend = NORMAL
+T1 deq ABZZ length=2 = NORMAL
+T2 enq AB length=2 = WAITING T1
+wake = none
+T1 deq AB length=2 = NORMAL
+wake = T2 NORMAL
+T1 enq AB length=2 = WAITING T2
+T2 syncpoint = NORMAL
+wake = T1 NORMAL
+T1 deq XX length=2 = NORMAL
+T2 deq AB length=2 = NORMAL
+T2 enq AB length=2 nosuspend = ENQBUSY
+T1 enq AB length=0 = LENGERR
+T1 enq AB length=3 = LENGERR
+T1 deq AB length=3 = LENGERR
+units = open committed
+";
 
-/// What the task T1 is told, where its conditions are unhandled.
-fn does(region: &mut Region, verb: Verb) -> Result<Result<Outcome, Refused>, Fail>
-    requires { IsTrue (is_first_path verb) }
-{
-    Ok(region.issue(Name8::new(b"T1")?, Command { verb, resp: false }))
-}
+const ABENDS: &str = "\
+load ACCT 0001aa
+attach T1 = ok
+T1 write LOG 0001 0001log = NORMAL
+T1 write ACCT 0002 0002bb = NORMAL
+T1 write ACCT 0002 0002cc = DUPREC
+files = ACCT 0001aa 0002bb LOG 0001log
+T1 write ACCT 0002 0002cc unhandled = ABEND AEIN DUPREC
+files = ACCT 0001aa LOG 0001log
+T1 syncpoint = refused TaskEnded
+attach T1 = refused DuplicateLabel
+T2 syncpoint = refused NoTask
+attach T2 = ok
+T2 read ACCT 0009 unhandled = ABEND AEIM NOTFND
+attach T3 = ok
+T3 delete ACCT 0001 = NORMAL
+T3 abend ABCD = ABEND ABCD
+attach T4 = ok
+tasks = T4 idle
+T4 abend = ABEND ????
+files = ACCT 0001aa LOG 0001log
+tasks =
+units = backed-out backed-out
+";
 
-/// What the task T1 is told, where it handles its conditions.
-fn asks(region: &mut Region, verb: Verb) -> Result<Result<Outcome, Refused>, Fail>
-    requires { IsTrue (is_first_path verb) }
-{
-    Ok(region.issue(Name8::new(b"T1")?, Command { verb, resp: true }))
-}
+const UNLOCKS: &str = "\
+load ACCT 0001aa
+load LOG 0001log
+attach T1 = ok
+attach T2 = ok
+T1 unlock NONE = DSIDERR
+T1 unlock ACCT = NORMAL
+T1 read ACCT 0001 update = NORMAL 0001aa
+T1 unlock ACCT = NORMAL
+T1 rewrite ACCT 0001bb = INVREQ
+T2 read ACCT 0001 update = WAITING T1
+T1 syncpoint = NORMAL
+wake = T2 NORMAL 0001aa
+T1 read LOG 0001 update = NORMAL 0001log
+T2 read LOG 0001 update = WAITING T1
+T1 unlock LOG = NORMAL
+wake = T2 NORMAL 0001log
+units = committed open open
+";
 
-fn told(condition: Condition) -> Result<Outcome, Refused> {
-    Ok(Outcome::Replied(Reply {
-        condition,
-        key: None,
-        content: None,
-        number: None,
-    }))
-}
+const BROWSES: &str = "\
+load ACCT 0001aa
+load ACCT 0002bb
+load ACCT 0003cc
+attach T1 = ok
+attach T2 = ok
+T1 readnext ACCT = INVREQ
+T1 readprev ACCT = INVREQ
+T1 resetbr ACCT 0001 = INVREQ
+T1 endbr ACCT = INVREQ
+T1 startbr ACCT 0001 = NORMAL
+T1 startbr ACCT 0001 = INVREQ
+T2 readnext ACCT = INVREQ
+T1 readnext ACCT = NORMAL 0001 0001aa
+T2 delete ACCT 0002 = NORMAL
+T1 readnext ACCT = NORMAL 0003 0003cc
+T2 write ACCT 0002 0002bb = NORMAL
+T1 readprev ACCT = NORMAL 0003 0003cc
+T1 readprev ACCT length=4 = LENGERR 0002 0002
+T1 readprev ACCT = NORMAL 0001 0001aa
+T1 readprev ACCT = ENDFILE
+T1 resetbr ACCT 0004 = NOTFND
+T1 readnext ACCT = NORMAL 0001 0001aa
+T1 resetbr ACCT high = NORMAL
+T1 readprev ACCT = NORMAL 0003 0003cc
+T1 readnext ACCT = NORMAL 0003 0003cc
+T1 readnext ACCT = ENDFILE
+T1 resetbr ACCT 00 generic = NORMAL
+T1 readprev ACCT = INVREQ
+T1 readnext ACCT = NORMAL 0001 0001aa
+T1 resetbr ACCT 0002 equal = NORMAL
+T1 readprev ACCT = NORMAL 0002 0002bb
+T1 resetbr ACCT 0000 equal = NOTFND
+T1 syncpoint = NORMAL
+T1 readnext ACCT = INVREQ
+T1 startbr ACCT 0009 = NOTFND
+T1 readnext ACCT = INVREQ
+T1 startbr ACCT '' generic = NORMAL
+T1 endbr ACCT = NORMAL
+T1 startbr ACCT 0002 = NORMAL
+T1 rollback = NORMAL
+T1 readnext ACCT = INVREQ
+tasks = T1 idle T2 unit
+";
 
-fn given(content: Record) -> Result<Outcome, Refused> {
-    Ok(Outcome::Replied(Reply {
-        condition: Condition::Normal,
-        key: None,
-        content: Some(content),
-        number: None,
-    }))
-}
+const ORDER_OF_CHECKS: &str = "\
+load ACCT 0001aa
+attach T1 = ok
+T1 write NONE 001 00 length=0 = DSIDERR
+T1 write ACCT 001 00 = INVREQ
+T1 write ACCT 0002 000 = LENGERR
+T1 write ACCT 0002 0003x length=6 = LENGERR
+T1 write ACCT 0002 0003x length=3 = LENGERR
+T1 write ACCT 0002 0003x keylength=3 length=3 = INVREQ
+T1 write ACCT 0002 0003x = INVREQ
+units =
+T1 write ACCT 0001 0001zz = DUPREC
+units = open
+T1 write ACCT 0002 0002bbb length=6 = NORMAL
+T1 read ACCT 0002 = NORMAL 0002bb
+T1 read ACCT 00 generic update = INVREQ
+T1 read ACCT 0001 gteq update = INVREQ
+T1 read ACCT 001 update = INVREQ
+T1 read ACCT 0001 update = NORMAL 0001aa
+T1 read ACCT 0002 update = INVREQ
+T1 rewrite ACCT 000 = LENGERR
+T1 rewrite ACCT 0002xx = INVREQ
+T1 rewrite ACCT 0001xxxx length=6 = NORMAL
+T1 rewrite ACCT 000 = LENGERR
+T1 rewrite ACCT 0001yy = INVREQ
+T1 delete ACCT - = INVREQ
+T1 read ACCT 0002 update = NORMAL 0002bb
+T1 delete ACCT - keylength=4 = INVREQ
+T1 delete ACCT 001 = INVREQ
+T1 delete ACCT - = NORMAL
+T1 delete ACCT 0002 = NOTFND
+T1 read ACCT 0002 gteq = NOTFND
+T1 read ACCT 00 generic = NORMAL 0001xx
+T1 read ACCT 00005 generic = INVREQ
+T1 read ACCT 0000 gteq length=5 = LENGERR 0001x
+T1 read ACCT 0001 length=0 = LENGERR ''
+T1 read ACCT 0001 length=6 = NORMAL 0001xx
+T1 startbr ACCT 001 = INVREQ
+T1 startbr NONE 0001 = DSIDERR
+T1 resetbr ACCT 001 = INVREQ
+files = ACCT 0001xx LOG
+";
 
-/// Whether a task was abended for a condition by this code.
-fn is_abend(
-    outcome: Result<Outcome, Refused>,
-    code: &[u8],
-    condition: Condition,
-) -> Result<bool, Fail> {
-    let code = Name4::new(code)?;
-    match &outcome {
-        Ok(Outcome::Abended(given, Some(reply))) => {
-            Ok(given.0 == code && reply.condition == condition)
-        }
-        _ => Ok(false),
-    }
-}
-
-/// Whether the files have these records, ACCT's and LOG's, and a task is listed in this state.
-fn shows(
-    region: &Region,
-    accounts: &[&[u8]],
-    log: &[&[u8]],
-    state: Option<TaskState>,
-) -> Result<bool, Fail> {
-    let listing = region.listing()?;
-    let [first, second] = listing.files.as_slice() else {
-        return Ok(false);
-    };
-    let tasks = listing.tasks.as_slice();
-    let is_state = match (tasks, state) {
-        ([], None) => true,
-        ([task], Some(state)) => task.0 == Name8::new(b"T1")? && task.1 == state,
-        _ => false,
-    };
-    Ok(
-        is_state
-            && first.0 == Name8::new(b"ACCT")?
-            && first.1
-            && !second.1
-            && are(first.2.as_slice(), accounts)
-            && are(second.2.as_slice(), log),
-    )
-}
-
-fn are(records: &[Record], expected: &[&[u8]]) -> bool {
-    records.len() == expected.len() && records.iter().zip(expected).all(|(a, b)| a.bytes() == *b)
-}
+const SCENARIOS: [&str; 10] = [
+    ONE_DELETED_KEY,
+    UPDATE_READS,
+    DEADLOCK,
+    WOKEN_IN_TIME,
+    FREE_RECORDS,
+    ENQUEUES,
+    ABENDS,
+    UNLOCKS,
+    BROWSES,
+    ORDER_OF_CHECKS,
+];
 
 #[test]
-fn a_task_writes_reads_takes_a_syncpoint_and_returns(rt: HostRuntime) -> Result<(), Fail> {
-    let alloc = rt.alloc();
-    let mut region = region(alloc)?;
-    assert!(rt; !region.has_task());
-    region.attach(Name8::new(b"T1")?, Name4::new(b"AAAA")?, 0)?;
-    assert!(rt; region.has_task());
-    let added = write(alloc, b"ACCT", b"0002", b"0002bb")?;
-    assert_eq!(rt; does(&mut region, added)?, told(Condition::Normal));
-    let wanted = read(alloc, b"ACCT", b"0001")?;
-    assert_eq!(rt;
-        does(&mut region, wanted)?,
-        given(record(alloc, b"0001aa")?)
-    );
-    assert!(rt;
-        shows(
-            &region,
-            &[b"0001aa", b"0002bb"],
-            &[],
-            Some(TaskState::HasUnit)
-        )?
-    );
-    assert_eq!(rt;
-        does(&mut region, Verb::Syncpoint)?,
-        told(Condition::Normal)
-    );
-    assert!(rt; shows(&region, &[b"0001aa", b"0002bb"], &[], Some(TaskState::Idle))?);
-    assert_eq!(rt; does(&mut region, Verb::Return)?, Ok(Outcome::Ended));
-    assert!(rt; shows(&region, &[b"0001aa", b"0002bb"], &[], None)?);
-    assert_eq!(rt;
-        does(&mut region, Verb::Syncpoint)?,
-        Err(Refused::TaskEnded)
-    );
-    Ok(())
-}
-
-#[test]
-fn an_abend_takes_back_what_its_unit_wrote(rt: HostRuntime) -> Result<(), Fail> {
-    let alloc = rt.alloc();
-    let mut region = with_task(alloc)?;
-    let logged = write(alloc, b"LOG", b"0001", b"0001log")?;
-    assert_eq!(rt; does(&mut region, logged)?, told(Condition::Normal));
-    let added = write(alloc, b"ACCT", b"0002", b"0002bb")?;
-    assert_eq!(rt; does(&mut region, added)?, told(Condition::Normal));
-    let again = write(alloc, b"ACCT", b"0002", b"0002cc")?;
-    assert!(rt; is_abend(does(&mut region, again)?, b"AEIN", Condition::Duprec)?);
-    assert!(rt; shows(&region, &[b"0001aa"], &[b"0001log"], None)?);
-    Ok(())
-}
-
-#[test]
-fn conditions_come_in_the_order_of_the_checks(rt: HostRuntime) -> Result<(), Fail> {
-    let alloc = rt.alloc();
-    let mut region = with_task(alloc)?;
-    let cases: [(&[u8], &[u8], &[u8], Condition); 5] = [
-        (b"NONE", b"001", b"", Condition::Dsiderr),
-        (b"ACCT", b"001", b"", Condition::Invreq),
-        (b"ACCT", b"0002", b"000", Condition::Lengerr),
-        (b"ACCT", b"0002", b"0003x", Condition::Invreq),
-        (b"ACCT", b"0001", b"0001zz", Condition::Duprec),
-    ];
-    for (file, key, from, condition) in cases {
-        let verb = write(alloc, file, key, from)?;
-        assert_eq!(rt; asks(&mut region, verb)?, told(condition));
+fn each_line_of_each_scenario_is_answered_as_expected(rt: HostRuntime) -> Result<(), Fail> {
+    for scenario in SCENARIOS {
+        assert_eq!(rt; first_wrong(rt.alloc(), scenario)?, "");
     }
-    let absent = read(alloc, b"ACCT", b"0002")?;
-    assert!(rt; is_abend(does(&mut region, absent)?, b"AEIM", Condition::Notfnd)?);
     Ok(())
 }

@@ -1,15 +1,11 @@
-use Rattle.std.proofs.Common.{◌∙◌, sym}
-use Rattle.cics_dispatch.specs.Regions.{region_of}
-use Rattle.cics_dispatch.specs.Steps.{with_new_task}
-use Rattle.cics_dispatch.proofs.KeptTasks.{kept_attached}
-use Rattle.cics_dispatch.proofs.OwnedUnits.{owned_attached}
-use Rattle.cics_dispatch.proofs.RegionSteps.{kept_as, none_found}
+use Rattle.cics_dispatch.specs.Steps.{attached}
+use Rattle.cics_dispatch.specs.Settled.{IsRemembered}
+use Rattle.cics_dispatch.proofs.RegionRemembers.{after_step, remembered_attached}
 use Rattle.cics_dispatch.proofs.regions.Region.attach.Goals as goal
 
-pub invariant_of-self-2 : goal.invariant_of-self-2
-invariant_of-self-2 c =
+pub invariant_of-self : goal.invariant_of-self
+invariant_of-self c =
     let u = c.self.inside in
-    let m = (region_of u.units u.tasks u.waits u.clock).machine in
-    kept_as (region_of u.units c.attach.new.self u.waits u.clock) (with_new_task m c.args.label c.args.dtimout) (λ i. record m { tasks = c.in_ok-attach.ensures.ok i })
-    (kept_attached m c.args.label c.args.dtimout c.self.invariant.tasks (none_found c.find.result (sym c.if-is_some.ensures) c.find.ensures.none))
-    (owned_attached m c.args.label c.args.dtimout c.self.invariant.owned) (record { headline = c.self.invariant.headline.headline })
+    let m = u.dispatcher.machine in
+    after_step (λ m. IsRemembered m u.is_settled u.is_in_time u.blockers.keys) _ u.dispatcher c.attach.new.self (attached m c.args.label c.args.dtimout) c.attach.result c.attach.ensures.step c.self.invariant
+    (remembered_attached m c.args.label c.args.dtimout u.is_settled u.is_in_time u.blockers.keys c.keeps.ensures.kept.tasks c.self.invariant)

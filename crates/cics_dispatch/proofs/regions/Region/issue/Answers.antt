@@ -1,65 +1,21 @@
-use Rattle.std.proofs.Common.{◌≡◌, ◌∙◌, sym, ap, refl, true, false, None, Some, Ok}
-use Rattle.std.specs.Prelude.{slice_get}
-use Rattle.cics_dispatch.specs.Machine.{task_at, is_waiting}
-use Rattle.cics_dispatch.specs.Steps.{answered, checked}
-use Rattle.cics_dispatch.proofs.TaskPlaces.{place_of_task}
-use Rattle.cics_dispatch.proofs.RegionSteps.{one_task}
-use Rattle.cics_dispatch.proofs.RegionPerforming.{issued_waiting, issued_checked, wants_memory, refused_memory}
+use Rattle.std.proofs.Common.{◌≡◌, ◌∙◌, subst, not, Ok}
+use Rattle.std.specs.Prelude.{◌&&◌, ◌||◌}
+use Rattle.cics_dispatch.specs.Steps.{issued}
+use Rattle.cics_dispatch.specs.Settled.{is_blocker, is_keeping, goes_on}
+use Rattle.cics_dispatch.proofs.RegionRemembers.{remembered_issued}
 use Rattle.cics_dispatch.proofs.regions.Region.issue.Goals as goal
 
-pub returns-then-is_waiting-clause-step : goal.returns-then-is_waiting-clause-step
-returns-then-is_waiting-clause-step c =
-    let m = c.args.self.now.machine in
-    let t = c.get.result.now in
-    let label = c.args.label in
-    let is : task_at m.tasks label ≡ Some t = ap (λ r. task_at r.machine.tasks label) (sym c.self.view_is) ∙ sym c.in-Some.ensures.task ∙ c.get.ensures in
-    let waits : is_waiting m.waiting label ≡ true = ap (λ r. is_waiting r.machine.waiting label) (sym c.self.view_is) ∙ sym c.is_waiting.ensures ∙ c.if-is_waiting.true in
-    (issued_waiting m label c.args.command t is (sym c.has_ended.ensures ∙ c.if-has_ended.false) waits, refl)
+pub invariant_of-self-2 : goal.invariant_of-self-2
+invariant_of-self-2 c =
+    let u = c.self.inside in
+    let noted = c.note_blocker-self-inside in
+    let outcome = c.in_ok-outcome.outcome in
+    let stayed : c.stays_settled-stays.result ≡ (u.is_settled && (not (is_blocker u.blockers.keys c.unit_of-unit.result) || (is_keeping u.dispatcher.machine.units.opening c.args.command.verb && goes_on outcome))) =
+    c.stays_settled-stays.ensures ∙ (λ i. u.is_settled && (not (c.is_blocker-blocks.ensures i) || (c.is_keeping-keeps.ensures i && goes_on outcome))) in
+    remembered_issued u.dispatcher.machine c.issue.new.self.machine c.args.label c.args.command outcome u.is_settled c.stays_settled-stays.result noted.result u.is_in_time u.blockers.keys noted.new.blockers.keys
+    c.unit_of-unit.result c.keeps.ensures.kept.tasks c.requires.no_queue c.self.invariant (λ t there. c.unit_of-unit.ensures t there) stayed noted.ensures.settled noted.ensures.more noted.ensures.own
+    c.in_ok-outcome.ensures.step.0 c.in_ok-outcome.ensures.step.1
 
-pub perform-requires-clause-awake : goal.perform-requires-clause-awake
-perform-requires-clause-awake c = λ s here.
-    let m = c.args.self.now.machine in
-    let t = c.get.result.now in
-    let label = c.args.label in
-    let is : task_at m.tasks label ≡ Some t = ap (λ r. task_at r.machine.tasks label) (sym c.self.view_is) ∙ sym c.in-Some.ensures.task ∙ c.get.ensures in
-    let there : slice_get m.tasks c.in-Some.at ≡ Some t = ap (λ r. slice_get r.machine.tasks c.in-Some.at) (sym c.self.view_is) ∙ c.get.ensures in
-    let awake : is_waiting m.waiting label ≡ false = ap (λ r. is_waiting r.machine.waiting label) (sym c.self.view_is) ∙ sym c.is_waiting.ensures ∙ c.if-is_waiting.false in
-    ap (λ x. is_waiting m.waiting x.label) (one_task m.tasks c.in-Some.at here there) ∙ ap (is_waiting m.waiting) (place_of_task m.tasks label t is).2 ∙ awake
-
-pub returns-in_err-perform-in-None-clause-step : goal.returns-in_err-perform-in-None-clause-step
-returns-in_err-perform-in-None-clause-step c =
-    let m = c.args.self.now.machine in
-    let t = c.get.result.now in
-    let label = c.args.label in
-    let is : task_at m.tasks label ≡ Some t = ap (λ r. task_at r.machine.tasks label) (sym c.self.view_is) ∙ sym c.in-Some.ensures.task ∙ c.get.ensures in
-    let there : slice_get m.tasks c.in-Some.at ≡ Some t = ap (λ r. slice_get r.machine.tasks c.in-Some.at) (sym c.self.view_is) ∙ c.get.ensures in
-    let awake : is_waiting m.waiting label ≡ false = ap (λ r. is_waiting r.machine.waiting label) (sym c.self.view_is) ∙ sym c.is_waiting.ensures ∙ c.if-is_waiting.false in
-    refused_memory _ _ _ c.from_residual.result _ c.from_residual.ensures
-    (wants_memory m label c.args.command t is (sym c.has_ended.ensures ∙ c.if-has_ended.false) awake (sym (c.fault.ensures.fault t there) ∙ c.in-None.is) c.in_err-perform-in-None.ensures.growing)
-    c.in_err-perform-in-None.ensures.err
-
-pub returns-in-Some-fault-clause-step : goal.returns-in-Some-fault-clause-step
-returns-in-Some-fault-clause-step c =
-    let m = c.args.self.now.machine in
-    let t = c.get.result.now in
-    let label = c.args.label in
-    let is : task_at m.tasks label ≡ Some t = ap (λ r. task_at r.machine.tasks label) (sym c.self.view_is) ∙ sym c.in-Some.ensures.task ∙ c.get.ensures in
-    let there : slice_get m.tasks c.in-Some.at ≡ Some t = ap (λ r. slice_get r.machine.tasks c.in-Some.at) (sym c.self.view_is) ∙ c.get.ensures in
-    let awake : is_waiting m.waiting label ≡ false = ap (λ r. is_waiting r.machine.waiting label) (sym c.self.view_is) ∙ sym c.is_waiting.ensures ∙ c.if-is_waiting.false in
-    let step = issued_checked m label c.args.command t is (Some c.in-Some-fault.fault) (sym c.has_ended.ensures ∙ c.if-has_ended.false) awake (sym (c.fault.ensures.fault t there) ∙ c.in-Some-fault.is) in (
-      ap (λ s. s.outcome) step ∙ sym (ap Ok (c.answer.ensures.outcome t there ∙ ap (λ r. (answered m t c.args.command.resp r).outcome) c.plain_reply.ensures)),
-      c.answer.ensures.machine t there ∙ ap (λ r. (answered m t c.args.command.resp r).machine) c.plain_reply.ensures ∙ sym (ap (λ s. s.machine) step),
-    )
-
-pub returns-in_ok-perform-in-None-clause-step : goal.returns-in_ok-perform-in-None-clause-step
-returns-in_ok-perform-in-None-clause-step c =
-    let m = c.args.self.now.machine in
-    let t = c.get.result.now in
-    let label = c.args.label in
-    let is : task_at m.tasks label ≡ Some t = ap (λ r. task_at r.machine.tasks label) (sym c.self.view_is) ∙ sym c.in-Some.ensures.task ∙ c.get.ensures in
-    let there : slice_get m.tasks c.in-Some.at ≡ Some t = ap (λ r. slice_get r.machine.tasks c.in-Some.at) (sym c.self.view_is) ∙ c.get.ensures in
-    let awake : is_waiting m.waiting label ≡ false = ap (λ r. is_waiting r.machine.waiting label) (sym c.self.view_is) ∙ sym c.is_waiting.ensures ∙ c.if-is_waiting.false in
-    let step = issued_checked m label c.args.command t is None (sym c.has_ended.ensures ∙ c.if-has_ended.false) awake (sym (c.fault.ensures.fault t there) ∙ c.in-None.is) in (
-      ap (λ s. s.outcome) step ∙ sym (ap Ok (c.in_ok-perform-in-None.ensures.outcome t there)),
-      c.in_ok-perform-in-None.ensures.machine t there ∙ sym (ap (λ s. s.machine) step),
-    )
+pub returns-clause-step : goal.returns-clause-step
+returns-clause-step c =
+    subst (λ v. ((issued v.machine c.args.label c.args.command).outcome ≡ Ok c.in_ok-outcome.outcome) × (c.issue.new.self.machine ≡ (issued v.machine c.args.label c.args.command).machine)) c.self.view_is c.in_ok-outcome.ensures.step

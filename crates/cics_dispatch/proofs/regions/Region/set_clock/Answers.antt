@@ -1,10 +1,12 @@
-use Rattle.cics_dispatch.specs.Regions.{region_of}
-use Rattle.cics_dispatch.proofs.KeptTasks.{kept_clock}
-use Rattle.cics_dispatch.proofs.OwnedUnits.{owned_clock}
+use Rattle.std.proofs.Common.{false}
+use Rattle.cics_dispatch.specs.Waking.{clock_set}
+use Rattle.cics_dispatch.specs.Settled.{IsRemembered}
+use Rattle.cics_dispatch.proofs.RegionRemembers.{after_step, remembered_late, remembered_clock}
 use Rattle.cics_dispatch.proofs.regions.Region.set_clock.Goals as goal
 
 pub invariant_of-self : goal.invariant_of-self
 invariant_of-self c =
     let u = c.self.inside in
-    let m = (region_of u.units u.tasks u.waits u.clock).machine in
-    record { tasks = kept_clock m c.args.now c.self.invariant.tasks; owned = owned_clock m c.args.now c.self.invariant.owned; headline = record { headline = c.self.invariant.headline.headline } }
+    let m = u.dispatcher.machine in
+    after_step (λ m. IsRemembered m u.is_settled false u.blockers.keys) _ u.dispatcher c.set_clock.new.self (clock_set m c.args.now) c.set_clock.result c.set_clock.ensures.step
+    (remembered_late m u.is_settled u.is_in_time u.blockers.keys c.self.invariant) (remembered_clock m c.args.now u.is_settled u.is_in_time u.blockers.keys c.self.invariant)

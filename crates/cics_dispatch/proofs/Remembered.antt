@@ -1,0 +1,319 @@
+-- Task control: what is remembered of the last looks at the waiting commands stays true over a step.
+use Rattle.std.specs.Prelude.{◌≡◌, ◌≢◌, ℕ, ◌==◌, ◌-◌, ◌<◌, ◌≤◌, Bool, true, false, not, cond, if◌then◌else◌, ◌&&◌, nat_lt, nat_le, Option, Some, None, is_some, Result, Ok, Err, List, [], ◌∷◌, ◌++◌, All, slice_get, refl}
+use Rattle.std.specs.List.{list_any}
+use Rattle.std.proofs.Common.{◌⊎◌, inl, inr, sym, ap, ◌∙◌, subst, arith}
+use Rattle.std.proofs.lemmas.Bool.{false≢true, true≢false, and_parts, ltb-true, leb-true, false_from_ne_true, eqb-true, eq-eqb}
+use Rattle.std.proofs.lemmas.List.Elements.{All-nil, All-cons, All-head, All-tail, All-filter, All-append}
+use Rattle.cics_names.specs.Keyed.{Bytes, is_same}
+use Rattle.cics_names.specs.KeyedLaws.{is_same-self}
+use Rattle.cics_enqueue.specs.Resources.{overlaps}
+use Rattle.cics_enqueue.specs.declared.resources.Resource.{Resource}
+use Rattle.cics_units.specs.Events.{is_live}
+use Rattle.cics_units.specs.Holding.{held_by}
+use Rattle.cics_units.proofs.Waiting.{any_more}
+use Rattle.cics_units.specs.Execution.{has_read}
+use Rattle.cics_dispatch.specs.Machine.{Machine, Task, Suspended, RegionValue, task_at, is_waiting}
+use Rattle.cics_dispatch.specs.Checks.{open_key, fault_of}
+use Rattle.cics_dispatch.specs.Faults.{file_named, open_key_named}
+use Rattle.cics_dispatch.specs.Updates.{verb_op}
+use Rattle.cics_dispatch.specs.Steps.{Stepped, with_new_task, attach_refusal, attached, new_task, op_of, checked, issue_refusal, refused_or, issued_by, issued}
+use Rattle.cics_dispatch.specs.Verbs.{asks_no_queue}
+use Rattle.cics_dispatch.specs.Waits.{wait_of}
+use Rattle.cics_dispatch.specs.Waking.{is_late}
+use Rattle.cics_dispatch.specs.Answers.{IsStep}
+use Rattle.cics_dispatch.specs.KeptTasks.{HasPassed, AreTasksKept}
+use Rattle.cics_dispatch.specs.Tasks.{own_unit}
+use Rattle.cics_dispatch.specs.Settled.{is_among, AreAmong, needs_of, holds_one, is_keeping, goes_on, IsBlocked, IsInTime}
+use Rattle.cics_dispatch.specs.declared.commands.Command.{Command}
+use Rattle.cics_dispatch.specs.declared.commands.Verb.{Verb}
+use Rattle.cics_dispatch.specs.declared.outcomes.Outcome.{Outcome}
+use Rattle.cics_dispatch.specs.declared.outcomes.Refused.{Refused}
+use Rattle.cics_dispatch.specs.declared.outcomes.Refused.TheVariants.{NoTask, TaskEnded, TaskWaiting, DuplicateLabel, NoMemory, ClockBack}
+use Rattle.cics_dispatch.proofs.Asked.{op_of-verb_op}
+use Rattle.cics_dispatch.proofs.TaskPlaces.{same_place, place_of_task, task_at-push}
+use Rattle.cics_dispatch.proofs.Blocked.{all_more}
+use Rattle.cics_dispatch.proofs.KeepsOwn.{Keeps}
+use Rattle.cics_dispatch.proofs.KeptHeld.{checked_keeps}
+use Rattle.cics_dispatch.proofs.ActsAlone.{LeavesTasks, Waits, checked_alone}
+
+-- ---- A call that is refused
+
+-- it leaves the region
+pub refused_leaves : {X : Type 0} (wants : Bool) (old new : RegionValue) (s : Stepped (Result X Refused)) (e : Refused) → IsStep wants old s (Err e) new → new ≡ old
+refused_leaves wants old new s NoMemory step = step.1
+refused_leaves wants old new s NoTask step = step.1
+refused_leaves wants old new s TaskEnded step = step.1
+refused_leaves wants old new s TaskWaiting step = step.1
+refused_leaves wants old new s DuplicateLabel step = step.1
+refused_leaves wants old new s ClockBack step = step.1
+
+-- ---- A waiting command of another task
+
+-- the updating command that a verb asks for is told by its task's open update reads
+op_kept : (m n : Machine) (t : Task) (verb : Verb) → ((f : Bytes) → open_key n t f ≡ open_key m t f) → op_of n t verb ≡ op_of m t verb
+op_kept m n t verb keys = op_of-verb_op n t verb ∙ ap (λ k. verb_op k verb) (named (file_named verb)) ∙ sym (op_of-verb_op m t verb)
+  where
+    named : (o : Option Bytes) → open_key_named n t o ≡ open_key_named m t o
+    named None = refl
+    named (Some f) = keys f
+
+-- a task acts whose unit is none of the blockers, or holds what it held
+module _ (m n : Machine) (t : Task) (bs : List ℕ) (kept : AreTasksKept m) (is_task : task_at m.tasks t.label ≡ Some t) (others : LeavesTasks t.label t.unit m n)
+    (free : (v : ℕ) → t.unit ≡ Some v → (is_among bs v ≡ false) ⊎ Keeps m.units n.units v) (w : Suspended) (other : t.label ≢ w.label) (is : IsBlocked m bs w) where
+  -- the unit of the waiting command's task isn't the unit of the one that acts
+  not_own : (u : ℕ) → is.task.unit ≡ Some u → t.unit ≡ Some u → ⊥
+  not_own u own_w own_t =
+      let i = place_of_task m.tasks w.label is.task is.of_task in
+      let j = place_of_task m.tasks t.label t is_task in
+      let place : i.0 ≡ j.0 = same_place own_unit m.tasks i.0 j.0 is.task t u kept.owners i.1 j.1 own_w own_t in
+      let both : Some is.task ≡ Some t = sym i.1 ∙ ap (slice_get m.tasks) place ∙ j.1 in
+      let same : is.task ≡ t = cc in
+      other (ap (λ x. x.label) (sym same) ∙ i.2)
+
+  same_key : (f : Bytes) (o : Option ℕ) → is.task.unit ≡ o → has_read n.units o f ≡ has_read m.units o f
+  same_key f None own = refl
+  same_key f (Some u) own =
+      let i = place_of_task m.tasks w.label is.task is.of_task in
+      others.units.reads u f (not_own u own) (kept.open_units i.0 is.task u i.1 own)
+
+  same_op : op_of n is.task w.command.verb ≡ op_of m is.task w.command.verb
+  same_op = op_kept m n is.task w.command.verb (λ f. same_key f is.task.unit refl)
+
+  -- the blocker is open, and holds what it held that is needed
+  holder_yet : ((p : Resource → Bool) → list_any p (held_by m.units is.holder) ≡ true → list_any p (held_by n.units is.holder) ≡ true) → is_live n.units is.holder ≡ true → IsBlocked n bs w
+  holder_yet holds live = record {
+    task = is.task;
+    of_task = others.tasks w.label other ∙ is.of_task;
+    holder = is.holder;
+    among = is.among;
+    is_open = live;
+    other = is.other;
+    holds =
+        (λ i. holds_one n.units is.holder (needs_of (others.units.opening i) w.command.verb (same_op i)))
+        ∙ any_more (λ r. list_any (overlaps r) (held_by m.units is.holder)) (λ r. list_any (overlaps r) (held_by n.units is.holder)) (λ r. holds (overlaps r))
+        (needs_of m.units.opening w.command.verb (op_of m is.task w.command.verb)) is.holds;
+  }
+
+  -- another unit than the one that acts
+  apart : (t.unit ≡ Some is.holder → ⊥) → IsBlocked n bs w
+  apart elsewhere =
+      holder_yet (λ p. subst (λ rs. list_any p rs ≡ true) (sym (others.held.held is.holder elsewhere is.is_open))) (others.units.live is.holder elsewhere is.is_open)
+
+  -- the one that acts
+  own : t.unit ≡ Some is.holder → IsBlocked n bs w
+  own acts = elim (free is.holder acts) [
+    | inl none ↦ absurd (true≢false (sym is.among ∙ none))
+    | inr keeps ↦ holder_yet keeps.held (keeps.live is.is_open)
+  ]
+
+  pub blocked_yet : IsBlocked n bs w
+  blocked_yet = by t.unit refl
+    where
+      by : (o : Option ℕ) → t.unit ≡ o → IsBlocked n bs w
+      by None none = apart (λ acts. let both : None ≡ Some is.holder = sym none ∙ acts in cc)
+      by (Some u) acts = elim (u == is.holder) as (λ b. (u == is.holder) ≡ b → IsBlocked n bs w) [
+        | true ↦ λ same. own (acts ∙ ap Some (eqb-true u is.holder same))
+        | false ↦ λ differs. apart (λ is_own. let both : Some u ≡ Some is.holder = sym acts ∙ is_own in let same : u ≡ is.holder = cc in false≢true (sym differs ∙ eq-eqb u is.holder same))
+      ] refl
+
+-- ---- The waits after a step of a task
+
+-- the waits of the other tasks
+others_all : (label : Bytes) (P Q : Suspended → Type 0) → ((w : Suspended) → label ≢ w.label → P w → Q w) → (ws : List Suspended) → is_waiting ws label ≡ false → All P ws → All Q ws
+others_all label P Q follows [] none all = All-nil Q
+others_all label P Q follows (w ∷ ws) none all =
+    elim (is_same w.label label) as (λ b. is_same w.label label ≡ b → cond b true (is_waiting ws label) ≡ false → All Q (w ∷ ws)) [
+      | true ↦ λ same wrong. absurd (false≢true (sym wrong))
+      | false ↦ λ differs rest.
+          All-cons Q w ws (follows w (λ e. false≢true (sym differs ∙ ap (is_same w.label) e ∙ is_same-self w.label)) (All-head P w ws all))
+          (others_all label P Q follows ws rest (All-tail P w ws all))
+    ] refl none
+
+-- a wait of a task that begins now
+abbrev begins_now : Bytes → Machine → Command → Suspended
+begins_now label m c = record { label = label; command = c; since = m.clock }
+
+waits_all : (label : Bytes) (m n : Machine) (Q : Suspended → Type 0) → Waits label m n → All Q m.waiting →
+    ((c : Command) → n.waiting ≡ m.waiting ++ begins_now label m c ∷ [] → Q (begins_now label m c)) → All Q n.waiting
+waits_all label m n Q waits all begins = elim waits [
+  | inl same ↦ subst (All Q) (sym same) all
+  | inr changed ↦ elim changed [
+    | inl more ↦
+        subst (All Q) (sym more.1)
+        (All-append Q m.waiting (begins_now label m more.0 ∷ []) all (All-cons Q (begins_now label m more.0) [] (begins more.0 more.1) (All-nil Q)))
+    | inr less ↦ subst (All Q) (sym less) (All-filter (λ w. not (is_same w.label label)) Q m.waiting all)
+  ]
+]
+
+-- the wait of a task that is the last, where no command of the task waited
+wait_of-last : (ws : List Suspended) (label : Bytes) (w : Suspended) → is_waiting ws label ≡ false → w.label ≡ label → wait_of (ws ++ w ∷ []) label ≡ Some w
+wait_of-last [] label w none own = ap (λ b. cond b (Some w) None) (ap (is_same w.label) (sym own) ∙ is_same-self w.label)
+wait_of-last (v ∷ vs) label w none own =
+    elim (is_same v.label label) as (λ b. cond b true (is_waiting vs label) ≡ false → cond b (Some v) (wait_of (vs ++ w ∷ []) label) ≡ Some w) [
+      | true ↦ λ wrong. absurd (false≢true (sym wrong))
+      | false ↦ λ rest. wait_of-last vs label w rest own
+    ] none
+
+-- ---- Commands
+
+-- a command that isn't refused is one of a task of which no command waits
+not_refused : (has_ended waits : Bool) → (if has_ended then Some TaskEnded else if waits then Some TaskWaiting else None) ≡ None → waits ≡ false
+not_refused true waits is = cc
+not_refused false true is = cc
+not_refused false false is = refl
+
+-- after a command each waiting command is blocked yet, where the task's unit is none of the blockers, and the task's own
+-- command is blocked if it waits now
+module _ (m : Machine) (c : Command) (bs cs : List ℕ) (kept : AreTasksKept m) (asks : asks_no_queue c.verb ≡ true) (more : AreAmong bs cs) (all : All (IsBlocked m bs) m.waiting) where
+  checked_blocked : (t : Task) → task_at m.tasks t.label ≡ Some t →
+      ((v : ℕ) → t.unit ≡ Some v → (is_among bs v ≡ false) ⊎ Keeps m.units (checked m t c (fault_of m t c.verb)).machine.units v) → is_waiting m.waiting t.label ≡ false →
+      ((w : Suspended) → wait_of (checked m t c (fault_of m t c.verb)).machine.waiting t.label ≡ Some w → IsBlocked (checked m t c (fault_of m t c.verb)).machine cs w) →
+      All (IsBlocked (checked m t c (fault_of m t c.verb)).machine cs) (checked m t c (fault_of m t c.verb)).machine.waiting
+  checked_blocked t is free awake own =
+      let n = (checked m t c (fault_of m t c.verb)).machine in
+      let alone = checked_alone m t c asks in
+      waits_all t.label m n (IsBlocked n cs) alone.waits
+      (all_more n bs cs m.waiting more
+      (others_all t.label (IsBlocked m bs) (IsBlocked n bs) (λ w other blocked. blocked_yet m n t bs kept is alone.others free w other blocked) m.waiting awake all))
+      (λ d begins. own (begins_now t.label m d) (ap (λ ws. wait_of ws t.label) begins ∙ wait_of-last m.waiting t.label (begins_now t.label m d) awake refl))
+
+  pub issued_blocked : (label : Bytes) (outcome : Outcome) → (issued m label c).outcome ≡ Ok outcome →
+      ((t : Task) (v : ℕ) → task_at m.tasks label ≡ Some t → t.unit ≡ Some v → (is_among bs v ≡ false) ⊎ ((is_keeping m.units.opening c.verb ≡ true) × (goes_on outcome ≡ true))) →
+      ((w : Suspended) → wait_of (issued m label c).machine.waiting label ≡ Some w → IsBlocked (issued m label c).machine cs w) →
+      All (IsBlocked (issued m label c).machine cs) (issued m label c).machine.waiting
+  issued_blocked label outcome told free own = by (task_at m.tasks label) refl told own
+    where
+      stays : All (IsBlocked m cs) m.waiting
+      stays = all_more m bs cs m.waiting more all
+
+      by_refusal : (t : Task) (label : Bytes) → t.label ≡ label → task_at m.tasks label ≡ Some t →
+          ((v : ℕ) → t.unit ≡ Some v → (is_among bs v ≡ false) ⊎ ((is_keeping m.units.opening c.verb ≡ true) × (goes_on outcome ≡ true))) →
+          (refusal : Option Refused) → issue_refusal m (Some t) ≡ refusal → (refused_or m refusal (checked m t c (fault_of m t c.verb))).outcome ≡ Ok outcome →
+          ((w : Suspended) → wait_of (refused_or m refusal (checked m t c (fault_of m t c.verb))).machine.waiting label ≡ Some w → IsBlocked (refused_or m refusal (checked m t c (fault_of m t c.verb))).machine cs w) →
+          All (IsBlocked (refused_or m refusal (checked m t c (fault_of m t c.verb))).machine cs) (refused_or m refusal (checked m t c (fault_of m t c.verb))).machine.waiting
+      by_refusal t label same is free (Some refusal) refused told own = stays
+      by_refusal t label same is free None refused told own =
+          let one : (checked m t c (fault_of m t c.verb)).outcome ≡ outcome = cc in
+          checked_blocked t (ap (task_at m.tasks) same ∙ is)
+          (λ v own_v. elim (free v own_v) [
+            | inl none ↦ inl none
+            | inr keeps ↦ inr (checked_keeps m t v c keeps.0 (ap goes_on one ∙ keeps.1))
+          ])
+          (not_refused t.has_ended (is_waiting m.waiting t.label) refused)
+          (λ w there. own w (ap (wait_of (checked m t c (fault_of m t c.verb)).machine.waiting) (sym same) ∙ there))
+
+      by : (o : Option Task) → task_at m.tasks label ≡ o → (issued_by m c o).outcome ≡ Ok outcome →
+          ((w : Suspended) → wait_of (issued_by m c o).machine.waiting label ≡ Some w → IsBlocked (issued_by m c o).machine cs w) →
+          All (IsBlocked (issued_by m c o).machine cs) (issued_by m c o).machine.waiting
+      by None is told own = stays
+      by (Some t) is told own = by_refusal t label (place_of_task m.tasks label t is).2 is (λ v of_t. free t v is of_t) (issue_refusal m (Some t)) refl told own
+
+-- ---- The time
+
+-- a limit that has just begun isn't over
+just_begun : (d k : ℕ) → k ≡ 0 → (nat_lt 0 d && nat_le d k) ≡ false
+just_begun d k none =
+    false_from_ne_true (nat_lt 0 d && nat_le d k)
+    (λ both.
+    let parts = and_parts (nat_lt 0 d) (nat_le d k) both in
+    let above : 0 < d = ltb-true 0 d parts.0 in
+    let within : d ≤ k = leb-true d k parts.1 in
+    omega (arith, none))
+
+begun_late : (n : Machine) (w : Suspended) (o : Option Task) → n.clock ≡ w.since → is_late n w o ≡ false
+begun_late n w None same = refl
+begun_late n w (Some t) same = just_begun t.dtimout (n.clock - w.since) (omega (arith, same))
+
+same_clock : (m n : Machine) (w : Suspended) (o : Option Task) → n.clock ≡ m.clock → is_late n w o ≡ is_late m w o
+same_clock m n w None same = refl
+same_clock m n w (Some t) same = ap (λ k. nat_lt 0 t.dtimout && nat_le t.dtimout (k - w.since)) same
+
+module _ (m : Machine) (c : Command) (asks : asks_no_queue c.verb ≡ true) (all : All (IsInTime m) m.waiting) where
+  checked_in_time : (t : Task) → is_waiting m.waiting t.label ≡ false → All (IsInTime (checked m t c (fault_of m t c.verb)).machine) (checked m t c (fault_of m t c.verb)).machine.waiting
+  checked_in_time t awake =
+      let n = (checked m t c (fault_of m t c.verb)).machine in
+      let alone = checked_alone m t c asks in
+      waits_all t.label m n (IsInTime n) alone.waits
+      (others_all t.label (IsInTime m) (IsInTime n)
+      (λ w other early. ap (is_late n w) (alone.others.tasks w.label other) ∙ same_clock m n w (task_at m.tasks w.label) alone.others.clock ∙ early) m.waiting awake all)
+      (λ d begins. begun_late n (begins_now t.label m d) (task_at n.tasks t.label) alone.others.clock)
+
+  -- after a command no task has waited too long yet
+  pub issued_in_time : (label : Bytes) → All (IsInTime (issued m label c).machine) (issued m label c).machine.waiting
+  issued_in_time label = by (task_at m.tasks label)
+    where
+      by_refusal : (t : Task) (refusal : Option Refused) → issue_refusal m (Some t) ≡ refusal →
+          All (IsInTime (refused_or m refusal (checked m t c (fault_of m t c.verb))).machine) (refused_or m refusal (checked m t c (fault_of m t c.verb))).machine.waiting
+      by_refusal t (Some refusal) refused = all
+      by_refusal t None refused = checked_in_time t (not_refused t.has_ended (is_waiting m.waiting t.label) refused)
+
+      by : (o : Option Task) → All (IsInTime (issued_by m c o).machine) (issued_by m c o).machine.waiting
+      by None = all
+      by (Some t) = by_refusal t (issue_refusal m (Some t)) refl
+
+-- ---- Tasks that are attached, and the clock
+
+-- a waiting command's task is there yet after a task more
+there_yet : (ts : List Task) (new : Task) (label : Bytes) → is_some (task_at ts label) ≡ true → task_at (ts ++ new ∷ []) label ≡ task_at ts label
+there_yet ts new label there = by (task_at ts label) refl there
+  where
+    by : (o : Option Task) → task_at ts label ≡ o → is_some o ≡ true → task_at (ts ++ new ∷ []) label ≡ o
+    by None is some = absurd (false≢true some)
+    by (Some t) is some = task_at-push ts new label t is
+
+-- what holds of each holds of each, by another fact of each
+both_all : (P R Q : Suspended → Type 0) → ((w : Suspended) → P w → R w → Q w) → (ws : List Suspended) → All P ws → All R ws → All Q ws
+both_all P R Q follows [] ps rs = All-nil Q
+both_all P R Q follows (w ∷ ws) ps rs =
+    All-cons Q w ws (follows w (All-head P w ws ps) (All-head R w ws rs)) (both_all P R Q follows ws (All-tail P w ws ps) (All-tail R w ws rs))
+
+pub attached_blocked : (m : Machine) (label : Bytes) (dtimout : ℕ) (bs : List ℕ) → All (IsBlocked m bs) m.waiting → All (IsBlocked (attached m label dtimout).machine bs) (attached m label dtimout).machine.waiting
+attached_blocked m label dtimout bs all = by (attach_refusal m label)
+  where
+    one : (w : Suspended) → IsBlocked m bs w → IsBlocked m bs w → IsBlocked (with_new_task m label dtimout) bs w
+    one w is same = record {
+      task = is.task;
+      of_task = task_at-push m.tasks (new_task label dtimout) w.label is.task is.of_task;
+      holder = is.holder;
+      among = is.among;
+      is_open = is.is_open;
+      other = is.other;
+      holds =
+          ap (λ o. holds_one m.units is.holder (needs_of m.units.opening w.command.verb o)) (op_kept m (with_new_task m label dtimout) is.task w.command.verb (λ f. refl))
+          ∙ is.holds;
+    }
+
+    by : (refusal : Option Refused) →
+        All (IsBlocked (refused_or m refusal (record { outcome = tt {0}; machine = with_new_task m label dtimout })).machine bs) (refused_or m refusal (record { outcome = tt {0}; machine = with_new_task m label dtimout })).machine.waiting
+    by None = both_all (IsBlocked m bs) (IsBlocked m bs) (IsBlocked (with_new_task m label dtimout) bs) one m.waiting all all
+    by (Some refusal) = all
+
+pub attached_in_time : (m : Machine) (label : Bytes) (dtimout : ℕ) → AreTasksKept m → All (IsInTime m) m.waiting → All (IsInTime (attached m label dtimout).machine) (attached m label dtimout).machine.waiting
+attached_in_time m label dtimout kept all = by (attach_refusal m label)
+  where
+    one : (w : Suspended) → HasPassed m w → IsInTime m w → IsInTime (with_new_task m label dtimout) w
+    one w has early =
+        ap (is_late (with_new_task m label dtimout) w) (there_yet m.tasks (new_task label dtimout) w.label has.of_task)
+        ∙ same_clock m (with_new_task m label dtimout) w (task_at m.tasks w.label) refl ∙ early
+
+    by : (refusal : Option Refused) →
+        All (IsInTime (refused_or m refusal (record { outcome = tt {0}; machine = with_new_task m label dtimout })).machine) (refused_or m refusal (record { outcome = tt {0}; machine = with_new_task m label dtimout })).machine.waiting
+    by None = both_all (HasPassed m) (IsInTime m) (IsInTime (with_new_task m label dtimout)) one m.waiting kept.passed all
+    by (Some refusal) = all
+
+-- the clock makes no difference to what is blocked
+pub clock_blocked : (m : Machine) (clock : ℕ) (bs : List ℕ) → All (IsBlocked m bs) m.waiting → All (IsBlocked (record m { clock = clock }) bs) m.waiting
+clock_blocked m clock bs all = both_all (IsBlocked m bs) (IsBlocked m bs) (IsBlocked (record m { clock = clock }) bs) one m.waiting all all
+  where
+    one : (w : Suspended) → IsBlocked m bs w → IsBlocked m bs w → IsBlocked (record m { clock = clock }) bs w
+    one w is same = record {
+      task = is.task;
+      of_task = is.of_task;
+      holder = is.holder;
+      among = is.among;
+      is_open = is.is_open;
+      other = is.other;
+      holds =
+          ap (λ o. holds_one m.units is.holder (needs_of m.units.opening w.command.verb o)) (op_kept m (record m { clock = clock }) is.task w.command.verb (λ f. refl))
+          ∙ is.holds;
+    }

@@ -1,0 +1,23 @@
+use Rattle.std.proofs.Common.{◌≡◌, ◌∙◌, sym, ap, subst, ◌<◌, length}
+use Rattle.std.specs.Prelude.{slice_get}
+use Rattle.cics_units.specs.Execution.{IsOpenOrNone}
+use Rattle.cics_units.specs.declared.ops.UnitState.TheVariants.{BackedOut}
+use Rattle.cics_dispatch.specs.Machine.{not_waiting, units_after}
+use Rattle.cics_dispatch.specs.Regions.{region_of}
+use Rattle.cics_dispatch.proofs.KeptTasks.{acting_or_none}
+use Rattle.cics_dispatch.proofs.RegionSteps.{place, abended_kept}
+use Rattle.cics_dispatch.proofs.dispatcher.Dispatcher.abend.Goals as goal
+
+pub end_unit-requires-clause-is_open : goal.end_unit-requires-clause-is_open
+end_unit-requires-clause-is_open c =
+    let u = c.self.inside in
+    let m = (region_of u.units u.tasks u.waits u.clock).machine in
+    subst (IsOpenOrNone u.units.state) (sym (c.close_unit-unit.ensures.unit c.get.result.now c.get.ensures)) (acting_or_none m c.args.at c.get.result.now c.self.invariant.tasks c.get.ensures)
+
+pub invariant_of-self : goal.invariant_of-self
+invariant_of-self c =
+    let u = c.self.inside in
+    let t = c.get.result.now in
+    abended_kept u.units u.tasks u.waits u.clock c.self.invariant c.end_unit.new.units c.close_unit-unit.new.self c.remove.new.self c.args.at t c.get.ensures
+    (c.end_unit.ensures.state ∙ ap (λ o. units_after u.units.state o BackedOut) (c.close_unit-unit.ensures.unit t c.get.ensures))
+    (c.close_unit-unit.ensures.task t c.get.ensures) (c.remove.ensures.others ∙ ap (not_waiting u.waits) c.label-label.ensures) c.end_unit.ensures.headline

@@ -1,0 +1,17 @@
+use Rattle.std.proofs.Common.{◌∙◌, sym, ap, [], ◌∷◌, ◌++◌}
+use Rattle.std.specs.Prelude.{slice_get}
+use Rattle.cics_dispatch.proofs.RegionListing.{rows_ended, rows_more}
+use Rattle.cics_dispatch.proofs.dispatcher.Dispatcher.tasks_listed.Goals.{then-not-has_ended+in_ok-push, else-not-has_ended}
+use Rattle.cics_dispatch.proofs.dispatcher.Dispatcher.tasks_listed.Goals as goal
+
+pub loop-at-preserved : goal.loop-at-preserved
+loop-at-preserved c =
+    let m = c.args.self.now.machine in
+    let t = c.get-task.result.now in
+    let there = ap (λ v. slice_get v.machine.tasks c.loop-at.at) (sym c.self.view_is) ∙ c.get-task.ensures in
+    elim c.if-not-has_ended.branch [
+      | then-not-has_ended+in_ok-push w ↦
+          w.tasks-is ∙ w.in_ok-push.ensures.ok ∙ (λ i. c.loop-at.invariant i ++ (w.label.ensures i, w.task_state.ensures i) ∷ [])
+          ∙ sym (rows_more m m.tasks c.loop-at.at t there (sym c.has_ended.ensures ∙ w.if-not-has_ended.true))
+      | else-not-has_ended w ↦ w.tasks-is ∙ c.loop-at.invariant ∙ sym (rows_ended m m.tasks c.loop-at.at t there (sym c.has_ended.ensures ∙ w.if-not-has_ended.false))
+    ]

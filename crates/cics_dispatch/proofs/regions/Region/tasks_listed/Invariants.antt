@@ -1,7 +1,0 @@
-use Rattle.std.proofs.Common.{◌≡◌, take}
-use Rattle.cics_dispatch.proofs.RegionListing.{rows_of}
-use Rattle.cics_dispatch.proofs.regions.Region.tasks_listed.Given as goal
-
--- the tasks that were passed stand in the listing
-abbrev pub invariant-loop-at : goal.invariant-loop-at
-invariant-loop-at l = l.tasks ≡ rows_of l.self.machine (take l.at l.self.machine.tasks)

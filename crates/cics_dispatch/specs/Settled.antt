@@ -1,0 +1,84 @@
+-- Waiting commands that were looked at: each still has the unit that it waits for, and no task has waited too long.
+use Rattle.std.specs.Prelude.{◌≡◌, ℕ, ◌==◌, Bool, true, false, Option, Some, None, List, [], ◌∷◌, All, take}
+use Rattle.std.specs.List.{list_any}
+use Rattle.cics_enqueue.specs.Resources.{bytes_of, overlaps, is_other}
+use Rattle.cics_enqueue.specs.declared.resources.Resource.{Resource}
+use Rattle.cics_enqueue.specs.declared.resources.Resource.TheVariants.{User}
+use Rattle.cics_units.specs.Openings.{OpeningState, file_recoverable}
+use Rattle.cics_units.specs.Holding.{UnitsState, uses_of, held_by}
+use Rattle.cics_units.specs.Events.{is_live}
+use Rattle.cics_units.specs.declared.ops.Op.{Op}
+use Rattle.cics_dispatch.specs.Machine.{Machine, Task, Suspended, task_at}
+use Rattle.cics_dispatch.specs.Steps.{op_of}
+use Rattle.cics_dispatch.specs.Waking.{is_late}
+use Rattle.cics_dispatch.specs.declared.commands.Verb.{Verb}
+use Rattle.cics_dispatch.specs.declared.commands.Verb.TheVariants.{Read, Write, Rewrite, Delete, Unlock, StartBr, ResetBr, ReadNext, ReadPrev, EndBr, Enq}
+use Rattle.cics_dispatch.specs.declared.outcomes.Outcome.{Outcome}
+use Rattle.cics_dispatch.specs.declared.outcomes.Outcome.TheVariants.{Replied, Waiting, Abended, Ended}
+
+-- a unit is one of these
+abbrev pub is_among : List ℕ → ℕ → Bool
+is_among units u = list_any (λ v. u == v) units
+
+-- a unit, if there is one, is one of these
+abbrev pub is_blocker : List ℕ → Option ℕ → Bool
+is_blocker units None = false
+is_blocker units (Some u) = is_among units u
+
+-- each of these units is one of those
+pub record AreAmong (these those : List ℕ) : Type 0 where
+  pub among : (u : ℕ) → is_among these u ≡ true → is_among those u ≡ true
+
+-- what a command needs that another unit may hold: an updating command what it uses, and ENQ its value
+abbrev pub needs_of : OpeningState → Verb → Option Op → List Resource
+needs_of o verb (Some op) = uses_of o op
+needs_of o (Enq value n nosuspend) None = User (bytes_of (take n value)) ∷ []
+needs_of o _ None = []
+
+-- a unit holds what keeps others from one of these
+abbrev pub holds_one : UnitsState → ℕ → List Resource → Bool
+holds_one s u needs = list_any (λ r. list_any (overlaps r) (held_by s u)) needs
+
+-- a waiting command still has the unit that it waits for: one of the blockers, open and another than its task's, holds
+-- what it needs
+pub record IsBlocked (m : Machine) (blockers : List ℕ) (w : Suspended) : Type 0 where
+  pub task : Task
+  pub of_task : task_at m.tasks w.label ≡ Some task
+  pub holder : ℕ
+  pub among : is_among blockers holder ≡ true
+  pub is_open : is_live m.units holder ≡ true
+  pub other : is_other task.unit holder ≡ true
+  pub holds : holds_one m.units holder (needs_of m.units.opening w.command.verb (op_of m task w.command.verb)) ≡ true
+
+-- a command ends no unit of work and no enqueue, and an update read only of a recoverable file, where the read itself holds
+-- nothing: so its unit holds what it held, unless the task is abended
+abbrev pub is_keeping : OpeningState → Verb → Bool
+is_keeping o (Read f key given n generic gteq update) = true
+is_keeping o (Write f key given from n) = true
+is_keeping o (Rewrite f from n) = file_recoverable o f
+is_keeping o (Delete f key given) = file_recoverable o f
+is_keeping o (Unlock f) = file_recoverable o f
+is_keeping o (StartBr f key given generic equal) = true
+is_keeping o (ResetBr f key given generic equal) = true
+is_keeping o (ReadNext f n) = true
+is_keeping o (ReadPrev f n) = true
+is_keeping o (EndBr f) = true
+is_keeping o (Enq value n nosuspend) = true
+is_keeping o _ = false
+
+-- the task was told a reply, or waits; it hasn't ended
+abbrev pub goes_on : Outcome → Bool
+goes_on (Replied r) = true
+goes_on (Waiting holder) = true
+goes_on (Abended code reply) = false
+goes_on Ended = false
+
+-- the task of a waiting command hasn't waited too long
+abbrev pub IsInTime : Machine → Suspended → Type 0
+IsInTime m w = is_late m w (task_at m.tasks w.label) ≡ false
+
+-- what is remembered of the last looks at the waiting commands: where they are settled each is blocked by one of the
+-- blockers, and where they are in time no task has waited too long
+pub record IsRemembered (m : Machine) (is_settled is_in_time : Bool) (blockers : List ℕ) : Type 0 where
+  pub settled : is_settled ≡ true → All (IsBlocked m blockers) m.waiting
+  pub in_time : is_in_time ≡ true → All (IsInTime m) m.waiting

@@ -1,0 +1,311 @@
+//! The parts of a region, and each of its steps: tasks that share files, their waits, and their units of work.
+
+mod browsing;
+mod enqueuing;
+mod listing;
+mod performing;
+mod waking;
+
+ghost use Rattle.std.specs.Prelude.{◌≡◌, ◌<◌, ◌≤◌, Bool, true, false, Option, Some, None, option_map, is_none, is_some, take, length, slice_get, IsTrue, IfOk, IfErr, IfSome, IfNone, OnOk, OnErr, if◌then◌else◌, Result, Ok, Err};
+ghost use Rattle.std.specs.Option.{option_copied};
+ghost use Rattle.cics_units.specs.Store.{initial_store};
+ghost use Rattle.cics_units.specs.declared.ops.UnitState.TheVariants.{Committed, BackedOut};
+ghost use Rattle.cics_units.specs.declared.ops.Answer.{Answer as AnswerValue};
+ghost use Rattle.cics_dispatch.specs.Machine.{units_after, definition_of, records_in, Machine, Task as TaskValue, RegionValue, beginning_region, task_at, is_waiting, abended, unit_closed, with_waiting, not_waiting};
+ghost use Rattle.cics_dispatch.specs.Checks.{fault_of, open_key};
+ghost use Rattle.cics_units.specs.Execution.{execution, enqueue, IsOpenUnit, IsOpenOrNone};
+ghost use Rattle.cics_units.specs.Headline.{IsHeadline};
+ghost use Rattle.cics_units.specs.TableInPlace.{key_of};
+ghost use Rattle.cics_names.specs.declared.conditions.Condition.TheVariants.{Normal};
+ghost use Rattle.cics_dispatch.specs.Replies.{plain, cut, read_reply};
+ghost use Rattle.cics_dispatch.specs.Steps.{unlocked, dequeued, started, reset, browsed, browse_ended, enqueued, Stepped, answered, attached, issued, performed, executed, other_command, op_of, new_task, reply_of, length_of, suspended};
+ghost use Rattle.cics_dispatch.specs.Waking.{clock_set, woken, expired, first_free, first_late};
+ghost use Rattle.cics_units.specs.Openings.{file_recoverable};
+ghost use Rattle.cics_dispatch.specs.Regions.{IsRegionKept};
+ghost use Rattle.cics_dispatch.specs.Settled.{is_keeping};
+ghost use Rattle.cics_dispatch.specs.Answers.{IsStep, always, may_want, is_growing, IsHeadlineRegion, region_listing, replayed_listing};
+ghost use Rattle.cics_dispatch.specs.Verbs.{asks_no_queue};
+ghost use Rattle.cics_dispatch.specs.Faults.{is_generic};
+ghost use Rattle.cics_names.specs.Keyed.{value_at};
+ghost use Rattle.cics_browse.specs.Positions.{read_next, after_next, read_prev, after_prev};
+ghost use Rattle.cics_dispatch.specs.declared.commands.Verb.TheVariants.{Enq};
+
+use crate::commands::{Command, Verb};
+use crate::faults::fault_of_verb;
+use crate::outcomes::{Expired, Outcome, Refused, Reply, Woken};
+use crate::reads::{plain_reply, read_plain};
+use crate::replies::{reply_of_answer, reply_of_browsed};
+use crate::tasks::Tasks;
+use crate::updates::updating;
+use crate::waits::Waits;
+use cics_browse::Browse;
+use cics_enqueue::UnitId;
+use cics_ksds::FileDef;
+use cics_names::{AbendCode, Condition, Items, Name4, Name8, NoMemory, Record};
+use cics_units::{Done, Enqueued, Listing, Op, Opening, TaskState, UnitState, Units, plain_replay};
+use std::alloc::Global;
+use std::marker::Model;
+
+/// The parts of a region: its tasks, their waiting commands, and the files and units of work that they share.
+///
+/// Each call is a step of the region's machine: its answer and the state that it leaves are those of the
+/// step. It remembers nothing of a call but that state; what `wake` and `expire` found is remembered by `Region`.
+#[derive(Drop)]
+pub(crate) struct Dispatcher {
+    units: Units,
+    tasks: Tasks,
+    waits: Waits,
+    clock: u64,
+    alloc: Global,
+}
+
+impl Model for Dispatcher {
+    ghost use Rattle.cics_dispatch.specs.Machine.{RegionValue};
+    ghost use Rattle.cics_dispatch.specs.Regions.{region_of, IsRegionKept};
+
+    ghost Value = { RegionValue };
+
+    ghost view = { λ r. region_of r.units r.tasks r.waits r.clock };
+
+    ghost invariant = { λ r. IsRegionKept (region_of r.units r.tasks r.waits r.clock) };
+}
+
+// Commits a unit or backs it out, if there is one.
+fn end_unit(units: &mut Units, unit: Option<UnitId>, commits: bool)
+    requires is_open { IsOpenOrNone units.old.state unit }
+    requires headline { IsHeadline units.old }
+    ensures state { units.new.state ≡ units_after units.old.state unit (if commits then Committed else BackedOut) }
+    ensures headline { IsHeadline units.new }
+{
+    let Some(unit) = unit else {
+        return;
+    };
+    if commits {
+        units.commit(unit);
+    } else {
+        units.back_out(unit);
+    }
+}
+
+impl Dispatcher {
+    /// The region of an opening, without a task, its clock at 0. It takes memory for a copy of the
+    /// files; where that is refused the opening comes back.
+    pub fn new(opening: Opening) -> Result<Dispatcher, Opening>
+        ensures machine { IfOk result (λ region. region.machine ≡ beginning_region opening) }
+        ensures headline { IfOk result IsHeadlineRegion }
+        ensures err { IfErr result (λ back. back ≡ opening) }
+    {
+        let alloc = opening.files().allocator();
+        let units = Units::start(opening)?;
+        Ok(Dispatcher {
+            units,
+            tasks: Tasks::new(alloc),
+            waits: Waits::new(alloc),
+            clock: 0,
+            alloc,
+        })
+    }
+
+    /// What is kept by each step, as a fact that a caller may use.
+    pub(crate) fn keeps(&self)
+        ensures kept { IsRegionKept self.now }
+    {
+        let _units = &self.units;
+    }
+
+    /// The open unit of work of the task of a label, if there is one.
+    pub(crate) fn unit_of(&self, label: &Name8) -> Option<UnitId>
+        ensures { (t : TaskValue) → task_at self.now.machine.tasks label.now ≡ Some t → result ≡ t.unit }
+    {
+        let _units = &self.units;
+        let at = self.tasks.find(label)?;
+        self.tasks.get(at).unit()
+    }
+
+    /// Whether a command gives up nothing of what its task's unit holds, where the task isn't abended.
+    pub(crate) fn is_keeping(&self, verb: &Verb) -> bool
+        ensures { result ≡ is_keeping self.now.machine.units.opening verb.now }
+    {
+        match verb {
+            Verb::Read { .. }
+            | Verb::Write { .. }
+            | Verb::StartBr { .. }
+            | Verb::ResetBr { .. }
+            | Verb::ReadNext { .. }
+            | Verb::ReadPrev { .. }
+            | Verb::EndBr { .. }
+            | Verb::Enq { .. } => true,
+            Verb::Rewrite { file, .. } | Verb::Delete { file, .. } | Verb::Unlock { file } => {
+                self.is_recoverable(file)
+            }
+            _ => false,
+        }
+    }
+
+    // Whether a file is defined, and recoverable.
+    fn is_recoverable(&self, name: &Name8) -> bool
+        ensures { result ≡ file_recoverable self.now.machine.units.opening name.now }
+    {
+        match self.definition(name) {
+            Some(definition) => definition.recoverable,
+            None => false,
+        }
+    }
+
+    /// Begins the task of a label: ATTACH. `dtimout` is the seconds that a command of it may wait, 0
+    /// for no limit; the transaction makes no difference.
+    ///
+    /// It is refused where a task has or had the label (`DuplicateLabel`), and for want of memory
+    /// (`NoMemory`). A refusal changes nothing.
+    pub fn attach(&mut self, label: Name8, _transaction: Name4, dtimout: u64) -> Result<(), Refused>
+        ensures step { IsStep true self.old (attached self.old.machine label dtimout) result self.new }
+        ensures headline { IsHeadlineRegion self.new }
+    {
+        let _units = &self.units;
+        if self.tasks.find(&label).is_some() {
+            return Err(Refused::DuplicateLabel);
+        }
+        self.tasks.attach(label, dtimout)?;
+        Ok(())
+    }
+
+    /// Sets the clock to so many seconds. It is refused where the clock would go back (`ClockBack`).
+    pub fn set_clock(&mut self, now: u64) -> Result<(), Refused>
+        ensures step { IsStep false self.old (clock_set self.old.machine now) result self.new }
+        ensures headline { IsHeadlineRegion self.new }
+    {
+        let _units = &self.units;
+        if now < self.clock {
+            return Err(Refused::ClockBack);
+        }
+        self.clock = now;
+        Ok(())
+    }
+
+    // The key of the record that the task at a place has read for update in a file.
+    fn open_key(&self, at: usize, file: &Name8) -> Option<&Record>
+        requires within { at < length self.now.machine.tasks }
+        ensures key { (t : TaskValue) → slice_get self.now.machine.tasks at ≡ Some t → option_copied result ≡ open_key self.now.machine t file.now }
+        ensures most { IfSome result (λ key. length key.now ≤ 255) }
+    {
+        let unit = self.tasks.get(at).unit()?;
+        self.units.open_read(unit, file)
+    }
+
+    // The definition of a file, if the file is defined.
+    fn definition(&self, name: &Name8) -> Option<FileDef>
+        ensures { result ≡ definition_of self.now.machine name.now }
+    {
+        let file = self.units.file(name)?;
+        Some(file.definition())
+    }
+
+    // Whether the browse of a file of the task at a place was started with GENERIC, if one is open.
+    fn browse(&self, at: usize, name: &Name8) -> Option<bool>
+        requires within { at < length self.now.machine.tasks }
+        ensures { (t : TaskValue) → slice_get self.now.machine.tasks at ≡ Some t → result ≡ is_generic (value_at name.now t.browses) }
+    {
+        let browse = self.tasks.get(at).browse(name)?;
+        Some(browse.is_generic())
+    }
+
+    // The first fault of a command of the task at a place.
+    fn fault(&self, at: usize, verb: &Verb) -> Option<Condition>
+        requires within { at < length self.now.machine.tasks }
+        requires no_queue { asks_no_queue verb.now ≡ true }
+        ensures fault { (t : TaskValue) → slice_get self.now.machine.tasks at ≡ Some t → result ≡ fault_of self.now.machine t verb.now }
+    {
+        let Some(name) = verb.file() else {
+            return fault_of_verb(verb, None, None, None);
+        };
+        let definition = self.definition(name);
+        let browse = self.browse(at, name);
+        fault_of_verb(verb, definition, self.open_key(at, name), browse)
+    }
+
+    // Ends the unit of the task at a place and its browses; the task ends too where that is said.
+    fn close(&mut self, at: usize, commits: bool, has_ended: bool)
+        requires within { at < length self.old.machine.tasks }
+        requires awake { (t : TaskValue) → slice_get self.old.machine.tasks at ≡ Some t → is_waiting self.old.machine.waiting t.label ≡ false }
+        ensures machine { (t : TaskValue) → slice_get self.old.machine.tasks at ≡ Some t → self.new.machine ≡ unit_closed self.old.machine t (if commits then Committed else BackedOut) has_ended }
+        ensures headline { IsHeadlineRegion self.new }
+    {
+        let unit = self.tasks.close_unit(at, has_ended);
+        end_unit(&mut self.units, unit, commits);
+    }
+
+    // Abends the task at a place: its unit is backed out, its wait ends, and so does the task.
+    fn abend(&mut self, at: usize)
+        requires within { at < length self.old.machine.tasks }
+        ensures machine { (t : TaskValue) → slice_get self.old.machine.tasks at ≡ Some t → self.new.machine ≡ abended self.old.machine t }
+        ensures headline { IsHeadlineRegion self.new }
+    {
+        let label = self.tasks.get(at).label();
+        let unit = self.tasks.close_unit(at, true);
+        end_unit(&mut self.units, unit, false);
+        self.waits.remove(&label);
+    }
+
+    // Tells the task at a place a reply, or abends it for a condition that nothing handles.
+    fn answer(&mut self, at: usize, resp: bool, reply: Reply) -> Outcome
+        requires within { at < length self.old.machine.tasks }
+        ensures outcome { (t : TaskValue) → slice_get self.old.machine.tasks at ≡ Some t → result ≡ (answered self.old.machine t resp reply).outcome }
+        ensures machine { (t : TaskValue) → slice_get self.old.machine.tasks at ≡ Some t → self.new.machine ≡ (answered self.old.machine t resp reply).machine }
+        ensures headline { IsHeadlineRegion self.new }
+    {
+        let _units = &self.units;
+        match reply.condition.default_abend() {
+            Some(code) if !resp => {
+                self.abend(at);
+                Outcome::Abended(code, Some(reply))
+            }
+            _ => Outcome::Replied(reply),
+        }
+    }
+
+    // Makes a command of the task at a place wait, last of all, for a unit that another task has.
+    fn suspend(&mut self, at: usize, command: Command, holder: UnitId) -> Result<Outcome, NoMemory>
+        requires within { at < length self.old.machine.tasks }
+        requires awake { (t : TaskValue) → slice_get self.old.machine.tasks at ≡ Some t → is_waiting self.old.machine.waiting t.label ≡ false }
+        requires passed { (t : TaskValue) → slice_get self.old.machine.tasks at ≡ Some t → fault_of self.old.machine t command.verb ≡ None }
+        requires no_queue { asks_no_queue command.verb ≡ true }
+        requires is_open { IsOpenUnit self.old.machine.units holder }
+        ensures outcome { IfOk result (λ outcome. (t : TaskValue) → slice_get self.old.machine.tasks at ≡ Some t → outcome ≡ (suspended self.old.machine t command holder).outcome) }
+        ensures machine { OnOk result ((t : TaskValue) → slice_get self.old.machine.tasks at ≡ Some t → self.new.machine ≡ (suspended self.old.machine t command holder).machine) }
+        ensures headline { IsHeadlineRegion self.new }
+        ensures err { OnErr result (self.new ≡ self.old) }
+    {
+        let _units = &self.units;
+        let label = self.tasks.get(at).label();
+        let Some(owner) = self.tasks.label_of(holder) else {
+            unreachable!();
+        };
+        self.waits.begin(label, command, self.clock)?;
+        Ok(Outcome::Waiting(owner))
+    }
+
+    // Executes the updating command that a command of the task at a place asks for, or makes it wait.
+    fn update(&mut self, at: usize, command: Command, op: &Op) -> Result<Outcome, NoMemory>
+        requires within { at < length self.old.machine.tasks }
+        requires awake { (t : TaskValue) → slice_get self.old.machine.tasks at ≡ Some t → is_waiting self.old.machine.waiting t.label ≡ false }
+        requires passed { (t : TaskValue) → slice_get self.old.machine.tasks at ≡ Some t → fault_of self.old.machine t command.verb ≡ None }
+        requires no_queue { asks_no_queue command.verb ≡ true }
+        requires asked { (t : TaskValue) → slice_get self.old.machine.tasks at ≡ Some t → op_of self.old.machine t command.verb ≡ Some op.now }
+        requires short { length (key_of op.now) ≤ 255 }
+        ensures outcome { IfOk result (λ outcome. (t : TaskValue) → slice_get self.old.machine.tasks at ≡ Some t → outcome ≡ (executed self.old.machine t command op.now (execution self.old.machine.units t.unit op.now)).outcome) }
+        ensures machine { OnOk result ((t : TaskValue) → slice_get self.old.machine.tasks at ≡ Some t → self.new.machine ≡ (executed self.old.machine t command op.now (execution self.old.machine.units t.unit op.now)).machine) }
+        ensures headline { IsHeadlineRegion self.new }
+        ensures err { OnErr result (self.new ≡ self.old) }
+    {
+        let unit = self.tasks.get(at).unit();
+        self.tasks.make_room_for_unit()?;
+        match self.units.execute(unit, op)? {
+            Done::MustWait(holder) => self.suspend(at, command, holder),
+            Done::Answered(unit, answer) => {
+                self.tasks.own_unit(at, unit);
+                let reply = reply_of_answer(answer, command.verb.length());
+                Ok(self.answer(at, command.resp, reply))
+            }
+        }
+    }
+}

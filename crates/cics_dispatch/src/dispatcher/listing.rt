@@ -1,0 +1,78 @@
+//! What a region lists: its files and its tasks, and what replaying its history gives.
+
+ghost use Rattle.std.specs.Prelude.{◌≡◌, IfOk};
+ghost use Rattle.cics_dispatch.specs.Answers.{region_listing, replayed_listing, task_state, tasks_listed};
+
+use crate::dispatcher::Dispatcher;
+use crate::task::Task;
+use cics_names::{Items, Name8, NoMemory};
+use cics_units::{Listing, TaskState, Units, plain_replay};
+
+impl Dispatcher {
+    /// The units of work of the region, with the files that they share, their history and its outcomes.
+    pub fn units(&self) -> &Units
+        ensures { result.now ≡ record { state = self.now.machine.units; store = self.now.store } }
+    {
+        &self.units
+    }
+
+    // What a task of the region does, if it hasn't ended.
+    fn task_state(&self, task: &Task) -> TaskState
+        ensures { result ≡ task_state self.now.machine task.now }
+    {
+        let _units = &self.units;
+        if self.waits.is_waiting(&task.label()) {
+            TaskState::IsWaiting
+        } else if task.unit().is_some() {
+            TaskState::HasUnit
+        } else {
+            TaskState::Idle
+        }
+    }
+
+    // The label and state of each task that hasn't ended, in the order of attach.
+    fn tasks_listed(&self) -> Result<Items<(Name8, TaskState)>, NoMemory>
+        ensures { IfOk result (λ tasks. tasks ≡ tasks_listed self.now.machine) }
+    {
+        let mut tasks = Items::new(self.alloc);
+        for at in 0..self.tasks.len() {
+            let task = self.tasks.get(at);
+            if !task.has_ended() {
+                tasks.push((task.label(), self.task_state(task)))?;
+            }
+        }
+        Ok(tasks)
+    }
+
+    /// What stands in the files, the changes of open units included, and what each task that hasn't
+    /// ended does, in the order in which the tasks were attached. This is what a user is shown of the
+    /// region.
+    ///
+    /// It is refused only for want of memory, which it takes for a copy of each record and for the
+    /// tasks (`NoMemory`). It changes nothing. Each task costs one look-up of its wait, however many
+    /// commands wait.
+    pub fn listing(&self) -> Result<Listing, NoMemory>
+        ensures { IfOk result (λ listing. listing ≡ region_listing self.now) }
+    {
+        let mut listing = self.units.listing()?;
+        listing.tasks = self.tasks_listed()?;
+        Ok(listing)
+    }
+
+    /// What stands in the files after the history of the region is applied anew, command by command,
+    /// to what was loaded; a command on a recoverable file whose unit was backed out is left out. It
+    /// has no tasks. It goes by no before image, so the files of `listing` can be held against it.
+    ///
+    /// It is refused only for want of memory, which it takes for a copy of each record (`NoMemory`).
+    /// It changes nothing. It takes time in proportion to the records that were loaded and the
+    /// commands that were executed, each with the logarithm of the records in its file.
+    pub fn replayed(&self) -> Result<Listing, NoMemory>
+        ensures { IfOk result (λ listing. listing ≡ replayed_listing self.now) }
+    {
+        plain_replay(
+            self.units.opening(),
+            self.units.trace(),
+            self.units.outcomes(),
+        )
+    }
+}

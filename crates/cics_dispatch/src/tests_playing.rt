@@ -1,0 +1,235 @@
+//! Scenarios: lines with a call or a look each, and what is to come of it behind an equals sign.
+//!
+//! `load FILE RECORD` puts a record into a file before the region begins. The file ACCT is recoverable,
+//! LOG isn't; each has keys of four bytes, which the records begin with.
+
+ghost use Rattle.std.specs.Prelude.{◌≡◌};
+ghost use Rattle.cics_dispatch.specs.Verbs.{asks_no_queue};
+
+use crate::tests_commands::{NotPlayed, command, name, number, word};
+use crate::tests_told::{Came, push_name, push_record, told};
+use crate::{Command, Outcome, Refused, Region, Verb};
+use cics_ksds::FileDef;
+use cics_names::{Name4, Name8, NoMemory, Record};
+use cics_units::{Listing, Opening, TaskState, UnitState};
+use std::alloc::Global;
+
+/// A call of a region.
+pub(crate) enum Call {
+    Attach(Name8, Name4, u64),
+    Clock(u64),
+    Wake,
+    Expire,
+    Issue(Name8, Command),
+}
+
+fn file(recoverable: bool) -> FileDef {
+    FileDef {
+        key_length: 4,
+        key_offset: 0,
+        record_size: 32_767,
+        recoverable,
+    }
+}
+
+fn define(opening: &mut Opening) -> Result<(), NotPlayed> {
+    opening.define_file(Name8::new(b"ACCT")?, file(true))?;
+    opening.define_file(Name8::new(b"LOG")?, file(false))?;
+    Ok(())
+}
+
+// Loads the records of a scenario.
+fn load(opening: &mut Opening, alloc: Global, text: &str) -> Result<(), NotPlayed> {
+    for line in text.lines() {
+        if word(line, 0) == "load" {
+            let record = Record::from_slice(alloc, word(line, 2).as_bytes())?;
+            opening.load_file(name(word(line, 1))?, record)?;
+        }
+    }
+    Ok(())
+}
+
+// What the region of a scenario opens with.
+fn opening(alloc: Global, text: &str) -> Result<Opening, NotPlayed> {
+    let mut opening = Opening::new(alloc);
+    define(&mut opening)?;
+    load(&mut opening, alloc, text)?;
+    Ok(opening)
+}
+
+/// The region of a scenario, before its first call.
+pub(crate) fn region(alloc: Global, text: &str) -> Result<Region, NotPlayed> {
+    match Region::new(opening(alloc, text)?) {
+        Ok(region) => Ok(region),
+        Err(_opening) => Err(NotPlayed),
+    }
+}
+
+/// The call of a line.
+pub(crate) fn read_call(alloc: Global, line: &str) -> Result<Call, NotPlayed> {
+    match word(line, 0) {
+        "attach" => {
+            let dtimout = number(line, "dtimout=").unwrap_or(0);
+            let transaction = Name4::new(b"AAAA")?;
+            Ok(Call::Attach(name(word(line, 1))?, transaction, dtimout))
+        }
+        "clock" => Ok(Call::Clock(number(word(line, 1), "").unwrap_or(0))),
+        "wake" => Ok(Call::Wake),
+        "expire" => Ok(Call::Expire),
+        label => Ok(Call::Issue(name(label)?, command(alloc, line)?)),
+    }
+}
+
+// Whether a command asks nothing of a queue.
+fn asks_no_queue(verb: &Verb) -> bool
+    ensures { result ≡ asks_no_queue verb.now }
+{
+    match verb {
+        Verb::WriteqTs { .. }
+        | Verb::ReadqTs { .. }
+        | Verb::DeleteqTs { .. }
+        | Verb::WriteqTd { .. }
+        | Verb::ReadqTd { .. }
+        | Verb::DeleteqTd { .. } => false,
+        _ => true,
+    }
+}
+
+// Executes a command of a task. No line writes one of a queue.
+fn issue(region: &mut Region, label: Name8, command: Command) -> Result<Outcome, Refused> {
+    if asks_no_queue(&command.verb) {
+        region.issue(label, command)
+    } else {
+        Err(Refused::NoTask)
+    }
+}
+
+/// Makes a call.
+pub(crate) fn make(region: &mut Region, call: Call) -> Came {
+    match call {
+        Call::Attach(label, transaction, dtimout) => {
+            Came::Made(region.attach(label, transaction, dtimout))
+        }
+        Call::Clock(now) => Came::Made(region.set_clock(now)),
+        Call::Wake => Came::Woke(region.wake()),
+        Call::Expire => Came::TimedOut(region.expire()),
+        Call::Issue(label, command) => Came::Told(issue(region, label, command)),
+    }
+}
+
+// The files of a listing, each with its name and records.
+fn push_files(text: &mut String, listing: &Listing) -> Result<(), NoMemory> {
+    for file in listing.files.as_slice() {
+        push_name(text, &file.0.bytes())?;
+        for record in file.2.as_slice() {
+            push_record(text, record)?;
+        }
+    }
+    Ok(())
+}
+
+fn state(state: TaskState) -> &'static str {
+    match state {
+        TaskState::Idle => " idle",
+        TaskState::HasUnit => " unit",
+        TaskState::IsWaiting => " waiting",
+    }
+}
+
+// The tasks of a listing, each with its label and state.
+fn push_tasks(text: &mut String, listing: &Listing) -> Result<(), NoMemory> {
+    for task in listing.tasks.as_slice() {
+        push_name(text, &task.0.bytes())?;
+        text.push_str(state(task.1))?;
+    }
+    Ok(())
+}
+
+fn unit(outcome: UnitState) -> &'static str {
+    match outcome {
+        UnitState::Open => " open",
+        UnitState::Committed => " committed",
+        UnitState::BackedOut => " backed-out",
+    }
+}
+
+// The units of work that have begun, by what became of each.
+fn push_units(text: &mut String, region: &Region) -> Result<(), NoMemory> {
+    for outcome in region.units().outcomes() {
+        text.push_str(unit(*outcome))?;
+    }
+    Ok(())
+}
+
+/// Adds what a look at the region shows: its files, what replaying gives, its tasks, or else its units.
+pub(crate) fn push_look(text: &mut String, region: &Region, what: &str) -> Result<(), NoMemory> {
+    match what {
+        "files" => push_files(text, &region.listing()?),
+        "replayed" => push_files(text, &region.replayed()?),
+        "tasks" => push_tasks(text, &region.listing()?),
+        _ => push_units(text, region),
+    }
+}
+
+/// What a look at the region shows.
+pub(crate) fn look(alloc: Global, region: &Region, what: &str) -> Result<String, NoMemory> {
+    let mut text = String::new(alloc);
+    push_look(&mut text, region, what)?;
+    Ok(text)
+}
+
+/// Whether a line looks at the region, and calls nothing.
+pub(crate) fn is_look(line: &str) -> bool {
+    matches!(line, "files" | "tasks" | "units")
+}
+
+/// Makes the call of a line.
+pub(crate) fn made(region: &mut Region, alloc: Global, line: &str) -> Result<Came, NotPlayed> {
+    Ok(make(region, read_call(alloc, line)?))
+}
+
+// What comes of a line: of its call, or of its look.
+fn played(region: &mut Region, alloc: Global, line: &str) -> Result<String, NotPlayed> {
+    if is_look(line) {
+        return Ok(look(alloc, region, line)?);
+    }
+    let came = made(region, alloc, line)?;
+    Ok(told(alloc, &came)?)
+}
+
+/// Whether the files list what the replay gives.
+pub(crate) fn is_replayed(region: &Region, alloc: Global) -> Result<bool, NoMemory> {
+    let files = look(alloc, region, "files")?;
+    let replayed = look(alloc, region, "replayed")?;
+    Ok(files.as_str() == replayed.as_str())
+}
+
+// Whether what is expected comes of a line, and the files then are what the replay gives.
+fn is_right(region: &mut Region, alloc: Global, line: &str) -> Result<bool, NotPlayed> {
+    let Some((line, expected)) = line.split_once(" =") else {
+        return Ok(true);
+    };
+    let came = played(region, alloc, line)?;
+    Ok(came.as_str() == expected && is_replayed(region, alloc)?)
+}
+
+// Plays the lines of a scenario, and answers the first that isn't right, or nothing.
+fn first_wrong_of<'a>(
+    region: &mut Region,
+    alloc: Global,
+    text: &'a str,
+) -> Result<&'a str, NotPlayed> {
+    for line in text.lines() {
+        if !is_right(region, alloc, line)? {
+            return Ok(line);
+        }
+    }
+    Ok("")
+}
+
+/// Plays a scenario, and answers the first line of which something else came, or after which the files
+/// aren't what the replay gives; nothing where all is as expected.
+pub(crate) fn first_wrong(alloc: Global, text: &str) -> Result<&str, NotPlayed> {
+    let mut region = region(alloc, text)?;
+    first_wrong_of(&mut region, alloc, text)
+}
