@@ -86,7 +86,7 @@ row_clock_small : line (codes "clock 007 ") ≡ Ok (Clock 7)
 unfolding ebcdic.code_of
 row_clock_small = refl
 
-row_read_whole : line (codes "T1 EXEC CICS READ GTEQ LENGTH(3) INTO(AREA) GENERIC KEYLENGTH(2) RIDFLD('00') FILE('ACCT') RESP2(R2)") ≡ Ok (Issue t1 (record { verb = Read acct (0xF0 ∷ 0xF0 ∷ []) (Some 2) (Some 3) true true false; resp = false }))
+row_read_whole : line (codes "T1 EXEC CICS READ GTEQ LENGTH(3) INTO(AREA) GENERIC KEYLENGTH(2) RIDFLD('00') FILE('ACCT') RESP2(REASON)") ≡ Ok (Issue t1 (record { verb = Read acct (0xF0 ∷ 0xF0 ∷ []) (Some 2) (Some 3) true true false; resp = false }))
 unfolding ebcdic.code_of
 row_read_whole = refl
 
@@ -138,15 +138,15 @@ row_endbr : line (codes "T1 EXEC CICS ENDBR FILE('ACCT')") ≡ Ok (Issue t1 (rec
 unfolding ebcdic.code_of
 row_endbr = refl
 
-row_enq : line (codes "T1 EXEC CICS ENQ RESOURCE('R1') LENGTH(2) NOSUSPEND") ≡ Ok (Issue t1 (record { verb = Enq (0xD9 ∷ 0xF1 ∷ []) 2 true; resp = false }))
+row_enq : line (codes "T1 EXEC CICS ENQ RESOURCE('L1') LENGTH(2) NOSUSPEND") ≡ Ok (Issue t1 (record { verb = Enq (0xD3 ∷ 0xF1 ∷ []) 2 true; resp = false }))
 unfolding ebcdic.code_of
 row_enq = refl
 
-row_enq_waits : line (codes "T1 EXEC CICS ENQ LENGTH(300) RESOURCE('R1')") ≡ Ok (Issue t1 (record { verb = Enq (0xD9 ∷ 0xF1 ∷ []) 300 false; resp = false }))
+row_enq_waits : line (codes "T1 EXEC CICS ENQ LENGTH(300) RESOURCE('L1')") ≡ Ok (Issue t1 (record { verb = Enq (0xD3 ∷ 0xF1 ∷ []) 300 false; resp = false }))
 unfolding ebcdic.code_of
 row_enq_waits = refl
 
-row_deq : line (codes "T1 EXEC CICS DEQ RESOURCE('R1') LENGTH(2)") ≡ Ok (Issue t1 (record { verb = Deq (0xD9 ∷ 0xF1 ∷ []) 2; resp = false }))
+row_deq : line (codes "T1 EXEC CICS DEQ RESOURCE('L1') LENGTH(2)") ≡ Ok (Issue t1 (record { verb = Deq (0xD3 ∷ 0xF1 ∷ []) 2; resp = false }))
 unfolding ebcdic.code_of
 row_deq = refl
 
@@ -406,7 +406,7 @@ row_literal_time_out : line (codes "ATTACH T1 DTIMOUT('5") ≡ Err BadLiteral
 unfolding ebcdic.code_of
 row_literal_time_out = refl
 
-row_literal_resource : line (codes "T1 EXEC CICS ENQ RESOURCE(R1)") ≡ Err BadLiteral
+row_literal_resource : line (codes "T1 EXEC CICS ENQ RESOURCE(L1)") ≡ Err BadLiteral
 unfolding ebcdic.code_of
 row_literal_resource = refl
 
@@ -510,7 +510,7 @@ row_missing_file : line (codes "T1 EXEC CICS REWRITE FROM('A')") ≡ Err Missing
 unfolding ebcdic.code_of
 row_missing_file = refl
 
-row_missing_length : line (codes "T1 EXEC CICS ENQ RESOURCE('R1')") ≡ Err MissingOption
+row_missing_length : line (codes "T1 EXEC CICS ENQ RESOURCE('L1')") ≡ Err MissingOption
 unfolding ebcdic.code_of
 row_missing_length = refl
 
