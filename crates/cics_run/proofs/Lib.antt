@@ -6,3 +6,5 @@ pub mod Printing
 pub mod Steps
 pub mod Ending
 pub mod Reading
+pub mod Settles
+pub mod Telling

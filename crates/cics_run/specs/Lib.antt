@@ -2,6 +2,7 @@ pub mod Texts
 pub mod Journal
 pub mod Listings
 pub mod Lines
+pub mod Settling
 pub mod Stages
 pub mod Running
 pub mod Statuses

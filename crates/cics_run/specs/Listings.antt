@@ -1,4 +1,4 @@
--- The listings: what stands in files and queues, and what the tasks do.
+-- The listings: what stands in files and queues, and what the tasks do. A replay has no tasks.
 use Rattle.std.specs.Prelude.{ℕ, Bool, true, false, if◌then◌else◌, List, [], ◌∷◌, ◌++◌, codes, length}
 use Rattle.std.specs.List.{flat_map}
 use Rattle.std.specs.Fmt.{decimal}
@@ -66,3 +66,7 @@ parts_text listing =
 -- the listing at the end of a run
 abbrev pub listing_text : Listing → List ℕ
 listing_text listing = line (codes "LISTING") ++ parts_text listing
+
+-- the listing of a replay
+abbrev pub replay_text : Listing → List ℕ
+replay_text listing = line (codes "REPLAY") ++ parts_text listing

@@ -1,5 +1,5 @@
 -- Text that is printed is gathered, and written when enough of it has come together.
-use Rattle.std.specs.Prelude.{◌≡◌, ℕ, List, [], ◌++◌, Option, Result, MatchResult}
+use Rattle.std.specs.Prelude.{◌≡◌, ℕ, List, [], ◌++◌, Option}
 use Rattle.std.specs.Io.KnownBytes.{Appends}
 
 -- a text begins with a front
@@ -13,7 +13,3 @@ AppendsFront old new text = (front : List ℕ) × IsFront front text × Appends 
 -- Text was printed: what was pending and the text are what was written and what is pending now.
 abbrev pub Prints : Option (List ℕ) → Option (List ℕ) → List ℕ → List ℕ → List ℕ → Type 0
 Prints old new pending left text = (written : List ℕ) × (pending ++ text ≡ written ++ left) × Appends old new written
-
--- either text was printed, or only a front of what was pending and the text was written
-abbrev pub IsPrinted : {A E : Type 0} → Result A E → Option (List ℕ) → Option (List ℕ) → List ℕ → List ℕ → List ℕ → Type 0
-IsPrinted result old new pending left text = MatchResult result (λ _. Prints old new pending left text) (λ _. AppendsFront old new (pending ++ text))

@@ -1,23 +1,27 @@
 -- What the lines of a script lead to: at first to definitions, and from the first line that is none to a region.
-use Rattle.std.specs.Prelude.{◌≡◌, ℕ, Bool, true, false, if◌then◌else◌, List, [], ◌++◌, Option, Some, None, is_some, Result, Ok, Err, MatchResult}
+use Rattle.std.specs.Prelude.{◌≡◌, ℕ, Bool, true, false, List, [], ◌++◌, length, Option, Some, None, Result, Ok, Err, MatchResult, OnOk}
 use Rattle.cics_names.specs.Keyed.{Bytes, value_at}
 use Rattle.cics_ksds.specs.declared.definition.FileDef.{FileDef}
 use Rattle.cics_units.specs.Openings.{OpeningState, nothing_defined, file_fault, load_fault, with_file, with_record}
 use Rattle.cics_units.specs.declared.opening.DefineFault.{DefineFault}
-use Rattle.cics_dispatch.specs.OneTask.{OneTask, Stepped, opened, attached, issued, listing_of, is_first_path}
+use Rattle.cics_dispatch.specs.Machine.{Machine, RegionValue, beginning_region}
+use Rattle.cics_dispatch.specs.Steps.{Stepped, attached, issued}
+use Rattle.cics_dispatch.specs.Waking.{clock_set}
+use Rattle.cics_dispatch.specs.Answers.{region_listing, replayed_listing}
 use Rattle.cics_dispatch.specs.declared.commands.Command.{Command}
 use Rattle.cics_dispatch.specs.declared.outcomes.Outcome.{Outcome}
 use Rattle.cics_dispatch.specs.declared.outcomes.Refused.{Refused}
+use Rattle.cics_dispatch.specs.declared.outcomes.Refused.TheVariants.{NoMemory}
 use Rattle.cics_script.specs.Lines.{line}
 use Rattle.cics_script.specs.declared.lines.Line.{Line}
 use Rattle.cics_script.specs.declared.lines.Line.TheVariants.{Blank, DefineFile, LoadFile, Attach, Clock, Issue}
 use Rattle.cics_script.specs.declared.faults.LineFault.{LineFault}
-use Rattle.cics_script.specs.declared.faults.LineFault.TheVariants.{UnknownWord, DefineTooLate}
-use Rattle.cics_run.specs.Journal.{attached_line, outcome_line, refused_line, line_fault_line, define_fault_line}
-use Rattle.cics_run.specs.Listings.{listing_text}
+use Rattle.cics_script.specs.declared.faults.LineFault.TheVariants.{DefineTooLate}
+use Rattle.cics_run.specs.Journal.{attached_line, outcome_line, refused_line, clock_line, clock_refused_line, line_fault_line, define_fault_line}
+use Rattle.cics_run.specs.Listings.{listing_text, replay_text}
+use Rattle.cics_run.specs.Settling.{region_at, Settled, settled}
 use Rattle.cics_run.specs.declared.stage.Stage.{Stage}
 use Rattle.cics_run.specs.declared.stage.Stage.TheVariants.{Opening, Running}
-use Rattle.cics_run.specs.declared.stage.Ran.{Ran}
 
 -- what a line does: the stage behind it, the text that it prints, and whether that is a fault, which ends the run
 pub record Step : Type 0 where
@@ -29,10 +33,6 @@ pub record Step : Type 0 where
 abbrev pub silent : Stage → Step
 silent stage = record { stage = stage; text = []; is_fault = false }
 
--- what came of an event is printed
-abbrev pub told : Stage → List ℕ → Step
-told stage text = record { stage = stage; text = text; is_fault = false }
-
 -- a fault is printed, and nothing else changes
 abbrev pub faulty : Stage → List ℕ → Step
 faulty stage text = record { stage = stage; text = text; is_fault = true }
@@ -42,8 +42,8 @@ abbrev pub first_stage : Stage
 first_stage = Opening nothing_defined
 
 -- the region, which is made of the definitions where there is none yet
-abbrev pub region_of : Stage → OneTask
-region_of (Opening o) = opened o
+abbrev pub region_of : Stage → RegionValue
+region_of (Opening o) = region_at (beginning_region o)
 region_of (Running r) = r
 
 -- a definition is accepted, or its fault is printed
@@ -52,7 +52,7 @@ defined number o None next = silent (Opening next)
 defined number o (Some fault) next = faulty (Opening o) (define_fault_line number fault)
 
 -- a definition behind the first line that is none
-abbrev pub too_late : ℕ → OneTask → Step
+abbrev pub too_late : ℕ → RegionValue → Step
 too_late number r = faulty (Running r) (line_fault_line number DefineTooLate)
 
 -- DEFINE FILE
@@ -65,29 +65,50 @@ abbrev pub file_loaded : ℕ → Stage → Bytes → Bytes → Step
 file_loaded number (Opening o) name content = defined number o (load_fault (value_at name o.files) content) (with_record o name content)
 file_loaded number (Running r) name content = too_late number r
 
--- ATTACH. As long as a region has one task, a second one is a word that no line has
-abbrev pub task_attached : ℕ → OneTask → Bytes → Bytes → Step
-task_attached number r label transaction =
-    if is_some r.task then faulty (Running r) (line_fault_line number UnknownWord) else told (Running (attached r label)) (attached_line label transaction)
+-- the line of an event, and then what the region prints while it settles
+abbrev pub told : List ℕ → Settled → Step
+told text s = record { stage = Running (region_at s.machine); text = text ++ s.text; is_fault = false }
 
--- a command is answered, or refused; a refusal changes nothing
-abbrev pub answered : OneTask → Bytes → Result Outcome Refused → OneTask → Step
-answered r label (Ok outcome) next = told (Running next) (outcome_line label outcome)
-answered r label (Err refusal) next = told (Running r) (refused_line label refusal)
+-- an event that left this machine: its line is printed, and the region settles
+abbrev pub event : List ℕ → Machine → Step
+event text m = told text (settled (length m.waiting) m)
+
+-- the line of an event that was answered or refused
+abbrev pub told_line : {X : Type 0} → (X → List ℕ) → (Refused → List ℕ) → Result X Refused → List ℕ
+told_line answer refusal (Ok x) = answer x
+told_line answer refusal (Err e) = refusal e
+
+-- an event that was not refused for want of memory
+abbrev pub IsAnswered : {X : Type 0} → Result X Refused → Type 0
+IsAnswered (Err NoMemory) = ⊥
+IsAnswered _ = Unit {0}
+
+-- an event is answered, or refused; a refusal changes nothing, and the region settles all the same
+abbrev pub answered : {X : Type 0} → Machine → (X → List ℕ) → (Refused → List ℕ) → Result X Refused → Machine → Step
+answered m answer refusal (Ok x) next = event (answer x) next
+answered m answer refusal (Err e) next = event (refusal e) m
+
+-- ATTACH
+abbrev pub task_attached : Machine → Bytes → Bytes → ℕ → Step
+task_attached m label transaction dtimout =
+    let s = attached m label dtimout in answered m (λ _. attached_line label transaction) (refused_line label) s.outcome s.machine
+
+-- CLOCK
+abbrev pub clock_moved : Machine → ℕ → Step
+clock_moved m seconds = let s = clock_set m seconds in answered m (λ _. clock_line seconds) clock_refused_line s.outcome s.machine
 
 -- a command of a task
-abbrev pub command_issued : OneTask → Bytes → Command → Step
-command_issued r label command = answered r label (issued r label command).outcome (issued r label command).state
+abbrev pub command_issued : Machine → Bytes → Command → Step
+command_issued m label command = let s = issued m label command in answered m (outcome_line label) (refused_line label) s.outcome s.machine
 
--- a region of one task has no clock, and of the commands only some; the others are words that no line has
+-- a line that was read. The first one that is neither blank nor a definition makes the region
 abbrev pub followed : ℕ → Stage → Result Line LineFault → Step
 followed number stage (Ok Blank) = silent stage
 followed number stage (Ok (DefineFile name d)) = file_defined number stage name d
 followed number stage (Ok (LoadFile name content)) = file_loaded number stage name content
-followed number stage (Ok (Attach label transaction dtimout)) = task_attached number (region_of stage) label transaction
-followed number stage (Ok (Clock seconds)) = faulty stage (line_fault_line number UnknownWord)
-followed number stage (Ok (Issue label command)) =
-    if is_first_path command.verb then command_issued (region_of stage) label command else faulty stage (line_fault_line number UnknownWord)
+followed number stage (Ok (Attach label transaction dtimout)) = task_attached (region_of stage).machine label transaction dtimout
+followed number stage (Ok (Clock seconds)) = clock_moved (region_of stage).machine seconds
+followed number stage (Ok (Issue label command)) = command_issued (region_of stage).machine label command
 followed number stage (Err fault) = faulty stage (line_fault_line number fault)
 
 -- the bytes of a line, whose number is given
@@ -96,8 +117,16 @@ step number stage bytes = followed number stage (line bytes)
 
 -- what is listed at the end
 abbrev pub listing_at : Stage → List ℕ
-listing_at stage = listing_text (listing_of (region_of stage))
+listing_at stage = listing_text (region_listing (region_of stage))
 
--- a line led to this, unless there was no memory
-abbrev pub Leads : {E : Type 0} → Step → List ℕ → List ℕ → Result Ran E → Type 0
-Leads s before now result = MatchResult result (λ ran. (ran.stage ≡ s.stage) × (now ≡ before ++ s.text) × (ran.is_fault ≡ s.is_fault)) (λ _. Unit {0})
+-- what is printed of the replay of the history
+abbrev pub replay_at : Stage → List ℕ
+replay_at stage = replay_text (replayed_listing (region_of stage))
+
+-- a line led to this, and to this stage, unless there was no memory
+abbrev pub Leads : {E : Type 0} → Step → Stage → List ℕ → List ℕ → Result Bool E → Type 0
+Leads s stage before now result = MatchResult result (λ is_fault. (stage ≡ s.stage) × (now ≡ before ++ s.text) × (is_fault ≡ s.is_fault)) (λ _. Unit {0})
+
+-- an event led to this, and to this region, unless there was no memory
+abbrev pub Happens : {E : Type 0} → Step → RegionValue → List ℕ → List ℕ → Result (Unit {0}) E → Type 0
+Happens s region before now result = OnOk result ((Running region ≡ s.stage) × (now ≡ before ++ s.text))

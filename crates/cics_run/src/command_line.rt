@@ -12,11 +12,16 @@ use std::alloc::Global;
 const ABOUT: &str = "\
 Runs a script of CICS commands on a region in memory.
 
-The script comes from standard input: it defines and loads files, attaches a
-task and issues the task's commands. What comes of each line, the journal, goes
-to standard output, and behind it a listing of the files and of the task.";
+The script comes from standard input: it defines and loads files, attaches
+tasks, issues their commands and sets the clock. What comes of each line, the
+journal, goes to standard output: the answer, and then the waiting commands that
+go on and the tasks that have waited too long. Behind it comes a listing of the
+files and of the tasks that have not ended.";
 
-const STATUSES: &str = "\
+const MORE: &str = "\
+The replay is the listing again, made by applying the history of the units that
+were not backed out to what was loaded. It has no tasks.
+
 Exit status:
   0  the whole script was run, or this help was printed
   1  a line of the script is at fault: the journal ends with that line's fault
@@ -42,8 +47,9 @@ pub enum Asked {
 
 /// Reads the words of a command line, of which the first is the program's name.
 ///
-/// The options are `--no-list`, which leaves out the listing, and `--help` (or `-h`). An option that
-/// is given twice is bad, and so is every other word. It is refused for want of memory alone.
+/// The options are `--no-list`, which leaves out the listing, `--replay`, which asks for the replay behind
+/// it, and `--help` (or `-h`). An option that is given twice is bad, and so is every other word. It is
+/// refused for want of memory alone.
 pub fn arguments(alloc: Global, words: Vec<String>) -> Result<Asked, NoMemory> {
     match options(alloc, &words) {
         Ok(options) => Ok(Asked::Run(options)),
@@ -60,13 +66,19 @@ fn options(alloc: Global, words: &[String]) -> Result<Options, Error> {
         .long("no-list")
         .action(ArgAction::SetTrue)
         .help("Leave out the listing");
+    let replay = Arg::new(alloc, "replay")
+        .long("replay")
+        .action(ArgAction::SetTrue)
+        .help("Print the replay behind the listing");
     let command = Command::new(alloc, "cicsrun")
         .about(ABOUT)
-        .after_help(STATUSES)
-        .arg(no_list)?;
+        .after_help(MORE)
+        .arg(no_list)?
+        .arg(replay)?;
     let matches = command.try_get_matches_from(words)?;
     Ok(Options {
         no_list: matches.get_flag("no-list"),
+        replay: matches.get_flag("replay"),
     })
 }
 

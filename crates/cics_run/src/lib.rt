@@ -6,6 +6,7 @@ mod journal;
 mod listing;
 mod running;
 mod session;
+mod settling;
 mod stage;
 #[cfg(test)]
 mod tests;

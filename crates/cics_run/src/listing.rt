@@ -2,18 +2,33 @@
 
 ghost use Rattle.std.specs.Prelude.{◌≡◌, ◌++◌, OnOk, length};
 ghost use Rattle.std.specs.List.{flat_map};
-ghost use Rattle.cics_run.specs.Listings.{heading, recoverable_title, recovery_title, record_line, file_text, storage_text, transient_text, state_title, task_text, listing_text, count_text, parts_text};
+ghost use Rattle.cics_run.specs.Listings.{heading, recoverable_title, recovery_title, record_line, file_text, storage_text, transient_text, state_title, task_text, listing_text, replay_text, count_text, parts_text};
 
 use crate::texts::{push_bare, push_name, push_number, push_str, push_text};
 use cics_names::{Items, Name4, Name8, NoMemory, Record};
 use cics_transdata::Recovery;
 use cics_units::{Listing, TaskState};
 
-/// The listing at the end of a run: files, temporary storage, transient data, tasks.
+/// The listing at the end of a run.
 pub fn push_listing(out: &mut Vec<u8>, listing: &Listing) -> Result<(), NoMemory>
     ensures { OnOk result (out.new.items ≡ out.old.items ++ listing_text listing.now) }
 {
     push_str(out, "LISTING\n")?;
+    push_parts(out, listing)
+}
+
+/// The listing of a replay.
+pub fn push_replay(out: &mut Vec<u8>, listing: &Listing) -> Result<(), NoMemory>
+    ensures { OnOk result (out.new.items ≡ out.old.items ++ replay_text listing.now) }
+{
+    push_str(out, "REPLAY\n")?;
+    push_parts(out, listing)
+}
+
+// Files, temporary storage, transient data, tasks.
+fn push_parts(out: &mut Vec<u8>, listing: &Listing) -> Result<(), NoMemory>
+    ensures { OnOk result (out.new.items ≡ out.old.items ++ parts_text listing.now) }
+{
     push_files(out, listing.files.as_slice())?;
     push_storage(out, listing.ts.as_slice())?;
     push_transient(out, listing.td.as_slice())?;

@@ -1,6 +1,7 @@
 //! The run of a script.
 
-ghost use Rattle.std.specs.Prelude.{◌≡◌};
+ghost use Rattle.std.specs.Prelude.{◌≡◌, []};
+ghost use Rattle.cics_run.specs.Stages.{first_stage};
 ghost use Rattle.cics_run.specs.Running.{RunsOver};
 ghost use Rattle.cics_run.specs.Standing.{ended, fault_of};
 
@@ -36,13 +37,14 @@ pub enum RunFault {
     InputTooLong,
 }
 
-/// What a run is asked for.
+/// What a run is asked for: to leave out the listing, and to print the replay.
 #[derive(Clone, Copy, Debug, PartialEq, Eq)]
 pub struct Options {
     pub no_list: bool,
+    pub replay: bool,
 }
 
-/// Runs the script that the reader gives, and writes its journal and listing.
+/// Runs the script that the reader gives, and writes its journal and what follows it.
 pub fn run<R: Read, W: Write>(
     alloc: Global,
     reader: &mut R,
@@ -52,6 +54,22 @@ pub fn run<R: Read, W: Write>(
     ensures { RunsOver options (R.remaining reader.old) (R.remaining reader.new) (W.contents writer.old) (W.contents writer.new) result }
 {
     let mut session = Session::new(alloc);
+    run_from(&mut session, reader, writer, options)
+}
+
+// Runs the script from a session before its first byte, and leaves the session to its owner, who alone drops it.
+fn run_from<R: Read, W: Write>(
+    session: &mut Session,
+    reader: &mut R,
+    writer: &mut W,
+    options: Options,
+) -> Result<Status, RunFault>
+    requires stage { session.old.stage ≡ first_stage }
+    requires number { session.old.number ≡ 0 }
+    requires line { session.old.line.items ≡ [] }
+    requires pending { session.old.pending.items ≡ [] }
+    ensures { RunsOver options (R.remaining reader.old) (R.remaining reader.new) (W.contents writer.old) (W.contents writer.new) result }
+{
     let mut buffer = [0u8; CHUNK];
     let mut room = LIMIT;
     while room > 0 {

@@ -3,18 +3,20 @@
 ghost use Rattle.std.specs.Prelude.{◌≡◌, ℕ, true, List, [], ◌++◌, ◌+◌, ◌<◌, ◌^◌, Option, length, IfOk, OnOk, OnErr};
 ghost use Rattle.std.specs.Io.BufRead.{strip_last};
 ghost use Rattle.cics_run.specs.Stages.{step, first_stage};
+ghost use Rattle.cics_run.specs.declared.stage.Stage.TheVariants.{Running};
 ghost use Rattle.cics_run.specs.Printing.{AppendsFront, Prints};
 ghost use Rattle.std.specs.Io.KnownBytes.{Appends};
 ghost use Rattle.cics_run.specs.Running.{ending};
 ghost use Rattle.cics_run.specs.Standing.{line_step, Stands, Feeds, Writes, Closes, Finishes};
 
+use crate::listing::{push_listing, push_replay};
 use crate::running::{Options, Status};
 use crate::stage::Stage;
-use crate::writing::{Stop, write_full, write_pending};
+use crate::writing::{Stop, write_pending, write_printed};
+use cics_dispatch::Region;
 use cics_names::NoMemory;
 use std::alloc::Global;
 use std::io::Write;
-use std::mem::replace;
 
 const LF: u8 = 10;
 
@@ -56,21 +58,12 @@ fn run_one<W: Write>(
     ensures left { IfOk result (λ fault. fault ≡ true → pending.new.items ≡ []) }
     ensures err { OnErr result (AppendsFront (W.contents writer.old) (W.contents writer.new) (pending.old.items ++ (step number stage.old line.now).text)) }
 {
-    let old = replace(stage, Stage::new(*pending.allocator()));
-    let ran = match old.run_line(number, line, pending) {
-        Ok(ran) => ran,
+    let is_fault = match stage.run_line(number, line, pending) {
+        Ok(is_fault) => is_fault,
         Err(_) => return Err(Stop::NoMemory),
     };
-    *stage = ran.stage;
-    let written = if ran.is_fault {
-        write_pending(pending, writer)
-    } else {
-        write_full(pending, writer)
-    };
-    match written {
-        Ok(()) => Ok(ran.is_fault),
-        Err(stop) => Err(stop),
-    }
+    write_printed(pending, writer, is_fault)?;
+    Ok(is_fault)
 }
 
 impl Session {
@@ -166,9 +159,9 @@ impl Session {
     }
 
     /// Runs the last line where it lacks its LF, and where no line was a fault, writes the listing.
-    pub fn finish<W: Write>(mut self, options: Options, writer: &mut W) -> Result<Status, Stop>
-        requires { self.number + 1 < 2 ^ 64 }
-        ensures { (bytes : List ℕ) (before : Option (List ℕ)) → Stands bytes before (W.contents writer.old) self
+    pub fn finish<W: Write>(&mut self, options: Options, writer: &mut W) -> Result<Status, Stop>
+        requires { self.old.number + 1 < 2 ^ 64 }
+        ensures { (bytes : List ℕ) (before : Option (List ℕ)) → Stands bytes before (W.contents writer.old) self.old
             → Finishes options bytes before (W.contents writer.new) result }
     {
         match self.end_input(writer) {
@@ -176,35 +169,49 @@ impl Session {
             Ok(true) => return Ok(Status::LineFault),
             Err(stop) => return Err(stop),
         }
-        match write_end(self.stage, options, self.pending, writer) {
+        match write_end(&mut self.stage, options, &mut self.pending, writer) {
             Ok(()) => Ok(Status::Done),
             Err(stop) => Err(stop),
         }
     }
 }
 
-// Writes what is pending, and behind it the listing, unless it is left out.
+// Writes what is pending, and behind it what is asked for of the listing and the replay.
 fn write_end<W: Write>(
-    stage: Stage,
+    stage: &mut Stage,
     options: Options,
-    mut pending: Vec<u8>,
+    pending: &mut Vec<u8>,
     writer: &mut W,
 ) -> Result<(), Stop>
-    ensures ok { OnOk result (Appends (W.contents writer.old) (W.contents writer.new) (pending.items ++ ending options stage)) }
-    ensures err { OnErr result (AppendsFront (W.contents writer.old) (W.contents writer.new) (pending.items ++ ending options stage)) }
+    ensures ok { OnOk result (Appends (W.contents writer.old) (W.contents writer.new) (pending.old.items ++ ending options stage.old)) }
+    ensures err { OnErr result (AppendsFront (W.contents writer.old) (W.contents writer.new) (pending.old.items ++ ending options stage.old)) }
 {
-    match push_ending(stage, options, &mut pending) {
-        Ok(()) => write_pending(&mut pending, writer),
+    match push_ending(stage, options, pending) {
+        Ok(()) => write_pending(pending, writer),
         Err(_) => Err(Stop::NoMemory),
     }
 }
 
-// Prints the listing, unless it is left out.
-fn push_ending(stage: Stage, options: Options, out: &mut Vec<u8>) -> Result<(), NoMemory>
-    ensures { OnOk result (out.new.items ≡ out.old.items ++ ending options stage) }
+// Prints what is asked for of the listing and the replay. Where no line has made the region yet, it is made here.
+fn push_ending(stage: &mut Stage, options: Options, out: &mut Vec<u8>) -> Result<(), NoMemory>
+    ensures { OnOk result (out.new.items ≡ out.old.items ++ ending options stage.old) }
 {
-    if options.no_list {
-        return Ok(());
+    stage.open()?;
+    match stage {
+        Stage::Running(region) => push_lists(region, options, out),
+        Stage::Opening(_) => unreachable!(),
     }
-    stage.push_listing(out)
+}
+
+// Prints the listing of a region, unless it is left out, and the replay, where it is asked for.
+fn push_lists(region: &Region, options: Options, out: &mut Vec<u8>) -> Result<(), NoMemory>
+    ensures { OnOk result (out.new.items ≡ out.old.items ++ ending options (Running region.now)) }
+{
+    if !options.no_list {
+        push_listing(out, &region.listing()?)?;
+    }
+    if options.replay {
+        push_replay(out, &region.replayed()?)?;
+    }
+    Ok(())
 }

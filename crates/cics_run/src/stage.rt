@@ -1,61 +1,33 @@
 //! What the lines of a script lead to.
 
-ghost use Rattle.std.specs.Prelude.{◌≡◌, ◌++◌, OnOk, OnErr, IfOk, IsTrue, Ok, Option, true, false};
+ghost use Rattle.std.specs.Prelude.{◌≡◌, ◌++◌, List, ℕ, OnOk, OnErr, IfOk, Ok, Option, true};
 ghost use Rattle.cics_units.specs.Openings.{OpeningState};
 ghost use Rattle.cics_units.specs.Faults.{IsRefused};
 ghost use Rattle.cics_units.specs.declared.opening.DefineFault.{DefineFault};
-ghost use Rattle.cics_dispatch.specs.OneTask.{is_first_path};
-ghost use Rattle.cics_run.specs.Journal.{line_fault_line};
-ghost use Rattle.cics_dispatch.specs.OneTask.{listing_of};
-ghost use Rattle.cics_run.specs.Stages.{first_stage, region_of, defined, too_late, file_defined, file_loaded, task_attached, command_issued, followed, step, listing_at, Leads, faulty};
+ghost use Rattle.cics_dispatch.specs.Verbs.{asks_no_queue};
+ghost use Rattle.cics_script.specs.Lines.{AsksNoQueue};
+ghost use Rattle.cics_run.specs.Journal.{line_fault_line, attached_line, outcome_line, refused_line, clock_line, clock_refused_line};
+ghost use Rattle.cics_run.specs.Stages.{first_stage, region_of, file_defined, file_loaded, event, task_attached, clock_moved, command_issued, followed, step, defined, told_line, IsAnswered, Leads, Happens};
+ghost use Rattle.cics_run.specs.declared.stage.Stage.TheVariants.{Opening as OpeningStage, Running};
 
 use crate::journal::{
-    push_attached, push_define_fault, push_line_fault, push_outcome, push_refused,
+    push_attached, push_clock, push_clock_refused, push_define_fault, push_line_fault,
+    push_outcome, push_refused,
 };
-use crate::listing::push_listing;
-use cics_dispatch::{Command, Refused, Region};
+use crate::settling::settle;
+use cics_dispatch::{Command, Outcome, Refused, Region};
 use cics_ksds::FileDef;
 use cics_names::{Name4, Name8, NoMemory, Record};
 use cics_script::{Line, LineFault, read_line};
 use cics_units::{DefineFault, Opening};
 use std::alloc::Global;
+use std::mem::replace;
 
 /// Definitions, until the first line that is neither blank nor one; then a region.
 #[derive(Drop)]
 pub enum Stage {
     Opening(Opening),
     Running(Region),
-}
-
-/// What a line led to: the stage behind it, and whether it printed a fault, which ends the run.
-#[derive(Drop)]
-pub struct Ran {
-    pub stage: Stage,
-    pub is_fault: bool,
-}
-
-impl Ran {
-    // The run goes on.
-    fn on(stage: Stage) -> Ran
-        ensures stage { result.stage ≡ stage }
-        ensures fault { result.is_fault ≡ false }
-    {
-        Ran {
-            stage,
-            is_fault: false,
-        }
-    }
-
-    // The line printed a fault.
-    fn fault(stage: Stage) -> Ran
-        ensures stage { result.stage ≡ stage }
-        ensures fault { result.is_fault ≡ true }
-    {
-        Ran {
-            stage,
-            is_fault: true,
-        }
-    }
 }
 
 impl Stage {
@@ -66,184 +38,250 @@ impl Stage {
         Stage::Opening(Opening::new(alloc))
     }
 
-    /// Runs the line with this number, and prints what comes of it.
-    pub fn run_line(self, number: u64, line: &[u8], out: &mut Vec<u8>) -> Result<Ran, NoMemory>
-        ensures { Leads (step number self line.now) out.old.items out.new.items result }
+    /// Runs the line with this number, prints what comes of it, and tells whether that is a fault,
+    /// which ends the run.
+    pub fn run_line(
+        &mut self,
+        number: u64,
+        line: &[u8],
+        out: &mut Vec<u8>,
+    ) -> Result<bool, NoMemory>
+        ensures { Leads (step number self.old line.now) self.new out.old.items out.new.items result }
     {
         match read_line(*out.allocator(), line) {
             Ok(line) => self.follow(number, line, out),
             Err(LineFault::NoMemory) => Err(NoMemory),
-            Err(fault) => print_fault(self, number, fault, out),
+            Err(fault) => print_fault(number, fault, out),
         }
     }
 
     // Runs a line that was read.
-    fn follow(self, number: u64, line: Line, out: &mut Vec<u8>) -> Result<Ran, NoMemory>
-        ensures { Leads (followed number self (Ok line)) out.old.items out.new.items result }
+    fn follow(&mut self, number: u64, line: Line, out: &mut Vec<u8>) -> Result<bool, NoMemory>
+        requires { AsksNoQueue line }
+        ensures { Leads (followed number self.old (Ok line)) self.new out.old.items out.new.items result }
     {
         match line {
-            Line::Blank => Ok(Ran::on(self)),
+            Line::Blank => Ok(false),
             Line::DefineFile(name, definition) => self.define_file(number, name, definition, out),
             Line::LoadFile(name, content) => self.load_file(number, name, content, out),
             Line::Attach {
                 label,
                 transaction,
                 dtimout,
-            } => attach(
-                self.into_region()?,
-                number,
-                label,
-                transaction,
-                dtimout,
-                out,
-            ),
-            Line::Clock(_) => print_fault(self, number, LineFault::UnknownWord, out),
-            Line::Issue(label, command) => {
-                if command.verb.is_first_path() {
-                    issue(self.into_region()?, label, command, out)
-                } else {
-                    print_fault(self, number, LineFault::UnknownWord, out)
-                }
-            }
+            } => self.attach(label, transaction, dtimout, out),
+            Line::Clock(seconds) => self.set_clock(seconds, out),
+            Line::Issue(label, command) => self.issue(label, command, out),
         }
     }
 
     fn define_file(
-        self,
+        &mut self,
         number: u64,
         name: Name8,
         definition: FileDef,
         out: &mut Vec<u8>,
-    ) -> Result<Ran, NoMemory>
-        ensures { Leads (file_defined number self name definition) out.old.items out.new.items result }
+    ) -> Result<bool, NoMemory>
+        ensures { Leads (file_defined number self.old name definition) self.new out.old.items out.new.items result }
     {
         match self {
-            Stage::Opening(mut opening) => {
-                let answer = opening.define_file(name, definition);
-                print_definition(opening, number, answer, out)
+            Stage::Opening(opening) => {
+                print_definition(number, opening.define_file(name, definition), out)
             }
-            Stage::Running(region) => print_fault(
-                Stage::Running(region),
-                number,
-                LineFault::DefineTooLate,
-                out,
-            ),
+            Stage::Running(_) => print_fault(number, LineFault::DefineTooLate, out),
         }
     }
 
     fn load_file(
-        self,
+        &mut self,
         number: u64,
         name: Name8,
         content: Record,
         out: &mut Vec<u8>,
-    ) -> Result<Ran, NoMemory>
-        ensures { Leads (file_loaded number self name content) out.old.items out.new.items result }
+    ) -> Result<bool, NoMemory>
+        ensures { Leads (file_loaded number self.old name content) self.new out.old.items out.new.items result }
     {
         match self {
-            Stage::Opening(mut opening) => {
-                let answer = opening.load_file(name, content);
-                print_definition(opening, number, answer, out)
+            Stage::Opening(opening) => {
+                print_definition(number, opening.load_file(name, content), out)
             }
-            Stage::Running(region) => print_fault(
-                Stage::Running(region),
-                number,
-                LineFault::DefineTooLate,
-                out,
-            ),
+            Stage::Running(_) => print_fault(number, LineFault::DefineTooLate, out),
         }
     }
 
-    // The region, which is made of the definitions where there is none yet.
-    fn into_region(self) -> Result<Region, NoMemory>
-        ensures { IfOk result (λ region. region ≡ region_of self) }
+    fn attach(
+        &mut self,
+        label: Name8,
+        transaction: Name4,
+        dtimout: u64,
+        out: &mut Vec<u8>,
+    ) -> Result<bool, NoMemory>
+        ensures { Leads (task_attached (region_of self.old).machine label transaction dtimout) self.new out.old.items out.new.items result }
     {
+        self.open()?;
         match self {
-            Stage::Opening(opening) => match Region::new(opening) {
-                Ok(region) => Ok(region),
-                Err(_) => Err(NoMemory),
-            },
-            Stage::Running(region) => Ok(region),
+            Stage::Running(region) => attach(region, label, transaction, dtimout, out)?,
+            Stage::Opening(_) => unreachable!(),
         }
+        Ok(false)
     }
 
-    /// Prints the listing.
-    pub fn push_listing(self, out: &mut Vec<u8>) -> Result<(), NoMemory>
-        ensures { OnOk result (out.new.items ≡ out.old.items ++ listing_at self) }
+    fn set_clock(&mut self, seconds: u64, out: &mut Vec<u8>) -> Result<bool, NoMemory>
+        ensures { Leads (clock_moved (region_of self.old).machine seconds) self.new out.old.items out.new.items result }
     {
-        let region = self.into_region()?;
-        push_listing(out, &region.listing()?)
+        self.open()?;
+        match self {
+            Stage::Running(region) => set_clock(region, seconds, out)?,
+            Stage::Opening(_) => unreachable!(),
+        }
+        Ok(false)
+    }
+
+    fn issue(&mut self, label: Name8, command: Command, out: &mut Vec<u8>) -> Result<bool, NoMemory>
+        requires { asks_no_queue command.verb ≡ true }
+        ensures { Leads (command_issued (region_of self.old).machine label command) self.new out.old.items out.new.items result }
+    {
+        self.open()?;
+        match self {
+            Stage::Running(region) => issue(region, label, command, out)?,
+            Stage::Opening(_) => unreachable!(),
+        }
+        Ok(false)
+    }
+
+    /// Makes the region of the definitions, where there is none yet. Without memory the definitions stay.
+    pub fn open(&mut self) -> Result<(), NoMemory>
+        ensures { OnOk result (self.new ≡ Running (region_of self.old)) }
+    {
+        let Stage::Opening(opening) = self else {
+            return Ok(());
+        };
+        let nothing = Opening::new(opening.files().allocator());
+        match Region::new(replace(opening, nothing)) {
+            Ok(region) => {
+                *self = Stage::Running(region);
+                Ok(())
+            }
+            Err(definitions) => {
+                *opening = definitions;
+                Err(NoMemory)
+            }
+        }
     }
 }
 
 // Prints the fault of a line.
-fn print_fault(
-    stage: Stage,
-    number: u64,
-    fault: LineFault,
-    out: &mut Vec<u8>,
-) -> Result<Ran, NoMemory>
-    ensures { Leads (faulty stage (line_fault_line number fault)) out.old.items out.new.items result }
+fn print_fault(number: u64, fault: LineFault, out: &mut Vec<u8>) -> Result<bool, NoMemory>
+    ensures text { OnOk result (out.new.items ≡ out.old.items ++ line_fault_line number fault) }
+    ensures fault { IfOk result (λ is_fault. is_fault ≡ true) }
 {
     push_line_fault(out, number, fault)?;
-    Ok(Ran::fault(stage))
+    Ok(true)
 }
 
-// Prints the fault of a definition, if it has one. `opening` is what the definition left.
+// Prints the fault of a definition, if it has one, and tells whether it has. The clause speaks of the opening that the
+// definition left, `now`.
 fn print_definition(
-    opening: Opening,
     number: u64,
     answer: Result<(), DefineFault>,
     out: &mut Vec<u8>,
-) -> Result<Ran, NoMemory>
-    ensures { (o next : OpeningState) (fault : Option DefineFault) → IsRefused answer fault → OnOk answer (opening ≡ next) → OnErr answer (opening ≡ o)
-        → Leads (defined number o fault next) out.old.items out.new.items result }
+) -> Result<bool, NoMemory>
+    ensures { (o next now : OpeningState) (fault : Option DefineFault) → IsRefused answer fault → OnOk answer (now ≡ next) → OnErr answer (now ≡ o)
+        → Leads (defined number o fault next) (OpeningStage now) out.old.items out.new.items result }
 {
     match answer {
-        Ok(()) => Ok(Ran::on(Stage::Opening(opening))),
+        Ok(()) => Ok(false),
         Err(DefineFault::NoMemory) => Err(NoMemory),
         Err(fault) => {
             push_define_fault(out, number, fault)?;
-            Ok(Ran::fault(Stage::Opening(opening)))
+            Ok(true)
         }
     }
 }
 
+// Gives a task's beginning to the region, and prints what comes of it.
 fn attach(
-    mut region: Region,
-    number: u64,
+    region: &mut Region,
     label: Name8,
     transaction: Name4,
     dtimout: u64,
     out: &mut Vec<u8>,
-) -> Result<Ran, NoMemory>
-    ensures { Leads (task_attached number region label transaction) out.old.items out.new.items result }
+) -> Result<(), NoMemory>
+    ensures { Happens (task_attached region.old.machine label transaction dtimout) region.new out.old.items out.new.items result }
 {
-    if region.has_task() {
-        return print_fault(Stage::Running(region), number, LineFault::UnknownWord, out);
-    }
-    match region.attach(label, transaction, dtimout) {
-        Ok(()) => {
-            push_attached(out, label, transaction)?;
-            Ok(Ran::on(Stage::Running(region)))
-        }
-        Err(_) => Err(NoMemory),
+    let answer = region.attach(label, transaction, dtimout);
+    tell_attached(label, transaction, answer, out)?;
+    go_on(region, out)
+}
+
+fn tell_attached(
+    label: Name8,
+    transaction: Name4,
+    answer: Result<(), Refused>,
+    out: &mut Vec<u8>,
+) -> Result<(), NoMemory>
+    ensures text { OnOk result (out.new.items ≡ out.old.items ++ told_line (λ _. attached_line label transaction) (refused_line label) answer) }
+    ensures answered { OnOk result (IsAnswered answer) }
+{
+    match answer {
+        Ok(()) => push_attached(out, label, transaction),
+        Err(Refused::NoMemory) => Err(NoMemory),
+        Err(refusal) => push_refused(out, label, refusal),
     }
 }
 
+// Sets the clock of the region, and prints what comes of it.
+fn set_clock(region: &mut Region, seconds: u64, out: &mut Vec<u8>) -> Result<(), NoMemory>
+    ensures { Happens (clock_moved region.old.machine seconds) region.new out.old.items out.new.items result }
+{
+    let answer = region.set_clock(seconds);
+    tell_clock(seconds, answer, out)?;
+    go_on(region, out)
+}
+
+fn tell_clock(seconds: u64, answer: Result<(), Refused>, out: &mut Vec<u8>) -> Result<(), NoMemory>
+    ensures text { OnOk result (out.new.items ≡ out.old.items ++ told_line (λ _. clock_line seconds) clock_refused_line answer) }
+    ensures answered { OnOk result (IsAnswered answer) }
+{
+    match answer {
+        Ok(()) => push_clock(out, seconds),
+        Err(Refused::NoMemory) => Err(NoMemory),
+        Err(refusal) => push_clock_refused(out, refusal),
+    }
+}
+
+// Gives a task's command to the region, and prints what comes of it.
 fn issue(
-    mut region: Region,
+    region: &mut Region,
     label: Name8,
     command: Command,
     out: &mut Vec<u8>,
-) -> Result<Ran, NoMemory>
-    requires { IsTrue (is_first_path command.verb) }
-    ensures { Leads (command_issued region label command) out.old.items out.new.items result }
+) -> Result<(), NoMemory>
+    requires { asks_no_queue command.verb ≡ true }
+    ensures { Happens (command_issued region.old.machine label command) region.new out.old.items out.new.items result }
 {
-    match region.issue(label, command) {
-        Ok(outcome) => push_outcome(out, label, &outcome)?,
-        Err(Refused::NoMemory) => return Err(NoMemory),
-        Err(refusal) => push_refused(out, label, refusal)?,
+    let answer = region.issue(label, command);
+    tell_issued(label, answer, out)?;
+    go_on(region, out)
+}
+
+fn tell_issued(
+    label: Name8,
+    answer: Result<Outcome, Refused>,
+    out: &mut Vec<u8>,
+) -> Result<(), NoMemory>
+    ensures text { OnOk result (out.new.items ≡ out.old.items ++ told_line (outcome_line label) (refused_line label) answer) }
+    ensures answered { OnOk result (IsAnswered answer) }
+{
+    match &answer {
+        Ok(outcome) => push_outcome(out, label, outcome),
+        Err(Refused::NoMemory) => Err(NoMemory),
+        Err(refusal) => push_refused(out, label, *refusal),
     }
-    Ok(Ran::on(Stage::Running(region)))
+}
+
+// Goes on behind the line of an event: the region settles.
+fn go_on(region: &mut Region, out: &mut Vec<u8>) -> Result<(), NoMemory>
+    ensures { (before text : List ℕ) → out.old.items ≡ before ++ text → Happens (event text region.old.machine) region.new before out.new.items result }
+{
+    settle(region, out)
 }

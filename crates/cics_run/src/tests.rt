@@ -1,5 +1,10 @@
 //! Scripts from bytes to bytes, over readers and writers that give and take little, or fail.
 
+mod scripts;
+
+use crate::tests::scripts::{
+    ROLLBACK, ROLLBACK_JOURNAL, ROLLBACK_LISTING, ROLLBACK_REPLAY, SCRIPTS,
+};
 use crate::{Asked, LIMIT, Options, RunFault, Status, arguments, exit_status, run};
 use std::alloc::Global;
 use std::io;
@@ -36,10 +41,13 @@ FILE 'ACCT' RECOVERABLE RECORDS 2
   '0002bb'
 ";
 
-const LISTED: Options = Options { no_list: false };
+const LISTED: Options = Options {
+    no_list: false,
+    replay: false,
+};
 
 // Scripts, what they print, and whether that ends with a fault.
-const ROWS: [(&str, &str, Status); 14] = [
+const ROWS: [(&str, &str, Status); 16] = [
     ("", "LISTING\n", Status::Done),
     ("\r\n* a comment\n \t\n", "LISTING\n", Status::Done),
     (
@@ -92,8 +100,19 @@ const ROWS: [(&str, &str, Status); 14] = [
         Status::LineFault,
     ),
     (
-        "attach t1 transid('AAAA')\nATTACH T2 TRANSID('AAAA')\n",
-        "T1 ATTACHED 'AAAA'\nLINE 2 FAULT 3 UnknownWord\n",
+        "attach t1 transid('AAAA')\nATTACH T2 TRANSID('AAAA')\nATTACH T1 TRANSID('AAAA')\nX\n",
+        "T1 ATTACHED 'AAAA'\nT2 ATTACHED 'AAAA'\nT1 REFUSED 5 DuplicateLabel\n\
+         LINE 4 FAULT 3 UnknownWord\n",
+        Status::LineFault,
+    ),
+    (
+        "CLOCK 18446744073709551615",
+        "CLOCK 18446744073709551615\nLISTING\n",
+        Status::Done,
+    ),
+    (
+        "CLOCK 1\nDEFINE FILE('ACCT') KEYLENGTH(4) RECOVERABLE\n",
+        "CLOCK 1\nLINE 2 FAULT 9 DefineTooLate\n",
         Status::LineFault,
     ),
     (
@@ -216,9 +235,66 @@ fn scripts_print_what_they_call_for(rt: HostRuntime) -> Result<(), Fail> {
     Ok(())
 }
 
+// Whether a script prints this whole and byte by byte, and has no fault.
+fn prints(alloc: Global, script: &str, output: &str, options: Options) -> Result<bool, Fail> {
+    let (written, status) = outcome(alloc, script.as_bytes(), options)?;
+    let mut reader = Giver::new(script.as_bytes(), 1, None);
+    let mut writer = Taker::new(alloc, 1, usize::MAX, false);
+    let answer = run(alloc, &mut reader, &mut writer, options);
+    Ok(
+        written.as_slice() == output.as_bytes()
+            && writer.got.as_slice() == output.as_bytes()
+            && status == 0
+            && exit_status(&answer) == 0,
+    )
+}
+
+#[test]
+fn tasks_wait_go_on_and_end(rt: HostRuntime) -> Result<(), Fail> {
+    for (script, output) in SCRIPTS {
+        assert!(rt; prints(rt.alloc(), script, output, LISTED)?, "{script}");
+    }
+    Ok(())
+}
+
+#[test]
+fn the_listing_and_the_replay_are_printed_as_asked_for(rt: HostRuntime) -> Result<(), Fail> {
+    for no_list in [false, true] {
+        for replay in [false, true] {
+            let options = Options { no_list, replay };
+            let listing = if no_list { "" } else { ROLLBACK_LISTING };
+            let replayed = if replay { ROLLBACK_REPLAY } else { "" };
+            let output = format!(in rt.alloc(); "{ROLLBACK_JOURNAL}{listing}{replayed}")?;
+            assert!(rt; prints(rt.alloc(), ROLLBACK, &output, options)?, "{output}");
+        }
+    }
+    Ok(())
+}
+
+#[test]
+fn a_failed_write_of_the_replay_leaves_a_front(rt: HostRuntime) -> Result<(), Fail> {
+    let options = Options {
+        no_list: false,
+        replay: true,
+    };
+    let output = format!(in rt.alloc(); "{ROLLBACK_JOURNAL}{ROLLBACK_LISTING}{ROLLBACK_REPLAY}")?;
+    for room in 0..output.len() {
+        let mut reader = Giver::new(ROLLBACK.as_bytes(), 7, None);
+        let mut writer = Taker::new(rt.alloc(), 3, room, false);
+        let answer = run(rt.alloc(), &mut reader, &mut writer, options);
+        let is_write_fault = matches!(&answer, Err(RunFault::WriteFault));
+        assert!(rt; is_write_fault, "{room}");
+        assert_eq!(rt; writer.got.as_slice(), &output.as_bytes()[..room], "{room}");
+    }
+    Ok(())
+}
+
 #[test]
 fn no_listing_is_printed_where_it_is_left_out(rt: HostRuntime) -> Result<(), Fail> {
-    let options = Options { no_list: true };
+    let options = Options {
+        no_list: true,
+        replay: false,
+    };
     let (written, _) = outcome(rt.alloc(), FIRST_PATH.as_bytes(), options)?;
     assert_eq!(rt; written.as_slice(), FIRST_JOURNAL.as_bytes());
     let (written, answer) = outcome(rt.alloc(), b"", options)?;
@@ -361,31 +437,40 @@ fn asked(alloc: Global, words: &[&str]) -> Result<Asked, Fail> {
     arguments(alloc, all).map_err(|_| Fail::from("no memory"))
 }
 
+// Whether the words of a command line ask for a run with these options.
+fn is_run(alloc: Global, words: &[&str], options: Options) -> Result<bool, Fail> {
+    Ok(matches!(asked(alloc, words)?, Asked::Run(found) if found == options))
+}
+
 #[test]
 fn arguments_ask_for_a_run_or_help(rt: HostRuntime) -> Result<(), Fail> {
-    let plain = matches!(
-        asked(rt.alloc(), &[])?,
-        Asked::Run(Options { no_list: false })
-    );
-    assert!(rt; plain);
-    let unlisted = matches!(
-        asked(rt.alloc(), &["--no-list"])?,
-        Asked::Run(Options { no_list: true })
-    );
-    assert!(rt; unlisted);
+    for no_list in [false, true] {
+        for replay in [false, true] {
+            let mut words = Vec::new(rt.alloc());
+            if replay {
+                words.push("--replay")?;
+            }
+            if no_list {
+                words.push("--no-list")?;
+            }
+            let found = is_run(rt.alloc(), &words, Options { no_list, replay })?;
+            assert!(rt; found, "{no_list} {replay}");
+        }
+    }
     for word in ["--help", "-h"] {
         let Asked::Help(text) = asked(rt.alloc(), &[word])? else {
             return Err(Fail::from("no help"));
         };
         assert!(rt; text.contains("--no-list"));
+        assert!(rt; text.contains("--replay"));
         assert!(rt; text.contains("Exit status:"));
         assert!(rt; text.contains("bin/cicsrun"));
     }
     for words in [
-        &["--replay"][..],
-        &["--version"],
+        &["--version"][..],
         &["script"],
         &["--no-list", "--no-list"],
+        &["--replay", "--no-list", "--replay"],
     ] {
         let Asked::Bad(text) = asked(rt.alloc(), words)? else {
             return Err(Fail::from("not bad"));

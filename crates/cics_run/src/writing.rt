@@ -1,8 +1,8 @@
 //! Printed text, gathered and written when enough of it has come together.
 
-ghost use Rattle.std.specs.Prelude.{◌≡◌, ◌++◌, [], OnOk, OnErr};
+ghost use Rattle.std.specs.Prelude.{◌≡◌, ◌++◌, [], true, OnOk, OnErr};
 ghost use Rattle.std.specs.Io.KnownBytes.{Appends};
-ghost use Rattle.cics_run.specs.Printing.{AppendsFront, IsPrinted};
+ghost use Rattle.cics_run.specs.Printing.{AppendsFront, Prints};
 
 use cics_names::NoMemory;
 use std::io::Write;
@@ -54,12 +54,18 @@ pub fn write_pending<W: Write>(pending: &mut Vec<u8>, writer: &mut W) -> Result<
     }
 }
 
-/// Writes what is pending where enough of it has come together.
-pub fn write_full<W: Write>(pending: &mut Vec<u8>, writer: &mut W) -> Result<(), Stop>
-    ensures { IsPrinted result (W.contents writer.old) (W.contents writer.new) pending.old.items pending.new.items [] }
+/// Writes what is pending, where that is to be at once or enough of it has come together.
+pub fn write_printed<W: Write>(
+    pending: &mut Vec<u8>,
+    writer: &mut W,
+    at_once: bool,
+) -> Result<(), Stop>
+    ensures printed { OnOk result (Prints (W.contents writer.old) (W.contents writer.new) pending.old.items pending.new.items []) }
+    ensures left { OnOk result (at_once ≡ true → pending.new.items ≡ []) }
+    ensures err { OnErr result (AppendsFront (W.contents writer.old) (W.contents writer.new) pending.old.items) }
 {
-    if pending.len() < FULL {
-        return Ok(());
+    if at_once || pending.len() >= FULL {
+        return write_pending(pending, writer);
     }
-    write_pending(pending, writer)
+    Ok(())
 }

@@ -14,6 +14,6 @@ pub returns-in-Ok : goal.returns-in-Ok
 returns-in-Ok g c bytes before at =
     end-written c.args.options bytes before _ _ _ _ (rw c.in-Ok-false.field-0-test at (c.in-Ok-false.ensures.closes bytes before at)) c.in-Ok.ensures.ok
 
-pub returns : goal.returns
-returns g c bytes before at =
+pub returns-in-Err-write_end : goal.returns-in-Err-write_end
+returns-in-Err-write_end g c bytes before at =
     end-front c.args.options bytes before _ _ _ _ (rw c.in-Ok-false.field-0-test at (c.in-Ok-false.ensures.closes bytes before at)) c.in-Err-write_end.ensures.err

@@ -2,7 +2,7 @@ use Rattle.std.proofs.Common.{◌≡◌, ℕ, List, ◌+◌, length}
 use Rattle.std.specs.Io.KnownBytes.{Consumes}
 use Rattle.cics_run.specs.Standing.{Stands}
 use Rattle.cics_run.specs.declared.running.TheConstants.{LIMIT, CHUNK}
-use Rattle.cics_run.proofs.running.run.Given as goal
+use Rattle.cics_run.proofs.running.run_from.Given as goal
 
 abbrev pub invariant-loop-room : goal.invariant-loop-room
 invariant-loop-room g l = (bytes : List ℕ) × Consumes (g.R.Read.remaining l.fn.reader) (g.R.Read.remaining l.reader) bytes

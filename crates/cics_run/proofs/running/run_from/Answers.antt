@@ -5,7 +5,7 @@ use Rattle.cics_run.specs.Standing.{fault_of, ended}
 use Rattle.cics_run.specs.declared.running.TheConstants.{LIMIT}
 use Rattle.cics_run.proofs.Known.{consumes-append, consumes-keeps}
 use Rattle.cics_run.proofs.Reading.{number-bound, front-of, stopped-output, front-journal, read_more, read_nothing, one_more, answers-stop, answers-ended}
-use Rattle.cics_run.proofs.running.run.Goals as goal
+use Rattle.cics_run.proofs.running.run_from.Goals as goal
 
 pub returns-in-Err : goal.returns-in-Err
 returns-in-Err g c =

@@ -1,0 +1,42 @@
+//! What a region does by itself after an event.
+
+ghost use Rattle.std.specs.Prelude.{◌≡◌, ◌++◌, None, length, IfOk, OnOk};
+ghost use Rattle.cics_run.specs.Settling.{settled, region_at, turn, Turns};
+
+use crate::journal::{push_expired, push_woken};
+use cics_dispatch::Region;
+use cics_names::NoMemory;
+
+/// Lets each waiting command go on that needn't wait any more, abends each task that has waited too
+/// long, and prints what comes of it, until nothing more comes by itself.
+///
+/// A command that may go on comes before a task whose time is over. It is refused for want of memory
+/// alone.
+pub fn settle(region: &mut Region, out: &mut Vec<u8>) -> Result<(), NoMemory>
+    ensures region { OnOk result (region.new ≡ region_at (settled (length region.old.machine.waiting) region.old.machine).machine) }
+    ensures text { OnOk result (out.new.items ≡ out.old.items ++ (settled (length region.old.machine.waiting) region.old.machine).text) }
+    ensures quiet { OnOk result (turn region.new.machine ≡ None) }
+{
+    while turn(region, out)? {}
+    Ok(())
+}
+
+// Takes one turn and prints its line, and tells whether there was one to take.
+fn turn(region: &mut Region, out: &mut Vec<u8>) -> Result<bool, NoMemory>
+    ensures { IfOk result (Turns region.old.machine region.new out.old.items out.new.items) }
+{
+    match region.wake() {
+        Ok(Some(woken)) => {
+            push_woken(out, &woken)?;
+            Ok(true)
+        }
+        Ok(None) => match region.expire() {
+            Some(expired) => {
+                push_expired(out, &expired)?;
+                Ok(true)
+            }
+            None => Ok(false),
+        },
+        Err(_) => Err(NoMemory),
+    }
+}
