@@ -22,14 +22,3 @@ mod waits;
 pub use commands::{Command, Verb};
 pub use outcomes::{Expired, Number, Outcome, Refused, Reply, Woken};
 pub use regions::Region;
-
-#[cfg(test)]
-mod tests;
-#[cfg(test)]
-mod tests_commands;
-#[cfg(test)]
-mod tests_playing;
-#[cfg(test)]
-mod tests_refusals;
-#[cfg(test)]
-mod tests_told;

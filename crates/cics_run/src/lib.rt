@@ -8,8 +8,6 @@ mod running;
 mod session;
 mod settling;
 mod stage;
-#[cfg(test)]
-mod tests;
 mod texts;
 mod writing;
 

@@ -18,6 +18,3 @@ mod words;
 pub use faults::LineFault;
 pub use lines::{Line, read_line};
 pub use spelling::commands_in_any_order;
-
-#[cfg(test)]
-mod tests;

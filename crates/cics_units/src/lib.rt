@@ -19,24 +19,3 @@ pub use opening::{DefineFault, Opening};
 pub use ops::{Answer, Done, Enqueued, Entry, Op, UnitState};
 pub use replay::plain_replay;
 pub use units::Units;
-
-#[cfg(test)]
-mod enq_tests;
-#[cfg(test)]
-mod fixtures;
-#[cfg(test)]
-mod guarded_calls;
-#[cfg(test)]
-mod looks;
-#[cfg(test)]
-mod open_reads_tests;
-#[cfg(test)]
-mod refusals_tests;
-#[cfg(test)]
-mod replay_tests;
-#[cfg(test)]
-mod scenarios;
-#[cfg(test)]
-mod tests;
-#[cfg(test)]
-mod units_tests;

@@ -6,9 +6,9 @@
 use crate::fixtures::opened;
 use crate::guarded_calls::holder;
 use crate::scenarios::{comes_out, is_replayed};
-use crate::{DefineFault, Opening, Units};
 use cics_enqueue::UnitId;
 use cics_names::{Name8, NoMemory};
+use cics_units::{DefineFault, Opening, Units};
 use std::alloc::Global;
 use std::test::Fail;
 

@@ -2,9 +2,9 @@
 
 use crate::looks::is_listed;
 use crate::scenarios::{cut, halves};
-use crate::{DefineFault, Files, Opening};
 use cics_ksds::{File, FileDef};
 use cics_names::{Name8, NoMemory, Record};
+use cics_units::{DefineFault, Files, Opening};
 use std::alloc::Global;
 use std::test::Fail;
 

@@ -6,9 +6,9 @@
 use crate::fixtures::{opened, write};
 use crate::looks::is_listed;
 use crate::scenarios::{command, cut, halves};
-use crate::{Answer, Entry, Op, UnitState, plain_replay};
 use cics_enqueue::UnitId;
 use cics_names::{Condition, Items, Name4, Name8, NoMemory, Record};
+use cics_units::{Answer, Entry, Op, UnitState, plain_replay};
 use std::alloc::Global;
 use std::test::Fail;
 

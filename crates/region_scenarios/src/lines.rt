@@ -1,6 +1,8 @@
-use crate::{Line, LineFault, read_line};
+//! Lines, and what each is read as or what is wrong with it.
+
 use cics_dispatch::Verb;
 use cics_names::{Name4, Name8};
+use cics_script::{Line, LineFault, read_line};
 use std::test::Fail;
 
 // The number and the name of a line's fault, if it has one.

@@ -1,6 +1,6 @@
 //! Scenarios of a region: tasks that share a recoverable file and one that isn't.
 
-use crate::tests_playing::first_wrong;
+use crate::playing::first_wrong;
 use std::test::Fail;
 
 const ONE_DELETED_KEY: &str = "\

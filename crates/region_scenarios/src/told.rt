@@ -1,6 +1,6 @@
 //! What comes of a call as text, as a scenario expects it.
 
-use crate::{Expired, Outcome, Refused, Reply, Woken};
+use cics_dispatch::{Expired, Outcome, Refused, Reply, Woken};
 use cics_names::{NoMemory, Record, from_ebcdic};
 use std::alloc::Global;
 

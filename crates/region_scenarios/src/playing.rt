@@ -6,9 +6,9 @@
 ghost use Rattle.std.specs.Prelude.{◌≡◌};
 ghost use Rattle.cics_dispatch.specs.Verbs.{asks_no_queue};
 
-use crate::tests_commands::{NotPlayed, command, name, number, word};
-use crate::tests_told::{Came, push_name, push_record, told};
-use crate::{Command, Outcome, Refused, Region, Verb};
+use crate::commands::{NotPlayed, command, name, number, word};
+use crate::told::{Came, push_name, push_record, told};
+use cics_dispatch::{Command, Outcome, Refused, Region, Verb};
 use cics_ksds::FileDef;
 use cics_names::{Name4, Name8, NoMemory, Record};
 use cics_units::{Listing, Opening, TaskState, UnitState};

@@ -9,9 +9,9 @@
 use crate::fixtures::{KEYED, delete, is_same_listing, opened, read_update, rewrite, write};
 use crate::guarded_calls::{Told, deq, end, enq, execute, unlock};
 use crate::looks::shows;
-use crate::{Op, Units, plain_replay};
 use cics_enqueue::UnitId;
 use cics_names::{Name8, NoMemory};
+use cics_units::{Op, Units, plain_replay};
 use std::alloc::Global;
 use std::test::Fail;
 

@@ -10,10 +10,10 @@
 
 use crate::guarded_calls::{holder, outcome};
 use crate::scenarios::cut;
-use crate::{UnitState, Units};
 use cics_enqueue::UnitId;
 use cics_ksds::File;
 use cics_names::{Items, Name8, NoMemory, Record};
+use cics_units::{UnitState, Units};
 use std::alloc::Global;
 
 // The records with a stroke between them.

@@ -1,11 +1,9 @@
 //! Scripts from bytes to bytes, over readers and writers that give and take little, or fail.
 
-mod scripts;
-
-use crate::tests::scripts::{
+use crate::scripts::{
     ROLLBACK, ROLLBACK_JOURNAL, ROLLBACK_LISTING, ROLLBACK_REPLAY, SCRIPTS,
 };
-use crate::{Asked, LIMIT, Options, RunFault, Status, arguments, exit_status, run};
+use cics_run::{Asked, LIMIT, Options, RunFault, Status, arguments, exit_status, run};
 use std::alloc::Global;
 use std::io;
 use std::io::{Read, Write};

@@ -3,10 +3,10 @@
 //!
 //! Whatever allocation it is that is refused, this test has to end as it does with none refused.
 
-use crate::Region;
-use crate::tests_commands::NotPlayed;
-use crate::tests_playing::{is_look, is_replayed, look, made, push_look, region};
-use crate::tests_told::{Came, told, wants_memory};
+use crate::commands::NotPlayed;
+use crate::playing::{is_look, is_replayed, look, made, push_look, region};
+use crate::told::{Came, told, wants_memory};
+use cics_dispatch::Region;
 use cics_names::NoMemory;
 use std::alloc::Global;
 use std::test::Fail;

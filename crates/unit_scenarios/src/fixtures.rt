@@ -1,8 +1,8 @@
 //! What the tests share: an opening of two files, commands on them, and when listings are the same.
 
-use crate::{DefineFault, Listing, Op, Opening};
 use cics_ksds::FileDef;
 use cics_names::{Items, Name8, NoMemory, Record};
+use cics_units::{DefineFault, Listing, Op, Opening};
 use std::alloc::Global;
 
 /// A recoverable file of records of up to 10 bytes that begin with a key of 2 bytes.

@@ -1,8 +1,8 @@
 //! Values that two units enqueue on side by side.
 
 use crate::scenarios::first_wrong_of;
-use crate::{Opening, Units};
 use cics_names::NoMemory;
+use cics_units::{Opening, Units};
 use std::alloc::Global;
 use std::test::Fail;
 

@@ -7,9 +7,9 @@ ghost use Rattle.cics_units.specs.Execution.{has_read, is_fit_for, is_ready_op, 
 ghost use Rattle.cics_units.specs.OpenReads.{is_read_key};
 ghost use Rattle.cics_units.specs.TableInPlace.{is_file_op};
 
-use crate::{Done, Enqueued, Op, UnitState, Units};
 use cics_enqueue::{Resource, UnitId};
 use cics_names::{Condition, Name8, NoMemory, Record};
+use cics_units::{Done, Enqueued, Op, UnitState, Units};
 
 /// What came of a call; units are told by their numbers.
 #[derive(Clone, Copy, Debug, PartialEq, Eq)]
