@@ -1,6 +1,6 @@
 -- Waking a command and abending a task for its time take a command out of the waiting ones, and add none.
 use Rattle.std.specs.Prelude.{◌≡◌, ℕ, ◌<◌, ◌≤◌, Bool, true, false, not, cond, if◌then◌else◌, List, [], ◌∷◌, length, take, nat_le, Option, Some, None, is_none, refl}
-use Rattle.std.proofs.Common.{arith, sym, ap, ◌∙◌, subst}
+use Rattle.std.proofs.Common.{arith, sym, ap, ◌∙◌}
 use Rattle.cics_names.specs.Keyed.{Bytes, value_at, without, is_same}
 use Rattle.cics_names.specs.KeyedLaws.{is_same-self}
 use Rattle.cics_names.specs.Conditions.{default_abend_of}
@@ -14,7 +14,7 @@ use Rattle.cics_units.specs.Store.{apply}
 use Rattle.cics_units.specs.Execution.{unit_or_next, done_of, execution, after_execution, count_at, enq_of, enqueue, after_enqueue, ts_reading, after_ts_reading, item_asked}
 use Rattle.cics_units.specs.declared.ops.Op.{Op}
 use Rattle.cics_units.specs.declared.ops.Enqueued.TheVariants.{Taken, CountFull}
-use Rattle.cics_dispatch.specs.Machine.{Machine, Task, Suspended, task_at, is_waiting, not_waiting, with_waiting, with_units, with_task, with_unit, with_browses, records_in, no_code}
+use Rattle.cics_dispatch.specs.Machine.{Machine, Task, Suspended, task_at, is_waiting, not_waiting, with_waiting, with_units, with_task, with_unit, with_browses, records_in}
 use Rattle.cics_dispatch.specs.Replies.{plain, cut, read_reply}
 use Rattle.cics_dispatch.specs.Steps.{unhandled, answered, length_of, reply_of, executed, enqueued, unlocked, dequeued, browse_reply, with_browse, started, reset, browsed, other_command, by_op, op_of, performed}
 use Rattle.cics_dispatch.specs.Waking.{holder_for, may_go_on, first_free, went_on, woken_first, woken, is_late, first_late, expired_task, expired}

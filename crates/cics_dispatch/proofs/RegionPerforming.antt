@@ -1,6 +1,5 @@
 -- The commands of the tasks of a region: what their checks tell, and what they answer.
-use Rattle.std.specs.Prelude.{◌≡◌, ℕ, ◌≤◌, ◌&&◌, if◌then◌else◌, Bool, true, false, Option, Some, None, is_some, is_none, nat_le, Result, Ok, Err, IfOk, IfSome, OnErr, IsTrue, IsErr, IsErrAnd, option_map, length, slice_get, refl}
-use Rattle.std.specs.Option.{option_copied}
+use Rattle.std.specs.Prelude.{◌≡◌, ℕ, ◌≤◌, ◌&&◌, if◌then◌else◌, Bool, true, false, Option, Some, None, is_some, is_none, nat_le, Result, Ok, Err, IfOk, IfSome, OnErr, IsErr, IsErrAnd, length, refl}
 use Rattle.std.proofs.Common.{◌∙◌, sym, ap, subst}
 use Rattle.std.proofs.lemmas.Bool.{false≢true, leb-true}
 use Rattle.cics_names.specs.Keyed.{Bytes, value_at}
@@ -21,7 +20,6 @@ use Rattle.cics_dispatch.specs.Verbs.{asks_no_queue}
 use Rattle.cics_dispatch.specs.declared.commands.Command.{Command}
 use Rattle.cics_dispatch.specs.declared.commands.Verb.{Verb}
 use Rattle.cics_dispatch.specs.declared.commands.Verb.TheVariants.{Unlock, ResetBr, ReadNext, ReadPrev, EndBr, Enq, Deq, Syncpoint, Rollback, Return, Abend}
-use Rattle.cics_dispatch.specs.declared.outcomes.Outcome.{Outcome}
 use Rattle.cics_dispatch.specs.declared.outcomes.Refused.{Refused}
 use Rattle.cics_dispatch.specs.declared.outcomes.Refused.TheVariants.{NoMemory, TaskEnded, TaskWaiting}
 use Rattle.cics_dispatch.proofs.TaskPlaces.{place_of_task}

@@ -1,13 +1,12 @@
 -- A session at the input's end.
-use Rattle.std.proofs.Common.{◌≡◌, ℕ, Bool, true, false, ◌+◌, cond, List, [], ◌∷◌, ◌++◌, length, refl, ap, sym, ◌∙◌, subst, append_assoc, append-nil, Option, ◌<◌, arith}
+use Rattle.std.proofs.Common.{◌≡◌, ℕ, Bool, true, false, ◌+◌, cond, List, [], ◌∷◌, ◌++◌, length, refl, ap, sym, ◌∙◌, subst, append-nil, Option, ◌<◌, arith}
 use Rattle.std.proofs.lemmas.List.Sums.{fold-append}
 use Rattle.std.proofs.lemmas.List.{nil_from_length}
-use Rattle.std.specs.List.{fold}
 use Rattle.std.specs.Prelude.{Result, Ok, Err, IfOk, OnOk, OnErr}
 use Rattle.std.specs.Io.KnownBytes.{Appends}
-use Rattle.cics_run.specs.Lines.{pieces, completed, unfinished, last_line, all_lines}
+use Rattle.cics_run.specs.Lines.{completed, unfinished, last_line, all_lines}
 use Rattle.cics_run.specs.Stages.{step, Step}
-use Rattle.cics_run.specs.Printing.{AppendsFront, IsFront, Prints}
+use Rattle.cics_run.specs.Printing.{AppendsFront, Prints}
 use Rattle.cics_run.specs.Running.{Played, next, play, start, stepped, journal, whole, ending, output, is_faulty}
 use Rattle.cics_run.specs.Standing.{Stands, IsClosed, Closes}
 use Rattle.cics_run.specs.declared.stage.Stage.{Stage}

@@ -1,16 +1,14 @@
 -- Lines and journals, one byte or one line further.
-use Rattle.std.proofs.Common.{◌≡◌, ◌≢◌, ℕ, Bool, true, false, ◌==◌, ◌+◌, ◌≤◌, cond, List, [], ◌∷◌, ◌++◌, length, map, refl, rules, arith, ap, sym, ◌∙◌, subst, append_assoc, append-nil, Option, inl, inr}
+use Rattle.std.proofs.Common.{◌≡◌, ℕ, Bool, true, false, ◌==◌, ◌+◌, cond, List, [], ◌∷◌, ◌++◌, map, refl, ap, sym, ◌∙◌, subst, append_assoc, append-nil, inl, inr}
 use Rattle.std.proofs.lemmas.List.Sums.{fold-append}
 use Rattle.std.proofs.lemmas.Bool.{cases_Bool, eqb-true}
 use Rattle.std.proofs.lemmas.List.{map-append}
-use Rattle.std.proofs.lemmas.Grind.{common_steps}
 use Rattle.std.specs.List.{fold}
 use Rattle.std.specs.Io.BufRead.{strip_last}
-use Rattle.std.specs.Io.KnownBytes.{Appends}
 use Rattle.cics_run.specs.Lines.{Pieces, pieces, with_first, completed, unfinished, last_line, all_lines}
-use Rattle.cics_run.specs.Stages.{step, Step}
+use Rattle.cics_run.specs.Stages.{step}
 use Rattle.cics_run.specs.Running.{Played, next, stepped, play, start, journal, output, whole, ending, is_faulty}
-use Rattle.cics_run.specs.Printing.{IsFront, AppendsFront}
+use Rattle.cics_run.specs.Printing.{IsFront}
 use Rattle.cics_run.specs.declared.running.Options.{Options}
 
 -- a line that gained its LF

@@ -1,5 +1,5 @@
 -- What is printed, one text further.
-use Rattle.std.proofs.Common.{◌≡◌, ℕ, List, [], ◌++◌, refl, ap, sym, ◌∙◌, append_assoc, append-nil, Option, subst}
+use Rattle.std.proofs.Common.{ℕ, List, [], ◌++◌, refl, ap, sym, ◌∙◌, append_assoc, append-nil, Option, subst}
 use Rattle.std.specs.Io.KnownBytes.{Appends}
 use Rattle.cics_run.specs.Printing.{IsFront, AppendsFront, Prints}
 use Rattle.cics_run.proofs.Known.{appends-append, appends-nothing}

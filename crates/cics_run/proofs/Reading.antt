@@ -1,15 +1,14 @@
 -- What a read adds to the bytes that were read.
-use Rattle.std.proofs.Common.{◌≡◌, ℕ, Bool, true, false, ◌+◌, ◌≤◌, ◌<◌, List, [], ◌∷◌, ◌++◌, length, take, map, refl, arith, ap, sym, ◌∙◌, subst, append-nil, Option, length-append, inl, inr, ◌==◌, ◌≢◌}
+use Rattle.std.proofs.Common.{◌≡◌, ℕ, true, ◌+◌, ◌≤◌, ◌<◌, List, [], ◌∷◌, ◌++◌, length, take, refl, arith, sym, subst, append-nil, Option, length-append, inl, inr, ◌==◌, ◌≢◌}
 use Rattle.std.proofs.lemmas.List.{take-append-le, length-map, length-take-le}
-use Rattle.std.proofs.lemmas.List.Sums.{fold-append}
 use Rattle.std.proofs.lemmas.Bool.{cases_Bool}
 use Rattle.std.proofs.Math.Seq.{take-append_seam}
 use Rattle.std.specs.List.{fold}
 use Rattle.std.specs.Prelude.{Result, Ok, Err}
-use Rattle.std.specs.Io.KnownBytes.{Appends, Consumes, Keeps, IsAtEnd}
+use Rattle.std.specs.Io.KnownBytes.{Appends, Consumes, IsAtEnd}
 use Rattle.std.specs.Io.BufRead.{strip_last}
 use Rattle.cics_run.specs.Lines.{Pieces, pieces, with_first, completed}
-use Rattle.cics_run.specs.Running.{Played, next, play, start, journal, output, is_faulty, Answers}
+use Rattle.cics_run.specs.Running.{Played, next, start, journal, output, is_faulty, Answers}
 use Rattle.cics_run.specs.Printing.{AppendsFront}
 use Rattle.cics_run.specs.Standing.{Stands, Stopped, Finishes, fault_of, ended}
 use Rattle.cics_run.specs.declared.writing.Stop.{Stop}
@@ -18,9 +17,9 @@ use Rattle.cics_run.specs.declared.running.Status.{Status}
 use Rattle.cics_run.specs.declared.running.Status.TheVariants as status
 use Rattle.cics_run.specs.declared.running.Options.{Options}
 use Rattle.cics_run.specs.declared.session.Session.{Session}
-use Rattle.cics_run.proofs.Known.{consumes-append, consumes-keeps}
+use Rattle.cics_run.proofs.Known.{consumes-append}
 use Rattle.cics_run.proofs.Printing.{front-longer}
-use Rattle.cics_run.proofs.Playing.{next-going, output-front, fault-output}
+use Rattle.cics_run.proofs.Playing.{output-front, fault-output}
 
 -- there are no more lines than bytes
 with_first-lines : (c : ℕ) (p : Pieces) → length (with_first c p).0 ≡ length p.0

@@ -1,14 +1,13 @@
 -- A session, one byte or one line further.
-use Rattle.std.proofs.Common.{◌≡◌, ℕ, Bool, true, false, ◌==◌, ◌+◌, ◌≤◌, ◌<◌, List, [], ◌∷◌, ◌++◌, length, take, drop, map, refl, arith, ap, sym, ◌∙◌, subst, append_assoc, append-nil, Option, get_or, take-append-drop}
+use Rattle.std.proofs.Common.{◌≡◌, ℕ, true, false, ◌==◌, ◌+◌, ◌<◌, List, [], ◌∷◌, ◌++◌, length, take, drop, map, refl, ap, sym, ◌∙◌, subst, append_assoc, Option, get_or, take-append-drop}
 use Rattle.std.proofs.lemmas.List.{map-append, take_more}
 use Rattle.std.proofs.lemmas.List.Sums.{fold-append}
-use Rattle.std.specs.List.{fold}
 use Rattle.std.specs.Io.BufRead.{strip_last}
 use Rattle.std.specs.Io.KnownBytes.{Appends}
 use Rattle.cics_run.specs.Lines.{pieces, completed, unfinished}
-use Rattle.cics_run.specs.Printing.{AppendsFront, IsFront, Prints}
-use Rattle.cics_run.specs.Running.{Played, next, play, start, stepped, journal}
-use Rattle.cics_run.specs.Standing.{line_step, Stands, Stopped, Feeds}
+use Rattle.cics_run.specs.Printing.{AppendsFront, Prints}
+use Rattle.cics_run.specs.Running.{next, play, start, stepped, journal}
+use Rattle.cics_run.specs.Standing.{line_step, Stands, Stopped}
 use Rattle.cics_run.specs.declared.session.Session.{Session}
 use Rattle.cics_run.proofs.Printing.{prints-prints, prints-all, prints-front, prints-part, front-longer}
 use Rattle.cics_run.proofs.Playing.{pieces-lf, pieces-byte, next-going, journal-front, fault-stays}

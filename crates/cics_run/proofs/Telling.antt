@@ -1,12 +1,12 @@
 -- The step of an event is told by its call's answer.
-use Rattle.std.specs.Prelude.{◌≡◌, ◌++◌, ℕ, Bool, List, [], length, Result, Ok, Err, OnOk, refl}
+use Rattle.std.specs.Prelude.{◌≡◌, ℕ, Bool, List, Result, Ok, Err}
 use Rattle.std.proofs.Common.{sym, ap, ◌∙◌, subst}
-use Rattle.cics_dispatch.specs.Machine.{Machine, RegionValue}
+use Rattle.cics_dispatch.specs.Machine.{RegionValue}
 use Rattle.cics_dispatch.specs.Steps.{Stepped}
 use Rattle.cics_dispatch.specs.Answers.{IsStep}
 use Rattle.cics_dispatch.specs.declared.outcomes.Refused.{Refused}
 use Rattle.cics_dispatch.specs.declared.outcomes.Refused.TheVariants.{NoMemory, NoTask, TaskWaiting, TaskEnded, DuplicateLabel, ClockBack}
-use Rattle.cics_run.specs.Stages.{Step, answered, event, told_line, IsAnswered, Happens}
+use Rattle.cics_run.specs.Stages.{answered, event, told_line, IsAnswered, Happens}
 
 -- the lines of an event's answers, for a machine and the step that the event is of it
 module _ {X : Type 0} (answer : X → List ℕ) (refusal : Refused → List ℕ) (wants : Bool) (old : RegionValue) (s : Stepped (Result X Refused)) (new : RegionValue) where

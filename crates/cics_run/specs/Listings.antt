@@ -1,5 +1,5 @@
 -- The listings: what stands in files and queues, and what the tasks do. A replay has no tasks.
-use Rattle.std.specs.Prelude.{ℕ, Bool, true, false, if◌then◌else◌, List, [], ◌∷◌, ◌++◌, codes, length}
+use Rattle.std.specs.Prelude.{ℕ, Bool, if◌then◌else◌, List, ◌++◌, codes, length}
 use Rattle.std.specs.List.{flat_map}
 use Rattle.std.specs.Fmt.{decimal}
 use Rattle.cics_transdata.specs.declared.queues.Recovery.{Recovery}

@@ -5,11 +5,10 @@ use Rattle.cics_ksds.specs.declared.definition.FileDef.{FileDef}
 use Rattle.cics_units.specs.Openings.{OpeningState, nothing_defined, file_fault, load_fault, with_file, with_record}
 use Rattle.cics_units.specs.declared.opening.DefineFault.{DefineFault}
 use Rattle.cics_dispatch.specs.Machine.{Machine, RegionValue, beginning_region}
-use Rattle.cics_dispatch.specs.Steps.{Stepped, attached, issued}
+use Rattle.cics_dispatch.specs.Steps.{attached, issued}
 use Rattle.cics_dispatch.specs.Waking.{clock_set}
 use Rattle.cics_dispatch.specs.Answers.{region_listing, replayed_listing}
 use Rattle.cics_dispatch.specs.declared.commands.Command.{Command}
-use Rattle.cics_dispatch.specs.declared.outcomes.Outcome.{Outcome}
 use Rattle.cics_dispatch.specs.declared.outcomes.Refused.{Refused}
 use Rattle.cics_dispatch.specs.declared.outcomes.Refused.TheVariants.{NoMemory}
 use Rattle.cics_script.specs.Lines.{line}

@@ -1,10 +1,9 @@
-use Rattle.std.proofs.Common.{rules, arith, ◌≡◌, ◌≢◌, ℕ, Bool, true, false, List, [], ◌∷◌, ◌++◌, ◌+◌, ◌<◌, ◌≤◌, length, take, drop, Option, length-append, subst, sym, length-take-le, length-take, length-drop}
-use Rattle.std.specs.Io.KnownBytes.{Appends, Consumes}
-use Rattle.cics_run.specs.Running.{journal, Answers}
-use Rattle.cics_run.specs.Standing.{fault_of, ended}
+use Rattle.std.proofs.Common.{arith, ◌≡◌, ◌≢◌, ◌++◌, ◌<◌, ◌≤◌, length, take, drop, length-append, subst, sym, length-take-le, length-take, length-drop}
+use Rattle.std.specs.Io.KnownBytes.{Appends}
+use Rattle.cics_run.specs.Running.{journal}
 use Rattle.cics_run.specs.declared.running.TheConstants.{LIMIT}
-use Rattle.cics_run.proofs.Known.{consumes-append, consumes-keeps}
-use Rattle.cics_run.proofs.Reading.{number-bound, front-of, stopped-output, front-journal, read_more, read_nothing, one_more, answers-stop, answers-ended}
+use Rattle.cics_run.proofs.Known.{consumes-append}
+use Rattle.cics_run.proofs.Reading.{number-bound, front-of, stopped-output, read_more, read_nothing, one_more, answers-stop, answers-ended}
 use Rattle.cics_run.proofs.running.run_from.Goals as goal
 
 pub returns-in-Err : goal.returns-in-Err

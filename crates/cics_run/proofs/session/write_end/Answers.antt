@@ -1,4 +1,4 @@
-use Rattle.std.proofs.Common.{rules, subst, OnErr}
+use Rattle.std.proofs.Common.{subst, OnErr}
 use Rattle.cics_run.specs.Printing.{AppendsFront}
 use Rattle.cics_run.proofs.session.write_end.Goals as goal
 

@@ -1,4 +1,4 @@
-use Rattle.std.proofs.Common.{rules, arith, sym, ◌∙◌}
+use Rattle.std.proofs.Common.{arith, sym, ◌∙◌}
 use Rattle.cics_run.proofs.Characters.{character_of-ascii}
 use Rattle.cics_run.proofs.texts.push_shown.Goals as goal
 

@@ -1,6 +1,4 @@
-use Rattle.std.proofs.Common.{rules, arith, ◌≡◌, ◌<◌, ◌-◌, ◌+◌, take, get_or, length}
-use Rattle.cics_names.specs.Names.{blank}
-use Rattle.cics_run.specs.Texts.{unfilled}
+use Rattle.std.proofs.Common.{arith}
 use Rattle.cics_run.proofs.Unfilled.{unfilled-take_blank, unfilled-take_other, unfilled-take_none}
 use Rattle.cics_run.proofs.texts.unfilled.Goals as goal
 use Rattle.cics_run.proofs.texts.unfilled.Goals.{then-loop-end-test+else-name-end-eq-BLANK, else-loop-end-test}

@@ -1,6 +1,5 @@
-use Rattle.std.proofs.Common.{rules, arith, ◌≡◌, ℕ, ◌+◌, ◌<◌, ◌≤◌, length, take, drop, sym, take-append-drop}
-use Rattle.std.specs.Io.KnownBytes.{Appends}
-use Rattle.cics_run.proofs.Known.{appends-append, appends-keeps, appends-none, appends-rest}
+use Rattle.std.proofs.Common.{arith, take, drop, sym, take-append-drop}
+use Rattle.cics_run.proofs.Known.{appends-keeps, appends-none, appends-rest}
 use Rattle.cics_run.proofs.writing.write_all.Goals as goal
 
 pub returns-in-Ok-eq0-clause-err : goal.returns-in-Ok-eq0-clause-err

@@ -1,14 +1,12 @@
-use Rattle.std.proofs.Common.{◌≡◌, ◌∙◌, sym, ap, subst, Some, None, false, List}
+use Rattle.std.proofs.Common.{◌≡◌, ◌∙◌, sym, ap, subst, Some, None, false}
 use Rattle.std.specs.Prelude.{slice_get}
-use Rattle.cics_units.specs.Execution.{execution, after_execution, is_ready_op}
-use Rattle.cics_units.specs.Store.{is_normal}
+use Rattle.cics_units.specs.Execution.{execution, after_execution}
 use Rattle.cics_dispatch.specs.Machine.{Task, is_waiting, replaced, with_unit}
 use Rattle.cics_dispatch.specs.Checks.{fault_of}
-use Rattle.cics_dispatch.specs.Steps.{op_of, executed, answered, reply_of, length_of}
+use Rattle.cics_dispatch.specs.Steps.{op_of, executed, reply_of}
 use Rattle.cics_dispatch.specs.Regions.{region_of}
-use Rattle.cics_dispatch.specs.Tasks.{HasNoOwner}
 use Rattle.cics_dispatch.proofs.Ready.{ready_of, is_file_op_of}
-use Rattle.cics_dispatch.proofs.RegionSteps.{told_of, IfOk-then, OnOk-then, waits_step, acted_step, busy_none, waits_machine, waits_kept, acted_machine, acted_kept, owner_free, owner_there, placed_within, one_task}
+use Rattle.cics_dispatch.proofs.RegionSteps.{told_of, IfOk-then, OnOk-then, waits_step, acted_step, busy_none, waits_machine, waits_kept, acted_kept, owner_free, owner_there, placed_within, one_task}
 use Rattle.cics_dispatch.proofs.dispatcher.Dispatcher.update.Goals as goal
 
 pub execute-requires-clause-file : goal.execute-requires-clause-file

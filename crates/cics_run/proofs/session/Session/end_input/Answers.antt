@@ -1,4 +1,4 @@
-use Rattle.std.proofs.Common.{arith, ◌<◌, length, vec_len}
+use Rattle.std.proofs.Common.{arith, ◌<◌, length}
 use Rattle.cics_run.proofs.Ending.{closes-run}
 use Rattle.cics_run.proofs.session.Session.end_input.Goals as goal
 

@@ -1,9 +1,9 @@
-use Rattle.std.proofs.Common.{rules, arith, ◌≡◌, ℕ, List, [], ◌∷◌, ◌++◌, ◌+◌, ◌≤◌, ◌<◌, ◌==◌, length, take, drop, get_or, sym, subst, true, false, Option, refl}
+use Rattle.std.proofs.Common.{arith, ◌≡◌, [], ◌∷◌, ◌++◌, ◌+◌, ◌≤◌, ◌==◌, take, drop, get_or, subst, false, refl}
 use Rattle.std.proofs.lemmas.List.{take_all}
 use Rattle.std.proofs.lemmas.Bool.Decides.{nat_tests}
 use Rattle.cics_run.specs.Running.{journal}
 use Rattle.cics_run.specs.Printing.{AppendsFront}
-use Rattle.cics_run.specs.Standing.{Stands, Stopped, Feeds}
+use Rattle.cics_run.specs.Standing.{Stands, Stopped}
 use Rattle.cics_run.proofs.Steps.{stands-byte, stands-line, stopped-line, front-line, front-here, up_to, around, past}
 use Rattle.cics_run.proofs.session.Session.feed.Goals as goal
 use Rattle.cics_run.proofs.session.Session.feed.Goals.{then-byte-eq-LF+in-Ok-false, else-byte-eq-LF+in-Ok}

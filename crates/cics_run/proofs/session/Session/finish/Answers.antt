@@ -1,5 +1,3 @@
-use Rattle.std.proofs.Common.{rules, subst, false, true}
-use Rattle.cics_run.specs.Standing.{IsClosed}
 use Rattle.cics_run.proofs.Ending.{front-output, fault-written, end-written, end-front}
 use Rattle.cics_run.proofs.session.Session.finish.Goals as goal
 
