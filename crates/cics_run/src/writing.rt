@@ -18,7 +18,9 @@ pub enum Stop {
 }
 
 impl From<NoMemory> for Stop {
-    fn from(_error: NoMemory) -> Stop {
+    fn from(_error: NoMemory) -> Stop
+        ensures { result ≡ Stop.NoMemory }
+    {
         Stop::NoMemory
     }
 }
