@@ -1,8 +1,6 @@
 //! Scripts from bytes to bytes, over readers and writers that give and take little, or fail.
 
-use crate::scripts::{
-    ROLLBACK, ROLLBACK_JOURNAL, ROLLBACK_LISTING, ROLLBACK_REPLAY, SCRIPTS,
-};
+use crate::scripts::{ROLLBACK, ROLLBACK_JOURNAL, ROLLBACK_LISTING, ROLLBACK_REPLAY, SCRIPTS};
 use cics_run::{Asked, LIMIT, Options, RunFault, Status, arguments, exit_status, run};
 use std::alloc::Global;
 use std::io;
