@@ -26,10 +26,10 @@ use Rattle.cics_dispatch.specs.Replies.{plain}
 use Rattle.cics_dispatch.specs.Machine.{Machine, Task, task_at, not_waiting, with_task, with_units, with_unit, with_browses, units_after, unit_closed, abended, records_in}
 use Rattle.cics_dispatch.specs.Checks.{fault_of}
 use Rattle.cics_dispatch.specs.Steps.{unhandled, answered, made_to_wait, executed, enqueued, unlocked, dequeued, with_browse, started, reset, browsed, browse_ended, other_command, by_op, op_of, performed, checked}
-use Rattle.cics_dispatch.specs.Verbs.{asks_no_queue}
-use Rattle.cics_dispatch.specs.declared.commands.Command.{Command}
-use Rattle.cics_dispatch.specs.declared.commands.Verb.{Verb}
-use Rattle.cics_dispatch.specs.declared.commands.Verb.TheVariants.{Read, Write, Rewrite, Delete, Unlock, StartBr, ResetBr, ReadNext, ReadPrev, EndBr, Enq, Deq, Syncpoint, Rollback, Return, Abend}
+use Rattle.cics_names.specs.Commands.{asks_no_queue}
+use Rattle.cics_names.specs.declared.commands.Command.{Command}
+use Rattle.cics_names.specs.declared.commands.Verb.{Verb}
+use Rattle.cics_names.specs.declared.commands.Verb.TheVariants.{Read, Write, Rewrite, Delete, Unlock, StartBr, ResetBr, ReadNext, ReadPrev, EndBr, Enq, Deq, Syncpoint, Rollback, Return, Abend}
 use Rattle.cics_dispatch.specs.declared.outcomes.Reply.{Reply}
 use Rattle.cics_dispatch.proofs.TaskPlaces.{task_at-replaced}
 use Rattle.cics_dispatch.proofs.OtherUnits.{LeavesOthers, leaves_all, acting_other, entered_leaves, counted_leaves, dequeued_leaves, unlocked_leaves, closed_leaves}

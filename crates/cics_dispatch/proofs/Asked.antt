@@ -12,11 +12,11 @@ use Rattle.cics_dispatch.specs.Lengths.{fault_unless, first_fault, key_fault}
 use Rattle.cics_dispatch.specs.Machine.{Machine, Task, definition_of}
 use Rattle.cics_dispatch.specs.Checks.{defined_fault, open_key, back_fault, fault_of}
 use Rattle.cics_dispatch.specs.Steps.{op_of}
-use Rattle.cics_dispatch.specs.Verbs.{asks_no_queue}
-use Rattle.cics_dispatch.specs.Faults.{file_named, is_generic, definition_named, open_key_named, browse_named, record_fault, browsing_fault, backward_fault, fault_by_file, verb_fault}
+use Rattle.cics_names.specs.Commands.{asks_no_queue, file_named}
+use Rattle.cics_dispatch.specs.Faults.{is_generic, definition_named, open_key_named, browse_named, record_fault, browsing_fault, backward_fault, fault_by_file, verb_fault}
 use Rattle.cics_dispatch.specs.Updates.{op_or, verb_op}
-use Rattle.cics_dispatch.specs.declared.commands.Verb.{Verb}
-use Rattle.cics_dispatch.specs.declared.commands.Verb.TheVariants.{Read, Write, Rewrite, Delete, Unlock, StartBr, ResetBr, ReadNext, ReadPrev, EndBr, WriteqTs, ReadqTs, DeleteqTs, WriteqTd, ReadqTd, DeleteqTd}
+use Rattle.cics_names.specs.declared.commands.Verb.{Verb}
+use Rattle.cics_names.specs.declared.commands.Verb.TheVariants.{Read, Write, Rewrite, Delete, Unlock, StartBr, ResetBr, ReadNext, ReadPrev, EndBr, WriteqTs, ReadqTs, DeleteqTs, WriteqTd, ReadqTd, DeleteqTd}
 
 -- a fault alone is the first
 first_alone : (x : Option Condition) → x ≡ first_fault (x ∷ [])

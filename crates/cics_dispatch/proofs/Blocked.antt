@@ -19,12 +19,12 @@ use Rattle.cics_units.proofs.Waiting.{none_first, none_either, in_table}
 use Rattle.cics_units.proofs.Holders.{any_only}
 use Rattle.cics_dispatch.specs.Machine.{Machine, Task, Suspended, task_at}
 use Rattle.cics_dispatch.specs.Steps.{op_of}
-use Rattle.cics_dispatch.specs.Verbs.{asks_no_queue}
+use Rattle.cics_names.specs.Commands.{asks_no_queue}
 use Rattle.cics_dispatch.specs.Waits.{wait_of}
 use Rattle.cics_dispatch.specs.Waking.{holder_for, may_go_on, first_free, is_late, first_late}
 use Rattle.cics_dispatch.specs.Settled.{is_among, AreAmong, needs_of, holds_one, IsBlocked, IsInTime}
-use Rattle.cics_dispatch.specs.declared.commands.Verb.{Verb}
-use Rattle.cics_dispatch.specs.declared.commands.Verb.TheVariants.{Enq}
+use Rattle.cics_names.specs.declared.commands.Verb.{Verb}
+use Rattle.cics_names.specs.declared.commands.Verb.TheVariants.{Enq}
 use Rattle.cics_dispatch.specs.KeptTasks.{HasPassed}
 use Rattle.cics_dispatch.proofs.OtherUnits.{begun}
 use Rattle.cics_dispatch.proofs.RegionSteps.{place}

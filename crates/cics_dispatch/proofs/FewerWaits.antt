@@ -16,11 +16,12 @@ use Rattle.cics_units.specs.declared.ops.Op.{Op}
 use Rattle.cics_units.specs.declared.ops.Enqueued.TheVariants.{Taken, CountFull}
 use Rattle.cics_dispatch.specs.Machine.{Machine, Task, Suspended, task_at, is_waiting, not_waiting, with_waiting, with_units, with_task, with_unit, with_browses, records_in}
 use Rattle.cics_dispatch.specs.Replies.{plain, cut, read_reply}
-use Rattle.cics_dispatch.specs.Steps.{unhandled, answered, length_of, reply_of, executed, enqueued, unlocked, dequeued, browse_reply, with_browse, started, reset, browsed, other_command, by_op, op_of, performed}
+use Rattle.cics_names.specs.Commands.{length_of}
+use Rattle.cics_dispatch.specs.Steps.{unhandled, answered, reply_of, executed, enqueued, unlocked, dequeued, browse_reply, with_browse, started, reset, browsed, other_command, by_op, op_of, performed}
 use Rattle.cics_dispatch.specs.Waking.{holder_for, may_go_on, first_free, went_on, woken_first, woken, is_late, first_late, expired_task, expired}
-use Rattle.cics_dispatch.specs.declared.commands.Command.{Command}
-use Rattle.cics_dispatch.specs.declared.commands.Verb.{Verb}
-use Rattle.cics_dispatch.specs.declared.commands.Verb.TheVariants.{Read, Unlock, StartBr, ResetBr, ReadNext, ReadPrev, EndBr, ReadqTs, Enq, Deq, Syncpoint, Rollback, Return, Abend}
+use Rattle.cics_names.specs.declared.commands.Command.{Command}
+use Rattle.cics_names.specs.declared.commands.Verb.{Verb}
+use Rattle.cics_names.specs.declared.commands.Verb.TheVariants.{Read, Unlock, StartBr, ResetBr, ReadNext, ReadPrev, EndBr, ReadqTs, Enq, Deq, Syncpoint, Rollback, Return, Abend}
 use Rattle.cics_dispatch.specs.declared.outcomes.Reply.{Reply}
 use Rattle.cics_dispatch.specs.declared.outcomes.Woken.{Woken}
 use Rattle.cics_dispatch.specs.declared.outcomes.Expired.{Expired}

@@ -9,7 +9,7 @@ use Rattle.cics_units.specs.Holding.{store_of}
 use Rattle.cics_dispatch.specs.Machine.{Machine, beginning_region}
 use Rattle.cics_dispatch.specs.Steps.{Stepped, attached, issued}
 use Rattle.cics_dispatch.specs.Waking.{clock_set, woken, expired}
-use Rattle.cics_dispatch.specs.declared.commands.Verb.{Verb}
+use Rattle.cics_names.specs.declared.commands.Verb.{Verb}
 use Rattle.cics_dispatch.specs.declared.outcomes.Outcome.{Outcome}
 use Rattle.cics_dispatch.specs.declared.outcomes.Refused.{Refused}
 use Rattle.cics_dispatch.proofs.Examples.{t1, t2}

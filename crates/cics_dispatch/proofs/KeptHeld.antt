@@ -25,9 +25,9 @@ use Rattle.cics_dispatch.specs.Machine.{Machine, Task, with_task, with_units, wi
 use Rattle.cics_dispatch.specs.Checks.{open_key, fault_of}
 use Rattle.cics_dispatch.specs.Steps.{unhandled, answered, made_to_wait, executed, enqueued, unlocked, with_browse, started, reset, browsed, other_command, by_op, op_of, checked}
 use Rattle.cics_dispatch.specs.Settled.{is_keeping, goes_on}
-use Rattle.cics_dispatch.specs.declared.commands.Command.{Command}
-use Rattle.cics_dispatch.specs.declared.commands.Verb.{Verb}
-use Rattle.cics_dispatch.specs.declared.commands.Verb.TheVariants.{Read, Write, Rewrite, Delete, Unlock, StartBr, ResetBr, ReadNext, ReadPrev, EndBr, Enq}
+use Rattle.cics_names.specs.declared.commands.Command.{Command}
+use Rattle.cics_names.specs.declared.commands.Verb.{Verb}
+use Rattle.cics_names.specs.declared.commands.Verb.TheVariants.{Read, Write, Rewrite, Delete, Unlock, StartBr, ResetBr, ReadNext, ReadPrev, EndBr, Enq}
 use Rattle.cics_dispatch.specs.declared.outcomes.Reply.{Reply}
 use Rattle.cics_dispatch.proofs.KeepsOwn.{Keeps, keeps_same, gives_up_nothing, entered_keeps, counted_keeps, unlocked_keeps}
 use Rattle.cics_dispatch.proofs.ActsAlone.{taken_in}

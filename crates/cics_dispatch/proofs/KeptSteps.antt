@@ -22,11 +22,11 @@ use Rattle.cics_dispatch.specs.Machine.{Machine, Task, Suspended, task_at, is_wa
 use Rattle.cics_dispatch.specs.Checks.{fault_of}
 use Rattle.cics_dispatch.specs.Steps.{Stepped, with_new_task, unhandled, answered, made_to_wait, executed, enqueued, unlocked, dequeued, with_browse, started, reset, browsed, browse_ended, other_command, by_op, op_of, performed, checked, issue_refusal, refused_or, issued_by, issued, attached}
 use Rattle.cics_dispatch.specs.Waking.{clock_refusal, clock_set, may_go_on, first_free, went_on, woken_first, woken, is_late, first_late, expired_task, expired}
-use Rattle.cics_dispatch.specs.Verbs.{asks_no_queue}
+use Rattle.cics_names.specs.Commands.{asks_no_queue}
 use Rattle.cics_dispatch.specs.KeptTasks.{HasPassed, AreTasksKept}
-use Rattle.cics_dispatch.specs.declared.commands.Command.{Command}
-use Rattle.cics_dispatch.specs.declared.commands.Verb.{Verb}
-use Rattle.cics_dispatch.specs.declared.commands.Verb.TheVariants.{Read, Write, Rewrite, Delete, Unlock, StartBr, ResetBr, ReadNext, ReadPrev, EndBr, Enq, Deq, Syncpoint, Rollback, Return, Abend}
+use Rattle.cics_names.specs.declared.commands.Command.{Command}
+use Rattle.cics_names.specs.declared.commands.Verb.{Verb}
+use Rattle.cics_names.specs.declared.commands.Verb.TheVariants.{Read, Write, Rewrite, Delete, Unlock, StartBr, ResetBr, ReadNext, ReadPrev, EndBr, Enq, Deq, Syncpoint, Rollback, Return, Abend}
 use Rattle.cics_dispatch.specs.declared.outcomes.Reply.{Reply}
 use Rattle.cics_dispatch.specs.declared.outcomes.Refused.{Refused}
 use Rattle.cics_dispatch.specs.declared.outcomes.Refused.TheVariants.{TaskWaiting, TaskEnded, DuplicateLabel}

@@ -22,12 +22,12 @@ use Rattle.cics_units.specs.declared.ops.UnitState.TheVariants.{BackedOut}
 use Rattle.cics_dispatch.specs.Machine.{Machine, Task, Suspended, beginning_region, task_at, replaced, is_waiting, not_waiting, with_task, with_units, with_waiting, with_unit, with_browses, units_after, unit_closed, abended}
 use Rattle.cics_dispatch.specs.Checks.{open_key, fault_of}
 use Rattle.cics_dispatch.specs.Steps.{new_task, with_new_task, unlocked, dequeued}
-use Rattle.cics_dispatch.specs.Verbs.{asks_no_queue}
-use Rattle.cics_dispatch.specs.Faults.{file_named, definition_named, open_key_named, browse_named, verb_fault}
+use Rattle.cics_names.specs.Commands.{asks_no_queue, file_named}
+use Rattle.cics_dispatch.specs.Faults.{definition_named, open_key_named, browse_named, verb_fault}
 use Rattle.cics_dispatch.specs.Tasks.{own_label, own_unit, had_at, IsOwn, HasNoOwner}
 use Rattle.cics_dispatch.specs.KeptTasks.{HasPassed, AreTasksKept}
-use Rattle.cics_dispatch.specs.declared.commands.Command.{Command}
-use Rattle.cics_dispatch.specs.declared.commands.Verb.{Verb}
+use Rattle.cics_names.specs.declared.commands.Command.{Command}
+use Rattle.cics_names.specs.declared.commands.Verb.{Verb}
 use Rattle.cics_dispatch.proofs.Asked.{fault_of-verb_fault}
 use Rattle.cics_dispatch.proofs.TaskPlaces.{same_place, place-set, set_placed, set_same, IsOwn-set, task_at-place, place_of_task, replaced-set, task_at-replaced, place-push, IsOwn-push, task_at-push}
 use Rattle.cics_dispatch.proofs.OtherUnits.{LeavesOthers, leaves_all, begun, acting_lives, entered_leaves, counted_leaves, dequeued_leaves, unlocked_leaves, closed_leaves}

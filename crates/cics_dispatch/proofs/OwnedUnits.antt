@@ -32,14 +32,15 @@ use Rattle.cics_units.specs.declared.ops.UnitState.TheVariants.{Open, Committed,
 use Rattle.cics_dispatch.specs.Replies.{plain, cut, read_reply}
 use Rattle.cics_dispatch.specs.Machine.{Machine, Task, Suspended, beginning_region, task_at, replaced, is_unit, with_task, with_units, with_waiting, with_unit, with_browses, units_after, unit_closed, abended, not_waiting, records_in}
 use Rattle.cics_dispatch.specs.Checks.{fault_of}
-use Rattle.cics_dispatch.specs.Steps.{Stepped, other_command, by_op, performed, checked, op_of, refused_or, issue_refusal, issued_by, issued, attach_refusal, attached, unhandled, answered, made_to_wait, executed, enqueued, busy_of, reply_of, length_of, started, reset, browsed, browse_reply, new_task, with_new_task, unlocked, dequeued}
+use Rattle.cics_names.specs.Commands.{length_of}
+use Rattle.cics_dispatch.specs.Steps.{Stepped, other_command, by_op, performed, checked, op_of, refused_or, issue_refusal, issued_by, issued, attach_refusal, attached, unhandled, answered, made_to_wait, executed, enqueued, busy_of, reply_of, started, reset, browsed, browse_reply, new_task, with_new_task, unlocked, dequeued}
 use Rattle.cics_dispatch.specs.Waking.{clock_refusal, clock_set, first_free, went_on, woken_first, woken, is_late, first_late, expired_task, expired}
 use Rattle.cics_dispatch.specs.Tasks.{IsOwn, HasNoOwner, own_label, had_by, had_at}
 use Rattle.cics_dispatch.specs.OwnedUnits.{AreUnitsOwned}
-use Rattle.cics_dispatch.specs.declared.commands.Verb.{Verb}
-use Rattle.cics_dispatch.specs.declared.commands.Verb.TheVariants.{Read, Unlock, StartBr, ResetBr, ReadNext, ReadPrev, EndBr, ReadqTs, Enq, Deq, Syncpoint, Rollback, Return, Abend}
+use Rattle.cics_names.specs.declared.commands.Verb.{Verb}
+use Rattle.cics_names.specs.declared.commands.Verb.TheVariants.{Read, Unlock, StartBr, ResetBr, ReadNext, ReadPrev, EndBr, ReadqTs, Enq, Deq, Syncpoint, Rollback, Return, Abend}
 use Rattle.cics_dispatch.specs.declared.outcomes.Refused.{Refused}
-use Rattle.cics_dispatch.specs.declared.commands.Command.{Command}
+use Rattle.cics_names.specs.declared.commands.Command.{Command}
 use Rattle.cics_dispatch.specs.declared.outcomes.Reply.{Reply}
 use Rattle.cics_dispatch.proofs.TaskTable.{is_unit-has}
 

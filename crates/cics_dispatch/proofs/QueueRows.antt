@@ -7,8 +7,8 @@ use Rattle.cics_units.specs.Openings.{OpeningState, with_td_record}
 use Rattle.cics_units.specs.declared.listings.TaskState.TheVariants.{Idle, HasUnit}
 use Rattle.cics_dispatch.specs.Replies.{giving}
 use Rattle.cics_dispatch.specs.Answers.{tasks_listed}
-use Rattle.cics_dispatch.specs.declared.commands.Verb.{Verb}
-use Rattle.cics_dispatch.specs.declared.commands.Verb.TheVariants.{WriteqTs, ReadqTs, DeleteqTs, WriteqTd, ReadqTd, DeleteqTd, Syncpoint, Rollback}
+use Rattle.cics_names.specs.declared.commands.Verb.{Verb}
+use Rattle.cics_names.specs.declared.commands.Verb.TheVariants.{WriteqTs, ReadqTs, DeleteqTs, WriteqTd, ReadqTd, DeleteqTd, Syncpoint, Rollback}
 use Rattle.cics_dispatch.specs.declared.outcomes.Outcome.{Outcome}
 use Rattle.cics_dispatch.specs.declared.outcomes.Outcome.TheVariants.{Replied, Waiting, Abended}
 use Rattle.cics_dispatch.specs.declared.outcomes.Number.TheVariants.{Item}

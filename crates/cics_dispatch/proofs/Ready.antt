@@ -18,10 +18,9 @@ use Rattle.cics_dispatch.specs.Lengths.{fault_unless, first_fault, is_length_giv
 use Rattle.cics_dispatch.specs.Machine.{Machine, Task, definition_of}
 use Rattle.cics_dispatch.specs.Checks.{defined_fault, open_key, read_fault, rewrite_fault, delete_fault, fault_of}
 use Rattle.cics_dispatch.specs.Steps.{op_of}
-use Rattle.cics_dispatch.specs.Faults.{file_named}
-use Rattle.cics_dispatch.specs.Verbs.{asks_no_queue}
-use Rattle.cics_dispatch.specs.declared.commands.Verb.{Verb}
-use Rattle.cics_dispatch.specs.declared.commands.Verb.TheVariants.{Read, Write, Rewrite, Delete}
+use Rattle.cics_names.specs.Commands.{file_named, asks_no_queue}
+use Rattle.cics_names.specs.declared.commands.Verb.{Verb}
+use Rattle.cics_names.specs.declared.commands.Verb.TheVariants.{Read, Write, Rewrite, Delete}
 
 -- a command on a record of a file
 abbrev pub is_file_op : Op → Bool

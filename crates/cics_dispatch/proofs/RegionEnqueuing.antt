@@ -13,8 +13,8 @@ use Rattle.cics_dispatch.specs.Replies.{plain}
 use Rattle.cics_dispatch.specs.Steps.{answered, made_to_wait, busy_of, enqueued, dequeued, units_dequeued}
 use Rattle.cics_dispatch.specs.Regions.{region_of, IsRegionKept}
 use Rattle.cics_dispatch.specs.Tasks.{HasNoOwner}
-use Rattle.cics_dispatch.specs.declared.commands.Command.{Command}
-use Rattle.cics_dispatch.specs.declared.commands.Verb.TheVariants.{Enq}
+use Rattle.cics_names.specs.declared.commands.Command.{Command}
+use Rattle.cics_names.specs.declared.commands.Verb.TheVariants.{Enq}
 use Rattle.cics_dispatch.specs.declared.outcomes.Reply.{Reply}
 use Rattle.cics_dispatch.proofs.KeptTasks.{with_task_placed, kept_enqueued, kept_dequeued, no_owner_next}
 use Rattle.cics_dispatch.proofs.OwnedUnits.{owned_enqueued, owned_dequeued}

@@ -12,14 +12,14 @@ use Rattle.cics_units.specs.TableInPlace.{key_of}
 use Rattle.cics_units.specs.declared.ops.Op.{Op}
 use Rattle.cics_dispatch.specs.Machine.{Machine, Task, RegionValue, definition_of, task_at, is_waiting}
 use Rattle.cics_dispatch.specs.Checks.{defined_fault, browse_fault, back_fault, resource_fault, fault_of, open_key}
-use Rattle.cics_dispatch.specs.Faults.{file_named, is_generic, fault_by_file}
+use Rattle.cics_names.specs.Commands.{file_named, asks_no_queue}
+use Rattle.cics_dispatch.specs.Faults.{is_generic, fault_by_file}
 use Rattle.cics_dispatch.specs.Steps.{Stepped, op_of, by_op, performed, other_command, checked, issue_refusal, refused_or, issued_by, issued}
 use Rattle.cics_dispatch.specs.Answers.{is_growing, passes_checks, may_want, IsStep}
 use Rattle.cics_dispatch.specs.Updates.{verb_op}
-use Rattle.cics_dispatch.specs.Verbs.{asks_no_queue}
-use Rattle.cics_dispatch.specs.declared.commands.Command.{Command}
-use Rattle.cics_dispatch.specs.declared.commands.Verb.{Verb}
-use Rattle.cics_dispatch.specs.declared.commands.Verb.TheVariants.{Unlock, ResetBr, ReadNext, ReadPrev, EndBr, Enq, Deq, Syncpoint, Rollback, Return, Abend}
+use Rattle.cics_names.specs.declared.commands.Command.{Command}
+use Rattle.cics_names.specs.declared.commands.Verb.{Verb}
+use Rattle.cics_names.specs.declared.commands.Verb.TheVariants.{Unlock, ResetBr, ReadNext, ReadPrev, EndBr, Enq, Deq, Syncpoint, Rollback, Return, Abend}
 use Rattle.cics_dispatch.specs.declared.outcomes.Refused.{Refused}
 use Rattle.cics_dispatch.specs.declared.outcomes.Refused.TheVariants.{NoMemory, TaskEnded, TaskWaiting}
 use Rattle.cics_dispatch.proofs.TaskPlaces.{place_of_task}

@@ -5,13 +5,13 @@ use Rattle.std.proofs.lemmas.Bool.{false≢true, and_parts, or_cases}
 use Rattle.cics_names.specs.Keyed.{Bytes}
 use Rattle.cics_dispatch.specs.Machine.{Machine, Task, Suspended, RegionValue, task_at}
 use Rattle.cics_dispatch.specs.Steps.{Stepped, attached, refused_or, issued}
-use Rattle.cics_dispatch.specs.Verbs.{asks_no_queue}
+use Rattle.cics_names.specs.Commands.{asks_no_queue}
 use Rattle.cics_dispatch.specs.Waits.{wait_of}
 use Rattle.cics_dispatch.specs.Waking.{clock_refusal, clock_set, woken, woken_first, first_late, expired, expired_task}
 use Rattle.cics_dispatch.specs.Answers.{IsStep}
 use Rattle.cics_dispatch.specs.KeptTasks.{AreTasksKept}
 use Rattle.cics_dispatch.specs.Settled.{is_among, is_blocker, is_keeping, goes_on, AreAmong, IsBlocked, IsInTime, IsRemembered}
-use Rattle.cics_dispatch.specs.declared.commands.Command.{Command}
+use Rattle.cics_names.specs.declared.commands.Command.{Command}
 use Rattle.cics_dispatch.specs.declared.outcomes.Outcome.{Outcome}
 use Rattle.cics_dispatch.specs.declared.outcomes.Refused.{Refused}
 use Rattle.cics_dispatch.proofs.Blocked.{none_free, none_late, all_in_time}

@@ -18,12 +18,12 @@ use Rattle.cics_dispatch.specs.KeptTasks.{AreTasksKept}
 use Rattle.cics_dispatch.specs.OwnedUnits.{AreUnitsOwned}
 use Rattle.cics_dispatch.specs.Regions.{region_of, IsRegionKept}
 use Rattle.cics_dispatch.specs.Tasks.{own_label, IsOwn, HasNoOwner}
-use Rattle.cics_dispatch.specs.Steps.{suspended, executed, made_to_wait, busy_of, answered, reply_of, length_of, op_of}
-use Rattle.cics_dispatch.specs.Verbs.{asks_no_queue}
+use Rattle.cics_names.specs.Commands.{length_of, asks_no_queue}
+use Rattle.cics_dispatch.specs.Steps.{suspended, executed, made_to_wait, busy_of, answered, reply_of, op_of}
 use Rattle.cics_dispatch.specs.declared.outcomes.Reply.{Reply}
-use Rattle.cics_dispatch.specs.declared.commands.Verb.{Verb}
-use Rattle.cics_dispatch.specs.declared.commands.Verb.TheVariants.{Read, Write, Rewrite, Delete, Unlock, StartBr, ResetBr, ReadNext, ReadPrev, EndBr, WriteqTs, ReadqTs, DeleteqTs, WriteqTd, ReadqTd, DeleteqTd, Enq, Deq, Syncpoint, Rollback, Return, Abend}
-use Rattle.cics_dispatch.specs.declared.commands.Command.{Command}
+use Rattle.cics_names.specs.declared.commands.Verb.{Verb}
+use Rattle.cics_names.specs.declared.commands.Verb.TheVariants.{Read, Write, Rewrite, Delete, Unlock, StartBr, ResetBr, ReadNext, ReadPrev, EndBr, WriteqTs, ReadqTs, DeleteqTs, WriteqTd, ReadqTd, DeleteqTd, Enq, Deq, Syncpoint, Rollback, Return, Abend}
+use Rattle.cics_names.specs.declared.commands.Command.{Command}
 use Rattle.cics_dispatch.proofs.KeptTasks.{kept_closed, kept_abended, kept_executed, no_owner_next, with_task_placed}
 use Rattle.cics_dispatch.proofs.OwnedUnits.{owned_closed, owned_abended, owned_executed}
 use Rattle.cics_dispatch.proofs.TaskPlaces.{replaced-set, set_same}

@@ -21,15 +21,14 @@ use Rattle.cics_units.specs.Holding.{awaited, value_holder, store_of}
 use Rattle.cics_units.specs.Execution.{unit_or_next, done_of, execution, after_execution, count_at, enq_of, enqueue, after_enqueue, ts_reading, after_ts_reading, item_asked}
 use Rattle.cics_dispatch.specs.Machine.{Machine, Task, Suspended, task_at, definition_of, not_waiting, with_waiting, with_units, with_task, with_unit, with_browses, unit_closed, records_in, no_code}
 use Rattle.cics_dispatch.specs.Checks.{fault_of, open_key}
-use Rattle.cics_dispatch.specs.Faults.{file_named}
+use Rattle.cics_names.specs.Commands.{file_named, asks_no_queue, length_of}
 use Rattle.cics_dispatch.specs.Updates.{file_op, queue_op, op_or, verb_op}
-use Rattle.cics_dispatch.specs.Verbs.{asks_no_queue}
 use Rattle.cics_dispatch.specs.Replies.{plain, cut, read_reply}
-use Rattle.cics_dispatch.specs.Steps.{Stepped, unhandled, answered, length_of, reply_of, executed, enqueued, unlocked, dequeued, browse_reply, with_browse, started, reset, browsed, abended_with, other_command, by_op, op_of, performed}
+use Rattle.cics_dispatch.specs.Steps.{Stepped, unhandled, answered, reply_of, executed, enqueued, unlocked, dequeued, browse_reply, with_browse, started, reset, browsed, abended_with, other_command, by_op, op_of, performed}
 use Rattle.cics_dispatch.specs.Waking.{is_late, first_late, holder_for, may_go_on, first_free, went_on, woken_first, woken}
-use Rattle.cics_dispatch.specs.declared.commands.Command.{Command}
-use Rattle.cics_dispatch.specs.declared.commands.Verb.{Verb}
-use Rattle.cics_dispatch.specs.declared.commands.Verb.TheVariants.{Read, Unlock, StartBr, ResetBr, ReadNext, ReadPrev, EndBr, ReadqTs, Enq, Deq, Syncpoint, Rollback, Return, Abend}
+use Rattle.cics_names.specs.declared.commands.Command.{Command}
+use Rattle.cics_names.specs.declared.commands.Verb.{Verb}
+use Rattle.cics_names.specs.declared.commands.Verb.TheVariants.{Read, Unlock, StartBr, ResetBr, ReadNext, ReadPrev, EndBr, ReadqTs, Enq, Deq, Syncpoint, Rollback, Return, Abend}
 use Rattle.cics_dispatch.specs.declared.outcomes.Reply.{Reply}
 use Rattle.cics_dispatch.specs.declared.outcomes.Outcome.{Outcome}
 use Rattle.cics_dispatch.specs.declared.outcomes.Outcome.TheVariants.{Abended}

@@ -14,18 +14,18 @@ use Rattle.cics_units.proofs.Waiting.{any_more}
 use Rattle.cics_units.specs.Execution.{has_read}
 use Rattle.cics_dispatch.specs.Machine.{Machine, Task, Suspended, RegionValue, task_at, is_waiting}
 use Rattle.cics_dispatch.specs.Checks.{open_key, fault_of}
-use Rattle.cics_dispatch.specs.Faults.{file_named, open_key_named}
+use Rattle.cics_names.specs.Commands.{file_named, asks_no_queue}
+use Rattle.cics_dispatch.specs.Faults.{open_key_named}
 use Rattle.cics_dispatch.specs.Updates.{verb_op}
 use Rattle.cics_dispatch.specs.Steps.{Stepped, with_new_task, attach_refusal, attached, new_task, op_of, checked, issue_refusal, refused_or, issued_by, issued}
-use Rattle.cics_dispatch.specs.Verbs.{asks_no_queue}
 use Rattle.cics_dispatch.specs.Waits.{wait_of}
 use Rattle.cics_dispatch.specs.Waking.{is_late}
 use Rattle.cics_dispatch.specs.Answers.{IsStep}
 use Rattle.cics_dispatch.specs.KeptTasks.{HasPassed, AreTasksKept}
 use Rattle.cics_dispatch.specs.Tasks.{own_unit}
 use Rattle.cics_dispatch.specs.Settled.{is_among, AreAmong, needs_of, holds_one, is_keeping, goes_on, IsBlocked, IsInTime}
-use Rattle.cics_dispatch.specs.declared.commands.Command.{Command}
-use Rattle.cics_dispatch.specs.declared.commands.Verb.{Verb}
+use Rattle.cics_names.specs.declared.commands.Command.{Command}
+use Rattle.cics_names.specs.declared.commands.Verb.{Verb}
 use Rattle.cics_dispatch.specs.declared.outcomes.Outcome.{Outcome}
 use Rattle.cics_dispatch.specs.declared.outcomes.Refused.{Refused}
 use Rattle.cics_dispatch.specs.declared.outcomes.Refused.TheVariants.{NoTask, TaskEnded, TaskWaiting, DuplicateLabel, NoMemory, ClockBack}

@@ -7,8 +7,8 @@ use Rattle.cics_units.specs.declared.listings.TaskState.TheVariants.{Idle, HasUn
 use Rattle.cics_dispatch.specs.Machine.{Machine, timed_out}
 use Rattle.cics_dispatch.specs.Steps.{issued}
 use Rattle.cics_dispatch.specs.Answers.{tasks_listed, may_want}
-use Rattle.cics_dispatch.specs.declared.commands.Verb.{Verb}
-use Rattle.cics_dispatch.specs.declared.commands.Verb.TheVariants.{Enq, Deq, Unlock, WriteqTd, Syncpoint, Rollback, Return}
+use Rattle.cics_names.specs.declared.commands.Verb.{Verb}
+use Rattle.cics_names.specs.declared.commands.Verb.TheVariants.{Enq, Deq, Unlock, WriteqTd, Syncpoint, Rollback, Return}
 use Rattle.cics_dispatch.specs.declared.outcomes.Outcome.{Outcome}
 use Rattle.cics_dispatch.specs.declared.outcomes.Outcome.TheVariants.{Waiting, Ended}
 use Rattle.cics_dispatch.specs.declared.outcomes.Refused.TheVariants.{NoTask, TaskWaiting, TaskEnded, DuplicateLabel, ClockBack}

@@ -10,8 +10,8 @@ use Rattle.cics_browse.specs.Positions.{Position}
 use Rattle.cics_units.specs.Execution.{has_read, is_item}
 use Rattle.cics_dispatch.specs.Lengths.{fault_unless, first_fault, key_fault, is_within, used_of, from_fault, own_key_fault, write_fault}
 use Rattle.cics_dispatch.specs.Machine.{Machine, Task, definition_of}
-use Rattle.cics_dispatch.specs.declared.commands.Verb.{Verb}
-use Rattle.cics_dispatch.specs.declared.commands.Verb.TheVariants.{Read, Write, Rewrite, Delete, Unlock, StartBr, ResetBr, ReadNext, ReadPrev, EndBr, WriteqTs, WriteqTd, ReadqTd, DeleteqTd, Enq, Deq}
+use Rattle.cics_names.specs.declared.commands.Verb.{Verb}
+use Rattle.cics_names.specs.declared.commands.Verb.TheVariants.{Read, Write, Rewrite, Delete, Unlock, StartBr, ResetBr, ReadNext, ReadPrev, EndBr, WriteqTs, WriteqTd, ReadqTd, DeleteqTd, Enq, Deq}
 
 -- a file that isn't defined is DSIDERR, before every other check
 abbrev pub defined_fault : Option FileDef → (FileDef → Option Condition) → Option Condition

@@ -2,6 +2,7 @@
 -- the key of its task's open update read, and whether its task's browse was started with GENERIC, each for the file that
 -- the command names.
 use Rattle.std.specs.Prelude.{ℕ, Bool, not, Option, Some, None, is_some, is_none, option_map, [], ◌∷◌}
+use Rattle.cics_names.specs.Commands.{file_named}
 use Rattle.cics_names.specs.Keyed.{Bytes, value_at}
 use Rattle.cics_names.specs.declared.conditions.Condition.{Condition}
 use Rattle.cics_names.specs.declared.conditions.Condition.TheVariants.{Dsiderr, Invreq}
@@ -10,22 +11,8 @@ use Rattle.cics_browse.specs.Positions.{Position}
 use Rattle.cics_dispatch.specs.Lengths.{fault_unless, first_fault, key_fault, write_fault}
 use Rattle.cics_dispatch.specs.Machine.{Machine, Task, definition_of}
 use Rattle.cics_dispatch.specs.Checks.{open_key, resource_fault, read_fault, rewrite_fault, delete_fault}
-use Rattle.cics_dispatch.specs.declared.commands.Verb.{Verb}
-use Rattle.cics_dispatch.specs.declared.commands.Verb.TheVariants.{Read, Write, Rewrite, Delete, Unlock, StartBr, ResetBr, ReadNext, ReadPrev, EndBr, Enq, Deq}
-
--- the file that a command names
-abbrev pub file_named : Verb → Option Bytes
-file_named (Read f key given n generic gteq update) = Some f
-file_named (Write f key given from n) = Some f
-file_named (Rewrite f from n) = Some f
-file_named (Delete f key given) = Some f
-file_named (Unlock f) = Some f
-file_named (StartBr f key given generic equal) = Some f
-file_named (ResetBr f key given generic equal) = Some f
-file_named (ReadNext f n) = Some f
-file_named (ReadPrev f n) = Some f
-file_named (EndBr f) = Some f
-file_named _ = None
+use Rattle.cics_names.specs.declared.commands.Verb.{Verb}
+use Rattle.cics_names.specs.declared.commands.Verb.TheVariants.{Read, Write, Rewrite, Delete, Unlock, StartBr, ResetBr, ReadNext, ReadPrev, EndBr, Enq, Deq}
 
 -- whether a browse, where there is one, was started with GENERIC
 abbrev pub is_generic : Option Position → Option Bool

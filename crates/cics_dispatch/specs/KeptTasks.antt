@@ -3,7 +3,7 @@ use Rattle.std.specs.Prelude.{◌≡◌, ℕ, true, Some, None, All, is_some, sl
 use Rattle.cics_units.specs.Events.{is_live}
 use Rattle.cics_dispatch.specs.Machine.{Machine, Task, Suspended, task_at}
 use Rattle.cics_dispatch.specs.Checks.{fault_of}
-use Rattle.cics_dispatch.specs.Verbs.{asks_no_queue}
+use Rattle.cics_names.specs.Commands.{asks_no_queue}
 use Rattle.cics_dispatch.specs.Tasks.{own_label, own_unit, IsOwn}
 
 -- a waiting command is one of a task, asks nothing of a queue, and has passed its checks

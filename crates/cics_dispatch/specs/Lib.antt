@@ -1,4 +1,3 @@
-pub mod Verbs
 pub mod Lengths
 pub mod Replies
 pub mod Machine

@@ -12,7 +12,7 @@ use Rattle.cics_units.specs.Execution.{after_end}
 use Rattle.cics_units.specs.Headline.{beginning}
 use Rattle.cics_units.specs.declared.ops.UnitState.{UnitState}
 use Rattle.cics_units.specs.declared.ops.UnitState.TheVariants.{BackedOut}
-use Rattle.cics_dispatch.specs.declared.commands.Command.{Command}
+use Rattle.cics_names.specs.declared.commands.Command.{Command}
 
 -- a task: its label, the seconds that it may wait (0: without limit), its open unit of work if it has one, its browses by
 -- file, and whether it has ended

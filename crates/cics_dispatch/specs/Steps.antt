@@ -2,6 +2,7 @@
 -- command answer, and the state that they leave. After its checks a command waits, or it is executed; it is answered by
 -- what it acts on; a content that is longer than LENGTH is LENGERR; and a condition that nothing handles abends the task.
 use Rattle.std.specs.Prelude.{ℕ, Bool, true, false, if◌then◌else◌, Option, Some, None, is_some, option_map, Result, Ok, Err, take, [], ◌∷◌, ◌++◌}
+use Rattle.cics_names.specs.Commands.{length_of}
 use Rattle.cics_names.specs.Keyed.{Bytes, value_at, with_value, without}
 use Rattle.cics_names.specs.Conditions.{default_abend_of}
 use Rattle.cics_names.specs.declared.conditions.Condition.{Condition}
@@ -23,9 +24,9 @@ use Rattle.cics_dispatch.specs.Lengths.{used_of}
 use Rattle.cics_dispatch.specs.Replies.{plain, cut, read_reply}
 use Rattle.cics_dispatch.specs.Machine.{Machine, Task, task_at, is_waiting, label_of, with_units, with_task, with_waiting, with_unit, with_browses, unit_closed, abended, records_in, no_code}
 use Rattle.cics_dispatch.specs.Checks.{fault_of, open_key}
-use Rattle.cics_dispatch.specs.declared.commands.Command.{Command}
-use Rattle.cics_dispatch.specs.declared.commands.Verb.{Verb}
-use Rattle.cics_dispatch.specs.declared.commands.Verb.TheVariants.{Read, Write, Rewrite, Delete, Unlock, StartBr, ResetBr, ReadNext, ReadPrev, EndBr, WriteqTs, ReadqTs, DeleteqTs, WriteqTd, ReadqTd, DeleteqTd, Enq, Deq, Syncpoint, Rollback, Return, Abend}
+use Rattle.cics_names.specs.declared.commands.Command.{Command}
+use Rattle.cics_names.specs.declared.commands.Verb.{Verb}
+use Rattle.cics_names.specs.declared.commands.Verb.TheVariants.{Read, Write, Rewrite, Delete, Unlock, StartBr, ResetBr, ReadNext, ReadPrev, EndBr, WriteqTs, ReadqTs, DeleteqTs, WriteqTd, ReadqTd, DeleteqTd, Enq, Deq, Syncpoint, Rollback, Return, Abend}
 use Rattle.cics_dispatch.specs.declared.outcomes.Number.TheVariants.{Item}
 use Rattle.cics_dispatch.specs.declared.outcomes.Reply.{Reply}
 use Rattle.cics_dispatch.specs.declared.outcomes.Outcome.{Outcome}
@@ -48,15 +49,6 @@ unhandled m t r (Some code) = record { outcome = Abended code (Some r); machine 
 -- with RESP or NOHANDLE the task is told each condition, else it is unhandled
 abbrev pub answered : Machine → Task → Bool → Reply → Stepped Outcome
 answered m t resp r = if resp then record { outcome = Replied r; machine = m } else unhandled m t r (default_abend_of r.condition)
-
--- LENGTH of a command that reads
-abbrev pub length_of : Verb → Option ℕ
-length_of (Read f key given n generic gteq update) = n
-length_of (ReadNext f n) = n
-length_of (ReadPrev f n) = n
-length_of (ReadqTs q n item) = n
-length_of (ReadqTd q n nosuspend) = n
-length_of _ = None
 
 -- an answer as the task is told it: with the number of an item, and no more of the content than LENGTH
 abbrev pub reply_of : Option ℕ → Answer → Reply

@@ -5,8 +5,8 @@ use Rattle.cics_units.specs.declared.ops.Op.{Op}
 use Rattle.cics_units.specs.declared.ops.Op.TheVariants as op
 use Rattle.cics_dispatch.specs.Lengths.{used_of}
 use Rattle.cics_dispatch.specs.Steps.{delete_op, ts_write_op}
-use Rattle.cics_dispatch.specs.declared.commands.Verb.{Verb}
-use Rattle.cics_dispatch.specs.declared.commands.Verb.TheVariants.{Read, Write, Rewrite, Delete, WriteqTs, DeleteqTs, WriteqTd, ReadqTd, DeleteqTd}
+use Rattle.cics_names.specs.declared.commands.Verb.{Verb}
+use Rattle.cics_names.specs.declared.commands.Verb.TheVariants.{Read, Write, Rewrite, Delete, WriteqTs, DeleteqTs, WriteqTd, ReadqTd, DeleteqTd}
 
 -- the updating command on a file that a command asks for
 abbrev pub file_op : Option Bytes → Verb → Option Op

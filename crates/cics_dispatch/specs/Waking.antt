@@ -8,8 +8,8 @@ use Rattle.cics_units.specs.TableInPlace.{record_of, file_of, key_of}
 use Rattle.cics_units.specs.declared.ops.Op.{Op}
 use Rattle.cics_dispatch.specs.Machine.{Machine, Task, Suspended, task_at, with_waiting, not_waiting, abended, timed_out}
 use Rattle.cics_dispatch.specs.Steps.{Stepped, op_of, performed, refused_or}
-use Rattle.cics_dispatch.specs.declared.commands.Verb.{Verb}
-use Rattle.cics_dispatch.specs.declared.commands.Verb.TheVariants.{Enq}
+use Rattle.cics_names.specs.declared.commands.Verb.{Verb}
+use Rattle.cics_names.specs.declared.commands.Verb.TheVariants.{Enq}
 use Rattle.cics_dispatch.specs.declared.outcomes.Woken.{Woken}
 use Rattle.cics_dispatch.specs.declared.outcomes.Expired.{Expired}
 use Rattle.cics_dispatch.specs.declared.outcomes.Refused.{Refused}

@@ -8,9 +8,8 @@ use crate::checks::{
     absent_fault, backward_fault, delete_fault, read_fault, resetbr_fault, resource_fault,
     rewrite_fault, startbr_fault, write_fault,
 };
-use crate::commands::Verb;
 use cics_ksds::FileDef;
-use cics_names::{Condition, Record};
+use cics_names::{Condition, Record, Verb};
 
 // The first fault of READ, WRITE, REWRITE or DELETE; None of every other command.
 fn record_fault(definition: FileDef, open_key: Option<&Record>, verb: &Verb) -> Option<Condition>

@@ -7,7 +7,6 @@
 
 mod browses;
 mod checks;
-mod commands;
 mod dispatcher;
 mod faults;
 mod outcomes;
@@ -19,6 +18,5 @@ mod tasks;
 mod updates;
 mod waits;
 
-pub use commands::{Command, Verb};
 pub use outcomes::{Expired, Number, Outcome, Refused, Reply, Woken};
 pub use regions::Region;

@@ -6,13 +6,12 @@ ghost use Rattle.cics_dispatch.specs.Steps.{attached, issued};
 ghost use Rattle.cics_dispatch.specs.Waking.{clock_set, woken, expired};
 ghost use Rattle.cics_dispatch.specs.Answers.{IsStep, always, may_want, IsHeadlineRegion, region_listing, replayed_listing};
 ghost use Rattle.cics_dispatch.specs.Settled.{is_blocker, goes_on};
-ghost use Rattle.cics_dispatch.specs.Verbs.{asks_no_queue};
+ghost use Rattle.cics_names.specs.Commands.{asks_no_queue};
 
-use crate::commands::Command;
 use crate::dispatcher::Dispatcher;
 use crate::outcomes::{Expired, Outcome, Refused, Woken};
 use cics_enqueue::UnitId;
-use cics_names::{Name4, Name8, NoMemory};
+use cics_names::{Command, Name4, Name8, NoMemory};
 use cics_units::{Listing, Opening, Units};
 use indexmap::IndexSet;
 use std::marker::Model;

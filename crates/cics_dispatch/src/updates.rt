@@ -6,8 +6,7 @@ ghost use Rattle.std.specs.Option.{option_copied};
 ghost use Rattle.cics_dispatch.specs.Lengths.{used_of};
 ghost use Rattle.cics_dispatch.specs.Updates.{file_op, queue_op, verb_op};
 
-use crate::commands::Verb;
-use cics_names::{Name8, NoMemory, Record};
+use cics_names::{Name8, NoMemory, Record, Verb};
 use cics_units::Op;
 
 // A copy of the bytes of FROM that LENGTH uses. A LENGTH above their count, which the checks refuse, uses

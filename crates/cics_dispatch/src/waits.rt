@@ -6,8 +6,7 @@ ghost use Rattle.std.specs.Map.Iter.{ShowsInOrder, deref};
 ghost use Rattle.cics_dispatch.specs.Machine.{is_waiting, not_waiting};
 ghost use Rattle.cics_dispatch.specs.Waits.{wait_of, AreBelow};
 
-use crate::commands::Command;
-use cics_names::{Name8, NoMemory};
+use cics_names::{Command, Name8, NoMemory};
 use indexmap::IndexMap;
 use std::alloc::Global;
 use std::collections::BTreeMap;

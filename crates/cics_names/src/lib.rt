@@ -1,6 +1,7 @@
-//! Names, records, the EBCDIC characters and the conditions of the command interface.
+//! What the command interface speaks of: names, records, the EBCDIC characters, the conditions and the commands.
 #![tactic(auto)]
 
+mod commands;
 mod conditions;
 mod ebcdic;
 mod items;
@@ -9,6 +10,7 @@ mod records;
 #[cfg(test)]
 mod tests;
 
+pub use commands::{Command, Verb};
 pub use conditions::{AbendCode, Condition};
 pub use ebcdic::{from_ebcdic, to_ebcdic};
 pub use items::Items;

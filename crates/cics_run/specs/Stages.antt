@@ -8,7 +8,7 @@ use Rattle.cics_dispatch.specs.Machine.{Machine, RegionValue, beginning_region}
 use Rattle.cics_dispatch.specs.Steps.{attached, issued}
 use Rattle.cics_dispatch.specs.Waking.{clock_set}
 use Rattle.cics_dispatch.specs.Answers.{region_listing, replayed_listing}
-use Rattle.cics_dispatch.specs.declared.commands.Command.{Command}
+use Rattle.cics_names.specs.declared.commands.Command.{Command}
 use Rattle.cics_dispatch.specs.declared.outcomes.Refused.{Refused}
 use Rattle.cics_dispatch.specs.declared.outcomes.Refused.TheVariants.{NoMemory}
 use Rattle.cics_script.specs.Lines.{line}

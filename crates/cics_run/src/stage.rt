@@ -4,7 +4,7 @@ ghost use Rattle.std.specs.Prelude.{◌≡◌, ◌++◌, List, ℕ, OnOk, OnErr,
 ghost use Rattle.cics_units.specs.Openings.{OpeningState};
 ghost use Rattle.cics_units.specs.Faults.{IsRefused};
 ghost use Rattle.cics_units.specs.declared.opening.DefineFault.{DefineFault};
-ghost use Rattle.cics_dispatch.specs.Verbs.{asks_no_queue};
+ghost use Rattle.cics_names.specs.Commands.{asks_no_queue};
 ghost use Rattle.cics_script.specs.Lines.{AsksNoQueue};
 ghost use Rattle.cics_run.specs.Journal.{line_fault_line, attached_line, outcome_line, refused_line, clock_line, clock_refused_line};
 ghost use Rattle.cics_run.specs.Stages.{first_stage, region_of, file_defined, file_loaded, event, task_attached, clock_moved, command_issued, followed, step, defined, told_line, IsAnswered, Leads, Happens};
@@ -15,9 +15,9 @@ use crate::journal::{
     push_outcome, push_refused,
 };
 use crate::settling::settle;
-use cics_dispatch::{Command, Outcome, Refused, Region};
+use cics_dispatch::{Outcome, Refused, Region};
 use cics_ksds::FileDef;
-use cics_names::{Name4, Name8, NoMemory, Record};
+use cics_names::{Command, Name4, Name8, NoMemory, Record};
 use cics_script::{Line, LineFault, read_line};
 use cics_units::{DefineFault, Opening};
 use std::alloc::Global;

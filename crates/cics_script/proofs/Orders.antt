@@ -14,9 +14,9 @@ use Rattle.cics_script.specs.Words.{lookup, option_words, commands, same, exclud
 use Rattle.cics_script.specs.Options.{Content, Entry, Place, name8, name4, text, amount, content_in, nothing, at_option, at_value, at_closing, behind_option, moves, reads, named, entered, allowed, options}
 use Rattle.cics_script.specs.Values.{content_at, has, amount_at, text_at, name4_at, name8_at}
 use Rattle.cics_script.specs.Commands.{verb_in, is_handled}
-use Rattle.cics_dispatch.specs.declared.commands.Command.{Command}
-use Rattle.cics_dispatch.specs.declared.commands.Verb.{Verb}
-use Rattle.cics_dispatch.specs.declared.commands.Verb.TheVariants as verb
+use Rattle.cics_names.specs.declared.commands.Command.{Command}
+use Rattle.cics_names.specs.declared.commands.Verb.{Verb}
+use Rattle.cics_names.specs.declared.commands.Verb.TheVariants as verb
 use Rattle.cics_script.specs.declared.faults.LineFault.TheVariants.{BadLiteral}
 use Rattle.cics_script.specs.declared.lines.Line.TheVariants.{Issue}
 use Rattle.cics_script.specs.declared.words.CommandWord.{CommandWord}

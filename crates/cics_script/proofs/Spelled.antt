@@ -7,10 +7,10 @@ use Rattle.std.specs.List.{list_any, list_all}
 use Rattle.cics_names.specs.Names.{name_of, name_of_codes}
 use Rattle.cics_names.specs.Ebcdic.{code_of, codes_of}
 use Rattle.cics_names.specs.declared.names.NameFault.TheVariants.{TooLong, BadCharacter}
-use Rattle.cics_dispatch.specs.Verbs.{asks_no_queue}
-use Rattle.cics_dispatch.specs.declared.commands.Command.{Command}
-use Rattle.cics_dispatch.specs.declared.commands.Verb.{Verb}
-use Rattle.cics_dispatch.specs.declared.commands.Verb.TheVariants as verb
+use Rattle.cics_names.specs.Commands.{asks_no_queue}
+use Rattle.cics_names.specs.declared.commands.Command.{Command}
+use Rattle.cics_names.specs.declared.commands.Verb.{Verb}
+use Rattle.cics_names.specs.declared.commands.Verb.TheVariants as verb
 use Rattle.cics_script.specs.declared.literals.Notation.TheVariants.{Quoted, Hexadecimal}
 use Rattle.cics_script.specs.declared.words.CommandWord.{CommandWord}
 use Rattle.cics_script.specs.declared.words.CommandWord.TheVariants as command

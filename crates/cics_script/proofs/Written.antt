@@ -3,7 +3,7 @@ use Rattle.std.proofs.Common.{◌≡◌, ◌≤◌, true, false, ℕ, List, [], 
 use Rattle.std.proofs.lemmas.Bool.Decides.{nat_tests}
 use Rattle.std.specs.Prelude.{Result, Ok, Err, IsTrue, IfSome, nat_lt, if◌then◌else◌, is_some}
 use Rattle.std.specs.List.{flat_map, list_all}
-use Rattle.cics_dispatch.specs.declared.commands.Command.{Command}
+use Rattle.cics_names.specs.declared.commands.Command.{Command}
 use Rattle.cics_script.specs.declared.faults.LineFault.{LineFault}
 use Rattle.cics_script.specs.declared.faults.LineFault.TheVariants.{TooLong, NotAscii, UnknownWord}
 use Rattle.cics_script.specs.declared.lines.Line.TheVariants.{Blank, Issue}

@@ -20,7 +20,7 @@ use Rattle.cics_script.specs.Faults.{◌>>=◌}
 use Rattle.cics_script.specs.Tokens.{Token, word, number, broken, is_capital, is_digit, after_blanks, tokens}
 use Rattle.cics_script.specs.Words.{lookup, starts, define_objects, load_objects, commands}
 use Rattle.cics_script.specs.Values.{has, text_at, name8_at, name4_at, amount_at, needed}
-use Rattle.cics_dispatch.specs.Verbs.{asks_no_queue}
+use Rattle.cics_names.specs.Commands.{asks_no_queue}
 use Rattle.cics_script.specs.Commands.{verb_in, is_handled}
 use Rattle.cics_script.specs.Options.{Entry, options}
 use lib.Chars.{codes}

@@ -3,15 +3,14 @@
 ghost use Rattle.std.specs.Prelude.{◌≡◌, ◌||◌, Ok, IsTrue, IfOk};
 ghost use Rattle.cics_script.specs.Faults.{Reads};
 ghost use Rattle.cics_script.specs.Views.{entries};
-ghost use Rattle.cics_dispatch.specs.Verbs.{asks_no_queue};
+ghost use Rattle.cics_names.specs.Commands.{asks_no_queue};
 ghost use Rattle.cics_script.specs.Commands.{keyed_in, enqueued_in, delete_of, verb_in, is_handled};
 
 use crate::faults::LineFault;
 use crate::options::{Found, has_option};
 use crate::values::{name4_of, name8_of, number_of, optional_text_of, text_of};
 use crate::words::{CommandWord, OptionWord};
-use cics_dispatch::Verb;
-use cics_names::{Name8, Record};
+use cics_names::{Name8, Record, Verb};
 use std::alloc::Global;
 
 /// Whether a command's conditions are handled.

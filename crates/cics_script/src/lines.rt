@@ -16,9 +16,8 @@ use crate::words::{
     DefineObject, Form, LoadObject, OptionWord, Start, capital_of, command_named, define_object,
     is_spelled, load_object, start_of,
 };
-use cics_dispatch::Command;
 use cics_ksds::FileDef;
-use cics_names::{Name4, Name8, Record};
+use cics_names::{Command, Name4, Name8, Record};
 use std::alloc::{AllocError, Global};
 
 const LIMIT: usize = 70_000;

@@ -2,7 +2,7 @@
 
 ghost use Rattle.std.specs.Prelude.{◌≡◌, ◌∷◌, ◌≤◌, ℕ, Bool, List, length, Option, Some, Ok, IsTrue};
 ghost use Rattle.std.specs.List.{flat_map};
-ghost use Rattle.cics_dispatch.specs.Verbs.{asks_no_queue};
+ghost use Rattle.cics_names.specs.Commands.{asks_no_queue};
 ghost use Rattle.cics_script.specs.Tokens.{Token, word};
 ghost use Rattle.cics_script.specs.Options.{Entry};
 ghost use Rattle.cics_script.specs.Lines.{command_line, label_in, line};
@@ -11,7 +11,7 @@ ghost use Rattle.cics_script.specs.Spelling.{Written, command_word, option_token
 
 use crate::lines::Line;
 use crate::words::{CommandWord, Form};
-use cics_dispatch::{Command, Verb};
+use cics_names::{Command, Verb};
 
 /// Each command is read from its options in any order: behind EXEC CICS stands the command's word, and
 /// then options of the command of which none stands twice and no two exclude each other, END-EXEC last

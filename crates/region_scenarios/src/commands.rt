@@ -1,8 +1,7 @@
 //! Commands as a line of a scenario writes them: the label of a task, the command, its file and what
 //! else it takes, and then its options.
 
-use cics_dispatch::{Command, Verb};
-use cics_names::{Name4, Name8, NameFault, NoMemory, Record};
+use cics_names::{Command, Name4, Name8, NameFault, NoMemory, Record, Verb};
 use cics_units::DefineFault;
 use std::alloc::{AllocError, Global};
 

@@ -1,7 +1,6 @@
 //! Lines, and what each is read as or what is wrong with it.
 
-use cics_dispatch::Verb;
-use cics_names::{Name4, Name8};
+use cics_names::{Name4, Name8, Verb};
 use cics_script::{Line, LineFault, read_line};
 use std::test::Fail;
 

@@ -4,13 +4,13 @@
 //! LOG isn't; each has keys of four bytes, which the records begin with.
 
 ghost use Rattle.std.specs.Prelude.{◌≡◌};
-ghost use Rattle.cics_dispatch.specs.Verbs.{asks_no_queue};
+ghost use Rattle.cics_names.specs.Commands.{asks_no_queue};
 
 use crate::commands::{NotPlayed, command, name, number, word};
 use crate::told::{Came, push_name, push_record, told};
-use cics_dispatch::{Command, Outcome, Refused, Region, Verb};
+use cics_dispatch::{Outcome, Refused, Region};
 use cics_ksds::FileDef;
-use cics_names::{Name4, Name8, NoMemory, Record};
+use cics_names::{Command, Name4, Name8, NoMemory, Record, Verb};
 use cics_units::{Listing, Opening, TaskState, UnitState};
 use std::alloc::Global;
 

@@ -8,14 +8,13 @@ ghost use Rattle.cics_dispatch.specs.Machine.{is_waiting, Task as TaskValue};
 ghost use Rattle.cics_dispatch.specs.Replies.{plain};
 ghost use Rattle.cics_dispatch.specs.Steps.{answered, busy_of, dequeued, enqueued, made_to_wait, units_dequeued};
 ghost use Rattle.cics_dispatch.specs.Answers.{IsHeadlineRegion};
-ghost use Rattle.cics_dispatch.specs.declared.commands.Verb.TheVariants.{Enq};
+ghost use Rattle.cics_names.specs.declared.commands.Verb.TheVariants.{Enq};
 
-use crate::commands::{Command, Verb};
 use crate::dispatcher::Dispatcher;
 use crate::outcomes::Outcome;
 use crate::reads::plain_reply;
 use cics_enqueue::UnitId;
-use cics_names::{Condition, NoMemory, Record};
+use cics_names::{Command, Condition, NoMemory, Record, Verb};
 use cics_units::{Enqueued, Units};
 
 // Frees a value once for a unit, if there is one.

@@ -6,18 +6,17 @@ ghost use Rattle.cics_dispatch.specs.Machine.{is_waiting, unit_closed, Task as T
 ghost use Rattle.cics_dispatch.specs.Checks.{fault_of};
 ghost use Rattle.cics_dispatch.specs.Steps.{op_of, code_of, performed, other_command, issued};
 ghost use Rattle.cics_dispatch.specs.Answers.{is_growing, may_want, IsStep, IsHeadlineRegion};
-ghost use Rattle.cics_dispatch.specs.Verbs.{asks_no_queue};
+ghost use Rattle.cics_names.specs.Commands.{asks_no_queue};
 ghost use Rattle.cics_dispatch.specs.Replies.{plain};
 ghost use Rattle.cics_names.specs.declared.conditions.Condition.TheVariants.{Normal};
 ghost use Rattle.cics_dispatch.specs.declared.outcomes.Outcome.TheVariants.{Replied};
 ghost use Rattle.cics_units.specs.declared.ops.UnitState.TheVariants.{Committed, BackedOut};
 
-use crate::commands::{Command, Verb};
 use crate::dispatcher::Dispatcher;
 use crate::outcomes::{Outcome, Refused};
 use crate::reads::plain_reply;
 use crate::updates::updating;
-use cics_names::{AbendCode, Condition, Name4, Name8, NoMemory};
+use cics_names::{AbendCode, Command, Condition, Name4, Name8, NoMemory, Verb};
 use cics_units::Op;
 
 // The code of an ABEND: four question marks where it gives none.

@@ -6,7 +6,7 @@ ghost use Rattle.cics_units.specs.Execution.{IsOpenUnit};
 ghost use Rattle.cics_units.specs.TableInPlace.{key_of};
 ghost use Rattle.cics_dispatch.specs.Machine.{task_at, timed_out, with_waiting, not_waiting, Task as TaskValue, Suspended as SuspendedValue};
 ghost use Rattle.cics_dispatch.specs.Checks.{fault_of};
-ghost use Rattle.cics_dispatch.specs.Verbs.{asks_no_queue};
+ghost use Rattle.cics_names.specs.Commands.{asks_no_queue};
 ghost use Rattle.cics_dispatch.specs.KeptTasks.{HasPassed};
 ghost use Rattle.cics_dispatch.specs.Steps.{op_of, performed};
 ghost use Rattle.cics_dispatch.specs.Updates.{file_op};
@@ -15,12 +15,11 @@ ghost use Rattle.cics_dispatch.specs.Settled.{AreAmong, IsBlocked};
 ghost use Rattle.cics_dispatch.specs.Waits.{wait_of};
 ghost use Rattle.cics_dispatch.specs.Answers.{IsStep, always, IsHeadlineRegion};
 
-use crate::commands::{Command, Verb};
 use crate::dispatcher::Dispatcher;
 use crate::outcomes::{Expired, Outcome, Refused, Woken};
 use crate::waits::{Suspended, Waits};
 use cics_enqueue::{Resource, UnitId};
-use cics_names::{AbendCode, Name4, Name8, NoMemory, Record};
+use cics_names::{AbendCode, Command, Name4, Name8, NoMemory, Record, Verb};
 use indexmap::IndexSet;
 use std::mem;
 

@@ -4,8 +4,8 @@ use Rattle.cics_units.specs.Execution.{enqueue, after_enqueue}
 use Rattle.cics_dispatch.specs.Machine.{Task, is_waiting, replaced, with_unit}
 use Rattle.cics_dispatch.specs.Regions.{region_of}
 use Rattle.cics_dispatch.specs.Steps.{enqueued}
-use Rattle.cics_dispatch.specs.declared.commands.Command.{Command}
-use Rattle.cics_dispatch.specs.declared.commands.Verb.TheVariants.{Enq}
+use Rattle.cics_names.specs.declared.commands.Command.{Command}
+use Rattle.cics_names.specs.declared.commands.Verb.TheVariants.{Enq}
 use Rattle.cics_dispatch.proofs.RegionSteps.{told_of, one_task, placed_within}
 use Rattle.cics_dispatch.proofs.RegionEnqueuing.{owner_free, owner_there, taken_kept, taken_step, full_step}
 use Rattle.cics_dispatch.proofs.dispatcher.Dispatcher.enqueue.Goals as goal

@@ -2,13 +2,12 @@ use Rattle.std.proofs.Common.{◌≡◌, ◌∙◌, ◌≤◌, length, sym, ap, 
 use Rattle.std.proofs.lemmas.Bool.{false≢true}
 use Rattle.std.proofs.lemmas.List.{length-take-le}
 use Rattle.cics_names.specs.declared.conditions.Condition.TheVariants.{Invreq}
-use Rattle.cics_dispatch.specs.Faults.{file_named}
+use Rattle.cics_names.specs.Commands.{file_named, asks_no_queue}
 use Rattle.cics_dispatch.specs.Machine.{Task}
 use Rattle.cics_dispatch.specs.Replies.{plain}
 use Rattle.cics_dispatch.specs.Steps.{answered, other_command}
-use Rattle.cics_dispatch.specs.Verbs.{asks_no_queue}
-use Rattle.cics_dispatch.specs.declared.commands.Verb.{Verb}
-use Rattle.cics_dispatch.specs.declared.commands.Verb.TheVariants.{Read, Unlock, StartBr, ResetBr, ReadNext, ReadPrev, EndBr, ReadqTs, Enq, Deq, Syncpoint, Rollback, Return, Abend}
+use Rattle.cics_names.specs.declared.commands.Verb.{Verb}
+use Rattle.cics_names.specs.declared.commands.Verb.TheVariants.{Read, Unlock, StartBr, ResetBr, ReadNext, ReadPrev, EndBr, ReadqTs, Enq, Deq, Syncpoint, Rollback, Return, Abend}
 use Rattle.cics_dispatch.proofs.RegionSteps.{place}
 use Rattle.cics_dispatch.proofs.RegionPerforming.{file_there, browse_there, back_there, enq_count, deq_count}
 use Rattle.cics_dispatch.proofs.dispatcher.Dispatcher.perform_other.Goals as goal

@@ -1,11 +1,10 @@
-//! The commands of a task.
+//! The commands that a task issues.
 
 ghost use Rattle.std.specs.Prelude.{◌≡◌, IfOk};
 ghost use Rattle.std.specs.Option.{option_copied};
-ghost use Rattle.cics_dispatch.specs.Faults.{file_named};
-ghost use Rattle.cics_dispatch.specs.Steps.{length_of};
+ghost use Rattle.cics_names.specs.Commands.{file_named, length_of};
 
-use cics_names::{Name4, Name8, NoMemory, Record};
+use crate::{Name4, Name8, NoMemory, Record};
 
 /// A command, as a task issues it.
 #[derive(Drop)]
@@ -161,7 +160,7 @@ pub enum Verb {
 
 impl Command {
     /// Another command that asks for the same. `NoMemory` where the memory for it is refused.
-    pub(crate) fn copy(&self) -> Result<Command, NoMemory>
+    pub fn copy(&self) -> Result<Command, NoMemory>
         ensures { IfOk result (λ copy. copy ≡ self.now) }
     {
         Ok(Command {
