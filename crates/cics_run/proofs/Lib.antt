@@ -1,4 +1,5 @@
 mod Characters
+mod ScriptRows
 mod Unfilled
 pub mod Known
 pub mod Playing
