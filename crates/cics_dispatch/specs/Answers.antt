@@ -10,7 +10,7 @@ use Rattle.cics_units.specs.declared.listings.TaskState.{TaskState}
 use Rattle.cics_units.specs.declared.listings.TaskState.TheVariants.{Idle, HasUnit, IsWaiting}
 use Rattle.cics_dispatch.specs.Machine.{Machine, Task, RegionValue, task_at, is_waiting}
 use Rattle.cics_dispatch.specs.Checks.{fault_of}
-use Rattle.cics_dispatch.specs.Steps.{Stepped, issue_refusal}
+use Rattle.cics_dispatch.specs.Steps.{Stepped, attach_refusal, issue_refusal}
 use Rattle.cics_names.specs.declared.commands.Command.{Command}
 use Rattle.cics_names.specs.declared.commands.Verb.{Verb}
 use Rattle.cics_names.specs.declared.commands.Verb.TheVariants.{Unlock, ResetBr, EndBr, Deq, Syncpoint, Rollback, Return, Abend}
@@ -28,6 +28,10 @@ is_growing Rollback = false
 is_growing Return = false
 is_growing (Abend code) = false
 is_growing _ = true
+
+-- an attach may want memory where it isn't refused
+abbrev pub attach_may_want : Machine → Bytes → Bool
+attach_may_want m label = is_none (attach_refusal m label)
 
 -- a task's command has passed its checks
 abbrev pub passes_checks : Machine → Verb → Option Task → Bool

@@ -24,7 +24,7 @@ ghost use Rattle.cics_dispatch.specs.Waking.{clock_set, woken, expired, first_fr
 ghost use Rattle.cics_units.specs.Openings.{file_recoverable};
 ghost use Rattle.cics_dispatch.specs.Regions.{IsRegionKept};
 ghost use Rattle.cics_dispatch.specs.Settled.{is_keeping};
-ghost use Rattle.cics_dispatch.specs.Answers.{IsStep, always, may_want, is_growing, IsHeadlineRegion, region_listing, replayed_listing};
+ghost use Rattle.cics_dispatch.specs.Answers.{IsStep, always, attach_may_want, may_want, is_growing, IsHeadlineRegion, region_listing, replayed_listing};
 ghost use Rattle.cics_dispatch.specs.Faults.{is_generic};
 ghost use Rattle.cics_names.specs.Keyed.{value_at};
 ghost use Rattle.cics_browse.specs.Positions.{read_next, after_next, read_prev, after_prev};
@@ -154,10 +154,10 @@ impl Dispatcher {
     /// Begins the task of a label: ATTACH. `dtimout` is the seconds that a command of it may wait, 0
     /// for no limit; the transaction makes no difference.
     ///
-    /// It is refused where a task has or had the label (`DuplicateLabel`), and for want of memory
+    /// It is refused where a task has or had the label (`DuplicateLabel`), and else for want of memory
     /// (`NoMemory`). A refusal changes nothing.
     pub fn attach(&mut self, label: Name8, _transaction: Name4, dtimout: u64) -> Result<(), Refused>
-        ensures step { IsStep true self.old (attached self.old.machine label dtimout) result self.new }
+        ensures step { IsStep (attach_may_want self.old.machine label) self.old (attached self.old.machine label dtimout) result self.new }
         ensures headline { IsHeadlineRegion self.new }
     {
         let _units = &self.units;

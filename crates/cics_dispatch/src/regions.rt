@@ -4,7 +4,7 @@ ghost use Rattle.std.specs.Prelude.{◌≡◌, ◌&&◌, ◌||◌, not, true, fa
 ghost use Rattle.cics_dispatch.specs.Machine.{beginning_region};
 ghost use Rattle.cics_dispatch.specs.Steps.{attached, issued};
 ghost use Rattle.cics_dispatch.specs.Waking.{clock_set, woken, expired};
-ghost use Rattle.cics_dispatch.specs.Answers.{IsStep, always, may_want, IsHeadlineRegion, region_listing, replayed_listing};
+ghost use Rattle.cics_dispatch.specs.Answers.{IsStep, always, attach_may_want, may_want, IsHeadlineRegion, region_listing, replayed_listing};
 ghost use Rattle.cics_dispatch.specs.Settled.{is_blocker, goes_on};
 ghost use Rattle.cics_names.specs.Commands.{asks_no_queue};
 
@@ -19,8 +19,9 @@ use std::marker::Model;
 /// The tasks of a region, their waiting commands, and the files and units of work that they share.
 ///
 /// Each call is one step of the region's machine: its answer and the state that it leaves are those of
-/// the step. After each call the files hold what replaying the commands of the units that weren't
-/// backed out gives, and each of these commands has the answer that its task was given.
+/// the step. After each call the files hold what replaying the executed commands gives, those left out
+/// by which a unit that was backed out changed a recoverable file, and each command of the replay has
+/// the answer that its task was given.
 ///
 /// The region remembers what it found when it last looked at the waiting commands, so that `wake` and
 /// `expire` needn't look at each of them again where nothing has changed for them.
@@ -86,10 +87,10 @@ impl Region {
     /// Begins the task of a label: ATTACH. `dtimout` is the seconds that a command of it may wait, 0
     /// for no limit; the transaction makes no difference.
     ///
-    /// It is refused where a task has or had the label (`DuplicateLabel`), and for want of memory
+    /// It is refused where a task has or had the label (`DuplicateLabel`), and else for want of memory
     /// (`NoMemory`). A refusal changes nothing.
     pub fn attach(&mut self, label: Name8, transaction: Name4, dtimout: u64) -> Result<(), Refused>
-        ensures step { IsStep true self.old (attached self.old.machine label dtimout) result self.new }
+        ensures step { IsStep (attach_may_want self.old.machine label) self.old (attached self.old.machine label dtimout) result self.new }
         ensures headline { IsHeadlineRegion self.new }
     {
         self.dispatcher.keeps();
