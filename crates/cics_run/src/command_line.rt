@@ -19,8 +19,9 @@ go on and the tasks that have waited too long. Behind it comes a listing of the
 files and of the tasks that have not ended.";
 
 const MORE: &str = "\
-The replay is the listing again, made by applying the history of the units that
-were not backed out to what was loaded. It has no tasks.
+The replay is the listing again, made by applying the history to what was loaded,
+without what the units that were backed out did to recoverable files. It has no
+tasks.
 
 Exit status:
   0  the whole script was run, or this help was printed

@@ -27,9 +27,9 @@ use std::marker::Model;
 ///
 /// Contracts see the state of the units, which is what was opened, the executed commands in their
 /// order, the outcome of each unit and the open update reads, and beside it the store, which is read
-/// off the files themselves. After every call the store is what replaying the commands of the units
-/// that weren't backed out gives, and each of these commands has the answer that it was given
-/// (`headline`).
+/// off the files themselves. After every call the store is what replaying the executed commands gives,
+/// those left out by which a unit that was backed out changed a recoverable file, and each command of
+/// the replay has the answer that it was given (`headline`).
 #[derive(Drop)]
 pub struct Units {
     opening: Opening,
