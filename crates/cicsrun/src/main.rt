@@ -1,42 +1,58 @@
 //! Runs the script on standard input, and prints its journal and listing on standard output.
 #![tactic(auto)]
 
-use cics_run::{Asked, arguments, exit_status, run};
-use std::io;
+use cics_run::{Asked, RunFault, arguments, exit_status, run};
+use std::io::ErrorKind;
 use std::process::ExitCode;
 
 const BAD_ARGUMENTS: u8 = 2;
 
-const NO_MEMORY: u8 = 3;
-
-fn main(rt: HostRuntime) -> io::Result<ExitCode> {
-    let mut words = Vec::new(rt.alloc());
-    for word in std::env::args(&rt)? {
-        if words.push(word).is_err() {
-            return Ok(no_memory(rt));
-        }
-    }
-    match arguments(rt.alloc(), words) {
+fn main(rt: HostRuntime) -> ExitCode {
+    match asked(rt) {
         Ok(Asked::Run(options)) => {
-            let answer = run(rt.alloc(), &mut rt.stdin(), &mut rt.stdout(), options);
-            if let Err(fault) = &answer {
-                let _ = eprintln!(rt; "cicsrun: {fault}");
+            match run(rt.alloc(), &mut rt.stdin(), &mut rt.stdout(), options) {
+                Ok(status) => ExitCode::from(exit_status(&Ok(status))),
+                Err(fault) => stopped(rt, fault),
             }
-            Ok(ExitCode::from(exit_status(&answer)))
         }
-        Ok(Asked::Help(text)) => {
-            print!(rt; "{text}")?;
-            Ok(ExitCode::SUCCESS)
-        }
+        Ok(Asked::Help(text)) => match print!(rt; "{text}") {
+            Ok(()) => ExitCode::SUCCESS,
+            Err(_) => stopped(rt, RunFault::WriteFault),
+        },
         Ok(Asked::Bad(text)) => {
             let _ = eprint!(rt; "{text}");
-            Ok(ExitCode::from(BAD_ARGUMENTS))
+            ExitCode::from(BAD_ARGUMENTS)
         }
-        Err(_) => Ok(no_memory(rt)),
+        Err(fault) => stopped(rt, fault),
     }
 }
 
-fn no_memory(rt: HostRuntime) -> ExitCode {
-    let _ = eprintln!(rt; "cicsrun: no memory");
-    ExitCode::from(NO_MEMORY)
+// What the command line asks for. A word that is no text asks for nothing that the program knows.
+fn asked(rt: HostRuntime) -> Result<Asked, RunFault> {
+    let given = match std::env::args(&rt) {
+        Ok(given) => given,
+        Err(error) if error.kind() == ErrorKind::OutOfMemory => return Err(RunFault::NoMemory),
+        Err(_) => {
+            return match "error: an argument is not UTF-8\n".to_string(rt.alloc()) {
+                Ok(text) => Ok(Asked::Bad(text)),
+                Err(_) => Err(RunFault::NoMemory),
+            };
+        }
+    };
+    let mut words = Vec::new(rt.alloc());
+    for word in given {
+        if words.push(word).is_err() {
+            return Err(RunFault::NoMemory);
+        }
+    }
+    match arguments(rt.alloc(), words) {
+        Ok(asked) => Ok(asked),
+        Err(_) => Err(RunFault::NoMemory),
+    }
+}
+
+// Says on standard error why the program stops, and answers with the exit status for that.
+fn stopped(rt: HostRuntime, fault: RunFault) -> ExitCode {
+    let _ = eprintln!(rt; "cicsrun: {fault}");
+    ExitCode::from(exit_status(&Err(fault)))
 }
