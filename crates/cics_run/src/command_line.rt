@@ -49,8 +49,8 @@ pub enum Asked {
 /// Reads the words of a command line, of which the first is the program's name.
 ///
 /// The options are `--no-list`, which leaves out the listing, `--replay`, which asks for the replay behind
-/// it, and `--help` (or `-h`). An option that is given twice is bad, and so is every other word. It is
-/// refused for want of memory alone.
+/// it, and `--help` (or `-h`). An option that is given twice is bad, and so is every other word but a `--`,
+/// behind which no option may stand. It is refused for want of memory alone.
 pub fn arguments(alloc: Global, words: Vec<String>) -> Result<Asked, NoMemory> {
     match options(alloc, &words) {
         Ok(options) => Ok(Asked::Run(options)),
