@@ -1,2 +1,3 @@
 mod Filled
 mod Rows
+mod EbcdicTables

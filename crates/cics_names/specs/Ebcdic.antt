@@ -1,6 +1,6 @@
 -- The characters of EBCDIC code page 037 that this project reads and prints, as runs of characters whose
 -- codes follow one another: the first character (as in ASCII), its code, and how many there are.
-use Rattle.std.specs.Prelude.{ℕ, Bool, ◌+◌, ◌-◌, ◌&&◌, nat_le, nat_lt, if◌then◌else◌, Option, Some, None, List, [], ◌∷◌, option_map, option_and_then}
+use Rattle.std.specs.Prelude.{ℕ, Bool, ◌+◌, ◌-◌, ◌==◌, ◌&&◌, slice_get, nat_le, nat_lt, if◌then◌else◌, Option, Some, None, List, [], ◌∷◌, option_map, option_and_then}
 
 -- characters that follow one another in ASCII, and whose codes follow one another
 pub record Run : Type 0 where
@@ -46,6 +46,15 @@ code_of c = code_in runs c
 -- the character of a code
 unfoldable pub character_of : ℕ → Option ℕ
 character_of b = character_in runs b
+
+-- an entry of a table in which 0 stands for none
+abbrev pub unless_zero : Option ℕ → Option ℕ
+unless_zero None = None
+unless_zero (Some x) = if x == 0 then None else Some x
+
+-- what a table has at an index
+abbrev pub entry_at : List ℕ → ℕ → Option ℕ
+entry_at table i = unless_zero (slice_get table i)
 
 -- the codes of a text, where each of its characters has one
 abbrev pub codes_of : List ℕ → Option (List ℕ)

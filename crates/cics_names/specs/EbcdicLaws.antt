@@ -23,15 +23,18 @@ character_in-turned [] b = refl
 character_in-turned (r ∷ rs) b =
     ap (λ o. if is_within r.code r.count b then Some (r.character + (b - r.code)) else o) (character_in-turned rs b)
 
+-- to look for a code is to look for a character in the turned runs
 code_in-turned : (rs : List Run) (c : ℕ) → code_in rs c ≡ character_in (map turned rs) c
 code_in-turned [] c = refl
 code_in-turned (r ∷ rs) c =
     ap (λ o. if is_within r.character r.count c then Some (r.code + (c - r.character)) else o) (code_in-turned rs c)
 
+-- what two tests say together, each says
 both_true : (a b : Bool) → (a && b) ≡ true → (a ≡ true) × (b ≡ true)
 both_true true b e = (refl, e)
 both_true false b e = let wrong : false ≡ true = e in cc
 
+-- two values that are there and equal are one
 some_same : (x y : ℕ) → Some x ≡ Some y → x ≡ y
 some_same x y same = cc
 

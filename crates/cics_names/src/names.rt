@@ -4,6 +4,7 @@ ghost use Rattle.std.specs.Prelude.{◌≡◌};
 ghost use Rattle.cics_names.specs.Names.{name_of};
 
 use crate::ebcdic::to_ebcdic;
+use std::hash::{Hash, Hasher};
 use std::marker::Model;
 
 // What a name is filled up with.
@@ -28,7 +29,7 @@ pub enum NameFault {
 ///
 /// Two spellings that are filled up to the same bytes are one name. Names are equal, are ordered and are hashed by
 /// the eight bytes, the order being that of unsigned bytes from the first one on.
-#[derive(Clone, Copy, Debug, PartialEq, Eq, PartialOrd, Ord, Hash)]
+#[derive(Clone, Copy, Debug, PartialEq, Eq, PartialOrd, Ord)]
 pub struct Name8 {
     bytes: [u8; 8],
 }
@@ -38,7 +39,7 @@ pub struct Name8 {
 ///
 /// Two spellings that are filled up to the same bytes are one name. Names are equal, are ordered and are hashed by
 /// the four bytes, the order being that of unsigned bytes from the first one on.
-#[derive(Clone, Copy, Debug, PartialEq, Eq, PartialOrd, Ord, Hash)]
+#[derive(Clone, Copy, Debug, PartialEq, Eq, PartialOrd, Ord)]
 pub struct Name4 {
     bytes: [u8; 4],
 }
@@ -61,6 +62,38 @@ impl Model for Name4 {
     ghost view = { λ n. n.bytes };
 
     ghost inverse = { λ b. record { bytes = b } };
+}
+
+impl Hash for Name8 {
+    ghost use Rattle.std.proofs.Common.{rules};
+    ghost use Rattle.std.specs.Cmp.Rules.{hashing};
+    ghost use Rattle.std.specs.Hash as fed;
+    ghost use Rattle.std.specs.Int.{w64, from_be_bytes};
+
+    ghost hash_input = { λ n. fed.u64 (from_be_bytes w64 n) };
+
+    ghost respects_eq = { Prim.search (hashing, rules) };
+
+    // As one number, since a hasher takes a number faster than so many bytes.
+    fn hash<H: Hasher>(&self, state: &mut H) {
+        state.write_u64(u64::from_be_bytes(self.bytes));
+    }
+}
+
+impl Hash for Name4 {
+    ghost use Rattle.std.proofs.Common.{rules};
+    ghost use Rattle.std.specs.Cmp.Rules.{hashing};
+    ghost use Rattle.std.specs.Hash as fed;
+    ghost use Rattle.std.specs.Int.{w32, from_be_bytes};
+
+    ghost hash_input = { λ n. fed.u32 (from_be_bytes w32 n) };
+
+    ghost respects_eq = { Prim.search (hashing, rules) };
+
+    // As one number, since a hasher takes a number faster than so many bytes.
+    fn hash<H: Hasher>(&self, state: &mut H) {
+        state.write_u32(u32::from_be_bytes(self.bytes));
+    }
 }
 
 impl Name8 {

@@ -90,9 +90,7 @@ impl Record {
     pub fn copy(&self) -> Result<Record, NoMemory>
         ensures { IfOk result (λ copy. copy ≡ self.now) }
     {
-        Ok(Record {
-            bytes: self.bytes.clone()?,
-        })
+        Record::from_slice(*self.bytes.allocator(), self.bytes())
     }
 
     /// A copy of `count` of the bytes, the first of them being the one at `offset` (from 0).
