@@ -1,7 +1,9 @@
 //! The images of a unit of work.
 
-ghost use Rattle.std.specs.Prelude.{◌≡◌, ◌+◌, ◌-◌, ◌<◌, ◌≤◌, [], ◌∷◌, reverse, fold, vec_len, vec_capacity, OnOk};
-ghost use Rattle.cics_images.specs.Cells.{Cell, Kept, images_of, is_unnamed, LeadBack, AreReadyInTurn};
+ghost use Rattle.std.specs.Prelude.{◌≡◌, ◌+◌, ◌-◌, ◌<◌, ◌≤◌, ◌&&◌, [], ◌∷◌, reverse, fold, map};
+ghost use Rattle.std.specs.Prelude.{vec_len, vec_capacity, OnOk};
+ghost use Rattle.cics_images.specs.Cells.{Cell, Kept, images_of, is_unnamed, LeadBack};
+ghost use Rattle.cics_images.specs.Cells.{AreReadyInTurn, all_swept};
 
 use crate::undoable::Undoable;
 use cics_names::NoMemory;
@@ -34,15 +36,16 @@ impl<M: Undoable> Images<M> {
         }
     }
 
-    /// Makes room for at least one more image, where there is none yet.
+    /// Makes room for at least so many more images, where there isn't room for them yet. A command that changes many
+    /// cells makes room for all its images before its first change.
     ///
     /// `NoMemory` where memory for it is refused. The images are as they were in either case.
-    pub fn make_room(&mut self) -> Result<(), NoMemory>
+    pub fn make_room(&mut self, count: usize) -> Result<(), NoMemory>
         ensures images { self.new.newest_first ≡ self.old.newest_first }
-        ensures ok { OnOk result (0 < self.new.room) }
+        ensures ok { OnOk result (count ≤ self.new.room) }
         ensures room { self.old.room ≤ self.new.room }
     {
-        self.images.reserve(1)?;
+        self.images.reserve(count)?;
         Ok(())
     }
 
@@ -55,32 +58,56 @@ impl<M: Undoable> Images<M> {
         self.images.push_reserved(image);
     }
 
-    /// Undoes all changes whose images are here, newest first, and leaves no image. It takes no memory.
-    ///
-    /// Each image has to be ready once those after it are undone. Each cell that an image names gets back the content
-    /// from before its oldest image; no other cell changes, nor does what was fixed when the target was made.
-    pub fn back_out(&mut self, target: &mut M)
+    // Undoes all changes whose images are here, newest first. The images stay, and go on naming their cells.
+    fn undo_all(&mut self, target: &mut M)
         requires { AreReadyInTurn M.IsReady M.undone target.old self.old.newest_first }
-        ensures empty { self.new.newest_first ≡ [] }
-        ensures led_back { (c : Cell) → LeadBack M.leads (images_of M.cell c self.old.newest_first) (M.content target.old c) (M.content target.new c) }
-        ensures others { M.Keeps (is_unnamed M.cell self.old.newest_first) target.old target.new }
-        ensures fixed { M.fixed target.new ≡ M.fixed target.old }
+        ensures cells { map M.cell self.new.newest_first ≡ map M.cell self.old.newest_first }
         ensures whole { target.new ≡ fold M.undone target.old self.old.newest_first }
     {
-        while let Some(image) = self.images.pop() {
-            target.undo(image);
+        let mut left = self.images.len();
+        while left > 0 {
+            left -= 1;
+            target.undo(&mut self.images[left]);
         }
     }
 
-    /// Gives up all images, so that the changes stay, and leaves none. It takes no memory.
+    /// Undoes all changes whose images are here, newest first, sweeps their cells, and leaves no image. It takes no
+    /// memory.
     ///
-    /// No cell's content changes, nor does what was fixed when the target was made.
+    /// Each image has to be ready once those after it are undone. Each cell that an image names gets back the content
+    /// from before its oldest image, and holds nothing back any more; no other cell changes, nor does what was fixed
+    /// when the target was made.
+    pub fn back_out(&mut self, target: &mut M)
+        requires { AreReadyInTurn M.IsReady M.undone target.old self.old.newest_first }
+        ensures empty { self.new.newest_first ≡ [] }
+        ensures led_back { (c : Cell) →
+            LeadBack M.leads (images_of M.cell c self.old.newest_first)
+            (M.content target.old c) (M.content target.new c) }
+        ensures others { M.Keeps (is_unnamed M.cell self.old.newest_first) target.old target.new }
+        ensures fixed { M.fixed target.new ≡ M.fixed target.old }
+        ensures swept { (c : Cell) →
+            M.holds_back target.new c
+            ≡ (M.holds_back target.old c && is_unnamed M.cell self.old.newest_first c) }
+        ensures whole { target.new ≡ all_swept M.swept M.cell
+            (fold M.undone target.old self.old.newest_first) self.old.newest_first }
+    {
+        self.undo_all(target);
+        self.forget(target);
+    }
+
+    /// Gives up all images, so that the changes stay, sweeps their cells, and leaves none. It takes no memory.
+    ///
+    /// No cell's content changes, nor does what was fixed when the target was made. The cells that the images name hold
+    /// nothing back any more, the others what they did.
     pub fn forget(&mut self, target: &mut M)
         ensures empty { self.new.newest_first ≡ [] }
         ensures contents { (c : Cell) → M.content target.new c ≡ M.content target.old c }
         ensures others { M.Keeps (is_unnamed M.cell self.old.newest_first) target.old target.new }
         ensures fixed { M.fixed target.new ≡ M.fixed target.old }
-        ensures whole { target.new ≡ fold M.settled target.old self.old.newest_first }
+        ensures swept { (c : Cell) →
+            M.holds_back target.new c
+            ≡ (M.holds_back target.old c && is_unnamed M.cell self.old.newest_first c) }
+        ensures whole { target.new ≡ all_swept M.swept M.cell target.old self.old.newest_first }
     {
         while let Some(settled) = self.images.pop() {
             target.settle(settled);

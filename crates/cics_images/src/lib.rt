@@ -5,9 +5,13 @@
 #![tactic(auto)]
 
 mod images;
+mod named;
+mod stores;
 #[cfg(test)]
 mod tests;
 mod undoable;
 
 pub use images::Images;
+pub use named::NamedImage;
+pub use stores::{StoreImage, Stores};
 pub use undoable::{Changed, Undoable};

@@ -1,6 +1,6 @@
 //! Values whose changes can be undone.
 
-ghost use Rattle.std.specs.Prelude.{◌≡◌, Bool, true};
+ghost use Rattle.std.specs.Prelude.{◌≡◌, Bool, true, ◌&&◌};
 ghost use Rattle.cics_images.specs.Cells.{Cell, Content, is_other};
 
 use cics_names::Condition;
@@ -31,8 +31,11 @@ pub trait Undoable {
     /// The value after an undo.
     ghost undone: { Self → Self.Image → Self };
 
-    /// The value after an image was given up.
-    ghost settled: { Self → Self.Image → Self };
+    /// Something is held back at the cell, so that an undo there takes no memory: an empty place, an empty row.
+    ghost holds_back: { Self → Cell → Bool };
+
+    /// The value after a cell was swept: what was held back there is gone.
+    ghost swept: { Self → Cell → Self };
 
     /// At the cells that pass, the second value has what the first has, and what an undo there needs.
     ghost Keeps: { (Cell → Bool) → Self → Self → Type 0 };
@@ -46,14 +49,26 @@ pub trait Undoable {
     /// Undoes a change: its cell gets back the content from before the change. It takes no memory.
     ///
     /// The image has to be ready, as it is right after the change and again once the later changes of its cell are
-    /// undone.
-    fn undo(&mut self, image: Self::Image)
-        requires { IsReady self.old image }
-        ensures { self.new ≡ undone self.old image };
+    /// undone. It goes on naming its cell and is good for nothing but to be given up, by `settle`: what an undo left at
+    /// the cell for older images is swept then, and not before they are undone too.
+    fn undo(&mut self, image: &mut Self::Image)
+        requires { IsReady self.old image.old }
+        ensures value { self.new ≡ undone self.old image.old }
+        ensures cell { cell image.new ≡ cell image.old };
 
-    /// Gives an image up, with whatever was held back for undoing it. It takes no memory and leaves every content.
+    /// Undoes a change by its image, which goes with it. The image has to be ready, as for `undo`, and what the undo
+    /// leaves at the cell stands until the cell is swept. It takes no memory.
+    final fn undo_one(&mut self, mut image: Self::Image)
+        requires { IsReady self.old image }
+        ensures { self.new ≡ undone self.old image }
+    {
+        self.undo(&mut image);
+    }
+
+    /// Gives an image up, and sweeps its cell: whatever was held back there for undoing it is gone. It takes no memory
+    /// and leaves every content.
     fn settle(&mut self, image: Self::Image)
-        ensures { self.new ≡ settled self.old image };
+        ensures { self.new ≡ swept self.old (cell image) };
 
     /// From one content an image leads back to no two.
     ghost determined: { (i : Self.Image) (after before other : Content) → leads i after before →
@@ -69,14 +84,21 @@ pub trait Undoable {
     /// An undo leaves what was fixed.
     ghost undone_fixed: { (m : Self) (i : Self.Image) → fixed (undone m i) ≡ fixed m };
 
-    /// To give up an image changes no content, that of its own cell included.
-    ghost settled_content: { (m : Self) (i : Self.Image) (c : Cell) → content (settled m i) c ≡ content m c };
+    /// An undo leaves what is held back at every other cell.
+    ghost undone_holds: { (m : Self) (i : Self.Image) (c : Cell) → is_other (cell i) c ≡ true →
+        holds_back (undone m i) c ≡ holds_back m c };
 
-    /// To give up an image keeps every other cell.
-    ghost settled_keeps: { (m : Self) (i : Self.Image) → Keeps (is_other (cell i)) m (settled m i) };
+    /// To sweep a cell changes no content, that of the cell itself included.
+    ghost swept_content: { (m : Self) (s c : Cell) → content (swept m s) c ≡ content m c };
 
-    /// To give up an image leaves what was fixed.
-    ghost settled_fixed: { (m : Self) (i : Self.Image) → fixed (settled m i) ≡ fixed m };
+    /// To sweep a cell keeps every other cell.
+    ghost swept_keeps: { (m : Self) (s : Cell) → Keeps (is_other s) m (swept m s) };
+
+    /// To sweep a cell leaves what was fixed.
+    ghost swept_fixed: { (m : Self) (s : Cell) → fixed (swept m s) ≡ fixed m };
+
+    /// Where a cell is swept nothing is held back any more; every other cell holds back what it did.
+    ghost swept_holds: { (m : Self) (s c : Cell) → holds_back (swept m s) c ≡ (holds_back m c && is_other s c) };
 
     /// A cell that is kept has the same content.
     ghost keeps_content: { (p : Cell → Bool) (m n : Self) (c : Cell) → Keeps p m n → p c ≡ true →
