@@ -1,5 +1,5 @@
 -- The first record from a bound on, the last up to one, and all of them.
-use Rattle.std.proofs.Common.{◌≡◌, ℕ, zero, suc, ◌<◌, ◌≤◌, List, [], ◌∷◌, length, drop, take, get_or, Bool, true, false, not, cond, T, Some, None, Option, refl, sym, ◌∙◌, ap, subst, arith, IsTrue}
+use Rattle.std.proofs.Common.{◌≡◌, ℕ, zero, suc, ◌<◌, ◌≤◌, List, [], ◌∷◌, ◌++◌, ◌+◌, length, drop, take, map, get_or, Bool, true, false, not, cond, T, Some, None, Option, refl, sym, ◌∙◌, ap, subst, arith, IsTrue}
 use Rattle.std.proofs.lemmas.List.{take_all, get_or_default}
 use Rattle.std.proofs.Common.{◌-◌, length-drop}
 use Rattle.std.specs.declared.cmp.Ordering.TheVariants.{Less}
@@ -13,7 +13,7 @@ use Rattle.cics_ksds.specs.declared.definition.FileDef.{FileDef}
 use Rattle.cics_ksds.specs.declared.places.Place.{Place}
 use Rattle.cics_ksds.specs.declared.places.Place.TheVariants.{Filled, Empty}
 use Rattle.cics_ksds.specs.Files.{key_of, fits_file, is_from, first_from, is_to, later, last_to, records_of, IsContent}
-use Rattle.cics_ksds.specs.Places.{IsPlace, ArePlaces, slots, key_at, IsAt, IsGapFor, record_in, filled_slots, first_record, last_record, listed}
+use Rattle.cics_ksds.specs.Places.{IsPlace, ArePlaces, slots, key_at, IsAt, IsGapFor, record_in, filled_slots, empty_slots, first_record, last_record, listed}
 use Rattle.cics_ksds.proofs.Order.{total, turned_less, keys_rise}
 use Rattle.cics_ksds.proofs.Values.{rising_filled}
 
@@ -120,6 +120,16 @@ listed_records d [] = refl
 listed_records d (Filled r ∷ ps) = ap (λ rs. r ∷ rs) (listed_records d ps)
 listed_records d (Empty k ∷ ps) = listed_records d ps
 
+pub records_listed : (d : FileDef) (places : List Place) → filled_slots (slots d places) ≡ map (keyed d) (listed places)
+records_listed d [] = refl
+records_listed d (Filled r ∷ ps) = ap (λ es. keyed d r ∷ es) (records_listed d ps)
+records_listed d (Empty k ∷ ps) = records_listed d ps
+
+-- an empty place is no record
+pub listed_behind : (p : Place) (places : List Place) → record_in p ≡ None → listed (p ∷ places) ≡ listed places
+listed_behind (Filled r) places none = cc
+listed_behind (Empty k) places none = refl
+
 each_keyed : (d : FileDef) (places : List Place) → All (IsPlace d) places → All (λ e. (e.0 ≡ key_of d e.1) × IsTrue (fits_file d e.1)) (filled_slots (slots d places))
 each_keyed d [] each = λ i e lt. absurd (omega arith)
 each_keyed d (Filled r ∷ ps) each = All-cons (λ e. (e.0 ≡ key_of d e.1) × IsTrue (fits_file d e.1)) (keyed d r) (filled_slots (slots d ps)) (refl, each 0 (Filled r) (omega arith)) (each_keyed d ps (λ i p lt. each (suc i) p (omega arith)))
@@ -131,3 +141,24 @@ content_of d places are = record { rising = rising_filled (slots d places) are.r
 -- the part from a place on is what is left there
 pub whole : (n : ℕ) (places : List Place) → take (length places - n) (drop n places) ≡ drop n places
 whole n places = take_all (length places - n) (drop n places) (omega (arith, length-drop n places))
+
+-- ---- places behind others
+pub first_record-append : (xs ys : List Place) → first_record (xs ++ ys) ≡ later (first_record xs) (first_record ys)
+first_record-append [] ys = refl
+first_record-append (Filled r ∷ xs) ys = refl
+first_record-append (Empty k ∷ xs) ys = first_record-append xs ys
+
+pub last_record-append : (xs ys : List Place) → last_record (xs ++ ys) ≡ later (last_record ys) (last_record xs)
+last_record-append [] ys = sym (later_none (last_record ys))
+last_record-append (x ∷ xs) ys = ap (λ o. later o (record_in x)) (last_record-append xs ys) ∙ later_assoc (last_record ys) (last_record xs) (record_in x)
+
+pub listed-append : (xs ys : List Place) → listed (xs ++ ys) ≡ listed xs ++ listed ys
+listed-append [] ys = refl
+listed-append (Filled r ∷ xs) ys = ap (λ rs. r ∷ rs) (listed-append xs ys)
+listed-append (Empty k ∷ xs) ys = listed-append xs ys
+
+-- as many records and empty places as places
+pub counted : (d : FileDef) (places : List Place) → length (filled_slots (slots d places)) + length (empty_slots (slots d places)) ≡ length places
+counted d [] = omega arith
+counted d (Filled r ∷ ps) = omega (arith, counted d ps)
+counted d (Empty k ∷ ps) = omega (arith, counted d ps)

@@ -1,6 +1,14 @@
 mod Changes
 pub mod Order
+pub mod Joins
+pub mod AreaEdits
+pub mod IntervalEdits
+pub mod Finding
 pub mod Edits
 pub mod Values
 pub mod Bounds
+pub mod Walks
+pub mod Counts
+pub mod Steps
+pub mod UnderPrefix
 mod Rows

@@ -1,12 +1,17 @@
 -- Worked rows: what files and their images become, computed.
-use Rattle.std.proofs.Common.{◌≡◌, [], ◌∷◌, Some, None, true, false, fold, refl}
+use Rattle.std.proofs.Common.{◌≡◌, ℕ, length, List, [], ◌∷◌, ◌++◌, take, drop, Some, None, true, false, fold, refl}
 use Rattle.cics_names.specs.Keyed.{value_at}
 use Rattle.cics_names.specs.declared.conditions.Condition.TheVariants.{Normal, Duprec, Notfnd}
 use lib.Chars.{codes}
 use Rattle.cics_ksds.specs.declared.definition.FileDef.{FileDef}
 use Rattle.cics_ksds.specs.declared.images.Before.TheVariants.{Added, Replaced, Removed}
-use Rattle.cics_ksds.specs.Files.{FileValue, key_of, fits_file, entry_of, write_condition, change_condition, written, rewritten, deleted, first_from, last_to, records_of}
-use Rattle.cics_ksds.specs.Undo.{content_at, undone, settled, written_image, rewritten_image, deleted_image}
+use Rattle.cics_ksds.specs.declared.places.Place.{Place}
+use Rattle.cics_ksds.specs.declared.places.Place.TheVariants.{Filled}
+use Rattle.cics_ksds.specs.Places.{with_place, without_place}
+use Rattle.cics_ksds.specs.Files.{FileValue, key_of, fits_file, entry_of, write_condition, change_condition, written, rewritten, deleted, swept, first_from, last_to, records_of}
+use Rattle.cics_images.specs.Cells.{all_swept}
+use Rattle.cics_ksds.specs.Prefixes.{under, without_prefix, prefix_images, stored_on}
+use Rattle.cics_ksds.specs.Undo.{content_at, undone, key_of_image, written_image, rewritten_image, deleted_image}
 
 abbrev account : FileDef
 account = record { key_length = 4; key_offset = 0; record_size = 80; recoverable = true }
@@ -44,8 +49,14 @@ row_again : fold undone (written (deleted true (written one (codes "0002xx")) (c
     ≡ record { definition = account; records = (codes "0001", codes "0001aa") ∷ []; empties = codes "0002" ∷ [] }
 row_again = refl
 
+-- and no empty place is left once the keys of the images that were undone are swept
+row_swept : all_swept swept key_of_image (record { definition = account; records = (codes "0001", codes "0001aa") ∷ []; empties = codes "0002" ∷ [] })
+    (record { definition = account; before = Added (codes "0002") } ∷ record { definition = account; before = Removed (codes "0002xx") } ∷ [])
+    ≡ one
+row_swept = refl
+
 -- a delete whose image is given up is a delete that kept none
-row_settled : settled (deleted true three (codes "0002")) (record { definition = account; before = Removed (codes "0002bb") }) ≡ deleted false three (codes "0002")
+row_settled : swept (deleted true three (codes "0002")) (key_of_image (record { definition = account; before = Removed (codes "0002bb") })) ≡ deleted false three (codes "0002")
 row_settled = refl
 
 -- the bound itself passes, unless the bound is strict
@@ -91,3 +102,48 @@ tagged = record { key_length = 2; key_offset = 3; record_size = 6; recoverable =
 row_key : (key_of tagged (codes "abcKY") ≡ codes "KY") × (entry_of tagged (codes "abcKYz") ≡ (codes "KY", codes "abcKYz"))
     × (fits_file tagged (codes "abcK") ≡ false) × (fits_file tagged (codes "abcKY") ≡ true) × (fits_file tagged (codes "abcKYz") ≡ true) × (fits_file tagged (codes "abcKYzz") ≡ false)
 row_key = (refl, refl, refl, refl, refl, refl)
+
+-- ---- by the first bytes of the key
+abbrev accounts : FileValue
+accounts = written (written one (codes "0012y")) (codes "0011x")
+
+-- a delete by prefix leaves the others, with keep each of its places empty, and undone newest first it leads back
+row_prefix : (length (under (codes "001") accounts.records) ≡ 2) × (without_prefix false accounts (codes "001") ≡ one)
+    × (without_prefix true accounts (codes "001") ≡ record { definition = account; records = (codes "0001", codes "0001aa") ∷ []; empties = codes "0011" ∷ codes "0012" ∷ [] })
+    × (prefix_images true accounts (codes "001") ≡ record { definition = account; before = Removed (codes "0011x") } ∷ record { definition = account; before = Removed (codes "0012y") } ∷ [])
+    × (prefix_images false accounts (codes "001") ≡ []) × (fold undone (without_prefix true accounts (codes "001")) (stored_on [] (prefix_images true accounts (codes "001"))) ≡ accounts)
+row_prefix = (refl, refl, refl, refl, refl, refl)
+
+-- a prefix that no key begins with changes nothing, also one that is longer than a key; a whole key is a prefix, and no byte is one of all
+row_prefixes : (without_prefix true accounts (codes "9") ≡ accounts) × (prefix_images true accounts (codes "9") ≡ []) × (without_prefix true accounts (codes "00110") ≡ accounts)
+    × (without_prefix false accounts (codes "0011") ≡ written one (codes "0012y")) × (length (under [] accounts.records) ≡ 3) × ((without_prefix false accounts []).records ≡ [])
+row_prefixes = (refl, refl, refl, refl, refl, refl)
+
+-- an empty place is not counted, and stays where it is
+row_prefix_empty : (length (under (codes "001") (deleted true accounts (codes "0011")).records) ≡ 1)
+    × (without_prefix false (deleted true accounts (codes "0011")) (codes "001") ≡ record { definition = account; records = (codes "0001", codes "0001aa") ∷ []; empties = codes "0011" ∷ [] })
+row_prefix_empty = (refl, refl)
+
+-- the highest byte is a byte like others
+row_prefix_high : under (255 ∷ []) ((254 ∷ 255 ∷ [], []) ∷ (255 ∷ 0 ∷ [], []) ∷ (255 ∷ 255 ∷ [], []) ∷ []) ≡ (255 ∷ 0 ∷ [], []) ∷ (255 ∷ 255 ∷ [], []) ∷ []
+row_prefix_high = refl
+
+-- ---- intervals
+
+abbrev place : ℕ → Place
+place n = Filled (n ∷ [])
+
+abbrev full : List Place
+full = place 0 ∷ place 2 ∷ place 4 ∷ place 6 ∷ place 8 ∷ place 10 ∷ place 12 ∷ place 14 ∷ place 16 ∷ place 18 ∷ place 20 ∷ place 22 ∷ place 24 ∷ place 26 ∷ place 28 ∷ place 30 ∷ []
+
+-- the first place makes the first interval, and where there is room a place joins its interval
+row_with_room : (with_place [] 0 0 (place 1) ≡ (place 1 ∷ []) ∷ []) × (with_place ((place 1 ∷ []) ∷ []) 0 1 (place 2) ≡ (place 1 ∷ place 2 ∷ []) ∷ [])
+row_with_room = (refl, refl)
+
+-- a full interval is split into 8 and 8 first; a place between the halves goes to the end of the first
+row_split : (with_place (full ∷ []) 0 8 (place 15) ≡ (take 8 full ++ place 15 ∷ []) ∷ drop 8 full ∷ []) × (with_place (full ∷ []) 0 16 (place 31) ≡ take 8 full ∷ (drop 8 full ++ place 31 ∷ []) ∷ [])
+row_split = (refl, refl)
+
+-- an interval without places is removed, and one with others stays; intervals aren't merged
+row_without : (without_place ((place 1 ∷ []) ∷ full ∷ []) 0 0 ≡ full ∷ []) × (without_place ((place 1 ∷ place 2 ∷ []) ∷ (place 3 ∷ []) ∷ []) 0 0 ≡ (place 2 ∷ []) ∷ (place 3 ∷ []) ∷ [])
+row_without = (refl, refl)

@@ -1,13 +1,16 @@
 //! A key-sequenced file.
 
-ghost use Rattle.std.specs.Prelude.{◌≡◌, [], IfOk, IfSome, OnOk, OnErr, IsTrue};
+ghost use Rattle.std.specs.Prelude.{◌≡◌, ◌+◌, ◌*◌, ◌≤◌, [], true, length};
+ghost use Rattle.std.specs.Prelude.{IfOk, IfSome, OnOk, OnErr, IsTrue};
+ghost use Rattle.cics_names.specs.declared.conditions.Condition.TheVariants.{Normal};
 ghost use Rattle.std.specs.Option.{option_copied, option_map};
 ghost use Rattle.cics_names.specs.Keyed.{value_at};
-ghost use Rattle.cics_ksds.specs.Files.{entry_of, fits_file, first_from, last_to, key_of, swept};
+ghost use Rattle.cics_ksds.specs.Files.{entry_of, fits_file, first_from, last_to, key_for, swept};
 
 use crate::FileDef;
+use crate::dataset::Dataset;
 use crate::images::{FileImage, added, removed, replaced};
-use crate::places::{Place, Spot, drop_at, insert_at, places_copy, put_at, record_of, spot_of};
+use crate::places::{Place, Spot, insert_at, put_at, record_of, spot_of, take_at};
 use crate::ranges::{copies, first_record_from, last_record_to};
 use cics_images::Changed;
 use cics_names::{Condition, Items, NoMemory, Record};
@@ -18,24 +21,28 @@ use std::marker::Model;
 /// and keys whose place is held empty for an undo. No read and no listing sees an empty place.
 ///
 /// Contracts see a file as its definition, its records by key, and the keys of its empty places.
-/// A look-up costs the logarithm of the number of places; a write of a new key and a delete also
-/// move the places behind it.
+/// A look-up costs the logarithm of the number of places, and one for the first or last record
+/// also passes over the empty places on its way: one by one in an interval that has a record, and
+/// in one step over an interval that has none. The places lie in control intervals of up to 16,
+/// and those in control areas of up to 64: a write of a new key and a delete that leaves no place
+/// also move the places behind it in its interval, where an interval comes or goes the intervals
+/// behind it in its area, and where an area does the areas behind it.
 #[derive(Debug, Drop)]
 pub struct File {
     pub(crate) definition: FileDef,
-    pub(crate) places: Vec<Place>,
-    alloc: Global,
+    pub(crate) places: Dataset,
+    pub(crate) alloc: Global,
 }
 
 impl Model for File {
     ghost use Rattle.cics_ksds.specs.Files.{FileValue};
-    ghost use Rattle.cics_ksds.specs.Places.{ArePlaces, value_of};
+    ghost use Rattle.cics_ksds.specs.Places.{ArePlaces, value_of, places_in};
 
     ghost Value = { FileValue };
 
-    ghost view = { λ f. value_of f.definition f.places.items };
+    ghost view = { λ f. value_of f.definition (places_in f.places) };
 
-    ghost invariant = { λ f. ArePlaces f.definition f.places.items };
+    ghost invariant = { λ f. ArePlaces f.definition (places_in f.places) };
 }
 
 /// A change that was made, with its image where one is kept.
@@ -72,7 +79,7 @@ impl File {
     {
         File {
             definition,
-            places: Vec::new(alloc),
+            places: Dataset::new(alloc),
             alloc,
         }
     }
@@ -84,7 +91,7 @@ impl File {
     {
         Ok(File {
             definition: self.definition,
-            places: places_copy(self.alloc, &self.places)?,
+            places: self.places.copy(self.alloc)?,
             alloc: self.alloc,
         })
     }
@@ -135,20 +142,31 @@ impl File {
         copies(self.alloc, &self.places)
     }
 
+    /// How many control intervals the file has. An interval has 1 to 16 places side by side in key
+    /// order; a new key goes where its neighbours stand, and a full interval is halved first. It takes
+    /// no memory.
+    pub fn interval_count(&self) -> u64
+        ensures at_least { length self.now.records + length self.now.empties ≤ 16 * result }
+        ensures at_most { result ≤ length self.now.records + length self.now.empties }
+    {
+        self.places.count()
+    }
+
     /// WRITE: adds a record under the key that lies in it. A key that has a record is DUPREC, and
-    /// nothing changes. An empty place of the key is filled.
+    /// nothing changes. An empty place of the key is filled. The record has to fit the definition.
     ///
     /// With `keep` a NORMAL answer has the image that undoes the write. `Err` comes only where
     /// memory is refused, for the place or for the image, and then nothing has changed.
     pub fn write(&mut self, content: Record, keep: bool) -> Result<Changed<FileImage>, NoMemory>
         requires { IsTrue (fits_file self.old.definition content) }
         ensures condition { IfOk result (λ changed. changed.condition
-            ≡ write_condition self.old.records (key_of self.old.definition content)) }
+            ≡ write_condition self.old.records (key_for self.old content)) }
         ensures value { OnOk result (self.new ≡ written self.old content) }
-        ensures image { IfOk result (λ changed. changed.image ≡ written_image keep self.old content) }
+        ensures image { IfOk result (λ changed. changed.image
+            ≡ written_image keep self.old content) }
         ensures undoable { IfOk result (λ changed. IfSome changed.image
-            (IsFileImage self.old self.new (key_of self.old.definition content))) }
-        ensures others { KeepsKeys (is_other (key_of self.old.definition content)) self.old self.new }
+            (IsFileImage self.old self.new (key_for self.old content))) }
+        ensures others { KeepsKeys (is_other (key_for self.old content)) self.old self.new }
         ensures err { OnErr result (self.new ≡ self.old) }
     {
         let definition = self.definition;
@@ -163,23 +181,31 @@ impl File {
             Spot::Gap(at) => {
                 // The image comes first: once the record is in, nothing can fail any more.
                 let image = added(self.alloc, definition, key, keep)?;
-                insert_at(definition, &mut self.places, at, Place::Filled(content))?;
+                insert_at(
+                    self.alloc,
+                    definition,
+                    &mut self.places,
+                    at,
+                    Place::Filled(content),
+                )?;
                 Ok(made(image))
             }
         }
     }
 
     /// REWRITE: replaces the record whose key lies in this one. A key without a record is NOTFND,
-    /// and nothing changes. It takes no memory.
+    /// and nothing changes. The record has to fit the definition. It takes no memory.
     ///
     /// With `keep` a NORMAL answer has the image that undoes the change, with the old record.
     pub fn rewrite(&mut self, content: Record, keep: bool) -> Changed<FileImage>
         requires { IsTrue (fits_file self.old.definition content) }
-        ensures condition { result.condition ≡ change_condition self.old.records (key_of self.old.definition content) }
+        ensures condition { result.condition
+            ≡ change_condition self.old.records (key_for self.old content) }
         ensures value { self.new ≡ rewritten self.old content }
         ensures image { result.image ≡ rewritten_image keep self.old content }
-        ensures undoable { IfSome result.image (IsFileImage self.old self.new (key_of self.old.definition content)) }
-        ensures others { KeepsKeys (is_other (key_of self.old.definition content)) self.old self.new }
+        ensures undoable { IfSome result.image
+            (IsFileImage self.old self.new (key_for self.old content)) }
+        ensures others { KeepsKeys (is_other (key_for self.old content)) self.old self.new }
     {
         let definition = self.definition;
         let key = definition.key_in(content.bytes());
@@ -196,24 +222,29 @@ impl File {
     ///
     /// With `keep` the place stays, empty, and a NORMAL answer has the image that undoes the
     /// delete, with the old record. Only then is memory taken, for the key of the empty place:
-    /// `Err` comes where it is refused, and then nothing has changed.
+    /// `Err` comes where it is refused (`refusal`), and then nothing has changed.
     pub fn delete(&mut self, key: &[u8], keep: bool) -> Result<Changed<FileImage>, NoMemory>
-        ensures condition { IfOk result (λ changed. changed.condition ≡ change_condition self.old.records key.now) }
+        ensures condition { IfOk result (λ changed. changed.condition
+            ≡ change_condition self.old.records key.now) }
         ensures value { OnOk result (self.new ≡ deleted keep self.old key.now) }
-        ensures image { IfOk result (λ changed. changed.image ≡ deleted_image keep self.old key.now) }
-        ensures undoable { IfOk result (λ changed. IfSome changed.image (IsFileImage self.old self.new key.now)) }
+        ensures image { IfOk result (λ changed. changed.image
+            ≡ deleted_image keep self.old key.now) }
+        ensures undoable { IfOk result (λ changed. IfSome changed.image
+            (IsFileImage self.old self.new key.now)) }
         ensures others { KeepsKeys (is_other key.now) self.old self.new }
         ensures err { OnErr result (self.new ≡ self.old) }
+        ensures refusal { OnErr result
+            ((keep ≡ true) × (change_condition self.old.records key.now ≡ Normal)) }
     {
         let definition = self.definition;
         match spot_of(definition, &self.places, key) {
             Spot::At(at) => {
                 if keep {
-                    let empty = Record::new(key.to_vec(self.alloc)?);
+                    let empty = Record::from_slice(self.alloc, key)?;
                     let old = put_at(definition, &mut self.places, at, Place::Empty(empty));
                     return Ok(made(removed(definition, old)));
                 }
-                drop_at(definition, &mut self.places, at);
+                drop(take_at(definition, &mut self.places, at));
                 Ok(made(None))
             }
             _ => Ok(not_made(Condition::Notfnd)),
@@ -226,9 +257,13 @@ impl File {
         ensures value { self.new ≡ swept self.old key.now }
         ensures others { KeepsKeys (is_other key.now) self.old self.new }
     {
+        // Most often no empty place stands anywhere, and nothing is looked for.
+        if self.places.empties() == 0 {
+            return;
+        }
         let definition = self.definition;
         match spot_of(definition, &self.places, key) {
-            Spot::AtEmpty(at) => drop_at(definition, &mut self.places, at),
+            Spot::AtEmpty(at) => drop(take_at(definition, &mut self.places, at)),
             Spot::At(_) => {}
             Spot::Gap(_) => {}
         }

@@ -2,12 +2,17 @@
 //! by which each change is undone without taking memory.
 #![tactic(auto)]
 
+mod areas;
+mod dataset;
 mod definition;
 mod files;
 mod images;
+mod intervals;
 mod ordered;
 mod places;
+mod prefixes;
 mod ranges;
+mod rooms;
 #[cfg(test)]
 mod tests;
 mod undoing;
@@ -16,3 +21,4 @@ pub use definition::FileDef;
 pub use files::File;
 pub use images::FileImage;
 pub use ordered::Ordered;
+pub use prefixes::Removed;

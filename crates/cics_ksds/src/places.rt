@@ -1,20 +1,26 @@
-//! The places of a file, in the order of their keys.
+//! The places of a file, in the order of their keys, and how one is found.
 //!
 //! A place has a record, or it is empty: its record was deleted in a unit of work that may still be
 //! backed out, and the place is kept so that putting the record back takes no memory.
 
-ghost use Rattle.std.specs.Prelude.{◌≡◌, ◌<◌, length, IfOk, IfErr, IsTrue, OnOk, OnErr};
+ghost use Rattle.std.specs.Prelude.{◌≡◌, ◌<◌, [], ◌∷◌, All, length, slice_index_or};
+ghost use Rattle.std.specs.Prelude.{IfOk, IfErr, OnOk, OnErr};
 ghost use Rattle.std.specs.Option.{option_copied};
 ghost use Rattle.cics_names.specs.Keyed.{value_at};
-ghost use Rattle.cics_ksds.specs.Files.{key_of, fits_file, filled, dropped};
-ghost use Rattle.cics_ksds.specs.Places.{IsPlace, ArePlaces, IsAt, IsGapFor, Shows, HasPlace, IsSpot};
-ghost use Rattle.cics_ksds.specs.Places.{place_key, key_at, slots, value_of, placed};
+ghost use Rattle.cics_ksds.specs.Files.{dropped};
+ghost use Rattle.cics_ksds.specs.Places.{IsPlace, ArePlaces, IsAt, IsGapFor, Shows, HasPlace};
+ghost use Rattle.cics_ksds.specs.Places.{place_key, key_at, file_of, placed, places_in};
+ghost use Rattle.cics_ksds.specs.Places.{empty_in, listed, interval_in, interval_at, index_of};
+ghost use Rattle.cics_ksds.specs.Places.{IsSpot, IsThere, IsPlaceOf, IsGapAt, HasFirst};
+ghost use Rattle.cics_ksds.specs.Places.{IsLastFrom, first_key_of};
 
 use crate::FileDef;
+use crate::areas::Area;
+use crate::dataset::Dataset;
+use crate::intervals::Interval;
 use cics_names::{NoMemory, Record};
 use std::alloc::Global;
 use std::cmp::Ordering;
-use std::mem;
 
 /// One place of a file.
 #[derive(Debug, Drop)]
@@ -27,7 +33,7 @@ pub(crate) enum Place {
 
 impl Place {
     /// The key that the place is found by.
-    fn key(&self, definition: FileDef) -> &[u8]
+    pub(crate) fn key(&self, definition: FileDef) -> &[u8]
         requires { IsPlace definition self.now }
         ensures { result.now ≡ place_key definition self.now }
     {
@@ -37,34 +43,63 @@ impl Place {
         }
     }
 
-    fn copy(&self) -> Result<Place, NoMemory>
+    /// 1 where the place is empty, else 0.
+    pub(crate) fn empties(&self) -> u64
+        ensures { result ≡ empty_in self.now }
+    {
+        match self {
+            Place::Filled(_) => 0,
+            Place::Empty(_) => 1,
+        }
+    }
+
+    /// 1 where the place has a record, else 0.
+    pub(crate) fn records(&self) -> u64
+        ensures { result ≡ length (listed (self.now ∷ [])) }
+    {
+        match self {
+            Place::Filled(_) => 1,
+            Place::Empty(_) => 0,
+        }
+    }
+
+    /// A place like this one. `NoMemory` where the memory for it is refused.
+    pub(crate) fn copy(&self, alloc: Global) -> Result<Place, NoMemory>
         ensures { IfOk result (λ copy. copy ≡ self.now) }
     {
         match self {
-            Place::Filled(record) => Ok(Place::Filled(record.copy()?)),
-            Place::Empty(key) => Ok(Place::Empty(key.copy()?)),
+            Place::Filled(record) => Ok(Place::Filled(Record::from_slice(alloc, record.bytes())?)),
+            Place::Empty(key) => Ok(Place::Empty(Record::from_slice(alloc, key.bytes())?)),
         }
     }
 }
 
-/// Where the place of a key is, by its index among the places.
+/// Where a place is, or would be put in: by the numbers of its area, of its interval there, and of
+/// itself in that, each from 0.
+#[derive(Clone, Copy, Debug)]
+pub(crate) struct Position {
+    pub(crate) area: usize,
+    pub(crate) interval: usize,
+    pub(crate) place: usize,
+}
+
+/// Where the place of a key is.
 #[derive(Clone, Copy, Debug)]
 pub(crate) enum Spot {
     /// A place with a record.
-    At(usize),
+    At(Position),
     /// A place without one.
-    AtEmpty(usize),
+    AtEmpty(Position),
     /// The key has no place, and here it would be put in.
-    Gap(usize),
+    Gap(Position),
 }
 
-/// The index of a key's place, or else the one where it would be put in. The keys rise, so half of
-/// the places that are left fall away at each step.
-pub(crate) fn search(definition: FileDef, places: &[Place], key: &[u8]) -> Result<usize, usize>
+/// The index of a key's place in an interval, or else the one where it would be put in. The keys
+/// rise, so half of the places that are left fall away at each step.
+fn search(definition: FileDef, places: &[Place], key: &[u8]) -> Result<usize, usize>
     requires { ArePlaces definition places.now }
     ensures found { IfOk result (IsAt definition places.now key.now) }
     ensures absent { IfErr result (IsGapFor definition places.now key.now) }
-    ensures nothing { OnErr result (value_at key.now (slots definition places.now) ≡ None) }
 {
     let mut low = 0;
     let mut high = places.len();
@@ -79,13 +114,102 @@ pub(crate) fn search(definition: FileDef, places: &[Place], key: &[u8]) -> Resul
     Err(low)
 }
 
+/// The key of the first place of an interval.
+fn first_key(definition: FileDef, interval: &Interval) -> &[u8]
+    requires { HasFirst definition interval.now }
+    ensures { result.now ≡ key_at definition interval.now 0 }
+{
+    interval.places()[0].key(definition)
+}
+
+/// The number of the last interval whose first key isn't above the key, or else of the first one.
+fn interval_of(definition: FileDef, intervals: &[Interval], key: &[u8]) -> usize
+    requires some { 0 < length intervals.now }
+    requires each { All (HasFirst definition) intervals.now }
+    ensures { IsLastFrom (λ i. key_at definition (interval_in intervals.now i) 0)
+        (length intervals.now) key.now result }
+{
+    let mut low = 0;
+    let mut high = intervals.len();
+    while high - low > 1 {
+        let middle = low + (high - low) / 2;
+        match first_key(definition, &intervals[middle]).cmp(key) {
+            Ordering::Less => low = middle,
+            Ordering::Equal => low = middle,
+            Ordering::Greater => high = middle,
+        }
+    }
+    low
+}
+
+/// The number of the last area whose first key isn't above the key, or else of the first one.
+fn area_of(definition: FileDef, areas: &[Area], key: &[u8]) -> usize
+    requires some { 0 < length areas.now }
+    requires each { All (λ area. (0 < length area) × HasFirst definition (interval_in area 0))
+        areas.now }
+    ensures { IsLastFrom (λ i. first_key_of definition (slice_index_or areas.now i []))
+        (length areas.now) key.now result }
+{
+    let mut low = 0;
+    let mut high = areas.len();
+    while high - low > 1 {
+        let middle = low + (high - low) / 2;
+        match first_key(definition, &areas[middle].intervals()[0]).cmp(key) {
+            Ordering::Less => low = middle,
+            Ordering::Equal => low = middle,
+            Ordering::Greater => high = middle,
+        }
+    }
+    low
+}
+
+/// Where a key's place is, or else where it would be put in: into the interval whose first key is
+/// the greatest one not above it, or else into the first.
+pub(crate) fn find(definition: FileDef, places: &Dataset, key: &[u8]) -> Result<Position, Position>
+    requires { ArePlaces definition (places_in places.now) }
+    ensures found { IfOk result (IsPlaceOf definition places.now key.now) }
+    ensures absent { IfErr result (IsGapAt definition places.now key.now) }
+{
+    if places.areas().is_empty() {
+        return Err(Position {
+            area: 0,
+            interval: 0,
+            place: 0,
+        });
+    }
+    let area = area_of(definition, places.areas(), key);
+    let interval = interval_of(definition, places.intervals(area), key);
+    match search(definition, places.places(area, interval), key) {
+        Ok(place) => Ok(Position {
+            area,
+            interval,
+            place,
+        }),
+        Err(place) => Err(Position {
+            area,
+            interval,
+            place,
+        }),
+    }
+}
+
+/// The place at a position.
+pub(crate) fn place_at(places: &Dataset, at: Position) -> &Place
+    requires there { IsThere places.now at }
+    requires place { at.place < length (interval_at places.now at) }
+    ensures { result.now
+        ≡ slice_index_or (places_in places.now) (index_of places.now at) result.now }
+{
+    &places.places(at.area, at.interval)[at.place]
+}
+
 /// Where the place of a key is, and whether it has a record: what each change starts from.
-pub(crate) fn spot_of(definition: FileDef, places: &[Place], key: &[u8]) -> Spot
-    requires { ArePlaces definition places.now }
+pub(crate) fn spot_of(definition: FileDef, places: &Dataset, key: &[u8]) -> Spot
+    requires { ArePlaces definition (places_in places.now) }
     ensures { IsSpot definition places.now key.now result }
 {
-    match search(definition, places, key) {
-        Ok(at) => match &places[at] {
+    match find(definition, places, key) {
+        Ok(at) => match place_at(places, at) {
             Place::Filled(_) => Spot::At(at),
             Place::Empty(_) => Spot::AtEmpty(at),
         },
@@ -96,14 +220,14 @@ pub(crate) fn spot_of(definition: FileDef, places: &[Place], key: &[u8]) -> Spot
 /// The record of a key. An empty place has none.
 pub(crate) fn record_of<'a>(
     definition: FileDef,
-    places: &'a [Place],
+    places: &'a Dataset,
     key: &[u8],
 ) -> Option<&'a Record>
-    requires { ArePlaces definition places.now }
-    ensures { option_copied result ≡ value_at key.now (value_of definition places.now).records }
+    requires { ArePlaces definition (places_in places.now) }
+    ensures { option_copied result ≡ value_at key.now (file_of definition places.now).records }
 {
-    match search(definition, places, key) {
-        Ok(at) => match &places[at] {
+    match find(definition, places, key) {
+        Ok(at) => match place_at(places, at) {
             Place::Filled(record) => Some(record),
             Place::Empty(_key) => None,
         },
@@ -112,90 +236,71 @@ pub(crate) fn record_of<'a>(
 }
 
 /// Puts a place over the one of the same key, and answers what stood there. It takes no memory.
-pub(crate) fn put_at(definition: FileDef, places: &mut Vec<Place>, at: usize, place: Place) -> Place
-    requires places { ArePlaces definition places.old.items }
-    requires at { IsAt definition places.old.items (place_key definition place) at }
+pub(crate) fn put_at(definition: FileDef, places: &mut Dataset, at: Position, place: Place) -> Place
+    requires places { ArePlaces definition (places_in places.old) }
+    requires at { IsPlaceOf definition places.old (place_key definition place) at }
     requires place { IsPlace definition place }
-    ensures places { ArePlaces definition places.new.items }
-    ensures value { value_of definition places.new.items
-        ≡ placed (value_of definition places.old.items) (place_key definition place) place }
-    ensures old { Shows (value_of definition places.old.items) (place_key definition place) result }
+    ensures places { ArePlaces definition (places_in places.new) }
+    ensures value { file_of definition places.new
+        ≡ placed (file_of definition places.old) (place_key definition place) place }
+    ensures old { Shows (file_of definition places.old) (place_key definition place) result }
     ensures old_place { IsPlace definition result }
     ensures old_key { place_key definition result ≡ place_key definition place }
 {
-    mem::replace(&mut places[at], place)
+    places.put(at, place)
 }
 
-/// Puts a place into the gap for its key.
+/// Puts a place into the gap for its key. A full interval is split first. All memory is taken
+/// before anything changes.
 pub(crate) fn insert_at(
+    alloc: Global,
     definition: FileDef,
-    places: &mut Vec<Place>,
-    at: usize,
+    places: &mut Dataset,
+    at: Position,
     place: Place,
 ) -> Result<(), NoMemory>
-    requires places { ArePlaces definition places.old.items }
-    requires gap { IsGapFor definition places.old.items (place_key definition place) at }
+    requires places { ArePlaces definition (places_in places.old) }
+    requires gap { IsGapAt definition places.old (place_key definition place) at }
     requires place { IsPlace definition place }
-    ensures places { ArePlaces definition places.new.items }
-    ensures value { OnOk result (value_of definition places.new.items
-        ≡ placed (value_of definition places.old.items) (place_key definition place) place) }
-    ensures err { OnErr result (places.new.items ≡ places.old.items) }
+    ensures places { ArePlaces definition (places_in places.new) }
+    ensures value { OnOk result (file_of definition places.new
+        ≡ placed (file_of definition places.old) (place_key definition place) place) }
+    ensures err { OnErr result (places.new ≡ places.old) }
 {
-    places.insert(at, place)?;
+    places.insert(alloc, at, place)?;
     Ok(())
 }
 
-/// Takes a place out, and answers it.
-fn remove_at(definition: FileDef, places: &mut Vec<Place>, at: usize) -> Place
-    requires places { ArePlaces definition places.old.items }
-    requires in_range { at < length places.old.items }
-    ensures places { ArePlaces definition places.new.items }
-    ensures value { value_of definition places.new.items
-        ≡ dropped (value_of definition places.old.items) (place_key definition result) }
-    ensures key { place_key definition result ≡ key_at definition places.old.items at }
-    ensures old { Shows (value_of definition places.old.items) (place_key definition result) result }
+/// Takes a place out, and answers it. It takes no memory.
+pub(crate) fn take_at(definition: FileDef, places: &mut Dataset, at: Position) -> Place
+    requires places { ArePlaces definition (places_in places.old) }
+    requires there { IsThere places.old at }
+    requires place { at.place < length (interval_at places.old at) }
+    ensures places { ArePlaces definition (places_in places.new) }
+    ensures value { file_of definition places.new
+        ≡ dropped (file_of definition places.old)
+        (key_at definition (places_in places.old) (index_of places.old at)) }
+    ensures old { result ≡ slice_index_or (places_in places.old) (index_of places.old at) result }
 {
     places.remove(at)
 }
 
-/// Takes a place out, and lets it go.
-pub(crate) fn drop_at(definition: FileDef, places: &mut Vec<Place>, at: usize)
-    requires places { ArePlaces definition places.old.items }
-    requires in_range { at < length places.old.items }
-    ensures places { ArePlaces definition places.new.items }
-    ensures value { value_of definition places.new.items
-        ≡ dropped (value_of definition places.old.items) (key_at definition places.old.items at) }
+/// Puts a place over the one of the same key, which is there, and answers what stood there. It
+/// takes no memory.
+pub(crate) fn exchanged(definition: FileDef, places: &mut Dataset, place: Place) -> Place
+    requires places { ArePlaces definition (places_in places.old) }
+    requires place { IsPlace definition place }
+    requires there { HasPlace (file_of definition places.old) (place_key definition place) }
+    ensures places { ArePlaces definition (places_in places.new) }
+    ensures value { file_of definition places.new
+        ≡ placed (file_of definition places.old) (place_key definition place) place }
+    ensures old { Shows (file_of definition places.old) (place_key definition place) result }
+    ensures old_place { IsPlace definition result }
+    ensures old_key { place_key definition result ≡ place_key definition place }
 {
-    let _ = remove_at(definition, places, at);
-}
-
-/// Puts a record back into the place of its key, which is there. It takes no memory.
-pub(crate) fn restore(definition: FileDef, places: &mut Vec<Place>, old: Record)
-    requires places { ArePlaces definition places.old.items }
-    requires fits { IsTrue (fits_file definition old) }
-    requires there { HasPlace (value_of definition places.old.items) (key_of definition old) }
-    ensures places { ArePlaces definition places.new.items }
-    ensures value { value_of definition places.new.items
-        ≡ filled (value_of definition places.old.items) (key_of definition old) old }
-{
-    match spot_of(definition, places, definition.key_in(old.bytes())) {
-        Spot::At(at) => {
-            let _ = put_at(definition, places, at, Place::Filled(old));
-        }
-        Spot::AtEmpty(at) => {
-            let _ = put_at(definition, places, at, Place::Filled(old));
-        }
-        Spot::Gap(_) => {}
+    match spot_of(definition, places, place.key(definition)) {
+        Spot::At(at) => put_at(definition, places, at, place),
+        Spot::AtEmpty(at) => put_at(definition, places, at, place),
+        Spot::Gap(_) => unreachable!(),
     }
-}
-
-/// Places like these, in the same order.
-pub(crate) fn places_copy(alloc: Global, places: &[Place]) -> Result<Vec<Place>, NoMemory>
-    ensures { IfOk result (λ copy. copy.items ≡ places.now) }
-{
-    let mut copy = Vec::new(alloc);
-    for place in places {
-        copy.push(place.copy()?)?;
-    }
-    Ok(copy)
 }

@@ -1,0 +1,212 @@
+-- The entries whose keys begin with a prefix stand side by side.
+use Rattle.std.proofs.Common.{map, take, set, ◌++◌, Option, None, IfSome, ◌≡◌, ℕ, zero, suc, ◌+◌, ◌<◌, ◌≤◌, Some, inl, inr, get_or, Bool, true, false, not, ◌&&◌, cond, T, List, [], ◌∷◌, length, drop, nat_eq, refl, sym, ◌∙◌, ap, subst, arith}
+use Rattle.std.specs.List.{filter}
+use Rattle.std.specs.Ordering.{is_lt, is_eq, nat_cmp, ordering_then}
+use Rattle.std.specs.declared.cmp.Ordering.{Ordering}
+use Rattle.std.specs.declared.cmp.Ordering.TheVariants.{Less, Equal, Greater}
+use Rattle.std.specs.FinMap.{nat_cmp-IsAntisymmetric}
+use Rattle.std.specs.Cmp.{tied_itself}
+use Rattle.std.proofs.lemmas.Cmp.{nat_cmp_total}
+use Rattle.std.proofs.lemmas.Bool.{eqb-true, eq-eqb}
+use Rattle.std.specs.FinMap.Entries.{below_all}
+use Rattle.cics_names.specs.Keyed.{Bytes, Map, value_at, bytes_cmp, is_below, is_rising, is_same, without}
+use Rattle.cics_ksds.specs.declared.definition.FileDef.{FileDef}
+use Rattle.cics_ksds.specs.declared.places.Place.{Place}
+use Rattle.cics_ksds.specs.declared.places.Place.TheVariants.{Filled, Empty}
+use Rattle.cics_ksds.specs.Files.{is_from, key_of}
+use Rattle.cics_ksds.specs.declared.places.Position.{Position}
+use Rattle.cics_ksds.specs.Places.{record_in, ArePlaces, IsAt, IsPlace, slots, key_at, place_key, filled_slots, value_of, places_in, index_of, IsRecordUnder, left_at}
+use Rattle.cics_ksds.proofs.Bounds.{before_at, after_at, here_at}
+use Rattle.cics_ksds.proofs.IntervalEdits.{index_within}
+use Rattle.cics_ksds.proofs.Edits.{find_at}
+use Rattle.cics_ksds.proofs.Values.{get_records}
+use Rattle.std.specs.Option.{option_and_then}
+use Rattle.std.proofs.lemmas.List.{drop_more, get_or_default}
+use Rattle.cics_ksds.specs.Prefixes.{has_prefix, under, from}
+use Rattle.cics_ksds.proofs.Order.{first, second, less, turned_less, same_or_below}
+
+-- ---- what passes one test after another
+pub filter_within : {X : Type 0} (p q : X → Bool) → ((x : X) → p x ≡ true → q x ≡ true) → (xs : List X) → filter p (filter q xs) ≡ filter p xs
+filter_within p q within [] = refl
+filter_within p q within (x ∷ xs) = by (filter_within p q within xs) (p x) (q x) refl refl
+  where
+    by : filter p (filter q xs) ≡ filter p xs → (a b : Bool) → p x ≡ a → q x ≡ b → filter p (cond (q x) (x ∷ filter q xs) (filter q xs)) ≡ cond (p x) (x ∷ filter p xs) (filter p xs)
+    by rest a true here there = ap (λ c. filter p (cond c (x ∷ filter q xs) (filter q xs))) there ∙ ap (λ l. cond (p x) (x ∷ l) l) rest
+    by rest true false here there = let wrong : true ≡ false = sym (within x here) ∙ there in cc
+    by rest false false here there = ap (λ c. filter p (cond c (x ∷ filter q xs) (filter q xs))) there ∙ rest ∙ sym (ap (λ c. cond c (x ∷ filter p xs) (filter p xs)) here)
+
+-- ---- keys that begin with a prefix
+left : (a b : Bool) → (a && b) ≡ true → a ≡ true
+left true b e = refl
+left false b e = e
+
+right : (a b : Bool) → (a && b) ≡ true → b ≡ true
+right true b e = e
+right false b e = let wrong : false ≡ true = e in cc
+
+-- a prefix begins with itself
+pub prefix_itself : (p : Bytes) → has_prefix p p ≡ true
+prefix_itself [] = refl
+prefix_itself (x ∷ p) = (λ i. eq-eqb x x refl i && prefix_itself p i)
+
+-- no key that begins with a prefix is below it
+pub prefix_from : (p k : Bytes) → has_prefix p k ≡ true → is_from p false k ≡ true
+prefix_from [] [] has = refl
+prefix_from [] (y ∷ k) has = refl
+prefix_from (x ∷ p) [] has = let wrong : false ≡ true = has in cc
+prefix_from (x ∷ p) (y ∷ k) has =
+    let same : x ≡ y = eqb-true x y (left _ _ has) in
+    ap (λ o. not (is_lt (ordering_then o (bytes_cmp k p)))) (ap (nat_cmp y) same ∙ tied_itself nat_cmp_total y) ∙ prefix_from p k (right _ _ has)
+
+-- a key between two that begin with a prefix begins with it
+pub convex : (p a b c : Bytes) → has_prefix p a ≡ true → has_prefix p c ≡ true → is_below b a ≡ false → bytes_cmp b c ≡ Less → has_prefix p b ≡ true
+convex [] a b c ha hc above below = refl
+convex (x ∷ p) [] b c ha hc above below = let wrong : false ≡ true = ha in cc
+convex (x ∷ p) (u ∷ a) [] c ha hc above below = let wrong : true ≡ false = above in cc
+convex (x ∷ p) (u ∷ a) (v ∷ b) [] ha hc above below = let wrong : false ≡ true = hc in cc
+convex (x ∷ p) (u ∷ a) (v ∷ b) (w ∷ c) ha hc above below =
+    let first_same : x ≡ u = eqb-true x u (left _ _ ha) in
+    let last_same : x ≡ w = eqb-true x w (left _ _ hc) in
+    by (λ above below. convex p a b c (right _ _ ha) (right _ _ hc) above below) (nat_cmp v x) refl (ap (λ n. is_lt (ordering_then (nat_cmp v n) (bytes_cmp b a))) first_same ∙ above) (ap (λ n. ordering_then (nat_cmp v n) (bytes_cmp b c)) last_same ∙ below)
+  where
+    by : (is_below b a ≡ false → bytes_cmp b c ≡ Less → has_prefix p b ≡ true) → (o : Ordering) → nat_cmp v x ≡ o → is_lt (ordering_then (nat_cmp v x) (bytes_cmp b a)) ≡ false → ordering_then (nat_cmp v x) (bytes_cmp b c) ≡ Less → (nat_eq x v && has_prefix p b) ≡ true
+    by rest Less is above below = let wrong : true ≡ false = sym (ap (λ r. is_lt (ordering_then r (bytes_cmp b a))) is) ∙ above in cc
+    by rest Equal is above below = (λ i. eq-eqb x v (sym (nat_cmp-IsAntisymmetric v x is)) i && rest (sym (ap (λ r. is_lt (ordering_then r (bytes_cmp b a))) is) ∙ above) (sym (ap (λ r. ordering_then r (bytes_cmp b c)) is) ∙ below) i)
+    by rest Greater is above below = let wrong : false ≡ true = ap is_lt (sym (ap (λ r. ordering_then r (bytes_cmp b c)) is) ∙ below) in cc
+
+-- ---- the records from a bound on
+pub from_not_below : (bound : Bytes) (strict : Bool) (k : Bytes) → is_from bound strict k ≡ true → is_below k bound ≡ false
+from_not_below bound true k is = ap is_lt (turned_less bound k (less _ (subst T (sym is) tt)))
+from_not_below bound false k is = by (is_below k bound) is
+  where
+    by : (b : Bool) → not b ≡ true → b ≡ false
+    by true e = let wrong : false ≡ true = e in cc
+    by false e = refl
+
+-- where the keys that pass are those from a place on, the entries that pass are those from there on
+pub from_start : (d : FileDef) (bound : Bytes) (strict : Bool) (places : List Place) (start : ℕ) →
+    ((j : ℕ) → j < start → j < length places → is_from bound strict (key_at d places j) ≡ false) → ((j : ℕ) → start ≤ j → j < length places → is_from bound strict (key_at d places j) ≡ true) →
+    from bound strict (filled_slots (slots d places)) ≡ filled_slots (slots d (drop start places))
+from_start d bound strict [] zero before after = refl
+from_start d bound strict [] (suc start) before after = refl
+from_start d bound strict (Filled r ∷ ps) zero before after =
+    ap (λ b. cond b ((key_of d r, r) ∷ from bound strict (filled_slots (slots d ps))) (from bound strict (filled_slots (slots d ps)))) (after 0 (omega arith) (omega arith))
+    ∙ ap (λ l. (key_of d r, r) ∷ l) (from_start d bound strict ps zero (λ j lt in_range. absurd (omega (arith, lt))) (λ j le lt. after (suc j) (omega arith) (omega (arith, lt))))
+from_start d bound strict (Empty k ∷ ps) zero before after = from_start d bound strict ps zero (λ j lt in_range. absurd (omega (arith, lt))) (λ j le lt. after (suc j) (omega arith) (omega (arith, lt)))
+from_start d bound strict (Filled r ∷ ps) (suc start) before after =
+    ap (λ b. cond b ((key_of d r, r) ∷ from bound strict (filled_slots (slots d ps))) (from bound strict (filled_slots (slots d ps)))) (before 0 (omega arith) (omega arith))
+    ∙ from_start d bound strict ps start (λ j lt in_range. before (suc j) (omega (arith, lt)) (omega (arith, in_range))) (λ j le lt. after (suc j) (omega (arith, le)) (omega (arith, lt)))
+from_start d bound strict (Empty k ∷ ps) (suc start) before after = from_start d bound strict ps start (λ j lt in_range. before (suc j) (omega (arith, lt)) (omega (arith, in_range))) (λ j le lt. after (suc j) (omega (arith, le)) (omega (arith, lt)))
+
+-- what is left of places in order is in order
+pub rising_drop : (d : FileDef) (n : ℕ) (places : List Place) → T (is_rising (slots d places)) → T (is_rising (slots d (drop n places)))
+rising_drop d zero places rising = rising
+rising_drop d (suc n) [] rising = tt
+rising_drop d (suc n) (p ∷ ps) rising = rising_drop d n ps (second _ _ rising)
+
+-- ---- where the prefix ends
+module _ (d : FileDef) (bound prefix : Bytes) (begins : has_prefix prefix bound ≡ true) (k : Bytes) (from_bound : is_below k bound ≡ false) (ends : has_prefix prefix k ≡ false) where
+  beyond : (b : Bool) (q : Bytes) → has_prefix prefix q ≡ b → bytes_cmp k q ≡ Less → b ≡ false
+  beyond true q has below = let wrong : true ≡ false = sym (convex prefix bound k q begins has from_bound below) ∙ ends in cc
+  beyond false q has below = refl
+
+  -- no key above one that doesn't begin with it begins with it
+  none_above : (places : List Place) → T (below_all bytes_cmp k (slots d places)) → under prefix (filled_slots (slots d places)) ≡ []
+  none_above [] below = refl
+  none_above (Filled r ∷ ps) below =
+      ap (λ b. cond b ((key_of d r, r) ∷ under prefix (filled_slots (slots d ps))) (under prefix (filled_slots (slots d ps)))) (beyond (has_prefix prefix (key_of d r)) (key_of d r) refl (less _ (first _ _ below)))
+      ∙ none_above ps (second _ _ below)
+  none_above (Empty e ∷ ps) below = none_above ps (second _ _ below)
+
+  pub none_left : (p : Place) (places : List Place) → place_key d p ≡ k → T (is_rising (slots d (p ∷ places))) → under prefix (filled_slots (slots d (p ∷ places))) ≡ []
+  none_left (Filled r) ps is rising =
+      ap (λ b. cond b ((key_of d r, r) ∷ under prefix (filled_slots (slots d ps))) (under prefix (filled_slots (slots d ps)))) (ap (has_prefix prefix) is ∙ ends)
+      ∙ none_above ps (subst (λ q. T (below_all bytes_cmp q (slots d ps))) is (first _ _ rising))
+  none_left (Empty e) ps is rising = none_above ps (subst (λ q. T (below_all bytes_cmp q (slots d ps))) is (first _ _ rising))
+
+-- ---- the records under a prefix
+pub under_from : (prefix : Bytes) (records : Map Bytes) → under prefix (from prefix false records) ≡ under prefix records
+under_from prefix records = filter_within (λ e. has_prefix prefix e.0) (λ e. is_from prefix false e.0) (λ e has. prefix_from prefix e.0 has) records
+
+-- the entries above a key are there without it
+pub from_without : (key : Bytes) (records : Map Bytes) → from key true (without key records) ≡ from key true records
+from_without key records = filter_within (λ e. is_from key true e.0) (λ e. not (is_same key e.0)) (λ e above. ap (λ o. not (is_eq o)) (less (bytes_cmp key e.0) (subst T (sym above) tt))) records
+
+-- ---- by positions
+-- from a record under the prefix on there is its entry, and what is above it
+pub left_more : (d : FileDef) (areas : List (List (List Place))) (prefix : Bytes) (at : Position) → ArePlaces d (places_in areas) → (is : IsRecordUnder d areas prefix at) →
+    left_at d areas prefix (Some at) ≡ (key_of d is.record_there.0, is.record_there.0) ∷ under prefix (from (key_of d is.record_there.0) true (value_of d (places_in areas)).records)
+left_more d areas prefix at are is =
+    let places = places_in areas in
+    let i = index_of areas at in
+    let r = is.record_there.0 in
+    let key = key_of d r in
+    let lt : i < length places = index_within areas at is.there is.place in
+    let at_key : IsAt d places key i = record { in_range = lt; has_key = ap (place_key d) is.record_there.1 } in
+    ap (λ l. under prefix (filled_slots (slots d l))) (drop_more places i (Empty []) lt ∙ ap (λ p. p ∷ drop (i + 1) places) is.record_there.1)
+    ∙ ap (λ b. cond b ((key, r) ∷ under prefix (filled_slots (slots d (drop (i + 1) places)))) (under prefix (filled_slots (slots d (drop (i + 1) places))))) is.record_there.2
+    ∙ ap (λ l. (key, r) ∷ under prefix l) (sym (from_start d key true places (i + 1)
+    (λ j below in_range. elim (same_or_below j i below) [ inl less ↦ before_at d places key true i are.rising at_key j less | inr same ↦ here_at d places key true i are.rising at_key j same ])
+    (λ j above in_range. after_at d places key true i are.rising at_key j (omega (arith, above)) in_range)))
+
+-- the place at a position that was read
+pub read_there : (d : FileDef) (places : List Place) (i : ℕ) (p : Place) → ArePlaces d places → i < length places → p ≡ get_or places i p → (get_or places i (Empty []) ≡ p) × IsPlace d p
+read_there d places i p are lt read =
+    let is : get_or places i (Empty []) ≡ p = get_or_default places i (Empty []) p lt ∙ sym read in
+    (is, subst (IsPlace d) is (are.each i (Empty []) lt))
+
+-- no more records are under a prefix than there are places
+pub fewer_under : (d : FileDef) (prefix : Bytes) (places : List Place) → length (under prefix (value_of d places).records) ≤ length places
+fewer_under d prefix [] = omega arith
+fewer_under d prefix (Filled r ∷ ps) = elim (has_prefix prefix (key_of d r)) as (λ b. length (cond b ((key_of d r, r) ∷ under prefix (filled_slots (slots d ps))) (under prefix (filled_slots (slots d ps)))) ≤ suc (length ps)) [
+  | true ↦ omega (arith, fewer_under d prefix ps)
+  | false ↦ omega (arith, fewer_under d prefix ps)
+]
+fewer_under d prefix (Empty k ∷ ps) = omega (arith, fewer_under d prefix ps)
+
+module _ (d : FileDef) (areas : List (List (List Place))) (prefix : Bytes) where
+  -- the record that was found
+  pub found_at : (next : Option Position) (at : Position) → next ≡ Some at → IfSome next (IsRecordUnder d areas prefix) → IsRecordUnder d areas prefix at
+  found_at next at is found = subst (λ (o : Option Position). IfSome o (IsRecordUnder d areas prefix)) is found
+
+  -- where none was found none is left
+  pub none_found : (next : Option Position) → ((at : Position) → next ≡ Some at → ⊥) → left_at d areas prefix next ≡ []
+  none_found None none = refl
+  none_found (Some at) none = absurd (none at refl)
+
+  module _ (are : ArePlaces d (places_in areas)) (at : Position) (is : IsRecordUnder d areas prefix at) where
+    pub found_left : (next : Option Position) → next ≡ Some at →
+        left_at d areas prefix next ≡ (key_of d is.record_there.0, is.record_there.0) ∷ under prefix (from (key_of d is.record_there.0) true (value_of d (places_in areas)).records)
+    found_left next some = ap (λ (o : Option Position). left_at d areas prefix o) some ∙ left_more d areas prefix at are is
+
+    lt : index_of areas at < length (places_in areas)
+    lt = index_within areas at is.there is.place
+
+    -- the place that was read has its key
+    pub found_key : (place : Place) → place ≡ get_or (places_in areas) (index_of areas at) place → place_key d place ≡ key_of d is.record_there.0
+    found_key place read = ap (place_key d) (sym (read_there d (places_in areas) (index_of areas at) place are lt read).0 ∙ is.record_there.1)
+
+    pub found_place : (place : Place) → place ≡ get_or (places_in areas) (index_of areas at) place → IsPlace d place
+    found_place place read = (read_there d (places_in areas) (index_of areas at) place are lt read).1
+
+    -- the file has the record under its key
+    pub found_record : value_at (key_of d is.record_there.0) (value_of d (places_in areas)).records ≡ Some is.record_there.0
+    found_record =
+        let key = key_of d is.record_there.0 in
+        get_records (slots d (places_in areas)) are.rising key
+        ∙ ap (option_and_then record_in) (find_at d (places_in areas) key (index_of areas at) are.rising (record { in_range = lt; has_key = ap (place_key d) is.record_there.1 }) ∙ ap Some is.record_there.1)
+
+-- ---- a list that is turned from one form to another, a value at a time
+module _ {X Y : Type 0} (f g : X → Y) where
+  pub read_half : (es : List X) (n : ℕ) (x : X) (y : Y) → n < length es → get_or (map f (take n es) ++ map g (drop n es)) n y ≡ g (get_or es n x)
+  read_half [] n x y lt = absurd (omega (arith, lt))
+  read_half (e ∷ es) zero x y lt = refl
+  read_half (e ∷ es) (suc n) x y lt = read_half es n x y (omega (arith, lt))
+
+  turned : (es : List X) (n m : ℕ) (x : X) → n < length es → m ≡ suc n → set (map f (take n es) ++ map g (drop n es)) n (f (get_or es n x)) ≡ map f (take m es) ++ map g (drop m es)
+  turned [] n m x lt is = absurd (omega (arith, lt))
+  turned (e ∷ es) zero m x lt is = sym (ap (λ m. map f (take m (e ∷ es)) ++ map g (drop m (e ∷ es))) is)
+  turned (e ∷ es) (suc n) m x lt is = ap (λ l. f e ∷ l) (turned es n (suc n) x (omega (arith, lt)) refl) ∙ sym (ap (λ m. map f (take m (e ∷ es)) ++ map g (drop m (e ∷ es))) is)
+
+  pub set_half : (es : List X) (n : ℕ) (x : X) → n < length es → set (map f (take n es) ++ map g (drop n es)) n (f (get_or es n x)) ≡ map f (take (n + 1) es) ++ map g (drop (n + 1) es)
+  set_half es n x lt = turned es n (n + 1) x lt (omega arith)

@@ -1,0 +1,52 @@
+use Rattle.std.proofs.Common.{◌≡◌, ◌<◌, length, get_or, set, sym, ◌∙◌, ap, subst, List, arith}
+use Rattle.std.proofs.lemmas.List.{length-set}
+use Rattle.cics_ksds.specs.declared.places.Place.{Place}
+use Rattle.cics_ksds.specs.Places.{joined, places_in, index_of, number_of, interval_at, empty_in, IsThere}
+use Rattle.cics_ksds.proofs.IntervalEdits.{put_places, read_place, index_within}
+use Rattle.cics_ksds.proofs.Counts.{Counts, after_set}
+use Rattle.cics_ksds.proofs.dataset.Dataset.put.Goals as goal
+use Rattle.cics_ksds.proofs.dataset.Dataset.put.Goals.{After-put-old}
+
+there : (c : After-put-old) → IsThere c.self.inside.areas.items c.args.at
+there c = subst (λ (areas : List (List (List Place))). IsThere areas c.args.at) (sym c.self.view_is) c.requires.there
+
+below : (c : After-put-old) → c.args.at.place < length (interval_at c.self.inside.areas.items c.args.at)
+below c = subst (λ (areas : List (List (List Place))). c.args.at.place < length (interval_at areas c.args.at)) (sym c.self.view_is) c.requires.place
+
+set_places : (c : After-put-old) → places_in c.put-old.new.areas.items ≡ set (places_in c.self.inside.areas.items) (index_of c.self.inside.areas.items c.args.at) c.args.place
+set_places c = ap (λ (l : List (List Place)). joined l) c.put-old.ensures.intervals ∙ put_places c.self.inside.areas.items c.args.at (there c) c.args.place (below c)
+
+stood : (c : After-put-old) → c.put-old.result ≡ get_or (places_in c.self.inside.areas.items) (index_of c.self.inside.areas.items c.args.at) c.put-old.result
+stood c = c.put-old.ensures.old ∙ sym (read_place c.self.inside.areas.items c.args.at (there c) c.put-old.result (below c))
+
+counts : (c : After-put-old) → Counts (places_in c.self.inside.areas.items) (places_in c.put-old.new.areas.items) (empty_in c.put-old.result) (empty_in c.args.place) 0 0
+counts c = after_set (places_in c.self.inside.areas.items) (places_in c.put-old.new.areas.items) (index_of c.self.inside.areas.items c.args.at) c.args.place c.put-old.result
+    (set_places c) (index_within c.self.inside.areas.items c.args.at (there c) (below c)) (stood c)
+
+pub overflow_sub-self : goal.overflow_sub-self
+overflow_sub-self c = omega (arith, (counts (goal.at.overflow_sub-self c).After-put-old).some, c.self.invariant.empties, c.empties.ensures)
+
+pub overflow_add-self : goal.overflow_add-self
+overflow_add-self c =
+    let here = counts (goal.at.overflow_add-self c).After-put-old in
+    omega (arith, here.some, here.empties, here.long, here.within, c.self.invariant.empties, c.self.invariant.long, c.empties.ensures, c.empties-comes.ensures)
+
+pub invariant_of-self : goal.invariant_of-self
+invariant_of-self c =
+    let here = counts (goal.at.invariant_of-self c).After-put-old in
+    record {
+      each = c.put-old.ensures.each;
+      counted = c.self.invariant.counted ∙ sym (ap length c.put-old.ensures.intervals ∙ length-set (joined c.self.inside.areas.items) (number_of c.self.inside.areas.items c.args.at) _);
+      long = omega (arith, here.long, c.self.invariant.long);
+      empties = omega (arith, here.some, here.empties, c.self.invariant.empties, c.empties.ensures, c.empties-comes.ensures);
+    }
+
+pub returns-clause-places : goal.returns-clause-places
+returns-clause-places c =
+    subst (λ (areas : List (List (List Place))). places_in c.put-old.new.areas.items ≡ set (places_in areas) (index_of areas c.args.at) c.args.place) c.self.view_is
+    (set_places (goal.at.returns-clause-places c).After-put-old)
+
+pub returns-clause-old : goal.returns-clause-old
+returns-clause-old c =
+    subst (λ (areas : List (List (List Place))). c.put-old.result ≡ get_or (places_in areas) (index_of areas c.args.at) c.put-old.result) c.self.view_is
+    (stood (goal.at.returns-clause-old c).After-put-old)

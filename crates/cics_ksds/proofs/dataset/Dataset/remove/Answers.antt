@@ -1,0 +1,119 @@
+use Rattle.std.proofs.Common.{◌≡◌, ◌<◌, length, get_or, sym, ◌∙◌, ap, subst, List, arith}
+use Rattle.std.proofs.lemmas.List.{length-set}
+use Rattle.std.proofs.lemmas.List.Edits.{length-remove}
+use Rattle.std.specs.List.{remove}
+use Rattle.cics_ksds.specs.declared.places.Place.{Place}
+use Rattle.cics_ksds.specs.Places.{joined, places_in, index_of, number_of, interval_at, empty_in, IsThere, without_place}
+use Rattle.cics_ksds.proofs.AreaEdits.{within}
+use Rattle.cics_ksds.proofs.IntervalEdits.{remove_places, removed_others, removed_last, read_place, index_within}
+use Rattle.cics_ksds.proofs.Counts.{Counts, after_remove}
+use Rattle.cics_ksds.proofs.dataset.Dataset.remove.Goals as goal
+use Rattle.cics_ksds.proofs.dataset.Dataset.remove.Goals.{After-places_at, After-remove_place-old, After-remove_last-old}
+
+there : (c : After-places_at) → IsThere c.self.inside.areas.items c.args.at
+there c = subst (λ (areas : List (List (List Place))). IsThere areas c.args.at) (sym c.self.view_is) c.requires.there
+
+below : (c : After-places_at) → c.args.at.place < length (interval_at c.self.inside.areas.items c.args.at)
+below c = subst (λ (areas : List (List (List Place))). c.args.at.place < length (interval_at areas c.args.at)) (sym c.self.view_is) c.requires.place
+
+-- what is known once a place was taken out
+module _ (c : After-places_at) (new : List (List (List Place))) (old : Place)
+    (taken : joined new ≡ without_place (joined c.self.inside.areas.items) (number_of c.self.inside.areas.items c.args.at) c.args.at.place)
+    (stood : old ≡ get_or (interval_at c.self.inside.areas.items c.args.at) c.args.at.place old) where
+  removed : places_in new ≡ remove (places_in c.self.inside.areas.items) (index_of c.self.inside.areas.items c.args.at)
+  removed = ap (λ (l : List (List Place)). joined l) taken ∙ remove_places c.self.inside.areas.items c.args.at (there c) (below c)
+
+  read : old ≡ get_or (places_in c.self.inside.areas.items) (index_of c.self.inside.areas.items c.args.at) old
+  read = stood ∙ sym (read_place c.self.inside.areas.items c.args.at (there c) old (below c))
+
+  counts : Counts (places_in c.self.inside.areas.items) (places_in new) (empty_in old) 0 0 1
+  counts = after_remove (places_in c.self.inside.areas.items) (places_in new) (index_of c.self.inside.areas.items c.args.at) old removed
+      (index_within c.self.inside.areas.items c.args.at (there c) (below c)) read
+
+  intervals_seen : joined new ≡ without_place (joined c.args.self.now) (number_of c.args.self.now c.args.at) c.args.at.place
+  intervals_seen = subst (λ (areas : List (List (List Place))). joined new ≡ without_place (joined areas) (number_of areas c.args.at) c.args.at.place) c.self.view_is taken
+
+  places_seen : places_in new ≡ remove (places_in c.args.self.now) (index_of c.args.self.now c.args.at)
+  places_seen = subst (λ (areas : List (List (List Place))). places_in new ≡ remove (places_in areas) (index_of areas c.args.at)) c.self.view_is removed
+
+  old_seen : old ≡ get_or (places_in c.args.self.now) (index_of c.args.self.now c.args.at) old
+  old_seen = subst (λ (areas : List (List (List Place))). old ≡ get_or (places_in areas) (index_of areas c.args.at) old) c.self.view_is read
+
+-- a place that others stay beside, and one that is alone
+others : (c : After-remove_place-old) → joined c.remove_place-old.new.areas.items ≡ without_place (joined c.self.inside.areas.items) (number_of c.self.inside.areas.items c.args.at) c.args.at.place
+others c = c.remove_place-old.ensures.intervals ∙ removed_others c.self.inside.areas.items c.args.at (subst (λ (areas : List (List (List Place))). IsThere areas c.args.at) (sym c.self.view_is) c.requires.there)
+    (omega (arith, c.places_at.ensures.count, c.if-places_at-gt1.true))
+
+alone : (c : After-remove_last-old) → joined c.remove_last-old.new.areas.items ≡ without_place (joined c.self.inside.areas.items) (number_of c.self.inside.areas.items c.args.at) c.args.at.place
+alone c = c.remove_last-old.ensures.intervals ∙ removed_last c.self.inside.areas.items c.args.at (subst (λ (areas : List (List (List Place))). IsThere areas c.args.at) (sym c.self.view_is) c.requires.there)
+    (omega (arith, c.places_at.ensures.count, c.if-places_at-gt1.false))
+
+pub overflow_sub-self : goal.overflow_sub-self
+overflow_sub-self c =
+    let here = counts (goal.at.overflow_sub-self c).After-places_at c.remove_place-old.new.areas.items c.remove_place-old.result (others (goal.at.overflow_sub-self c).After-remove_place-old) c.remove_place-old.ensures.old in
+    omega (arith, here.long, c.self.invariant.long)
+
+pub overflow_sub-self-then-places_at-gt1 : goal.overflow_sub-self-then-places_at-gt1
+overflow_sub-self-then-places_at-gt1 c =
+    let here = counts (goal.at.overflow_sub-self-then-places_at-gt1 c).After-places_at c.remove_place-old.new.areas.items c.remove_place-old.result (others (goal.at.overflow_sub-self-then-places_at-gt1 c).After-remove_place-old) c.remove_place-old.ensures.old in
+    omega (arith, here.some, c.self.invariant.empties, c.empties.ensures)
+
+pub invariant_of-self : goal.invariant_of-self
+invariant_of-self c =
+    let here = counts (goal.at.invariant_of-self c).After-places_at c.remove_place-old.new.areas.items c.remove_place-old.result (others (goal.at.invariant_of-self c).After-remove_place-old) c.remove_place-old.ensures.old in
+    record {
+      each = c.remove_place-old.ensures.each;
+      counted = c.self.invariant.counted ∙ sym (ap length c.remove_place-old.ensures.intervals ∙ length-set (joined c.self.inside.areas.items) (number_of c.self.inside.areas.items c.args.at) _);
+      long = omega (arith, here.long, c.self.invariant.long);
+      empties = omega (arith, here.some, here.empties, c.self.invariant.empties, c.empties.ensures);
+    }
+
+pub returns-then-places_at-gt1-clause-places : goal.returns-then-places_at-gt1-clause-places
+returns-then-places_at-gt1-clause-places c =
+    places_seen (goal.at.returns-then-places_at-gt1-clause-places c).After-places_at c.remove_place-old.new.areas.items c.remove_place-old.result (others (goal.at.returns-then-places_at-gt1-clause-places c).After-remove_place-old) c.remove_place-old.ensures.old
+
+pub returns-then-places_at-gt1-clause-intervals : goal.returns-then-places_at-gt1-clause-intervals
+returns-then-places_at-gt1-clause-intervals c =
+    intervals_seen (goal.at.returns-then-places_at-gt1-clause-intervals c).After-places_at c.remove_place-old.new.areas.items c.remove_place-old.result (others (goal.at.returns-then-places_at-gt1-clause-intervals c).After-remove_place-old) c.remove_place-old.ensures.old
+
+pub returns-then-places_at-gt1-clause-old : goal.returns-then-places_at-gt1-clause-old
+returns-then-places_at-gt1-clause-old c =
+    old_seen (goal.at.returns-then-places_at-gt1-clause-old c).After-places_at c.remove_place-old.new.areas.items c.remove_place-old.result (others (goal.at.returns-then-places_at-gt1-clause-old c).After-remove_place-old) c.remove_place-old.ensures.old
+
+pub overflow_sub-self-2 : goal.overflow_sub-self-2
+overflow_sub-self-2 c =
+    let lt = within c.self.inside.areas.items c.args.at (there (goal.at.overflow_sub-self-2 c).After-places_at) in
+    omega (arith, lt, c.self.invariant.counted)
+
+pub overflow_sub-self-3 : goal.overflow_sub-self-3
+overflow_sub-self-3 c =
+    let here = counts (goal.at.overflow_sub-self-3 c).After-places_at c.remove_last-old.new.areas.items c.remove_last-old.result (alone (goal.at.overflow_sub-self-3 c).After-remove_last-old) c.remove_last-old.ensures.old in
+    omega (arith, here.long, c.self.invariant.long)
+
+pub overflow_sub-self-4 : goal.overflow_sub-self-4
+overflow_sub-self-4 c =
+    let here = counts (goal.at.overflow_sub-self-4 c).After-places_at c.remove_last-old.new.areas.items c.remove_last-old.result (alone (goal.at.overflow_sub-self-4 c).After-remove_last-old) c.remove_last-old.ensures.old in
+    omega (arith, here.some, c.self.invariant.empties, c.empties-2.ensures)
+
+pub invariant_of-self-2 : goal.invariant_of-self-2
+invariant_of-self-2 c =
+    let here = counts (goal.at.invariant_of-self-2 c).After-places_at c.remove_last-old.new.areas.items c.remove_last-old.result (alone (goal.at.invariant_of-self-2 c).After-remove_last-old) c.remove_last-old.ensures.old in
+    let lt = within c.self.inside.areas.items c.args.at (there (goal.at.invariant_of-self-2 c).After-places_at) in
+    record {
+      each = c.remove_last-old.ensures.each;
+      counted = omega (arith, lt, c.self.invariant.counted, ap length c.remove_last-old.ensures.intervals, length-remove (joined c.self.inside.areas.items) (number_of c.self.inside.areas.items c.args.at) lt);
+      long = omega (arith, here.long, c.self.invariant.long);
+      empties = omega (arith, here.some, here.empties, c.self.invariant.empties, c.empties-2.ensures);
+    }
+
+pub returns-clause-places : goal.returns-clause-places
+returns-clause-places c =
+    places_seen (goal.at.returns-clause-places c).After-places_at c.remove_last-old.new.areas.items c.remove_last-old.result (alone (goal.at.returns-clause-places c).After-remove_last-old) c.remove_last-old.ensures.old
+
+pub returns-clause-intervals : goal.returns-clause-intervals
+returns-clause-intervals c =
+    intervals_seen (goal.at.returns-clause-intervals c).After-places_at c.remove_last-old.new.areas.items c.remove_last-old.result (alone (goal.at.returns-clause-intervals c).After-remove_last-old) c.remove_last-old.ensures.old
+
+pub returns-clause-old : goal.returns-clause-old
+returns-clause-old c =
+    old_seen (goal.at.returns-clause-old c).After-places_at c.remove_last-old.new.areas.items c.remove_last-old.result (alone (goal.at.returns-clause-old c).After-remove_last-old) c.remove_last-old.ensures.old

@@ -1,0 +1,17 @@
+use Rattle.std.proofs.Common.{◌≤◌, [], ◌∷◌, ◌∙◌, length, ap, arith}
+use Rattle.std.proofs.lemmas.List.Edits.{length-insert}
+use Rattle.cics_ksds.specs.Places.{listed}
+use Rattle.cics_ksds.proofs.Counts.{records_insert, records_others}
+use Rattle.cics_ksds.proofs.intervals.Interval.insert.Goals as goal
+
+pub overflow_add-self : goal.overflow_add-self
+overflow_add-self c = omega (arith, records_others c.self.inside.places.items, records_others (c.args.place ∷ []), c.self.invariant.counted, c.self.invariant.at_most, c.records.ensures)
+
+pub invariant_of-self : goal.invariant_of-self
+invariant_of-self c =
+    let le : c.args.at ≤ length c.self.inside.places.items = omega (arith, ap length c.self.view_is, c.requires.in_range) in
+    record {
+      at_most = omega (arith, ap length c.insert_reserved.ensures.items, length-insert c.self.inside.places.items c.args.at c.args.place le, ap length c.self.view_is, c.requires.room);
+      room = c.insert_reserved.ensures.capacity ∙ c.self.invariant.room;
+      counted = omega (arith, ap (λ l. length (listed l)) c.insert_reserved.ensures.items, records_insert c.self.inside.places.items c.args.at c.args.place le, c.self.invariant.counted, c.records.ensures);
+    }

@@ -1,0 +1,18 @@
+use Rattle.std.proofs.Common.{◌∙◌, length, ap, arith, length-take-le}
+use Rattle.cics_ksds.specs.Places.{listed}
+use Rattle.cics_ksds.proofs.Counts.{records_halves}
+use Rattle.cics_ksds.proofs.intervals.Interval.split.Goals as goal
+
+pub invariant_of-self : goal.invariant_of-self
+invariant_of-self c = record {
+  at_most = omega (arith, ap length c.move_tail.ensures.head, length-take-le 8 c.self.inside.places.items (omega (arith, ap length c.self.view_is, c.requires.full)));
+  room = c.move_tail.ensures.head_capacity ∙ c.self.invariant.room;
+  counted = omega (
+    arith,
+    records_halves 8 c.self.inside.places.items,
+    ap (λ l. length (listed l)) c.move_tail.ensures.head,
+    ap (λ l. length (listed l)) (c.as_slice.ensures.value ∙ c.move_tail.ensures.tail),
+    c.records_in-moved.ensures,
+    c.self.invariant.counted,
+  );
+}

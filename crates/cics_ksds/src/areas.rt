@@ -1,0 +1,154 @@
+//! Control areas: up to 64 intervals side by side in one block of memory.
+
+ghost use Rattle.std.specs.Prelude.{◌≡◌, ◌<◌, ◌≤◌, [], suc, IfOk, length, take, drop};
+ghost use Rattle.std.specs.Prelude.{slice_set, slice_index_or};
+ghost use Rattle.std.specs.List.{insert, remove};
+ghost use Rattle.cics_ksds.specs.Places.{interval_in};
+
+use crate::intervals::Interval;
+use crate::places::Place;
+use crate::rooms::{insert_reserved, move_tail};
+use cics_names::NoMemory;
+use std::alloc::Global;
+use std::marker::Model;
+
+/// How many intervals an area has at the most.
+pub(crate) const FULL: usize = 64;
+
+/// How many intervals of a full area stay in it when it is split.
+pub(crate) const HALF: usize = 32;
+
+/// Up to 64 intervals, in the order of their keys. It is made with room for all 64, so that no edit
+/// of it takes memory. Contracts see the list of its intervals, each as the list of its places.
+#[derive(Debug, Drop)]
+pub(crate) struct Area {
+    intervals: Vec<Interval>,
+}
+
+impl Model for Area {
+    ghost use Rattle.std.specs.Prelude.{◌≡◌, ◌≤◌, List, length, vec_capacity};
+    ghost use Rattle.cics_ksds.specs.declared.places.Place.{Place};
+
+    ghost Value = { List (List Place) };
+
+    ghost view = { λ a. a.intervals.items };
+
+    ghost invariant = { λ a. record {
+      at_most : length a.intervals.items ≤ 64;
+      room : vec_capacity a.intervals ≡ 64;
+    } };
+}
+
+impl Area {
+    /// An area without intervals, which the caller will fill.
+    pub(crate) fn new(alloc: Global) -> Result<Area, NoMemory>
+        ensures { IfOk result (λ made. made ≡ []) }
+    {
+        Ok(Area {
+            intervals: Vec::with_capacity(alloc, FULL)?,
+        })
+    }
+
+    /// The intervals, in the order of their keys.
+    pub(crate) fn intervals(&self) -> &[Interval]
+        ensures intervals { result.now ≡ self.now }
+    {
+        self.intervals.as_slice()
+    }
+
+    /// How many intervals there are.
+    pub(crate) fn count(&self) -> usize
+        ensures count { result ≡ length self.now }
+        ensures at_most { length self.now ≤ 64 }
+    {
+        self.intervals.len()
+    }
+
+    /// An area with the same intervals.
+    pub(crate) fn copy(&self, alloc: Global) -> Result<Area, NoMemory>
+        ensures { IfOk result (λ copy. copy ≡ self.now) }
+    {
+        let mut intervals = Vec::with_capacity(alloc, FULL)?;
+        let from = self.intervals.as_slice();
+        for interval in from {
+            intervals.push_reserved(interval.copy(alloc)?);
+        }
+        Ok(Area { intervals })
+    }
+
+    /// Puts a place in the stead of another, and answers that one.
+    pub(crate) fn put(&mut self, interval: usize, at: usize, place: Place) -> Place
+        requires interval { interval < length self.old }
+        requires at { at < length (interval_in self.old interval) }
+        ensures places { self.new
+            ≡ slice_set self.old interval (slice_set (interval_in self.old interval) at place) }
+        ensures old { result ≡ slice_index_or (interval_in self.old interval) at result }
+    {
+        self.intervals[interval].put(at, place)
+    }
+
+    /// Puts a place into an interval that has room for it.
+    pub(crate) fn insert(&mut self, interval: usize, at: usize, place: Place)
+        requires interval { interval < length self.old }
+        requires at { at ≤ length (interval_in self.old interval) }
+        requires room { length (interval_in self.old interval) < 16 }
+        ensures { self.new
+            ≡ slice_set self.old interval (insert (interval_in self.old interval) at place) }
+    {
+        self.intervals[interval].insert(at, place);
+    }
+
+    /// Takes a place out, and answers it. The interval may be left without places.
+    pub(crate) fn remove(&mut self, interval: usize, at: usize) -> Place
+        requires interval { interval < length self.old }
+        requires at { at < length (interval_in self.old interval) }
+        ensures places { self.new
+            ≡ slice_set self.old interval (remove (interval_in self.old interval) at) }
+        ensures old { result ≡ slice_index_or (interval_in self.old interval) at result }
+    {
+        self.intervals[interval].remove(at)
+    }
+
+    /// Takes an interval out, and answers it.
+    pub(crate) fn remove_interval(&mut self, interval: usize) -> Interval
+        requires { interval < length self.old }
+        ensures intervals { self.new ≡ remove self.old interval }
+        ensures old { result ≡ slice_index_or self.old interval result }
+    {
+        self.intervals.remove(interval)
+    }
+
+    /// Adds an interval behind the others. There must be room for it.
+    pub(crate) fn push(&mut self, interval: Interval)
+        requires { length self.old < 64 }
+        ensures { self.new ≡ insert self.old (length self.old) interval }
+    {
+        let count = self.intervals.len();
+        insert_reserved(&mut self.intervals, count, interval);
+    }
+
+    /// Splits a full interval in two. The second half moves to `right`, which comes behind it;
+    /// there must be room for it.
+    pub(crate) fn split_interval(&mut self, interval: usize, mut right: Interval)
+        requires interval { interval < length self.old }
+        requires room { length self.old < 64 }
+        requires full { length (interval_in self.old interval) ≡ 16 }
+        requires none { right ≡ [] }
+        ensures { self.new ≡ insert
+            (slice_set self.old interval (take 8 (interval_in self.old interval)))
+            (suc interval) (drop 8 (interval_in self.old interval)) }
+    {
+        self.intervals[interval].split(&mut right);
+        insert_reserved(&mut self.intervals, interval + 1, right);
+    }
+
+    /// Moves all intervals but the first 32 to an area that has none.
+    pub(crate) fn split(&mut self, right: &mut Area)
+        requires full { length self.old ≡ 64 }
+        requires none { right.old ≡ [] }
+        ensures left { self.new ≡ take 32 self.old }
+        ensures right { right.new ≡ drop 32 self.old }
+    {
+        move_tail(&mut self.intervals, HALF, &mut right.intervals);
+    }
+}

@@ -1,0 +1,441 @@
+//! All places of a file, in intervals, and those in areas.
+
+ghost use Rattle.std.specs.Prelude.{◌≡◌, ◌+◌, ◌*◌, ◌^◌, ◌<◌, ◌≤◌, [], ◌∷◌, All, IfOk, OnOk, OnErr};
+ghost use Rattle.std.specs.Prelude.{length, slice_set, slice_index_or, vec_len, vec_capacity};
+ghost use Rattle.std.specs.List.{insert, remove};
+ghost use Rattle.cics_ksds.specs.Places.{joined, places_in, IsArea, IsThere, IsNext, IsRoom};
+ghost use Rattle.cics_ksds.specs.Places.{IsAreaRoom, HasHalves, interval_at, number_of, index_of};
+ghost use Rattle.cics_ksds.specs.Places.{with_place, without_place, halved, empty_count};
+
+use crate::areas::{self, Area};
+use crate::intervals::{self, Interval};
+use crate::places::{Place, Position};
+use crate::rooms::insert_reserved;
+use cics_names::NoMemory;
+use std::alloc::Global;
+use std::marker::Model;
+
+/// The places of a file, in the order of their keys: in intervals of 1 to 16 places, and those in
+/// areas of 1 to 64 intervals. So a place that comes in or goes moves only a few others.
+///
+/// Contracts see the list of the areas, each as the list of its intervals, each as the list of its
+/// places.
+#[derive(Debug, Drop)]
+pub(crate) struct Dataset {
+    areas: Vec<Area>,
+    /// How many intervals there are in all areas.
+    count: u64,
+    /// How many places there are in all intervals.
+    len: u64,
+    /// How many of the places are empty.
+    empties: u64,
+}
+
+impl Model for Dataset {
+    ghost use Rattle.std.specs.Prelude.{◌≡◌, List, All, length};
+    ghost use Rattle.cics_ksds.specs.declared.places.Place.{Place};
+    ghost use Rattle.cics_ksds.specs.Places.{joined, places_in, empty_count, IsArea};
+
+    ghost Value = { List (List (List Place)) };
+
+    ghost view = { λ d. d.areas.items };
+
+    ghost invariant = { λ d. record {
+      each : All IsArea d.areas.items;
+      counted : d.count ≡ length (joined d.areas.items);
+      long : d.len ≡ length (places_in d.areas.items);
+      empties : d.empties ≡ empty_count (places_in d.areas.items);
+    } };
+}
+
+impl Dataset {
+    /// No places. It takes no memory.
+    pub(crate) fn new(alloc: Global) -> Dataset
+        ensures { result ≡ [] }
+    {
+        Dataset {
+            areas: Vec::new(alloc),
+            count: 0,
+            len: 0,
+            empties: 0,
+        }
+    }
+
+    /// The areas, in the order of their keys.
+    pub(crate) fn areas(&self) -> &[Area]
+        ensures areas { result.now ≡ self.now }
+        ensures each { All IsArea self.now }
+    {
+        self.areas.as_slice()
+    }
+
+    /// The intervals of an area, in the order of their keys.
+    pub(crate) fn intervals(&self, area: usize) -> &[Interval]
+        requires { area < length self.now }
+        ensures { result.now ≡ slice_index_or self.now area [] }
+    {
+        self.areas[area].intervals()
+    }
+
+    /// The places of an interval, in the order of their keys.
+    pub(crate) fn places(&self, area: usize, interval: usize) -> &[Place]
+        requires area { area < length self.now }
+        requires interval { interval < length (slice_index_or self.now area []) }
+        ensures { result.now ≡ slice_index_or (slice_index_or self.now area []) interval [] }
+    {
+        self.intervals(area)[interval].places()
+    }
+
+    /// Where the place at a position is, or the next one where its interval ends there.
+    pub(crate) fn next(&self, at: Position) -> Option<Position>
+        requires there { 0 < length self.now → IsThere self.now at }
+        requires place { at.place ≤ length (interval_at self.now at) }
+        ensures next { IsNext self.now at result }
+        ensures few { length (places_in self.now) < 2 ^ 64 }
+    {
+        if self.len == 0 {
+            return None;
+        }
+        if at.place < self.places(at.area, at.interval).len() {
+            return Some(at);
+        }
+        let intervals = self.intervals(at.area).len();
+        if at.interval + 1 < intervals {
+            return Some(Position {
+                area: at.area,
+                interval: at.interval + 1,
+                place: 0,
+            });
+        }
+        if at.area + 1 < self.areas.len() {
+            return Some(Position {
+                area: at.area + 1,
+                interval: 0,
+                place: 0,
+            });
+        }
+        None
+    }
+
+    /// How many intervals there are. It is kept beside the areas, and not counted anew.
+    pub(crate) fn count(&self) -> u64
+        ensures count { result ≡ length (joined self.now) }
+        ensures at_least { length (places_in self.now) ≤ 16 * result }
+        ensures at_most { result ≤ length (places_in self.now) }
+    {
+        self.count
+    }
+
+    /// How many places there are. It is kept beside them, and not counted anew.
+    pub(crate) fn len(&self) -> u64
+        ensures { result ≡ length (places_in self.now) }
+    {
+        self.len
+    }
+
+    /// How many of the places are empty. It is kept beside them, and not counted anew.
+    pub(crate) fn empties(&self) -> u64
+        ensures { result ≡ empty_count (places_in self.now) }
+    {
+        self.empties
+    }
+
+    /// Places like these in the same intervals, those in the same areas.
+    pub(crate) fn copy(&self, alloc: Global) -> Result<Dataset, NoMemory>
+        ensures { IfOk result (λ copy. copy ≡ self.now) }
+    {
+        let mut areas = Vec::with_capacity(alloc, self.areas.len())?;
+        let from = self.areas.as_slice();
+        for area in from {
+            areas.push(area.copy(alloc)?)?;
+        }
+        Ok(Dataset {
+            areas,
+            count: self.count,
+            len: self.len,
+            empties: self.empties,
+        })
+    }
+
+    /// Puts a place in the stead of another, and answers that one. It takes no memory.
+    pub(crate) fn put(&mut self, at: Position, place: Place) -> Place
+        requires there { IsThere self.old at }
+        requires place { at.place < length (interval_at self.old at) }
+        ensures places { places_in self.new
+            ≡ slice_set (places_in self.old) (index_of self.old at) place }
+        ensures old { result ≡ slice_index_or (places_in self.old) (index_of self.old at) result }
+    {
+        let comes = place.empties();
+        let old = put(&mut self.areas, at, place);
+        self.empties = self.empties - old.empties() + comes;
+        old
+    }
+
+    /// Puts a place in. A full interval is split first, and so is a full area.
+    ///
+    /// All memory is taken before anything changes: `NoMemory` where it is refused.
+    pub(crate) fn insert(
+        &mut self,
+        alloc: Global,
+        at: Position,
+        place: Place,
+    ) -> Result<(), NoMemory>
+        requires there { 0 < length self.old → IsThere self.old at }
+        requires place { at.place ≤ length (interval_at self.old at) }
+        ensures places { OnOk result (places_in self.new
+            ≡ insert (places_in self.old) (index_of self.old at) place) }
+        ensures intervals { OnOk result (joined self.new
+            ≡ with_place (joined self.old) (number_of self.old at) at.place place) }
+        ensures err { OnErr result (self.new ≡ self.old) }
+    {
+        if self.areas.is_empty() {
+            self.insert_first(alloc, place)?;
+        } else {
+            self.insert_among(alloc, at, place)?;
+        }
+        Ok(())
+    }
+
+    /// Puts the first place of all in.
+    fn insert_first(&mut self, alloc: Global, place: Place) -> Result<(), NoMemory>
+        requires { self.old ≡ [] }
+        ensures ok { OnOk result (self.new ≡ ((place ∷ []) ∷ []) ∷ []) }
+        ensures err { OnErr result (self.new ≡ self.old) }
+    {
+        let mut interval = Interval::new(alloc)?;
+        let mut area = Area::new(alloc)?;
+        self.areas.reserve(1)?;
+        self.empties = place.empties();
+        self.len = 1;
+        self.count = 1;
+        interval.insert(0, place);
+        area.push(interval);
+        insert_reserved(&mut self.areas, 0, area);
+        Ok(())
+    }
+
+    /// Puts a place in where there are others.
+    fn insert_among(&mut self, alloc: Global, at: Position, place: Place) -> Result<(), NoMemory>
+        requires there { IsThere self.old at }
+        requires place { at.place ≤ length (interval_at self.old at) }
+        ensures places { OnOk result (places_in self.new
+            ≡ insert (places_in self.old) (index_of self.old at) place) }
+        ensures intervals { OnOk result (joined self.new
+            ≡ with_place (joined self.old) (number_of self.old at) at.place place) }
+        ensures err { OnErr result (self.new ≡ self.old) }
+    {
+        // More places than a number can tell are refused as memory is: no machine holds them.
+        let Some(len) = self.len.checked_add(1) else {
+            return Err(NoMemory);
+        };
+        let next = self.make_room(alloc, at)?;
+        let comes = place.empties();
+        fill(&mut self.areas, next, place);
+        self.len = len;
+        self.empties += comes;
+        Ok(())
+    }
+
+    /// Splits an interval that is full, and answers where the new place goes then: between the two
+    /// halves it goes to the end of the first.
+    fn make_room(&mut self, alloc: Global, at: Position) -> Result<Position, NoMemory>
+        requires there { IsThere self.old at }
+        requires place { at.place ≤ length (interval_at self.old at) }
+        ensures ok { IfOk result (IsRoom self.old at self.new) }
+        ensures err { OnErr result (self.new ≡ self.old) }
+    {
+        if places_at(&self.areas, at) < intervals::FULL {
+            return Ok(at);
+        }
+        // More intervals than a count can tell are refused as memory is: no machine holds them.
+        let Some(count) = self.count.checked_add(1) else {
+            return Err(NoMemory);
+        };
+        let right = Interval::new(alloc)?;
+        let next = self.make_area_room(alloc, at)?;
+        split_interval(&mut self.areas, next, right);
+        self.count = count;
+        if next.place <= intervals::HALF {
+            return Ok(next);
+        }
+        Ok(Position {
+            area: next.area,
+            interval: next.interval + 1,
+            place: next.place - intervals::HALF,
+        })
+    }
+
+    /// Splits an area that is full, and answers where the position is then.
+    fn make_area_room(&mut self, alloc: Global, at: Position) -> Result<Position, NoMemory>
+        requires { IsThere self.old at }
+        ensures intervals { joined self.new ≡ joined self.old }
+        ensures ok { IfOk result (IsAreaRoom self.old at self.new) }
+        ensures err { OnErr result (self.new ≡ self.old) }
+    {
+        if self.areas[at.area].count() < areas::FULL {
+            return Ok(at);
+        }
+        let right = Area::new(alloc)?;
+        self.areas.reserve(1)?;
+        Ok(split_area(&mut self.areas, at, right))
+    }
+
+    /// Takes a place out, and answers it. An interval that it leaves without places goes too, and
+    /// an area without intervals.
+    pub(crate) fn remove(&mut self, at: Position) -> Place
+        requires there { IsThere self.old at }
+        requires place { at.place < length (interval_at self.old at) }
+        ensures places { places_in self.new ≡ remove (places_in self.old) (index_of self.old at) }
+        ensures old { result ≡ slice_index_or (places_in self.old) (index_of self.old at) result }
+        ensures intervals { joined self.new
+            ≡ without_place (joined self.old) (number_of self.old at) at.place }
+    {
+        if places_at(&self.areas, at) > 1 {
+            let old = remove_place(&mut self.areas, at);
+            self.len -= 1;
+            self.empties -= old.empties();
+            return old;
+        }
+        let old = remove_last(&mut self.areas, at);
+        self.count -= 1;
+        self.len -= 1;
+        self.empties -= old.empties();
+        old
+    }
+}
+
+/// How many places there are in the interval of a position.
+fn places_at(areas: &Vec<Area>, at: Position) -> usize
+    requires { IsThere areas.now.items at }
+    ensures count { result ≡ length (interval_at areas.now.items at) }
+    ensures at_most { result ≤ 16 }
+{
+    areas[at.area].intervals()[at.interval].count()
+}
+
+/// Puts a place in the stead of another, and answers that one.
+fn put(areas: &mut Vec<Area>, at: Position, place: Place) -> Place
+    requires each { All IsArea areas.old.items }
+    requires there { IsThere areas.old.items at }
+    requires place { at.place < length (interval_at areas.old.items at) }
+    ensures each { All IsArea areas.new.items }
+    ensures intervals { joined areas.new.items
+        ≡ slice_set (joined areas.old.items) (number_of areas.old.items at)
+        (slice_set (interval_at areas.old.items at) at.place place) }
+    ensures old { result ≡ slice_index_or (interval_at areas.old.items at) at.place result }
+{
+    areas[at.area].put(at.interval, at.place, place)
+}
+
+/// Puts a place into an interval that has room for it.
+fn fill(areas: &mut Vec<Area>, at: Position, place: Place)
+    requires each { All IsArea areas.old.items }
+    requires there { IsThere areas.old.items at }
+    requires place { at.place ≤ length (interval_at areas.old.items at) }
+    requires room { length (interval_at areas.old.items at) < 16 }
+    ensures each { All IsArea areas.new.items }
+    ensures intervals { joined areas.new.items
+        ≡ slice_set (joined areas.old.items) (number_of areas.old.items at)
+        (insert (interval_at areas.old.items at) at.place place) }
+{
+    areas[at.area].insert(at.interval, at.place, place);
+}
+
+/// Splits a full interval in two; the second half is put into `right`.
+fn split_interval(areas: &mut Vec<Area>, at: Position, right: Interval)
+    requires each { All IsArea areas.old.items }
+    requires there { IsThere areas.old.items at }
+    requires room { length (slice_index_or areas.old.items at.area []) < 64 }
+    requires full { length (interval_at areas.old.items at) ≡ 16 }
+    requires none { right ≡ [] }
+    ensures each { All IsArea areas.new.items }
+    ensures intervals { joined areas.new.items
+        ≡ halved (joined areas.old.items) (number_of areas.old.items at) }
+    ensures halves { HasHalves areas.old.items at areas.new.items }
+{
+    areas[at.area].split_interval(at.interval, right);
+}
+
+/// Splits a full area in two; the second half is put into `right`. There must be room for it.
+fn split_area(areas: &mut Vec<Area>, at: Position, mut right: Area) -> Position
+    requires each { All IsArea areas.old.items }
+    requires there { IsThere areas.old.items at }
+    requires room { vec_len areas.old < vec_capacity areas.old }
+    requires full { length (slice_index_or areas.old.items at.area []) ≡ 64 }
+    requires none { right ≡ [] }
+    ensures each { All IsArea areas.new.items }
+    ensures intervals { joined areas.new.items ≡ joined areas.old.items }
+    ensures next { IsAreaRoom areas.old.items at areas.new.items result }
+{
+    areas[at.area].split(&mut right);
+    insert_reserved(areas, at.area + 1, right);
+    if at.interval < areas::HALF {
+        at
+    } else {
+        Position {
+            area: at.area + 1,
+            interval: at.interval - areas::HALF,
+            place: at.place,
+        }
+    }
+}
+
+/// Takes a place out, and answers it. Others stay in its interval.
+fn remove_place(areas: &mut Vec<Area>, at: Position) -> Place
+    requires each { All IsArea areas.old.items }
+    requires there { IsThere areas.old.items at }
+    requires place { at.place < length (interval_at areas.old.items at) }
+    requires others { 1 < length (interval_at areas.old.items at) }
+    ensures each { All IsArea areas.new.items }
+    ensures intervals { joined areas.new.items
+        ≡ slice_set (joined areas.old.items) (number_of areas.old.items at)
+        (remove (interval_at areas.old.items at) at.place) }
+    ensures old { result ≡ slice_index_or (interval_at areas.old.items at) at.place result }
+{
+    areas[at.area].remove(at.interval, at.place)
+}
+
+/// Takes an interval out, and answers it. Others stay in its area.
+fn remove_interval(areas: &mut Vec<Area>, at: Position) -> Interval
+    requires each { All IsArea areas.old.items }
+    requires there { IsThere areas.old.items at }
+    requires others { 1 < length (slice_index_or areas.old.items at.area []) }
+    ensures each { All IsArea areas.new.items }
+    ensures intervals { joined areas.new.items
+        ≡ remove (joined areas.old.items) (number_of areas.old.items at) }
+    ensures old { result ≡ interval_at areas.old.items at }
+{
+    areas[at.area].remove_interval(at.interval)
+}
+
+/// Takes an area out that has one interval, and answers that one.
+fn remove_area(areas: &mut Vec<Area>, at: Position) -> Interval
+    requires each { All IsArea areas.old.items }
+    requires there { IsThere areas.old.items at }
+    requires alone { length (slice_index_or areas.old.items at.area []) ≤ 1 }
+    ensures each { All IsArea areas.new.items }
+    ensures intervals { joined areas.new.items
+        ≡ remove (joined areas.old.items) (number_of areas.old.items at) }
+    ensures old { result ≡ interval_at areas.old.items at }
+{
+    areas.remove(at.area).remove_interval(at.interval)
+}
+
+/// Takes the interval of a place out, and its area with it where it has no other; answers the
+/// place.
+fn remove_last(areas: &mut Vec<Area>, at: Position) -> Place
+    requires each { All IsArea areas.old.items }
+    requires there { IsThere areas.old.items at }
+    requires place { at.place < length (interval_at areas.old.items at) }
+    ensures each { All IsArea areas.new.items }
+    ensures intervals { joined areas.new.items
+        ≡ remove (joined areas.old.items) (number_of areas.old.items at) }
+    ensures old { result ≡ slice_index_or (interval_at areas.old.items at) at.place result }
+{
+    let mut interval = if areas[at.area].count() > 1 {
+        remove_interval(areas, at)
+    } else {
+        remove_area(areas, at)
+    };
+    interval.remove(at.place)
+}

@@ -1,0 +1,150 @@
+//! Control intervals: up to 16 places side by side in one block of memory.
+
+ghost use Rattle.std.specs.Prelude.{◌≡◌, ◌<◌, ◌≤◌, [], IfOk, length, take, drop};
+ghost use Rattle.std.specs.Prelude.{slice_set, slice_index_or};
+ghost use Rattle.std.specs.List.{insert, remove};
+ghost use Rattle.cics_ksds.specs.Places.{listed};
+
+use crate::places::Place;
+use crate::rooms::{insert_reserved, move_tail};
+use cics_names::NoMemory;
+use std::alloc::Global;
+use std::marker::Model;
+use std::mem;
+
+/// How many places an interval has at the most.
+pub(crate) const FULL: usize = 16;
+
+/// How many places of a full interval stay in it when it is split.
+pub(crate) const HALF: usize = 8;
+
+/// Up to 16 places, in the order of their keys. It is made with room for all 16, so that no edit
+/// of it takes memory. Contracts see the list of its places.
+#[derive(Debug, Drop)]
+pub(crate) struct Interval {
+    places: Vec<Place>,
+    /// How many of the places have a record.
+    records: u64,
+}
+
+impl Model for Interval {
+    ghost use Rattle.std.specs.Prelude.{◌≡◌, ◌≤◌, List, length, vec_capacity};
+    ghost use Rattle.cics_ksds.specs.declared.places.Place.{Place};
+    ghost use Rattle.cics_ksds.specs.Places.{listed};
+
+    ghost Value = { List Place };
+
+    ghost view = { λ i. i.places.items };
+
+    ghost invariant = { λ i. record {
+      at_most : length i.places.items ≤ 16;
+      room : vec_capacity i.places ≡ 16;
+      counted : i.records ≡ length (listed i.places.items);
+    } };
+}
+
+impl Interval {
+    /// An interval without places, which the caller will fill.
+    pub(crate) fn new(alloc: Global) -> Result<Interval, NoMemory>
+        ensures { IfOk result (λ made. made ≡ []) }
+    {
+        Ok(Interval {
+            places: Vec::with_capacity(alloc, FULL)?,
+            records: 0,
+        })
+    }
+
+    /// The places, in the order of their keys.
+    pub(crate) fn places(&self) -> &[Place]
+        ensures { result.now ≡ self.now }
+    {
+        self.places.as_slice()
+    }
+
+    /// How many places there are.
+    pub(crate) fn count(&self) -> usize
+        ensures count { result ≡ length self.now }
+        ensures at_most { length self.now ≤ 16 }
+    {
+        self.places.len()
+    }
+
+    /// How many of the places have a record. It is kept beside them, and not counted anew.
+    pub(crate) fn records(&self) -> u64
+        ensures { result ≡ length (listed self.now) }
+    {
+        self.records
+    }
+
+    /// An interval with the same places.
+    pub(crate) fn copy(&self, alloc: Global) -> Result<Interval, NoMemory>
+        ensures { IfOk result (λ copy. copy ≡ self.now) }
+    {
+        let mut places = Vec::with_capacity(alloc, FULL)?;
+        let from = self.places.as_slice();
+        for place in from {
+            places.push_reserved(place.copy(alloc)?);
+        }
+        Ok(Interval {
+            places,
+            records: self.records,
+        })
+    }
+
+    /// Puts a place in the stead of another, and answers that one.
+    pub(crate) fn put(&mut self, at: usize, place: Place) -> Place
+        requires { at < length self.old }
+        ensures places { self.new ≡ slice_set self.old at place }
+        ensures old { result ≡ slice_index_or self.old at result }
+    {
+        let comes = place.records();
+        let old = mem::replace(&mut self.places[at], place);
+        self.records = self.records - old.records() + comes;
+        old
+    }
+
+    /// Puts a place in before the one at an index, or at the end. There must be room for it.
+    pub(crate) fn insert(&mut self, at: usize, place: Place)
+        requires in_range { at ≤ length self.old }
+        requires room { length self.old < 16 }
+        ensures { self.new ≡ insert self.old at place }
+    {
+        self.records += place.records();
+        insert_reserved(&mut self.places, at, place);
+    }
+
+    /// Takes a place out, and answers it.
+    pub(crate) fn remove(&mut self, at: usize) -> Place
+        requires { at < length self.old }
+        ensures places { self.new ≡ remove self.old at }
+        ensures old { result ≡ slice_index_or self.old at result }
+    {
+        let old = self.places.remove(at);
+        self.records -= old.records();
+        old
+    }
+
+    /// Moves all places but the first 8 to an interval that has none.
+    pub(crate) fn split(&mut self, right: &mut Interval)
+        requires full { length self.old ≡ 16 }
+        requires none { right.old ≡ [] }
+        ensures left { self.new ≡ take 8 self.old }
+        ensures right { right.new ≡ drop 8 self.old }
+    {
+        move_tail(&mut self.places, HALF, &mut right.places);
+        let moved = records_in(right.places.as_slice());
+        right.records = moved;
+        self.records -= moved;
+    }
+}
+
+/// How many of the places have a record.
+fn records_in(places: &[Place]) -> u64
+    ensures { result ≡ length (listed places.now) }
+{
+    let mut records = 0;
+    for place in places {
+        records += place.records();
+    }
+    records
+}

@@ -1,0 +1,218 @@
+//! The records whose keys begin with the same bytes: how many they are, and deleting them.
+
+ghost use Rattle.std.specs.Prelude.{◌≡◌, ◌<◌, ◌≤◌, ◌^◌, [], true, false, not, length, map};
+ghost use Rattle.std.specs.Prelude.{slice_index_or, IfOk, IfSome, OnOk, OnErr};
+ghost use Rattle.cics_ksds.specs.Places.{ArePlaces, IsThere, IsRecordUnder, places_in};
+ghost use Rattle.cics_ksds.specs.Places.{interval_at, index_of, file_of, places_from};
+ghost use Rattle.cics_ksds.specs.Places.{left_at, record_in, listed};
+ghost use Rattle.cics_ksds.specs.declared.places.Place.TheVariants.{Empty};
+ghost use Rattle.cics_ksds.specs.Prefixes.{has_prefix, under, outside, from};
+ghost use Rattle.cics_ksds.specs.Prefixes.{without_prefix, added_entry};
+
+use crate::FileDef;
+use crate::dataset::Dataset;
+use crate::files::File;
+use crate::images::{Before, FileImage};
+use crate::places::{Place, Position, place_at, take_at};
+use crate::ranges::start_of;
+use cics_names::{Items, NoMemory, Record};
+use std::alloc::Global;
+
+/// Where to look on behind an empty place: behind its whole interval where that has no record.
+fn behind(places: &Dataset, here: Position) -> Position
+    requires there { IsThere places.now here }
+    requires place { here.place < length (interval_at places.now here) }
+    requires empty { record_in (slice_index_or (places_in places.now)
+        (index_of places.now here) (Empty [])) ≡ None }
+    ensures there { IsThere places.now result }
+    ensures place { result.place ≤ length (interval_at places.now result) }
+    ensures further { index_of places.now here < index_of places.now result }
+    ensures records { listed (places_from places.now result)
+        ≡ listed (places_from places.now here) }
+{
+    let interval = &places.intervals(here.area)[here.interval];
+    let count = interval.count();
+    let place = if interval.records() == 0 {
+        count
+    } else {
+        here.place + 1
+    };
+    Position {
+        area: here.area,
+        interval: here.interval,
+        place,
+    }
+}
+
+/// Where the first record from a bound on is, or strictly above it, if its key begins with the
+/// prefix. Of the places beyond the prefix it looks at no more than one, and of an interval without
+/// records at one too.
+fn next_under(
+    definition: FileDef,
+    places: &Dataset,
+    bound: &[u8],
+    strict: bool,
+    prefix: &[u8],
+) -> Option<Position>
+    requires places { ArePlaces definition (places_in places.now) }
+    requires bound { has_prefix prefix.now bound.now ≡ true }
+    ensures left { left_at definition places.now prefix.now result
+        ≡ under prefix.now (from bound.now strict (file_of definition places.now).records) }
+    ensures found { IfSome result (IsRecordUnder definition places.now prefix.now) }
+    ensures few { length (places_in places.now) < 2 ^ 64 }
+{
+    let mut at = start_of(definition, places, bound, strict);
+    while let Some(here) = places.next(at) {
+        let place = place_at(places, here);
+        if !place.key(definition).starts_with(prefix) {
+            return None;
+        }
+        match place {
+            Place::Filled(_) => return Some(here),
+            Place::Empty(_) => at = behind(places, here),
+        }
+    }
+    None
+}
+
+/// How many records have keys that begin with the prefix.
+fn count_under(definition: FileDef, places: &Dataset, prefix: &[u8]) -> u64
+    requires { ArePlaces definition (places_in places.now) }
+    ensures { result ≡ length (under prefix.now (file_of definition places.now).records) }
+{
+    let mut number = 0;
+    let mut next = next_under(definition, places, prefix, false, prefix);
+    while let Some(at) = next {
+        number += 1;
+        let key = place_at(places, at).key(definition);
+        next = next_under(definition, places, key, true, prefix);
+    }
+    number
+}
+
+/// Images of the keys that begin with the prefix, each of its key alone.
+fn images_under(
+    alloc: Global,
+    definition: FileDef,
+    places: &Dataset,
+    prefix: &[u8],
+) -> Result<Vec<FileImage>, NoMemory>
+    requires { ArePlaces definition (places_in places.now) }
+    ensures { IfOk result (λ images. images.items
+        ≡ map (added_entry definition) (under prefix.now (file_of definition places.now).records)) }
+{
+    let mut images = Vec::new(alloc);
+    let mut next = next_under(definition, places, prefix, false, prefix);
+    while let Some(at) = next {
+        let key = place_at(places, at).key(definition);
+        images.push(FileImage {
+            definition,
+            before: Before::Added(Record::from_slice(alloc, key)?),
+        })?;
+        next = next_under(definition, places, key, true, prefix);
+    }
+    Ok(images)
+}
+
+/// Takes the places of all records under the prefix out, and answers how many they were.
+fn drop_under(definition: FileDef, places: &mut Dataset, prefix: &[u8]) -> u64
+    requires { ArePlaces definition (places_in places.old) }
+    ensures places { ArePlaces definition (places_in places.new) }
+    ensures value { file_of definition places.new
+        ≡ without_prefix false (file_of definition places.old) prefix.now }
+    ensures number { result ≡ length (under prefix.now (file_of definition places.old).records) }
+{
+    let mut number = 0;
+    let mut next = next_under(definition, places, prefix, false, prefix);
+    while let Some(at) = next {
+        let old = take_at(definition, places, at);
+        number += 1;
+        next = next_under(definition, places, old.key(definition), true, prefix);
+    }
+    number
+}
+
+/// What a DELETE with GENERIC removed.
+#[derive(Debug, Drop)]
+pub struct Removed {
+    /// How many records were deleted.
+    pub number: u64,
+    /// What undoes it: with `keep` the image of each record, in the order of their keys, else none.
+    /// They are undone last to first, each as the image of a delete of its key.
+    pub images: Items<FileImage>,
+}
+
+impl File {
+    ghost use Rattle.cics_images.specs.Cells.{AreOf};
+    ghost use Rattle.cics_ksds.specs.Prefixes.{prefix_images, AreFileImages};
+    ghost use Rattle.cics_ksds.specs.Undo.{KeepsKeys, key_of_image};
+
+    /// How many records have keys that begin with the prefix. It costs a look-up for each of them,
+    /// one more, and the empty places that it passes over, and takes no memory.
+    pub fn count_prefix(&self, prefix: &[u8]) -> u64
+        ensures { result ≡ length (under prefix.now self.now.records) }
+    {
+        count_under(self.definition, &self.places, prefix)
+    }
+
+    /// DELETE with GENERIC (the file control chapter of the Application Programmer's Reference
+    /// Manual): removes each record whose key begins with the prefix, as `delete` of the keys one
+    /// after another would, and no other. The prefix may have any number of bytes: with none of them
+    /// it is all records, and with more than a key has it is none. A number of 0 is what DELETE
+    /// answers NOTFND for, and then nothing changes.
+    ///
+    /// It costs a look-up for each record that it removes, with `keep` two, and one more, and
+    /// passes once over the empty places under the prefix, in one step over an interval without
+    /// records.
+    ///
+    /// With `keep` the places stay, empty, and the images that undo it are answered. Only then is
+    /// memory taken, for those and for the keys: `Err` comes where it is refused, and then nothing
+    /// has changed.
+    pub fn delete_prefix(&mut self, prefix: &[u8], keep: bool) -> Result<Removed, NoMemory>
+        ensures number { IfOk result (λ removed. removed.number
+            ≡ length (under prefix.now self.old.records)) }
+        ensures value { OnOk result (self.new ≡ without_prefix keep self.old prefix.now) }
+        ensures plain { OnOk result (self.new.records ≡ outside prefix.now self.old.records) }
+        ensures images { IfOk result (λ removed. removed.images
+            ≡ prefix_images keep self.old prefix.now) }
+        ensures undoable { IfOk result (λ removed. keep ≡ true
+            → AreFileImages self.old self.new removed.images) }
+        ensures named { IfOk result (λ removed.
+            AreOf key_of_image (has_prefix prefix.now) removed.images) }
+        ensures others { KeepsKeys (λ key. not (has_prefix prefix.now key)) self.old self.new }
+        ensures err { OnErr result (self.new ≡ self.old) }
+        ensures refusal { OnErr result (keep ≡ true) }
+    {
+        if keep {
+            let images = self.empty_under(prefix)?;
+            return Ok(Removed {
+                number: images.len() as u64,
+                images: Items::from_vec(images),
+            });
+        }
+        Ok(Removed {
+            number: drop_under(self.definition, &mut self.places, prefix),
+            images: Items::new(self.alloc),
+        })
+    }
+
+    /// Leaves the places of all records under the prefix empty, and answers the images of those.
+    fn empty_under(&mut self, prefix: &[u8]) -> Result<Vec<FileImage>, NoMemory>
+        ensures value { OnOk result (self.new ≡ without_prefix true self.old prefix.now) }
+        ensures plain { OnOk result (self.new.records ≡ outside prefix.now self.old.records) }
+        ensures images { IfOk result (λ images. images.items
+            ≡ prefix_images true self.old prefix.now) }
+        ensures undoable { IfOk result (λ images. AreFileImages self.old self.new images.items) }
+        ensures named { IfOk result (λ images.
+            AreOf key_of_image (has_prefix prefix.now) images.items) }
+        ensures others { KeepsKeys (λ key. not (has_prefix prefix.now key)) self.old self.new }
+        ensures err { OnErr result (self.new ≡ self.old) }
+    {
+        // All memory comes first: an image each, with the key of the place that will be empty.
+        let mut images = images_under(self.alloc, self.definition, &self.places, prefix)?;
+        for at in 0..images.len() {
+            self.exchange(&mut images[at]);
+        }
+        Ok(images)
+    }
+}
