@@ -1,10 +1,12 @@
 -- Temporary storage (chapter on temporary storage control): a queue is a list of items, numbered from 1, and a queue
--- without an item isn't there. Each queue has a NEXT place, the number of the item that was read last.
+-- without an item isn't there. Each queue has a NEXT place, the number of the item that was read last. What is kept of a
+-- name is a row: the items of its queue and its NEXT place; a row without an item is empty.
 use Rattle.std.specs.Prelude.{ℕ, ◌+◌, ◌-◌, Bool, true, false, ◌&&◌, if◌then◌else◌, Option, Some, None, unwrap_or, nat_lt, nat_le, List, [], ◌∷◌, ◌++◌, length, slice_get, slice_set}
 use Rattle.cics_names.specs.Keyed.{Bytes, Map, value_at, with_value, without}
 use Rattle.cics_names.specs.declared.conditions.Condition.{Condition}
 use Rattle.cics_names.specs.declared.conditions.Condition.TheVariants.{Normal, Itemerr, Qiderr}
-use Rattle.cics_tempstor.specs.declared.queues.TsRead.{TsRead}
+use Rattle.cics_tempstor.specs.declared.answers.TsRead.{TsRead}
+use Rattle.cics_tempstor.specs.declared.queue_rows.Row.{Row}
 
 -- the most items that a queue can have
 abbrev pub most_items : ℕ
@@ -14,19 +16,18 @@ most_items = 32767
 abbrev pub Queue : Type 0
 Queue = List Bytes
 
--- what is kept of a name: the items of its queue and its NEXT place, or no item and so an empty row
-pub record Row : Type 0 where
-  pub items : Queue
-  pub next : ℕ
-
 -- a queue is there where it has an item
 abbrev pub is_there : Queue → Bool
 is_there [] = false
 is_there (x ∷ xs) = true
 
+-- a row without an item, its NEXT place 0
+abbrev pub empty_row : Row
+empty_row = record { items = []; next = 0 }
+
 -- the row of a name, an empty one where nothing is kept
 abbrev pub row_at : Bytes → Map Row → Row
-row_at q rows = unwrap_or (value_at q rows) (record { items = []; next = 0 })
+row_at q rows = unwrap_or (value_at q rows) empty_row
 
 -- the queue of a name, without an item where it is absent
 abbrev pub queue_at : Bytes → Map Row → Queue
@@ -82,40 +83,68 @@ number_if there n = if there then Some n else None
 abbrev pub delete_condition : Queue → Condition
 delete_condition items = if is_there items then Normal else Qiderr
 
--- the rows after WRITEQ TS: the write that makes a queue sets its NEXT place to 0, another leaves it
+-- a row after WRITEQ TS: the write that makes a queue sets its NEXT place to 0, another leaves it
+abbrev pub row_written : Row → Bytes → Row
+row_written row d =
+    if nat_lt (length row.items) most_items then record { items = row.items ++ d ∷ []; next = place_of row } else row
+
+-- the rows after WRITEQ TS
 abbrev pub ts_written : Map Row → Bytes → Bytes → Map Row
 ts_written rows q d =
-    if nat_lt (length (queue_at q rows)) most_items
-    then with_value q (record { items = queue_at q rows ++ d ∷ []; next = next_place q rows }) rows
-    else rows
+    if nat_lt (length (queue_at q rows)) most_items then with_value q (row_written (row_at q rows) d) rows else rows
 
--- the rows after WRITEQ TS REWRITE: the NEXT place stays
+-- a row after WRITEQ TS REWRITE: the NEXT place stays
+abbrev pub row_rewritten : Row → ℕ → Bytes → Row
+row_rewritten row n d =
+    if has_item row.items n then record { items = slice_set row.items (n - 1) d; next = row.next } else row
+
+-- the rows after WRITEQ TS REWRITE
 abbrev pub ts_rewritten : Map Row → Bytes → ℕ → Bytes → Map Row
 ts_rewritten rows q n d =
-    if has_item (queue_at q rows) n
-    then with_value q (record { items = slice_set (queue_at q rows) (n - 1) d; next = next_place q rows }) rows
-    else rows
+    if has_item (queue_at q rows) n then with_value q (row_rewritten (row_at q rows) n d) rows else rows
 
 -- the rows after DELETEQ TS: all items go, and the NEXT place is 0; an empty row stays where the delete may be undone
-abbrev pub ts_deleted : Map Row → Bytes → Bool → Map Row
-ts_deleted rows q keep =
-    if is_there (queue_at q rows)
-    then (if keep then with_value q (record { items = []; next = 0 }) rows else without q rows)
-    else rows
+abbrev pub ts_deleted : Bool → Map Row → Bytes → Map Row
+ts_deleted keep rows q =
+    if is_there (queue_at q rows) then (if keep then with_value q empty_row rows else without q rows) else rows
 
--- READQ TS ITEM(n) gives the item n; READQ TS NEXT the item after the NEXT place
-abbrev pub read_item : Map Row → Bytes → ℕ → TsRead
-read_item rows q n =
+-- the item of a number, where it is there
+abbrev pub item_of : Queue → ℕ → Option Bytes
+item_of items n = if has_item items n then slice_get items (n - 1) else None
+
+-- WRITEQ TS REWRITE answers the number of its item
+abbrev pub rewrite_number : Queue → ℕ → Option ℕ
+rewrite_number items n = number_if (has_item items n) n
+
+-- READQ TS ITEM(n) gives the item n
+abbrev pub row_answer : Queue → ℕ → TsRead
+row_answer items n =
     record {
-      condition = item_condition (queue_at q rows) n;
-      number = number_if (has_item (queue_at q rows) n) n;
-      content = if has_item (queue_at q rows) n then slice_get (queue_at q rows) (n - 1) else None;
+      condition = item_condition items n;
+      number = number_if (has_item items n) n;
+      content = item_of items n;
     }
 
--- a READQ TS that gives an item sets the NEXT place to its number
+-- READQ TS ITEM(n)
+abbrev pub read_item : Map Row → Bytes → ℕ → TsRead
+read_item rows q n = row_answer (queue_at q rows) n
+
+-- READQ TS NEXT reads the item after the NEXT place
+abbrev pub read_next : Map Row → Bytes → TsRead
+read_next rows q = read_item rows q (next_place q rows + 1)
+
+-- a row after a READQ TS, which sets the NEXT place to the number of the item that it gives
+abbrev pub row_read : Row → ℕ → Row
+row_read row n = if has_item row.items n then record { items = row.items; next = n } else row
+
+-- the rows after a READQ TS
 abbrev pub after_read_item : Map Row → Bytes → ℕ → Map Row
 after_read_item rows q n =
-    if has_item (queue_at q rows) n then with_value q (record { items = queue_at q rows; next = n }) rows else rows
+    if has_item (queue_at q rows) n then with_value q (row_read (row_at q rows) n) rows else rows
+
+-- the rows after READQ TS NEXT
+abbrev pub after_read_next : Map Row → Bytes → Map Row
+after_read_next rows q = after_read_item rows q (next_place q rows + 1)
 
 -- the row of an absent queue goes
 abbrev pub ts_swept : Map Row → Bytes → Map Row

@@ -1,6 +1,17 @@
-//! Temporary storage: queues of numbered items.
+//! Temporary storage: queues of numbered items, each with a NEXT place, and before images by which
+//! each change of a queue is undone without taking memory.
 #![tactic(auto)]
 
-mod queues;
+mod answers;
+mod images;
+mod item_lists;
+pub mod laws;
+mod queue_rows;
+mod stores;
+#[cfg(test)]
+mod tests;
+mod undoing;
 
-pub use queues::TsRead;
+pub use answers::{TsRead, TsWritten};
+pub use images::TsImage;
+pub use stores::TempStore;

@@ -1,0 +1,22 @@
+-- The rows as they are kept: in a hash table. No contract of the store names its order.
+use Rattle.std.specs.Prelude.{List, [], ◌∷◌, filter}
+use Rattle.cics_names.specs.Keyed.{Bytes, Map, with_value}
+use Rattle.cics_tempstor.specs.declared.queue_rows.Row.{Row}
+use Rattle.cics_tempstor.specs.Queues.{Queue, is_there}
+
+-- the entries of the hash table in the order of their names, of each row what f takes of it
+abbrev pub in_order : {X : Type 0} → (Row → X) → List (Bytes × Row) → Map X
+in_order f [] = []
+in_order f (e ∷ es) = with_value e.0 (f e.1) (in_order f es)
+
+-- the rows themselves
+abbrev pub rows_of : List (Bytes × Row) → Map Row
+rows_of es = in_order (λ row. row) es
+
+-- the items in them
+abbrev pub lists_of : List (Bytes × Row) → Map Queue
+lists_of es = in_order (λ row. row.items) es
+
+-- the queues that are there
+abbrev pub those_there : Map Queue → Map Queue
+those_there lists = filter (λ e. is_there e.1) lists

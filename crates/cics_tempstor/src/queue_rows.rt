@@ -1,0 +1,224 @@
+//! What is kept of a name: the items of its queue, and its NEXT place.
+
+ghost use Rattle.std.specs.Prelude.{◌≡◌, ◌+◌, [], ◌∷◌, Some, None, true, if◌then◌else◌, IfOk, OnOk};
+ghost use Rattle.std.specs.Prelude.{OnErr};
+ghost use Rattle.cics_tempstor.specs.Queues.{place_of, row_written, row_rewritten, row_read};
+ghost use Rattle.cics_tempstor.specs.Queues.{row_answer, is_there, empty_row, write_condition};
+ghost use Rattle.cics_tempstor.specs.Queues.{write_number, item_condition, rewrite_number};
+ghost use Rattle.cics_tempstor.specs.Queues.{delete_condition};
+ghost use Rattle.cics_tempstor.specs.Undo.{written_image, rewritten_image, deleted_image};
+ghost use Rattle.cics_tempstor.specs.Undo.{row_undone};
+
+use crate::answers::{TsRead, TsWritten};
+use crate::images::{Before, TsImage, image_of};
+use crate::item_lists::ItemList;
+use cics_images::Changed;
+use cics_names::{Condition, Name8, NoMemory, Record};
+use std::alloc::Global;
+use std::mem;
+
+/// The row of a name. One without items is empty: its queue is absent, and the row is kept for an
+/// undo.
+#[derive(Debug, Drop)]
+pub(crate) struct Row {
+    pub(crate) items: ItemList,
+    /// The NEXT place, where the queue is there; else what it was, for an undo that brings the
+    /// queue back.
+    pub(crate) next: u16,
+}
+
+/// A write that was made, of the item of this number.
+pub(crate) fn written(number: u64, image: Option<TsImage>) -> TsWritten
+    ensures { result ≡ record {
+      condition = Condition.Normal;
+      number = Some number;
+      image = image;
+    } }
+{
+    TsWritten {
+        condition: Condition::Normal,
+        number: Some(number),
+        image,
+    }
+}
+
+/// A write that wasn't made: it has no number and no image.
+pub(crate) fn not_written(condition: Condition) -> TsWritten
+    ensures { result ≡ record { condition = condition; number = None; image = None } }
+{
+    TsWritten {
+        condition,
+        number: None,
+        image: None,
+    }
+}
+
+/// A read that gives no item.
+pub(crate) fn not_read(condition: Condition) -> TsRead
+    ensures { result ≡ record { condition = condition; number = None; content = None } }
+{
+    TsRead {
+        condition,
+        number: None,
+        content: None,
+    }
+}
+
+/// A deletion of a queue that is absent: it has no image.
+pub(crate) fn not_deleted() -> Changed<TsImage>
+    ensures { result ≡ record { condition = Condition.Qiderr; image = None } }
+{
+    Changed {
+        condition: Condition::Qiderr,
+        image: None,
+    }
+}
+
+impl Row {
+    /// The row of a queue that is made with this item. An `Err` comes only where memory is refused.
+    pub(crate) fn made(alloc: Global, item: Record) -> Result<Row, NoMemory>
+        ensures { IfOk result (λ row. row ≡ record { items = item ∷ []; next = 0 }) }
+    {
+        let mut items = ItemList::new(alloc);
+        items.add(item)?;
+        Ok(Row { items, next: 0 })
+    }
+
+    /// A row of its own with the same items and the same NEXT place. An `Err` comes only where
+    /// memory is refused.
+    pub(crate) fn copy(&self, alloc: Global) -> Result<Row, NoMemory>
+        ensures { IfOk result (λ copy. copy ≡ self.now) }
+    {
+        Ok(Row {
+            items: self.items.copy(alloc)?,
+            next: self.next,
+        })
+    }
+
+    /// The NEXT place, which reads as 0 where the queue is absent.
+    pub(crate) fn place(&self) -> u16
+        ensures { result ≡ place_of self.now }
+    {
+        if self.items.is_empty() { 0 } else { self.next }
+    }
+
+    /// WRITEQ TS. An `Err` comes only where memory is refused, and then nothing has changed.
+    pub(crate) fn write(
+        &mut self,
+        name: Name8,
+        item: Record,
+        keep: bool,
+    ) -> Result<TsWritten, NoMemory>
+        ensures row { OnOk result (self.new ≡ row_written self.old item) }
+        ensures condition { IfOk result (λ answer.
+            answer.condition ≡ write_condition self.old.items) }
+        ensures number { IfOk result (λ answer. answer.number ≡ write_number self.old.items) }
+        ensures image { IfOk result (λ answer.
+            answer.image ≡ written_image keep name self.old.items) }
+        ensures err { OnErr result (self.new ≡ self.old) }
+    {
+        let place = self.place();
+        match self.items.add(item)? {
+            Some(number) => {
+                self.next = place;
+                Ok(written(number, image_of(name, Before::Added, keep)))
+            }
+            None => Ok(not_written(Condition::Itemerr)),
+        }
+    }
+
+    /// What is answered where the queue has no item of the number that was asked for.
+    fn no_item(&self) -> Condition
+        ensures { result ≡ (if is_there self.now.items then Condition.Itemerr
+            else Condition.Qiderr) }
+    {
+        if self.items.is_empty() {
+            Condition::Qiderr
+        } else {
+            Condition::Itemerr
+        }
+    }
+
+    /// WRITEQ TS REWRITE of an item. It takes no memory.
+    pub(crate) fn rewrite(
+        &mut self,
+        name: Name8,
+        number: u64,
+        item: Record,
+        keep: bool,
+    ) -> TsWritten
+        ensures row { self.new ≡ row_rewritten self.old number item }
+        ensures condition { result.condition ≡ item_condition self.old.items number }
+        ensures number { result.number ≡ rewrite_number self.old.items number }
+        ensures image { result.image ≡ rewritten_image keep name self.old.items number }
+    {
+        match self.items.put(number, item) {
+            Some(old) => written(number, image_of(name, Before::Replaced(number, old), keep)),
+            None => not_written(self.no_item()),
+        }
+    }
+
+    /// DELETEQ TS with an image: the row stays, empty. It takes no memory.
+    pub(crate) fn delete(&mut self, alloc: Global, name: Name8) -> Changed<TsImage>
+        ensures row { self.new ≡ (if is_there self.old.items then empty_row else self.old) }
+        ensures condition { result.condition ≡ delete_condition self.old.items }
+        ensures image { result.image ≡ deleted_image true name self.old.items }
+    {
+        if self.items.is_empty() {
+            return not_deleted();
+        }
+        let old = mem::replace(&mut self.items, ItemList::new(alloc));
+        self.next = 0;
+        Changed {
+            condition: Condition::Normal,
+            image: Some(TsImage {
+                name,
+                before: Before::Taken(old),
+            }),
+        }
+    }
+
+    /// READQ TS of an item. An `Err` comes only where memory is refused, and then nothing has
+    /// changed.
+    pub(crate) fn read(&mut self, number: u64) -> Result<TsRead, NoMemory>
+        ensures row { OnOk result (self.new ≡ row_read self.old number) }
+        ensures answer { IfOk result (λ answer. answer ≡ row_answer self.old.items number) }
+        ensures err { OnErr result (self.new ≡ self.old) }
+    {
+        let _is_there = self.items.has(number);
+        let Some(item) = self.items.item(number) else {
+            return Ok(not_read(self.no_item()));
+        };
+        let content = item.copy()?;
+        self.next = number as u16;
+        Ok(TsRead {
+            condition: Condition::Normal,
+            number: Some(number),
+            content: Some(content),
+        })
+    }
+
+    /// READQ TS NEXT, as `read` of the item after the NEXT place.
+    pub(crate) fn read_next(&mut self) -> Result<TsRead, NoMemory>
+        ensures row { OnOk result (self.new ≡ row_read self.old (place_of self.old + 1)) }
+        ensures answer { IfOk result (λ answer.
+            answer ≡ row_answer self.old.items (place_of self.old + 1)) }
+        ensures err { OnErr result (self.new ≡ self.old) }
+    {
+        let number = u64::from(self.place()) + 1;
+        self.read(number)
+    }
+
+    /// Undoes a change of the queue. It takes no memory.
+    pub(crate) fn undo(&mut self, before: Before)
+        ensures { self.new ≡ row_undone before self.old }
+    {
+        match before {
+            Before::Added => self.items.drop_last(),
+            Before::Replaced(number, old) => {
+                let _ = self.items.put(number, old);
+            }
+            Before::Taken(old) => self.items = old,
+        }
+    }
+}

@@ -1,0 +1,310 @@
+//! Temporary storage.
+
+ghost use Rattle.std.specs.Prelude.{◌≡◌, ◌+◌, [], true, if◌then◌else◌, Some, T, IfOk, IfSome, OnOk};
+ghost use Rattle.std.specs.Prelude.{OnErr};
+ghost use Rattle.cics_names.specs.Keyed.{has_key, with_value, without, is_rising};
+ghost use Rattle.cics_tempstor.specs.Queues.{is_there, row_at, queue_at, next_place, queues_of};
+ghost use Rattle.cics_tempstor.specs.Queues.{places_of};
+ghost use Rattle.cics_tempstor.specs.Tables.{rows_of, those_there};
+ghost use Rattle.cics_tempstor.specs.Undo.{undone_at};
+
+use crate::answers::{TsRead, TsWritten};
+use crate::images::{Before, TsImage, image_of};
+use crate::queue_rows::{Row, not_deleted, not_read, not_written, written};
+use cics_images::Changed;
+use cics_names::{Condition, Items, Name8, NoMemory, Record};
+use indexmap::IndexMap;
+use std::alloc::Global;
+use std::collections::BTreeMap;
+use std::marker::Model;
+
+/// Temporary storage (the chapter on temporary storage control of the Application Programmer's
+/// Reference Manual): queues of items by name, and names whose row is held empty for an undo. No read
+/// and no listing sees an empty row.
+///
+/// Contracts see the rows in the rising order of their names, each with its items and its NEXT
+/// place; an empty row has no item. A call costs the same whatever the number of queues; a listing
+/// puts the names in order.
+#[derive(Drop)]
+pub struct TempStore {
+    queues: IndexMap<Name8, Row>,
+    alloc: Global,
+}
+
+impl Model for TempStore {
+    ghost use Rattle.cics_names.specs.Keyed.{Map};
+    ghost use Rattle.cics_tempstor.specs.declared.queue_rows.Row.{Row};
+    ghost use Rattle.cics_tempstor.specs.Tables.{rows_of};
+
+    ghost Value = { Map Row };
+
+    ghost view = { λ s. rows_of s.queues.entries };
+}
+
+/// Puts a row at a name into a table of rows.
+fn put_row(queues: &mut IndexMap<Name8, Row>, name: Name8, row: Row) -> Result<(), NoMemory>
+    ensures { OnOk result (rows_of queues.new.entries
+        ≡ with_value name row (rows_of queues.old.entries)) }
+{
+    queues.insert(name, row)?;
+    Ok(())
+}
+
+/// Puts the items of a name into a map.
+fn put(
+    sorted: &mut BTreeMap<Name8, Items<Record>>,
+    name: Name8,
+    items: Items<Record>,
+) -> Result<(), NoMemory>
+    ensures { OnOk result (sorted.new.entries ≡ with_value name items sorted.old.entries) }
+{
+    sorted.insert(name, items)?;
+    Ok(())
+}
+
+/// The lists that have an item, in the order of their names.
+fn listed(
+    alloc: Global,
+    sorted: BTreeMap<Name8, Items<Record>>,
+) -> Result<Items<(Name8, Items<Record>)>, NoMemory>
+    ensures { IfOk result (λ queues. queues ≡ those_there sorted.entries) }
+{
+    let mut queues = Items::new(alloc);
+    for (name, items) in sorted {
+        if !items.is_empty() {
+            queues.push((name, items))?;
+        }
+    }
+    Ok(queues)
+}
+
+impl TempStore {
+    ghost use Rattle.cics_images.specs.Cells.{is_other};
+    ghost use Rattle.cics_tempstor.specs.Queues.{write_condition, write_number, item_condition};
+    ghost use Rattle.cics_tempstor.specs.Queues.{rewrite_number, delete_condition};
+    ghost use Rattle.cics_tempstor.specs.Queues.{ts_written, ts_rewritten, ts_deleted, ts_swept};
+    ghost use Rattle.cics_tempstor.specs.Queues.{read_item, after_read_item, read_next};
+    ghost use Rattle.cics_tempstor.specs.Queues.{after_read_next};
+    ghost use Rattle.cics_tempstor.specs.Undo.{IsTsImage, KeepsQueues, written_image};
+    ghost use Rattle.cics_tempstor.specs.Undo.{rewritten_image, deleted_image};
+
+    /// No queue. `alloc` gives the memory for all that the store will hold; an empty one takes
+    /// none.
+    pub fn new(alloc: Global) -> Self
+        ensures { result ≡ [] }
+    {
+        TempStore {
+            queues: IndexMap::new(alloc),
+            alloc,
+        }
+    }
+
+    /// A store of its own with the same queues, the same rows that are held empty and the same NEXT
+    /// places. It takes memory for each row and each item, and an `Err` comes only where memory is
+    /// refused.
+    pub fn copy(&self) -> Result<TempStore, NoMemory>
+        ensures { IfOk result (λ copy. copy ≡ self.now) }
+    {
+        let mut queues = IndexMap::new(self.alloc);
+        let mut index = self.queues.len();
+        while index > 0 {
+            index -= 1;
+            if let Some((name, row)) = self.queues.get_index(index) {
+                put_row(&mut queues, *name, row.copy(self.alloc)?)?;
+            }
+        }
+        Ok(TempStore {
+            queues,
+            alloc: self.alloc,
+        })
+    }
+
+    /// WRITEQ TS: adds an item as the last of a queue, and makes the queue where it is absent, with
+    /// the NEXT place 0. A queue of 32,767 items is ITEMERR, and nothing changes. The answer has
+    /// the number of the new item.
+    ///
+    /// With `keep` a NORMAL answer has the image that undoes the write. `Err` comes only where
+    /// memory is refused, for the item's place in its queue or for the queue's row, and then nothing
+    /// has changed. An item that isn't added goes.
+    pub fn write(&mut self, name: Name8, item: Record, keep: bool) -> Result<TsWritten, NoMemory>
+        ensures condition { IfOk result (λ answer.
+            answer.condition ≡ write_condition (queue_at name self.old)) }
+        ensures number { IfOk result (λ answer.
+            answer.number ≡ write_number (queue_at name self.old)) }
+        ensures value { OnOk result (self.new ≡ ts_written self.old name item) }
+        ensures image { IfOk result (λ answer.
+            answer.image ≡ written_image keep name (queue_at name self.old)) }
+        ensures undoable { IfOk result (λ answer.
+            IfSome answer.image (IsTsImage self.old self.new name)) }
+        ensures others { KeepsQueues (is_other name) self.old self.new }
+        ensures err { OnErr result (self.new ≡ self.old) }
+    {
+        if let Some(row) = self.queues.get_mut(&name) {
+            return row.write(name, item, keep);
+        }
+        let row = Row::made(self.alloc, item)?;
+        self.queues.insert(name, row)?;
+        Ok(written(1, image_of(name, Before::Added, keep)))
+    }
+
+    /// WRITEQ TS REWRITE: replaces the item of a number. QIDERR where there is no queue, ITEMERR
+    /// where it has no item of the number, and then nothing changes. The answer has the number. It
+    /// takes no memory.
+    ///
+    /// With `keep` a NORMAL answer has the image that undoes the change, with the old item. An item
+    /// that isn't put in goes.
+    pub fn rewrite(&mut self, name: &Name8, number: u64, item: Record, keep: bool) -> TsWritten
+        ensures condition { result.condition ≡ item_condition (queue_at name.now self.old) number }
+        ensures number { result.number ≡ rewrite_number (queue_at name.now self.old) number }
+        ensures value { self.new ≡ ts_rewritten self.old name.now number item }
+        ensures image { result.image
+            ≡ rewritten_image keep name.now (queue_at name.now self.old) number }
+        ensures undoable { IfSome result.image (IsTsImage self.old self.new name.now) }
+        ensures others { KeepsQueues (is_other name.now) self.old self.new }
+    {
+        let Some(row) = self.queues.get_mut(name) else {
+            return not_written(Condition::Qiderr);
+        };
+        row.rewrite(*name, number, item, keep)
+    }
+
+    /// DELETEQ TS: removes a whole queue. QIDERR where there is none, and then nothing changes. It
+    /// takes no memory.
+    ///
+    /// With `keep` the row of the queue stays, empty, and a NORMAL answer has the image that undoes
+    /// the change, with all items.
+    pub fn delete(&mut self, name: &Name8, keep: bool) -> Changed<TsImage>
+        ensures condition { result.condition ≡ delete_condition (queue_at name.now self.old) }
+        ensures value { self.new ≡ ts_deleted keep self.old name.now }
+        ensures image { result.image ≡ deleted_image keep name.now (queue_at name.now self.old) }
+        ensures undoable { IfSome result.image (IsTsImage self.old self.new name.now) }
+        ensures others { KeepsQueues (is_other name.now) self.old self.new }
+    {
+        if keep {
+            return self.take(name);
+        }
+        if !self.is_there(name) {
+            return not_deleted();
+        }
+        self.remove(name);
+        Changed {
+            condition: Condition::Normal,
+            image: None,
+        }
+    }
+
+    /// READQ TS ITEM: the item of a number. QIDERR where there is no queue, ITEMERR where it has no
+    /// item of the number. An item that is given becomes the NEXT place of its queue; nothing else
+    /// changes.
+    ///
+    /// `Err` comes only where the memory for a copy of the item is refused, and then nothing has
+    /// changed.
+    pub fn read_item(&mut self, name: &Name8, number: u64) -> Result<TsRead, NoMemory>
+        ensures answer { IfOk result (λ answer. answer ≡ read_item self.old name.now number) }
+        ensures value { OnOk result (self.new ≡ after_read_item self.old name.now number) }
+        ensures kept { KeepsQueues (λ _. true) self.old self.new }
+        ensures err { OnErr result (self.new ≡ self.old) }
+    {
+        let Some(row) = self.queues.get_mut(name) else {
+            return Ok(not_read(Condition::Qiderr));
+        };
+        row.read(number)
+    }
+
+    /// READQ TS NEXT: the item after the one that was read last, as `read_item` of its number.
+    pub fn read_next(&mut self, name: &Name8) -> Result<TsRead, NoMemory>
+        ensures answer { IfOk result (λ answer. answer ≡ read_next self.old name.now) }
+        ensures value { OnOk result (self.new ≡ after_read_next self.old name.now) }
+        ensures kept { KeepsQueues (λ _. true) self.old self.new }
+        ensures err { OnErr result (self.new ≡ self.old) }
+    {
+        let Some(row) = self.queues.get_mut(name) else {
+            return Ok(not_read(Condition::Qiderr));
+        };
+        row.read_next()
+    }
+
+    /// The number of the item that was read last, by any task: 0 where none was since the queue was
+    /// made, and where the queue is absent. No call changes the order of the rows: their names
+    /// rise.
+    pub fn next_place(&self, name: &Name8) -> u16
+        ensures place { result ≡ next_place name.now self.now }
+        ensures rising { T (is_rising self.now) }
+    {
+        match self.queues.get(name) {
+            Some(row) => row.place(),
+            None => 0,
+        }
+    }
+
+    /// Takes the empty row of a name away, where there is one: no image of the name will be undone
+    /// any more. No queue changes, and it takes no memory.
+    pub fn sweep(&mut self, name: &Name8)
+        ensures value { self.new ≡ ts_swept self.old name.now }
+        ensures queues { queues_of self.new ≡ queues_of self.old }
+        ensures places { places_of self.new ≡ places_of self.old }
+        ensures others { KeepsQueues (is_other name.now) self.old self.new }
+    {
+        if self.is_there(name) {
+            return;
+        }
+        self.remove(name);
+    }
+
+    /// Undoes a change of the queue of a name, where the name has a row.
+    pub(crate) fn undo_at(&mut self, name: &Name8, before: Before)
+        ensures { self.new ≡ undone_at self.old name.now before }
+    {
+        let Some(row) = self.queues.get_mut(name) else {
+            return;
+        };
+        row.undo(before);
+    }
+
+    /// Whether the queue of a name is there.
+    fn is_there(&self, name: &Name8) -> bool
+        ensures there { result ≡ is_there (queue_at name.now self.now) }
+        ensures rising { T (is_rising self.now) }
+    {
+        match self.queues.get(name) {
+            Some(row) => !row.items.is_empty(),
+            None => false,
+        }
+    }
+
+    /// DELETEQ TS with an image: the row stays, empty.
+    fn take(&mut self, name: &Name8) -> Changed<TsImage>
+        ensures condition { result.condition ≡ delete_condition (queue_at name.now self.old) }
+        ensures value { self.new ≡ ts_deleted true self.old name.now }
+        ensures image { result.image ≡ deleted_image true name.now (queue_at name.now self.old) }
+    {
+        let alloc = self.alloc;
+        let Some(row) = self.queues.get_mut(name) else {
+            return not_deleted();
+        };
+        row.delete(alloc, *name)
+    }
+
+    /// Takes the row of a name out, where there is one. The last row of the table takes its index.
+    fn remove(&mut self, name: &Name8)
+        ensures { self.new ≡ without name.now self.old }
+    {
+        self.queues.swap_remove(name);
+    }
+
+    /// The queues that are there, in the order of their names, each with copies of its items. An
+    /// `Err` comes only where memory is refused.
+    pub fn listing(&self) -> Result<Items<(Name8, Items<Record>)>, NoMemory>
+        ensures { IfOk result (λ queues. queues ≡ queues_of self.now) }
+    {
+        let mut sorted = BTreeMap::new(self.alloc);
+        let mut index = self.queues.len();
+        while index > 0 {
+            index -= 1;
+            if let Some((name, row)) = self.queues.get_index(index) {
+                put(&mut sorted, *name, row.items.copies(self.alloc)?)?;
+            }
+        }
+        listed(self.alloc, sorted)
+    }
+}
