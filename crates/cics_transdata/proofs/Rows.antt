@@ -1,7 +1,10 @@
 -- Worked examples of transient data: what the two ends of a queue give, mark and leave, computed.
 use Rattle.std.specs.Prelude.{◌≡◌, true, false, Some, None, [], ◌∷◌, refl}
 use Rattle.cics_names.specs.declared.conditions.Condition.TheVariants.{Normal, Qzero}
-use Rattle.cics_transdata.specs.Trans.{TransState, holding, queue_of, first_of, read_condition, trans_written, trans_read, trans_deleted, reader_committed, writer_committed}
+use Rattle.cics_transdata.specs.declared.images.TdImage.TheVariants.{Taken, Written}
+use Rattle.cics_transdata.specs.Trans.{TransState, holding, queue_of, committed_of, unread, first_of, read_condition, trans_written, trans_read, trans_deleted, reader_committed, writer_committed}
+use Rattle.cics_transdata.specs.Undo.{reading_end, writing_end, content_at, undone, written_image, read_image, deleted_image}
+use Rattle.cics_transdata.specs.Ends.{backed_out}
 use Rattle.cics_transdata.specs.declared.queues.Recovery.TheVariants.{Logical, Physical, Unrecovered}
 use lib.Chars.{codes}
 
@@ -74,3 +77,58 @@ physical = (refl, refl)
 
 unrecovered : trans_deleted (holding Unrecovered (codes "r1" ∷ codes "r2" ∷ [])) ≡ holding Unrecovered []
 unrecovered = refl
+
+-- ---- the images of changes
+
+-- a write has its kind alone, a read or delete how many records were marked as read before; a read of nothing has none
+images : (written_image one ≡ Some Written) × (read_image one false ≡ Some (Taken 0)) × (read_image (trans_read one false) true ≡ None) × (deleted_image (trans_read one false) ≡ Some (Taken 1))
+images = (refl, refl, refl, refl)
+
+no_images : (written_image (holding Physical []) ≡ None) × (read_image (holding Unrecovered (codes "r1" ∷ [])) false ≡ None) × (deleted_image (holding Physical (codes "r1" ∷ [])) ≡ None)
+no_images = (refl, refl, refl)
+
+-- ---- the ends are backed out one by one, in either order
+
+-- what was read is in front again, where it was
+read_undone : (undone (trans_read one false) (Taken 0) ≡ one) × (queue_of (undone at_both_ends (Taken 0)) ≡ codes "r1" ∷ codes "r2" ∷ [])
+read_undone = (refl, refl)
+
+-- what was written goes from the back
+write_undone : (undone (trans_written one (codes "r2")) Written ≡ one) × (queue_of (undone at_both_ends Written) ≡ [])
+write_undone = (refl, refl)
+
+either_end_first : (undone (undone at_both_ends (Taken 0)) Written ≡ one) × (undone (undone at_both_ends Written) (Taken 0) ≡ one)
+either_end_first = (refl, refl)
+
+-- two reads beside a write that is committed meanwhile: both records come back, in their order
+read_again : queue_of (backed_out (trans_read (writer_committed (trans_written (trans_read one false) (codes "r2"))) false) (Taken 1 ∷ Taken 0 ∷ [])) ≡ codes "r1" ∷ codes "r2" ∷ []
+read_again = refl
+
+-- a unit that deleted what it had written itself
+delete_undone : backed_out (trans_deleted (trans_written one (codes "r2"))) (Taken 0 ∷ Written ∷ []) ≡ one
+delete_undone = refl
+
+-- and then another writes: its record stands behind what came back
+written_after_it : queue_of (trans_written (backed_out (trans_deleted (trans_written one (codes "r2"))) (Taken 0 ∷ Written ∷ [])) (codes "r3")) ≡ codes "r1" ∷ codes "r3" ∷ []
+written_after_it = refl
+
+-- a write that is undone leaves another reader nothing
+nothing_was_written : read_condition (first_of (undone (trans_written (holding Logical []) (codes "r1")) Written) false) ≡ Qzero
+nothing_was_written = refl
+
+-- ---- what an end contains
+
+ends_of_both : (content_at at_both_ends reading_end ≡ Some (codes "r1" ∷ [])) × (content_at at_both_ends writing_end ≡ Some (codes "r2" ∷ [])) × (content_at at_both_ends [] ≡ None)
+ends_of_both = (refl, refl, refl)
+
+-- a record that its writer has read itself
+abbrev own : TransState
+own = trans_read (trans_written (holding Logical []) (codes "r1")) true
+
+-- it is at both ends, and the write can't be undone until the read is
+at_both : (content_at own reading_end ≡ Some (codes "r1" ∷ [])) × (content_at own writing_end ≡ Some (codes "r1" ∷ [])) × (unread own ≡ 0) × (unread (undone own (Taken 0)) ≡ 1)
+at_both = (refl, refl, refl, refl)
+
+-- the records that have no mark
+unmarked : (committed_of at_both_ends ≡ []) × (committed_of (writer_committed at_both_ends) ≡ codes "r2" ∷ [])
+unmarked = (refl, refl)
