@@ -1,4 +1,8 @@
-pub mod Entries
-pub mod Listing
+pub mod Apart
+pub mod Lawful
+pub mod Least
+pub mod Owning
+mod Rows
+pub mod Seeking
 pub mod TableLaws
 pub mod Tables

@@ -1,101 +1,261 @@
 -- What the table says of each resource, and what it is after a change.
-use Rattle.std.proofs.Common.{◌≡◌, ◌+◌, ◌-◌, ℕ, suc, ◌&&◌, ◌==◌, not, Bool, true, false, cond, T, Option, Some, None, List, [], ◌∷◌, slice_get, refl, sym, ap, subst, ◌∙◌}
-use Rattle.std.specs.Prelude.{option_map, nat_le, nat_lt, if◌then◌else◌}
-use Rattle.std.specs.Map.{lookup, lookup_key, set_value}
+use Rattle.std.proofs.Common.{◌≡◌, ◌+◌, ◌-◌, ℕ, ◌&&◌, ◌==◌, not, Bool, true, false, cond, T, Option, Some, None, [], ◌∷◌, nat_eq, refl, sym, ap, subst, ◌∙◌}
+use Rattle.std.specs.Prelude.{Result, Ok, Err, OnOk, OnErr, is_err, option_map, nat_le, nat_lt, if◌then◌else◌}
+use Rattle.std.specs.Map.{lookup, set_value, remove_entry}
+use Rattle.std.specs.Global.{Vec}
+use Rattle.std.specs.BTreeMap.{insert_entry}
+use Rattle.std.specs.declared.cmp.Ordering.{Ordering}
 use Rattle.std.specs.declared.cmp.Ordering.TheVariants.{Less, Equal, Greater}
-use Rattle.std.specs.Ordering.{is_eq}
-use Rattle.std.specs.Cmp.{eq_by_cmp_equiv}
+use Rattle.std.specs.Ordering.{is_eq, match_ordering}
 use Rattle.std.specs.FinMap as map_by
-use Rattle.std.specs.FinMap.Entries.{find-put, find-where_key, is_sorted-put, is_sorted-where_key, same_entries, below_all, by_order}
-use Rattle.std.proofs.lemmas.Bool.{eq-eqb}
-use Rattle.cics_names.specs.KeyedLaws.{pointwise-is_same}
+use Rattle.std.specs.FinMap.Entries.{below_all, by_order, is_sorted-put, is_sorted-where_key, same_entries}
+use Rattle.std.proofs.lemmas.Bool.{eq-eqb, eqb-true}
+use Rattle.cics_names.specs.Keyed.{Bytes, bytes_cmp}
+use Rattle.cics_names.specs.KeyedLaws.{is_same-eq}
 use Rattle.cics_enqueue.specs.declared.resources.Resource.{Resource}
-use Rattle.cics_enqueue.specs.declared.resources.Resource.TheVariants.{FileKey, TsQueue, TdRead, TdWrite, User}
 use Rattle.cics_enqueue.specs.declared.enqueues.Holding.{Holding}
-use Rattle.cics_enqueue.specs.contracts.resources.ResourcePartialEq.TheImpl as own
-use Rattle.cics_enqueue.specs.Lists.{table_of, seen}
-use Rattle.cics_enqueue.specs.Resources.{Table, Held, held_at, holder_of, count_of, count_in, is_one, is_user, is_full, most_count, raised_count, is_in_order, resource_cmp, with_holder, freed, released, taken, given_back, given_back_of}
-use Rattle.cics_enqueue.proofs.TableLaws.{left_of, right_of, not_tied}
-use Rattle.cics_enqueue.specs.ResourceLaws.{resource_cmp_total, is_one-cmp, is_one-eq, same_resources}
+use Rattle.cics_enqueue.specs.Kept.{Entries, Owned, table_of, seen, finds, AreKeys, AreOwned, Sets, owns, has_in, is_units, is_place, IsKept}
+use Rattle.cics_enqueue.specs.Resources.{Table, Held, held_at, holder_of, count_of, count_in, is_one, is_user, is_full, most_count, raised_count, is_in_order, resource_cmp, resource_key, with_holder, freed, released, taken, given_back, given_back_of}
+use Rattle.cics_enqueue.specs.ResourceLaws.{resource_cmp_total, is_one-cmp, is_one-eq, same_resources, resource_of, resource_of-resource_key}
+use Rattle.cics_enqueue.proofs.TableLaws.{left_of, right_of, not_tied, held_before, held_without, held_at-released, is_in_order-released}
 
--- the program's `==` of resources
-abbrev pub equals : Resource → Resource → Bool
-equals r s = own.eq-value.it r s
+-- how keys are ordered
+abbrev pub key_cmp : Vec ℕ → Vec ℕ → Ordering
+key_cmp k l = bytes_cmp k.items l.items
 
-equals-is_one : (r s : Resource) → equals r s ≡ is_one r s
-equals-is_one (FileKey f k) (FileKey g l) = λ i. pointwise-is_same f g i && pointwise-is_same k.items l.items i
-equals-is_one (TsQueue q) (TsQueue r) = pointwise-is_same q r
-equals-is_one (TdRead q) (TdRead r) = pointwise-is_same q r
-equals-is_one (TdWrite q) (TdWrite r) = pointwise-is_same q r
-equals-is_one (User v) (User w) = pointwise-is_same v.items w.items
-equals-is_one (FileKey f k) _ = refl
-equals-is_one (TsQueue q) _ = refl
-equals-is_one (TdRead q) _ = refl
-equals-is_one (TdWrite q) _ = refl
-equals-is_one (User v) _ = refl
+module _ (r : Resource) (key : Bytes) (is : key ≡ resource_key r) where
+  -- a resource compares to an entry's as its bytes do
+  compares : (k : Bytes) → resource_key (resource_of k) ≡ k → bytes_cmp key k ≡ resource_cmp r (resource_of k)
+  compares k sound = λ i. bytes_cmp (is i) (sym sound i)
 
--- as the order has it, from the other side
-ties : (r q : Resource) → equals r q ≡ is_eq (resource_cmp q r)
-ties r q = equals-is_one r q ∙ is_one-cmp r q ∙ (eq_by_cmp_equiv resource_cmp_total).symm r q
-
--- what the table has of a resource is what the hash table has
-pub held_at-table_of : (r : Resource) (es : List (Resource × Holding)) → held_at r (table_of es) ≡ option_map seen (lookup (equals r) es)
-held_at-table_of r [] = refl
-held_at-table_of r (e ∷ es) = find-put resource_cmp resource_cmp_total r e.0 (seen e.1) (table_of es) ∙ ap (λ b. cond b (Some (seen e.1)) (held_at r (table_of es))) (sym (equals-is_one r e.0 ∙ is_one-cmp r e.0)) ∙ step (equals r e.0) (held_at-table_of r es)
-  where
-    step : (b : Bool) → held_at r (table_of es) ≡ option_map seen (lookup (equals r) es) → cond b (Some (seen e.1)) (held_at r (table_of es)) ≡ option_map seen (cond b (Some e.1) (lookup (equals r) es))
-    step true h = refl
-    step false h = h
-
--- who holds a resource, and how many times
-pub holder_of-table_of : (r : Resource) (es : List (Resource × Holding)) (o : Option Holding) → o ≡ lookup (equals r) es → holder_of r (table_of es) ≡ option_map (λ h. h.unit) o
-holder_of-table_of r es o found = ap (option_map (λ h. h.unit)) (held_at-table_of r es ∙ ap (option_map seen) (sym found)) ∙ step o
-  where
-    step : (o : Option Holding) → option_map (λ h. h.unit) (option_map seen o) ≡ option_map (λ h. h.unit) o
-    step None = refl
-    step (Some h) = refl
-
-pub count_of-table_of : (r : Resource) (es : List (Resource × Holding)) (o : Option Holding) → o ≡ lookup (equals r) es → count_of r (table_of es) ≡ count_in (option_map seen o)
-count_of-table_of r es o found = ap count_in (held_at-table_of r es ∙ ap (option_map seen) (sym found))
-
-pub table_of-in_order : (es : List (Resource × Holding)) → T (is_in_order (table_of es))
-table_of-in_order [] = tt
-table_of-in_order (e ∷ es) = is_sorted-put resource_cmp resource_cmp_total e.0 (seen e.1) (table_of es) (table_of-in_order es)
-
--- two tables in order that have the same of each resource are equal
-same_tables : (t u : Table) → T (is_in_order t) → T (is_in_order u) → ((q : Resource) → held_at q t ≡ held_at q u) → t ≡ u
-same_tables t u t_rises u_rises same = same_entries resource_cmp resource_cmp_total same_resources t u t_rises u_rises same
-
-module _ (es fs : List (Resource × Holding)) (r : Resource) where
-  -- one resource got a holding
-  pub table_of-written : (h : Holding) → ((q : Resource) → lookup (equals q) fs ≡ cond (equals r q) (Some h) (lookup (equals q) es)) → table_of fs ≡ with_holder (table_of es) r h.unit h.count
-  table_of-written h updated = same_tables _ _ (table_of-in_order fs) (is_sorted-put resource_cmp resource_cmp_total r (seen h) (table_of es) (table_of-in_order es)) (λ q.
-      held_at-table_of q fs ∙ ap (option_map seen) (updated q) ∙ step (equals r q) (lookup (equals q) es)
-      ∙ (λ i. cond (ties r q i) (Some (seen h)) (sym (held_at-table_of q es) i)) ∙ sym (find-put resource_cmp resource_cmp_total q r (seen h) (table_of es)))
+  -- what the table has of a resource is what its entries have under its bytes
+  pub held_at-table_of : (es : Entries) → AreKeys es → held_at r (table_of es) ≡ option_map seen (lookup (finds key) es)
+  held_at-table_of [] sound = refl
+  held_at-table_of (e ∷ es) sound =
+      ap (λ o. cond (is_eq o) (Some (seen e.1)) (held_at r (table_of es))) (sym (compares e.0.items sound.0))
+      ∙ step (finds key e.0) (held_at-table_of es sound.1)
     where
-      step : (b : Bool) (o : Option Holding) → option_map seen (cond b (Some h) o) ≡ cond b (Some (seen h)) (option_map seen o)
-      step true o = refl
-      step false o = refl
+      step : (b : Bool) → held_at r (table_of es) ≡ option_map seen (lookup (finds key) es) → cond b (Some (seen e.1)) (held_at r (table_of es)) ≡ option_map seen (cond b (Some e.1) (lookup (finds key) es))
+      step true h = refl
+      step false h = h
 
-  -- one resource lost its holding
-  pub table_of-freed : ((q : Resource) → lookup (equals q) fs ≡ cond (equals r q) None (lookup (equals q) es)) → table_of fs ≡ freed (table_of es) r
-  table_of-freed updated = same_tables _ _ (table_of-in_order fs) (is_sorted-where_key resource_cmp (λ s. not (is_one r s)) (table_of es) (table_of-in_order es)) (λ q.
-      held_at-table_of q fs ∙ ap (option_map seen) (updated q) ∙ step (equals r q) (lookup (equals q) es)
-      ∙ (λ i. cond (not (equals-is_one r q i)) (sym (held_at-table_of q es) i) None)
-      ∙ sym (find-where_key resource_cmp (λ s. not (is_one r s)) q (λ x tied. ap (λ s. not (is_one r s)) (sym (same_resources q x tied))) (table_of es)))
+  -- who holds a resource, and how many times
+  pub holder_of-table_of : (es : Entries) (o : Option Holding) → AreKeys es → o ≡ lookup (finds key) es → holder_of r (table_of es) ≡ option_map (λ h. h.unit) o
+  holder_of-table_of es o sound found = ap (option_map (λ h. h.unit)) (held_at-table_of es sound ∙ ap (option_map seen) (sym found)) ∙ step o
     where
-      step : (b : Bool) (o : Option Holding) → option_map seen (cond b None o) ≡ cond (not b) (option_map seen o) None
-      step true o = refl
-      step false o = refl
+      step : (o : Option Holding) → option_map (λ h. h.unit) (option_map seen o) ≡ option_map (λ h. h.unit) o
+      step None = refl
+      step (Some h) = refl
+
+  pub count_of-table_of : (es : Entries) (o : Option Holding) → AreKeys es → o ≡ lookup (finds key) es → count_of r (table_of es) ≡ count_in (option_map seen o)
+  count_of-table_of es o sound found = ap count_in (held_at-table_of es sound ∙ ap (option_map seen) (sym found))
+
+  -- ---- changes of one entry
+  -- an entry comes in at its place
+  pub table_of-inserted : (k : Vec ℕ) (h : Holding) (es : Entries) → k.items ≡ key → AreKeys es → table_of (insert_entry key_cmp es k h) ≡ map_by.put resource_cmp r (seen h) (table_of es)
+  table_of-inserted k h [] same sound = ap (λ s. (s, seen h) ∷ []) (here k same)
+    where
+      here : (k : Vec ℕ) → k.items ≡ key → resource_of k.items ≡ r
+      here k same = ap resource_of (same ∙ is) ∙ resource_of-resource_key r
+  table_of-inserted k h (e ∷ es) same sound =
+      let o : bytes_cmp k.items e.0.items ≡ resource_cmp r (resource_of e.0.items) = ap (λ b. bytes_cmp b e.0.items) same ∙ compares e.0.items sound.0 in
+      let here : resource_of k.items ≡ r = ap resource_of (same ∙ is) ∙ resource_of-resource_key r in
+      let rest = table_of-inserted k h es same sound.1 in
+      elim (bytes_cmp k.items e.0.items) as (λ c. table_of (match_ordering c ((k, h) ∷ e ∷ es) ((e.0, h) ∷ es) (e ∷ insert_entry key_cmp es k h))
+      ≡ by_order c ((r, seen h) ∷ table_of (e ∷ es)) ((resource_of e.0.items, seen h) ∷ table_of es) ((resource_of e.0.items, seen e.1) ∷ map_by.put resource_cmp r (seen h) (table_of es))) [
+        | Less ↦ ap (λ s. (s, seen h) ∷ table_of (e ∷ es)) here
+        | Equal ↦ refl
+        | Greater ↦ ap (λ t. (resource_of e.0.items, seen e.1) ∷ t) rest
+      ] ∙ ap (λ c. by_order c ((r, seen h) ∷ table_of (e ∷ es)) ((resource_of e.0.items, seen h) ∷ table_of es) ((resource_of e.0.items, seen e.1) ∷ map_by.put resource_cmp r (seen h) (table_of es))) o
+
+  pub AreKeys-inserted : (k : Vec ℕ) (h : Holding) (es : Entries) → k.items ≡ key → AreKeys es → AreKeys (insert_entry key_cmp es k h)
+  AreKeys-inserted k h [] same sound = (own_key k same, tt)
+    where
+      own_key : (k : Vec ℕ) → k.items ≡ key → resource_key (resource_of k.items) ≡ k.items
+      own_key k same = ap resource_key (ap resource_of (same ∙ is) ∙ resource_of-resource_key r) ∙ sym (same ∙ is)
+  AreKeys-inserted k h (e ∷ es) same sound =
+      let mine : resource_key (resource_of k.items) ≡ k.items = ap resource_key (ap resource_of (same ∙ is) ∙ resource_of-resource_key r) ∙ sym (same ∙ is) in
+      let rest = AreKeys-inserted k h es same sound.1 in
+      elim (bytes_cmp k.items e.0.items) as (λ c. AreKeys (match_ordering c ((k, h) ∷ e ∷ es) ((e.0, h) ∷ es) (e ∷ insert_entry key_cmp es k h))) [
+        | Less ↦ (mine, sound)
+        | Equal ↦ sound
+        | Greater ↦ (sound.0, rest)
+      ]
+
+  -- a resource that comes before all of a table isn't in it
+  freed-before : (t : Table) → T (below_all resource_cmp r t) → freed t r ≡ t
+  freed-before [] below = refl
+  freed-before (e ∷ es) below =
+      ap (λ b. cond (not b) (e ∷ freed es r) (freed es r)) (is_one-cmp r e.0 ∙ not_tied (resource_cmp r e.0) (left_of _ _ below))
+      ∙ ap (λ t. e ∷ t) (freed-before es (right_of _ _ below))
+
+  -- an entry goes
+  pub table_of-removed : (es : Entries) → AreKeys es → T (is_in_order (table_of es)) → table_of (remove_entry (finds key) es) ≡ freed (table_of es) r
+  table_of-removed [] sound rises = refl
+  table_of-removed (e ∷ es) sound rises =
+      let s : Resource = resource_of e.0.items in
+      let o : bytes_cmp key e.0.items ≡ resource_cmp r s = compares e.0.items sound.0 in
+      let rest = table_of-removed es sound.1 (right_of _ _ rises) in
+      elim (is_one r s) as (λ b. is_one r s ≡ b → table_of (cond (finds key e.0) es (e ∷ remove_entry (finds key) es)) ≡ cond (not b) ((s, seen e.1) ∷ freed (table_of es) r) (freed (table_of es) r)) [
+        | true ↦ λ one. ap (λ b. table_of (cond b es (e ∷ remove_entry (finds key) es))) (ap is_eq o ∙ sym (is_one-cmp r s) ∙ one)
+            ∙ sym (freed-before (table_of es) (subst (λ x. T (below_all resource_cmp x (table_of es))) (sym (is_one-eq r s one)) (left_of _ _ rises)))
+        | false ↦ λ other. ap (λ b. table_of (cond b es (e ∷ remove_entry (finds key) es))) (ap is_eq o ∙ sym (is_one-cmp r s) ∙ other)
+            ∙ ap (λ t. (s, seen e.1) ∷ t) rest
+      ] refl
+
+  pub AreKeys-removed : (es : Entries) → AreKeys es → AreKeys (remove_entry (finds key) es)
+  AreKeys-removed [] sound = tt
+  AreKeys-removed (e ∷ es) sound = elim (finds key e.0) as (λ b. AreKeys (cond b es (e ∷ remove_entry (finds key) es))) [ true ↦ sound.1 | false ↦ (sound.0, AreKeys-removed es sound.1) ]
+
+  -- a holding is written over
+  module _ (v w : Holding) where
+    pub table_of-written : (es : Entries) → AreKeys es → T (is_in_order (table_of es)) → lookup (finds key) es ≡ Some v → table_of (set_value (finds key) es w) ≡ with_holder (table_of es) r w.unit w.count
+    table_of-written [] sound rises found = cc
+    table_of-written (e ∷ es) sound rises found =
+        let s : Resource = resource_of e.0.items in
+        let o : bytes_cmp key e.0.items ≡ resource_cmp r s = compares e.0.items sound.0 in
+        ap (λ c. table_of (cond (is_eq c) ((e.0, w) ∷ es) (e ∷ set_value (finds key) es w))) o ∙ elim (resource_cmp r s) as (λ c. resource_cmp r s ≡ c → cond (is_eq c) (Some e.1) (lookup (finds key) es) ≡ Some v →
+        table_of (cond (is_eq c) ((e.0, w) ∷ es) (e ∷ set_value (finds key) es w)) ≡ by_order c ((r, seen w) ∷ table_of (e ∷ es)) ((s, seen w) ∷ table_of es) ((s, seen e.1) ∷ with_holder (table_of es) r w.unit w.count)) [
+          | Less ↦ λ less at.
+              let none : held_at r (table_of es) ≡ None = held_before r s (table_of es) less (left_of _ _ rises) in
+              let wrong : None ≡ Some (seen v) = sym none ∙ held_at-table_of es sound.1 ∙ ap (option_map seen) at in cc
+          | Equal ↦ λ same at. refl
+          | Greater ↦ λ more at. ap (λ t. (s, seen e.1) ∷ t) (table_of-written es sound.1 (right_of _ _ rises) at)
+        ] refl (ap (λ c. cond (is_eq c) (Some e.1) (lookup (finds key) es)) (sym o) ∙ found)
+
+    pub AreKeys-written : (es : Entries) → AreKeys es → AreKeys (set_value (finds key) es w)
+    AreKeys-written [] sound = tt
+    AreKeys-written (e ∷ es) sound = elim (finds key e.0) as (λ b. AreKeys (cond b ((e.0, w) ∷ es) (e ∷ set_value (finds key) es w))) [ true ↦ sound | false ↦ (sound.0, AreKeys-written es sound.1) ]
+
+    -- a holding that is written as it was changes nothing
+    pub table_of-same : (es : Entries) → w ≡ v → lookup (finds key) es ≡ Some v → table_of (set_value (finds key) es w) ≡ table_of es
+    table_of-same es same found = ap table_of (ap (set_value (finds key) es) same ∙ set_value-same es found)
+      where
+        set_value-same : (es : Entries) → lookup (finds key) es ≡ Some v → set_value (finds key) es v ≡ es
+        set_value-same [] = λ h. refl
+        set_value-same (e ∷ es) = elim (finds key e.0) as (λ b. cond b (Some e.1) (lookup (finds key) es) ≡ Some v → cond b ((e.0, v) ∷ es) (e ∷ set_value (finds key) es v) ≡ e ∷ es) [
+          | true ↦ λ h. let one : e.1 ≡ v = cc in ap (λ x. (e.0, x) ∷ es) (sym one)
+          | false ↦ λ h. ap (λ t. e ∷ t) (set_value-same es h)
+        ]
+
+    -- what is held under each key
+    module _ (es fs : Entries) (own : Owned) (found : lookup (finds key) es ≡ Some v) (updated : (k : Vec ℕ) → lookup (finds k.items) fs ≡ cond (finds key k) (Some w) (lookup (finds k.items) es)) where
+      -- each unit owns the keys that it holds where a holding keeps its unit
+      pub AreOwned-written : w.unit ≡ v.unit → AreOwned es own → AreOwned fs own
+      AreOwned-written unit owned u k = owned u k ∙ sym (ap (is_units u) (updated k) ∙ elim (finds key k) as (λ b. finds key k ≡ b → is_units u (cond b (Some w) (lookup (finds k.items) es)) ≡ is_units u (lookup (finds k.items) es)) [
+        | true ↦ λ t. ap (λ n. n == u) unit ∙ sym (ap (is_units u) (ap (λ b. lookup (finds b) es) (sym (is_same-eq key k.items t)) ∙ found))
+        | false ↦ λ t. refl
+      ] refl)
+
+  -- where nobody holds a key, no unit owns it
+  unowned : (es : Entries) (own : Owned) → lookup (finds key) es ≡ None → AreOwned es own → (u : ℕ) (k : Vec ℕ) → finds key k ≡ true → owns own u k ≡ false
+  unowned es own absent owned u k t = owned u k ∙ ap (is_units u) (ap (λ b. lookup (finds b) es) (sym (is_same-eq key k.items t)) ∙ absent)
+
+  -- a new holding
+  pub AreOwned-added : (es fs : Entries) (own after : Owned) (h : Holding) → lookup (finds key) es ≡ None → ((k : Vec ℕ) → lookup (finds k.items) fs ≡ cond (finds key k) (Some h) (lookup (finds k.items) es)) →
+      Sets true h.unit key own after → AreOwned es own → AreOwned fs after
+  AreOwned-added es fs own after h absent updated sets owned u k = sets u k ∙ elim (finds key k) as (λ b. finds key k ≡ b → (if nat_eq h.unit u && b then true else owns own u k) ≡ is_units u (cond b (Some h) (lookup (finds k.items) es))) [
+    | true ↦ λ t. elim (nat_eq h.unit u) as (λ b. (if b && true then true else owns own u k) ≡ b) [ true ↦ refl | false ↦ unowned es own absent owned u k t ]
+    | false ↦ λ t. elim (nat_eq h.unit u) as (λ b. (if b && false then true else owns own u k) ≡ is_units u (lookup (finds k.items) es)) [ true ↦ owned u k | false ↦ owned u k ]
+  ] refl ∙ sym (ap (is_units u) (updated k))
+
+  -- a key that came in and went
+  pub AreOwned-undone : (es : Entries) (own between after : Owned) (unit : ℕ) → lookup (finds key) es ≡ None → Sets true unit key own between → Sets false unit key between after → AreOwned es own → AreOwned es after
+  AreOwned-undone es own between after unit absent came went owned u k = went u k ∙ ap (λ b. if is_place unit key u k then false else b) (came u k)
+      ∙ elim (finds key k) as (λ b. finds key k ≡ b → (if nat_eq unit u && b then false else (if nat_eq unit u && b then true else owns own u k)) ≡ is_units u (lookup (finds k.items) es)) [
+        | true ↦ λ t. elim (nat_eq unit u) as (λ b. (if b && true then false else (if b && true then true else owns own u k)) ≡ is_units u (lookup (finds k.items) es)) [ true ↦ sym (unowned es own absent owned u k t) ∙ owned u k | false ↦ owned u k ]
+        | false ↦ λ t. elim (nat_eq unit u) as (λ b. (if b && false then false else (if b && false then true else owns own u k)) ≡ is_units u (lookup (finds k.items) es)) [ true ↦ owned u k | false ↦ owned u k ]
+      ] refl
+
+  -- a holding that went
+  pub AreOwned-removed : (es fs : Entries) (own after : Owned) (v : Holding) (unit : ℕ) → lookup (finds key) es ≡ Some v → v.unit ≡ unit → ((k : Vec ℕ) → lookup (finds k.items) fs ≡ cond (finds key k) None (lookup (finds k.items) es)) →
+      Sets false unit key own after → AreOwned es own → AreOwned fs after
+  AreOwned-removed es fs own after v unit found mine updated sets owned u k = sets u k ∙ elim (finds key k) as (λ b. finds key k ≡ b → (if nat_eq unit u && b then false else owns own u k) ≡ is_units u (cond b None (lookup (finds k.items) es))) [
+    | true ↦ λ t. elim (nat_eq unit u) as (λ b. nat_eq unit u ≡ b → (if b && true then false else owns own u k) ≡ false) [
+      | true ↦ λ n. refl
+      | false ↦ λ n. owned u k ∙ ap (is_units u) (ap (λ b. lookup (finds b) es) (sym (is_same-eq key k.items t)) ∙ found) ∙ ap (λ x. x == u) mine ∙ n
+    ] refl
+    | false ↦ λ t. elim (nat_eq unit u) as (λ b. (if b && false then false else owns own u k) ≡ is_units u (lookup (finds k.items) es)) [ true ↦ owned u k | false ↦ owned u k ]
+  ] refl ∙ sym (ap (is_units u) (updated k))
+
+  -- ---- takes
+  module _ (es : Entries) (sound : AreKeys es) where
+    module _ (v : Holding) (found : lookup (finds key) es ≡ Some v) where
+      pub held_here : held_at r (table_of es) ≡ Some (seen v)
+      held_here = held_at-table_of es sound ∙ ap (option_map seen) found
+
+      pub count_here : count_of r (table_of es) ≡ v.count
+      count_here = ap count_in held_here
+
+      pub holder_here : holder_of r (table_of es) ≡ Some v.unit
+      holder_here = ap (option_map (λ h. h.unit)) held_here
+
+      -- one take more of what the unit holds
+      pub taken-raised : (u : ℕ) (w : Holding) → T (is_in_order (table_of es)) → w.unit ≡ v.unit → v.unit ≡ u → w.count ≡ (if is_user r then v.count + 1 else v.count) → table_of (set_value (finds key) es w) ≡ taken (table_of es) r u
+      taken-raised u w rises unit holder count = table_of-written v w es sound rises found ∙ (λ i. with_holder (table_of es) r ((unit ∙ holder) i) ((count ∙ ap (raised_count r) (sym held_here)) i))
+
+      -- ---- gifts back
+      opened : (u : ℕ) → given_back (table_of es) r u ≡ given_back_of (Some (seen v)) (table_of es) r u
+      opened u = ap (λ o. given_back_of o (table_of es) r u) held_here
+
+      pub given_back-foreign : (u : ℕ) → (v.unit == u) ≡ false → given_back (table_of es) r u ≡ table_of es
+      given_back-foreign u other = opened u ∙ ap (λ b. if b then (if nat_lt 1 v.count then with_holder (table_of es) r u (v.count - 1) else freed (table_of es) r) else table_of es) other
+
+      mine_then : (u : ℕ) → (v.unit == u) ≡ true → given_back (table_of es) r u ≡ (if nat_lt 1 v.count then with_holder (table_of es) r u (v.count - 1) else freed (table_of es) r)
+      mine_then u mine = opened u ∙ ap (λ b. if b then (if nat_lt 1 v.count then with_holder (table_of es) r u (v.count - 1) else freed (table_of es) r) else table_of es) mine
+
+      pub given_back-once : (u : ℕ) → (v.unit == u) ≡ true → nat_lt 1 v.count ≡ true → given_back (table_of es) r u ≡ with_holder (table_of es) r u (v.count - 1)
+      given_back-once u mine more = mine_then u mine ∙ ap (λ b. if b then with_holder (table_of es) r u (v.count - 1) else freed (table_of es) r) more
+
+      pub given_back-last : (u : ℕ) → (v.unit == u) ≡ true → nat_lt 1 v.count ≡ false → given_back (table_of es) r u ≡ freed (table_of es) r
+      given_back-last u mine last = mine_then u mine ∙ ap (λ b. if b then with_holder (table_of es) r u (v.count - 1) else freed (table_of es) r) last
+
+    module _ (absent : lookup (finds key) es ≡ None) where
+      pub free_here : held_at r (table_of es) ≡ None
+      free_here = held_at-table_of es sound ∙ ap (option_map seen) absent
+
+      -- the first take of what nobody holds
+      pub taken-new : (k : Vec ℕ) (h : Holding) → k.items ≡ key → h.count ≡ 1 → table_of (insert_entry key_cmp es k h) ≡ taken (table_of es) r h.unit
+      taken-new k h same one = table_of-inserted k h es same sound ∙ ap (with_holder (table_of es) r h.unit) (one ∙ ap (raised_count r) (sym free_here))
+
+      -- it isn't full
+      pub not_full : is_full r (table_of es) ≡ false
+      not_full = ap (λ o. is_user r && nat_le most_count (count_in o)) free_here ∙ never (is_user r)
+        where
+          never : (b : Bool) → (b && nat_le most_count 0) ≡ false
+          never true = refl
+          never false = refl
+
+      pub given_back-free : (u : ℕ) → given_back (table_of es) r u ≡ table_of es
+      given_back-free u = ap (λ o. given_back_of o (table_of es) r u) free_here
+
+    -- ---- what is kept after a change
+    module _ (own : Owned) (kept : IsKept es own) where
+      pub IsKept-written : (v w : Holding) (fs : Entries) → fs ≡ set_value (finds key) es w → lookup (finds key) es ≡ Some v → w.unit ≡ v.unit →
+          ((k : Vec ℕ) → lookup (finds k.items) fs ≡ cond (finds key k) (Some w) (lookup (finds k.items) es)) → IsKept fs own
+      IsKept-written v w fs written found unit updated = record {
+        keys = subst AreKeys (sym written) (AreKeys-written v w es sound);
+        in_order = subst (λ t. T (is_in_order t)) (sym (ap table_of written ∙ table_of-written v w es sound kept.in_order found)) (is_sorted-put resource_cmp resource_cmp_total r (seen w) (table_of es) kept.in_order);
+        owned = AreOwned-written v w es fs own found updated unit kept.owned;
+      }
+
+      pub IsKept-added : (k : Vec ℕ) (h : Holding) (fs : Entries) (after : Owned) → k.items ≡ key → fs ≡ insert_entry key_cmp es k h → lookup (finds key) es ≡ None →
+          ((k : Vec ℕ) → lookup (finds k.items) fs ≡ cond (finds key k) (Some h) (lookup (finds k.items) es)) → Sets true h.unit key own after → IsKept fs after
+      IsKept-added k h fs after same inserted absent updated sets = record {
+        keys = subst AreKeys (sym inserted) (AreKeys-inserted k h es same sound);
+        in_order = subst (λ t. T (is_in_order t)) (sym (ap table_of inserted ∙ table_of-inserted k h es same sound)) (is_sorted-put resource_cmp resource_cmp_total r (seen h) (table_of es) kept.in_order);
+        owned = AreOwned-added es fs own after h absent updated sets kept.owned;
+      }
+
+      pub IsKept-removed : (v : Holding) (unit : ℕ) (fs : Entries) (after : Owned) → fs ≡ remove_entry (finds key) es → lookup (finds key) es ≡ Some v → v.unit ≡ unit →
+          ((k : Vec ℕ) → lookup (finds k.items) fs ≡ cond (finds key k) None (lookup (finds k.items) es)) → Sets false unit key own after → IsKept fs after
+      IsKept-removed v unit fs after removed found mine updated sets = record {
+        keys = subst AreKeys (sym removed) (AreKeys-removed es sound);
+        in_order = subst (λ t. T (is_in_order t)) (sym (ap table_of removed ∙ table_of-removed es sound kept.in_order)) (is_sorted-where_key resource_cmp (λ s. not (is_one r s)) (table_of es) kept.in_order);
+        owned = AreOwned-removed es fs own after v unit found mine updated sets kept.owned;
+      }
 
 -- ---- what a unit gives up
--- a resource that comes before all of a table isn't in it
-freed-before : (r : Resource) (t : Table) → T (below_all resource_cmp r t) → freed t r ≡ t
-freed-before r [] below = refl
-freed-before r (e ∷ es) below =
-    ap (λ b. cond (not b) (e ∷ freed es r) (freed es r)) (is_one-cmp r e.0 ∙ not_tied (resource_cmp r e.0) (left_of _ _ below))
-    ∙ ap (λ t. e ∷ t) (freed-before r es (right_of _ _ below))
-
 -- to free first what the unit gives up anyway changes nothing
 pub released-freed : (t : Table) (r : Resource) (u : ℕ) → T (is_in_order t) → ((h : Held) → held_at r t ≡ Some h → h.unit ≡ u) → released (freed t r) u ≡ released t u
 released-freed [] r u rises own_held = refl
@@ -104,108 +264,72 @@ released-freed (e ∷ es) r u rises own_held =
       | true ↦ λ one.
           let same : r ≡ e.0 = is_one-eq r e.0 one in
           let gone : e.1.unit ≡ u = own_held e.1 (ap (λ b. cond b (Some e.1) (held_at r es)) (sym (is_one-cmp r e.0) ∙ one)) in
-          ap (λ t. released t u) (freed-before r es (subst (λ s. T (below_all resource_cmp s es)) (sym same) (left_of _ _ rises)))
+          ap (λ t. released t u) (freed-before r (resource_key r) refl es (subst (λ s. T (below_all resource_cmp s es)) (sym same) (left_of _ _ rises)))
           ∙ sym (ap (λ b. cond (not b) (e ∷ released es u) (released es u)) (eq-eqb e.1.unit u gone))
       | false ↦ λ other. ap (λ rest. cond (not (e.1.unit == u)) (e ∷ rest) rest)
           (released-freed es r u (right_of _ _ rises) (λ h at. own_held h (ap (λ b. cond b (Some e.1) (held_at r es)) (sym (is_one-cmp r e.0) ∙ other) ∙ at)))
     ] refl
 
--- no entry is the unit's
-OthersHold : ℕ → Table → Type 0
-OthersHold u [] = Unit {0}
-OthersHold u (e ∷ es) = ((e.1.unit == u) ≡ false) × OthersHold u es
+-- an entry that is found has the bytes that ask for it
+key_found : (b : Bytes) (h : Holding) (es : Entries) → lookup (finds b) es ≡ Some h → (k : Vec ℕ) × (k.items ≡ b)
+key_found b h [] = λ at. cc
+key_found b h (e ∷ es) = elim (finds b e.0) as (λ t. finds b e.0 ≡ t → cond t (Some e.1) (lookup (finds b) es) ≡ Some h → (k : Vec ℕ) × (k.items ≡ b)) [
+  | true ↦ λ t at. (e.0, sym (is_same-eq b e.0.items t))
+  | false ↦ λ t at. key_found b h es at
+] refl
 
-OthersHold-put : (u : ℕ) (r : Resource) (h : Held) (t : Table) → (h.unit == u) ≡ false → OthersHold u t → OthersHold u (map_by.put resource_cmp r h t)
-unfolding OthersHold
-OthersHold-put u r h [] apart others = (apart, tt)
-OthersHold-put u r h (e ∷ es) apart others =
-    elim (resource_cmp r e.0) as (λ o. OthersHold u (by_order o ((r, h) ∷ e ∷ es) ((e.0, h) ∷ es) (e ∷ map_by.put resource_cmp r h es))) [
-      | Less ↦ (apart, others)
-      | Equal ↦ (apart, others.1)
-      | Greater ↦ (others.0, OthersHold-put u r h es apart others.1)
-    ]
+-- a unit that owns nothing gives up nothing
+pub released-nothing : (es : Entries) (own : Owned) (u : ℕ) → IsKept es own → ((k : Vec ℕ) → owns own u k ≡ false) → released (table_of es) u ≡ table_of es
+released-nothing es own u kept none = same_entries resource_cmp resource_cmp_total same_resources (released (table_of es) u) (table_of es) (is_in_order-released (table_of es) u kept.in_order) kept.in_order
+    (λ q. held_at-released (table_of es) u q kept.in_order ∙ ap (held_without u) (is q) ∙ others q (lookup (finds (resource_key q)) es) refl ∙ sym (is q))
+  where
+    is : (q : Resource) → held_at q (table_of es) ≡ option_map seen (lookup (finds (resource_key q)) es)
+    is q = held_at-table_of q (resource_key q) refl es kept.keys
 
-OthersHold-table_of : (u : ℕ) (es : List (Resource × Holding)) → ((i : ℕ) (e : Resource × Holding) → slice_get es i ≡ Some e → (e.1.unit == u) ≡ false) → OthersHold u (table_of es)
-unfolding OthersHold
-OthersHold-table_of u [] apart = tt
-OthersHold-table_of u (e ∷ es) apart = OthersHold-put u e.0 (seen e.1) (table_of es) (apart 0 e refl) (OthersHold-table_of u es (λ i. apart (suc i)))
+    others : (q : Resource) (o : Option Holding) → lookup (finds (resource_key q)) es ≡ o → held_without u (option_map seen o) ≡ option_map seen o
+    others q None at = refl
+    others q (Some h) at =
+        let k = key_found (resource_key q) h es at in
+        let other : (h.unit == u) ≡ false = ap (is_units u) (sym at) ∙ ap (λ b. is_units u (lookup (finds b) es)) (sym k.1) ∙ sym (kept.owned u k.0) ∙ none k.0 in
+        ap (λ b. if b then None else Some (seen h)) other
 
-released-others : (u : ℕ) (t : Table) → OthersHold u t → released t u ≡ t
-unfolding OthersHold
-released-others u [] others = refl
-released-others u (e ∷ es) others = ap (λ b. cond (not b) (e ∷ released es u) (released es u)) others.0 ∙ ap (λ t. e ∷ t) (released-others u es others.1)
+-- the keys of a unit that owns none can go
+pub IsKept-ended : (es : Entries) (own between after : Owned) (unit : ℕ) → ((k : Vec ℕ) → owns own unit k ≡ false) → ((u : ℕ) (k : Vec ℕ) → owns between u k ≡ owns own u k) →
+    ((q : ℕ) → lookup (nat_eq q) after ≡ cond (nat_eq unit q) None (lookup (nat_eq q) between)) → IsKept es own → IsKept es after
+IsKept-ended es own between after unit none stays ended kept = record {
+  keys = kept.keys;
+  in_order = kept.in_order;
+  owned = λ u k. ap (λ o. has_in o k) (ended u) ∙ elim (nat_eq unit u) as (λ b. nat_eq unit u ≡ b → has_in (cond b None (lookup (nat_eq u) between)) k ≡ is_units u (lookup (finds k.items) es)) [
+    | true ↦ λ t. sym (sym (kept.owned u k) ∙ subst (λ x. owns own x k ≡ false) (eqb-true unit u t) (none k))
+    | false ↦ λ t. stays u k ∙ kept.owned u k
+  ] refl;
+}
 
--- a unit that holds nothing gives up nothing
-pub released-nothing : (u : ℕ) (es : List (Resource × Holding)) → ((i : ℕ) (e : Resource × Holding) → slice_get es i ≡ Some e → (e.1.unit == u) ≡ false) → released (table_of es) u ≡ table_of es
-released-nothing u es apart = released-others u (table_of es) (OthersHold-table_of u es apart)
+-- the holding of a key that a unit owns
+pub held_by_owner : (es : Entries) (own : Owned) (u : ℕ) (k : Vec ℕ) → AreOwned es own → owns own u k ≡ true → (h : Holding) × (lookup (finds k.items) es ≡ Some h) × (h.unit ≡ u)
+held_by_owner es own u k owned has = step (lookup (finds k.items) es) refl (sym (owned u k) ∙ has)
+  where
+    step : (o : Option Holding) → lookup (finds k.items) es ≡ o → is_units u o ≡ true → (h : Holding) × (lookup (finds k.items) es ≡ Some h) × (h.unit ≡ u)
+    step None at is = cc
+    step (Some h) at is = (h, at, eqb-true h.unit u is)
 
--- ---- takes
-module _ (es : List (Resource × Holding)) (r : Resource) (v : Holding) (found : lookup (equals r) es ≡ Some v) where
-  pub held_here : held_at r (table_of es) ≡ Some (seen v)
-  held_here = held_at-table_of r es ∙ ap (option_map seen) found
+-- the bytes of an entry are its resource's
+pub key_sound : (es : Entries) (b : Bytes) (h : Holding) → AreKeys es → lookup (finds b) es ≡ Some h → b ≡ resource_key (resource_of b)
+key_sound [] b h sound at = cc
+key_sound (e ∷ es) b h sound at = elim (finds b e.0) as (λ t. finds b e.0 ≡ t → cond t (Some e.1) (lookup (finds b) es) ≡ Some h → b ≡ resource_key (resource_of b)) [
+  | true ↦ λ t f. subst (λ x. x ≡ resource_key (resource_of x)) (sym (is_same-eq b e.0.items t)) (sym sound.0)
+  | false ↦ λ t f. key_sound es b h sound.1 f
+] refl at
 
-  pub count_here : count_of r (table_of es) ≡ v.count
-  count_here = ap count_in held_here
+-- what holds on success, of what succeeded, and on a refusal, of what was refused
+pub ok_holds : {X E P : Type 0} (r : Result X E) → is_err r ≡ false → OnOk r P → P
+ok_holds (Ok x) e p = p
+ok_holds (Err x) e p = cc
 
-  pub holder_here : holder_of r (table_of es) ≡ Some v.unit
-  holder_here = ap (option_map (λ h. h.unit)) held_here
+pub err_holds : {X E P : Type 0} (r : Result X E) → is_err r ≡ true → OnErr r P → P
+err_holds (Ok x) e p = cc
+err_holds (Err x) e p = p
 
-  -- one take more of what the unit holds
-  pub taken-raised : (fs : List (Resource × Holding)) (u : ℕ) (w : Holding) → ((q : Resource) → lookup (equals q) fs ≡ cond (equals r q) (Some w) (lookup (equals q) es)) →
-      w.unit ≡ v.unit → v.unit ≡ u → w.count ≡ (if is_user r then v.count + 1 else v.count) → table_of fs ≡ taken (table_of es) r u
-  taken-raised fs u w updated unit holder count = table_of-written es fs r w updated ∙ (λ i. with_holder (table_of es) r ((unit ∙ holder) i) ((count ∙ ap (raised_count r) (sym held_here)) i))
-
-  -- a holding that is written as it was changes nothing
-  pub table_of-same : (fs : List (Resource × Holding)) (w : Holding) → fs ≡ set_value (equals r) es w → w ≡ v → table_of fs ≡ table_of es
-  table_of-same fs w written same = ap table_of (written ∙ ap (set_value (equals r) es) same ∙ set_value-same es found)
-    where
-      set_value-same : (es : List (Resource × Holding)) → lookup (equals r) es ≡ Some v → set_value (equals r) es v ≡ es
-      set_value-same [] = λ h. refl
-      set_value-same (e ∷ es) = elim (equals r e.0) as (λ b. cond b (Some e.1) (lookup (equals r) es) ≡ Some v → cond b ((e.0, v) ∷ es) (e ∷ set_value (equals r) es v) ≡ e ∷ es) [
-        | true ↦ λ h. let one : e.1 ≡ v = cc in ap (λ x. (e.0, x) ∷ es) (sym one)
-        | false ↦ λ h. ap (λ t. e ∷ t) (set_value-same es h)
-      ]
-
-module _ (es : List (Resource × Holding)) (r : Resource) (absent : lookup (equals r) es ≡ None) where
-  pub free_here : held_at r (table_of es) ≡ None
-  free_here = held_at-table_of r es ∙ ap (option_map seen) absent
-
-  -- the first take of what nobody holds
-  pub taken-new : (fs : List (Resource × Holding)) (h : Holding) → ((q : Resource) → lookup (equals q) fs ≡ cond (equals r q) (Some h) (lookup (equals q) es)) → h.count ≡ 1 → table_of fs ≡ taken (table_of es) r h.unit
-  taken-new fs h updated one = table_of-written es fs r h updated ∙ ap (with_holder (table_of es) r h.unit) (one ∙ ap (raised_count r) (sym free_here))
-
-  -- it isn't full
-  pub not_full : is_full r (table_of es) ≡ false
-  not_full = ap (λ o. is_user r && nat_le most_count (count_in o)) free_here ∙ never (is_user r)
-    where
-      never : (b : Bool) → (b && nat_le most_count 0) ≡ false
-      never true = refl
-      never false = refl
-
--- ---- gifts back
-pub key_passes : (r k : Resource) (es : List (Resource × Holding)) → lookup_key (equals r) es ≡ Some k → r ≡ k
-key_passes r k [] h = cc
-key_passes r k (e ∷ es) h = elim (equals r e.0) as (λ b. equals r e.0 ≡ b → cond b (Some e.0) (lookup_key (equals r) es) ≡ Some k → r ≡ k) [
-  | true ↦ λ t g. let same : e.0 ≡ k = cc in is_one-eq r e.0 (sym (equals-is_one r e.0) ∙ t) ∙ same
-  | false ↦ λ t g. key_passes r k es g
-] refl h
-
-module _ (es : List (Resource × Holding)) (r : Resource) (u : ℕ) where
-  pub given_back-free : lookup (equals r) es ≡ None → given_back (table_of es) r u ≡ table_of es
-  given_back-free absent = ap (λ o. given_back_of o (table_of es) r u) (free_here es r absent)
-
-  module _ (v : Holding) (found : lookup (equals r) es ≡ Some v) where
-    opened : given_back (table_of es) r u ≡ given_back_of (Some (seen v)) (table_of es) r u
-    opened = ap (λ o. given_back_of o (table_of es) r u) (held_here es r v found)
-
-    pub given_back-foreign : (v.unit == u) ≡ false → given_back (table_of es) r u ≡ table_of es
-    given_back-foreign other = opened ∙ ap (λ b. if b then (if nat_lt 1 v.count then with_holder (table_of es) r u (v.count - 1) else freed (table_of es) r) else table_of es) other
-
-    mine_then : (v.unit == u) ≡ true → given_back (table_of es) r u ≡ (if nat_lt 1 v.count then with_holder (table_of es) r u (v.count - 1) else freed (table_of es) r)
-    mine_then mine = opened ∙ ap (λ b. if b then (if nat_lt 1 v.count then with_holder (table_of es) r u (v.count - 1) else freed (table_of es) r) else table_of es) mine
-
-    pub given_back-once : (v.unit == u) ≡ true → nat_lt 1 v.count ≡ true → given_back (table_of es) r u ≡ with_holder (table_of es) r u (v.count - 1)
-    given_back-once mine more = mine_then mine ∙ ap (λ b. if b then with_holder (table_of es) r u (v.count - 1) else freed (table_of es) r) more
-
-    pub given_back-last : (v.unit == u) ≡ true → nat_lt 1 v.count ≡ false → given_back (table_of es) r u ≡ freed (table_of es) r
-    given_back-last mine last = mine_then mine ∙ ap (λ b. if b then with_holder (table_of es) r u (v.count - 1) else freed (table_of es) r) last
+-- the table that others see is in order
+pub in_order : {t : Table} {es : Entries} {own : Owned} → table_of es ≡ t → IsKept es own → T (is_in_order t)
+in_order view kept = subst (λ t. T (is_in_order t)) view kept.in_order

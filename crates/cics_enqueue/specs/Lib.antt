@@ -1,3 +1,4 @@
-pub mod Lists
+pub mod FreedomLaws
+pub mod Kept
 pub mod Resources
 pub mod ResourceLaws

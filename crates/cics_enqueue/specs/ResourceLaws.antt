@@ -1,51 +1,62 @@
--- The order of resources: two are one resource exactly where they tie.
-use Rattle.std.specs.Prelude.{◌≡◌, ◌==◌, Bool, true, false, if◌then◌else◌, length, take, drop, [], ◌∷◌, ◌++◌, refl}
+-- The order of resources: two are one resource exactly where they tie. What a unit may take.
+use Rattle.std.specs.Prelude.{◌≡◌, ℕ, ◌==◌, ◌||◌, Some, None, Bool, true, false, if◌then◌else◌, length, take, drop, [], ◌∷◌, ◌++◌, refl}
 use Rattle.std.proofs.Common.{sym, ap, ◌∙◌, subst}
 use Rattle.std.specs.declared.cmp.Ordering.{Ordering}
 use Rattle.std.specs.declared.cmp.Ordering.TheVariants.{Less, Equal, Greater}
 use Rattle.std.specs.Ordering.{is_eq}
 use Rattle.std.specs.Cmp.{IsTotalOrder}
 use Rattle.std.specs.Cmp.Lexicographic.{on_texts}
-use Rattle.std.proofs.lemmas.Bool.{and_parts, and_from}
+use Rattle.std.proofs.lemmas.Bool.{and_parts, and_from, eq-eqb}
+use Rattle.arrayvec.specs.ArrayVec.{ArrayVec}
 use Rattle.cics_names.specs.Keyed.{Bytes}
 use Rattle.cics_names.specs.KeyedLaws.{is_same-self, is_same-eq}
 use Rattle.cics_enqueue.specs.declared.resources.Resource.{Resource}
-use Rattle.cics_enqueue.specs.declared.resources.Resource.TheVariants.{FileKey, TsQueue, TdRead, TdWrite, User}
-use Rattle.cics_enqueue.specs.Resources.{bytes_of, is_one, resource_key, resource_cmp}
+use Rattle.cics_enqueue.specs.declared.resources.Resource.TheVariants.{FileKey, TsQueue, TdRead, TdWrite, User, FilePrefix}
+use Rattle.cics_enqueue.specs.Resources.{bytes_of, Table, is_one, is_prefix, begins_with, overlaps, resource_key, resource_cmp, holder_of, IsFreeFor}
 
 -- resources are ordered totally
 pub resource_cmp_total : IsTotalOrder resource_cmp
 resource_cmp_total = on_texts resource_key
 
--- a resource read back from its bytes
-file_key_of : Bytes → Resource
+-- a key of a file read back from its bytes, without the kind
+abbrev pub file_key_of : Bytes → Resource
 file_key_of [] = TsQueue []
 file_key_of (n ∷ rest) = FileKey (take n rest) (bytes_of (drop n rest))
 
-abbrev resource_of : Bytes → Resource
+-- a prefix of keys read back from its bytes, without the kind
+abbrev pub file_prefix_of : Bytes → Resource
+file_prefix_of [] = TsQueue []
+file_prefix_of (n ∷ rest) = FilePrefix (take n rest) (bytes_of (drop n rest))
+
+-- a resource read back from its bytes
+abbrev pub resource_of : Bytes → Resource
 resource_of [] = TsQueue []
 resource_of (kind ∷ rest) =
-    if kind == 0 then file_key_of rest
-    else if kind == 1 then TsQueue rest
-    else if kind == 2 then TdRead rest
-    else if kind == 3 then TdWrite rest
+    if kind == 0 then file_prefix_of rest
+    else if kind == 1 then file_key_of rest
+    else if kind == 2 then TsQueue rest
+    else if kind == 3 then TdRead rest
+    else if kind == 4 then TdWrite rest
     else User (bytes_of rest)
 
+-- the first bytes of two lists in one are the first list
 front : (a b : Bytes) → take (length a) (a ++ b) ≡ a
 front [] b = refl
 front (x ∷ xs) b = ap (λ r. x ∷ r) (front xs b)
 
+-- and the rest is the second
 rest : (a b : Bytes) → drop (length a) (a ++ b) ≡ b
 rest [] b = refl
 rest (x ∷ xs) b = rest xs b
 
-resource_of-resource_key : (r : Resource) → resource_of (resource_key r) ≡ r
-unfolding file_key_of
+-- a resource is read back from its own bytes
+pub resource_of-resource_key : (r : Resource) → resource_of (resource_key r) ≡ r
 resource_of-resource_key (FileKey f k) = λ i. FileKey (front f k.items i) (bytes_of (rest f k.items i))
 resource_of-resource_key (TsQueue q) = refl
 resource_of-resource_key (TdRead q) = refl
 resource_of-resource_key (TdWrite q) = refl
 resource_of-resource_key (User v) = refl
+resource_of-resource_key (FilePrefix f p) = λ i. FilePrefix (front f p.items i) (bytes_of (rest f p.items i))
 
 -- resources that tie are one
 pub same_resources : (r s : Resource) → resource_cmp r s ≡ Equal → r ≡ s
@@ -59,6 +70,21 @@ is_one-self (TsQueue q) = is_same-self q
 is_one-self (TdRead q) = is_same-self q
 is_one-self (TdWrite q) = is_same-self q
 is_one-self (User v) = is_same-self v.items
+is_one-self (FilePrefix f p) = and_from _ _ (is_same-self f) (is_same-self p.items)
+
+-- bytes begin with themselves
+pub begins_with-self : (b : Bytes) → begins_with b b ≡ true
+begins_with-self [] = refl
+begins_with-self (x ∷ b) = and_from _ _ (eq-eqb x x refl) (begins_with-self b)
+
+-- a resource overlaps itself
+pub overlaps-self : (r : Resource) → overlaps r r ≡ true
+overlaps-self (FileKey f k) = is_one-self (FileKey f k)
+overlaps-self (TsQueue q) = is_one-self (TsQueue q)
+overlaps-self (TdRead q) = is_one-self (TdRead q)
+overlaps-self (TdWrite q) = is_one-self (TdWrite q)
+overlaps-self (User v) = is_one-self (User v)
+overlaps-self (FilePrefix f p) = and_from _ _ (is_same-self f) (ap (λ b. b || b) (begins_with-self p.items))
 
 -- two that are one resource are equal
 pub is_one-eq : (r s : Resource) → is_one r s ≡ true → r ≡ s
@@ -67,6 +93,7 @@ is_one-eq (TsQueue q) (TsQueue r) e = ap TsQueue (is_same-eq q r e)
 is_one-eq (TdRead q) (TdRead r) e = ap TdRead (is_same-eq q r e)
 is_one-eq (TdWrite q) (TdWrite r) e = ap TdWrite (is_same-eq q r e)
 is_one-eq (User v) (User w) e = ap (λ b. User (bytes_of b)) (is_same-eq v.items w.items e)
+is_one-eq (FilePrefix f p) (FilePrefix g q) e = let parts = and_parts _ _ e in λ i. FilePrefix (is_same-eq f g parts.0 i) (bytes_of (is_same-eq p.items q.items parts.1 i))
 is_one-eq _ _ e = cc
 
 -- two tests that pass together are one
@@ -85,3 +112,31 @@ is_one-cmp r s = same_test _ _
     tied Less e = cc
     tied Equal e = refl
     tied Greater e = cc
+
+-- ---- What a unit may take
+
+-- resources that are no prefixes overlap where they are one
+pub overlaps-plain : (r s : Resource) → is_prefix r ≡ false → is_prefix s ≡ false → overlaps r s ≡ is_one r s
+overlaps-plain (FilePrefix f p) s plain other = cc
+overlaps-plain (FileKey f k) (FilePrefix g q) plain other = cc
+overlaps-plain _ _ plain other = refl
+
+-- what a unit may take, and somebody holds, the unit holds
+pub free_own : (t : Table) (r : Resource) (u : ℕ) → IsFreeFor t r u → (v : ℕ) → holder_of r t ≡ Some v → v ≡ u
+free_own t r u free v at = free r v (overlaps-self r) at
+
+-- while nobody holds a prefix, a unit may take what no other unit holds
+pub free_unprefixed : (t : Table) (r : Resource) (u : ℕ) → is_prefix r ≡ false → ((f : Bytes) (p : ArrayVec ℕ) → holder_of (FilePrefix f p) t ≡ None) → ((v : ℕ) → holder_of r t ≡ Some v → v ≡ u) → IsFreeFor t r u
+free_unprefixed t r u plain none own s v meets at = by (is_prefix s) refl
+  where
+    prefix_none : (s : Resource) → is_prefix s ≡ true → holder_of s t ≡ None
+    prefix_none (FilePrefix f p) is = none f p
+    prefix_none (FileKey f k) is = cc
+    prefix_none (TsQueue q) is = cc
+    prefix_none (TdRead q) is = cc
+    prefix_none (TdWrite q) is = cc
+    prefix_none (User w) is = cc
+
+    by : (b : Bool) → is_prefix s ≡ b → v ≡ u
+    by true is = let wrong : None ≡ Some v = sym (prefix_none s is) ∙ at in cc
+    by false is = own v (subst (λ q. holder_of q t ≡ Some v) (sym (is_one-eq r s (sym (overlaps-plain r s plain is) ∙ meets))) at)

@@ -1,12 +1,12 @@
--- Task control: enqueues. A resource is held by one unit of work at most, with a count.
-use Rattle.std.specs.Prelude.{◌≡◌, ℕ, ◌+◌, ◌-◌, ◌==◌, Bool, true, false, not, ◌&&◌, if◌then◌else◌, Option, Some, None, option_map, nat_lt, nat_le, filter, length, List, ◌∷◌, ◌++◌}
+-- Task control: enqueues. A resource is held by one unit of work at most, with a count, and so are those that overlap.
+use Rattle.std.specs.Prelude.{◌≡◌, ◌≤◌, T, ℕ, ◌+◌, ◌-◌, ◌==◌, Bool, true, false, not, ◌&&◌, ◌||◌, if◌then◌else◌, Option, Some, None, option_map, nat_lt, nat_le, filter, length, drop, List, [], ◌∷◌, ◌++◌}
 use Rattle.std.specs.FinMap as map_by
 use Rattle.std.specs.FinMap.Entries.{where_key}
 use Rattle.std.specs.declared.cmp.Ordering.{Ordering}
 use Rattle.arrayvec.specs.ArrayVec.{ArrayVec}
-use Rattle.cics_names.specs.Keyed.{Bytes, bytes_cmp, is_same}
+use Rattle.cics_names.specs.Keyed.{Bytes, bytes_cmp, is_same, is_below}
 use Rattle.cics_enqueue.specs.declared.resources.Resource.{Resource}
-use Rattle.cics_enqueue.specs.declared.resources.Resource.TheVariants.{FileKey, TsQueue, TdRead, TdWrite, User}
+use Rattle.cics_enqueue.specs.declared.resources.Resource.TheVariants.{FileKey, TsQueue, TdRead, TdWrite, User, FilePrefix}
 
 -- bytes as a resource keeps them
 abbrev pub bytes_of : Bytes → ArrayVec ℕ
@@ -19,11 +19,27 @@ is_one (TsQueue q) (TsQueue r) = is_same q r
 is_one (TdRead q) (TdRead r) = is_same q r
 is_one (TdWrite q) (TdWrite r) = is_same q r
 is_one (User v) (User w) = is_same v.items w.items
+is_one (FilePrefix f p) (FilePrefix g q) = is_same f g && is_same p.items q.items
 is_one _ _ = false
 
--- whether a unit that holds the one keeps others from the other: only where both are one resource
+-- whether bytes begin with a prefix
+abbrev pub begins_with : Bytes → Bytes → Bool
+begins_with [] b = true
+begins_with (x ∷ p) [] = false
+begins_with (x ∷ p) (y ∷ b) = (x == y) && begins_with p b
+
+-- whether a unit that holds the one keeps others from the other: where both are one resource, where one is a prefix of keys
+-- of the other's file and the other begins with it
 abbrev pub overlaps : Resource → Resource → Bool
+overlaps (FileKey f k) (FilePrefix g p) = is_same f g && begins_with p.items k.items
+overlaps (FilePrefix f p) (FileKey g k) = is_same f g && begins_with p.items k.items
+overlaps (FilePrefix f p) (FilePrefix g q) = is_same f g && (begins_with p.items q.items || begins_with q.items p.items)
 overlaps r s = is_one r s
+
+-- whether it is a prefix of keys
+abbrev pub is_prefix : Resource → Bool
+is_prefix (FilePrefix f p) = true
+is_prefix _ = false
 
 -- only a user's value can be held more than once
 abbrev pub is_user : Resource → Bool
@@ -37,11 +53,12 @@ is_other (Some u) v = not (v == u)
 
 -- a resource as bytes, by which resources are ordered: the kind, and the names and bytes; a file's name after its length
 abbrev pub resource_key : Resource → Bytes
-resource_key (FileKey f k) = 0 ∷ length f ∷ (f ++ k.items)
-resource_key (TsQueue q) = 1 ∷ q
-resource_key (TdRead q) = 2 ∷ q
-resource_key (TdWrite q) = 3 ∷ q
-resource_key (User v) = 4 ∷ v.items
+resource_key (FilePrefix f p) = 0 ∷ length f ∷ (f ++ p.items)
+resource_key (FileKey f k) = 1 ∷ length f ∷ (f ++ k.items)
+resource_key (TsQueue q) = 2 ∷ q
+resource_key (TdRead q) = 3 ∷ q
+resource_key (TdWrite q) = 4 ∷ q
+resource_key (User v) = 5 ∷ v.items
 
 -- the order of resources, in which a table stands
 abbrev pub resource_cmp : Resource → Resource → Ordering
@@ -81,9 +98,25 @@ count_in (Some h) = h.count
 abbrev pub count_of : Resource → Table → ℕ
 count_of r t = count_in (held_at r t)
 
--- no other unit holds the resource
+-- no other unit holds what overlaps the resource
 abbrev pub IsFreeFor : Table → Resource → ℕ → Type 0
-IsFreeFor t r u = (v : ℕ) → holder_of r t ≡ Some v → v ≡ u
+IsFreeFor t r u = (s : Resource) (v : ℕ) → overlaps r s ≡ true → holder_of s t ≡ Some v → v ≡ u
+
+-- nobody but the asker holds what overlaps the resource
+abbrev pub IsFreeBut : Table → Resource → Option ℕ → Type 0
+IsFreeBut t r asker = (s : Resource) (v : ℕ) → overlaps r s ≡ true → holder_of s t ≡ Some v → is_other asker v ≡ false
+
+-- what overlaps is one unit's
+abbrev pub AreApart : Table → Type 0
+AreApart t = (r s : Resource) (u v : ℕ) → overlaps r s ≡ true → holder_of r t ≡ Some u → holder_of s t ≡ Some v → u ≡ v
+
+-- what is so of every table: its resources rise, what overlaps is one unit's, and what is held is held at least once, and more
+-- often only where it is a user's value
+pub record IsLawful (t : Table) : Type 0 where
+  pub in_order : T (is_in_order t)
+  pub apart : AreApart t
+  pub held : (r : Resource) (h : Held) → held_at r t ≡ Some h → 1 ≤ h.count
+  pub once : (r : Resource) → is_user r ≡ false → nat_le (count_of r t) 1 ≡ true
 
 -- whether one take more would be too many: of a value that is held 65,535 times
 abbrev pub is_full : Resource → Table → Bool
@@ -101,6 +134,66 @@ with_holder t r u n = map_by.put resource_cmp r (record { unit = u; count = n })
 -- the table with a resource free
 abbrev pub freed : Table → Resource → Table
 freed t r = where_key resource_cmp (λ s. not (is_one r s)) t
+
+-- the first entry of a table that passes a test
+abbrev pub first_that : (Resource × Held → Bool) → Table → Option (Resource × Held)
+first_that test [] = None
+first_that test (e ∷ es) = if test e then Some e else first_that test es
+
+-- where a resource stands among the keys and the prefixes of its file: its bytes without the kind
+abbrev pub place_of : Resource → Bytes
+place_of r = drop 1 (resource_key r)
+
+-- a resource that overlaps another, and that a unit other than the asker holds
+abbrev pub IsInTheWay : Table → Resource → Option ℕ → Resource → ℕ → Type 0
+IsInTheWay t r asker s v = (overlaps r s ≡ true) × (holder_of s t ≡ Some v) × (is_other asker v ≡ true)
+
+-- a unit holds the least of what is in the asker's way, in byte order
+abbrev pub HoldsLeast : Table → Resource → Option ℕ → ℕ → Type 0
+HoldsLeast t r asker v =
+    (s : Resource) × IsInTheWay t r asker s v × ((q : Resource) (w : ℕ) → IsInTheWay t r asker q w → is_below (place_of q) (place_of s) ≡ false)
+
+-- the lesser of two in byte order, the first where their bytes are the same
+abbrev pub lesser : Option (Resource × Held) → Option (Resource × Held) → Option (Resource × Held)
+lesser None y = y
+lesser (Some x) None = Some x
+lesser (Some x) (Some y) = if is_below (place_of y.0) (place_of x.0) then Some y else Some x
+
+-- the holder, where it is another unit than the asker
+abbrev pub other_than : Option ℕ → Option ℕ → Option ℕ
+other_than asker None = None
+other_than asker (Some v) = if is_other asker v then Some v else None
+
+-- the first of two that is there
+abbrev pub first_of : Option ℕ → Option ℕ → Option ℕ
+first_of None y = y
+first_of (Some x) y = Some x
+
+-- the unit, other than the asker, that holds a prefix of keys that is some bytes or begins with them, and is shorter than
+-- these and the rest: the shortest such prefix, which is the least
+abbrev pub holder_of_shorter : Bytes → Bytes → Bytes → Option ℕ → Table → Option ℕ
+holder_of_shorter f p [] asker t = None
+holder_of_shorter f p (x ∷ rest) asker t = first_of (other_than asker (holder_of (FilePrefix f (bytes_of p)) t)) (holder_of_shorter f (p ++ x ∷ []) rest asker t)
+
+-- whether a resource is of another's kind and file, and its bytes begin with the other's
+abbrev pub is_under : Resource → Resource → Bool
+is_under r s = begins_with (resource_key r) (resource_key s)
+
+-- the least key or prefix of keys, in byte order, that begins with a prefix and that another unit than the asker holds: a
+-- table has a file's keys in this order, and its prefixes
+abbrev pub least_under : Bytes → Bytes → Option ℕ → Table → Option (Resource × Held)
+least_under f p asker t = lesser (first_that (λ e. is_under (FileKey f (bytes_of p)) e.0 && is_other asker e.1.unit) t) (first_that (λ e. is_under (FilePrefix f (bytes_of p)) e.0 && is_other asker e.1.unit) t)
+
+-- the unit, other than the asker, that holds the least key or prefix of keys that overlaps a prefix of keys: a shorter prefix
+-- comes before all that begins with a longer one
+abbrev pub held_with_prefix : Bytes → Bytes → Option ℕ → Table → Option ℕ
+held_with_prefix f p asker t = first_of (holder_of_shorter f [] p asker t) (option_map (λ e. e.1.unit) (least_under f p asker t))
+
+-- the unit, other than the asker, that holds the least of what overlaps a resource
+abbrev pub holder_over : Resource → Option ℕ → Table → Option ℕ
+holder_over (FilePrefix f p) asker t = held_with_prefix f p.items asker t
+holder_over (FileKey f k) asker t = first_of (holder_of_shorter f [] k.items asker t) (first_of (other_than asker (holder_of (FileKey f k) t)) (other_than asker (holder_of (FilePrefix f k) t)))
+holder_over r asker t = other_than asker (holder_of r t)
 
 -- the table after a unit took a resource
 abbrev pub taken : Table → Resource → ℕ → Table

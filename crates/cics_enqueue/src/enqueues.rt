@@ -1,16 +1,22 @@
 //! The enqueue table.
 
-ghost use Rattle.std.specs.Prelude.{◌≡◌, ◌≢◌, ◌<◌, ◌≤◌, ℕ, [], ◌+◌, ◌&&◌, nat_le, if◌then◌else◌, IsTrue, true, false, ◌↔◌, Some, slice_get, length, OnOk, OnErr, IfErr};
-ghost use Rattle.cics_enqueue.specs.Lists.{table_of, list_length, AreListed, AreListedBut};
-ghost use Rattle.cics_enqueue.specs.declared.resources.Resource.{Resource};
-ghost use Rattle.cics_enqueue.specs.declared.enqueues.Holding.{Holding};
-ghost use Rattle.cics_enqueue.specs.Resources.{holder_of, count_of, IsFreeFor, is_full, most_count, taken, given_back, released, freed};
+ghost use Rattle.cics_enqueue.specs.declared.resources.Resource.TheVariants.{FileKey, FilePrefix};
+ghost use Rattle.std.specs.Prelude.{◌≡◌, ◌≤◌, IfNone, IfSome, length, [], ◌+◌, ◌&&◌, nat_le};
+ghost use Rattle.std.specs.Prelude.{if◌then◌else◌, IsTrue, true, false, ◌↔◌, OnOk, OnErr, IfErr};
+ghost use Rattle.cics_enqueue.specs.Kept.{count_after, is_held_full};
+ghost use Rattle.cics_enqueue.specs.Resources.{bytes_of, holder_of, holder_over, held_with_prefix};
+ghost use Rattle.cics_enqueue.specs.Resources.{count_of, IsFreeFor, IsFreeBut, HoldsLeast, is_full};
+ghost use Rattle.cics_enqueue.specs.Resources.{most_count, taken, given_back, released};
 
-use crate::lists;
+use crate::compact::{KEY, MOST, PREFIX, compact, file_bytes};
+use crate::overlaps::{least_holder, other_holder, shorter_holder};
+use crate::owned;
 use crate::resources::{Resource, UnitId};
-use cics_names::NoMemory;
+use cics_names::{Name8, NoMemory};
 use indexmap::IndexMap;
-use std::alloc::{AllocFailed, Global};
+use std::alloc::{AllocError, Global};
+use std::cell::Cell;
+use std::collections::{BTreeMap, BTreeSet};
 use std::marker::Model;
 
 /// Why a resource wasn't taken.
@@ -33,30 +39,33 @@ impl From<NoMemory> for TakeFault {
     }
 }
 
-impl<T: Drop> From<AllocFailed<T>> for TakeFault {
+impl From<AllocError> for TakeFault {
     ghost use Rattle.std.specs.Prelude.{◌≡◌};
     ghost use Rattle.cics_enqueue.specs.declared.enqueues.TakeFault.TheVariants.{NoMemory};
 
     ghost from_gives = { λ _ fault. fault ≡ NoMemory };
 
-    fn from(_error: AllocFailed<T>) -> TakeFault {
+    fn from(_error: AllocError) -> TakeFault {
         TakeFault::NoMemory
     }
 }
 
-// The unit that holds a resource, how many times, and where the unit's list has the entry's index.
+// The unit that holds a resource, and how many times.
 #[derive(Clone, Copy)]
 pub(crate) struct Holding {
     pub(crate) unit: UnitId,
     pub(crate) count: u16,
-    pub(crate) place: usize,
 }
 
 /// Which unit holds which resource.
+///
+/// Contracts see it as the list of what is held, in the order of the resources, each with its unit and how many times.
 #[derive(Drop)]
 pub struct Enqueues {
-    table: IndexMap<Resource, Holding>,
-    lists: IndexMap<UnitId, Vec<usize>>,
+    table: BTreeMap<Vec<u8>, Holding>,
+    owned: IndexMap<UnitId, BTreeSet<Vec<u8>>>,
+    // The bytes at which a look-up by prefix begins. A take makes room for any, so that no look-up needs memory.
+    bound: Cell<Vec<u8>>,
     alloc: Global,
 }
 
@@ -65,20 +74,19 @@ impl Model for Enqueues {
 
     ghost Value = { Table };
 
-    ghost use Rattle.cics_enqueue.specs.Lists.{table_of, AreListed};
+    ghost use Rattle.cics_enqueue.specs.Kept.{table_of, IsKept};
 
     ghost view = { λ t. table_of t.table.entries };
 
-    ghost invariant = { λ t. AreListed t.table.entries t.lists.entries };
+    ghost invariant = { λ t. IsKept t.table.entries t.owned.entries };
 }
 
 // Counts one take more of what is held, where it is a user's value.
 fn raise(holding: &mut Holding, user: bool) -> Result<(), TakeFault>
     ensures unit { holding.new.unit ≡ holding.old.unit }
-    ensures place { holding.new.place ≡ holding.old.place }
-    ensures count { OnOk result (holding.new.count ≡ (if user then holding.old.count + 1 else holding.old.count)) }
-    ensures room { OnOk result ((user && nat_le most_count holding.old.count) ≡ false) }
-    ensures full { IfErr result (λ fault. (fault ≡ TakeFault.Full) × ((user && nat_le most_count holding.old.count) ≡ true)) }
+    ensures count { OnOk result (holding.new.count ≡ count_after user holding.old) }
+    ensures room { OnOk result (is_held_full user holding.old ≡ false) }
+    ensures full { IfErr result (λ fault. (fault ≡ TakeFault.Full) × (is_held_full user holding.old ≡ true)) }
     ensures err { OnErr result (holding.new ≡ holding.old) }
 {
     if user {
@@ -90,32 +98,15 @@ fn raise(holding: &mut Holding, user: bool) -> Result<(), TakeFault>
     Ok(())
 }
 
-// Takes the entry at an index out of the table. The last entry moves to its index, and its unit's list is told so.
-fn remove_entry(
-    table: &mut IndexMap<Resource, Holding>,
-    lists: &mut IndexMap<UnitId, Vec<usize>>,
-    index: usize,
-)
-    requires in_range { index < length table.old.entries }
-    requires listed { AreListedBut index table.old.entries lists.old.entries }
-    ensures listed { AreListed table.new.entries lists.new.entries }
-    ensures lengths { (u : ℕ) → list_length lists.new.entries u ≡ list_length lists.old.entries u }
-    ensures freed { (e : Resource × Holding) → slice_get table.old.entries index ≡ Some e → table_of table.new.entries ≡ freed (table_of table.old.entries) e.0 }
-{
-    let _ = table.swap_remove_index(index);
-    if let Some((_, moved)) = table.get_index(index) {
-        lists::put(lists, moved.unit, moved.place, index);
-    }
-}
-
 impl Enqueues {
-    /// An empty table: no unit holds anything.
+    /// An empty table: no unit holds anything. What it grows by comes from `alloc`.
     pub fn new(alloc: Global) -> Enqueues
         ensures { result ≡ [] }
     {
         Enqueues {
-            table: IndexMap::new(alloc),
-            lists: IndexMap::new(alloc),
+            table: BTreeMap::new(alloc),
+            owned: IndexMap::new(alloc),
+            bound: Cell::new(Vec::new(alloc)),
             alloc,
         }
     }
@@ -124,7 +115,7 @@ impl Enqueues {
     pub fn holder(&self, resource: &Resource) -> Option<UnitId>
         ensures { result ≡ holder_of resource.now self.now }
     {
-        let holding = self.table.get(resource)?;
+        let holding = self.table.get(compact(resource).as_slice())?;
         Some(holding.unit)
     }
 
@@ -132,15 +123,78 @@ impl Enqueues {
     pub fn count(&self, resource: &Resource) -> u16
         ensures { result ≡ count_of resource.now self.now }
     {
-        match self.table.get(resource) {
+        match self.table.get(compact(resource).as_slice()) {
             Some(holding) => holding.count,
             None => 0,
         }
     }
 
-    /// Takes a resource for a unit that may take it. A user's value is taken once more where the unit holds it already;
-    /// any other resource stays at count 1. Full where the unit holds the value 65,535 times, and NoMemory where there
-    /// is no room for one more resource: then nothing has changed.
+    /// The unit, another than `but_not`, that holds the least of what overlaps a resource, or None where no other unit holds
+    /// any of it: then `but_not` may take the resource.
+    ///
+    /// A key of a file is overlapped by itself and by each prefix of it that is held, a prefix by what begins with it, too.
+    /// The least is that in byte order, a held prefix by its own bytes. While any prefix is held it costs a look-up for each
+    /// byte of the key or prefix, and for a prefix what `held_with_prefix` costs.
+    pub fn holder_over(&self, resource: &Resource, but_not: Option<UnitId>) -> Option<UnitId>
+        ensures value { result ≡ holder_over resource.now but_not self.now }
+        ensures free { IfNone result (IsFreeBut self.now resource.now but_not) }
+        ensures least { IfSome result (HoldsLeast self.now resource.now but_not) }
+    {
+        match resource {
+            Resource::FilePrefix(file, prefix) => {
+                self.held_with_prefix(*file, prefix.as_slice(), but_not)
+            }
+            Resource::FileKey(file, key) => self.holder_of_key(*file, key.as_slice(), &but_not),
+            _ => other_holder(&self.table, compact(resource).as_slice(), &but_not),
+        }
+    }
+
+    /// The unit, another than `but_not`, that holds the least key of a file or prefix of keys that overlaps a prefix of at most
+    /// 255 bytes, or None where no other unit holds one: one that begins with the prefix, or with which the prefix begins.
+    ///
+    /// The least is that in byte order, a held prefix by its own bytes. It costs the logarithm of what is held, for each byte of
+    /// the prefix where any prefix is held, and what `but_not` itself holds under the prefix. It takes no memory.
+    pub fn held_with_prefix(
+        &self,
+        file: Name8,
+        prefix: &[u8],
+        but_not: Option<UnitId>,
+    ) -> Option<UnitId>
+        requires most { length prefix.now ≤ 255 }
+        ensures value { result ≡ held_with_prefix file prefix.now but_not self.now }
+        ensures free { IfNone result (IsFreeBut self.now (FilePrefix file (bytes_of prefix.now)) but_not) }
+        ensures least { IfSome result (HoldsLeast self.now (FilePrefix file (bytes_of prefix.now)) but_not) }
+    {
+        let shorter = shorter_holder(&self.table, file, prefix, &but_not);
+        if shorter.is_some() {
+            return shorter;
+        }
+        let mut bound = self.bound.replace(Vec::new(self.alloc));
+        let least = least_holder(&self.table, &mut bound, file, prefix, &but_not);
+        self.bound.set(bound);
+        least
+    }
+
+    // The unit, another than the asker, that holds the least of what overlaps a key: a shorter prefix, the key, or the prefix
+    // that has its bytes.
+    fn holder_of_key(&self, file: Name8, key: &[u8], asker: &Option<UnitId>) -> Option<UnitId>
+        requires most { length key.now ≤ 255 }
+        ensures { result ≡ holder_over (FileKey file (bytes_of key.now)) asker.now self.now }
+    {
+        let shorter = shorter_holder(&self.table, file, key, asker);
+        if shorter.is_some() {
+            return shorter;
+        }
+        let holder = other_holder(&self.table, file_bytes(KEY, file, key).as_slice(), asker);
+        if holder.is_some() {
+            return holder;
+        }
+        other_holder(&self.table, file_bytes(PREFIX, file, key).as_slice(), asker)
+    }
+
+    /// Takes a resource for a unit that may take it: no other unit holds anything that overlaps it. A user's value is taken
+    /// once more where the unit holds it already; any other resource stays at count 1. Full where the unit holds the value
+    /// 65,535 times, and NoMemory where memory is refused: then nothing has changed.
     pub fn take(&mut self, resource: Resource, unit: UnitId) -> Result<(), TakeFault>
         requires free { IsFreeFor self.old resource unit }
         ensures taken { OnOk result (self.new ≡ taken self.old resource unit) }
@@ -149,16 +203,22 @@ impl Enqueues {
         ensures err { OnErr result (self.new ≡ self.old) }
     {
         let user = resource.is_user();
-        if let Some(holding) = self.table.get_mut(&resource) {
+        let bytes = compact(&resource);
+        let key = bytes.as_slice();
+        if let Some(holding) = self.table.get_mut(key) {
             return raise(holding, user);
         }
-        let place = lists::add(&mut self.lists, self.alloc, unit, self.table.len())?;
-        let holding = Holding {
-            unit,
-            count: 1,
-            place,
-        };
-        self.table.insert(resource, holding)?;
+        let bound = self.bound.get_mut();
+        bound.clear();
+        bound.reserve(MOST)?;
+        let kept = Vec::from_slice(self.alloc, key)?;
+        let own = Vec::from_slice(self.alloc, key)?;
+        owned::add(&mut self.owned, self.alloc, unit, own)?;
+        let holding = Holding { unit, count: 1 };
+        if self.table.insert(kept, holding).is_err() {
+            owned::remove(&mut self.owned, unit, key);
+            return Err(TakeFault::NoMemory);
+        }
         Ok(())
     }
 
@@ -166,33 +226,32 @@ impl Enqueues {
     pub fn give_back(&mut self, resource: &Resource, unit: UnitId)
         ensures { self.new ≡ given_back self.old resource.now unit }
     {
-        let Some((index, _, holding)) = self.table.get_full(resource) else {
+        let bytes = compact(resource);
+        let key = bytes.as_slice();
+        let Some(holding) = self.table.get(key) else {
             return;
         };
         if holding.unit != unit {
             return;
         }
         if holding.count > 1 {
-            let Some(holding) = self.table.get_mut(resource) else {
-                return;
+            let Some(holding) = self.table.get_mut(key) else {
+                unreachable!()
             };
             holding.count -= 1;
             return;
         }
-        remove_entry(&mut self.table, &mut self.lists, index);
+        self.table.remove(key);
+        owned::remove(&mut self.owned, unit, key);
     }
 
     /// Frees all that a unit holds, at a cost that goes by how much that is. Takes no memory.
     pub fn release_all(&mut self, unit: UnitId)
         ensures { self.new ≡ released self.old unit }
     {
-        while let Some(index) = lists::pop(&mut self.lists, unit) {
-            if let Some((_, holding)) = self.table.get_index(index) {
-                if holding.unit == unit {
-                    remove_entry(&mut self.table, &mut self.lists, index);
-                }
-            }
+        while let Some(key) = owned::pop(&mut self.owned, unit) {
+            self.table.remove(key.as_slice());
         }
-        self.lists.swap_remove(&unit);
+        self.owned.swap_remove(&unit);
     }
 }

@@ -1,13 +1,18 @@
 //! Enqueues: which unit of work holds which resource, and how many times.
 //!
-//! A resource has one holder at most. What a unit holds can be freed without a look at what the others hold.
+//! A resource has one holder at most, and so have those that overlap: a key of a file and a prefix of it. What a unit
+//! holds can be freed without a look at what the others hold.
 #![tactic(auto)]
 
+mod compact;
 mod enqueues;
-mod lists;
+mod laws;
+mod overlaps;
+mod owned;
 mod resources;
 #[cfg(test)]
 mod tests;
 
 pub use enqueues::{Enqueues, TakeFault};
+pub use laws::tables_stay_lawful;
 pub use resources::{Resource, UnitId};

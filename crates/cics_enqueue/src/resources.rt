@@ -2,7 +2,8 @@
 
 ghost use Rattle.std.specs.Prelude.{◌≡◌, ◌≤◌, length};
 ghost use Rattle.cics_enqueue.specs.Resources.{is_user, bytes_of};
-ghost use Rattle.cics_enqueue.specs.declared.resources.Resource.TheVariants.{FileKey, User};
+ghost use Rattle.cics_enqueue.specs.declared.resources.Resource.TheVariants.{FileKey, FilePrefix};
+ghost use Rattle.cics_enqueue.specs.declared.resources.Resource.TheVariants.{User};
 
 use arrayvec::ArrayVec;
 use cics_names::{Name4, Name8};
@@ -25,7 +26,7 @@ impl Model for UnitId {
 }
 
 impl UnitId {
-    /// The unit of this number: units are numbered from 0 as they begin.
+    /// The unit of this number: 0 for the first that begins.
     pub fn new(number: u64) -> UnitId
         ensures { result ≡ number }
     {
@@ -43,11 +44,18 @@ impl UnitId {
 /// What a unit can hold.
 #[derive(PartialEq, Eq, Hash, Drop)]
 pub enum Resource {
+    /// The record of a file under a key, whether it is there or not.
     FileKey(Name8, ArrayVec<u8, 255>),
+    /// A temporary storage queue.
     TsQueue(Name8),
+    /// The end of a transient data queue at which records are read.
     TdRead(Name4),
+    /// The end of a transient data queue at which records are written.
     TdWrite(Name4),
+    /// A value of a program's own.
     User(ArrayVec<u8, 255>),
+    /// The records of a file under every key that begins with these bytes, whether they are there or not.
+    FilePrefix(Name8, ArrayVec<u8, 255>),
 }
 
 // Bytes as a resource keeps them.
@@ -69,6 +77,14 @@ impl Resource {
         ensures { result ≡ FileKey file (bytes_of key.now) }
     {
         Resource::FileKey(file, kept(key))
+    }
+
+    /// The records of a file under every key that begins with these at most 255 bytes, whether they are there or not.
+    pub fn prefix(file: Name8, bytes: &[u8]) -> Resource
+        requires most { length bytes.now ≤ 255 }
+        ensures { result ≡ FilePrefix file (bytes_of bytes.now) }
+    {
+        Resource::FilePrefix(file, kept(bytes))
     }
 
     /// A user's value of at most 255 bytes.

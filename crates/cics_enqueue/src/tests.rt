@@ -1,4 +1,4 @@
-//! Takes, gifts back and releases of several units side by side.
+//! Several units side by side: what they take, give back and release.
 
 use crate::{Enqueues, Resource, TakeFault, UnitId};
 use arrayvec::ArrayVec;
@@ -17,19 +17,14 @@ fn key(file: Name8, byte: u8) -> Resource {
     Resource::FileKey(file, bytes)
 }
 
-// Takes a resource, if no other unit holds it.
+// Takes a resource, if no other unit holds what overlaps it.
 fn take(
     enqueues: &mut Enqueues,
     resource: Resource,
     unit: UnitId,
 ) -> Option<Result<(), TakeFault>> {
-    match enqueues.holder(&resource) {
-        Some(holder) => {
-            if holder != unit {
-                return None;
-            }
-        }
-        None => {}
+    if enqueues.holder_over(&resource, Some(unit)).is_some() {
+        return None;
     }
     Some(enqueues.take(resource, unit))
 }
@@ -81,5 +76,107 @@ fn a_unit_frees_what_it_holds_and_no_more(rt: HostRuntime) -> Result<(), Fail> {
     assert!(rt; enqueues.holder(&Resource::TdRead(queue)).is_none());
     assert!(rt; enqueues.holder(&Resource::TdWrite(queue)) == Some(second));
     assert!(rt; enqueues.holder(&Resource::TsQueue(file)).is_none());
+    Ok(())
+}
+
+// A number of two bytes, in a scattered order.
+fn scattered(index: u32) -> u32 {
+    index % 1_000 * 7_919 % 65_536
+}
+
+// The unit of the least key that begins with a byte, other than the asker's, as a plain list of 1,000 has it.
+fn least_of(first: u32, asker: u32) -> Option<UnitId> {
+    let mut least = 65_536;
+    let mut holder = None;
+    for index in 0..1_000_u32 {
+        let key = scattered(index);
+        if key / 256 == first && index % 7 != asker && key < least {
+            least = key;
+            holder = Some(UnitId::new((index % 7) as u64));
+        }
+    }
+    holder
+}
+
+#[test]
+fn the_least_of_1000_keys_is_that_of_a_plain_list(rt: HostRuntime) -> Result<(), Fail> {
+    let file = Name8::new(b"ACCT")?;
+    let mut enqueues = Enqueues::new(rt.alloc());
+    for index in 0..1_000_u32 {
+        let unit = UnitId::new((index % 7) as u64);
+        let key = scattered(index);
+        let bytes = [(key / 256 % 256) as u8, (key % 256) as u8];
+        assert!(rt; take(&mut enqueues, Resource::record(file, &bytes), unit) == Some(Ok(())));
+    }
+    for first in 0..=255_u8 {
+        for asker in 0..8_u32 {
+            let found = enqueues.held_with_prefix(file, &[first], Some(UnitId::new(asker as u64)));
+            assert!(rt; found == least_of(first as u32, asker));
+        }
+    }
+    Ok(())
+}
+
+#[test]
+fn a_unit_holds_prefixes_within_prefixes(rt: HostRuntime) -> Result<(), Fail> {
+    let (file, other) = (Name8::new(b"ACCT")?, Name8::new(b"ORDERS")?);
+    let (first, second) = (UnitId::new(0), UnitId::new(1));
+    let mut enqueues = Enqueues::new(rt.alloc());
+    assert!(rt; take(&mut enqueues, Resource::prefix(file, &[7, 8]), first) == Some(Ok(())));
+    assert!(rt; take(&mut enqueues, Resource::prefix(file, &[7]), first) == Some(Ok(())));
+    assert!(rt; take(&mut enqueues, Resource::record(file, &[7, 8, 9]), first) == Some(Ok(())));
+    assert!(rt; take(&mut enqueues, Resource::record(file, &[7, 1]), second).is_none());
+    assert!(rt; take(&mut enqueues, Resource::prefix(file, &[]), second).is_none());
+    assert!(rt; take(&mut enqueues, Resource::record(other, &[7, 1]), second) == Some(Ok(())));
+    enqueues.give_back(&Resource::prefix(file, &[7]), first);
+    assert!(rt; take(&mut enqueues, Resource::record(file, &[7, 1]), second) == Some(Ok(())));
+    assert!(rt; take(&mut enqueues, Resource::record(file, &[7, 8]), second).is_none());
+    assert!(rt; enqueues.held_with_prefix(file, &[7], Some(second)) == Some(first));
+    assert!(rt; enqueues.held_with_prefix(file, &[7], Some(first)) == Some(second));
+    Ok(())
+}
+
+#[test]
+fn a_lesser_prefix_comes_before_a_key(rt: HostRuntime) -> Result<(), Fail> {
+    let file = Name8::new(b"ACCT")?;
+    let (first, second) = (UnitId::new(0), UnitId::new(1));
+    let mut enqueues = Enqueues::new(rt.alloc());
+    assert!(rt; enqueues.held_with_prefix(file, &[7], None).is_none());
+    assert!(rt; take(&mut enqueues, Resource::record(file, &[7, 9]), first) == Some(Ok(())));
+    assert!(rt; take(&mut enqueues, Resource::prefix(file, &[7, 7]), second) == Some(Ok(())));
+    assert!(rt; enqueues.held_with_prefix(file, &[7], None) == Some(second));
+    assert!(rt; enqueues.holder_over(&Resource::prefix(file, &[]), None) == Some(second));
+    assert!(rt; enqueues.holder_over(&Resource::prefix(file, &[7]), Some(second)) == Some(first));
+    assert!(rt; enqueues.holder_over(&Resource::record(file, &[7, 7, 1]), None) == Some(second));
+    assert!(rt;
+        enqueues
+            .holder_over(&Resource::record(file, &[7, 8]), None)
+            .is_none()
+    );
+    assert!(rt;
+        enqueues
+            .holder_over(&Resource::record(file, &[7, 9]), Some(first))
+            .is_none()
+    );
+    Ok(())
+}
+
+#[test]
+fn a_unit_gives_up_its_half(rt: HostRuntime) -> Result<(), Fail> {
+    let file = Name8::new(b"ACCT")?;
+    let (first, second) = (UnitId::new(0), UnitId::new(1));
+    let mut enqueues = Enqueues::new(rt.alloc());
+    for byte in 0..=255_u8 {
+        let unit = if byte % 2 == 0 { first } else { second };
+        assert!(rt; take(&mut enqueues, key(file, byte), unit) == Some(Ok(())));
+    }
+    enqueues.release_all(first);
+    for byte in 0..=255_u8 {
+        let holder = enqueues.holder(&key(file, byte));
+        assert!(rt; holder == if byte % 2 == 0 { None } else { Some(second) });
+    }
+    assert!(rt; enqueues.held_with_prefix(file, &[], None) == Some(second));
+    enqueues.release_all(second);
+    assert!(rt; enqueues.held_with_prefix(file, &[], None).is_none());
     Ok(())
 }

@@ -1,35 +1,35 @@
-use Rattle.std.proofs.Common.{◌≡◌, ◌∙◌, sym, ap, Some}
-use Rattle.std.specs.Option.{option_map}
+use Rattle.std.proofs.Common.{◌≡◌, ◌∙◌, sym, ap, subst, false, Some}
 use Rattle.std.specs.Map.{lookup}
-use Rattle.std.specs.Map.Iter.{deref_pair}
-use Rattle.std.proofs.lemmas.Bool.{eqb-true}
-use Rattle.cics_enqueue.specs.Lists.{table_of}
-use Rattle.cics_enqueue.specs.Resources.{released}
-use Rattle.cics_enqueue.proofs.Entries.{foreign, AreListed-ended, AreListed-alike}
-use Rattle.cics_enqueue.proofs.Tables.{equals, held_here, table_of-in_order, released-freed, released-nothing}
+use Rattle.cics_enqueue.specs.Kept.{table_of, seen, finds, Sets}
+use Rattle.cics_enqueue.specs.Resources.{released, resource_key}
+use Rattle.cics_enqueue.specs.ResourceLaws.{resource_of}
+use Rattle.cics_enqueue.proofs.Tables.{held_by_owner, key_sound, held_here, table_of-removed, released-freed, released-nothing, IsKept-removed, IsKept-ended}
 use Rattle.cics_enqueue.proofs.enqueues.Enqueues.release_all.Goals as goal
 
-pub loop-index-preserved-then-eq : goal.loop-index-preserved-then-eq
-loop-index-preserved-then-eq c =
-    let es = c.loop-index.self-inside.table.entries in
-    let k = c.in-Some-get_index.field-0-0.now in
-    let v = c.in-Some-get_index.holding.now in
-    let mine : v.unit ≡ c.args.unit = eqb-true v.unit c.args.unit (sym c.eq.ensures ∙ c.if-eq.true) in
-    let found : lookup (equals k) es ≡ Some v = c.in-Some-get_index.ensures.value in
+pub loop-key-preserved : goal.loop-key-preserved
+loop-key-preserved c =
+    let es = c.loop-key.self-inside.table.entries in
+    let own = c.loop-key.self-inside.owned.entries in
+    let kept = c.loop-key.invariant.kept in
+    let k = c.in-Some.key in
+    let r = resource_of k.items in
+    let held = held_by_owner es own c.args.unit k kept.owned c.in-Some.ensures.had in
+    let key = c.as_slice.result.now in
+    let is : key ≡ resource_key r = c.as_slice.ensures.value ∙ key_sound es k.items held.0 kept.keys held.1 in
+    let found : lookup (finds key) es ≡ Some held.0 = ap (λ b. lookup (finds b) es) c.as_slice.ensures.value ∙ held.1 in
     record {
-      listed = c.remove_entry.ensures.listed;
-      rest = ap (λ t. released t c.args.unit) (c.remove_entry.ensures.freed (k, v) (sym c.get_index.ensures.entry ∙ ap (option_map deref_pair) c.in-Some-get_index.is))
-          ∙ released-freed (table_of es) k c.args.unit (table_of-in_order es) (λ h at. let some : Some h ≡ Some (record { unit = v.unit; count = v.count }) = sym at ∙ held_here es k v found in let same : h ≡ record { unit = v.unit; count = v.count } = cc in ap (λ x. x.unit) same ∙ mine)
-          ∙ c.loop-index.invariant.rest;
+      kept = IsKept-removed r key is es kept.keys own kept held.0 c.args.unit c.remove.new.self.entries c.pop.new.owned.entries c.remove.ensures.entries found held.2 c.remove.ensures.updates.0
+          (subst (λ b. Sets false c.args.unit b own c.pop.new.owned.entries) (sym c.as_slice.ensures.value) c.in-Some.ensures.taken);
+      rest = ap (λ t. released t c.args.unit) (ap table_of c.remove.ensures.entries ∙ table_of-removed r key is es kept.keys kept.in_order)
+          ∙ released-freed (table_of es) r c.args.unit kept.in_order (λ h at. let some : Some h ≡ Some (seen held.0) = sym at ∙ held_here r key is es kept.keys held.0 found in let same : h ≡ seen held.0 = cc in ap (λ x. x.unit) same ∙ held.2)
+          ∙ c.loop-key.invariant.rest;
     }
 
 pub invariant_of-self : goal.invariant_of-self
 invariant_of-self c =
-    let es = c.loop-index.self-inside.table.entries in
-    AreListed-ended es c.pop.new.lists.entries c.swap_remove.new.self.entries c.args.unit (λ p. c.in_default.ensures.stays c.args.unit p ∙ c.in_default.ensures.none p) c.swap_remove.ensures.updates.0
-    (AreListed-alike es c.loop-index.self-inside.lists.entries c.pop.new.lists.entries c.in_default.ensures.stays c.loop-index.invariant.listed)
+    IsKept-ended c.loop-key.self-inside.table.entries c.loop-key.self-inside.owned.entries c.pop.new.owned.entries c.swap_remove.new.self.entries c.args.unit c.in_default.ensures.none c.in_default.ensures.stays c.swap_remove.ensures.updates.0
+    c.loop-key.invariant.kept
 
 pub returns : goal.returns
 returns c =
-    let es = c.loop-index.self-inside.table.entries in
-    sym (released-nothing c.args.unit es (foreign es c.loop-index.self-inside.lists.entries c.args.unit c.in_default.ensures.none c.loop-index.invariant.listed)) ∙ c.loop-index.invariant.rest
+    sym (released-nothing c.loop-key.self-inside.table.entries c.loop-key.self-inside.owned.entries c.args.unit c.loop-key.invariant.kept c.in_default.ensures.none) ∙ c.loop-key.invariant.rest

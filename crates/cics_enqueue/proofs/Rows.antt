@@ -1,0 +1,86 @@
+-- Worked rows: who stands in the way of a unit.
+use Rattle.std.specs.Prelude.{◌≡◌, Some, None, true, false, [], ◌∷◌, refl}
+use Rattle.cics_names.specs.Keyed.{Bytes}
+use Rattle.cics_enqueue.specs.declared.resources.Resource.{Resource}
+use Rattle.cics_enqueue.specs.declared.resources.Resource.TheVariants.{FileKey, FilePrefix}
+use Rattle.cics_enqueue.specs.Resources.{Table, bytes_of, overlaps, held_with_prefix, holder_over, taken, released}
+
+-- two files, and keys and prefixes of theirs
+abbrev accounts : Bytes
+accounts = 65 ∷ 66 ∷ []
+
+abbrev orders : Bytes
+orders = 65 ∷ 67 ∷ []
+
+abbrev key : Bytes → Bytes → Resource
+key f k = FileKey f (bytes_of k)
+
+abbrev prefix : Bytes → Bytes → Resource
+prefix f p = FilePrefix f (bytes_of p)
+
+-- what overlaps: a key and a prefix of it, in one file
+covers : overlaps (key accounts (7 ∷ 8 ∷ [])) (prefix accounts (7 ∷ [])) ≡ true
+covers = refl
+
+longer : overlaps (key accounts (7 ∷ [])) (prefix accounts (7 ∷ 8 ∷ [])) ≡ false
+longer = refl
+
+elsewhere : overlaps (key accounts (7 ∷ 8 ∷ [])) (prefix orders (7 ∷ [])) ≡ false
+elsewhere = refl
+
+nested : overlaps (prefix accounts (7 ∷ 8 ∷ [])) (prefix accounts []) ≡ true
+nested = refl
+
+-- unit 1 holds the keys 7 9 and 8, unit 2 the key 7 5, unit 3 a key of the other file and the prefix 7 7
+abbrev table : Table
+table =
+    taken (taken (taken (taken (taken [] (key accounts (7 ∷ 9 ∷ [])) 1) (key accounts (8 ∷ [])) 1) (key accounts (7 ∷ 5 ∷ [])) 2)
+    (key orders (7 ∷ 1 ∷ [])) 3) (prefix accounts (7 ∷ 7 ∷ [])) 3
+
+-- the least, whoever took first
+least : held_with_prefix accounts (7 ∷ []) None table ≡ Some 2
+least = refl
+
+-- the asker's own is passed over, and then a prefix comes before the key 7 9
+own_passed : held_with_prefix accounts (7 ∷ []) (Some 2) table ≡ Some 3
+own_passed = refl
+
+-- a held prefix stands at its own bytes, and keeps others from all that begins with it
+under_prefix : held_with_prefix accounts (7 ∷ 7 ∷ 1 ∷ []) (Some 1) table ≡ Some 3
+under_prefix = refl
+
+covered_key : holder_over (key accounts (7 ∷ 7 ∷ 1 ∷ [])) (Some 1) table ≡ Some 3
+covered_key = refl
+
+covered_by_own : holder_over (key accounts (7 ∷ 7 ∷ 1 ∷ [])) (Some 3) table ≡ None
+covered_by_own = refl
+
+-- a prefix with the bytes of a held key is overlapped by it, and a key with the bytes of a held prefix by that
+same_bytes : holder_over (prefix accounts (7 ∷ 9 ∷ [])) (Some 2) table ≡ Some 1
+same_bytes = refl
+
+same_bytes_turned : holder_over (key accounts (7 ∷ 7 ∷ [])) (Some 1) table ≡ Some 3
+same_bytes_turned = refl
+
+-- a unit that holds a prefix may take all that begins with it
+within_own : held_with_prefix accounts (7 ∷ 7 ∷ 1 ∷ []) (Some 3) table ≡ None
+within_own = refl
+
+-- its own shorter prefix is passed over, and what is found is another unit's key
+past_own : held_with_prefix accounts (8 ∷ []) (Some 2) (taken table (prefix accounts []) 2) ≡ Some 1
+past_own = refl
+
+-- a key that is merely near keeps nobody from anything
+near : held_with_prefix accounts (7 ∷ 4 ∷ []) None table ≡ None
+near = refl
+
+near_above : held_with_prefix accounts (9 ∷ []) None table ≡ None
+near_above = refl
+
+-- the empty prefix is the whole file
+whole_file : held_with_prefix accounts [] (Some 2) table ≡ Some 3
+whole_file = refl
+
+-- what is left once a unit has given up all it held
+left : held_with_prefix accounts (7 ∷ []) None (released (released table 2) 3) ≡ Some 1
+left = refl

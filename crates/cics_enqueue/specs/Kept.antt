@@ -1,0 +1,134 @@
+-- The table as it is kept: what each unit holds can be found without a look at what the others hold.
+use Rattle.std.specs.Prelude.{◌≡◌, ℕ, ◌==◌, ◌+◌, nat_le, Bool, false, ◌&&◌, ◌++◌, if◌then◌else◌, T, Option, Some, None, option_map, nat_eq, length, drop, List, [], ◌∷◌}
+use Rattle.std.specs.List.{list_any}
+use Rattle.std.specs.Global.{Vec}
+use Rattle.std.specs.Map.{lookup}
+use Rattle.std.specs.BTreeSet.{BTreeSet}
+use Rattle.cics_names.specs.Keyed.{Bytes, is_same, is_below}
+use Rattle.cics_enqueue.specs.declared.enqueues.Holding.{Holding}
+use Rattle.cics_enqueue.specs.Resources.{Table, Held, resource_key, is_in_order, begins_with, is_other, first_of, most_count}
+use Rattle.cics_enqueue.specs.ResourceLaws.{resource_of}
+
+-- the entries that are kept: a resource as bytes, and its holding
+abbrev pub Entries : Type 0
+Entries = List (Vec ℕ × Holding)
+
+-- the keys that each unit owns
+abbrev pub Owned : Type 0
+Owned = List (ℕ × BTreeSet (Vec ℕ))
+
+-- what others see of a holding
+abbrev pub seen : Holding → Held
+seen h = record { unit = h.unit; count = h.count }
+
+-- the entries with their resources read back from their bytes
+abbrev pub table_of : Entries → Table
+table_of [] = []
+table_of (e ∷ es) = (resource_of e.0.items, seen e.1) ∷ table_of es
+
+-- each entry's bytes are those of a resource
+abbrev pub AreKeys : Entries → Type 0
+AreKeys [] = Unit {0}
+AreKeys (e ∷ es) = (resource_key (resource_of e.0.items) ≡ e.0.items) × AreKeys es
+
+-- whether a key is one that bytes ask for
+abbrev pub finds : Bytes → Vec ℕ → Bool
+finds key k = is_same key k.items
+
+-- whether a set has a key
+abbrev pub has_in : Option (BTreeSet (Vec ℕ)) → Vec ℕ → Bool
+has_in None k = false
+has_in (Some set) k = list_any (finds k.items) set.keys
+
+-- whether a unit owns a key
+abbrev pub owns : Owned → ℕ → Vec ℕ → Bool
+owns owned u k = has_in (lookup (nat_eq u) owned) k
+
+-- how many keys a set has
+abbrev pub size_in : Option (BTreeSet (Vec ℕ)) → ℕ
+size_in None = 0
+size_in (Some set) = length set.keys
+
+-- how many keys a unit owns
+abbrev pub own_count : Owned → ℕ → ℕ
+own_count owned u = size_in (lookup (nat_eq u) owned)
+
+-- whether it is this unit and this key
+abbrev pub is_place : ℕ → Bytes → ℕ → Vec ℕ → Bool
+is_place unit key u k = nat_eq unit u && is_same key k.items
+
+-- each unit owns what it owned
+abbrev pub OwnsSame : Owned → Owned → Type 0
+OwnsSame old new = (u : ℕ) (k : Vec ℕ) → owns new u k ≡ owns old u k
+
+-- each unit owns what it owned, but that this unit owns this key or doesn't, as is said
+abbrev pub Sets : Bool → ℕ → Bytes → Owned → Owned → Type 0
+Sets has unit key old new = (u : ℕ) (k : Vec ℕ) → owns new u k ≡ (if is_place unit key u k then has else owns old u k)
+
+-- the count of a holding after one take more of it
+abbrev pub count_after : Bool → Holding → ℕ
+count_after user h = if user then h.count + 1 else h.count
+
+-- whether a user's value is held as often as it can be
+abbrev pub is_held_full : Bool → Holding → Bool
+is_held_full user h = user && nat_le most_count h.count
+
+-- whether it is this unit's holding
+abbrev pub is_units : ℕ → Option Holding → Bool
+is_units u None = false
+is_units u (Some h) = h.unit == u
+
+-- each unit owns the keys that it holds
+abbrev pub AreOwned : Entries → Owned → Type 0
+AreOwned es owned = (u : ℕ) (k : Vec ℕ) → owns owned u k ≡ is_units u (lookup (finds k.items) es)
+
+-- the entries and the keys of the units are one table
+pub record IsKept (es : Entries) (own : Owned) : Type 0 where
+  pub keys : AreKeys es
+  pub in_order : T (is_in_order (table_of es))
+  pub owned : AreOwned es own
+
+-- ---- Look-ups of what overlaps
+
+-- the first entry that passes a test
+abbrev pub first_entry : (Vec ℕ × Holding → Bool) → Entries → Option (Vec ℕ × Holding)
+first_entry test [] = None
+first_entry test (e ∷ es) = if test e then Some e else first_entry test es
+
+-- whether an entry begins with some bytes and is another unit's than the asker's
+abbrev pub is_others_under : Bytes → Option ℕ → Vec ℕ × Holding → Bool
+is_others_under start asker e = begins_with start e.0.items && is_other asker e.1.unit
+
+-- the bytes and the unit of an entry
+abbrev pub shown : Vec ℕ × Holding → Bytes × ℕ
+shown e = (e.0.items, e.1.unit)
+
+-- the bytes and the unit of the first entry that begins with some bytes and is another unit's than the asker's
+abbrev pub first_shown : Bytes → Option ℕ → Entries → Option (Bytes × ℕ)
+first_shown start asker es = option_map shown (first_entry (is_others_under start asker) es)
+
+-- the unit of a holding, where it is another than the asker
+abbrev pub others_unit : Option ℕ → Option Holding → Option ℕ
+others_unit asker None = None
+others_unit asker (Some h) = if is_other asker h.unit then Some h.unit else None
+
+-- the unit of the first entry, another unit's than the asker's, whose bytes are some or these with more of the rest
+abbrev pub first_cover : Option ℕ → Entries → Bytes → Bytes → Option ℕ
+first_cover asker es key [] = None
+first_cover asker es key (x ∷ rest) = first_of (others_unit asker (lookup (finds key) es)) (first_cover asker es (key ++ x ∷ []) rest)
+
+-- the lesser of two in byte order, without their kinds
+abbrev pub lesser_shown : Option (Bytes × ℕ) → Option (Bytes × ℕ) → Option (Bytes × ℕ)
+lesser_shown None y = y
+lesser_shown (Some x) None = Some x
+lesser_shown (Some x) (Some y) = if is_below (drop 1 y.0) (drop 1 x.0) then Some y else Some x
+
+-- the unit of the first entry, another unit's than the asker's, that is a prefix of a file shorter than some bytes and with
+-- which they begin
+abbrev pub first_shorter : Option ℕ → Entries → Bytes → Bytes → Option ℕ
+first_shorter asker es f b = first_cover asker es (0 ∷ length f ∷ (f ++ [])) b
+
+-- the unit, other than the asker, of the lesser of the first key and the first prefix of a file that begin with a prefix
+abbrev pub least_shown : Bytes → Bytes → Option ℕ → Entries → Option ℕ
+least_shown f p asker es =
+    option_map (λ q. q.1) (lesser_shown (first_shown (1 ∷ length f ∷ (f ++ p)) asker es) (first_shown (0 ∷ length f ∷ (f ++ p)) asker es))

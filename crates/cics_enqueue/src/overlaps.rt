@@ -1,0 +1,166 @@
+//! Look-ups of what overlaps a resource and is another unit's.
+
+ghost use Rattle.std.specs.Prelude.{◌≡◌, ◌≤◌, ◌∷◌, ◌++◌, [], length, drop, None, true};
+ghost use Rattle.std.specs.Prelude.{if◌then◌else◌, option_map};
+ghost use Rattle.std.specs.Bool.{OnFalse};
+ghost use Rattle.cics_names.specs.Keyed.{Bytes, is_below};
+ghost use Rattle.cics_enqueue.specs.Kept.{finds, first_shorter, first_shown, least_shown};
+ghost use Rattle.cics_enqueue.specs.Kept.{others_unit};
+ghost use Rattle.std.specs.Map.{lookup};
+ghost use Rattle.cics_enqueue.specs.Resources.{is_other, begins_with};
+
+use crate::compact::{KEY, PREFIX, file_bytes};
+use crate::enqueues::Holding;
+use crate::resources::UnitId;
+use cics_names::Name8;
+use std::collections::BTreeMap;
+
+// Whether a unit is another than the asker.
+fn is_another(asker: &Option<UnitId>, unit: UnitId) -> bool
+    ensures { result ≡ is_other asker.now unit }
+{
+    match asker {
+        Some(asker) => unit != *asker,
+        None => true,
+    }
+}
+
+// The unit that holds what is kept under a key, if it is another than the asker.
+pub(crate) fn other_holder(
+    table: &BTreeMap<Vec<u8>, Holding>,
+    key: &[u8],
+    asker: &Option<UnitId>,
+) -> Option<UnitId>
+    ensures { result ≡ others_unit asker.now (lookup (finds key.now) table.now.entries) }
+{
+    match table.get(key) {
+        Some(holding) => {
+            if is_another(asker, holding.unit) {
+                Some(holding.unit)
+            } else {
+                None
+            }
+        }
+        None => None,
+    }
+}
+
+// Sets the bound at which a look-up of what begins with some bytes begins: to these. Were there no room for them, it would be
+// no bytes, and the look-up would go through the whole table.
+fn set_bound(bound: &mut Vec<u8>, start: &[u8])
+    ensures { begins_with bound.new.items start.now ≡ true }
+{
+    bound.clear();
+    let _ = bound.extend_from_slice(start);
+}
+
+// The bytes and the unit of the first entry that begins with some bytes and is another unit's than the asker's.
+pub(crate) fn first_under<'t>(
+    table: &'t BTreeMap<Vec<u8>, Holding>,
+    bound: &mut Vec<u8>,
+    start: &[u8],
+    asker: &Option<UnitId>,
+) -> Option<(&'t [u8], UnitId)>
+    ensures { option_map (λ p. (p.0.now, p.1)) result
+        ≡ first_shown start.now asker.now table.now.entries }
+{
+    if table.is_empty() {
+        return None;
+    }
+    set_bound(bound, start);
+    for (key, holding) in table.range(&*bound..) {
+        let key = key.as_slice();
+        let is_another = is_another(asker, holding.unit);
+        if key.starts_with(start) {
+            if is_another {
+                return Some((key, holding.unit));
+            }
+        } else if start < key {
+            return None;
+        }
+    }
+    None
+}
+
+// Whether a prefix of keys can be held: the bytes of one come before those of all else.
+fn has_prefixes(table: &BTreeMap<Vec<u8>, Holding>) -> bool
+    ensures { OnFalse result ((b : Bytes) → lookup (finds (0 ∷ b)) table.now.entries ≡ None) }
+{
+    match table.first_key_value() {
+        Some((key, _)) => match key.first() {
+            Some(kind) => *kind == PREFIX,
+            None => true,
+        },
+        None => false,
+    }
+}
+
+// The unit, another than the asker, that holds the shortest prefix of keys with which bytes begin, but these themselves.
+pub(crate) fn shorter_holder(
+    table: &BTreeMap<Vec<u8>, Holding>,
+    file: Name8,
+    bytes: &[u8],
+    asker: &Option<UnitId>,
+) -> Option<UnitId>
+    requires most { length bytes.now ≤ 255 }
+    ensures { result ≡ first_shorter asker.now table.now.entries file bytes.now }
+{
+    if !has_prefixes(table) {
+        return None;
+    }
+    let mut key = file_bytes(PREFIX, file, &[]);
+    for byte in bytes {
+        let holder = other_holder(table, key.as_slice(), asker);
+        if holder.is_some() {
+            return holder;
+        }
+        key.push(*byte);
+    }
+    None
+}
+
+// Bytes without the first.
+fn after_kind(bytes: &[u8]) -> &[u8]
+    ensures { result.now ≡ drop 1 bytes.now }
+{
+    match bytes {
+        [] => bytes,
+        [_, rest @ ..] => rest,
+    }
+}
+
+// The holder of a key, or that of a prefix of keys where its bytes come first, without their kinds.
+fn lesser_holder(key: &[u8], holder: UnitId, prefix: &[u8], other: UnitId) -> UnitId
+    ensures { result ≡ (if is_below (drop 1 prefix.now) (drop 1 key.now) then other else holder) }
+{
+    if after_kind(prefix) < after_kind(key) {
+        other
+    } else {
+        holder
+    }
+}
+
+// The unit, another than the asker, that holds the least key or prefix of keys that begins with a prefix.
+pub(crate) fn least_holder(
+    table: &BTreeMap<Vec<u8>, Holding>,
+    bound: &mut Vec<u8>,
+    file: Name8,
+    prefix: &[u8],
+    asker: &Option<UnitId>,
+) -> Option<UnitId>
+    requires most { length prefix.now ≤ 255 }
+    ensures { result ≡ least_shown file prefix.now asker.now table.now.entries }
+{
+    let keys = file_bytes(KEY, file, prefix);
+    let prefixes = file_bytes(PREFIX, file, prefix);
+    let Some(key) = first_under(table, bound, keys.as_slice(), asker) else {
+        return match first_under(table, bound, prefixes.as_slice(), asker) {
+            Some(prefix) => Some(prefix.1),
+            None => None,
+        };
+    };
+    let Some(prefix) = first_under(table, bound, prefixes.as_slice(), asker) else {
+        return Some(key.1);
+    };
+    Some(lesser_holder(key.0, key.1, prefix.0, prefix.1))
+}

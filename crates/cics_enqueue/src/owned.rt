@@ -1,0 +1,66 @@
+//! For each unit, the keys that it holds.
+
+ghost use Rattle.std.specs.Prelude.{◌≡◌, ◌<◌, ℕ, true, false, nat_eq, is_some, IfSome, IfNone};
+ghost use Rattle.std.specs.Prelude.{OnOk, OnErr};
+ghost use Rattle.std.specs.Map.{lookup};
+ghost use Rattle.std.specs.Global.{Vec};
+ghost use Rattle.cics_enqueue.specs.Kept.{owns, own_count, OwnsSame, Sets};
+
+use crate::resources::UnitId;
+use cics_names::NoMemory;
+use indexmap::IndexMap;
+use std::alloc::Global;
+use std::collections::BTreeSet;
+
+// Gives a unit a set, if it has none.
+fn begin(
+    owned: &mut IndexMap<UnitId, BTreeSet<Vec<u8>>>,
+    alloc: Global,
+    unit: UnitId,
+) -> Result<(), NoMemory>
+    ensures same { OwnsSame owned.old.entries owned.new.entries }
+    ensures there { OnOk result (is_some (lookup (nat_eq unit) owned.new.entries) ≡ true) }
+{
+    if !owned.contains_key(&unit) {
+        owned.insert(unit, BTreeSet::new(alloc))?;
+    }
+    Ok(())
+}
+
+// Adds a key to those of a unit.
+pub(crate) fn add(
+    owned: &mut IndexMap<UnitId, BTreeSet<Vec<u8>>>,
+    alloc: Global,
+    unit: UnitId,
+    key: Vec<u8>,
+) -> Result<(), NoMemory>
+    ensures added { OnOk result (Sets true unit key.items owned.old.entries owned.new.entries) }
+    ensures err { OnErr result (OwnsSame owned.old.entries owned.new.entries) }
+{
+    begin(owned, alloc, unit)?;
+    let Some(keys) = owned.get_mut(&unit) else {
+        unreachable!()
+    };
+    keys.insert(key)?;
+    Ok(())
+}
+
+// Takes a key from those of a unit.
+pub(crate) fn remove(owned: &mut IndexMap<UnitId, BTreeSet<Vec<u8>>>, unit: UnitId, key: &[u8])
+    ensures { Sets false unit key.now owned.old.entries owned.new.entries }
+{
+    if let Some(keys) = owned.get_mut(&unit) {
+        keys.remove(key);
+    }
+}
+
+// Takes one of a unit's keys, if it has any.
+pub(crate) fn pop(owned: &mut IndexMap<UnitId, BTreeSet<Vec<u8>>>, unit: UnitId) -> Option<Vec<u8>>
+    ensures fewer { IfSome result (λ key. own_count owned.new.entries unit < own_count owned.old.entries unit) }
+    ensures had { IfSome result (λ key. owns owned.old.entries unit key ≡ true) }
+    ensures taken { IfSome result (λ key. Sets false unit key.items owned.old.entries owned.new.entries) }
+    ensures none { IfNone result ((k : Vec ℕ) → owns owned.old.entries unit k ≡ false) }
+    ensures stays { IfNone result (OwnsSame owned.old.entries owned.new.entries) }
+{
+    owned.get_mut(&unit)?.pop_last()
+}
