@@ -9,7 +9,7 @@ use Rattle.cics_ksds.specs.Files.{FileValue}
 use Rattle.cics_ksds.specs.Undo.{ImageValue, KeepsKeys, IsFileImage}
 use Rattle.cics_units.specs.FilesImages.{cell_of, FilesKeep}
 use Rattle.cics_units.specs.FilesChanges.{IsFilesImage, others_kept, image_among}
-use Rattle.cics_units.proofs.Named.{value_at-looked_up, with_value-set, rising-set}
+use Rattle.cics_units.proofs.Entries.{value_at-looked_up, with_value-set, rising-set}
 
 module _ (name : Bytes) (es files : Map FileValue) (f : FileValue) (rising : T (is_rising es)) (found : Some f ≡ lookup (is_at (bytes_cmp name)) es) (view : es ≡ files) where
   pub there : value_at name files ≡ Some f
@@ -28,11 +28,11 @@ module _ (name : Bytes) (es files : Map FileValue) (f : FileValue) (rising : T (
     pub others : (key : Cell) → KeepsKeys (is_other key) f g → FilesKeep (is_other (cell_of name key)) files new
     others key kept = subst (FilesKeep (is_other (cell_of name key)) files) (sym changed) (others_kept name f g files there key kept)
 
-    pub image : (key : Cell) (i : ImageValue) → IsFileImage f g key i → IsFilesImage files new (cell_of name key) (record { file = name; image = i })
-    image key i is = subst (λ to. IsFilesImage files to (cell_of name key) (record { file = name; image = i })) (sym changed) (image_among name f g files there key i is)
+    pub image : (key : Cell) (i : ImageValue) → IsFileImage f g key i → IsFilesImage files new (cell_of name key) (record { name = name; image = i })
+    image key i is = subst (λ to. IsFilesImage files to (cell_of name key) (record { name = name; image = i })) (sym changed) (image_among name f g files there key i is)
 
     -- the image that a change gives, if it gives one
-    pub each_image : (key : Cell) (o : Option ImageValue) → IfSome o (IsFileImage f g key) → IfSome o (λ i. IsFilesImage files new (cell_of name key) (record { file = name; image = i }))
+    pub each_image : (key : Cell) (o : Option ImageValue) → IfSome o (IsFileImage f g key) → IfSome o (λ i. IsFilesImage files new (cell_of name key) (record { name = name; image = i }))
     each_image key None is = tt
     each_image key (Some i) is = image key i is
 

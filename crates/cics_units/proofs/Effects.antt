@@ -6,7 +6,7 @@ use Rattle.cics_names.specs.Keyed.{Bytes}
 use Rattle.cics_units.specs.Store.{is_normal}
 use Rattle.cics_units.specs.declared.ops.Answer.{Answer}
 use Rattle.cics_units.specs.declared.ops.Op.{Op}
-use Rattle.cics_units.specs.declared.ops.Op.TheVariants.{Write, Rewrite, Delete, ReadUpdate, TsWrite, TsRewrite, TsDelete, TdWrite, TdRead, TdDelete}
+use Rattle.cics_units.specs.declared.ops.Op.TheVariants.{Write, Rewrite, Delete, DeleteGeneric, ReadUpdate, TsWrite, TsRewrite, TsDelete, TdWrite, TdRead, TdDelete}
 use Rattle.cics_units.specs.Cells.{Content, effected, effect, Reading, Writing, uses}
 use Rattle.cics_units.proofs.Fronts.{IsFront-refl, IsFront-antisym, IsFront-push}
 use Rattle.cics_units.specs.Isolation.{Begins}
@@ -42,6 +42,9 @@ effect-refused (Rewrite f k r) (Some (x ∷ xs)) e = absurd (true≢false e)
 effect-refused (Delete f k) None e = refl
 effect-refused (Delete f k) (Some []) e = refl
 effect-refused (Delete f k) (Some (x ∷ xs)) e = absurd (true≢false e)
+effect-refused (DeleteGeneric f p) None e = refl
+effect-refused (DeleteGeneric f p) (Some []) e = refl
+effect-refused (DeleteGeneric f p) (Some (x ∷ xs)) e = absurd (true≢false e)
 effect-refused (ReadUpdate f k) None e = refl
 effect-refused (ReadUpdate f k) (Some []) e = refl
 effect-refused (ReadUpdate f k) (Some (x ∷ xs)) e = refl

@@ -5,10 +5,11 @@ use Rattle.std.specs.Ordering.{is_eq}
 use Rattle.std.proofs.lemmas.Bool.{cases_Bool, eq-eqb, and_from, and_right}
 use Rattle.cics_names.specs.Keyed.{Bytes, is_same}
 use Rattle.cics_names.specs.RisingLaws.{is_same-turned}
+use Rattle.cics_enqueue.specs.ResourceLaws.{free_own}
 use Rattle.cics_enqueue.specs.Resources.{Table, Held, resource_cmp, most_count, held_at, holder_of, count_in, count_of, is_full, IsFreeFor, taken, given_back}
 use Rattle.cics_enqueue.proofs.TableLaws.{unit_in}
 use Rattle.cics_enqueue.specs.declared.resources.Resource.{Resource}
-use Rattle.cics_enqueue.specs.declared.resources.Resource.TheVariants.{FileKey, TsQueue, TdRead as ReadingEnd, TdWrite as WritingEnd, User}
+use Rattle.cics_enqueue.specs.declared.resources.Resource.TheVariants.{FileKey, TsQueue, TdRead as ReadingEnd, TdWrite as WritingEnd, User, FilePrefix}
 use Rattle.cics_units.specs.Openings.{OpeningState}
 use Rattle.cics_units.specs.History.{is_open}
 use Rattle.cics_units.specs.Holding.{UnitsState, EnqCount, value_holder}
@@ -29,7 +30,7 @@ use Rattle.cics_units.proofs.Outcomes.{outcome_of-with}
 use Rattle.cics_units.proofs.States.{enqueue-IsSound, dequeue-IsSound}
 use Rattle.cics_units.proofs.TableInPlace.{table_holder, table_free}
 use Rattle.cics_units.proofs.TableValues.{table_enqueued_of, table_dequeued_of}
-use Rattle.cics_units.proofs.KeptUnits.{kept_roomier}
+use Rattle.cics_units.proofs.KeptUnits.{roomier_held, kept_roomier}
 
 -- ---- How often a unit has enqueued on a value
 
@@ -54,6 +55,7 @@ module _ (v : Bytes) (u : ℕ) where
   count_first (TsQueue q) h es own rest = rest refl
   count_first (ReadingEnd q) h es own rest = rest refl
   count_first (WritingEnd q) h es own rest = rest refl
+  count_first (FilePrefix f p) h es own rest = rest refl
 
   -- the count of a value that no other unit holds is the table's
   pub count_at-table : (t : Table) → ((g : Held) → held_at (value_of v) t ≡ Some g → g.unit ≡ u) →
@@ -69,7 +71,7 @@ module _ (s : UnitsState) (st : UndoableValue) (t : Table) (is : AreKept s st t)
   taker = unit_or_next u s.outcomes
 
   pub value_held : value_holder s u v ≡ other_holder u (holder_of (value_of v) t)
-  value_held = table_holder s t is.sound is.table u (value_of v)
+  value_held = table_holder s t is.sound is.table u (value_of v) refl
 
   -- another unit holds the value
   pub enqueue-waits : (h : ℕ) → other_holder u (holder_of (value_of v) t) ≡ Some h → enqueue s u v ≡ EnqMustWait h
@@ -77,13 +79,13 @@ module _ (s : UnitsState) (st : UndoableValue) (t : Table) (is : AreKept s st t)
 
   module _ (none : other_holder u (holder_of (value_of v) t) ≡ None) where
     pub value_free : IsFreeFor t (value_of v) taker
-    value_free = table_free s t is.sound is.table u (value_of v) none
+    value_free = table_free s t is.sound is.table u (value_of v) refl none
 
     enqueue-by : (b : Bool) → is_full (value_of v) t ≡ b → enqueue s u v ≡ (if b then CountFull else Taken taker)
     enqueue-by b full =
         ap (enq_of s u v) (value_held ∙ none)
         ∙ ap (λ n. if nat_le most_count n then CountFull else Taken taker)
-        (ap (λ cs. count_at cs taker v) is.table.counts ∙ count_at-table v taker t (λ g at. value_free g.unit (ap unit_in at)))
+        (ap (λ cs. count_at cs taker v) is.table.counts ∙ count_at-table v taker t (λ g at. free_own t (value_of v) taker value_free g.unit (ap unit_in at)))
         ∙ ap (λ f. if f then CountFull else Taken taker) full
 
     -- the unit takes the value, or holds it the most times
@@ -115,6 +117,7 @@ module _ (s : UnitsState) (st new : UndoableValue) (t : Table) (is : AreKept s s
         };
         definitions = roomier.definitions;
         table = table_enqueued_of s t u v (unit_or_next u s.outcomes) is.sound is.table acts takes;
+        held = roomier_held st new is.held room.files room.kept;
         begun = begun_by u begun;
       }
     where
@@ -133,6 +136,7 @@ module _ (s : UnitsState) (st : UndoableValue) (t : Table) (is : AreKept s st t)
     place = record { changes = is.place.changes; place = is.place.place; kept = is.place.kept; ready = is.place.ready; over = is.place.over };
     definitions = is.definitions;
     table = table_dequeued_of s t u v is.table;
+    held = is.held;
     begun = is.begun;
   }
 

@@ -14,7 +14,7 @@ use Rattle.cics_units.specs.Cells.{Td, Cell, content, cell_of, touches, Reading,
 use Rattle.cics_units.proofs.Effects.{is_empty}
 use Rattle.cics_units.proofs.Joining.{same_cell-true, same_cell-refl, answer-local, blind-answer, front-answer, touches-recovers}
 use Rattle.cics_units.proofs.Replays.{replay-there}
-use Rattle.cics_units.proofs.Isolated.{Extends-refl, same_content, alike_if_alone}
+use Rattle.cics_units.proofs.Isolated.{store_ordered, Extends-refl, same_content, alike_if_alone}
 use Rattle.cics_units.specs.Isolation.{Begins, Outcomes, left_by, store_by, Extends, IsIsolated, IsFree}
 
 -- the outcomes in which every other open unit is backed out
@@ -69,7 +69,7 @@ same_answer {o} {es} {out} i v op may r fin f stay =
     let whole : ((x : Cell) → touches op x ≡ true → IsFree es out v x Reading) →
     ((x : Cell) → touches op x ≡ true → IsFree es out v x Writing) →
     (apply (store_by o out es) op).answer ≡ (apply (store_by o fin es) op).answer =
-    λ b c. answer-local op _ _
+    λ b c. answer-local op _ _ (store_ordered i out es) (store_ordered i fin es)
     (λ x y. same_content i x (sym (touches-recovers o op x y) ∙ r) out fin self f
     (alike_if_alone es out v x Reading (b x y) out fin self f own)
     (alike_if_alone es out v x Writing (c x y) out fin self f own)) in

@@ -4,7 +4,7 @@ use Rattle.std.proofs.Common.{sym, ap, ◌∙◌, subst}
 use Rattle.std.proofs.lemmas.Bool.{true≢false, false≢true}
 use Rattle.cics_names.specs.Keyed.{Bytes, Map, value_at, has_key, with_value, without, is_rising}
 use Rattle.cics_names.specs.declared.conditions.Condition.TheVariants.{Normal, Duprec, Notfnd}
-use Rattle.cics_images.specs.Cells.{is_other}
+use Rattle.cics_images.specs.Cells.{is_other, is_unnamed}
 use Rattle.cics_ksds.specs.Files.{FileValue, key_of, written, rewritten, deleted, filled, emptied, dropped, write_condition, change_condition}
 use Rattle.cics_ksds.specs.Undo.{ImageValue, written_image, rewritten_image, deleted_image}
 use Rattle.cics_units.specs.Store.{apply, apply_write, apply_rewrite, apply_delete, apply_read, answered, only, with_file, with_content, found_condition}
@@ -13,12 +13,13 @@ use Rattle.cics_units.specs.Undo.{changes}
 use Rattle.cics_units.specs.declared.ops.Op.{Op}
 use Rattle.cics_units.specs.declared.ops.Op.TheVariants.{Write, Rewrite, Delete, ReadUpdate}
 use Rattle.cics_units.specs.RegionFiles.{IsThere}
-use Rattle.cics_units.specs.FilesImages.{cell_of, FilesKeep, KeepsIn, definitions_of}
-use Rattle.cics_units.specs.FilesChanges.{IsFilesImage}
+use Rattle.cics_units.specs.FilesImages.{cell_of, cell_of_image, files_hold, FilesKeep, KeepsIn, definitions_of}
+use Rattle.cics_units.proofs.HeldPlaces.{written_held, rewritten_held, deleted_held}
+use Rattle.cics_units.specs.FilesChanges.{IsFilesImage, held_among}
 use Rattle.cics_units.specs.Matching.{store_of_files}
 use Rattle.cics_units.specs.UnitImages.{kept_by, AreOthersKept}
 use Rattle.cics_units.specs.Parts.{UndoableValue, is_recoverable_in, IsRecordOf, with_newest, HasNewest, AreImagesAfter, AreChanged}
-use Rattle.cics_units.proofs.Named.{with_value-same}
+use Rattle.cics_units.proofs.Entries.{with_value-same}
 use Rattle.cics_units.proofs.Opened.{with_value-each}
 use Rattle.cics_units.proofs.Stores.{value_at_each}
 
@@ -97,15 +98,15 @@ kept_definitions p m n kept = λ i q. by (λ key. p (cell_of q key)) (value_at q
 -- a change's image, where there is one, is kept as the newest of the unit; and there is one just where it is asked for
 module _ (old new : UndoableValue) (unit : ℕ) (name key : Bytes) (image : Option ImageValue)
     (kept : kept_by new.images unit ≡ with_newest name image (kept_by old.images unit))
-    (undoes : IfSome image (λ i. IsFilesImage old.files new.files (cell_of name key) (record { file = name; image = i }))) where
+    (undoes : IfSome image (λ i. IsFilesImage old.files new.files (cell_of name key) (record { name = name; image = i }))) where
   none_kept : image ≡ None → kept_by new.images unit ≡ kept_by old.images unit
   none_kept none = kept ∙ ap (λ o. with_newest name o (kept_by old.images unit)) none
 
   newest_kept : (o : Option ImageValue) → image ≡ o → is_some o ≡ true → HasNewest old new unit name key
   newest_kept None is some = absurd (false≢true some)
   newest_kept (Some i) is some = record {
-    image = record { file = name; image = i };
-    undoes = subst (λ o. IfSome o (λ i. IsFilesImage old.files new.files (cell_of name key) (record { file = name; image = i }))) is undoes;
+    image = record { name = name; image = i };
+    undoes = subst (λ o. IfSome o (λ i. IsFilesImage old.files new.files (cell_of name key) (record { name = name; image = i }))) is undoes;
     newest = kept ∙ ap (λ o. with_newest name o (kept_by old.images unit)) is;
   }
 
@@ -174,7 +175,7 @@ module _ (old new : UndoableValue) (unit : ℕ) (name : Bytes) (f : FileValue) (
   asked_of given = image ≡ given f.definition.recoverable
 
   pub write_changed : (r : Bytes) → new.files ≡ with_value name (written f r) old.files → image ≡ written_image f.definition.recoverable f r →
-      IfSome image (λ i. IsFilesImage old.files new.files (cell_of name (key_of f.definition r)) (record { file = name; image = i })) →
+      IfSome image (λ i. IsFilesImage old.files new.files (cell_of name (key_of f.definition r)) (record { name = name; image = i })) →
       FilesKeep (is_other (cell_of name (key_of f.definition r))) old.files new.files → AreChanged old new unit (Write name (key_of f.definition r) r)
   write_changed r files is undoes others =
       let k = key_of f.definition r in
@@ -186,10 +187,11 @@ module _ (old new : UndoableValue) (unit : ℕ) (name : Bytes) (f : FileValue) (
             (λ plain. is ∙ ap (λ b. written_image b f r) plain ∙ write_plain name old.files f there rising r (value_at k f.records) refl)
             (λ still. let w = write_still name old.files f there rising f.definition.recoverable r (value_at k f.records) refl still in (is ∙ w.0, w.1 ∙ sym files))
             (λ rec changed. ap is_some (is ∙ ap (λ b. written_image b f r) rec) ∙ write_asked name old.files f there rising r (value_at k f.records) refl changed));
+        held = λ c unnamed has. held_among name f (written f r) old.files there (λ c. true) (λ q pass. written_held f q r) c refl (sym (ap (λ m. files_hold m c) files) ∙ has);
       }
 
   pub rewrite_changed : (r : Bytes) → new.files ≡ with_value name (rewritten f r) old.files → image ≡ rewritten_image f.definition.recoverable f r →
-      IfSome image (λ i. IsFilesImage old.files new.files (cell_of name (key_of f.definition r)) (record { file = name; image = i })) →
+      IfSome image (λ i. IsFilesImage old.files new.files (cell_of name (key_of f.definition r)) (record { name = name; image = i })) →
       FilesKeep (is_other (cell_of name (key_of f.definition r))) old.files new.files → AreChanged old new unit (Rewrite name (key_of f.definition r) r)
   rewrite_changed r files is undoes others =
       let k = key_of f.definition r in
@@ -201,10 +203,16 @@ module _ (old new : UndoableValue) (unit : ℕ) (name : Bytes) (f : FileValue) (
             (λ plain. is ∙ ap (λ b. rewritten_image b f r) plain)
             (λ still. let w = rewrite_still name old.files f there rising f.definition.recoverable r (value_at k f.records) refl still in (is ∙ w.0, w.1 ∙ sym files))
             (λ rec changed. ap is_some (is ∙ ap (λ b. rewritten_image b f r) rec) ∙ rewrite_asked name old.files f there rising r (value_at k f.records) refl changed));
+        held = λ c unnamed has. held_among name f (rewritten f r) old.files there (λ c. true) (λ q pass. rewritten_held f q r) c refl (sym (ap (λ m. files_hold m c) files) ∙ has);
       }
 
+  each_named : (k : Bytes) (o : Option ImageValue) → IfSome o (λ i. IsFilesImage old.files new.files (cell_of name k) (record { name = name; image = i })) →
+      IfSome o (λ i. cell_of_image (record { name = name; image = i }) ≡ cell_of name k)
+  each_named k None undoes = tt
+  each_named k (Some i) undoes = undoes.named
+
   pub delete_changed : (k : Bytes) → new.files ≡ with_value name (deleted f.definition.recoverable f k) old.files → image ≡ deleted_image f.definition.recoverable f k →
-      IfSome image (λ i. IsFilesImage old.files new.files (cell_of name k) (record { file = name; image = i })) →
+      IfSome image (λ i. IsFilesImage old.files new.files (cell_of name k) (record { name = name; image = i })) →
       FilesKeep (is_other (cell_of name k)) old.files new.files → AreChanged old new unit (Delete name k)
   delete_changed k files is undoes others = record {
     store = ap store_of_files files ∙ delete_store old.files name f there rising f.definition.recoverable k;
@@ -214,6 +222,9 @@ module _ (old new : UndoableValue) (unit : ℕ) (name : Bytes) (f : FileValue) (
         (λ plain. is ∙ ap (λ b. deleted_image b f k) plain)
         (λ still. let w = delete_still name old.files f there rising f.definition.recoverable k (value_at k f.records) refl still in (is ∙ w.0, w.1 ∙ sym files))
         (λ rec changed. ap is_some (is ∙ ap (λ b. deleted_image b f k) rec) ∙ delete_asked name old.files f there rising k (value_at k f.records) refl changed));
+    held = λ c unnamed has. held_among name f (deleted f.definition.recoverable f k) old.files there (is_unnamed cell_of_image (kept_by new.images unit))
+        (λ q pass. deleted_held name f k q (kept_by old.images unit) f.definition.recoverable image is (each_named k image undoes) (sym (ap (λ is. is_unnamed cell_of_image is (cell_of name q)) kept) ∙ pass))
+        c unnamed (sym (ap (λ m. files_hold m c) files) ∙ has);
   }
 
 -- ---- What is told of the file of a name where it is there

@@ -21,8 +21,8 @@ use Rattle.cics_units.proofs.Undoing.{Leads-none, undone-at}
 use Rattle.cics_ksds.specs.UndoLaws as file
 use Rattle.cics_enqueue.specs.Resources.{overlaps}
 use Rattle.std.specs.List.{list_any}
-use Rattle.cics_units.specs.declared.files.images.FilesImage.{FilesImage}
-use Rattle.cics_units.specs.Cells.{Cell, Key, Ts, Td, content, cell_of as cell_of_op, same_cell, touches, effect, listed, record_in, Writing, uses, recovers}
+use Rattle.cics_units.specs.FilesImages.{FilesImage}
+use Rattle.cics_units.specs.Cells.{Cell, Key, Ts, Td, content, is_generic, cell_of as cell_of_op, same_cell, touches, effect, listed, record_in, Writing, uses, recovers}
 use Rattle.cics_units.specs.Events.{is_live, may_act}
 use Rattle.cics_units.specs.Isolation.{used, IsSound}
 use Rattle.cics_units.specs.Undo.{Image, Cells, Leads, names, is_plain, changes, image_of, IsPlaceOf, after, put, without_images, undone}
@@ -34,7 +34,7 @@ use Rattle.cics_units.specs.Matching.{store_of_files, shown, IsKept, AreKept}
 use Rattle.cics_units.specs.FilesInPlace.{AreInPlace}
 use Rattle.cics_units.specs.UnitImages.{kept_by}
 use Rattle.cics_units.proofs.Executes.{MayRun}
-use Rattle.cics_units.proofs.Joining.{same_cell-true, same_cell-refl, apply-content, touches-recovers}
+use Rattle.cics_units.proofs.Joining.{same_cell-true, same_cell-refl, apply-content, touches-self, touches-named, touches-recovers}
 use Rattle.cics_units.proofs.States.{acting_open}
 use Rattle.cics_units.proofs.Outcomes.{outcome_of-with, outcome_of-set}
 use Rattle.cics_units.proofs.Stores.{value_at_each}
@@ -75,8 +75,8 @@ ready_with m n c i is image ready = (image.ready, ready_where (λ x. true) m (fi
 pub stands_for : (m n : Map FileValue) (f k : Bytes) (i : FilesImage) → IsFilesImage m n (cell_of f k) i →
     IsKept (record { cell = Key f k; before = content (store_of_files m) (Key f k); made = content (store_of_files n) (Key f k) }) i
 stands_for m n f k i image = record {
-  cell = sym (same_cell-true (Key i.file (key_of_image i.image)) (Key f k)
-      (sym (same_cell-bytes i.file f (key_of_image i.image) k) ∙ (files.same_bytes-eq (cell_of_image i) (cell_of f k) image.named)));
+  cell = sym (same_cell-true (Key i.name (key_of_image i.image)) (Key f k)
+      (sym (same_cell-bytes i.name f (key_of_image i.image) k) ∙ (files.same_bytes-eq (cell_of_image i) (cell_of f k) image.named)));
   leads = subst (λ a. FileLeads i.image a (shown (content (store_of_files m) (Key f k)))) (sym (shown-content n f k))
       (subst (FileLeads i.image (files_content n (cell_of f k))) (sym (shown-content m f k)) image.leads_back);
 }
@@ -84,7 +84,7 @@ stands_for m n f k i image = record {
 -- ---- A command on a key of a file is executed
 module _ (s : UnitsState) (m n : Map FileValue) (images after_images : List (Kept FilesImage)) (u : Option ℕ) (op : Op) (f k : Bytes)
     (sound : IsSound s) (place : AreInPlace s m images) (acts : may_act s u ≡ true) (free : awaited s u op ≡ None)
-    (on : cell_of_op op ≡ Key f k) (writes : uses op Writing ≡ true)
+    (on : cell_of_op op ≡ Key f k) (one : is_generic op ≡ false) (writes : uses op Writing ≡ true)
     (store : store_of_files n ≡ (apply (store_of_files m) op).store) (others : FilesKeep (is_other (cell_of f k)) m n) where
   abbrev unit : ℕ
   unit = unit_or_next u s.outcomes
@@ -117,7 +117,7 @@ module _ (s : UnitsState) (m n : Map FileValue) (images after_images : List (Kep
   place_then =
       subst (λ c. IsPlaceOf (after_execution s u op) (record { cells = c; images = changes_then })) all_moved
       (subst (λ b. IsPlaceOf (after_execution s u op) (if b then put s.opening (record { cells = before; images = place.changes }) unit op made else record { cells = before; images = place.changes })) plain
-      (execution-IsPlaceOf s (record { cells = before; images = place.changes }) u op made sound place.place acts free (image_of-AreImages op before)))
+      (execution-IsPlaceOf s (record { cells = before; images = place.changes }) u op made sound place.place acts free (image_of-AreImages op before one)))
 
   -- no other open unit keeps an image of the key
   unnamed : (w : ℕ) → w ≢ unit → names (Key f k) (place.changes w) ≡ false ⊎ (is_open (outcome_of s.outcomes w) ≡ false)
@@ -132,7 +132,7 @@ module _ (s : UnitsState) (m n : Map FileValue) (images after_images : List (Kep
   ]
     where
       touched : touches op (Key f k) ≡ true
-      touched = ap (λ x. same_cell x (Key f k)) on ∙ same_cell-refl (Key f k)
+      touched = touches-named op one (Key f k) ∙ ap (λ x. same_cell x (Key f k)) on ∙ same_cell-refl (Key f k)
 
   apart_ready : (w : ℕ) → w ≢ unit → AreReady n (kept_by images w)
   apart_ready w apart = elim (unnamed w apart) [
@@ -182,7 +182,7 @@ module _ (s : UnitsState) (m n : Map FileValue) (images after_images : List (Kep
         (subst (AreReady n) (sym newest) (ready_with m n (cell_of f k) i (kept_by images unit) image (place.ready unit)))
       where
         made_here : content (store_of_files n) (cell_of_op op) ≡ (effect op (before (cell_of_op op))).cell
-        made_here = sym (moved (cell_of_op op)) ∙ rw (same_cell-refl (cell_of_op op)) refl
+        made_here = sym (moved (cell_of_op op)) ∙ rw (touches-self op) refl
 
         own : IsKept (record { cell = cell_of_op op; before = before (cell_of_op op); made = (effect op (before (cell_of_op op))).cell }) i
         own = subst (λ c. IsKept (record { cell = cell_of_op op; before = before (cell_of_op op); made = c }) i) made_here
@@ -197,7 +197,7 @@ module _ (s : UnitsState) (m n : Map FileValue) (images after_images : List (Kep
       where
         none : names (Key f k) (place.changes unit) ≡ false
         none = place.place.named (Key f k) unit (and_left (recovers s.opening (Key f k)) (used s.trace unit (Key f k) Writing)
-            (sym (touches-recovers s.opening op (Key f k) (ap (λ x. same_cell x (Key f k)) on ∙ same_cell-refl (Key f k))) ∙ rec))
+            (sym (touches-recovers s.opening op (Key f k) (touches-named op one (Key f k) ∙ ap (λ x. same_cell x (Key f k)) on ∙ same_cell-refl (Key f k))) ∙ rec))
 
     -- nothing was changed, and the unit's images are as they were
     pub executed_unchanged : changes op (before (cell_of_op op)) ≡ false → m ≡ n → kept_by after_images unit ≡ kept_by images unit → AreInPlace (after_execution s u op) n after_images
@@ -237,8 +237,8 @@ apart_from named theirs kept [] [] own apart = tt
 apart_from named theirs kept [] (i ∷ is) own apart = absurd own
 apart_from named theirs kept (c ∷ cs) [] own apart = absurd own
 apart_from named theirs kept (c ∷ cs) (i ∷ is) own apart = (
-  unnamed_kept named theirs kept i.file (key_of_image i.image) (apart i.file (key_of_image i.image)
-      (or_left _ _ (ap (λ x. same_cell x (Key i.file (key_of_image i.image))) own.0.cell ∙ same_cell-refl (Key i.file (key_of_image i.image))))),
+  unnamed_kept named theirs kept i.name (key_of_image i.image) (apart i.name (key_of_image i.image)
+      (or_left _ _ (ap (λ x. same_cell x (Key i.name (key_of_image i.image))) own.0.cell ∙ same_cell-refl (Key i.name (key_of_image i.image))))),
   apart_from named theirs kept cs is own.1 (λ f k t. apart f k (or_right (same_cell c.cell (Key f k)) (names (Key f k) cs) t)),
 )
 
@@ -299,7 +299,7 @@ names_queue : (x : Cell) → ((f k : Bytes) → same_cell (Key f k) x ≡ false)
 names_queue x apart [] [] kept = refl
 names_queue x apart [] (i ∷ is) kept = absurd kept
 names_queue x apart (c ∷ cs) [] kept = absurd kept
-names_queue x apart (c ∷ cs) (i ∷ is) kept = or_from _ _ (ap (λ y. same_cell y x) kept.0.cell ∙ apart i.file (key_of_image i.image)) (names_queue x apart cs is kept.1)
+names_queue x apart (c ∷ cs) (i ∷ is) kept = or_from _ _ (ap (λ y. same_cell y x) kept.0.cell ∙ apart i.name (key_of_image i.image)) (names_queue x apart cs is kept.1)
 
 module _ (s : UnitsState) (m n : Map FileValue) (images after_images : List (Kept FilesImage)) (v : ℕ)
     (sound : IsSound s) (place : AreInPlace s m images) (live : is_live s v ≡ true)

@@ -8,15 +8,15 @@ use Rattle.std.proofs.lemmas.List.Elements.{All-cons, All-head, All-tail, All-fi
 use Rattle.cics_names.specs.Keyed.{Bytes, is_same}
 use Rattle.cics_names.specs.KeyedLaws.{is_same-self, is_same-eq}
 use Rattle.cics_names.specs.RisingLaws.{is_same-turned}
-use Rattle.cics_enqueue.specs.Resources.{overlaps}
+use Rattle.cics_enqueue.specs.Resources.{is_one}
 use Rattle.cics_enqueue.specs.ResourceLaws.{is_one-eq}
 use Rattle.cics_enqueue.specs.declared.resources.Resource.{Resource}
 use Rattle.cics_units.specs.Openings.{OpeningState, file_recoverable}
 use Rattle.cics_units.specs.Holding.{UpdateRead, held_by_read}
 use Rattle.cics_units.specs.Execution.{is_read_of, read_at, is_read_before, with_read, covers, opened}
-use Rattle.cics_units.specs.TableInPlace.{file_of, key_of, record_of, is_read, AreOnce}
+use Rattle.cics_units.specs.TableInPlace.{is_file_op, file_of, key_of, record_of, is_read, AreOnce}
 use Rattle.cics_units.specs.declared.ops.Op.{Op}
-use Rattle.cics_units.specs.declared.ops.Op.TheVariants.{Write, Rewrite, Delete, ReadUpdate, TsWrite, TsRewrite, TsDelete, TdWrite, TdRead, TdDelete}
+use Rattle.cics_units.specs.declared.ops.Op.TheVariants.{Write, Rewrite, Delete, DeleteGeneric, ReadUpdate, TsWrite, TsRewrite, TsDelete, TdWrite, TdRead, TdDelete}
 use Rattle.cics_units.proofs.Holders.{any_filter}
 
 -- ---- Tests over lists
@@ -160,17 +160,17 @@ read_keys (x ∷ xs) u f k once h =
 module _ (o : OpeningState) (n : ℕ) (r : Resource) where
   -- an update read makes the unit hold the resource
   abbrev pub by_read : UpdateRead → Bool
-  by_read x = list_any (overlaps r) (held_by_read o n x)
+  by_read x = list_any (is_one r) (held_by_read o n x)
 
-  pub by_read-is : (x : UpdateRead) → by_read x ≡ (((x.unit == n) && not (file_recoverable o x.file)) && overlaps r (record_of x.file x.key))
-  by_read-is x = any_if_one (overlaps r) ((x.unit == n) && not (file_recoverable o x.file)) (record_of x.file x.key)
+  pub by_read-is : (x : UpdateRead) → by_read x ≡ (((x.unit == n) && not (file_recoverable o x.file)) && is_one r (record_of x.file x.key))
+  by_read-is x = any_if_one (is_one r) ((x.unit == n) && not (file_recoverable o x.file)) (record_of x.file x.key)
 
   -- of a recoverable file it holds nothing
   pub by_read-recoverable : (f : Bytes) → file_recoverable o f ≡ true → (x : UpdateRead) → is_same x.file f ≡ true → by_read x ≡ false
   by_read-recoverable f rec x same =
       by_read-is x
-      ∙ ap (λ b. ((x.unit == n) && not b) && overlaps r (record_of x.file x.key)) (ap (file_recoverable o) (is_same-eq x.file f same) ∙ rec)
-      ∙ never (x.unit == n) (overlaps r (record_of x.file x.key))
+      ∙ ap (λ b. ((x.unit == n) && not b) && is_one r (record_of x.file x.key)) (ap (file_recoverable o) (is_same-eq x.file f same) ∙ rec)
+      ∙ never (x.unit == n) (is_one r (record_of x.file x.key))
     where
       never : (a b : Bool) → ((a && false) && b) ≡ false
       never true b = refl
@@ -182,43 +182,43 @@ module _ (o : OpeningState) (n : ℕ) (r : Resource) where
     is_record x = is_read_of v f x && is_same x.key k
 
     -- of another file it holds its record
-    pub by_read-local : (x : UpdateRead) → is_record x ≡ true → by_read x ≡ ((v == n) && overlaps r (record_of f k))
+    pub by_read-local : (x : UpdateRead) → is_record x ≡ true → by_read x ≡ ((v == n) && is_one r (record_of f k))
     by_read-local x own =
         let a = and_parts (is_read_of v f x) (is_same x.key k) own in
         let b = and_parts (eqb x.unit v) (is_same x.file f) a.0 in
         by_read-is x
-        ∙ (λ i. ((eqb-true x.unit v b.0 i == n) && not (file_recoverable o (is_same-eq x.file f b.1 i))) && overlaps r (record_of (is_same-eq x.file f b.1 i) (is_same-eq x.key k a.1 i)))
-        ∙ ap (λ c. ((v == n) && not c) && overlaps r (record_of f k)) local
-        ∙ ap (λ c. c && overlaps r (record_of f k)) (and-true (v == n))
+        ∙ (λ i. ((eqb-true x.unit v b.0 i == n) && not (file_recoverable o (is_same-eq x.file f b.1 i))) && is_one r (record_of (is_same-eq x.file f b.1 i) (is_same-eq x.key k a.1 i)))
+        ∙ ap (λ c. ((v == n) && not c) && is_one r (record_of f k)) local
+        ∙ ap (λ c. c && is_one r (record_of f k)) (and-true (v == n))
 
     -- only the unit's own read of the record makes it hold that
-    by_read-own : (x : UpdateRead) → by_read x ≡ true → ((v == n) && overlaps r (record_of f k)) ≡ true → is_record x ≡ true
+    by_read-own : (x : UpdateRead) → by_read x ≡ true → ((v == n) && is_one r (record_of f k)) ≡ true → is_record x ≡ true
     by_read-own x held own =
         let a = and_parts _ _ (sym (by_read-is x) ∙ held) in
         let b = and_parts (x.unit == n) _ a.0 in
         let c = and_parts (v == n) _ own in
         let unit : eqb x.unit v ≡ true = eq-eqb x.unit v (eqb-true x.unit n b.0 ∙ sym (eqb-true v n c.0)) in
-        let same : overlaps (record_of x.file x.key) (record_of f k) ≡ true =
-        subst (λ z. overlaps z (record_of f k) ≡ true) (is_one-eq r (record_of x.file x.key) a.1) c.1 in
+        let same : is_one (record_of x.file x.key) (record_of f k) ≡ true =
+        subst (λ z. is_one z (record_of f k) ≡ true) (is_one-eq r (record_of x.file x.key) a.1) c.1 in
         let d = and_parts (is_same x.file f) (is_same x.key k) same in
         and_from _ _ (and_from _ _ unit d.0) d.1
 
     -- to end the unit's reads of a record is to give the record back
     pub any_ended : (ends : UpdateRead → Bool) (xs : List UpdateRead) →
         OnEach (λ x. ends x ≡ true → is_record x ≡ true) xs → ((x : UpdateRead) → is_record x ≡ true → ends x ≡ true) →
-        list_any by_read (filter (λ x. not (ends x)) xs) ≡ (list_any by_read xs && not ((v == n) && overlaps r (record_of f k)))
+        list_any by_read (filter (λ x. not (ends x)) xs) ≡ (list_any by_read xs && not ((v == n) && is_one r (record_of f k)))
     any_ended ends [] own all = refl
     any_ended ends (x ∷ xs) own all =
         elim (cases_Bool (ends x)) [
           | inl e ↦
               ap (λ b. list_any by_read (if not b then x ∷ filter (λ y. not (ends y)) xs else filter (λ y. not (ends y)) xs)) e
               ∙ any_ended ends xs own.1 all
-              ∙ sym (gone (list_any by_read xs) ((v == n) && overlaps r (record_of f k)))
-              ∙ ap (λ b. (b || list_any by_read xs) && not ((v == n) && overlaps r (record_of f k))) (sym (by_read-local x (own.0 e)))
+              ∙ sym (gone (list_any by_read xs) ((v == n) && is_one r (record_of f k)))
+              ∙ ap (λ b. (b || list_any by_read xs) && not ((v == n) && is_one r (record_of f k))) (sym (by_read-local x (own.0 e)))
           | inr e ↦
               ap (λ b. list_any by_read (if not b then x ∷ filter (λ y. not (ends y)) xs else filter (λ y. not (ends y)) xs)) e
               ∙ ap (λ b. by_read x || b) (any_ended ends xs own.1 all)
-              ∙ stays (by_read x) (list_any by_read xs) ((v == n) && overlaps r (record_of f k))
+              ∙ stays (by_read x) (list_any by_read xs) ((v == n) && is_one r (record_of f k))
               (λ held mine. true≢false (sym (all x (by_read-own x held mine)) ∙ e))
         ]
       where
@@ -235,33 +235,35 @@ module _ (o : OpeningState) (n : ℕ) (r : Resource) where
 
 -- ---- The update reads after a command
 
--- a command covers the reads of its own record
-pub covers-record : (v : ℕ) (op : Op) (x : UpdateRead) → covers v op x ≡ true →
+-- a command on one record covers the reads of its own record
+pub covers-record : (v : ℕ) (op : Op) → is_file_op op ≡ true → (x : UpdateRead) → covers v op x ≡ true →
     (is_read_of v (file_of op) x && is_same x.key (key_of op)) ≡ true
-covers-record v (Rewrite f k r) x h = h
-covers-record v (Delete f k) x h = h
-covers-record v (Write f k r) x h = absurd (false≢true h)
-covers-record v (ReadUpdate f k) x h = absurd (false≢true h)
-covers-record v (TsWrite q d) x h = absurd (false≢true h)
-covers-record v (TsRewrite q n d) x h = absurd (false≢true h)
-covers-record v (TsDelete q) x h = absurd (false≢true h)
-covers-record v (TdWrite q d) x h = absurd (false≢true h)
-covers-record v (TdRead q) x h = absurd (false≢true h)
-covers-record v (TdDelete q) x h = absurd (false≢true h)
+covers-record v (Rewrite f k r) file x h = h
+covers-record v (Delete f k) file x h = h
+covers-record v (Write f k r) file x h = absurd (false≢true h)
+covers-record v (DeleteGeneric f p) file x h = absurd (false≢true file)
+covers-record v (ReadUpdate f k) file x h = absurd (false≢true h)
+covers-record v (TsWrite q d) file x h = absurd (false≢true h)
+covers-record v (TsRewrite q n d) file x h = absurd (false≢true h)
+covers-record v (TsDelete q) file x h = absurd (false≢true h)
+covers-record v (TdWrite q d) file x h = absurd (false≢true h)
+covers-record v (TdRead q) file x h = absurd (false≢true h)
+covers-record v (TdDelete q) file x h = absurd (false≢true h)
 
 -- and one that covers some covers them all
-pub covers-all : (v : ℕ) (op : Op) (xs : List UpdateRead) → list_any (covers v op) xs ≡ true → (x : UpdateRead) →
+pub covers-all : (v : ℕ) (op : Op) → is_file_op op ≡ true → (xs : List UpdateRead) → list_any (covers v op) xs ≡ true → (x : UpdateRead) →
     (is_read_of v (file_of op) x && is_same x.key (key_of op)) ≡ true → covers v op x ≡ true
-covers-all v (Rewrite f k r) xs some x h = h
-covers-all v (Delete f k) xs some x h = h
-covers-all v (Write f k r) xs some x h = absurd (true≢false (sym some ∙ any_never xs))
-covers-all v (ReadUpdate f k) xs some x h = absurd (true≢false (sym some ∙ any_never xs))
-covers-all v (TsWrite q d) xs some x h = absurd (true≢false (sym some ∙ any_never xs))
-covers-all v (TsRewrite q n d) xs some x h = absurd (true≢false (sym some ∙ any_never xs))
-covers-all v (TsDelete q) xs some x h = absurd (true≢false (sym some ∙ any_never xs))
-covers-all v (TdWrite q d) xs some x h = absurd (true≢false (sym some ∙ any_never xs))
-covers-all v (TdRead q) xs some x h = absurd (true≢false (sym some ∙ any_never xs))
-covers-all v (TdDelete q) xs some x h = absurd (true≢false (sym some ∙ any_never xs))
+covers-all v (Rewrite f k r) file xs some x h = h
+covers-all v (Delete f k) file xs some x h = h
+covers-all v (Write f k r) file xs some x h = absurd (true≢false (sym some ∙ any_never xs))
+covers-all v (DeleteGeneric f p) file xs some x h = absurd (false≢true file)
+covers-all v (ReadUpdate f k) file xs some x h = absurd (true≢false (sym some ∙ any_never xs))
+covers-all v (TsWrite q d) file xs some x h = absurd (true≢false (sym some ∙ any_never xs))
+covers-all v (TsRewrite q n d) file xs some x h = absurd (true≢false (sym some ∙ any_never xs))
+covers-all v (TsDelete q) file xs some x h = absurd (true≢false (sym some ∙ any_never xs))
+covers-all v (TdWrite q d) file xs some x h = absurd (true≢false (sym some ∙ any_never xs))
+covers-all v (TdRead q) file xs some x h = absurd (true≢false (sym some ∙ any_never xs))
+covers-all v (TdDelete q) file xs some x h = absurd (true≢false (sym some ∙ any_never xs))
 
 -- the update reads of each unit and file stay one
 pub AreOnce-opened : (v : ℕ) (op : Op) (xs : List UpdateRead) →
@@ -289,11 +291,11 @@ AreOnce-dropped ends xs once = AreOnce-filter (λ x. not (ends x)) xs once
 
 module _ (o : OpeningState) (n : ℕ) (r : Resource) (v : ℕ) where
   -- in a recoverable file the same
-  pub any_opened-recoverable : (op : Op) → file_recoverable o (file_of op) ≡ true → (xs : List UpdateRead) →
+  pub any_opened-recoverable : (op : Op) → is_file_op op ≡ true → file_recoverable o (file_of op) ≡ true → (xs : List UpdateRead) →
       list_any (by_read o n r) (opened v op (filter (λ x. not (covers v op x)) xs)) ≡ list_any (by_read o n r) xs
-  any_opened-recoverable op rec xs = opens op rec (any_kept (by_read o n r) (covers v op) xs (λ x c.
+  any_opened-recoverable op file rec xs = opens op rec (any_kept (by_read o n r) (covers v op) xs (λ x c.
       by_read-recoverable o n r (file_of op) rec x (and_parts (eqb x.unit v) (is_same x.file (file_of op))
-      (and_parts (is_read_of v (file_of op) x) (is_same x.key (key_of op)) (covers-record v op x c)).0).1))
+      (and_parts (is_read_of v (file_of op) x) (is_same x.key (key_of op)) (covers-record v op file x c)).0).1))
     where
       opens : (op : Op) → file_recoverable o (file_of op) ≡ true →
           list_any (by_read o n r) (filter (λ x. not (covers v op x)) xs) ≡ list_any (by_read o n r) xs →
@@ -308,12 +310,13 @@ module _ (o : OpeningState) (n : ℕ) (r : Resource) (v : ℕ) where
   -- in another file READ UPDATE holds its record more
   pub any_opened-read : (op : Op) → is_read op ≡ true → file_recoverable o (file_of op) ≡ false → (xs : List UpdateRead) →
       list_any (by_read o n r) (opened v op (filter (λ x. not (covers v op x)) xs))
-      ≡ (((v == n) && overlaps r (record_of (file_of op) (key_of op))) || list_any (by_read o n r) xs)
+      ≡ (((v == n) && is_one r (record_of (file_of op) (key_of op))) || list_any (by_read o n r) xs)
   any_opened-read (ReadUpdate f k) reads local xs =
       any_with_read_more (by_read o n r) (record { unit = v; file = f; key = k }) (filter (λ x. not (covers v (ReadUpdate f k) x)) xs)
       ∙ (λ i. by_read-local o n r v f k local (record { unit = v; file = f; key = k })
       (and_from _ _ (and_from _ _ (eq-eqb v v refl) (is_same-self f)) (is_same-self k)) i
       || any_kept (by_read o n r) (covers v (ReadUpdate f k)) xs (λ x c. absurd (false≢true c)) i)
+  any_opened-read (DeleteGeneric f p) reads local xs = absurd (false≢true reads)
   any_opened-read (Write f k d) reads local xs = absurd (false≢true reads)
   any_opened-read (Rewrite f k d) reads local xs = absurd (false≢true reads)
   any_opened-read (Delete f k) reads local xs = absurd (false≢true reads)

@@ -7,7 +7,7 @@ use Rattle.std.proofs.lemmas.Bool.{true≢false, false≢true, and_parts, and_ri
 use Rattle.std.proofs.lemmas.List.Folds.{list_any-append}
 use Rattle.cics_names.specs.Keyed.{Bytes, is_same}
 use Rattle.cics_names.specs.KeyedLaws.{is_same-eq}
-use Rattle.cics_enqueue.specs.Resources.{bytes_of, overlaps}
+use Rattle.cics_enqueue.specs.Resources.{bytes_of, is_one}
 use Rattle.cics_enqueue.specs.ResourceLaws.{is_one-eq}
 use Rattle.cics_enqueue.specs.declared.resources.Resource.{Resource}
 use Rattle.cics_enqueue.specs.declared.resources.Resource.TheVariants.{TsQueue, TdRead as ReadingEnd, TdWrite as WritingEnd, User}
@@ -18,7 +18,7 @@ use Rattle.cics_units.specs.Holding.{UnitsState, UpdateRead, EnqCount, uses_of, 
 use Rattle.cics_units.specs.Execution.{unit_or_next, reads_after, entered}
 use Rattle.cics_units.specs.TableInPlace.{is_file_op, file_of, key_of, record_of}
 use Rattle.cics_units.specs.declared.ops.Op.{Op}
-use Rattle.cics_units.specs.declared.ops.Op.TheVariants.{Write, Rewrite, Delete, ReadUpdate, TsWrite, TsRewrite, TsDelete, TdWrite, TdRead, TdDelete}
+use Rattle.cics_units.specs.declared.ops.Op.TheVariants.{Write, Rewrite, Delete, DeleteGeneric, ReadUpdate, TsWrite, TsRewrite, TsDelete, TdWrite, TdRead, TdDelete}
 use Rattle.cics_units.specs.declared.ops.Answer.{Answer}
 use Rattle.cics_units.specs.declared.ops.Entry.{Entry}
 use Rattle.cics_units.proofs.Waiting.{any_flat_map}
@@ -61,25 +61,26 @@ held_sum s n p =
 
 -- what a command uses of recoverable files and queues
 uses_apart : (o : OpeningState) (f k : Bytes) → file_recoverable o f ≡ false → (op : Op) →
-    is_recoverable o op ≡ true → list_any (overlaps (record_of f k)) (uses_of o op) ≡ true → ⊥
+    is_recoverable o op ≡ true → list_any (is_one (record_of f k)) (uses_of o op) ≡ true → ⊥
 uses_apart o f k local = apart
   where
     other : (g l : Bytes) → file_recoverable o g ≡ true →
-        list_any (overlaps (record_of f k)) (record_of g l ∷ []) ≡ true → ⊥
+        list_any (is_one (record_of f k)) (record_of g l ∷ []) ≡ true → ⊥
     other g l rec h =
-        let same = and_parts (is_same f g) (is_same k l) (any_only (overlaps (record_of f k)) (record_of g l) h) in
+        let same = and_parts (is_same f g) (is_same k l) (any_only (is_one (record_of f k)) (record_of g l) h) in
         true≢false (sym rec ∙ ap (file_recoverable o) (sym (is_same-eq f g same.0)) ∙ local)
 
-    named : (b : Bool) (q : Resource) → overlaps (record_of f k) q ≡ false →
-        list_any (overlaps (record_of f k)) (if b then q ∷ [] else []) ≡ true → ⊥
+    named : (b : Bool) (q : Resource) → is_one (record_of f k) q ≡ false →
+        list_any (is_one (record_of f k)) (if b then q ∷ [] else []) ≡ true → ⊥
     named b q never h =
-        true≢false (sym h ∙ any_if_one (overlaps (record_of f k)) b q ∙ and_right b (overlaps (record_of f k) q) never)
+        true≢false (sym h ∙ any_if_one (is_one (record_of f k)) b q ∙ and_right b (is_one (record_of f k) q) never)
 
     apart : (op : Op) → is_recoverable o op ≡ true →
-        list_any (overlaps (record_of f k)) (uses_of o op) ≡ true → ⊥
+        list_any (is_one (record_of f k)) (uses_of o op) ≡ true → ⊥
     apart (Write g l d) rec h = other g l rec h
     apart (Rewrite g l d) rec h = other g l rec h
     apart (Delete g l) rec h = other g l rec h
+    apart (DeleteGeneric g p) rec h = false≢true h
     apart (ReadUpdate g l) rec h = other g l rec h
     apart (TsWrite q d) rec h = named (has_prefix_in o.prefixes q) (TsQueue q) refl h
     apart (TsRewrite q m d) rec h = named (has_prefix_in o.prefixes q) (TsQueue q) refl h
@@ -87,29 +88,29 @@ uses_apart o f k local = apart
     apart (TdWrite q d) rec h = named (queue_logical o q) (WritingEnd q) refl h
     apart (TdRead q) rec h = named (queue_logical o q) (ReadingEnd q) refl h
     apart (TdDelete q) rec h = elim (or_cases _ _
-        (sym (list_any-append (overlaps (record_of f k)) (if queue_logical o q then ReadingEnd q ∷ [] else [])
+        (sym (list_any-append (is_one (record_of f k)) (if queue_logical o q then ReadingEnd q ∷ [] else [])
         (if queue_logical o q then WritingEnd q ∷ [] else [])) ∙ h)) [
           | inl reads ↦ named (queue_logical o q) (ReadingEnd q) refl reads
           | inr writes ↦ named (queue_logical o q) (WritingEnd q) refl writes
         ]
 
-module _ (o : OpeningState) (n : ℕ) (r : Resource) (f k : Bytes) (same : overlaps r (record_of f k) ≡ true) where
-  pub entries_apart : file_recoverable o f ≡ false → (es : List Entry) → in_entries o n (overlaps r) es ≡ false
+module _ (o : OpeningState) (n : ℕ) (r : Resource) (f k : Bytes) (same : is_one r (record_of f k) ≡ true) where
+  pub entries_apart : file_recoverable o f ≡ false → (es : List Entry) → in_entries o n (is_one r) es ≡ false
   entries_apart local [] = refl
   entries_apart local (e ∷ es) =
       or_from _ _ (false_from_ne_true _ (λ y.
-      let t = any_if (overlaps r) ((e.unit == n) && (is_normal e.answer.condition && is_recoverable o e.op)) (uses_of o e.op) y in
+      let t = any_if (is_one r) ((e.unit == n) && (is_normal e.answer.condition && is_recoverable o e.op)) (uses_of o e.op) y in
       let rec = and_parts (is_normal e.answer.condition) (is_recoverable o e.op) (and_parts (eqb e.unit n) _ t.0).1 in
       uses_apart o f k local e.op rec.1
-      (subst (λ z. list_any (overlaps z) (uses_of o e.op) ≡ true) (is_one-eq r (record_of f k) same) t.1)))
+      (subst (λ z. list_any (is_one z) (uses_of o e.op) ≡ true) (is_one-eq r (record_of f k) same) t.1)))
       (entries_apart local es)
 
-  pub counts_apart : (cs : List EnqCount) → in_counts o n (overlaps r) cs ≡ false
+  pub counts_apart : (cs : List EnqCount) → in_counts o n (is_one r) cs ≡ false
   counts_apart [] = refl
   counts_apart (c ∷ cs) =
-      or_from _ _ (any_if_one (overlaps r) (c.unit == n) (User (bytes_of c.value))
-      ∙ and_right (c.unit == n) (overlaps r (User (bytes_of c.value)))
-      (ap (λ z. overlaps z (User (bytes_of c.value))) (is_one-eq r (record_of f k) same)))
+      or_from _ _ (any_if_one (is_one r) (c.unit == n) (User (bytes_of c.value))
+      ∙ and_right (c.unit == n) (is_one r (User (bytes_of c.value)))
+      (ap (λ z. is_one z (User (bytes_of c.value))) (is_one-eq r (record_of f k) same)))
       (counts_apart cs)
 
 -- ---- One entry more
@@ -154,6 +155,7 @@ module _ (s : UnitsState) (u : Option ℕ) (op : Op) (a : Answer) (n : ℕ) (p :
       uses (Write f k d) h = refl
       uses (Rewrite f k d) h = refl
       uses (Delete f k) h = refl
+      uses (DeleteGeneric f q) h = absurd (false≢true h)
       uses (ReadUpdate f k) h = refl
       uses (TsWrite q d) h = absurd (false≢true h)
       uses (TsRewrite q m d) h = absurd (false≢true h)
@@ -166,6 +168,7 @@ module _ (s : UnitsState) (u : Option ℕ) (op : Op) (a : Answer) (n : ℕ) (p :
       recovers (Write f k d) h = refl
       recovers (Rewrite f k d) h = refl
       recovers (Delete f k) h = refl
+      recovers (DeleteGeneric f q) h = absurd (false≢true h)
       recovers (ReadUpdate f k) h = refl
       recovers (TsWrite q d) h = absurd (false≢true h)
       recovers (TsRewrite q m d) h = absurd (false≢true h)

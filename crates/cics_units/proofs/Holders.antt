@@ -5,15 +5,15 @@ use Rattle.std.specs.List.{list_any}
 use Rattle.std.proofs.lemmas.Bool.{true≢false, false≢true, cases_Bool, eq-eqb, eqb-true, eqb-false, and_parts, and_from, or_cases, or_left, or_right}
 use Rattle.std.proofs.lemmas.List.Folds.{list_any-append}
 use Rattle.cics_names.specs.Keyed.{Bytes, is_same, is_below}
-use Rattle.cics_names.specs.RisingLaws.{is_same-turned}
 use Rattle.cics_names.specs.KeyedLaws.{is_same-eq}
-use Rattle.cics_enqueue.specs.Resources.{Table, Held, bytes_of, overlaps, is_other}
+use Rattle.cics_enqueue.specs.Resources.{Table, Held, bytes_of, begins_with, overlaps, is_other, is_prefix}
+use Rattle.cics_enqueue.specs.FreedomLaws.{overlaps-turned}
 use Rattle.cics_enqueue.specs.declared.resources.Resource.{Resource}
-use Rattle.cics_enqueue.specs.declared.resources.Resource.TheVariants.{FileKey, TsQueue, TdRead as ReadingEnd, TdWrite as WritingEnd, User}
+use Rattle.cics_enqueue.specs.declared.resources.Resource.TheVariants.{FileKey, TsQueue, TdRead as ReadingEnd, TdWrite as WritingEnd, User, FilePrefix}
 use Rattle.cics_units.specs.Openings.{OpeningState}
 use Rattle.cics_units.specs.Store.{is_normal, is_recoverable}
 use Rattle.cics_units.specs.History.{outcome_of, is_open}
-use Rattle.cics_units.specs.Holding.{UnitsState, UpdateRead, EnqCount, uses_of, held_by_entry, held_by_read, held_by_count, held_by, units_from, held_table, first_holder, first_some, holder_among}
+use Rattle.cics_units.specs.Holding.{UnitsState, UpdateRead, EnqCount, uses_of, held_by_entry, held_by_read, held_by_count, held_by, units_from, held_table, first_held, first_holder, first_some, holder_among}
 use Rattle.cics_units.specs.Execution.{unit_or_next, outcomes_with, with_read, is_read_before, covers, opened, reads_after, entered, is_count, counted, uncounted, with_counts, after_dequeue, after_unlock, after_end}
 use Rattle.cics_units.specs.declared.ops.Op.{Op}
 use Rattle.cics_units.specs.declared.ops.Op.TheVariants.{ReadUpdate}
@@ -24,7 +24,7 @@ use Rattle.cics_units.specs.declared.ops.Entry.{Entry}
 use Rattle.cics_units.specs.Isolation.{Each, AreKnown}
 use Rattle.cics_units.specs.Holders.{meet, IsHeldByOne, HaveBegun}
 use Rattle.cics_units.proofs.Outcomes.{outcome_of-with, outcome_of-set}
-use Rattle.cics_units.proofs.Waiting.{any_map, any_flat_map, any_more, none_first, none_either, in_table, other_unit}
+use Rattle.cics_units.proofs.Waiting.{any_map, any_flat_map, any_more, one_begins, begins_same, lesser_cases, none_first, none_either, in_table, other_unit}
 
 -- ---- Lists
 
@@ -68,22 +68,6 @@ any_if p true xs h = (refl, h)
 any_if p false xs h = absurd (false≢true h)
 
 -- ---- Resources that overlap
-
-turned : (a b : Bytes) → is_same a b ≡ true → is_same b a ≡ true
-turned a b y = is_same-turned b a ∙ y
-
-overlaps-turned : (r s : Resource) → overlaps r s ≡ true → overlaps s r ≡ true
-overlaps-turned (FileKey f k) (FileKey g l) h =
-    let b = and_parts _ _ h in and_from _ _ (turned f g b.0) (turned k.items l.items b.1)
-overlaps-turned (TsQueue q) (TsQueue r) h = turned q r h
-overlaps-turned (ReadingEnd q) (ReadingEnd r) h = turned q r h
-overlaps-turned (WritingEnd q) (WritingEnd r) h = turned q r h
-overlaps-turned (User v) (User w) h = turned v.items w.items h
-overlaps-turned (FileKey f k) _ h = absurd (false≢true h)
-overlaps-turned (TsQueue q) _ h = absurd (false≢true h)
-overlaps-turned (ReadingEnd q) _ h = absurd (false≢true h)
-overlaps-turned (WritingEnd q) _ h = absurd (false≢true h)
-overlaps-turned (User v) _ h = absurd (false≢true h)
 
 meet-turned : (rs ts : List Resource) → meet rs ts ≡ true → meet ts rs ≡ true
 meet-turned rs ts h =
@@ -478,22 +462,22 @@ found_in [] u r m h = absurd (none_some m h)
     none_some m e = cc
 found_in (e ∷ t) u r m h = elim (cases_Bool (overlaps r e.0 && is_other u e.1.unit)) [
   | inl y ↦
-      let found : Some e.1.unit ≡ Some m = rw y at h in
-      let same : e.1.unit ≡ m = cc in
       let both = and_parts (overlaps r e.0) (is_other u e.1.unit) y in
-      or_left (found_one u r m e) (list_any (found_one u r m) t)
-      (and_from _ _ both.0 (and_from _ _ both.1 (eq-eqb e.1.unit m same)))
+      lesser_cases e (first_held t u r) (λ d. d.1.unit) m (rw y at h)
+      (λ same. or_left (found_one u r m e) (list_any (found_one u r m) t)
+      (and_from _ _ both.0 (and_from _ _ both.1 (eq-eqb e.1.unit m same))))
+      (λ later. or_right _ _ (found_in t u r m later))
   | inr n ↦ or_right _ _ (found_in t u r m (rw n at h))
 ]
 
-one_unit : (P : ℕ → Bool) (m : ℕ) (ks : List ℕ) → list_any (λ k. P k && eqb k m) ks ≡ true → P m ≡ true
+pub one_unit : (P : ℕ → Bool) (m : ℕ) (ks : List ℕ) → list_any (λ k. P k && eqb k m) ks ≡ true → P m ≡ true
 one_unit P m [] h = absurd (false≢true h)
 one_unit P m (k ∷ ks) h = elim (or_cases (P k && eqb k m) (list_any (λ k. P k && eqb k m) ks) h) [
   | inl y ↦ let both = and_parts (P k) (eqb k m) y in subst (λ z. P z ≡ true) (eqb-true k m both.1) both.0
   | inr y ↦ one_unit P m ks y
 ]
 
-found_holds : (s : UnitsState) (u : Option ℕ) (r : Resource) (m : ℕ) →
+pub found_holds : (s : UnitsState) (u : Option ℕ) (r : Resource) (m : ℕ) →
     first_holder (held_table s) u r ≡ Some m → list_any (overlaps r) (held_by s m) ≡ true
 found_holds s u r m h =
     one_unit (λ k. list_any (overlaps r) (held_by s k)) m (units_from 0 s.outcomes)
@@ -525,32 +509,46 @@ found_holds s u r m h =
         among k (held_by s k)
         (sym (any_map (λ y. (y, record { unit = k; count = 1 })) (found_one u r m) (held_by s k)) ∙ t)
 
--- what overlaps one resource overlaps
-overlaps-joined : (r s t : Resource) → overlaps r s ≡ true → overlaps r t ≡ true → overlaps s t ≡ true
-overlaps-joined (FileKey f k) (FileKey g l) (FileKey h m) a b =
+-- what overlaps one resource that is no prefix overlaps
+overlaps-joined : (r s t : Resource) → is_prefix r ≡ false → overlaps r s ≡ true → overlaps r t ≡ true → overlaps s t ≡ true
+overlaps-joined (FileKey f k) (FileKey g l) (FileKey h m) p a b =
     let c = and_parts (is_same f g) (is_same k.items l.items) a in
     let d = and_parts (is_same f h) (is_same k.items m.items) b in
     and_from _ _ (joined f g h c.0 d.0) (joined k.items l.items m.items c.1 d.1)
-overlaps-joined (TsQueue q) (TsQueue r) (TsQueue t) a b = joined q r t a b
-overlaps-joined (ReadingEnd q) (ReadingEnd r) (ReadingEnd t) a b = joined q r t a b
-overlaps-joined (WritingEnd q) (WritingEnd r) (WritingEnd t) a b = joined q r t a b
-overlaps-joined (User v) (User w) (User x) a b = joined v.items w.items x.items a b
-overlaps-joined (FileKey f k) (FileKey g l) _ a b = absurd (false≢true b)
-overlaps-joined (TsQueue q) (TsQueue r) _ a b = absurd (false≢true b)
-overlaps-joined (ReadingEnd q) (ReadingEnd r) _ a b = absurd (false≢true b)
-overlaps-joined (WritingEnd q) (WritingEnd r) _ a b = absurd (false≢true b)
-overlaps-joined (User v) (User w) _ a b = absurd (false≢true b)
-overlaps-joined (FileKey f k) _ _ a b = absurd (false≢true a)
-overlaps-joined (TsQueue q) _ _ a b = absurd (false≢true a)
-overlaps-joined (ReadingEnd q) _ _ a b = absurd (false≢true a)
-overlaps-joined (WritingEnd q) _ _ a b = absurd (false≢true a)
-overlaps-joined (User v) _ _ a b = absurd (false≢true a)
+overlaps-joined (FileKey f k) (FileKey g l) (FilePrefix h m) p a b =
+    let c = and_parts (is_same f g) (is_same k.items l.items) a in
+    let d = and_parts (is_same f h) (begins_with m.items k.items) b in
+    and_from _ _ (joined f g h c.0 d.0) (begins_same m.items k.items l.items c.1 d.1)
+overlaps-joined (FileKey f k) (FilePrefix g l) (FileKey h m) p a b =
+    let c = and_parts (is_same f g) (begins_with l.items k.items) a in
+    let d = and_parts (is_same f h) (is_same k.items m.items) b in
+    and_from _ _ (joined f g h c.0 d.0) (begins_same l.items k.items m.items d.1 c.1)
+overlaps-joined (FileKey f k) (FilePrefix g l) (FilePrefix h m) p a b =
+    let c = and_parts (is_same f g) (begins_with l.items k.items) a in
+    let d = and_parts (is_same f h) (begins_with m.items k.items) b in
+    and_from _ _ (joined f g h c.0 d.0) (one_begins l.items m.items k.items c.1 d.1)
+overlaps-joined (TsQueue q) (TsQueue r) (TsQueue t) p a b = joined q r t a b
+overlaps-joined (ReadingEnd q) (ReadingEnd r) (ReadingEnd t) p a b = joined q r t a b
+overlaps-joined (WritingEnd q) (WritingEnd r) (WritingEnd t) p a b = joined q r t a b
+overlaps-joined (User v) (User w) (User x) p a b = joined v.items w.items x.items a b
+overlaps-joined (FileKey f k) (FileKey g l) _ p a b = absurd (false≢true b)
+overlaps-joined (FileKey f k) (FilePrefix g l) _ p a b = absurd (false≢true b)
+overlaps-joined (TsQueue q) (TsQueue r) _ p a b = absurd (false≢true b)
+overlaps-joined (ReadingEnd q) (ReadingEnd r) _ p a b = absurd (false≢true b)
+overlaps-joined (WritingEnd q) (WritingEnd r) _ p a b = absurd (false≢true b)
+overlaps-joined (User v) (User w) _ p a b = absurd (false≢true b)
+overlaps-joined (FileKey f k) _ _ p a b = absurd (false≢true a)
+overlaps-joined (TsQueue q) _ _ p a b = absurd (false≢true a)
+overlaps-joined (ReadingEnd q) _ _ p a b = absurd (false≢true a)
+overlaps-joined (WritingEnd q) _ _ p a b = absurd (false≢true a)
+overlaps-joined (User v) _ _ p a b = absurd (false≢true a)
+overlaps-joined (FilePrefix f k) _ _ p a b = absurd (true≢false p)
 
--- whoever holds a resource, and is another unit than the one that asks, is found
+-- whoever holds a resource that is no prefix, and is another unit than the one that asks, is found
 pub holder-found : (s : UnitsState) → AreKnown s → HaveBegun s → IsHeldByOne s →
-    (u : Option ℕ) (r : Resource) (n : ℕ) → is_other u n ≡ true →
+    (u : Option ℕ) (r : Resource) (n : ℕ) → is_prefix r ≡ false → is_other u n ≡ true →
     list_any (overlaps r) (held_by s n) ≡ true → first_holder (held_table s) u r ≡ Some n
-holder-found s known begun one u r n other h =
+holder-found s known begun one u r n plain other h =
     elim (first_holder (held_table s) u r) as (λ f. first_holder (held_table s) u r ≡ f → f ≡ Some n) [
       | None ↦
           λ e. absurd
@@ -562,8 +560,22 @@ holder-found s known begun one u r n other h =
     both : (m : ℕ) → list_any (overlaps r) (held_by s m) ≡ true → meet (held_by s m) (held_by s n) ≡ true
     both m g =
         any_more (overlaps r) (λ y. list_any (overlaps y) (held_by s n))
-        (λ y a. any_more (overlaps r) (overlaps y) (λ z b. overlaps-joined r y z a b) (held_by s n) h)
+        (λ y a. any_more (overlaps r) (overlaps y) (λ z b. overlaps-joined r y z plain a b) (held_by s n) h)
         (held_by s m) g
+
+-- the unit that is found is another than the one that asks
+pub found_other : (t : Table) (u : Option ℕ) (r : Resource) (m : ℕ) → first_holder t u r ≡ Some m → is_other u m ≡ true
+found_other t u r m e = is_other_of t (found_in t u r m e)
+  where
+    is_other_of : (t : Table) → list_any (found_one u r m) t ≡ true → is_other u m ≡ true
+    is_other_of [] g = absurd (false≢true g)
+    is_other_of (d ∷ t) g = elim (or_cases (found_one u r m d) (list_any (found_one u r m) t) g) [
+      | inl y ↦
+          let a = and_parts (overlaps r d.0) (is_other u d.1.unit && eqb d.1.unit m) y in
+          let b = and_parts (is_other u d.1.unit) (eqb d.1.unit m) a.1 in
+          subst (λ k. is_other u k ≡ true) (eqb-true d.1.unit m b.1) b.0
+      | inr y ↦ is_other_of t y
+    ]
 
 -- and where no other unit holds it, none is found
 pub none_found : (s : UnitsState) (u : Option ℕ) (r : Resource) →
@@ -572,18 +584,5 @@ pub none_found : (s : UnitsState) (u : Option ℕ) (r : Resource) →
 none_found s u r h =
     elim (first_holder (held_table s) u r) as (λ f. first_holder (held_table s) u r ≡ f → f ≡ None) [
       | None ↦ λ e. refl
-      | Some m ↦ λ e. absurd (true≢false (sym (found_holds s u r m e) ∙ h m (found_other (held_table s) m e)))
+      | Some m ↦ λ e. absurd (true≢false (sym (found_holds s u r m e) ∙ h m (found_other (held_table s) u r m e)))
     ] refl
-  where
-    found_other : (t : Table) (m : ℕ) → first_holder t u r ≡ Some m → is_other u m ≡ true
-    found_other t m e = is_other_of t m (found_in t u r m e)
-      where
-        is_other_of : (t : Table) (m : ℕ) → list_any (found_one u r m) t ≡ true → is_other u m ≡ true
-        is_other_of [] m g = absurd (false≢true g)
-        is_other_of (d ∷ t) m g = elim (or_cases (found_one u r m d) (list_any (found_one u r m) t) g) [
-          | inl y ↦
-              let a = and_parts (overlaps r d.0) (is_other u d.1.unit && eqb d.1.unit m) y in
-              let b = and_parts (is_other u d.1.unit) (eqb d.1.unit m) a.1 in
-              subst (λ k. is_other u k ≡ true) (eqb-true d.1.unit m b.1) b.0
-          | inr y ↦ is_other_of t m y
-        ]

@@ -13,10 +13,10 @@ use Rattle.cics_units.specs.Execution.{unit_or_next, entered, state_of, after_ex
 use Rattle.cics_units.specs.Headline.{beginning}
 use Rattle.cics_units.specs.declared.ops.Op.{Op}
 use Rattle.cics_units.specs.declared.ops.UnitState.TheVariants.{Committed, BackedOut}
-use Rattle.cics_units.specs.Cells.{Cell, Key, Ts, Td, content, cell_of, Reading, Writing, IsCanonical}
+use Rattle.cics_units.specs.Cells.{Cell, Key, Ts, Td, content, Reading, Writing, IsCanonical}
 use Rattle.cics_units.specs.Events.{Event, Execute, Commit, BackOut, is_live, may_act, happens, run}
 use Rattle.cics_units.specs.Isolation.{Outcomes, with_entry, used, IsOneAtEachEnd, IsSound}
-use Rattle.cics_units.specs.Undo.{AllReady, image_of}
+use Rattle.cics_units.specs.Undo.{AllReady, images_by}
 use Rattle.cics_units.specs.Marks.{seen, shown, queue_backed_out}
 use Rattle.cics_units.specs.MarkImages.{marks_undone, AllMarksReady}
 use Rattle.cics_units.specs.Ends.{AreBackedOut, Marks, AreMarked, AreMarksOf, marks_opened, marks_executed, mark, marks_committed, marks_backed_out}
@@ -24,7 +24,9 @@ use Rattle.cics_units.specs.InPlace.{Parts, content_in_place, parts_opened, part
 use Rattle.cics_units.proofs.Executes.{alone, alone-own, alone-ended}
 use Rattle.cics_units.proofs.Waiting.{committed-content, free_end, MayRun_from}
 use Rattle.cics_units.proofs.States.{acting_open, entered-IsSound, happens-IsSound, run-IsSound, run-opening, beginning-IsSound, one_at_each_end}
-use Rattle.cics_units.proofs.Places.{same_outcomes, ended_by_set, beginning-IsPlaceOf, entered-IsPlaceOf, commit-IsPlaceOf, back_out-IsPlaceOf, image_of-AreImages, ready_of}
+use Rattle.cics_units.proofs.Places.{same_outcomes, ended_by_set, beginning-IsPlaceOf, entered-IsPlaceOf, commit-IsPlaceOf, back_out-IsPlaceOf, ready_of}
+use Rattle.cics_units.proofs.PrefixImages.{images_by-AreImages}
+use Rattle.cics_units.proofs.Isolated.{store_ordered}
 use Rattle.cics_units.proofs.Marking.{executes-AreMarked, commits-AreMarked, backs_out-AreMarked, opened-AreMarked, undone-queue, marks_ready}
 use Rattle.cics_units.proofs.Queues.{open_shows}
 use Rattle.cics_units.proofs.Stores.{same_store, initial-canonical, replay-canonical}
@@ -147,8 +149,8 @@ happens-IsInPlace s p (Execute u op) i h =
           (λ w. awaited s u op ≡ w →
           IsInPlace (state_of s u op w) (if not (is_some w) then parts_executed s p u op else p)) [
             | None ↦ λ free. (
-              entered-IsPlaceOf s p.place u op (image_of op (p.place.cells (cell_of op))) i h.0 acts free
-                  (image_of-AreImages op p.place.cells),
+              entered-IsPlaceOf s p.place u op (images_by (store_of s) op p.place.cells) i h.0 acts free
+                  (images_by-AreImages (store_of s) op p.place.cells (store_ordered i.isolated (outcome_of s.outcomes) s.trace) (λ g k. h.0.in_place (Key g k) refl)),
               entered-AreMarksOf s p.marks u op i h.1 acts free,
             )
             | Some holder ↦ λ waits. h
@@ -182,10 +184,10 @@ run-IsInPlace s p (e ∷ es) i h =
 abbrev pub parts_after : OpeningState → List Event → Parts
 parts_after o es = run_in_place (beginning o) (parts_opened o) es
 
-pub in_place_after : (o : OpeningState) (es : List Event) →
+pub in_place_after : (o : OpeningState) (es : List Event) → IsOpeningInOrder o →
     IsInPlace (run (beginning o) es) (parts_after o es)
-in_place_after o es =
-    run-IsInPlace (beginning o) (parts_opened o) es (beginning-IsSound o)
+in_place_after o es order =
+    run-IsInPlace (beginning o) (parts_opened o) es (beginning-IsSound o order)
     (beginning-IsPlaceOf o, beginning-AreMarksOf o)
 
 -- each cell in place holds what replaying what is kept gives
@@ -201,26 +203,26 @@ in_place_content s p h (Td q) =
       | false ↦ λ n. h.0.in_place (Td q) (rw n refl)
     ] refl
 
-pub cells_stay : (o : OpeningState) (es : List Event) (x : Cell) →
+pub cells_stay : (o : OpeningState) (es : List Event) (x : Cell) → IsOpeningInOrder o →
     content_in_place o (parts_after o es) x ≡ content (store_of (run (beginning o) es)) x
-cells_stay o es x =
+cells_stay o es x order =
     subst (λ z. content_in_place z (parts_after o es) x ≡ content (store_of (run (beginning o) es)) x)
     (run-opening (beginning o) es)
-    (in_place_content (run (beginning o) es) (parts_after o es) (in_place_after o es) x)
+    (in_place_content (run (beginning o) es) (parts_after o es) (in_place_after o es order) x)
 
 -- and the images of each open unit are ready, each in its turn
-pub images_stay_ready : (o : OpeningState) (es : List Event) (v : ℕ) →
+pub images_stay_ready : (o : OpeningState) (es : List Event) (v : ℕ) → IsOpeningInOrder o →
     is_live (run (beginning o) es) v ≡ true →
     AllReady (parts_after o es).place.cells ((parts_after o es).place.images v)
-images_stay_ready o es v live =
-    ready_of (run (beginning o) es) (parts_after o es).place v (in_place_after o es).0 live
+images_stay_ready o es v order live =
+    ready_of (run (beginning o) es) (parts_after o es).place v (in_place_after o es order).0 live
 
-pub mark_images_stay_ready : (o : OpeningState) (es : List Event) (v : ℕ) →
+pub mark_images_stay_ready : (o : OpeningState) (es : List Event) (v : ℕ) → IsOpeningInOrder o →
     is_live (run (beginning o) es) v ≡ true →
     AllMarksReady (parts_after o es).marks.queues ((parts_after o es).marks.images v)
-mark_images_stay_ready o es v live =
+mark_images_stay_ready o es v order live =
     marks_ready_of (run (beginning o) es) (parts_after o es).marks v
-    (run-IsSound (beginning o) es (beginning-IsSound o)) (in_place_after o es).1 live
+    (run-IsSound (beginning o) es (beginning-IsSound o order)) (in_place_after o es order).1 live
 
 -- a store in order that holds what is in place is the replay, as whole maps
 pub whole_stays : (o : OpeningState) (es : List Event) (held : Store) → IsOpeningInOrder o →
@@ -228,7 +230,7 @@ pub whole_stays : (o : OpeningState) (es : List Event) (held : Store) → IsOpen
     ((x : Cell) → content held x ≡ content_in_place o (parts_after o es) x) →
     held ≡ store_of (run (beginning o) es)
 whole_stays o es held order c h =
-    same_store held (store_of (run (beginning o) es)) c after (λ x. h x ∙ cells_stay o es x)
+    same_store held (store_of (run (beginning o) es)) c after (λ x. h x ∙ cells_stay o es x order)
   where
     after : IsCanonical (store_of (run (beginning o) es))
     after =

@@ -7,11 +7,17 @@ use Rattle.cics_units.specs.Openings.{OpeningState}
 use Rattle.cics_units.specs.Store.{is_recoverable, initial_store}
 use Rattle.cics_units.specs.History.{is_backed_out}
 use Rattle.cics_units.specs.declared.ops.Entry.{Entry}
-use Rattle.cics_units.specs.Cells.{Cell, content, End, Reading, Writing, recovers}
+use Rattle.cics_units.specs.Cells.{Cell, content, End, Reading, Writing, recovers, IsOrdered}
 use Rattle.cics_units.proofs.Effects.{Begins-antisym}
 use Rattle.cics_units.proofs.Joining.{touches-recovers}
+use Rattle.cics_units.proofs.Stores.{replay-ordered}
 use Rattle.cics_units.proofs.Replays.{Each_from, replay-at}
-use Rattle.cics_units.specs.Isolation.{Outcomes, stays, store_by, claims, used, Extends, Alike, AtMost, IsIsolated, IsFree}
+use Rattle.cics_units.specs.Isolation.{Outcomes, stays, left_by, store_by, claims, used, Extends, Alike, AtMost, IsIsolated, IsFree}
+
+-- in every store that the history may give, the keys of each file rise
+pub store_ordered : {o : OpeningState} {es : List Entry} {out : Outcomes} → IsIsolated o es out → (fin : Outcomes) (ds : List Entry) →
+    IsOrdered (store_by o fin ds)
+store_ordered {o} i fin ds = replay-ordered (initial_store o) (left_by o fin ds) i.ordered
 
 pub Extends-refl : (out : Outcomes) → Extends out out
 Extends-refl out u e = refl

@@ -1,22 +1,25 @@
 -- The store read by cells: `apply` acts on each cell that its command touches by what that cell holds, and on no
 -- other.
 use Rattle.std.proofs.Common.{◌≡◌, Bool, true, false, cond, ◌&&◌, Option, Some, None, List, [], ◌∷◌, ◌++◌, refl, ap, sym, subst, ◌∙◌, inl, inr}
-use Rattle.std.specs.Prelude.{is_some, unwrap_or, if◌then◌else◌}
+use Rattle.std.specs.Prelude.{is_some, not, unwrap_or, if◌then◌else◌}
 use Rattle.std.proofs.lemmas.Bool.{true≢false, false≢true, cases_Bool, and_parts, and_from}
 use Rattle.cics_names.specs.Keyed.{Bytes, Map, value_at, is_same, with_value, without}
 use Rattle.cics_names.specs.RisingLaws.{is_same-turned}
 use Rattle.cics_names.specs.KeyedLaws.{is_same-self, is_same-eq, value_at-with_value, value_at-with_value_same, value_at-with_value_other, value_at-without}
 use Rattle.cics_ksds.specs.Files.{records_after_write, records_after_rewrite, records_after_delete}
+use Rattle.cics_ksds.specs.Prefixes.{has_prefix, under, outside}
+use Rattle.cics_ksds.proofs.UnderPrefix.{prefix_itself}
 use Rattle.cics_tempstor.specs.Queues.{items_after_write, items_after_rewrite}
-use Rattle.cics_units.specs.Openings.{OpeningState}
-use Rattle.cics_units.specs.Store.{apply_td_write, apply_td_read, apply_td_delete, Store, apply, is_recoverable, answered, with_file, with_ts, with_td, ts_queue, is_normal, apply_write, apply_rewrite, apply_delete}
+use Rattle.cics_units.specs.Openings.{OpeningState, file_recoverable}
+use Rattle.cics_units.specs.Store.{apply_td_write, apply_td_read, apply_td_delete, Store, apply, is_recoverable, answered, with_file, with_ts, with_td, ts_queue, is_normal, apply_write, apply_rewrite, apply_delete, apply_delete_generic, counted_answer}
 use Rattle.cics_units.specs.declared.ops.Op.{Op}
-use Rattle.cics_units.specs.declared.ops.Op.TheVariants.{Write, Rewrite, Delete, ReadUpdate, TsWrite, TsRewrite, TsDelete, TdWrite, TdRead, TdDelete}
+use Rattle.cics_units.specs.declared.ops.Op.TheVariants.{Write, Rewrite, Delete, DeleteGeneric, ReadUpdate, TsWrite, TsRewrite, TsDelete, TdWrite, TdRead, TdDelete}
 use Rattle.cics_units.specs.declared.ops.Answer.{Answer}
-use Rattle.cics_units.specs.Cells.{Cell, Key, Ts, Td, Content, listed, record_in, content, cell_of, same_cell, touches, effected, effect, Reading, Writing, uses, recovers}
+use Rattle.cics_units.specs.Cells.{Cell, Key, Ts, Td, Content, listed, record_in, content, IsOrdered, is_generic, cell_of, same_cell, touches, effected, effect, Reading, Writing, uses, recovers}
 use Rattle.cics_units.specs.Isolation.{Begins}
 use Rattle.cics_units.proofs.Effects.{is_empty, effect-refused, effect-there, answer-front, answer-blind}
 use Rattle.cics_units.proofs.Maps.{cases_Option}
+use Rattle.cics_units.proofs.Generic.{value_at-where, none_under, answer-generic, refused-generic}
 
 pub same_cell-true : (x y : Cell) → same_cell x y ≡ true → x ≡ y
 same_cell-true (Key f k) (Key g l) e =
@@ -163,6 +166,31 @@ removed s f k g l =
       ]
     ]
 
+-- what is left beside a prefix holds nothing under it, and the other keys what they held
+cut_prefix : (p : Bytes) (m : Map Bytes) (l : Bytes) →
+    Some (listed (value_at l (outside p m))) ≡ cond (has_prefix p l) (Some []) (Some (listed (value_at l m)))
+cut_prefix p m l =
+    ap (λ w. Some (listed w)) (value_at-where (λ k. not (has_prefix p k)) l m)
+    ∙ elim (cases_Bool (has_prefix p l)) [ inl y ↦ rw y refl | inr n ↦ rw n refl ]
+
+removed_some : (s : Store) (f p g l : Bytes) (m : Map Bytes) → value_at f s.files ≡ Some m → (u : Map Bytes) → under p m ≡ u →
+    content (answered s (counted_answer u) (with_file s f (outside p m))).store (Key g l)
+    ≡ after_at (DeleteGeneric f p) (content s (Key g l)) (Key g l)
+removed_some s f p g l m e [] is =
+    file_kept s f (has_prefix p) (cell_after (DeleteGeneric f p))
+    (λ k y. rw e (ap (λ v. Some (listed v)) (sym (none_under p m is k y)))) g l
+removed_some s f p g l m e (x ∷ xs) is =
+    file_changed s f (has_prefix p) (cell_after (DeleteGeneric f p)) m (outside p m) e (cut_prefix p m) g l
+
+removed_under : (s : Store) (f p g l : Bytes) →
+    content (apply s (DeleteGeneric f p)).store (Key g l) ≡ after_at (DeleteGeneric f p) (content s (Key g l)) (Key g l)
+removed_under s f p g l =
+    let h = cell_after (DeleteGeneric f p) in
+    elim (cases_Option (value_at f s.files)) [
+      | inl e ↦ rw e (file_kept s f (has_prefix p) h (no_file s f p h refl e (has_prefix p)) g l)
+      | inr e ↦ rw e.1 (removed_some s f p g l e.0 e.1 (under p e.0) refl)
+    ]
+
 pub read_only : (s : Store) (f k : Bytes) → (apply s (ReadUpdate f k)).store ≡ s
 read_only s f k = elim (cases_Option (value_at f s.files)) [
   | inl e ↦ rw e refl
@@ -280,6 +308,10 @@ module _ (s : Store) where
     delete_aside f k None = refl
     delete_aside f k (Some m) = kept_if _ (with_file s f (records_after_delete m k)) part (files_aside f _)
 
+    generic_aside : (f p : Bytes) (o : Option (Map Bytes)) → part (apply_delete_generic s f p o).store ≡ part s
+    generic_aside f p None = refl
+    generic_aside f p (Some m) = kept_if _ (with_file s f (outside p m)) part (files_aside f _)
+
   ts_aside : {X : Type 0} (part : Store → X) →
       ((m : Map (List Bytes)) → part (record { files = s.files; ts = m; td = s.td }) ≡ part s) →
       (a : Answer) (q : Bytes) (items : List Bytes) → part (answered s a (with_ts s q items)).store ≡ part s
@@ -320,6 +352,11 @@ apply-content s (Delete f k) (Ts q) =
     delete_aside s (λ z. content z (Ts q)) (λ f m. refl) f k (value_at f s.files)
 apply-content s (Delete f k) (Td q) =
     delete_aside s (λ z. content z (Td q)) (λ f m. refl) f k (value_at f s.files)
+apply-content s (DeleteGeneric f p) (Key g l) = removed_under s f p g l
+apply-content s (DeleteGeneric f p) (Ts q) =
+    generic_aside s (λ z. content z (Ts q)) (λ f m. refl) f p (value_at f s.files)
+apply-content s (DeleteGeneric f p) (Td q) =
+    generic_aside s (λ z. content z (Td q)) (λ f m. refl) f p (value_at f s.files)
 apply-content s (ReadUpdate f k) (Key g l) = read_for_update s f k g l
 apply-content s (ReadUpdate f k) (Ts q) = ap (λ z. content z (Ts q)) (read_only s f k)
 apply-content s (ReadUpdate f k) (Td q) = ap (λ z. content z (Td q)) (read_only s f k)
@@ -362,48 +399,63 @@ apply-content s (TdDelete q) (Key g l) =
 apply-content s (TdDelete q) (Ts r) =
     td_delete_aside s (λ z. content z (Ts r)) (λ q c. refl) q (value_at q s.td)
 
--- and its answer is the one that its cell gives
-pub apply-answer : (s : Store) (op : Op) → (apply s op).answer ≡ (effect op (content s (cell_of op))).answer
-apply-answer s (Write f k r) =
+-- and the answer of one that acts on one cell is the one that its cell gives
+pub apply-answer : (s : Store) (op : Op) → is_generic op ≡ false → (apply s op).answer ≡ (effect op (content s (cell_of op))).answer
+apply-answer s (Write f k r) g =
     elim (cases_Option (value_at f s.files)) [
       | inl e ↦ rw e refl
       | inr e ↦
           elim (cases_Option (value_at k e.0)) [ inl d ↦ rw (e.1, d) refl | inr d ↦ rw (e.1, d.1) refl ]
     ]
-apply-answer s (Rewrite f k r) =
+apply-answer s (Rewrite f k r) g =
     elim (cases_Option (value_at f s.files)) [
       | inl e ↦ rw e refl
       | inr e ↦
           elim (cases_Option (value_at k e.0)) [ inl d ↦ rw (e.1, d) refl | inr d ↦ rw (e.1, d.1) refl ]
     ]
-apply-answer s (Delete f k) =
+apply-answer s (Delete f k) g =
     elim (cases_Option (value_at f s.files)) [
       | inl e ↦ rw e refl
       | inr e ↦
           elim (cases_Option (value_at k e.0)) [ inl d ↦ rw (e.1, d) refl | inr d ↦ rw (e.1, d.1) refl ]
     ]
-apply-answer s (ReadUpdate f k) =
+apply-answer s (DeleteGeneric f p) g = absurd (true≢false g)
+apply-answer s (ReadUpdate f k) g =
     elim (cases_Option (value_at f s.files)) [
       | inl e ↦ rw e refl
       | inr e ↦
           elim (cases_Option (value_at k e.0)) [ inl d ↦ rw (e.1, d) refl | inr d ↦ rw (e.1, d.1) refl ]
     ]
-apply-answer s (TsWrite q d) = refl
-apply-answer s (TsRewrite q n d) = refl
-apply-answer s (TsDelete q) = refl
-apply-answer s (TdWrite q d) =
+apply-answer s (TsWrite q d) g = refl
+apply-answer s (TsRewrite q n d) g = refl
+apply-answer s (TsDelete q) g = refl
+apply-answer s (TdWrite q d) g =
     elim (cases_Option (value_at q s.td)) [ inl e ↦ rw e refl | inr e ↦ rw e.1 refl ]
-apply-answer s (TdDelete q) =
+apply-answer s (TdDelete q) g =
     elim (cases_Option (value_at q s.td)) [ inl e ↦ rw e refl | inr e ↦ rw e.1 refl ]
-apply-answer s (TdRead q) = read (value_at q s.td)
+apply-answer s (TdRead q) g = read (value_at q s.td)
   where
     read : (o : Option (List Bytes)) → (apply_td_read s q o).answer ≡ (effect (TdRead q) o).answer
     read None = refl
     read (Some []) = refl
     read (Some (x ∷ xs)) = refl
 
+-- that of DELETE GENERIC is the count of the records under its prefix
+pub answer-counts : (s : Store) (f p : Bytes) (m : Map Bytes) → value_at f s.files ≡ Some m →
+    (apply s (DeleteGeneric f p)).answer ≡ counted_answer (under p m)
+answer-counts s f p m e = rw e refl
+
 pub touches-self : (op : Op) → touches op (cell_of op) ≡ true
+touches-self (DeleteGeneric f p) = and_from _ _ (is_same-self f) (prefix_itself p)
 touches-self op = same_cell-refl (cell_of op)
+
+-- a command that acts on one cell touches the one that it names
+pub touches-named : (op : Op) → is_generic op ≡ false → (x : Cell) → touches op x ≡ same_cell (cell_of op) x
+touches-named (DeleteGeneric f p) g x = absurd (true≢false g)
+touches-named op g x = refl
+
+pub touched-is : (op : Op) → is_generic op ≡ false → (x : Cell) → touches op x ≡ true → cell_of op ≡ x
+touched-is op g x y = same_cell-true (cell_of op) x (sym (touches-named op g x) ∙ y)
 
 pub apply-there : (s : Store) (op : Op) (x : Cell) →
     is_some (content (apply s op).store x) ≡ is_some (content s x)
@@ -411,46 +463,60 @@ apply-there s op x =
     ap is_some (apply-content s op x)
     ∙ elim (cases_Bool (touches op x)) [ inl y ↦ rw y (effect-there op (content s x)) | inr n ↦ rw n refl ]
 
--- an answer depends on the cells that the command touches alone
-pub answer-local : (op : Op) (s t : Store) →
+-- an answer depends on the cells that the command touches alone, where the keys rise
+pub answer-local : (op : Op) (s t : Store) → IsOrdered s → IsOrdered t →
     ((x : Cell) → touches op x ≡ true → content s x ≡ content t x) →
     (apply s op).answer ≡ (apply t op).answer
-answer-local op s t h =
-    apply-answer s op
-    ∙ (ap (λ c. (effect op c).answer) (h (cell_of op) (touches-self op)) ∙ sym (apply-answer t op))
+answer-local (DeleteGeneric f p) s t i j h =
+    answer-generic s t f p (value_at f s.files) (value_at f t.files) (i f) (j f)
+    (λ l y. h (Key f l) (and_from _ _ (is_same-self f) y))
+answer-local op s t i j h =
+    apply-answer s op refl
+    ∙ (ap (λ c. (effect op c).answer) (h (cell_of op) (touches-self op)) ∙ sym (apply-answer t op refl))
 
 -- and an answer that is not NORMAL leaves them
 pub answer-refused : (op : Op) (s : Store) → is_normal (apply s op).answer.condition ≡ false → (x : Cell) →
     touches op x ≡ true → (effect op (content s x)).cell ≡ content s x
+answer-refused (DeleteGeneric f p) s n (Key g l) y =
+    let both = and_parts (is_same f g) (has_prefix p l) y in
+    subst (λ z. (effect (DeleteGeneric f p) (content s (Key z l))).cell ≡ content s (Key z l)) (is_same-eq f g both.0)
+    (refused-generic s f p (value_at f s.files) n l both.1)
+answer-refused (DeleteGeneric f p) s n (Ts q) y = absurd (false≢true y)
+answer-refused (DeleteGeneric f p) s n (Td q) y = absurd (false≢true y)
 answer-refused op s n x y =
-    let same : cell_of op ≡ x = same_cell-true (cell_of op) x y in
+    let same : cell_of op ≡ x = touched-is op refl x y in
     subst (λ z. (effect op (content s z)).cell ≡ content s z) same
-    (effect-refused op (content s (cell_of op)) (ap (λ a. is_normal a.condition) (sym (apply-answer s op)) ∙ n))
+    (effect-refused op (content s (cell_of op)) (ap (λ a. is_normal a.condition) (sym (apply-answer s op refl)) ∙ n))
 
 pub blind-answer : (op : Op) (s t : Store) → uses op Reading ≡ false →
     is_some (content s (cell_of op)) ≡ is_some (content t (cell_of op)) →
     (apply s op).answer ≡ (apply t op).answer
 blind-answer (TdWrite q d) s t n h =
-    apply-answer s (TdWrite q d)
-    ∙ (answer-blind (TdWrite q d) _ _ refl h ∙ sym (apply-answer t (TdWrite q d)))
+    apply-answer s (TdWrite q d) refl
+    ∙ (answer-blind (TdWrite q d) _ _ refl h ∙ sym (apply-answer t (TdWrite q d) refl))
 blind-answer _ s t n h = absurd (true≢false n)
 
 pub front-answer : (op : Op) (s t : Store) → uses op Writing ≡ false →
     is_empty (content s (cell_of op)) ≡ false → Begins (content s (cell_of op)) (content t (cell_of op)) →
     (apply s op).answer ≡ (apply t op).answer
 front-answer (TdRead q) s t n some h =
-    apply-answer s (TdRead q) ∙ (answer-front (TdRead q) _ _ refl some h ∙ sym (apply-answer t (TdRead q)))
+    apply-answer s (TdRead q) refl ∙ (answer-front (TdRead q) _ _ refl some h ∙ sym (apply-answer t (TdRead q) refl))
 front-answer _ s t n some h = absurd (true≢false n)
 
 -- what a command touches is recoverable as a whole, or not
 pub touches-recovers : (o : OpeningState) (op : Op) (x : Cell) → touches op x ≡ true →
     is_recoverable o op ≡ recovers o x
-touches-recovers o op x y = recoverable_by_cell op ∙ ap (recovers o) (same_cell-true (cell_of op) x y)
+touches-recovers o (DeleteGeneric f p) (Key g l) y =
+    ap (file_recoverable o) (is_same-eq f g (and_parts (is_same f g) (has_prefix p l) y).0)
+touches-recovers o (DeleteGeneric f p) (Ts q) y = absurd (false≢true y)
+touches-recovers o (DeleteGeneric f p) (Td q) y = absurd (false≢true y)
+touches-recovers o op x y = recoverable_by_cell op ∙ ap (recovers o) (touched-is op refl x y)
   where
     recoverable_by_cell : (op : Op) → is_recoverable o op ≡ recovers o (cell_of op)
     recoverable_by_cell (Write f k r) = refl
     recoverable_by_cell (Rewrite f k r) = refl
     recoverable_by_cell (Delete f k) = refl
+    recoverable_by_cell (DeleteGeneric f p) = refl
     recoverable_by_cell (ReadUpdate f k) = refl
     recoverable_by_cell (TsWrite q d) = refl
     recoverable_by_cell (TsRewrite q n d) = refl

@@ -1,14 +1,14 @@
 -- Each call keeps the units: what their state says, what the files and images hold, and what the table tells.
 use Rattle.std.proofs.Common.{◌≡◌, ◌≢◌, ℕ, ◌<◌, ◌≤◌, Bool, true, false, not, Option, Some, None, List, [], ◌∷◌, length, length-append, refl, ap, sym, subst, ◌∙◌, arith}
-use Rattle.std.specs.Prelude.{is_some, map, option_map, unwrap_or, IsTrue, fold}
-use Rattle.std.proofs.lemmas.Bool.{false≢true, and_parts}
+use Rattle.std.specs.Prelude.{◌&&◌, is_some, map, option_map, unwrap_or, IsTrue, fold}
+use Rattle.std.proofs.lemmas.Bool.{false≢true, true≢false, and_parts}
 use Rattle.std.proofs.lemmas.List.{length-set}
-use Rattle.cics_names.specs.Keyed.{Bytes, Map, value_at, has_key, is_same, is_rising}
+use Rattle.cics_names.specs.Keyed.{Bytes, Map, value_at, has_key, is_same, is_rising, is_key_in}
 use Rattle.cics_names.specs.KeyedLaws.{is_same-eq}
 use Rattle.cics_names.specs.declared.conditions.Condition.{Condition}
 use Rattle.cics_images.specs.Cells.{is_other, AreReadyInTurn, LeadBack, images_of, is_unnamed}
 use Rattle.cics_ksds.specs.Files.{FileValue, key_of as file_key_of, fits_file}
-use Rattle.cics_ksds.specs.Undo.{ImageValue, key_of_image, Leads, undone, undone_before, settled}
+use Rattle.cics_ksds.specs.Undo.{ImageValue, key_of_image, Leads, undone, undone_before}
 use Rattle.cics_ksds.specs.declared.images.Before.{Before}
 use Rattle.cics_ksds.specs.declared.images.Before.TheVariants.{Added, Replaced, Removed}
 use Rattle.cics_enqueue.specs.Resources.{Table, released}
@@ -18,24 +18,29 @@ use Rattle.cics_units.specs.History.{is_open, kept}
 use Rattle.cics_units.specs.Holding.{UnitsState, store_of, awaited}
 use Rattle.cics_units.specs.Execution.{unit_or_next, outcomes_with, next_after, entered, state_of, after_execution, after_unlock, after_end, read_at, is_fit_for, is_ready_op}
 use Rattle.cics_units.specs.Headline.{IsHeadline, beginning}
-use Rattle.cics_units.specs.Cells.{Cell, Key, Ts, Td, content, cell_of as cell_of_op, Writing, uses, IsCanonical}
+use Rattle.cics_units.specs.Cells.{Cell, Key, Ts, Td, content, is_generic, cell_of as cell_of_op, Writing, uses, IsCanonical}
 use Rattle.cics_units.specs.Events.{may_act, is_live}
 use Rattle.cics_units.specs.Isolation.{IsSound}
 use Rattle.cics_units.specs.Undo.{is_plain, changes}
 use Rattle.cics_units.specs.RegionFiles.{IsThere, opened_files, file_of as file_of_opening}
-use Rattle.cics_units.specs.FilesImages.{cell_of, cell_of_image, files_content, FilesKeep, IsReadyFor, changed_where, changed_at, files_undone, files_settled, definitions_of}
+use Rattle.cics_units.specs.FilesImages.{cell_of, cell_of_image, files_content, files_hold, FilesKeep, IsReadyFor, files_undone, files_swept, definitions_of}
+use Rattle.cics_images.specs.NamedValues.{changed_where, changed_at, split, split_swept, of_value, of_split}
+use Rattle.cics_images.specs.NamedLaws.{split_cell}
+use Rattle.cics_images.specs.Cells.{all_swept}
+use Rattle.cics_ksds.specs.Files.{swept}
 use Rattle.cics_units.specs.FilesInPlace.{AreInPlace}
 use Rattle.cics_units.specs.Matching.{store_of_files, AreKept as KeptChanges}
-use Rattle.cics_units.specs.UnitImages.{kept_none, kept_by, AreOthersKept}
+use Rattle.cics_units.specs.UnitImages.{kept_none, kept_by, AreOthersKept, AreHeldForImages}
+use Rattle.cics_units.specs.UnitImagesLaws.{held_after_change}
 use Rattle.cics_units.specs.TableInPlace.{is_file_op, file_of, key_of, table_executed, table_unlocked}
 use Rattle.cics_units.specs.Parts.{UndoableValue, is_recoverable_in, IsRecordOf, IsFitOp, AreImagesAfter, AreChanged}
 use Rattle.cics_units.specs.KeptUnits.{AreKept}
 use Rattle.cics_units.specs.declared.ops.Op.{Op}
-use Rattle.cics_units.specs.declared.ops.Op.TheVariants.{Write, Rewrite, Delete, ReadUpdate, TsWrite, TsRewrite, TsDelete, TdWrite, TdRead, TdDelete}
+use Rattle.cics_units.specs.declared.ops.Op.TheVariants.{Write, Rewrite, Delete, DeleteGeneric, ReadUpdate, TsWrite, TsRewrite, TsDelete, TdWrite, TdRead, TdDelete}
 use Rattle.cics_units.specs.declared.ops.Answer.{Answer}
 use Rattle.cics_units.specs.declared.ops.UnitState.{UnitState}
 use Rattle.cics_units.specs.declared.ops.UnitState.TheVariants.{Open, Committed, BackedOut}
-use Rattle.cics_units.specs.declared.files.images.FilesImage.{FilesImage}
+use Rattle.cics_units.specs.FilesImages.{FilesImage}
 use Rattle.cics_units.proofs.Maps.{rising-with_value, rising-without}
 use Rattle.cics_units.proofs.Opened.{with_value-each}
 use Rattle.cics_units.proofs.Stores.{same_store, apply-canonical, replay-canonical, initial-canonical, file_canonical, value_at_each}
@@ -46,6 +51,37 @@ use Rattle.cics_units.proofs.TableInPlace.{table_begins, table_executed_of, tabl
 
 none_some : {A : Type 0} {x : A} → None ≡ Some x → ⊥
 none_some e = cc
+
+-- ---- What is held back
+-- with more room the units keep the same images of the same files
+pub roomier_held : (st new : UndoableValue) → AreHeldForImages files_hold cell_of_image st.files st.images → new.files ≡ st.files → ((w : ℕ) → kept_by new.images w ≡ kept_by st.images w) →
+    AreHeldForImages files_hold cell_of_image new.files new.images
+roomier_held st new held files same c has =
+    let before = held c (sym (ap (λ m. files_hold m c) files) ∙ has) in
+    (before.0, ap (λ is. is_unnamed cell_of_image is c) (same before.0) ∙ before.1)
+
+-- the files of an opening have no empty place
+none_held : (files : Map FileOpening) (c : List ℕ) → files_hold (opened_files files) c ≡ false
+none_held files c = by (split c)
+  where
+    by : (e : Option (Bytes × List ℕ)) → of_split false (λ (f : FileValue) (k : List ℕ). is_key_in k f.empties) (opened_files files) e ≡ false
+    by None = refl
+    by (Some e) = ap (of_value false (λ (f : FileValue). is_key_in e.1 f.empties)) (value_at_each file_of_opening e.0 files) ∙ opened (value_at e.0 files)
+      where
+        opened : (o : Option FileOpening) → of_value false (λ (f : FileValue). is_key_in e.1 f.empties) (option_map file_of_opening o) ≡ false
+        opened None = refl
+        opened (Some x) = refl
+
+either_false : (a b : Bool) → b ≡ false → (a && b) ≡ false
+either_false true b none = none
+either_false false b none = refl
+
+-- a unit that changes something keeps an image of each cell that it kept one of
+more_named : (old new : UndoableValue) (unit : ℕ) (f k : Bytes) (recoverable changed : Bool) → AreImagesAfter old new unit f k recoverable changed → (c : List ℕ) →
+    is_unnamed cell_of_image (kept_by old.images unit) c ≡ false → is_unnamed cell_of_image (kept_by new.images unit) c ≡ false
+more_named old new unit f k false changed after c named = ap (λ is. is_unnamed cell_of_image is c) after ∙ named
+more_named old new unit f k true false after c named = ap (λ is. is_unnamed cell_of_image is c) after.1 ∙ named
+more_named old new unit f k true true after c named = ap (λ is. is_unnamed cell_of_image is c) after.newest ∙ either_false (is_other (cell_of_image after.image) c) (is_unnamed cell_of_image (kept_by old.images unit) c) named
 
 module _ (s : UnitsState) (st : UndoableValue) (t : Table) (is : AreKept s st t) where
   -- ---- What the files are to the opening
@@ -97,6 +133,7 @@ module _ (s : UnitsState) (st : UndoableValue) (t : Table) (is : AreKept s st t)
   ready_fits u (Write f k r) file ready = record_of_defined f k r ready
   ready_fits u (Rewrite f k r) file ready = record_of_defined f k r (and_parts (is_fit_for (value_at f s.opening.files) k r) _ ready).0
   ready_fits u (Delete f k) file ready = defined_there f ready
+  ready_fits u (DeleteGeneric f p) file ready = absurd (false≢true file)
   ready_fits u (ReadUpdate f k) file ready = defined_there f (and_parts (has_key f s.opening.files) _ ready).0
   ready_fits u (TsWrite q d) file ready = absurd (false≢true file)
   ready_fits u (TsRewrite q n d) file ready = absurd (false≢true file)
@@ -127,7 +164,7 @@ module _ (s : UnitsState) (st : UndoableValue) (t : Table) (is : AreKept s st t)
   pub kept_headline : IsHeadline (record { state = s; store = store_of_files st.files })
   kept_headline = record { store = store_is; agrees = agrees_of s is.sound }
 
-  -- ---- Room for one more image
+  -- ---- Room for more images
   -- images in longer lists that keep the same
   pub kept_roomier : (new : UndoableValue) → new.files ≡ st.files → ((w : ℕ) → kept_by new.images w ≡ kept_by st.images w) → length st.images ≤ length new.images → AreKept s new t
   kept_roomier new files same longer = record {
@@ -145,6 +182,7 @@ module _ (s : UnitsState) (st : UndoableValue) (t : Table) (is : AreKept s st t)
     });
     definitions = subst (λ m. (f : Bytes) → definitions_of m f ≡ option_map (λ file. file.definition) (value_at f s.opening.files)) (sym files) is.definitions;
     table = is.table;
+    held = roomier_held st new is.held files same;
     begun = omega (arith, is.begun, longer);
   }
 
@@ -166,11 +204,12 @@ module _ (o : OpeningState) (m : Map FileValue) (in_order : IsOpeningInOrder o) 
     in_order = in_order;
     lawful_keys = lawful_keys;
     files_alone = files_alone;
-    sound = beginning-IsSound o;
+    sound = beginning-IsSound o in_order;
     canonical = subst IsCanonical (sym opened_store) (initial-canonical o in_order);
     place = beginning_in_place o m opened_store;
     definitions = λ f. ap (λ n. definitions_of n f) opened ∙ ap (option_map (λ x. x.definition)) (value_at_each file_of_opening f o.files) ∙ mapped (value_at f o.files);
     table = table_begins o;
+    held = λ c has. absurd (true≢false (sym has ∙ ap (λ n. files_hold n c) opened ∙ none_held o.files c));
     begun = omega arith;
   }
     where
@@ -183,6 +222,7 @@ recoverable_op : (o : OpeningState) (op : Op) → is_file_op op ≡ true → is_
 recoverable_op o (Write f k r) file = refl
 recoverable_op o (Rewrite f k r) file = refl
 recoverable_op o (Delete f k) file = refl
+recoverable_op o (DeleteGeneric f p) file = absurd (false≢true file)
 recoverable_op o (ReadUpdate f k) file = refl
 recoverable_op o (TsWrite q d) file = absurd (false≢true file)
 recoverable_op o (TsRewrite q n d) file = absurd (false≢true file)
@@ -195,6 +235,7 @@ pub key_op : (op : Op) → is_file_op op ≡ true → cell_of_op op ≡ Key (fil
 key_op (Write f k r) file = refl
 key_op (Rewrite f k r) file = refl
 key_op (Delete f k) file = refl
+key_op (DeleteGeneric f p) file = absurd (false≢true file)
 key_op (ReadUpdate f k) file = refl
 key_op (TsWrite q d) file = absurd (false≢true file)
 key_op (TsRewrite q n d) file = absurd (false≢true file)
@@ -203,10 +244,15 @@ key_op (TdWrite q d) file = absurd (false≢true file)
 key_op (TdRead q) file = absurd (false≢true file)
 key_op (TdDelete q) file = absurd (false≢true file)
 
+single_op : (op : Op) → is_file_op op ≡ true → is_generic op ≡ false
+single_op (DeleteGeneric f p) file = absurd (false≢true file)
+single_op op file = refl
+
 writes_op : (op : Op) → is_file_op op ≡ true → uses op Writing ≡ true
 writes_op (Write f k r) file = refl
 writes_op (Rewrite f k r) file = refl
 writes_op (Delete f k) file = refl
+writes_op (DeleteGeneric f p) file = refl
 writes_op (ReadUpdate f k) file = refl
 writes_op (TsWrite q d) file = refl
 writes_op (TsRewrite q n d) file = refl
@@ -220,6 +266,7 @@ pub next_none : (t : Store) (op : Op) (c : Condition) → is_file_op op ≡ true
 next_none t (Write f k r) c file = refl
 next_none t (Rewrite f k r) c file = refl
 next_none t (Delete f k) c file = refl
+next_none t (DeleteGeneric f p) c file = absurd (false≢true file)
 next_none t (ReadUpdate f k) c file = refl
 next_none t (TsWrite q d) c file = absurd (false≢true file)
 next_none t (TsRewrite q n d) c file = absurd (false≢true file)
@@ -250,13 +297,13 @@ module _ (s : UnitsState) (st new : UndoableValue) (t : Table) (is : AreKept s s
     place_then : (r c : Bool) → is_recoverable_in (value_at (file_of op) st.files) ≡ r → changes op (content (store_of_files st.files) (Key (file_of op) (key_of op))) ≡ c →
         AreImagesAfter st new (unit_or_next u s.outcomes) (file_of op) (key_of op) r c → AreInPlace (after_execution s u op) new.files new.images
     place_then false c er ec images =
-        executed_plain s st.files new.files st.images new.images u op (file_of op) (key_of op) is.sound is.place acts free (key_op op file) (writes_op op file) changed.store changed.others apart
+        executed_plain s st.files new.files st.images new.images u op (file_of op) (key_of op) is.sound is.place acts free (key_op op file) (single_op op file) (writes_op op file) changed.store changed.others apart
         (rec false er) images
     place_then true true er ec images =
-        executed_kept s st.files new.files st.images new.images u op (file_of op) (key_of op) is.sound is.place acts free (key_op op file) (writes_op op file) changed.store changed.others apart
+        executed_kept s st.files new.files st.images new.images u op (file_of op) (key_of op) is.sound is.place acts free (key_op op file) (single_op op file) (writes_op op file) changed.store changed.others apart
         (rec true er) (at_key true ec) images.image images.undoes images.newest
     place_then true false er ec images =
-        executed_unchanged s st.files new.files st.images new.images u op (file_of op) (key_of op) is.sound is.place acts free (key_op op file) (writes_op op file) changed.store changed.others apart
+        executed_unchanged s st.files new.files st.images new.images u op (file_of op) (key_of op) is.sound is.place acts free (key_op op file) (single_op op file) (writes_op op file) changed.store changed.others apart
         (at_key false ec) images.0 images.1
 
     pub kept_executed : AreKept (entered s u op answer) new (table_executed s.opening (unit_or_next u s.outcomes) op answer.condition s.reads t)
@@ -269,6 +316,8 @@ module _ (s : UnitsState) (st new : UndoableValue) (t : Table) (is : AreKept s s
       place = subst (λ n. AreInPlace n new.files new.images) is_entered (place_then _ _ refl refl changed.images);
       definitions = λ f. ap (λ d. d f) (kept_definitions (is_other (cell_of (file_of op) (key_of op))) st.files new.files changed.others) ∙ is.definitions f;
       table = table_executed_of s t u op answer is.sound is.table acts file free ready short;
+      held = held_after_change files_hold cell_of_image st.files new.files st.images new.images (unit_or_next u s.outcomes) changed.apart changed.held
+          (more_named st new (unit_or_next u s.outcomes) (file_of op) (key_of op) _ _ changed.images) is.held;
       begun = begun_by u room;
     }
       where
@@ -288,6 +337,7 @@ module _ (s : UnitsState) (st : UndoableValue) (t : Table) (is : AreKept s st t)
     place = record { changes = is.place.changes; place = is.place.place; kept = is.place.kept; ready = is.place.ready; over = is.place.over };
     definitions = is.definitions;
     table = table_unlocked_of s t u f is.sound is.table live;
+    held = is.held;
     begun = is.begun;
   }
 
@@ -295,17 +345,17 @@ module _ (s : UnitsState) (st : UndoableValue) (t : Table) (is : AreKept s st t)
 
 -- the keys of each file go on rising when images are undone, and when they are given up
 module _ (m : Map FileValue) (canonical : IsCanonical (store_of_files m)) (i : FilesImage) where
-  records_rise : (f : FileValue) → value_at i.file m ≡ Some f → is_rising f.records ≡ true
-  records_rise f at = subst (λ o. is_in_order o ≡ true) (value_at_each (λ x. x.records) i.file m ∙ ap (option_map (λ x. x.records)) at) (canonical.records i.file)
+  records_rise : (f : FileValue) → value_at i.name m ≡ Some f → is_rising f.records ≡ true
+  records_rise f at = subst (λ o. is_in_order o ≡ true) (value_at_each (λ x. x.records) i.name m ∙ ap (option_map (λ x. x.records)) at) (canonical.records i.name)
 
   changed_canonical : (step : FileValue → FileValue) → ((f : FileValue) → is_rising f.records ≡ true → is_rising (step f).records ≡ true) →
-      IsCanonical (store_of_files (changed_at step i.file m))
-  changed_canonical step keeps = by (value_at i.file m) refl
+      IsCanonical (store_of_files (changed_at step i.name m))
+  changed_canonical step keeps = by (value_at i.name m) refl
     where
-      by : (o : Option FileValue) → value_at i.file m ≡ o → IsCanonical (store_of_files (changed_where step i.file o m))
+      by : (o : Option FileValue) → value_at i.name m ≡ o → IsCanonical (store_of_files (changed_where step i.name o m))
       by None at = canonical
-      by (Some f) at = subst IsCanonical (λ j. record { files = sym (with_value-each (λ x. x.records) i.file (step f) m) j; ts = []; td = [] })
-          (file_canonical (store_of_files m) canonical i.file (step f).records (keeps f (records_rise f at)))
+      by (Some f) at = subst IsCanonical (λ j. record { files = sym (with_value-each (λ x. x.records) i.name (step f) m) j; ts = []; td = [] })
+          (file_canonical (store_of_files m) canonical i.name (step f).records (keeps f (records_rise f at)))
 
 undone_rises : (i : ImageValue) (f : FileValue) → is_rising f.records ≡ true → is_rising (undone f i).records ≡ true
 undone_rises i f rises = by i.before
@@ -319,13 +369,16 @@ pub undone_canonical : (is : List FilesImage) (m : Map FileValue) → IsCanonica
 undone_canonical [] m canonical = canonical
 undone_canonical (i ∷ is) m canonical = undone_canonical is (files_undone m i) (changed_canonical m canonical i (λ f. undone f i.image) (undone_rises i.image))
 
-pub settled_canonical : (is : List FilesImage) (m : Map FileValue) → IsCanonical (store_of_files m) → IsCanonical (store_of_files (fold files_settled m is))
-settled_canonical [] m canonical = canonical
-settled_canonical (i ∷ is) m canonical = settled_canonical is (files_settled m i) (changed_canonical m canonical i (λ f. settled f i.image) (λ f rises. rises))
+pub swept_canonical : (is : List FilesImage) (m : Map FileValue) → IsCanonical (store_of_files m) → IsCanonical (store_of_files (all_swept files_swept cell_of_image m is))
+swept_canonical [] m canonical = canonical
+swept_canonical (i ∷ is) m canonical = swept_canonical is (files_swept m (cell_of_image i))
+    (subst (λ o. IsCanonical (store_of_files (split_swept swept m o))) (sym (split_cell i.name (key_of_image i.image)))
+    (changed_canonical m canonical i (λ f. swept f (key_of_image i.image)) (λ f rises. rises)))
 
 module _ (s : UnitsState) (st new : UndoableValue) (t : Table) (is : AreKept s st t) (u : ℕ) (live : is_live s u ≡ true)
     (keeps : FilesKeep (is_unnamed cell_of_image (kept_by st.images u)) st.files new.files) (fixed : definitions_of new.files ≡ definitions_of st.files)
-    (gone : kept_by new.images u ≡ []) (others : AreOthersKept st.images new.images u) where
+    (gone : kept_by new.images u ≡ []) (others : AreOthersKept st.images new.images u)
+    (held : AreHeldForImages files_hold cell_of_image st.files st.images → AreHeldForImages files_hold cell_of_image new.files new.images) where
   others_apart : (w : ℕ) → w ≢ u → kept_by new.images w ≡ kept_by st.images w
   others_apart w other = ap (λ o. (unwrap_or o kept_none).newest_first) (others.rows w other)
 
@@ -340,22 +393,23 @@ module _ (s : UnitsState) (st new : UndoableValue) (t : Table) (is : AreKept s s
     place = place;
     definitions = λ f. ap (λ d. d f) fixed ∙ is.definitions f;
     table = table_ended_of s t u outcome is.sound is.table live shut;
+    held = held is.held;
     begun = omega (arith, is.begun, others.count, length-set s.outcomes u outcome);
   }
 
-  pub kept_committed : ((c : List ℕ) → files_content new.files c ≡ files_content st.files c) → new.files ≡ fold files_settled st.files (kept_by st.images u) →
+  pub kept_committed : ((c : List ℕ) → files_content new.files c ≡ files_content st.files c) → new.files ≡ all_swept files_swept cell_of_image st.files (kept_by st.images u) →
       AreKept (after_end s u Committed) new (released t u)
-  kept_committed same whole = ended Committed refl (subst (λ m. IsCanonical (store_of_files m)) (sym whole) (settled_canonical (kept_by st.images u) st.files is.canonical))
+  kept_committed same whole = ended Committed refl (subst (λ m. IsCanonical (store_of_files m)) (sym whole) (swept_canonical (kept_by st.images u) st.files is.canonical))
       (committed_in_place s st.files new.files st.images new.images u is.sound is.place live keeps fixed gone others_apart same)
 
   pub kept_backed_out : ((c : List ℕ) → LeadBack (λ i. Leads i.image) (images_of cell_of_image c (kept_by st.images u)) (files_content st.files c) (files_content new.files c)) →
-      new.files ≡ fold files_undone st.files (kept_by st.images u) → AreKept (after_end s u BackedOut) new (released t u)
-  kept_backed_out led whole = ended BackedOut refl (subst (λ m. IsCanonical (store_of_files m)) (sym whole) (undone_canonical (kept_by st.images u) st.files is.canonical))
+      new.files ≡ all_swept files_swept cell_of_image (fold files_undone st.files (kept_by st.images u)) (kept_by st.images u) → AreKept (after_end s u BackedOut) new (released t u)
+  kept_backed_out led whole = ended BackedOut refl (subst (λ m. IsCanonical (store_of_files m)) (sym whole) (swept_canonical (kept_by st.images u) _ (undone_canonical (kept_by st.images u) st.files is.canonical)))
       (backed_out_in_place s st.files new.files st.images new.images u is.sound is.place live keeps fixed gone others_apart led)
 
   -- a commit leaves the store
-  pub committed_store : ((c : List ℕ) → files_content new.files c ≡ files_content st.files c) → new.files ≡ fold files_settled st.files (kept_by st.images u) →
+  pub committed_store : ((c : List ℕ) → files_content new.files c ≡ files_content st.files c) → new.files ≡ all_swept files_swept cell_of_image st.files (kept_by st.images u) →
       store_of_files new.files ≡ store_of_files st.files
   committed_store same whole = same_store (store_of_files new.files) (store_of_files st.files)
-      (subst (λ m. IsCanonical (store_of_files m)) (sym whole) (settled_canonical (kept_by st.images u) st.files is.canonical)) is.canonical
+      (subst (λ m. IsCanonical (store_of_files m)) (sym whole) (swept_canonical (kept_by st.images u) st.files is.canonical)) is.canonical
       (λ x. sym (same_cells st.files new.files fixed same x))

@@ -11,7 +11,7 @@ cases_Option (Some x) = inr (x, refl)
 pub to_T : (b : Bool) → b ≡ true → T b
 to_T b e = subst T (sym e) tt
 
-of_T : (b : Bool) → T b → b ≡ true
+pub of_T : (b : Bool) → T b → b ≡ true
 of_T true t = refl
 of_T false t = absurd t
 

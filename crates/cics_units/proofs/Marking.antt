@@ -85,14 +85,14 @@ module _ {o : OpeningState} {es : List Entry} {out : Outcomes} (i : IsIsolated o
       is_normal (entry_now o out es v (TdWrite q r)).answer.condition ≡ true
   write_normal r may y =
       ap (λ a. is_normal a.condition)
-      (apply-answer (store_by o out es) (TdWrite q r)
+      (apply-answer (store_by o out es) (TdWrite q r) refl
       ∙ ap (λ c. (effect (TdWrite q r) c).answer) (shows i v (TdWrite q r) q refl logical may (queues q) h))
 
   pub delete_normal : MayRun o es out v (TdDelete q) → touches (TdDelete q) (Td q) ≡ true →
       is_normal (entry_now o out es v (TdDelete q)).answer.condition ≡ true
   delete_normal may y =
       ap (λ a. is_normal a.condition)
-      (apply-answer (store_by o out es) (TdDelete q)
+      (apply-answer (store_by o out es) (TdDelete q) refl
       ∙ ap (λ c. (effect (TdDelete q) c).answer) (shows i v (TdDelete q) q refl logical may (queues q) h))
 
   -- the unit's own commands

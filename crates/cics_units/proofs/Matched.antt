@@ -13,9 +13,9 @@ use Rattle.cics_ksds.specs.Undo.{key_of_image, Leads as FileLeads}
 use Rattle.cics_units.specs.Cells.{Key, Content, same_cell, listed, record_in}
 use Rattle.cics_units.specs.Undo.{Image, Leads, names}
 use Rattle.cics_units.specs.FilesImages.{cell_of, cell_of_image}
-use Rattle.cics_units.specs.FilesImagesLaws.{took, left}
+use Rattle.cics_images.specs.NamedLaws.{took, left}
 use Rattle.cics_units.specs.Matching.{shown, IsKept, AreKept}
-use Rattle.cics_units.specs.declared.files.images.FilesImage.{FilesImage}
+use Rattle.cics_units.specs.FilesImages.{FilesImage}
 
 -- the name and the key are read back from a cell
 name_in : images.Cell → Bytes
@@ -60,7 +60,7 @@ same_cell-bytes f g k l = elim (cases_Bool (bytes_eq (cell_of f k) (cell_of g l)
 
 -- whether an image that is kept is of a cell, by its change
 pub of_cell : (c : Image) (i : FilesImage) → IsKept c i → (f k : Bytes) → bytes_eq (cell_of_image i) (cell_of f k) ≡ same_cell c.cell (Key f k)
-of_cell c i kept f k = same_cell-bytes i.file f (key_of_image i.image) k ∙ ap (λ x. same_cell x (Key f k)) (sym kept.cell)
+of_cell c i kept f k = same_cell-bytes i.name f (key_of_image i.image) k ∙ ap (λ x. same_cell x (Key f k)) (sym kept.cell)
 
 -- what the changes lead a key back to, the images that are kept do
 pub led_back : (cs : List Image) (is : List FilesImage) → AreKept cs is → (f k : Bytes) (from to : Content) → Leads cs (Key f k) from to →

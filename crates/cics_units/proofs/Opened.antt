@@ -17,7 +17,7 @@ use Rattle.cics_units.specs.declared.opening.DefineFault.{DefineFault}
 use Rattle.cics_units.specs.declared.opening.DefineFault.TheVariants.{Duplicate, BadKey, BadLength, NotThere}
 use Rattle.cics_units.specs.Replaying.{files_alone}
 use Rattle.cics_units.specs.RegionFiles.{opening_of, openings_of, opened_files, IsLoaded, AreLoaded}
-use Rattle.cics_units.proofs.Named.{lookup-value_at}
+use Rattle.cics_units.proofs.Entries.{lookup-value_at}
 
 -- ---- maps by name, each value seen in another way
 module _ {X Y : Type 0} (v : X → Y) where

@@ -11,14 +11,14 @@ use Rattle.cics_names.specs.Keyed.{Bytes, is_same}
 use Rattle.cics_names.specs.KeyedLaws.{is_same-eq}
 use Rattle.cics_enqueue.specs.Resources.{Table, Held, held_at, holder_of, IsFreeFor, is_user, is_in_order, raised_count, resource_cmp, taken, given_back}
 use Rattle.cics_enqueue.proofs.TableLaws.{given_back-taken}
-use Rattle.cics_enqueue.specs.ResourceLaws.{resource_cmp_total, same_resources}
+use Rattle.cics_enqueue.specs.ResourceLaws.{free_own, resource_cmp_total, same_resources}
 use Rattle.cics_enqueue.specs.declared.resources.Resource.{Resource}
 use Rattle.cics_units.specs.Holding.{UpdateRead}
 use Rattle.cics_units.specs.Execution.{is_read_of, read_at, covers}
 use Rattle.cics_units.specs.OpenReads.{is_read_key}
-use Rattle.cics_units.specs.TableInPlace.{AreOnce}
+use Rattle.cics_units.specs.TableInPlace.{is_file_op, AreOnce}
 use Rattle.cics_units.specs.declared.ops.Op.{Op}
-use Rattle.cics_units.specs.declared.ops.Op.TheVariants.{Write, Rewrite, Delete, ReadUpdate, TsWrite, TsRewrite, TsDelete, TdWrite, TdRead, TdDelete}
+use Rattle.cics_units.specs.declared.ops.Op.TheVariants.{Write, Rewrite, Delete, DeleteGeneric, ReadUpdate, TsWrite, TsRewrite, TsDelete, TdWrite, TdRead, TdDelete}
 use Rattle.cics_units.proofs.Waiting.{any_more}
 
 -- to hold a resource as it is held changes nothing
@@ -84,7 +84,7 @@ held_own t r u free some = by (holder_of r t) refl some
   where
     by : (o : Option ℕ) → holder_of r t ≡ o → is_some o ≡ true → holder_of r t ≡ Some u
     by None at is = absurd (false≢true is)
-    by (Some v) at is = at ∙ ap Some (free v at)
+    by (Some v) at is = at ∙ ap Some (free_own t r u free v at)
 
 -- what was taken for a command that then found no memory is given back, where nobody held it before
 pub let_go-taken : (t : Table) (r : Resource) (u : ℕ) (was_free : Bool) → T (is_in_order t) → is_user r ≡ false → IsFreeFor t r u →
@@ -100,23 +100,24 @@ let_go-taken t r u false rises plain free some = taken-held t r u rises (held_ow
     someone None e = absurd (true≢false e)
     someone (Some v) e = refl
 
--- a command that is no REWRITE and no DELETE covers no read
+-- a command on one record that is no REWRITE and no DELETE covers no read
 module _ (u : ℕ) where
-  covers-false : (op : Op) → ((f k r : Bytes) → op ≡ Rewrite f k r → ⊥) → ((f k : Bytes) → op ≡ Delete f k → ⊥) → (r : UpdateRead) → covers u op r ≡ false
-  covers-false (Write f k x) no_rewrite no_delete r = refl
-  covers-false (Rewrite f k x) no_rewrite no_delete r = absurd (no_rewrite f k x refl)
-  covers-false (Delete f k) no_rewrite no_delete r = absurd (no_delete f k refl)
-  covers-false (ReadUpdate f k) no_rewrite no_delete r = refl
-  covers-false (TsWrite q d) no_rewrite no_delete r = refl
-  covers-false (TsRewrite q n d) no_rewrite no_delete r = refl
-  covers-false (TsDelete q) no_rewrite no_delete r = refl
-  covers-false (TdWrite q d) no_rewrite no_delete r = refl
-  covers-false (TdRead q) no_rewrite no_delete r = refl
-  covers-false (TdDelete q) no_rewrite no_delete r = refl
+  covers-false : (op : Op) → ((f k r : Bytes) → op ≡ Rewrite f k r → ⊥) → ((f k : Bytes) → op ≡ Delete f k → ⊥) → is_file_op op ≡ true → (r : UpdateRead) → covers u op r ≡ false
+  covers-false (Write f k x) no_rewrite no_delete file r = refl
+  covers-false (Rewrite f k x) no_rewrite no_delete file r = absurd (no_rewrite f k x refl)
+  covers-false (Delete f k) no_rewrite no_delete file r = absurd (no_delete f k refl)
+  covers-false (DeleteGeneric f p) no_rewrite no_delete file r = absurd (false≢true file)
+  covers-false (ReadUpdate f k) no_rewrite no_delete file r = refl
+  covers-false (TsWrite q d) no_rewrite no_delete file r = refl
+  covers-false (TsRewrite q n d) no_rewrite no_delete file r = refl
+  covers-false (TsDelete q) no_rewrite no_delete file r = refl
+  covers-false (TdWrite q d) no_rewrite no_delete file r = refl
+  covers-false (TdRead q) no_rewrite no_delete file r = refl
+  covers-false (TdDelete q) no_rewrite no_delete file r = refl
 
-  module _ (op : Op) (reads : List UpdateRead) (no_rewrite : (f k r : Bytes) → op ≡ Rewrite f k r → ⊥) (no_delete : (f k : Bytes) → op ≡ Delete f k → ⊥) where
+  module _ (op : Op) (reads : List UpdateRead) (no_rewrite : (f k r : Bytes) → op ≡ Rewrite f k r → ⊥) (no_delete : (f k : Bytes) → op ≡ Delete f k → ⊥) (file : is_file_op op ≡ true) where
     pub uncovered_any : list_any (covers u op) reads ≡ false
-    uncovered_any = ap (λ p. list_any p reads) (λ i r. covers-false op no_rewrite no_delete r i) ∙ covers_none reads
+    uncovered_any = ap (λ p. list_any p reads) (λ i r. covers-false op no_rewrite no_delete file r i) ∙ covers_none reads
 
     pub uncovered_rest : filter (λ r. not (covers u op r)) reads ≡ reads
-    uncovered_rest = ap (λ p. filter p reads) (λ i r. not (covers-false op no_rewrite no_delete r i)) ∙ ends_none reads
+    uncovered_rest = ap (λ p. filter p reads) (λ i r. not (covers-false op no_rewrite no_delete file r i)) ∙ ends_none reads

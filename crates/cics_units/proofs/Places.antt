@@ -14,11 +14,11 @@ use Rattle.cics_units.specs.declared.ops.Op.{Op}
 use Rattle.cics_units.specs.declared.ops.Entry.{Entry}
 use Rattle.cics_units.specs.declared.ops.UnitState.{UnitState}
 use Rattle.cics_units.specs.declared.ops.UnitState.TheVariants.{Open, Committed, BackedOut}
-use Rattle.cics_units.specs.Cells.{Cell, Content, content, cell_of, same_cell, touches, effect, Writing, recovers}
+use Rattle.cics_units.specs.Cells.{Cell, Content, content, is_generic, cell_of, same_cell, touches, effect, Writing, recovers}
 use Rattle.cics_units.specs.Events.{is_live, may_act}
 use Rattle.cics_units.specs.Isolation.{Outcomes, store_by, used, Extends, IsSound}
 use Rattle.cics_units.specs.Undo.{Image, Cells, Leads, names, is_plain, changes, AreImages, image_of, Place, without_images, put, ended, IsUndoable, AllReady, IsPlaceOf, placed, place_executed, place_committed, place_undone}
-use Rattle.cics_units.proofs.Joining.{same_cell-true, same_cell-refl}
+use Rattle.cics_units.proofs.Joining.{same_cell-true, same_cell-refl, touches-named}
 use Rattle.cics_units.proofs.Isolated.{Extends-refl, unrecovered}
 use Rattle.cics_units.proofs.Executes.{open_kept}
 use Rattle.cics_units.proofs.Waiting.{MayRun_from}
@@ -116,9 +116,9 @@ images_ready {o} {es} {out} {p} h u on =
       )
     ])
 
--- the image of a command on one cell
-pub image_of-AreImages : (op : Op) (s : Cells) → AreImages op s (image_of op (s (cell_of op)))
-image_of-AreImages op s x = single op (λ y. refl) x
+-- the image of a command that acts on one cell
+pub image_of-AreImages : (op : Op) (s : Cells) → is_generic op ≡ false → AreImages op s (image_of op (s (cell_of op)))
+image_of-AreImages op s one x = single op (touches-named op one) x
   where
     single : (op : Op) → ((x : Cell) → touches op x ≡ same_cell (cell_of op) x) →
         AreImages op s (image_of op (s (cell_of op)))

@@ -14,9 +14,10 @@ use Rattle.cics_names.specs.KeyedLaws.{same_bytes}
 use Rattle.cics_names.specs.RisingLaws.{without-absent, rising-without}
 use Rattle.cics_names.specs.declared.conditions.Condition.TheVariants.{Normal, Duprec, Notfnd, Itemerr, Qiderr}
 use Rattle.cics_ksds.specs.Files.{records_after_write, records_after_rewrite, records_after_delete}
+use Rattle.cics_ksds.specs.Prefixes.{has_prefix, under, outside}
 use Rattle.cics_tempstor.specs.Queues.{Queue, most_items, has_item, is_there}
-use Rattle.cics_units.specs.Store.{Store, is_normal, apply_write, apply_rewrite, apply_delete, apply_ts_write, apply_ts_rewrite, apply_ts_delete, ts_queue, with_ts, with_file}
-use Rattle.cics_units.proofs.Named.{first, second, value_at-below, value_at-looked_up, with_value-set, rising-set, with_value-same}
+use Rattle.cics_units.specs.Store.{Store, is_normal, apply_write, apply_rewrite, apply_delete, apply_delete_generic, counted_answer, apply_ts_write, apply_ts_rewrite, apply_ts_delete, ts_queue, with_ts, with_file}
+use Rattle.cics_units.proofs.Entries.{first, second, value_at-below, value_at-looked_up, with_value-set, rising-set, with_value-same}
 
 absent : {X : Type 0} (o : Option X) → is_some o ≡ false → o ≡ None
 absent None e = refl
@@ -105,6 +106,38 @@ module _ (files new_files : Map (Map Bytes)) (ts : Map Queue) (s : Store) (is : 
         ] refl
         ∙ ap (λ o. (apply_delete (store_of files ts) f k o).store) (sym there)
         ∙ ap (λ s. (apply_delete s f k (value_at f s.files)).store) is
+
+-- where no record is under a prefix, all are beside it
+beside_all : (p : Bytes) (m : Map Bytes) → under p m ≡ [] → outside p m ≡ m
+beside_all p [] none = refl
+beside_all p (e ∷ m) none =
+    elim (has_prefix p e.0) as (λ b. cond b (e ∷ under p m) (under p m) ≡ [] → cond (not b) (e ∷ outside p m) (outside p m) ≡ e ∷ m) [
+      | true ↦ λ some. cc
+      | false ↦ λ none. ap (λ n. e ∷ n) (beside_all p m none)
+    ] none
+
+module _ (files new_files : Map (Map Bytes)) (ts : Map Queue) (s : Store) (is : store_of files ts ≡ s) (f p : Bytes) where
+  pub generic_nowhere : None ≡ lookup (is_at (bytes_cmp f)) files → new_files ≡ files → store_of new_files ts ≡ (apply_delete_generic s f p (value_at f s.files)).store
+  generic_nowhere missing same =
+      ap (λ n. store_of n ts) same
+      ∙ ap (λ o. (apply_delete_generic (store_of files ts) f p o).store) (sym (value_at-looked_up f files files None missing refl))
+      ∙ ap (λ s. (apply_delete_generic s f p (value_at f s.files)).store) is
+
+  pub generic_there : (records new : Map Bytes) → T (is_rising files) → Some records ≡ lookup (is_at (bytes_cmp f)) files →
+      new_files ≡ set_value (is_at (bytes_cmp f)) files new → new ≡ outside p records →
+      store_of new_files ts ≡ (apply_delete_generic s f p (value_at f s.files)).store
+  generic_there records new rising found set e =
+      ap (λ n. store_of n ts) (put_here f records files rising found new new_files set) ∙ ap (λ n. store_of (with_value f n files) ts) e
+      ∙ by (under p records) refl
+      ∙ ap (λ o. (apply_delete_generic (store_of files ts) f p o).store) (sym (here f records files rising found))
+      ∙ ap (λ s. (apply_delete_generic s f p (value_at f s.files)).store) is
+    where
+      by : (u : Map Bytes) → under p records ≡ u → store_of (with_value f (outside p records) files) ts
+          ≡ (if is_normal (counted_answer u).condition then with_file (store_of files ts) f (outside p records) else store_of files ts)
+      by [] none =
+          ap (λ n. store_of (with_value f n files) ts) (beside_all p records none)
+          ∙ ap (λ n. store_of n ts) (with_value-same f records files rising (here f records files rising found))
+      by (x ∷ xs) some = refl
 
 -- ---- commands on temporary storage queues
 test_false : (a b : ℕ) → b ≤ a → nat_lt a b ≡ false

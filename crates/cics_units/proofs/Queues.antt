@@ -20,7 +20,7 @@ use Rattle.cics_units.specs.Undo.{ended}
 use Rattle.cics_units.specs.Marks.{MarkedQueue, seen, shown, marked, queue_committed, queue_backed_out, queues_opened}
 use Rattle.cics_units.specs.Ends.{AreBackedOut, IsUnheld, AreApart, IsQueue}
 use Rattle.cics_units.proofs.Effects.{is_empty}
-use Rattle.cics_units.proofs.Joining.{same_cell-refl, apply-answer, touches-recovers}
+use Rattle.cics_units.proofs.Joining.{touches-self, apply-answer, touches-recovers}
 use Rattle.cics_units.proofs.Isolated.{Extends-refl, used-more, used-last}
 use Rattle.cics_units.proofs.Executes.{MayRun, open_kept, alone, alone-own, alone-ended}
 use Rattle.cics_units.proofs.Steps.{content-push, content-push_other, unchanged, stays_on}
@@ -86,7 +86,7 @@ module _ {o : OpeningState} {es : List Entry} {out : Outcomes} (i : IsIsolated o
   entry = entry_now o out es v op
 
   pub here : touches op (Td q) ≡ true
-  here = subst (λ x. touches op x ≡ true) at (same_cell-refl (cell_of op))
+  here = subst (λ x. touches op x ≡ true) at (touches-self op)
 
   on_queue : is_recoverable o op ≡ true
   on_queue = touches-recovers o op (Td q) here ∙ logical
@@ -215,7 +215,7 @@ module _ {o : OpeningState} {es : List Entry} {out : Outcomes} {m : MarkedQueue}
       is_normal (entry_now o out es v (TdRead q)).answer.condition ≡ not e
   read_answer e may t =
       ap (λ a. is_normal a.condition)
-      (apply-answer (store_by o out es) (TdRead q)
+      (apply-answer (store_by o out es) (TdRead q) refl
       ∙ ap (λ c. (effect (TdRead q) c).answer) (shows i v (TdRead q) q refl logical may m h))
       ∙ (read_normal q (shown m) ∙ ap not t)
 

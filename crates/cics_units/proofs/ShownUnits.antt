@@ -8,7 +8,7 @@ use Rattle.cics_names.specs.Keyed.{is_same, is_rising}
 use Rattle.cics_names.specs.KeyedLaws.{is_same-self, is_same-eq}
 use Rattle.cics_ksds.specs.Files.{records_of}
 use Rattle.cics_units.specs.RegionFiles.{files_listed}
-use Rattle.cics_units.proofs.Named.{first, second, value_at-below}
+use Rattle.cics_units.proofs.Entries.{first, second, value_at-below}
 use Rattle.std.specs.List.{list_any}
 use Rattle.std.specs.Prelude.{is_some}
 use Rattle.std.proofs.Common.{inl, inr, eqb}
@@ -19,7 +19,7 @@ use Rattle.cics_names.specs.declared.conditions.Condition.{Condition}
 use Rattle.cics_names.specs.declared.conditions.Condition.TheVariants.{Normal}
 use Rattle.cics_images.specs.Cells.{is_other}
 use Rattle.cics_ksds.specs.Files.{FileValue}
-use Rattle.cics_enqueue.specs.Resources.{Table, overlaps, is_other as is_other_unit, holder_of, released}
+use Rattle.cics_enqueue.specs.Resources.{Table, is_one, is_other as is_other_unit, holder_of, released}
 use Rattle.cics_enqueue.specs.declared.resources.Resource.{Resource}
 use Rattle.cics_units.specs.Openings.{OpeningState, file_recoverable}
 use Rattle.cics_units.specs.Store.{Store, apply, apply_write, apply_rewrite, apply_delete, is_normal}
@@ -36,14 +36,16 @@ use Rattle.cics_units.specs.TableInPlace.{is_holder, IsTableOf, is_file_op, is_r
 use Rattle.cics_units.specs.Parts.{UndoableValue, PartsValue, AreExecuted, ArePartsKept, is_recoverable_in, AreImagesAfter, AreChanged}
 use Rattle.cics_units.specs.KeptUnits.{state_shown, AreKept}
 use Rattle.cics_units.specs.declared.ops.Op.{Op}
-use Rattle.cics_units.specs.declared.ops.Op.TheVariants.{Write, Rewrite, Delete, ReadUpdate, TsWrite, TsRewrite, TsDelete, TdWrite, TdRead, TdDelete}
+use Rattle.cics_units.specs.declared.ops.Op.TheVariants.{Write, Rewrite, Delete, DeleteGeneric, ReadUpdate, TsWrite, TsRewrite, TsDelete, TdWrite, TdRead, TdDelete}
 use Rattle.cics_units.specs.declared.ops.Answer.{Answer}
 use Rattle.cics_units.specs.declared.ops.Done.TheVariants.{Answered, MustWait}
 use Rattle.cics_units.specs.declared.ops.Entry.{Entry}
 use Rattle.cics_units.specs.declared.ops.UnitState.{UnitState}
 use Rattle.cics_units.specs.Isolation.{IsSound}
-use Rattle.std.proofs.lemmas.Bool.{eq-eqb}
+use Rattle.std.proofs.lemmas.Bool.{eq-eqb, true≢false, false_from_ne_true}
 use Rattle.cics_units.proofs.Holders.{holder_begun, held_cases}
+use Rattle.cics_ksds.proofs.UnderPrefix.{prefix_itself}
+use Rattle.cics_units.proofs.Generic.{normal-generic}
 use Rattle.cics_units.proofs.Joining.{apply-answer, read_only}
 use Rattle.cics_units.proofs.TableInPlace.{awaited-file, table_holder}
 use Rattle.cics_units.proofs.KeptUnits.{kept_roomier, recoverable_alike, store_is, is_entered, next_none, key_op, kept_executed, kept_unlocked}
@@ -140,6 +142,7 @@ refused_store s (Delete f k) file h = by (value_at f s.files) h
     by : (m : Option (Map Bytes)) → is_normal (apply_delete s f k m).answer.condition ≡ false → (apply_delete s f k m).store ≡ s
     by None h = refl
     by (Some m) h = rw h refl
+refused_store s (DeleteGeneric f p) file h = absurd (false≢true file)
 refused_store s (ReadUpdate f k) file h = read_only s f k
 refused_store s (TsWrite q d) file h = absurd (false≢true file)
 refused_store s (TsRewrite q n d) file h = absurd (false≢true file)
@@ -150,15 +153,17 @@ refused_store s (TdDelete q) file h = absurd (false≢true file)
 
 changes_none : (s : Store) (op : Op) → is_normal (apply s op).answer.condition ≡ false → changes op (content s (cell_of_op op)) ≡ false
 changes_none s (ReadUpdate f k) h = refl
-changes_none s (Write f k r) h = ap (λ a. is_normal a.condition) (sym (apply-answer s (Write f k r))) ∙ h
-changes_none s (Rewrite f k r) h = ap (λ a. is_normal a.condition) (sym (apply-answer s (Rewrite f k r))) ∙ h
-changes_none s (Delete f k) h = ap (λ a. is_normal a.condition) (sym (apply-answer s (Delete f k))) ∙ h
-changes_none s (TsWrite q d) h = ap (λ a. is_normal a.condition) (sym (apply-answer s (TsWrite q d))) ∙ h
-changes_none s (TsRewrite q n d) h = ap (λ a. is_normal a.condition) (sym (apply-answer s (TsRewrite q n d))) ∙ h
-changes_none s (TsDelete q) h = ap (λ a. is_normal a.condition) (sym (apply-answer s (TsDelete q))) ∙ h
-changes_none s (TdWrite q d) h = ap (λ a. is_normal a.condition) (sym (apply-answer s (TdWrite q d))) ∙ h
-changes_none s (TdRead q) h = ap (λ a. is_normal a.condition) (sym (apply-answer s (TdRead q))) ∙ h
-changes_none s (TdDelete q) h = ap (λ a. is_normal a.condition) (sym (apply-answer s (TdDelete q))) ∙ h
+changes_none s (DeleteGeneric f p) h =
+    false_from_ne_true _ (λ t. true≢false (sym (normal-generic s f p (value_at f s.files) p (prefix_itself p) t) ∙ h))
+changes_none s (Write f k r) h = ap (λ a. is_normal a.condition) (sym (apply-answer s (Write f k r) refl)) ∙ h
+changes_none s (Rewrite f k r) h = ap (λ a. is_normal a.condition) (sym (apply-answer s (Rewrite f k r) refl)) ∙ h
+changes_none s (Delete f k) h = ap (λ a. is_normal a.condition) (sym (apply-answer s (Delete f k) refl)) ∙ h
+changes_none s (TsWrite q d) h = ap (λ a. is_normal a.condition) (sym (apply-answer s (TsWrite q d) refl)) ∙ h
+changes_none s (TsRewrite q n d) h = ap (λ a. is_normal a.condition) (sym (apply-answer s (TsRewrite q n d) refl)) ∙ h
+changes_none s (TsDelete q) h = ap (λ a. is_normal a.condition) (sym (apply-answer s (TsDelete q) refl)) ∙ h
+changes_none s (TdWrite q d) h = ap (λ a. is_normal a.condition) (sym (apply-answer s (TdWrite q d) refl)) ∙ h
+changes_none s (TdRead q) h = ap (λ a. is_normal a.condition) (sym (apply-answer s (TdRead q) refl)) ∙ h
+changes_none s (TdDelete q) h = ap (λ a. is_normal a.condition) (sym (apply-answer s (TdDelete q) refl)) ∙ h
 
 pub refused_changed : (st : UndoableValue) (unit : ℕ) (op : Op) → is_file_op op ≡ true → is_normal (apply (store_of_files st.files) op).answer.condition ≡ false → AreChanged st st unit op
 refused_changed st unit op file h = record {
@@ -168,6 +173,7 @@ refused_changed st unit op file h = record {
   images = subst (AreImagesAfter st st unit (file_of op) (key_of op) (is_recoverable_in (value_at (file_of op) st.files)))
       (sym (ap (λ x. changes op (content (store_of_files st.files) x)) (sym (key_op op file)) ∙ changes_none (store_of_files st.files) op h))
       (none_after (is_recoverable_in (value_at (file_of op) st.files)));
+  held = λ c unnamed has. has;
 }
   where
     none_after : (b : Bool) → AreImagesAfter st st unit (file_of op) (key_of op) b false
@@ -245,7 +251,7 @@ module _ (o : OpeningState) (trace : List Entry) (outcomes : List UnitState) (p 
 
     -- a command waits for the other unit that the table has as the holder of its record
     pub awaited_is : awaited state_before u op ≡ other_holder u (holder_of asked p.table)
-    awaited_is = awaited-file state_before u op file ∙ table_holder state_before p.table is.sound is.table u asked
+    awaited_is = awaited-file state_before u op file ∙ table_holder state_before p.table is.sound is.table u asked refl
 
     pub waits : (h : ℕ) → other_holder u (holder_of asked p.table) ≡ Some h → MustWait h ≡ execution state_before u op
     waits h held = sym (ap (done_of state_before u op) (awaited_is ∙ held))
@@ -306,6 +312,7 @@ none_open_of s u (ReadUpdate f k) known ready read = by u (and_parts (has_key f 
         nothing : (b : Option Bytes) → not (is_some b) ≡ true → b ≡ None
         nothing None t = refl
         nothing (Some k) t = absurd (false≢true t)
+none_open_of s u (DeleteGeneric f p) known ready read = absurd (false≢true read)
 none_open_of s u (Write f k r) known ready read = absurd (false≢true read)
 none_open_of s u (Rewrite f k r) known ready read = absurd (false≢true read)
 none_open_of s u (Delete f k) known ready read = absurd (false≢true read)
@@ -322,8 +329,8 @@ holder_open s t sound table asking r h found = by (holder_of r t) refl found
   where
     held : (v : ℕ) → holder_of r t ≡ Some v → IsOpenUnit s v
     held v at =
-        let holds : list_any (overlaps r) (held_by s v) ≡ true = table.holders r v ∙ ap (is_holder v) at ∙ eq-eqb v v refl in
-        (holder_begun s sound.known sound.begun v (overlaps r) holds, (held_cases s v (overlaps r) holds).0)
+        let holds : list_any (is_one r) (held_by s v) ≡ true = table.holders r v ∙ ap (is_holder v) at ∙ eq-eqb v v refl in
+        (holder_begun s sound.known sound.begun v (is_one r) holds, (held_cases s v (is_one r) holds).0)
 
     by : (o : Option ℕ) → holder_of r t ≡ o → other_holder asking o ≡ Some h → IsOpenUnit s h
     by None at is = absurd (none_held is)

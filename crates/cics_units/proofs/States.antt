@@ -9,7 +9,7 @@ use Rattle.cics_tempstor.specs.Queues.{has_item}
 use Rattle.cics_units.specs.Store.{ts_queue}
 use Rattle.cics_units.specs.Execution.{count_at, enq_of, after_enqueued, after_enqueue, after_dequeue, after_unlock, after_ts_reading}
 use Rattle.cics_units.specs.declared.ops.Enqueued.TheVariants.{Taken, CountFull}
-use Rattle.cics_units.specs.Openings.{OpeningState}
+use Rattle.cics_units.specs.Openings.{OpeningState, IsOpeningInOrder}
 use Rattle.cics_units.specs.Store.{apply, initial_store}
 use Rattle.cics_units.specs.History.{outcome_of, is_open, kept, Agrees}
 use Rattle.cics_units.specs.Holding.{UnitsState, store_of, uses_of, held_by, held_table, first_holder, holder_among, writer_awaited, awaited, value_holder}
@@ -25,13 +25,14 @@ use Rattle.cics_units.proofs.Replays.{Each-push, Each_more}
 use Rattle.cics_units.proofs.Isolated.{Extends-refl}
 use Rattle.cics_units.proofs.Steps.{executes, ends}
 use Rattle.cics_units.specs.Holders.{IsHeldByOne, HaveBegun}
-use Rattle.cics_enqueue.specs.Resources.{overlaps, is_other, most_count}
+use Rattle.cics_enqueue.specs.Resources.{overlaps, is_other, is_prefix, most_count}
 use Rattle.cics_enqueue.specs.declared.resources.Resource.{Resource}
 use Rattle.cics_units.specs.declared.ops.Op.TheVariants.{ReadUpdate}
 use Rattle.cics_units.specs.declared.ops.Answer.{Answer}
 use Rattle.std.specs.List.{list_any}
-use Rattle.cics_units.proofs.Holders.{any_filter, new_read, any_reads_after, any_counted, any_uncounted, holder-found, entered-one, enqueued-one, dequeued-one, unlocked-one, ended-one}
+use Rattle.cics_units.proofs.Holders.{any_filter, new_read, any_reads_after, any_counted, any_uncounted, found_holds, found_other, holder-found, entered-one, enqueued-one, dequeued-one, unlocked-one, ended-one}
 use Rattle.cics_units.proofs.Waiting.{MayRun_from, any_more, none_either, used-held, covers, covers-overlaps}
+use Rattle.cics_units.proofs.Stores.{initial-canonical}
 use Rattle.cics_units.proofs.Outcomes.{outcome_of-with, outcome_of-set}
 use Rattle.cics_units.specs.Isolation.{Each, IsOneAtEachEnd, IsSound}
 
@@ -144,9 +145,10 @@ pub run-IsSound : (s : UnitsState) (es : List Event) → IsSound s → IsSound (
 run-IsSound s [] i = i
 run-IsSound s (e ∷ es) i = run-IsSound (happens s e) es (happens-IsSound s e i)
 
-pub beginning-IsSound : (o : OpeningState) → IsSound (beginning o)
-beginning-IsSound o = record {
+pub beginning-IsSound : (o : OpeningState) → IsOpeningInOrder o → IsSound (beginning o)
+beginning-IsSound o order = record {
   isolated = record {
+    ordered = (initial-canonical o order).records;
     answers = λ fin f. tt;
     fronts = λ x r fin more f m a b. Begins-refl _;
   };
@@ -179,12 +181,12 @@ pub run-opening : (s : UnitsState) (es : List Event) → (run s es).opening ≡ 
 run-opening s [] = refl
 run-opening s (e ∷ es) = run-opening (happens s e) es ∙ happens-opening s e
 
-pub agrees : (o : OpeningState) (es : List Event) → let s = run (beginning o) es in
+pub agrees : (o : OpeningState) (es : List Event) → IsOpeningInOrder o → let s = run (beginning o) es in
     Agrees (initial_store o) (kept o s.trace s.outcomes)
-agrees o es =
+agrees o es order =
     let s = run (beginning o) es in
     subst (λ p. Agrees (initial_store p) (kept p s.trace s.outcomes)) (run-opening (beginning o) es)
-    (agrees_of s (run-IsSound (beginning o) es (beginning-IsSound o)))
+    (agrees_of s (run-IsSound (beginning o) es (beginning-IsSound o order)))
 
 -- ENQ, DEQ, UNLOCK and READQ TS add no entry
 pub enqueue-IsSound : (s : UnitsState) (u : Option ℕ) (v : Bytes) → IsSound s → may_act s u ≡ true →
@@ -269,10 +271,15 @@ pub one_at_each_end_of : (s : UnitsState) → IsSound s →
     IsOneAtEachEnd s.opening s.trace (outcome_of s.outcomes)
 one_at_each_end_of s i = one_at_each_end s i.one
 
-pub one_holder_after : (o : OpeningState) (es : List Event) → IsHeldByOne (run (beginning o) es)
-one_holder_after o es = (run-IsSound (beginning o) es (beginning-IsSound o)).one
+pub one_holder_after : (o : OpeningState) (es : List Event) → IsOpeningInOrder o → IsHeldByOne (run (beginning o) es)
+one_holder_after o es order = (run-IsSound (beginning o) es (beginning-IsSound o order)).one
 
-pub holder_found : (s : UnitsState) (u : Option ℕ) (r : Resource) (n : ℕ) → IsSound s →
+pub holder_found : (s : UnitsState) (u : Option ℕ) (r : Resource) (n : ℕ) → IsSound s → is_prefix r ≡ false →
     is_other u n ≡ true → list_any (overlaps r) (held_by s n) ≡ true →
     first_holder (held_table s) u r ≡ Some n
-holder_found s u r n i other h = holder-found s i.known i.begun i.one u r n other h
+holder_found s u r n i plain other h = holder-found s i.known i.begun i.one u r n plain other h
+
+-- the unit that is found is another one, and holds what overlaps the resource
+pub holder_holds : (s : UnitsState) (u : Option ℕ) (r : Resource) (n : ℕ) → first_holder (held_table s) u r ≡ Some n →
+    (is_other u n ≡ true) × (list_any (overlaps r) (held_by s n) ≡ true)
+holder_holds s u r n e = (found_other (held_table s) u r n e, found_holds s u r n e)

@@ -10,7 +10,7 @@ use Rattle.cics_units.specs.Cells.{Cell, Content, content, touches, effect, End,
 use Rattle.cics_units.proofs.Effects.{Begins-refl, effect-front, front-effect, uses-some}
 use Rattle.cics_units.proofs.Joining.{answer-local, answer-refused, touches-recovers}
 use Rattle.cics_units.proofs.Replays.{replay-push, Agrees-push, apply-own, apply-other, content-cond}
-use Rattle.cics_units.proofs.Isolated.{same_content, unrecovered, used-more, used-last, alike_if_alone}
+use Rattle.cics_units.proofs.Isolated.{store_ordered, same_content, unrecovered, used-more, used-last, alike_if_alone}
 use Rattle.cics_units.proofs.Executes.{MayRun, same_answer}
 use Rattle.cics_units.specs.Isolation.{Begins, Outcomes, stays, store_by, used, Extends, Alike, AtMost, FrontsAt, IsIsolated}
 
@@ -84,7 +84,7 @@ module _ {o : OpeningState} {es : List Entry} {out : Outcomes} (i : IsIsolated o
   right fin f s = elim (cases_Bool (is_recoverable o op)) [
     | inl r ↦ same_answer i v op may r fin f (not-true _ (sym (stays_on r fin) ∙ s))
     | inr n ↦
-        answer-local op (store_by o out es) (store_by o fin es)
+        answer-local op (store_by o out es) (store_by o fin es) (store_ordered i out es) (store_ordered i fin es)
         (λ x y. unrecovered o x (sym (touches-recovers o op x y) ∙ n) out fin es)
   ]
 
@@ -110,6 +110,7 @@ module _ {o : OpeningState} {es : List Entry} {out : Outcomes} (i : IsIsolated o
   -- every command keeps the open units apart
   pub executes : IsIsolated o (es ++ entry ∷ []) out
   executes = record {
+    ordered = i.ordered;
     answers = λ fin f. Agrees-push (stays o fin) entry (initial_store o) es (i.answers fin f) (right fin f);
     fronts = λ x. elim (cases_Bool (touches op x)) [
       | inl own ↦ own_cell x own
@@ -125,6 +126,7 @@ module _ {o : OpeningState} {es : List Entry} {out : Outcomes} (i : IsIsolated o
 pub ends : {o : OpeningState} {es : List Entry} {out next : Outcomes} → IsIsolated o es out →
     Extends out next → IsIsolated o es next
 ends {o} {es} {out} {next} i h = record {
+  ordered = i.ordered;
   answers = λ fin f. i.answers fin (through fin f);
   fronts = λ x r fin more f m a b. i.fronts x r fin more (through fin f) (through more m) a b;
 }

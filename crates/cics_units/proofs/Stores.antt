@@ -1,6 +1,6 @@
 -- Two stores as the program keeps them are equal where their cells hold the same.
 use Rattle.std.proofs.Common.{◌≡◌, Bool, true, false, cond, Option, Some, None, List, [], ◌∷◌, refl, ap, sym, subst, ◌∙◌, inl, inr}
-use Rattle.std.specs.Prelude.{if◌then◌else◌, unwrap_or, map, option_map, ◌&&◌}
+use Rattle.std.specs.Prelude.{if◌then◌else◌, not, unwrap_or, map, option_map, ◌&&◌}
 use Rattle.std.specs.Ordering.{is_lt}
 use Rattle.cics_units.specs.Openings.{is_in_order, IsOpeningInOrder, OpeningState}
 use Rattle.cics_units.specs.Store.{initial_store}
@@ -9,21 +9,17 @@ use Rattle.std.proofs.lemmas.Bool.{cases_Bool}
 use Rattle.cics_names.specs.Keyed.{Bytes, Map, bytes_cmp, value_at, is_same, with_value, without, is_rising}
 use Rattle.cics_names.specs.KeyedLaws.{value_at-with_value, value_at-without}
 use Rattle.cics_ksds.specs.Files.{records_after_write, records_after_rewrite, records_after_delete}
+use Rattle.cics_ksds.specs.Prefixes.{has_prefix, outside}
 use Rattle.cics_tempstor.specs.Queues.{items_after_write, items_after_rewrite}
-use Rattle.cics_units.specs.Store.{Store, apply, is_normal, with_file, with_ts, with_td, ts_queue, apply_write, apply_rewrite, apply_delete, apply_td_write, apply_td_read, apply_td_delete}
+use Rattle.cics_units.specs.Store.{Store, apply, is_normal, with_file, with_ts, with_td, ts_queue, apply_write, apply_rewrite, apply_delete, apply_delete_generic, apply_td_write, apply_td_read, apply_td_delete}
 use Rattle.cics_units.specs.History.{replay}
 use Rattle.cics_units.specs.declared.ops.Op.{Op}
-use Rattle.cics_units.specs.declared.ops.Op.TheVariants.{Write, Rewrite, Delete, ReadUpdate, TsWrite, TsRewrite, TsDelete, TdWrite, TdRead, TdDelete}
+use Rattle.cics_units.specs.declared.ops.Op.TheVariants.{Write, Rewrite, Delete, DeleteGeneric, ReadUpdate, TsWrite, TsRewrite, TsDelete, TdWrite, TdRead, TdDelete}
 use Rattle.cics_units.specs.declared.ops.Entry.{Entry}
 use Rattle.cics_units.specs.Cells.{Cell, Key, Ts, Td, listed, record_in, content, IsOrdered, IsCanonical}
 use Rattle.cics_units.proofs.Maps.{same_map, rising-with_value, rising-without}
+use Rattle.cics_units.proofs.Generic.{rising-where, one_listed}
 use Rattle.cics_units.proofs.Joining.{read_only}
-
-one_listed : (v w : Option Bytes) → Some (listed v) ≡ Some (listed w) → v ≡ w
-one_listed None None e = refl
-one_listed None (Some y) e = cc
-one_listed (Some x) None e = cc
-one_listed (Some x) (Some y) e = cc
 
 pub same_file : (a b : Option (Map Bytes)) → is_in_order a ≡ true → is_in_order b ≡ true →
     ((k : Bytes) → record_in k a ≡ record_in k b) → a ≡ b
@@ -94,6 +90,12 @@ module _ (P : Store → Type 0) (s : Store) (p : P s) (i : IsOrdered s)
   delete_keeps f k (Some m) j =
       keeps_if _ (with_file s f (records_after_delete m k)) (file_keeps f _ (rising-without k m j))
 
+  generic_keeps : (f prefix : Bytes) (o : Option (Map Bytes)) → is_in_order o ≡ true →
+      P (apply_delete_generic s f prefix o).store
+  generic_keeps f prefix None j = p
+  generic_keeps f prefix (Some m) j =
+      keeps_if _ (with_file s f (outside prefix m)) (file_keeps f _ (rising-where (λ k. not (has_prefix prefix k)) m j))
+
   td_write_keeps : (q d : Bytes) (o : Option (List Bytes)) → P (apply_td_write s q d o).store
   td_write_keeps q d None = p
   td_write_keeps q d (Some c) = td_keeps q _
@@ -111,6 +113,7 @@ module _ (P : Store → Type 0) (s : Store) (p : P s) (i : IsOrdered s)
   apply-keeps (Write f k r) = write_keeps f k r (value_at f s.files) (i f)
   apply-keeps (Rewrite f k r) = rewrite_keeps f k r (value_at f s.files) (i f)
   apply-keeps (Delete f k) = delete_keeps f k (value_at f s.files) (i f)
+  apply-keeps (DeleteGeneric f prefix) = generic_keeps f prefix (value_at f s.files) (i f)
   apply-keeps (ReadUpdate f k) = subst P (sym (read_only s f k)) p
   apply-keeps (TsWrite q d) =
       keeps_if (is_normal (apply s (TsWrite q d)).answer.condition)
@@ -136,6 +139,11 @@ apply-ordered s op i = apply-keeps IsOrdered s i i (λ f m r. ordered_with s f m
     items : (q : Bytes) (c : List Bytes) → IsOrdered (with_ts s q c)
     items q [] = i
     items q (d ∷ ds) = i
+
+-- and so they do in a replay
+pub replay-ordered : (s : Store) (es : List Entry) → IsOrdered s → IsOrdered (replay s es)
+replay-ordered s [] i = i
+replay-ordered s (e ∷ es) i = replay-ordered (apply s e.op).store es (apply-ordered s e.op i)
 
 none_full : (x : List Bytes) → None ≡ Some x → ⊥
 none_full x e = cc

@@ -8,11 +8,11 @@ use Rattle.std.specs.FinMap.Entries.{by_order}
 use Rattle.std.proofs.Math.Bool.{or-false, and-true, and-false}
 use Rattle.std.proofs.lemmas.Bool.{true≢false, eq-eqb, eqb-true}
 use Rattle.cics_names.specs.Keyed.{Bytes}
-use Rattle.cics_enqueue.specs.Resources.{Table, Held, overlaps, is_one, resource_cmp, held_at, holder_of, IsFreeFor, with_holder, freed, taken, given_back, given_back_of, raised_count, released}
-use Rattle.cics_enqueue.specs.ResourceLaws.{is_one-eq, same_resources}
+use Rattle.cics_enqueue.specs.Resources.{Table, Held, is_one, resource_cmp, held_at, holder_of, IsFreeFor, with_holder, freed, taken, given_back, given_back_of, raised_count, released}
+use Rattle.cics_enqueue.specs.ResourceLaws.{free_own, is_one-eq, same_resources}
 use Rattle.cics_enqueue.proofs.TableLaws.{holder_without, holder_of-taken, holder_of-given_back, holder_of-released, once-taken, once-given_back, once-released, is_in_order-taken, is_in_order-given_back, is_in_order-released}
 use Rattle.cics_enqueue.specs.declared.resources.Resource.{Resource}
-use Rattle.cics_enqueue.specs.declared.resources.Resource.TheVariants.{FileKey, TsQueue, TdRead as ReadingEnd, TdWrite as WritingEnd, User}
+use Rattle.cics_enqueue.specs.declared.resources.Resource.TheVariants.{FileKey, TsQueue, TdRead as ReadingEnd, TdWrite as WritingEnd, User, FilePrefix}
 use Rattle.cics_units.specs.Holding.{UnitsState, EnqCount, held_by}
 use Rattle.cics_units.specs.TableInPlace.{record_of, is_holder, counted_before, counts_in, AreOnce, IsTableOf}
 
@@ -73,6 +73,7 @@ counts_in-released u (e ∷ es) = step (counts_in-released u es) e.0
     step rest (TsQueue q) = rest ∙ same (e.1.unit == u) (TsQueue q) (λ cs. refl)
     step rest (ReadingEnd q) = rest ∙ same (e.1.unit == u) (ReadingEnd q) (λ cs. refl)
     step rest (WritingEnd q) = rest ∙ same (e.1.unit == u) (WritingEnd q) (λ cs. refl)
+    step rest (FilePrefix f p) = rest ∙ same (e.1.unit == u) (FilePrefix f p) (λ cs. refl)
 
 -- ---- A record more in the table, a record less, all of a unit less
 
@@ -98,7 +99,7 @@ module _ (s next : UnitsState) (t : Table) (k : IsTableOf s t) (once : AreOnce n
     (keys : All (λ r. length r.key ≤ 255) next.reads) where
   -- where the units hold the same, the table stays
   pub table_same : next.counts ≡ s.counts →
-      ((r : Resource) (n : ℕ) → list_any (overlaps r) (held_by next n) ≡ list_any (overlaps r) (held_by s n)) →
+      ((r : Resource) (n : ℕ) → list_any (is_one r) (held_by next n) ≡ list_any (is_one r) (held_by s n)) →
       IsTableOf next t
   table_same counts held = record {
     holders = λ r n. held r n ∙ k.holders r n;
@@ -106,20 +107,21 @@ module _ (s next : UnitsState) (t : Table) (k : IsTableOf s t) (once : AreOnce n
     in_order = k.in_order;
     counts = counts ∙ k.counts;
     once = once;
+    keys_alone = k.keys_alone;
     keys = keys;
   }
 
   -- where a unit holds a free record more, it takes it
   pub table_taken : next.counts ≡ s.counts → (v : ℕ) (f l : Bytes) → IsFreeFor t (record_of f l) v →
-      ((r : Resource) (n : ℕ) → list_any (overlaps r) (held_by next n)
-      ≡ (list_any (overlaps r) (held_by s n) || ((v == n) && overlaps r (record_of f l)))) →
+      ((r : Resource) (n : ℕ) → list_any (is_one r) (held_by next n)
+      ≡ (list_any (is_one r) (held_by s n) || ((v == n) && is_one r (record_of f l)))) →
       IsTableOf next (taken t (record_of f l) v)
   table_taken counts v f l free held = record {
     holders = λ r n. held r n
-        ∙ ap (λ b. b || ((v == n) && overlaps r (record_of f l))) (k.holders r n)
+        ∙ ap (λ b. b || ((v == n) && is_one r (record_of f l))) (k.holders r n)
         ∙ elim (is_one r (record_of f l)) as (λ b. is_one r (record_of f l) ≡ b →
         (is_holder n (holder_of r t) || ((v == n) && b)) ≡ is_holder n (if b then Some v else holder_of r t)) [
-          | true ↦ λ one. own n (holder_of r t) (λ w at. free w (ap (λ q. holder_of q t) (sym (is_one-eq r (record_of f l) one)) ∙ at))
+          | true ↦ λ one. own n (holder_of r t) (λ w at. free_own t (record_of f l) v free w (ap (λ q. holder_of q t) (sym (is_one-eq r (record_of f l) one)) ∙ at))
           | false ↦ λ other. ap (λ b. is_holder n (holder_of r t) || b) (and-false (v == n)) ∙ or-false (is_holder n (holder_of r t))
         ] refl
         ∙ sym (ap (is_holder n) (holder_of-taken t (record_of f l) v r));
@@ -127,6 +129,7 @@ module _ (s next : UnitsState) (t : Table) (k : IsTableOf s t) (once : AreOnce n
     in_order = is_in_order-taken t (record_of f l) v k.in_order;
     counts = counts ∙ k.counts ∙ sym (counts_in-put f l (record { unit = v; count = raised_count (record_of f l) (held_at (record_of f l) t) }) t);
     once = once;
+    keys_alone = λ g p. holder_of-taken t (record_of f l) v (FilePrefix g p) ∙ k.keys_alone g p;
     keys = keys;
   }
     where
@@ -140,12 +143,12 @@ module _ (s next : UnitsState) (t : Table) (k : IsTableOf s t) (once : AreOnce n
 
   -- where a unit holds a record less, it gives it back
   pub table_given : next.counts ≡ s.counts → (v : ℕ) (f l : Bytes) →
-      ((r : Resource) (n : ℕ) → list_any (overlaps r) (held_by next n)
-      ≡ (list_any (overlaps r) (held_by s n) && not ((v == n) && overlaps r (record_of f l)))) →
+      ((r : Resource) (n : ℕ) → list_any (is_one r) (held_by next n)
+      ≡ (list_any (is_one r) (held_by s n) && not ((v == n) && is_one r (record_of f l)))) →
       IsTableOf next (given_back t (record_of f l) v)
   table_given counts v f l held = record {
     holders = λ r n. held r n
-        ∙ ap (λ b. b && not ((v == n) && overlaps r (record_of f l))) (k.holders r n)
+        ∙ ap (λ b. b && not ((v == n) && is_one r (record_of f l))) (k.holders r n)
         ∙ elim (is_one r (record_of f l)) as (λ b. is_one r (record_of f l) ≡ b →
         (is_holder n (holder_of r t) && not ((v == n) && b)) ≡ is_holder n (if b then holder_without v (holder_of (record_of f l) t) else holder_of r t)) [
           | true ↦ λ one.
@@ -161,12 +164,13 @@ module _ (s next : UnitsState) (t : Table) (k : IsTableOf s t) (once : AreOnce n
     in_order = is_in_order-given_back t (record_of f l) v k.in_order;
     counts = counts ∙ k.counts ∙ sym (counts_in-given_back f l v t);
     once = once;
+    keys_alone = λ g p. holder_of-given_back t (record_of f l) v (FilePrefix g p) (k.single (record_of f l) refl) ∙ k.keys_alone g p;
     keys = keys;
   }
 
   -- where a unit holds nothing any more, all that it held is free
   pub table_released : (v : ℕ) → next.counts ≡ filter (λ c. not (c.unit == v)) s.counts →
-      ((r : Resource) (n : ℕ) → list_any (overlaps r) (held_by next n) ≡ (list_any (overlaps r) (held_by s n) && not (v == n))) →
+      ((r : Resource) (n : ℕ) → list_any (is_one r) (held_by next n) ≡ (list_any (is_one r) (held_by s n) && not (v == n))) →
       IsTableOf next (released t v)
   table_released v counts held = record {
     holders = λ r n. held r n
@@ -177,5 +181,6 @@ module _ (s next : UnitsState) (t : Table) (k : IsTableOf s t) (once : AreOnce n
     in_order = is_in_order-released t v k.in_order;
     counts = counts ∙ ap (filter (λ c. not (c.unit == v))) k.counts ∙ counts_in-released v t;
     once = once;
+    keys_alone = λ g p. holder_of-released t v (FilePrefix g p) k.in_order ∙ ap (holder_without v) (k.keys_alone g p);
     keys = keys;
   }

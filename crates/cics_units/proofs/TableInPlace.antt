@@ -8,7 +8,7 @@ use Rattle.std.proofs.lemmas.Option.{unwrap_or-slice_get}
 use Rattle.std.proofs.lemmas.List.{get_or-set_same}
 use Rattle.std.proofs.lemmas.List.Elements.{All-nil, All-filter}
 use Rattle.cics_names.specs.Keyed.{Bytes, is_same}
-use Rattle.cics_enqueue.specs.Resources.{Table, bytes_of, overlaps, is_other, holder_of, IsFreeFor, taken, given_back, released}
+use Rattle.cics_enqueue.specs.Resources.{Table, bytes_of, is_one, overlaps, is_other, is_prefix, holder_of, IsFreeFor, taken, given_back, released}
 use Rattle.cics_enqueue.specs.declared.resources.Resource.{Resource}
 use Rattle.cics_enqueue.specs.declared.resources.Resource.TheVariants.{User}
 use Rattle.cics_units.specs.Openings.{OpeningState, file_recoverable}
@@ -21,7 +21,7 @@ use Rattle.cics_units.specs.Events.{is_live, may_act}
 use Rattle.cics_units.specs.Isolation.{IsSound}
 use Rattle.cics_units.specs.TableInPlace.{is_file_op, file_of, key_of, record_of, is_read, is_holder, other_holder, AreOnce, IsTableOf, table_executed, table_unlocked}
 use Rattle.cics_units.specs.declared.ops.Op.{Op}
-use Rattle.cics_units.specs.declared.ops.Op.TheVariants.{Write, Rewrite, Delete, ReadUpdate, TsWrite, TsRewrite, TsDelete, TdWrite, TdRead, TdDelete}
+use Rattle.cics_units.specs.declared.ops.Op.TheVariants.{Write, Rewrite, Delete, DeleteGeneric, ReadUpdate, TsWrite, TsRewrite, TsDelete, TdWrite, TdRead, TdDelete}
 use Rattle.cics_units.specs.declared.ops.Answer.{Answer}
 use Rattle.cics_units.specs.declared.ops.UnitState.{UnitState}
 use Rattle.cics_units.specs.declared.ops.UnitState.TheVariants.{Open}
@@ -31,17 +31,20 @@ use Rattle.cics_units.proofs.States.{acting_open}
 use Rattle.cics_units.proofs.Outcomes.{outcome_of-set}
 use Rattle.cics_units.proofs.HeldReads.{any_kept, filter_none, none_read, OnEach-any, read_keys, by_read, by_read-is, by_read-recoverable, any_ended, covers-record, covers-all, AreOnce-opened, All-opened, AreOnce-dropped, any_opened-recoverable, any_opened-read, any_opened-none}
 use Rattle.cics_units.proofs.TableChanges.{table_same, table_taken, table_given, table_released}
+use Rattle.cics_enqueue.specs.ResourceLaws.{free_unprefixed}
+use Rattle.cics_units.proofs.Unprefixed.{same_overlaps}
 use Rattle.cics_units.proofs.HeldSums.{in_entries, in_reads, in_counts, held_sum, entries_apart, counts_apart, entered_sum, by_entry-none, by_entry-file}
 
 -- ---- At the beginning
 
 pub table_begins : (o : OpeningState) → IsTableOf (beginning o) []
 table_begins o = record {
-  holders = λ r u. held_sum (beginning o) u (overlaps r) ∙ and-false (is_open (outcome_of [] u));
+  holders = λ r u. held_sum (beginning o) u (is_one r) ∙ and-false (is_open (outcome_of [] u));
   single = λ r other. refl;
   in_order = tt;
   counts = refl;
   once = tt;
+  keys_alone = λ f p. refl;
   keys = All-nil (λ r. length r.key ≤ 255);
 }
 
@@ -49,17 +52,20 @@ table_begins o = record {
 
 -- the unit that is found to hold a resource, if it is another, is the one in the table
 pub table_holder : (s : UnitsState) (t : Table) → IsSound s → IsTableOf s t → (asking : Option ℕ) (r : Resource) →
-    first_holder (held_table s) asking r ≡ other_holder asking (holder_of r t)
-table_holder s t i k asking r =
+    is_prefix r ≡ false → first_holder (held_table s) asking r ≡ other_holder asking (holder_of r t)
+table_holder s t i k asking r plain =
     elim (holder_of r t) as (λ h. holder_of r t ≡ h → first_holder (held_table s) asking r ≡ other_holder asking h) [
-      | None ↦ λ e. none_found s asking r (λ n other. k.holders r n ∙ ap (is_holder n) e)
+      | None ↦ λ e. none_found s asking r (λ n other. held_as n ∙ ap (is_holder n) e)
       | Some v ↦ λ e. elim (is_other asking v) as (λ b. is_other asking v ≡ b → first_holder (held_table s) asking r ≡ (if b then Some v else None)) [
-        | true ↦ λ other. holder-found s i.known i.begun i.one asking r v other
-            (k.holders r v ∙ ap (is_holder v) e ∙ eq-eqb v v refl)
+        | true ↦ λ other. holder-found s i.known i.begun i.one asking r v plain other
+            (held_as v ∙ ap (is_holder v) e ∙ eq-eqb v v refl)
         | false ↦ λ own. none_found s asking r (λ n other. false_from_ne_true _ (λ y.
-            true≢false (sym other ∙ ap (is_other asking) (sym (eqb-true v n (sym (ap (is_holder n) e) ∙ sym (k.holders r n) ∙ y))) ∙ own)))
+            true≢false (sym other ∙ ap (is_other asking) (sym (eqb-true v n (sym (ap (is_holder n) e) ∙ sym (held_as n) ∙ y))) ∙ own)))
       ] refl
     ] refl
+  where
+    held_as : (n : ℕ) → list_any (overlaps r) (held_by s n) ≡ is_holder n (holder_of r t)
+    held_as n = same_overlaps s t k r plain n ∙ k.holders r n
 
 -- a command on a file waits for whoever holds its record
 pub awaited-file : (s : UnitsState) (u : Option ℕ) (op : Op) → is_file_op op ≡ true →
@@ -75,6 +81,7 @@ awaited-file s u op = by_file op
     by_file (Write f k d) h = alone (first_holder (held_table s) u (record_of f k))
     by_file (Rewrite f k d) h = alone (first_holder (held_table s) u (record_of f k))
     by_file (Delete f k) h = alone (first_holder (held_table s) u (record_of f k))
+    by_file (DeleteGeneric f p) h = absurd (false≢true h)
     by_file (ReadUpdate f k) h = alone (first_holder (held_table s) u (record_of f k))
     by_file (TsWrite q d) h = absurd (false≢true h)
     by_file (TsRewrite q n d) h = absurd (false≢true h)
@@ -85,12 +92,12 @@ awaited-file s u op = by_file op
 
 -- what no other unit holds is free
 pub table_free : (s : UnitsState) (t : Table) → IsSound s → IsTableOf s t → (u : Option ℕ) (r : Resource) →
-    other_holder u (holder_of r t) ≡ None → IsFreeFor t r (unit_or_next u s.outcomes)
-table_free s t i k u r none v at = free u (ap (other_holder u) (sym at) ∙ none)
+    is_prefix r ≡ false → other_holder u (holder_of r t) ≡ None → IsFreeFor t r (unit_or_next u s.outcomes)
+table_free s t i k u r plain none = free_unprefixed t r (unit_or_next u s.outcomes) plain k.keys_alone (λ v at. free v u (ap (other_holder u) (sym at) ∙ none))
   where
-    free : (u : Option ℕ) → other_holder u (Some v) ≡ None → v ≡ unit_or_next u s.outcomes
-    free None h = cc
-    free (Some w) h = elim (cases_Bool (eqb v w)) [
+    free : (v : ℕ) (u : Option ℕ) → other_holder u (Some v) ≡ None → v ≡ unit_or_next u s.outcomes
+    free v None h = cc
+    free v (Some w) h = elim (cases_Bool (eqb v w)) [
       | inl own ↦ eqb-true v w own
       | inr other ↦ let found : Some v ≡ None = rw other at h in cc
     ]
@@ -142,7 +149,7 @@ module _ (s : UnitsState) (t : Table) (u : Option ℕ) (op : Op) (a : Answer) (i
   asked = record_of (file_of op) (key_of op)
 
   free_record : IsFreeFor t asked acting
-  free_record = table_free s t i k u asked (sym (table_holder s t i k u asked) ∙ (sym (awaited-file s u op file) ∙ free))
+  free_record = table_free s t i k u asked refl (sym (table_holder s t i k u asked refl) ∙ (sym (awaited-file s u op file) ∙ free))
 
   live_if : (n : ℕ) (b : Bool) → ((acting == n) && b) ≡ true → is_open (outcome_of s.outcomes n) ≡ true
   live_if n b own = subst (λ m. is_open (outcome_of s.outcomes m) ≡ true) (eqb-true acting n (and_parts (eqb acting n) b own).0) (acting_open s u acts)
@@ -159,6 +166,7 @@ module _ (s : UnitsState) (t : Table) (u : Option ℕ) (op : Op) (a : Answer) (i
           (λ x own. (and_parts (eqb x.unit (length s.outcomes)) (is_same x.file (file_of op)) own).0) s.reads y) in
           omega arith)
       none_at (Some w) (ReadUpdate f l) reads ready = none_read s.reads w f (not-true _ (and_parts _ _ ready).1)
+      none_at (Some w) (DeleteGeneric f p) reads ready = absurd (false≢true reads)
       none_at (Some w) (Write f l d) reads ready = absurd (false≢true reads)
       none_at (Some w) (Rewrite f l d) reads ready = absurd (false≢true reads)
       none_at (Some w) (Delete f l) reads ready = absurd (false≢true reads)
@@ -191,28 +199,28 @@ module _ (s : UnitsState) (t : Table) (u : Option ℕ) (op : Op) (a : Answer) (i
   -- one that is refused
   refused_of : is_normal a.condition ≡ false → IsTableOf (entered s u op a) t
   refused_of refused = table_same s (entered s u op a) t k once_after keys_after refl (λ r n.
-      entered_sum s u op a n (overlaps r)
+      entered_sum s u op a n (is_one r)
       ∙ (λ j. is_open (outcome_of s.outcomes n)
-      && (((in_entries s.opening n (overlaps r) s.trace || by_entry-none s u op a n (overlaps r) (ap (λ b. b && is_recoverable s.opening op) refused) j)
-      || in_reads s.opening n (overlaps r) (if refused j then opened acting op (filter (λ x. not (covers acting op x)) s.reads) else s.reads))
-      || in_counts s.opening n (overlaps r) s.counts))
-      ∙ ap (λ b. is_open (outcome_of s.outcomes n) && ((b || in_reads s.opening n (overlaps r) s.reads) || in_counts s.opening n (overlaps r) s.counts))
-      (or-false (in_entries s.opening n (overlaps r) s.trace))
-      ∙ sym (held_sum s n (overlaps r)))
+      && (((in_entries s.opening n (is_one r) s.trace || by_entry-none s u op a n (is_one r) (ap (λ b. b && is_recoverable s.opening op) refused) j)
+      || in_reads s.opening n (is_one r) (if refused j then opened acting op (filter (λ x. not (covers acting op x)) s.reads) else s.reads))
+      || in_counts s.opening n (is_one r) s.counts))
+      ∙ ap (λ b. is_open (outcome_of s.outcomes n) && ((b || in_reads s.opening n (is_one r) s.reads) || in_counts s.opening n (is_one r) s.counts))
+      (or-false (in_entries s.opening n (is_one r) s.trace))
+      ∙ sym (held_sum s n (is_one r)))
 
   module _ (normal : is_normal a.condition ≡ true) where
     -- one on a recoverable file
     recoverable_of : file_recoverable s.opening (file_of op) ≡ true → IsTableOf (entered s u op a) (taken t asked acting)
     recoverable_of rec = table_taken s (entered s u op a) t k once_after keys_after refl acting (file_of op) (key_of op) free_record (λ r n.
-        entered_sum s u op a n (overlaps r)
+        entered_sum s u op a n (is_one r)
         ∙ (λ j. is_open (outcome_of s.outcomes n)
-        && (((in_entries s.opening n (overlaps r) s.trace || by_entry-file s u op a n (overlaps r) normal file rec j)
-        || (ap (in_reads s.opening n (overlaps r)) (reads_then normal) ∙ any_opened-recoverable s.opening n r acting op rec s.reads) j)
-        || in_counts s.opening n (overlaps r) s.counts))
-        ∙ held_more (is_open (outcome_of s.outcomes n)) (in_entries s.opening n (overlaps r) s.trace)
-        (in_reads s.opening n (overlaps r) s.reads) (in_counts s.opening n (overlaps r) s.counts)
-        ((acting == n) && overlaps r asked) (live_if n (overlaps r asked))
-        ∙ ap (λ b. b || ((acting == n) && overlaps r asked)) (sym (held_sum s n (overlaps r))))
+        && (((in_entries s.opening n (is_one r) s.trace || by_entry-file s u op a n (is_one r) normal file rec j)
+        || (ap (in_reads s.opening n (is_one r)) (reads_then normal) ∙ any_opened-recoverable s.opening n r acting op file rec s.reads) j)
+        || in_counts s.opening n (is_one r) s.counts))
+        ∙ held_more (is_open (outcome_of s.outcomes n)) (in_entries s.opening n (is_one r) s.trace)
+        (in_reads s.opening n (is_one r) s.reads) (in_counts s.opening n (is_one r) s.counts)
+        ((acting == n) && is_one r asked) (live_if n (is_one r asked))
+        ∙ ap (λ b. b || ((acting == n) && is_one r asked)) (sym (held_sum s n (is_one r))))
 
     module _ (local : file_recoverable s.opening (file_of op) ≡ false) where
       unheld : (is_normal a.condition && is_recoverable s.opening op) ≡ false
@@ -222,6 +230,7 @@ module _ (s : UnitsState) (t : Table) (u : Option ℕ) (op : Op) (a : Answer) (i
           is_local (Write f l d) h local = local
           is_local (Rewrite f l d) h local = local
           is_local (Delete f l) h local = local
+          is_local (DeleteGeneric f p) h local = absurd (false≢true h)
           is_local (ReadUpdate f l) h local = local
           is_local (TsWrite q d) h local = absurd (false≢true h)
           is_local (TsRewrite q n d) h local = absurd (false≢true h)
@@ -233,49 +242,49 @@ module _ (s : UnitsState) (t : Table) (u : Option ℕ) (op : Op) (a : Answer) (i
       -- READ UPDATE in another file
       read_of : is_read op ≡ true → IsTableOf (entered s u op a) (taken t asked acting)
       read_of reads = table_taken s (entered s u op a) t k once_after keys_after refl acting (file_of op) (key_of op) free_record (λ r n.
-          entered_sum s u op a n (overlaps r)
+          entered_sum s u op a n (is_one r)
           ∙ (λ j. is_open (outcome_of s.outcomes n)
-          && (((in_entries s.opening n (overlaps r) s.trace || by_entry-none s u op a n (overlaps r) unheld j)
-          || (ap (in_reads s.opening n (overlaps r)) (reads_then normal) ∙ any_opened-read s.opening n r acting op reads local s.reads) j)
-          || in_counts s.opening n (overlaps r) s.counts))
-          ∙ read_more (is_open (outcome_of s.outcomes n)) (in_entries s.opening n (overlaps r) s.trace)
-          (in_reads s.opening n (overlaps r) s.reads) (in_counts s.opening n (overlaps r) s.counts)
-          ((acting == n) && overlaps r asked) (live_if n (overlaps r asked))
-          ∙ ap (λ b. b || ((acting == n) && overlaps r asked)) (sym (held_sum s n (overlaps r))))
+          && (((in_entries s.opening n (is_one r) s.trace || by_entry-none s u op a n (is_one r) unheld j)
+          || (ap (in_reads s.opening n (is_one r)) (reads_then normal) ∙ any_opened-read s.opening n r acting op reads local s.reads) j)
+          || in_counts s.opening n (is_one r) s.counts))
+          ∙ read_more (is_open (outcome_of s.outcomes n)) (in_entries s.opening n (is_one r) s.trace)
+          (in_reads s.opening n (is_one r) s.reads) (in_counts s.opening n (is_one r) s.counts)
+          ((acting == n) && is_one r asked) (live_if n (is_one r asked))
+          ∙ ap (λ b. b || ((acting == n) && is_one r asked)) (sym (held_sum s n (is_one r))))
 
       module _ (others : is_read op ≡ false) where
-        in_reads_then : (r : Resource) (n : ℕ) → in_reads s.opening n (overlaps r) (reads_after acting op a.condition s.reads)
-            ≡ in_reads s.opening n (overlaps r) (filter (λ x. not (covers acting op x)) s.reads)
+        in_reads_then : (r : Resource) (n : ℕ) → in_reads s.opening n (is_one r) (reads_after acting op a.condition s.reads)
+            ≡ in_reads s.opening n (is_one r) (filter (λ x. not (covers acting op x)) s.reads)
         in_reads_then r n =
-            ap (in_reads s.opening n (overlaps r)) (reads_then normal)
+            ap (in_reads s.opening n (is_one r)) (reads_then normal)
             ∙ any_opened-none s.opening n r acting op others (filter (λ x. not (covers acting op x)) s.reads)
 
         -- one that covers the update read of its record
         covering_of : list_any (covers acting op) s.reads ≡ true → IsTableOf (entered s u op a) (given_back t asked acting)
         covering_of some = table_given s (entered s u op a) t k once_after keys_after refl acting (file_of op) (key_of op) (λ r n.
-            entered_sum s u op a n (overlaps r)
+            entered_sum s u op a n (is_one r)
             ∙ (λ j. is_open (outcome_of s.outcomes n)
-            && (((ap (λ b. in_entries s.opening n (overlaps r) s.trace || b) (by_entry-none s u op a n (overlaps r) unheld) ∙ or-false (in_entries s.opening n (overlaps r) s.trace)) j
+            && (((ap (λ b. in_entries s.opening n (is_one r) s.trace || b) (by_entry-none s u op a n (is_one r) unheld) ∙ or-false (in_entries s.opening n (is_one r) s.trace)) j
             || (in_reads_then r n ∙ any_ended s.opening n r acting (file_of op) (key_of op) local (covers acting op) s.reads
             (OnEach-any (λ x. covers acting op x ≡ true → (is_read_of acting (file_of op) x && is_same x.key (key_of op)) ≡ true)
-            (covers-record acting op) s.reads) (covers-all acting op s.reads some)) j)
-            || in_counts s.opening n (overlaps r) s.counts))
-            ∙ read_less (is_open (outcome_of s.outcomes n)) (in_entries s.opening n (overlaps r) s.trace)
-            (in_reads s.opening n (overlaps r) s.reads) (in_counts s.opening n (overlaps r) s.counts)
-            ((acting == n) && overlaps r asked)
-            (λ own. entries_apart s.opening n r (file_of op) (key_of op) (and_parts (acting == n) (overlaps r asked) own).1 local s.trace)
-            (λ own. counts_apart s.opening n r (file_of op) (key_of op) (and_parts (acting == n) (overlaps r asked) own).1 s.counts)
-            ∙ ap (λ b. b && not ((acting == n) && overlaps r asked)) (sym (held_sum s n (overlaps r))))
+            (covers-record acting op file) s.reads) (covers-all acting op file s.reads some)) j)
+            || in_counts s.opening n (is_one r) s.counts))
+            ∙ read_less (is_open (outcome_of s.outcomes n)) (in_entries s.opening n (is_one r) s.trace)
+            (in_reads s.opening n (is_one r) s.reads) (in_counts s.opening n (is_one r) s.counts)
+            ((acting == n) && is_one r asked)
+            (λ own. entries_apart s.opening n r (file_of op) (key_of op) (and_parts (acting == n) (is_one r asked) own).1 local s.trace)
+            (λ own. counts_apart s.opening n r (file_of op) (key_of op) (and_parts (acting == n) (is_one r asked) own).1 s.counts)
+            ∙ ap (λ b. b && not ((acting == n) && is_one r asked)) (sym (held_sum s n (is_one r))))
 
         -- one that covers none
         plain_of : list_any (covers acting op) s.reads ≡ false → IsTableOf (entered s u op a) t
         plain_of none = table_same s (entered s u op a) t k once_after keys_after refl (λ r n.
-            entered_sum s u op a n (overlaps r)
+            entered_sum s u op a n (is_one r)
             ∙ (λ j. is_open (outcome_of s.outcomes n)
-            && (((ap (λ b. in_entries s.opening n (overlaps r) s.trace || b) (by_entry-none s u op a n (overlaps r) unheld) ∙ or-false (in_entries s.opening n (overlaps r) s.trace)) j
-            || (in_reads_then r n ∙ ap (in_reads s.opening n (overlaps r)) (filter_none (covers acting op) s.reads none)) j)
-            || in_counts s.opening n (overlaps r) s.counts))
-            ∙ sym (held_sum s n (overlaps r)))
+            && (((ap (λ b. in_entries s.opening n (is_one r) s.trace || b) (by_entry-none s u op a n (is_one r) unheld) ∙ or-false (in_entries s.opening n (is_one r) s.trace)) j
+            || (in_reads_then r n ∙ ap (in_reads s.opening n (is_one r)) (filter_none (covers acting op) s.reads none)) j)
+            || in_counts s.opening n (is_one r) s.counts))
+            ∙ sym (held_sum s n (is_one r)))
 
   -- the table after the command, by what the command is
   abbrev chosen : Bool → Bool → Bool → Bool → Table
@@ -311,7 +320,7 @@ pub table_unlocked_of : (s : UnitsState) (t : Table) (u : ℕ) (f : Bytes) → I
     IsTableOf (after_unlock s u f) (table_unlocked s.opening u f (read_at s.reads u f) t)
 table_unlocked_of s t u f i k live =
     elim (read_at s.reads u f) as (λ found. read_at s.reads u f ≡ found → IsTableOf (after_unlock s u f) (table_unlocked s.opening u f found t)) [
-      | None ↦ λ none. same_of (λ r n. ap (in_reads s.opening n (overlaps r))
+      | None ↦ λ none. same_of (λ r n. ap (in_reads s.opening n (is_one r))
           (filter_none (is_read_of u f) s.reads (none_read s.reads u f (ap is_some none))))
       | Some l ↦ λ found. elim (file_recoverable s.opening f) as (λ b. file_recoverable s.opening f ≡ b →
           IsTableOf (after_unlock s u f) (if b then t else given_back t (record_of f l) u)) [
@@ -329,26 +338,26 @@ table_unlocked_of s t u f i k live =
 
     -- what the unlocked reads don't hold stays
     same_of : ((r : Resource) (n : ℕ) →
-        in_reads s.opening n (overlaps r) (filter (λ x. not (is_read_of u f x)) s.reads) ≡ in_reads s.opening n (overlaps r) s.reads) →
+        in_reads s.opening n (is_one r) (filter (λ x. not (is_read_of u f x)) s.reads) ≡ in_reads s.opening n (is_one r) s.reads) →
         IsTableOf (after_unlock s u f) t
     same_of same = table_same s (after_unlock s u f) t k once keys refl (λ r n.
-        held_sum (after_unlock s u f) n (overlaps r)
-        ∙ ap (λ b. is_open (outcome_of s.outcomes n) && ((in_entries s.opening n (overlaps r) s.trace || b) || in_counts s.opening n (overlaps r) s.counts)) (same r n)
-        ∙ sym (held_sum s n (overlaps r)))
+        held_sum (after_unlock s u f) n (is_one r)
+        ∙ ap (λ b. is_open (outcome_of s.outcomes n) && ((in_entries s.opening n (is_one r) s.trace || b) || in_counts s.opening n (is_one r) s.counts)) (same r n)
+        ∙ sym (held_sum s n (is_one r)))
 
     given_of : (l : Bytes) → read_at s.reads u f ≡ Some l → file_recoverable s.opening f ≡ false →
         IsTableOf (after_unlock s u f) (given_back t (record_of f l) u)
     given_of l found local = table_given s (after_unlock s u f) t k once keys refl u f l (λ r n.
-        held_sum (after_unlock s u f) n (overlaps r)
-        ∙ ap (λ b. is_open (outcome_of s.outcomes n) && ((in_entries s.opening n (overlaps r) s.trace || b) || in_counts s.opening n (overlaps r) s.counts))
+        held_sum (after_unlock s u f) n (is_one r)
+        ∙ ap (λ b. is_open (outcome_of s.outcomes n) && ((in_entries s.opening n (is_one r) s.trace || b) || in_counts s.opening n (is_one r) s.counts))
         (any_ended s.opening n r u f l local (is_read_of u f) s.reads (read_keys s.reads u f l k.once found)
         (λ x own. (and_parts (is_read_of u f x) (is_same x.key l) own).0))
-        ∙ read_less (is_open (outcome_of s.outcomes n)) (in_entries s.opening n (overlaps r) s.trace)
-        (in_reads s.opening n (overlaps r) s.reads) (in_counts s.opening n (overlaps r) s.counts)
-        ((u == n) && overlaps r (record_of f l))
-        (λ own. entries_apart s.opening n r f l (and_parts (u == n) (overlaps r (record_of f l)) own).1 local s.trace)
-        (λ own. counts_apart s.opening n r f l (and_parts (u == n) (overlaps r (record_of f l)) own).1 s.counts)
-        ∙ ap (λ b. b && not ((u == n) && overlaps r (record_of f l))) (sym (held_sum s n (overlaps r))))
+        ∙ read_less (is_open (outcome_of s.outcomes n)) (in_entries s.opening n (is_one r) s.trace)
+        (in_reads s.opening n (is_one r) s.reads) (in_counts s.opening n (is_one r) s.counts)
+        ((u == n) && is_one r (record_of f l))
+        (λ own. entries_apart s.opening n r f l (and_parts (u == n) (is_one r (record_of f l)) own).1 local s.trace)
+        (λ own. counts_apart s.opening n r f l (and_parts (u == n) (is_one r (record_of f l)) own).1 s.counts)
+        ∙ ap (λ b. b && not ((u == n) && is_one r (record_of f l))) (sym (held_sum s n (is_one r))))
 
 -- ---- The end of a unit
 
@@ -358,17 +367,17 @@ table_ended_of s t u outcome i k live shut =
     table_released s (after_end s u outcome) t k (AreOnce-dropped (λ x. x.unit == u) s.reads k.once)
     (All-filter (λ x. not (x.unit == u)) (λ r. length r.key ≤ 255) s.reads k.keys) u refl (λ r n.
     elim (cases_Bool (eqb u n)) [
-      | inl own ↦ held_sum (after_end s u outcome) n (overlaps r)
-          ∙ ap (λ b. b && ((in_entries s.opening n (overlaps r) s.trace || in_reads s.opening n (overlaps r) (after_end s u outcome).reads)
-          || in_counts s.opening n (overlaps r) (after_end s u outcome).counts)) (ended n own)
-          ∙ sym (ap (λ b. list_any (overlaps r) (held_by s n) && not b) own ∙ and-false (list_any (overlaps r) (held_by s n)))
-      | inr other ↦ held_sum (after_end s u outcome) n (overlaps r)
+      | inl own ↦ held_sum (after_end s u outcome) n (is_one r)
+          ∙ ap (λ b. b && ((in_entries s.opening n (is_one r) s.trace || in_reads s.opening n (is_one r) (after_end s u outcome).reads)
+          || in_counts s.opening n (is_one r) (after_end s u outcome).counts)) (ended n own)
+          ∙ sym (ap (λ b. list_any (is_one r) (held_by s n) && not b) own ∙ and-false (list_any (is_one r) (held_by s n)))
+      | inr other ↦ held_sum (after_end s u outcome) n (is_one r)
           ∙ (λ j. is_open (outcome_of-set s.outcomes u n outcome (apart n other) j)
-          && ((in_entries s.opening n (overlaps r) s.trace
+          && ((in_entries s.opening n (is_one r) s.trace
           || any_kept (by_read s.opening n r) (λ x. x.unit == u) s.reads (read_apart r n other) j)
-          || any_kept (λ c. list_any (overlaps r) (held_by_count n c)) (λ c. c.unit == u) s.counts (count_apart r n other) j))
-          ∙ sym (held_sum s n (overlaps r))
-          ∙ sym (ap (λ b. list_any (overlaps r) (held_by s n) && not b) other ∙ and-true (list_any (overlaps r) (held_by s n)))
+          || any_kept (λ c. list_any (is_one r) (held_by_count n c)) (λ c. c.unit == u) s.counts (count_apart r n other) j))
+          ∙ sym (held_sum s n (is_one r))
+          ∙ sym (ap (λ b. list_any (is_one r) (held_by s n) && not b) other ∙ and-true (list_any (is_one r) (held_by s n)))
     ])
   where
     apart : (n : ℕ) → eqb u n ≡ false → n ≢ u
@@ -387,8 +396,8 @@ table_ended_of s t u outcome i k live shut =
     read_apart : (r : Resource) (n : ℕ) → eqb u n ≡ false → (x : UpdateRead) → (x.unit == u) ≡ true → by_read s.opening n r x ≡ false
     read_apart r n other x his =
         by_read-is s.opening n r x
-        ∙ ap (λ b. (b && not (file_recoverable s.opening x.file)) && overlaps r (record_of x.file x.key)) (not_his x.unit n other his)
+        ∙ ap (λ b. (b && not (file_recoverable s.opening x.file)) && is_one r (record_of x.file x.key)) (not_his x.unit n other his)
 
-    count_apart : (r : Resource) (n : ℕ) → eqb u n ≡ false → (c : EnqCount) → (c.unit == u) ≡ true → list_any (overlaps r) (held_by_count n c) ≡ false
+    count_apart : (r : Resource) (n : ℕ) → eqb u n ≡ false → (c : EnqCount) → (c.unit == u) ≡ true → list_any (is_one r) (held_by_count n c) ≡ false
     count_apart r n other c his =
-        ap (λ b. list_any (overlaps r) (if b then User (bytes_of c.value) ∷ [] else [])) (not_his c.unit n other his)
+        ap (λ b. list_any (is_one r) (if b then User (bytes_of c.value) ∷ [] else [])) (not_his c.unit n other his)

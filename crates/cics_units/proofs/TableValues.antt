@@ -1,33 +1,28 @@
 -- ENQ and DEQ: the counts of the values, by the order of the values, are those of the table.
 use Rattle.std.proofs.Common.{◌≡◌, ℕ, ◌+◌, ◌-◌, Bool, true, false, cond, ◌&&◌, ◌||◌, not, T, Option, Some, None, List, [], ◌∷◌, refl, ap, sym, subst, ◌∙◌, eqb}
 use Rattle.std.specs.Prelude.{if◌then◌else◌, ◌==◌, nat_lt, nat_le}
-use Rattle.std.specs.List.{list_any}
 use Rattle.std.specs.FinMap as map_by
 use Rattle.std.specs.declared.cmp.Ordering.TheVariants.{Less, Equal, Greater}
 use Rattle.std.specs.Ordering.{is_eq, is_lt}
 use Rattle.std.specs.Cmp.{tied_itself}
 use Rattle.std.specs.FinMap.Entries.{by_order, below_all}
 use Rattle.std.proofs.Math.Bool.{or-false, and-true, and-false}
-use Rattle.std.proofs.lemmas.Bool.{true≢false, false≢true, eq-eqb, eqb-true, and_parts, and_from, and_right, or_from}
-use Rattle.std.proofs.lemmas.List.Folds.{list_any-append}
+use Rattle.std.proofs.lemmas.Bool.{false≢true, eq-eqb, eqb-true, and_parts, and_from, and_right}
 use Rattle.cics_names.specs.Keyed.{Bytes, bytes_cmp, is_same, is_below}
 use Rattle.cics_names.specs.KeyedLaws.{is_same-self}
 use Rattle.cics_names.specs.RisingLaws.{is_same-turned}
-use Rattle.cics_enqueue.specs.Resources.{Table, Held, overlaps, is_one, is_user, is_in_order, resource_cmp, most_count, held_at, holder_of, count_in, IsFreeFor, with_holder, freed, taken, given_back, given_back_of, raised_count}
-use Rattle.cics_enqueue.specs.ResourceLaws.{is_one-eq, is_one-cmp, is_one-self, same_resources, resource_cmp_total}
+use Rattle.cics_enqueue.specs.Resources.{Table, Held, is_one, is_user, is_in_order, resource_cmp, most_count, held_at, holder_of, count_in, IsFreeFor, with_holder, freed, taken, given_back, given_back_of, raised_count}
+use Rattle.cics_enqueue.specs.ResourceLaws.{free_own, is_one-eq, is_one-cmp, is_one-self, same_resources, resource_cmp_total}
 use Rattle.cics_enqueue.proofs.TableLaws.{left_of, right_of, unit_in, held_less, held_below, held_before, freed-absent, held_at-with_holder, held_at-given_back, holder_of-taken, is_in_order-taken, is_in_order-given_back}
 use Rattle.cics_enqueue.specs.declared.resources.Resource.{Resource}
-use Rattle.cics_enqueue.specs.declared.resources.Resource.TheVariants.{FileKey, TsQueue, TdRead as ReadingEnd, TdWrite as WritingEnd, User}
-use Rattle.cics_units.specs.Openings.{OpeningState, file_recoverable, queue_logical, has_prefix_in}
-use Rattle.cics_units.specs.Store.{is_normal, is_recoverable}
+use Rattle.cics_enqueue.specs.declared.resources.Resource.TheVariants.{FileKey, TsQueue, TdRead as ReadingEnd, TdWrite as WritingEnd, User, FilePrefix}
+use Rattle.cics_units.specs.Openings.{OpeningState}
 use Rattle.cics_units.specs.History.{outcome_of, is_open}
-use Rattle.cics_units.specs.Holding.{UnitsState, UpdateRead, EnqCount, uses_of, value_holder}
+use Rattle.cics_units.specs.Holding.{UnitsState, UpdateRead, EnqCount, value_holder}
 use Rattle.cics_units.specs.Execution.{unit_or_next, outcomes_with, is_count, count_at, counted, uncounted, with_counts, enq_of, enqueue, after_enqueued, after_dequeue}
 use Rattle.cics_units.specs.Events.{may_act}
 use Rattle.cics_units.specs.Isolation.{IsSound}
-use Rattle.cics_units.specs.TableInPlace.{record_of, value_of, is_holder, counted_before, counts_in, IsTableOf}
-use Rattle.cics_units.specs.declared.ops.Op.{Op}
-use Rattle.cics_units.specs.declared.ops.Op.TheVariants.{Write, Rewrite, Delete, ReadUpdate, TsWrite, TsRewrite, TsDelete, TdWrite, TdRead, TdDelete}
+use Rattle.cics_units.specs.TableInPlace.{value_of, is_holder, counted_before, counts_in, IsTableOf}
 use Rattle.cics_units.specs.declared.ops.Entry.{Entry}
 use Rattle.cics_units.specs.declared.ops.UnitState.{UnitState}
 use Rattle.cics_units.specs.declared.ops.Enqueued.TheVariants.{Taken, MustWait as EnqMustWait, CountFull}
@@ -36,6 +31,7 @@ use Rattle.cics_units.proofs.Outcomes.{outcome_of-with}
 use Rattle.cics_units.proofs.HeldReads.{any_if_one}
 use Rattle.cics_units.proofs.HeldSums.{in_entries, in_reads, in_counts, held_sum}
 use Rattle.cics_units.proofs.TableInPlace.{table_holder, table_free}
+use Rattle.cics_units.proofs.Unprefixed.{in_entries-apart, in_reads-apart, in_counts-other, not_value}
 
 -- how a value and its holding are counted
 abbrev count_of_value : Bytes → Held → EnqCount
@@ -81,6 +77,7 @@ module _ (v : Bytes) (u n : ℕ) where
   taken_first (TsQueue q) h es below own count rest = rest refl
   taken_first (ReadingEnd q) h es below own count rest = rest refl
   taken_first (WritingEnd q) h es below own count rest = rest refl
+  taken_first (FilePrefix f p) h es below own count rest = rest refl
 
   counts_in-written : (t : Table) → T (is_in_order t) →
       ((g : Held) → held_at (value_of v) t ≡ Some g → g.unit ≡ u) →
@@ -97,7 +94,7 @@ pub counts_in-taken : (t : Table) (v : Bytes) (u : ℕ) → T (is_in_order t) �
     counts_in (taken t (value_of v) u) ≡ counted (counts_in t) u v
 counts_in-taken t v u rises free =
     counts_in-written v u (raised_count (value_of v) (held_at (value_of v) t)) t rises
-    (λ g at. free g.unit (ap unit_in at)) refl
+    (λ g at. free_own t (value_of v) u free g.unit (ap unit_in at)) refl
 
 -- ---- One take less
 
@@ -118,6 +115,7 @@ module _ (v : Bytes) (u : ℕ) where
   uncounted_skips (TsQueue q) g cs other = refl
   uncounted_skips (ReadingEnd q) g cs other = refl
   uncounted_skips (WritingEnd q) g cs other = refl
+  uncounted_skips (FilePrefix f p) g cs other = refl
 
   -- the value's own count
   uncounted_hit : (h : Held) (cs : List EnqCount) → uncounted (count_of_value v h ∷ cs) u v
@@ -215,77 +213,37 @@ counts_in-given_back_value t v u rises =
 
 -- the counts tell who holds a value
 pub in_counts-value : (o : OpeningState) (n : ℕ) (v : Bytes) (t : Table) → T (is_in_order t) →
-    in_counts o n (overlaps (value_of v)) (counts_in t) ≡ is_holder n (holder_of (value_of v) t)
+    in_counts o n (is_one (value_of v)) (counts_in t) ≡ is_holder n (holder_of (value_of v) t)
 in_counts-value o n v [] rises = refl
 in_counts-value o n v (e ∷ es) rises = first e.0 e.1 (left_of _ _ rises) (in_counts-value o n v es (right_of _ _ rises))
   where
     first : (r : Resource) (h : Held) → T (below_all resource_cmp r es) →
-        in_counts o n (overlaps (value_of v)) (counts_in es) ≡ is_holder n (holder_of (value_of v) es) →
-        in_counts o n (overlaps (value_of v)) (counts_in ((r, h) ∷ es)) ≡ is_holder n (holder_of (value_of v) ((r, h) ∷ es))
+        in_counts o n (is_one (value_of v)) (counts_in es) ≡ is_holder n (holder_of (value_of v) es) →
+        in_counts o n (is_one (value_of v)) (counts_in ((r, h) ∷ es)) ≡ is_holder n (holder_of (value_of v) ((r, h) ∷ es))
     first (User w) h below rest =
-        ap (λ b. b || in_counts o n (overlaps (value_of v)) (counts_in es)) (any_if_one (overlaps (value_of v)) (h.unit == n) (value_of w.items))
+        ap (λ b. b || in_counts o n (is_one (value_of v)) (counts_in es)) (any_if_one (is_one (value_of v)) (h.unit == n) (value_of w.items))
         ∙ elim (is_same v w.items) as (λ b. is_same v w.items ≡ b →
-        (((h.unit == n) && b) || in_counts o n (overlaps (value_of v)) (counts_in es))
+        (((h.unit == n) && b) || in_counts o n (is_one (value_of v)) (counts_in es))
         ≡ is_holder n (unit_in (cond b (Some h) (held_at (value_of v) es)))) [
           | true ↦ λ one.
               (λ i. and-true (h.unit == n) i || (rest ∙ ap (λ x. is_holder n (unit_in x)) (gone_after v n (User w, h) es below (is_one-eq (value_of v) (User w) one))) i)
               ∙ or-false (h.unit == n)
-          | false ↦ λ other. ap (λ b. b || in_counts o n (overlaps (value_of v)) (counts_in es)) (and-false (h.unit == n)) ∙ rest
+          | false ↦ λ other. ap (λ b. b || in_counts o n (is_one (value_of v)) (counts_in es)) (and-false (h.unit == n)) ∙ rest
         ] refl
     first (FileKey f k) h below rest = rest
     first (TsQueue q) h below rest = rest
     first (ReadingEnd q) h below rest = rest
     first (WritingEnd q) h below rest = rest
+    first (FilePrefix f p) h below rest = rest
 
 module _ (o : OpeningState) (n : ℕ) (v : Bytes) where
   -- no command uses a value
-  in_entries-value : (es : List Entry) → in_entries o n (overlaps (value_of v)) es ≡ false
-  in_entries-value [] = refl
-  in_entries-value (e ∷ es) =
-      or_from _ _ (ap_if ((e.unit == n) && (is_normal e.answer.condition && is_recoverable o e.op)) (uses_none e.op)) (in_entries-value es)
-    where
-      ap_if : (b : Bool) → list_any (overlaps (value_of v)) (uses_of o e.op) ≡ false →
-          list_any (overlaps (value_of v)) (if b then uses_of o e.op else []) ≡ false
-      ap_if true none = none
-      ap_if false none = refl
-
-      named : (b : Bool) (q : Resource) → overlaps (value_of v) q ≡ false → list_any (overlaps (value_of v)) (if b then q ∷ [] else []) ≡ false
-      named b q apart = any_if_one (overlaps (value_of v)) b q ∙ and_right b (overlaps (value_of v) q) apart
-
-      uses_none : (op : Op) → list_any (overlaps (value_of v)) (uses_of o op) ≡ false
-      uses_none (Write f k d) = refl
-      uses_none (Rewrite f k d) = refl
-      uses_none (Delete f k) = refl
-      uses_none (ReadUpdate f k) = refl
-      uses_none (TsWrite q d) = named (has_prefix_in o.prefixes q) (TsQueue q) refl
-      uses_none (TsRewrite q m d) = named (has_prefix_in o.prefixes q) (TsQueue q) refl
-      uses_none (TsDelete q) = named (has_prefix_in o.prefixes q) (TsQueue q) refl
-      uses_none (TdWrite q d) = named (queue_logical o q) (WritingEnd q) refl
-      uses_none (TdRead q) = named (queue_logical o q) (ReadingEnd q) refl
-      uses_none (TdDelete q) =
-          list_any-append (overlaps (value_of v)) (if queue_logical o q then ReadingEnd q ∷ [] else []) (if queue_logical o q then WritingEnd q ∷ [] else [])
-          ∙ or_from _ _ (named (queue_logical o q) (ReadingEnd q) refl) (named (queue_logical o q) (WritingEnd q) refl)
+  in_entries-value : (es : List Entry) → in_entries o n (is_one (value_of v)) es ≡ false
+  in_entries-value = in_entries-apart o n (value_of v) (λ f k. refl) (λ q. refl) (λ q. refl) (λ q. refl) (λ f p. refl)
 
   -- and no update read holds one
-  in_reads-value : (xs : List UpdateRead) → in_reads o n (overlaps (value_of v)) xs ≡ false
-  in_reads-value [] = refl
-  in_reads-value (x ∷ xs) =
-      or_from _ _ (any_if_one (overlaps (value_of v)) ((x.unit == n) && not (file_recoverable o x.file)) (record_of x.file x.key)
-      ∙ and-false ((x.unit == n) && not (file_recoverable o x.file))) (in_reads-value xs)
-
--- what isn't a value isn't one
-pub not_value : (r : Resource) (v : Bytes) → is_user r ≡ false → is_one r (value_of v) ≡ false
-not_value (User w) v other = absurd (true≢false other)
-not_value (FileKey f k) v other = refl
-not_value (TsQueue q) v other = refl
-not_value (ReadingEnd q) v other = refl
-not_value (WritingEnd q) v other = refl
-
-in_counts-other : (o : OpeningState) (n : ℕ) (r : Resource) → is_user r ≡ false → (cs : List EnqCount) → in_counts o n (overlaps r) cs ≡ false
-in_counts-other o n r other [] = refl
-in_counts-other o n r other (c ∷ cs) =
-    or_from _ _ (any_if_one (overlaps r) (c.unit == n) (value_of c.value) ∙ and_right (c.unit == n) (overlaps r (value_of c.value)) (not_value r c.value other))
-    (in_counts-other o n r other cs)
+  in_reads-value : (xs : List UpdateRead) → in_reads o n (is_one (value_of v)) xs ≡ false
+  in_reads-value = in_reads-apart o n (value_of v) (λ f k. refl) (λ q. refl) (λ q. refl) (λ q. refl) (λ f p. refl)
 
 -- ---- The units after ENQ and DEQ
 
@@ -296,23 +254,24 @@ table_counted : (s : UnitsState) (outcomes : List UnitState) (counts : List EnqC
     ((v : Bytes) (n : ℕ) → is_holder n (holder_of (value_of v) next) ≡ true → is_open (outcome_of s.outcomes n) ≡ true) →
     IsTableOf (with_counts s outcomes counts) next
 table_counted s outcomes counts t next k same counted rises others live = record {
-  holders = λ r n. held_sum (with_counts s outcomes counts) n (overlaps r)
-      ∙ ap (λ u. is_open u && ((in_entries s.opening n (overlaps r) s.trace || in_reads s.opening n (overlaps r) s.reads) || in_counts s.opening n (overlaps r) counts)) (same n)
+  holders = λ r n. held_sum (with_counts s outcomes counts) n (is_one r)
+      ∙ ap (λ u. is_open u && ((in_entries s.opening n (is_one r) s.trace || in_reads s.opening n (is_one r) s.reads) || in_counts s.opening n (is_one r) counts)) (same n)
       ∙ by_kind r n;
   single = λ r other. ap (λ h. nat_le (count_in h) 1) (others r other) ∙ k.single r other;
   in_order = rises;
   counts = counted;
   once = k.once;
+  keys_alone = λ f p. ap unit_in (others (FilePrefix f p) refl) ∙ k.keys_alone f p;
   keys = k.keys;
 }
   where
     not_value_of : (r : Resource) (n : ℕ) → is_user r ≡ false →
-        (is_open (outcome_of s.outcomes n) && ((in_entries s.opening n (overlaps r) s.trace || in_reads s.opening n (overlaps r) s.reads) || in_counts s.opening n (overlaps r) counts))
+        (is_open (outcome_of s.outcomes n) && ((in_entries s.opening n (is_one r) s.trace || in_reads s.opening n (is_one r) s.reads) || in_counts s.opening n (is_one r) counts))
         ≡ is_holder n (holder_of r next)
     not_value_of r n other =
-        ap (λ b. is_open (outcome_of s.outcomes n) && ((in_entries s.opening n (overlaps r) s.trace || in_reads s.opening n (overlaps r) s.reads) || b))
+        ap (λ b. is_open (outcome_of s.outcomes n) && ((in_entries s.opening n (is_one r) s.trace || in_reads s.opening n (is_one r) s.reads) || b))
         (in_counts-other s.opening n r other counts ∙ sym (in_counts-other s.opening n r other s.counts))
-        ∙ sym (held_sum s n (overlaps r)) ∙ k.holders r n
+        ∙ sym (held_sum s n (is_one r)) ∙ k.holders r n
         ∙ sym (ap (λ h. is_holder n (unit_in h)) (others r other))
 
     only_open : (a b : Bool) → (b ≡ true → a ≡ true) → (a && ((false || false) || b)) ≡ b
@@ -321,21 +280,22 @@ table_counted s outcomes counts t next k same counted rises others live = record
     only_open false false h = refl
 
     by_kind : (r : Resource) (n : ℕ) →
-        (is_open (outcome_of s.outcomes n) && ((in_entries s.opening n (overlaps r) s.trace || in_reads s.opening n (overlaps r) s.reads) || in_counts s.opening n (overlaps r) counts))
+        (is_open (outcome_of s.outcomes n) && ((in_entries s.opening n (is_one r) s.trace || in_reads s.opening n (is_one r) s.reads) || in_counts s.opening n (is_one r) counts))
         ≡ is_holder n (holder_of r next)
     by_kind (User w) n =
         (λ i. is_open (outcome_of s.outcomes n) && ((in_entries-value s.opening n w.items s.trace i || in_reads-value s.opening n w.items s.reads i)
-        || (ap (in_counts s.opening n (overlaps (User w))) counted ∙ in_counts-value s.opening n w.items next rises) i))
+        || (ap (in_counts s.opening n (is_one (User w))) counted ∙ in_counts-value s.opening n w.items next rises) i))
         ∙ only_open (is_open (outcome_of s.outcomes n)) (is_holder n (holder_of (User w) next)) (live w.items n)
     by_kind (FileKey f l) n = not_value_of (FileKey f l) n refl
     by_kind (TsQueue q) n = not_value_of (TsQueue q) n refl
     by_kind (ReadingEnd q) n = not_value_of (ReadingEnd q) n refl
     by_kind (WritingEnd q) n = not_value_of (WritingEnd q) n refl
+    by_kind (FilePrefix f p) n = not_value_of (FilePrefix f p) n refl
 
 -- whoever the table has hold something is open
 holder_open : (s : UnitsState) (t : Table) → IsTableOf s t → (r : Resource) (n : ℕ) → is_holder n (holder_of r t) ≡ true →
     is_open (outcome_of s.outcomes n) ≡ true
-holder_open s t k r n h = (and_parts (is_open (outcome_of s.outcomes n)) _ (sym (held_sum s n (overlaps r)) ∙ (k.holders r n ∙ h))).0
+holder_open s t k r n h = (and_parts (is_open (outcome_of s.outcomes n)) _ (sym (held_sum s n (is_one r)) ∙ (k.holders r n ∙ h))).0
 
 -- an ENQ that takes its value
 pub table_enqueued_of : (s : UnitsState) (t : Table) (u : Option ℕ) (v : Bytes) (unit : ℕ) → IsSound s → IsTableOf s t →
@@ -344,7 +304,7 @@ pub table_enqueued_of : (s : UnitsState) (t : Table) (u : Option ℕ) (v : Bytes
 table_enqueued_of s t u v unit i k acts takes =
     table_counted s (outcomes_with u s.outcomes) (counted s.counts unit v) t (taken t (value_of v) unit) k
     (outcome_of-with u s.outcomes)
-    (ap (λ cs. counted cs unit v) k.counts ∙ sym (counts_in-taken t v unit k.in_order (subst (IsFreeFor t (value_of v)) (sym taker.1) (table_free s t i k u (value_of v) (sym (table_holder s t i k u (value_of v)) ∙ taker.0)))))
+    (ap (λ cs. counted cs unit v) k.counts ∙ sym (counts_in-taken t v unit k.in_order (subst (IsFreeFor t (value_of v)) (sym taker.1) (table_free s t i k u (value_of v) refl (sym (table_holder s t i k u (value_of v) refl) ∙ taker.0)))))
     (is_in_order-taken t (value_of v) unit k.in_order)
     (λ r other. held_at-with_holder t (value_of v) unit (raised_count (value_of v) (held_at (value_of v) t)) r
     ∙ ap (λ b. if b then Some (record { unit = unit; count = raised_count (value_of v) (held_at (value_of v) t) }) else held_at r t) (not_value r v other))

@@ -8,15 +8,19 @@ use Rattle.cics_units.specs.Openings.{OpeningState}
 use Rattle.cics_units.specs.Store.{Store, apply, is_normal, is_recoverable, initial_store}
 use Rattle.cics_units.specs.History.{is_open, is_backed_out}
 use Rattle.cics_units.specs.declared.ops.Op.{Op}
-use Rattle.cics_units.specs.declared.ops.Op.TheVariants.{ReadUpdate, TdWrite, TdRead, TdDelete}
+use Rattle.cics_units.specs.declared.ops.Op.TheVariants.{DeleteGeneric, ReadUpdate, TdWrite, TdRead, TdDelete}
 use Rattle.cics_units.specs.declared.ops.Entry.{Entry}
 use Rattle.cics_units.specs.declared.ops.UnitState.{UnitState}
 use Rattle.cics_units.specs.declared.ops.UnitState.TheVariants.{BackedOut}
-use Rattle.cics_units.specs.Cells.{Cell, Content, content, cell_of, same_cell, touches, effect, End, Reading, Writing, uses, recovers}
+use Rattle.cics_units.specs.Cells.{Cell, Key, Ts, Td, Content, content, cell_of, same_cell, touches, effect, End, Reading, Writing, uses, recovers}
 use Rattle.cics_units.specs.Isolation.{Outcomes, stays, store_by, claims, used, Extends, Alike, IsIsolated, IsFree}
 use Rattle.cics_units.specs.Undo.{Image, Cells, undone, Leads, names, is_plain, changes, AreImages, Place, put, ended, IsUndoable}
 use Rattle.cics_units.proofs.Effects.{effect-refused}
-use Rattle.cics_units.proofs.Joining.{same_cell-true, apply-answer, touches-recovers}
+use Rattle.cics_names.specs.Keyed.{value_at, is_same}
+use Rattle.cics_names.specs.KeyedLaws.{is_same-eq}
+use Rattle.cics_ksds.specs.Prefixes.{has_prefix}
+use Rattle.cics_units.proofs.Generic.{normal-generic}
+use Rattle.cics_units.proofs.Joining.{apply-answer, touched-is, touches-recovers}
 use Rattle.cics_units.proofs.Replays.{Each_from, replay-at}
 use Rattle.cics_units.proofs.Isolated.{Extends-refl, same_content, used-more, used-last, alike_if_alone}
 use Rattle.cics_units.proofs.Executes.{MayRun, open_kept}
@@ -101,7 +105,10 @@ plain_uses o _ end h t = refl
 
 touches-plain : (o : OpeningState) (op : Op) (x : Cell) → touches op x ≡ true →
     is_plain o (cell_of op) ≡ is_plain o x
-touches-plain o op x y = ap (is_plain o) (same_cell-true (cell_of op) x y)
+touches-plain o (DeleteGeneric f p) (Key g l) y = refl
+touches-plain o (DeleteGeneric f p) (Ts q) y = absurd (false≢true y)
+touches-plain o (DeleteGeneric f p) (Td q) y = absurd (false≢true y)
+touches-plain o op x y = ap (is_plain o) (touched-is op refl x y)
 
 effect-still : (op : Op) (c : Content) → changes op c ≡ false → (effect op c).cell ≡ c
 effect-still (ReadUpdate f k) None e = refl
@@ -113,9 +120,15 @@ effect-still op c e = effect-refused op c e
 changes-normal : (op : Op) (s : Store) (x : Cell) → touches op x ≡ true → changes op (content s x) ≡ true →
     is_normal (apply s op).answer.condition ≡ true
 changes-normal (ReadUpdate f k) s x y t = absurd (false≢true t)
+changes-normal (DeleteGeneric f p) s (Key g l) y t =
+    let both = and_parts (is_same f g) (has_prefix p l) y in
+    normal-generic s f p (value_at f s.files) l both.1
+    (subst (λ z. changes (DeleteGeneric f p) (content s (Key z l)) ≡ true) (sym (is_same-eq f g both.0)) t)
+changes-normal (DeleteGeneric f p) s (Ts q) y t = absurd (false≢true y)
+changes-normal (DeleteGeneric f p) s (Td q) y t = absurd (false≢true y)
 changes-normal op s x y t =
-    ap (λ a. is_normal a.condition) (apply-answer s op)
-    ∙ subst (λ z. changes op (content s z) ≡ true) (sym (same_cell-true (cell_of op) x y)) t
+    ap (λ a. is_normal a.condition) (apply-answer s op refl)
+    ∙ subst (λ z. changes op (content s z) ≡ true) (sym (touched-is op refl x y)) t
 
 used-other : (es : List Entry) (e : Entry) (u : ℕ) (x : Cell) (end : End) → eqb e.unit u ≡ false →
     used es u x end ≡ false → used (es ++ e ∷ []) u x end ≡ false

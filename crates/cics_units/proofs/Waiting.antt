@@ -1,21 +1,23 @@
 -- Where no unit is awaited, no other open unit holds what the command uses.
 use Rattle.std.proofs.Common.{arith, ◌≡◌, ℕ, Bool, true, false, cond, ◌&&◌, ◌||◌, not, Option, Some, None, List, [], ◌∷◌, ◌++◌, length, refl, ap, sym, subst, ◌∙◌, eqb, ◌⊎◌, inl, inr, ◌<◌, ◌≤◌, ◌+◌}
-use Rattle.std.specs.Prelude.{if◌then◌else◌, filter, map, flat_map, unwrap_or}
+use Rattle.std.specs.Prelude.{if◌then◌else◌, filter, map, flat_map, unwrap_or, option_map}
 use Rattle.std.specs.List.{list_any}
-use Rattle.std.proofs.lemmas.Bool.{true≢false, false≢true, cases_Bool, eqb-true, eqb-false, ne_eqb, and_parts, and_from, or_cases, or_left, or_right}
+use Rattle.std.proofs.lemmas.Bool.{true≢false, false≢true, cases_Bool, eqb-true, eqb-false, eq-eqb, ne_eqb, and_parts, and_from, or_cases, or_left, or_right}
 use Rattle.std.proofs.lemmas.List.Folds.{list_any-append}
-use Rattle.cics_names.specs.Keyed.{Bytes, is_same}
+use Rattle.cics_names.specs.Keyed.{Bytes, is_same, is_below}
 use Rattle.cics_names.specs.KeyedLaws.{is_same-self, is_same-eq}
-use Rattle.cics_enqueue.specs.Resources.{Table, Held, overlaps, is_other}
+use Rattle.cics_enqueue.specs.Resources.{Table, Held, begins_with, overlaps, is_other, lesser, place_of}
+use Rattle.cics_enqueue.proofs.Seeking.{starts_with-begins}
+use Rattle.cics_ksds.specs.Prefixes.{has_prefix}
 use Rattle.cics_enqueue.specs.declared.resources.Resource.{Resource}
-use Rattle.cics_enqueue.specs.declared.resources.Resource.TheVariants.{FileKey, TsQueue, TdRead as ReadingEnd, TdWrite as WritingEnd}
+use Rattle.cics_enqueue.specs.declared.resources.Resource.TheVariants.{FileKey, TsQueue, TdRead as ReadingEnd, TdWrite as WritingEnd, FilePrefix}
 use Rattle.cics_units.specs.Openings.{OpeningState, queue_logical}
 use Rattle.cics_units.specs.Store.{is_recoverable, is_normal, initial_store}
 use Rattle.cics_units.specs.History.{outcome_of, is_open, is_backed_out, replay}
-use Rattle.cics_units.specs.Holding.{UnitsState, uses_of, held_by_entry, held_by_read, held_by_count, held_by, units_from, held_table, first_holder, first_some, holder_among, is_own, committed_for, is_nothing, writer_awaited, awaited}
+use Rattle.cics_units.specs.Holding.{UnitsState, uses_of, held_by_entry, held_by_read, held_by_count, held_by, units_from, held_table, first_held, first_holder, first_some, holder_among, is_own, committed_for, is_nothing, writer_awaited, awaited}
 use Rattle.cics_units.specs.Execution.{unit_or_next}
 use Rattle.cics_units.specs.declared.ops.Op.{Op}
-use Rattle.cics_units.specs.declared.ops.Op.TheVariants.{Write, Rewrite, Delete, ReadUpdate, TsWrite, TsRewrite, TsDelete, TdWrite, TdRead, TdDelete}
+use Rattle.cics_units.specs.declared.ops.Op.TheVariants.{Write, Rewrite, Delete, DeleteGeneric, ReadUpdate, TsWrite, TsRewrite, TsDelete, TdWrite, TdRead, TdDelete}
 use Rattle.cics_units.specs.declared.ops.Entry.{Entry}
 use Rattle.cics_units.specs.declared.ops.UnitState.{UnitState}
 use Rattle.cics_units.specs.declared.ops.UnitState.TheVariants.{Open, Committed, BackedOut}
@@ -47,7 +49,7 @@ any_more p q h (x ∷ xs) t =
       | inr y ↦ or_right _ _ (any_more p q h xs y)
     ]
 
-any_less : {A : Type 0} (p q : A → Bool) → ((x : A) → p x ≡ true → q x ≡ true) → (xs : List A) →
+pub any_less : {A : Type 0} (p q : A → Bool) → ((x : A) → p x ≡ true → q x ≡ true) → (xs : List A) →
     list_any q xs ≡ false → list_any p xs ≡ false
 any_less p q h xs n =
     elim (cases_Bool (list_any p xs)) [
@@ -58,6 +60,7 @@ any_less p q h xs n =
 -- the resource takes hold of this end of the cell
 abbrev pub covers : Cell → End → Resource → Bool
 covers (Key g l) end (FileKey f k) = is_same f g && is_same k.items l
+covers (Key g l) end (FilePrefix f p) = is_same f g && begins_with p.items l
 covers (Ts q) end (TsQueue r) = is_same r q
 covers (Td q) Reading (ReadingEnd r) = is_same r q
 covers (Td q) Writing (WritingEnd r) = is_same r q
@@ -67,16 +70,47 @@ same_by_third : (a b c : Bytes) → is_same a c ≡ true → is_same b c ≡ tru
 same_by_third a b c x y =
     subst (λ z. is_same a z ≡ true) (is_same-eq a c x ∙ sym (is_same-eq b c y)) (is_same-self a)
 
+same_turned : (a b : Bytes) → is_same a b ≡ true → is_same b a ≡ true
+same_turned a b x = subst (λ z. is_same z a ≡ true) (is_same-eq a b x) (is_same-self a)
+
+-- of two prefixes of some bytes one begins with the other
+pub one_begins : (p q b : Bytes) → begins_with p b ≡ true → begins_with q b ≡ true → (begins_with p q || begins_with q p) ≡ true
+one_begins [] q b m n = refl
+one_begins (x ∷ p) [] b m n = refl
+one_begins (x ∷ p) (y ∷ q) [] m n = absurd (false≢true m)
+one_begins (x ∷ p) (y ∷ q) (z ∷ b) m n =
+    let front = and_parts (eqb x z) (begins_with p b) m in
+    let back = and_parts (eqb y z) (begins_with q b) n in
+    let same : x ≡ y = eqb-true x z front.0 ∙ sym (eqb-true y z back.0) in
+    elim (or_cases (begins_with p q) (begins_with q p) (one_begins p q b front.1 back.1)) [
+      | inl t ↦ or_left _ _ (and_from _ _ (eq-eqb x y same) t)
+      | inr t ↦ or_right _ _ (and_from _ _ (eq-eqb y x (sym same)) t)
+    ]
+
+-- bytes that are the same begin with the same
+pub begins_same : (p a b : Bytes) → is_same a b ≡ true → begins_with p a ≡ true → begins_with p b ≡ true
+begins_same p a b same t = subst (λ c. begins_with p c ≡ true) (is_same-eq a b same) t
+
 -- two resources that take hold of one end overlap
 pub covers-overlaps : (x : Cell) (end : End) (r s : Resource) → covers x end r ≡ true →
     covers x end s ≡ true → overlaps r s ≡ true
 covers-overlaps (Key g l) end (FileKey f k) (FileKey h m) a b =
     let c = and_parts _ _ a in let d = and_parts _ _ b in
     and_from _ _ (same_by_third f h g c.0 d.0) (same_by_third k.items m.items l c.1 d.1)
+covers-overlaps (Key g l) end (FileKey f k) (FilePrefix h q) a b =
+    let c = and_parts _ _ a in let d = and_parts _ _ b in
+    and_from _ _ (same_by_third f h g c.0 d.0) (begins_same q.items l k.items (same_turned k.items l c.1) d.1)
+covers-overlaps (Key g l) end (FilePrefix f p) (FileKey h m) a b =
+    let c = and_parts _ _ a in let d = and_parts _ _ b in
+    and_from _ _ (same_by_third f h g c.0 d.0) (begins_same p.items l m.items (same_turned m.items l d.1) c.1)
+covers-overlaps (Key g l) end (FilePrefix f p) (FilePrefix h q) a b =
+    let c = and_parts _ _ a in let d = and_parts _ _ b in
+    and_from _ _ (same_by_third f h g c.0 d.0) (one_begins p.items q.items l c.1 d.1)
 covers-overlaps (Ts q) end (TsQueue r) (TsQueue t) a b = same_by_third r t q a b
 covers-overlaps (Td q) Reading (ReadingEnd r) (ReadingEnd t) a b = same_by_third r t q a b
 covers-overlaps (Td q) Writing (WritingEnd r) (WritingEnd t) a b = same_by_third r t q a b
 covers-overlaps (Key g l) end (FileKey f k) _ a b = absurd (false≢true b)
+covers-overlaps (Key g l) end (FilePrefix f p) _ a b = absurd (false≢true b)
 covers-overlaps (Ts q) end (TsQueue r) _ a b = absurd (false≢true b)
 covers-overlaps (Td q) Reading (ReadingEnd r) _ a b = absurd (false≢true b)
 covers-overlaps (Td q) Writing (WritingEnd r) _ a b = absurd (false≢true b)
@@ -88,6 +122,9 @@ uses_of-covers : (o : OpeningState) (op : Op) (x : Cell) (end : End) → touches
 uses_of-covers o (Write f k r) (Key g l) end y t rec = or_left _ _ y
 uses_of-covers o (Rewrite f k r) (Key g l) end y t rec = or_left _ _ y
 uses_of-covers o (Delete f k) (Key g l) end y t rec = or_left _ _ y
+uses_of-covers o (DeleteGeneric f p) (Key g l) end y t rec =
+    let b = and_parts (is_same f g) (has_prefix p l) y in
+    or_left _ _ (and_from _ _ b.0 (sym (starts_with-begins p l) ∙ b.1))
 uses_of-covers o (ReadUpdate f k) (Key g l) end y t rec = or_left _ _ y
 uses_of-covers o (TsWrite q d) (Ts r) end y t rec = rw rec (or_left _ _ y)
 uses_of-covers o (TsRewrite q n d) (Ts r) end y t rec = rw rec (or_left _ _ y)
@@ -107,15 +144,54 @@ stands_one p u e = p e.0 && is_other u e.1.unit
 abbrev pub stands : (Resource → Bool) → Option ℕ → Table → Bool
 stands p u t = list_any (stands_one p u) t
 
+-- what the lesser of two says, either says, where the first is there
+pub lesser_cases : {P : Type 0} (e : Resource × Held) (o : Option (Resource × Held)) (f : Resource × Held → ℕ) (m : ℕ) →
+    option_map f (lesser (Some e) o) ≡ Some m → (f e ≡ m → P) → (option_map f o ≡ Some m → P) → P
+lesser_cases e None f m h own rest = own (given h)
+  where
+    given : Some (f e) ≡ Some m → f e ≡ m
+    given h = cc
+lesser_cases {P} e (Some d) f m h own rest =
+    elim (is_below (place_of d.0) (place_of e.0)) as
+    (λ b. option_map f (if b then Some d else Some e) ≡ Some m → P)
+    [ true ↦ λ g. rest g | false ↦ λ g. own (given g) ] h
+  where
+    given : Some (f e) ≡ Some m → f e ≡ m
+    given h = cc
+
+lesser_there : (e : Resource × Held) (o : Option (Resource × Held)) → lesser (Some e) o ≡ None → ⊥
+lesser_there e None h = absurd (some_none h)
+  where
+    some_none : Some e ≡ None → ⊥
+    some_none h = cc
+lesser_there e (Some d) h =
+    elim (is_below (place_of d.0) (place_of e.0)) as (λ b. (if b then Some d else Some e) ≡ None → ⊥)
+    [ true ↦ λ g. some_none d g | false ↦ λ g. some_none e g ] h
+  where
+    some_none : (x : Resource × Held) → Some x ≡ None → ⊥
+    some_none x h = cc
+
+-- nothing found: nothing is there
+pub none_held : (t : Table) (u : Option ℕ) (r : Resource) → first_held t u r ≡ None →
+    list_any (λ e. overlaps r e.0 && is_other u e.1.unit) t ≡ false
+none_held [] u r h = refl
+none_held (e ∷ t) u r h =
+    elim (overlaps r e.0 && is_other u e.1.unit) as
+    (λ b. (if b then lesser (Some e) (first_held t u r) else first_held t u r) ≡ None →
+    (b || list_any (λ d. overlaps r d.0 && is_other u d.1.unit) t) ≡ false)
+    [ true ↦ λ g. absurd (lesser_there e (first_held t u r) g) | false ↦ λ g. none_held t u r g ] h
+
 -- nobody found: nobody is there
 pub none_first : (t : Table) (u : Option ℕ) (r : Resource) → first_holder t u r ≡ None →
     list_any (λ e. overlaps r e.0 && is_other u e.1.unit) t ≡ false
-none_first [] u r h = refl
-none_first (e ∷ t) u r h =
-    elim (overlaps r e.0 && is_other u e.1.unit) as
-    (λ b. (if b then Some e.1.unit else first_holder t u r) ≡ None →
-    (b || list_any (λ d. overlaps r d.0 && is_other u d.1.unit) t) ≡ false)
-    [ true ↦ λ g. cc | false ↦ λ g. none_first t u r g ] h
+none_first t u r h = none_held t u r (nothing (first_held t u r) h)
+  where
+    nothing : (o : Option (Resource × Held)) → option_map (λ e. e.1.unit) o ≡ None → o ≡ None
+    nothing None g = refl
+    nothing (Some e) g = absurd (some_none e.1.unit g)
+      where
+        some_none : (n : ℕ) → Some n ≡ None → ⊥
+        some_none n g = cc
 
 pub none_either : {X : Type 0} (x y : Option X) → first_some x y ≡ None → (x ≡ None) × (y ≡ None)
 none_either None y h = (refl, h)

@@ -3,12 +3,13 @@
 use Rattle.std.specs.Prelude.{◌≡◌, Bool, true, false, if◌then◌else◌, ◌&&◌, Option, Some, None, List, [], ◌∷◌, ◌++◌}
 use Rattle.cics_names.specs.Keyed.{Bytes, Map, value_at, is_same, is_rising}
 use Rattle.cics_names.specs.declared.conditions.Condition.TheVariants.{Normal, Dsiderr, Notfnd, Duprec, Qzero, Qiderr}
+use Rattle.cics_ksds.specs.Prefixes.{has_prefix}
 use Rattle.cics_tempstor.specs.Queues.{item_condition, items_after_rewrite, has_item, number_if, delete_condition, items_after_write}
 use Rattle.cics_tempstor.specs.Queues as ts
 use Rattle.cics_units.specs.Openings.{OpeningState, is_in_order, file_recoverable, queue_logical, has_prefix_in}
-use Rattle.cics_units.specs.Store.{Store, only, numbered, with_content, is_normal, ts_queue}
+use Rattle.cics_units.specs.Store.{Store, only, numbered, with_content, counted_answer, is_normal, ts_queue}
 use Rattle.cics_units.specs.declared.ops.Op.{Op}
-use Rattle.cics_units.specs.declared.ops.Op.TheVariants.{Write, Rewrite, Delete, ReadUpdate, TsWrite, TsRewrite, TsDelete, TdWrite, TdRead, TdDelete}
+use Rattle.cics_units.specs.declared.ops.Op.TheVariants.{Write, Rewrite, Delete, DeleteGeneric, ReadUpdate, TsWrite, TsRewrite, TsDelete, TdWrite, TdRead, TdDelete}
 use Rattle.cics_units.specs.declared.ops.Answer.{Answer}
 
 -- a cell is a key of a file, a temporary storage queue or a transient data queue
@@ -38,11 +39,17 @@ content s (Key f k) = record_in k (value_at f s.files)
 content s (Ts q) = Some (ts_queue s q)
 content s (Td q) = value_at q s.td
 
--- the cell that a command names
+-- DELETE GENERIC acts on every key that begins with a prefix, any other command on one cell
+abbrev pub is_generic : Op → Bool
+is_generic (DeleteGeneric f p) = true
+is_generic _ = false
+
+-- the cell that a command names; for DELETE GENERIC the key that is the prefix itself
 abbrev pub cell_of : Op → Cell
 cell_of (Write f k r) = Key f k
 cell_of (Rewrite f k r) = Key f k
 cell_of (Delete f k) = Key f k
+cell_of (DeleteGeneric f p) = Key f p
 cell_of (ReadUpdate f k) = Key f k
 cell_of (TsWrite q d) = Ts q
 cell_of (TsRewrite q n d) = Ts q
@@ -58,8 +65,14 @@ same_cell (Ts q) (Ts r) = is_same q r
 same_cell (Td q) (Td r) = is_same q r
 same_cell _ _ = false
 
--- a command acts on the cell that it names
+-- a key of a file that begins with a prefix
+abbrev pub is_under : Bytes → Bytes → Cell → Bool
+is_under f p (Key g l) = is_same f g && has_prefix p l
+is_under f p _ = false
+
+-- a command acts on the cell that it names, DELETE GENERIC on every key of the file that begins with the prefix
 abbrev pub touches : Op → Cell → Bool
+touches (DeleteGeneric f p) x = is_under f p x
 touches op x = same_cell (cell_of op) x
 
 -- what a command answers, and what a cell that it acts on holds from then on
@@ -75,7 +88,7 @@ gives a c = record { answer = a; cell = c }
 abbrev pub effected : Answer → List Bytes → List Bytes → Effect
 effected a c changed = gives a (Some (if is_normal a.condition then changed else c))
 
--- what each command answers and leaves, by what its cell holds
+-- what each command answers and leaves, by what its cell holds; DELETE GENERIC, by what one of its cells holds
 abbrev pub effect : Op → Content → Effect
 effect (Write f k r) None = gives (only Dsiderr) None
 effect (Write f k r) (Some []) = gives (only Normal) (Some (r ∷ []))
@@ -86,6 +99,8 @@ effect (Rewrite f k r) (Some (x ∷ xs)) = gives (only Normal) (Some (r ∷ []))
 effect (Delete f k) None = gives (only Dsiderr) None
 effect (Delete f k) (Some []) = gives (only Notfnd) (Some [])
 effect (Delete f k) (Some (x ∷ xs)) = gives (only Normal) (Some [])
+effect (DeleteGeneric f p) None = gives (only Dsiderr) None
+effect (DeleteGeneric f p) (Some c) = gives (counted_answer c) (Some [])
 effect (ReadUpdate f k) None = gives (only Dsiderr) None
 effect (ReadUpdate f k) (Some []) = gives (only Notfnd) (Some [])
 effect (ReadUpdate f k) (Some (x ∷ xs)) = gives (with_content Normal (Some x)) (Some (x ∷ xs))

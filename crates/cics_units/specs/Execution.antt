@@ -4,6 +4,7 @@ use Rattle.std.specs.Prelude.{ℕ, ◌+◌, ◌-◌, ◌==◌, ◌<◌, Bool, tr
 use Rattle.cics_names.specs.Keyed.{Bytes, Map, value_at, has_key, with_value, without, is_same, is_below}
 use Rattle.cics_names.specs.declared.conditions.Condition.{Condition}
 use Rattle.cics_ksds.specs.Files.{key_of, fits_file}
+use Rattle.cics_ksds.specs.Prefixes.{has_prefix}
 use Rattle.cics_tempstor.specs.Queues.{item_condition, has_item, number_if}
 use Rattle.cics_enqueue.specs.Resources.{most_count}
 use Rattle.cics_units.specs.Openings.{FileOpening, is_record_size}
@@ -11,7 +12,7 @@ use Rattle.cics_units.specs.Store.{Store, apply, ts_queue, is_normal}
 use Rattle.cics_units.specs.History.{outcome_of, is_open}
 use Rattle.cics_units.specs.Holding.{UnitsState, UpdateRead, EnqCount, store_of, awaited, value_holder}
 use Rattle.cics_units.specs.declared.ops.Op.{Op}
-use Rattle.cics_units.specs.declared.ops.Op.TheVariants.{Write, Rewrite, Delete, ReadUpdate, TsWrite, TsRewrite, TsDelete, TdWrite, TdRead, TdDelete}
+use Rattle.cics_units.specs.declared.ops.Op.TheVariants.{Write, Rewrite, Delete, DeleteGeneric, ReadUpdate, TsWrite, TsRewrite, TsDelete, TdWrite, TdRead, TdDelete}
 use Rattle.cics_units.specs.declared.ops.Answer.{Answer}
 use Rattle.cics_units.specs.declared.ops.Done.{Done}
 use Rattle.cics_units.specs.declared.ops.Done.TheVariants.{Answered, MustWait}
@@ -62,10 +63,11 @@ abbrev pub with_read : UpdateRead → List UpdateRead → List UpdateRead
 with_read r [] = r ∷ []
 with_read r (x ∷ xs) = if is_read_before r x then r ∷ x ∷ xs else x ∷ with_read r xs
 
--- REWRITE, and DELETE of the key that was read, cover the unit's update read
+-- REWRITE, DELETE of the key that was read, and DELETE GENERIC of a prefix that it begins with cover the unit's update read
 abbrev pub covers : ℕ → Op → UpdateRead → Bool
 covers u (Rewrite f k r) x = is_read_of u f x && is_same x.key k
 covers u (Delete f k) x = is_read_of u f x && is_same x.key k
+covers u (DeleteGeneric f p) x = is_read_of u f x && has_prefix p x.key
 covers u (Write f k r) x = false
 covers u (ReadUpdate f k) x = false
 covers u (TsWrite q d) x = false
@@ -284,6 +286,7 @@ is_ready_op s u (Rewrite f k r) = is_fit_for (value_at f s.opening.files) k r &&
   same_key None k = false
   same_key (Some l) k = is_same l k
 is_ready_op s u (Delete f k) = has_key f s.opening.files
+is_ready_op s u (DeleteGeneric f p) = has_key f s.opening.files
 is_ready_op s u (ReadUpdate f k) = has_key f s.opening.files && not (is_some (has_read s u f))
 is_ready_op s u (TsWrite q d) = is_item d
 is_ready_op s u (TsRewrite q n d) = is_item d

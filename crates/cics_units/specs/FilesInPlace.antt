@@ -10,7 +10,7 @@ use Rattle.cics_units.specs.Undo.{Image, IsPlaceOf}
 use Rattle.cics_units.specs.FilesImages.{IsReadyFor, files_undone}
 use Rattle.cics_units.specs.UnitImages.{kept_by}
 use Rattle.cics_units.specs.Matching.{store_of_files, AreKept}
-use Rattle.cics_units.specs.declared.files.images.FilesImage.{FilesImage}
+use Rattle.cics_units.specs.FilesImages.{FilesImage}
 
 -- the files hold what the history gives, and each open unit's images stand for the changes that lead back to what it
 -- gives without that unit, each ready when its turn comes; a unit that has ended keeps none

@@ -1,15 +1,15 @@
 -- Recovery and task control (chapters on recovery and on task control): what a unit of work holds, read off the history,
 -- and when a command must wait for whom. There is no table of enqueues here: a unit holds what it has used until it ends.
-use Rattle.std.specs.Prelude.{ℕ, ◌+◌, ◌==◌, Bool, true, false, not, ◌&&◌, ◌||◌, if◌then◌else◌, Option, Some, None, unwrap_or, filter, map, flat_map, List, [], ◌∷◌, ◌++◌}
+use Rattle.std.specs.Prelude.{ℕ, ◌+◌, ◌==◌, Bool, true, false, not, ◌&&◌, ◌||◌, if◌then◌else◌, Option, Some, None, unwrap_or, option_map, filter, map, flat_map, List, [], ◌∷◌, ◌++◌}
 use Rattle.cics_names.specs.Keyed.{Bytes, Map, value_at}
-use Rattle.cics_enqueue.specs.Resources.{Table, bytes_of, overlaps, is_other}
+use Rattle.cics_enqueue.specs.Resources.{Table, Held, bytes_of, overlaps, is_other, lesser}
 use Rattle.cics_enqueue.specs.declared.resources.Resource.{Resource}
-use Rattle.cics_enqueue.specs.declared.resources.Resource.TheVariants.{FileKey, TsQueue, TdRead as ReadingEnd, TdWrite as WritingEnd, User}
+use Rattle.cics_enqueue.specs.declared.resources.Resource.TheVariants.{FileKey, TsQueue, TdRead as ReadingEnd, TdWrite as WritingEnd, User, FilePrefix}
 use Rattle.cics_units.specs.Openings.{OpeningState, file_recoverable, queue_logical, has_prefix_in}
 use Rattle.cics_units.specs.Store.{Store, is_recoverable, initial_store, is_normal}
 use Rattle.cics_units.specs.History.{outcome_of, is_open, kept, replay}
 use Rattle.cics_units.specs.declared.ops.Op.{Op}
-use Rattle.cics_units.specs.declared.ops.Op.TheVariants.{Write, Rewrite, Delete, ReadUpdate, TsWrite, TsRewrite, TsDelete, TdWrite, TdRead, TdDelete}
+use Rattle.cics_units.specs.declared.ops.Op.TheVariants.{Write, Rewrite, Delete, DeleteGeneric, ReadUpdate, TsWrite, TsRewrite, TsDelete, TdWrite, TdRead, TdDelete}
 use Rattle.cics_units.specs.declared.ops.Entry.{Entry}
 use Rattle.cics_units.specs.declared.ops.UnitState.{UnitState}
 
@@ -43,12 +43,13 @@ store_of s = replay (initial_store s.opening) (kept s.opening s.trace s.outcomes
 abbrev pub named_if : Bool → Resource → List Resource
 named_if b r = if b then r ∷ [] else []
 
--- what a command uses: its record, there or not; the name of a recoverable temporary storage queue; of a LOGICAL queue
--- the reading end for a read, the writing end for a write, both for a delete
+-- what a command uses: its record, there or not, or all under its prefix; the name of a recoverable temporary storage
+-- queue; of a LOGICAL queue the reading end for a read, the writing end for a write, both for a delete
 abbrev pub uses_of : OpeningState → Op → List Resource
 uses_of o (Write f k r) = FileKey f (bytes_of k) ∷ []
 uses_of o (Rewrite f k r) = FileKey f (bytes_of k) ∷ []
 uses_of o (Delete f k) = FileKey f (bytes_of k) ∷ []
+uses_of o (DeleteGeneric f p) = FilePrefix f (bytes_of p) ∷ []
 uses_of o (ReadUpdate f k) = FileKey f (bytes_of k) ∷ []
 uses_of o (TsWrite q d) = named_if (has_prefix_in o.prefixes q) (TsQueue q)
 uses_of o (TsRewrite q n d) = named_if (has_prefix_in o.prefixes q) (TsQueue q)
@@ -65,7 +66,7 @@ held_by_entry o u e = if (e.unit == u) && (is_normal e.answer.condition && is_re
 abbrev pub held_by_read : OpeningState → ℕ → UpdateRead → List Resource
 held_by_read o u r = if (r.unit == u) && not (file_recoverable o r.file) then FileKey r.file (bytes_of r.key) ∷ [] else []
 
--- a value is held while its count is above 0
+-- a value that is counted is held: no count is 0
 abbrev pub held_by_count : ℕ → EnqCount → List Resource
 held_by_count u c = if c.unit == u then User (bytes_of c.value) ∷ [] else []
 
@@ -85,10 +86,14 @@ units_from n (x ∷ xs) = n ∷ units_from (n + 1) xs
 abbrev pub held_table : UnitsState → Table
 held_table s = flat_map (λ u. map (λ r. (r, record { unit = u; count = 1 })) (held_by s u)) (units_from 0 s.outcomes)
 
--- a unit, other than the one that asks, that holds what overlaps a resource
+-- the least, in byte order, of what overlaps a resource and is held by another unit than the one that asks
+abbrev pub first_held : Table → Option ℕ → Resource → Option (Resource × Held)
+first_held [] u r = None
+first_held (e ∷ es) u r = if overlaps r e.0 && is_other u e.1.unit then lesser (Some e) (first_held es u r) else first_held es u r
+
+-- the unit, other than the one that asks, that holds the least of what overlaps a resource
 abbrev pub first_holder : Table → Option ℕ → Resource → Option ℕ
-first_holder [] u r = None
-first_holder (e ∷ es) u r = if overlaps r e.0 && is_other u e.1.unit then Some e.1.unit else first_holder es u r
+first_holder t u r = option_map (λ e. e.1.unit) (first_held t u r)
 
 -- the first of two that is there
 abbrev pub first_some : {X : Type 0} → Option X → Option X → Option X
@@ -123,6 +128,7 @@ writer_awaited s u (TdDelete q) = None
 writer_awaited s u (Write f k r) = None
 writer_awaited s u (Rewrite f k r) = None
 writer_awaited s u (Delete f k) = None
+writer_awaited s u (DeleteGeneric f p) = None
 writer_awaited s u (ReadUpdate f k) = None
 writer_awaited s u (TsWrite q d) = None
 writer_awaited s u (TsRewrite q n d) = None

@@ -1,11 +1,11 @@
 -- Recovery: all that the units change in place, through executions, commits and backouts in any order.
 use Rattle.std.specs.Prelude.{ℕ, ◌&&◌, not, if◌then◌else◌, Option, Some, is_some, List, [], ◌∷◌}
 use Rattle.cics_units.specs.Openings.{OpeningState, queue_logical}
-use Rattle.cics_units.specs.Holding.{UnitsState, awaited}
+use Rattle.cics_units.specs.Holding.{UnitsState, store_of, awaited}
 use Rattle.cics_units.specs.declared.ops.Op.{Op}
-use Rattle.cics_units.specs.Cells.{Cell, Key, Ts, Td, Content, cell_of}
+use Rattle.cics_units.specs.Cells.{Cell, Key, Ts, Td, Content}
 use Rattle.cics_units.specs.Events.{Event, Execute, Commit, BackOut, is_live, may_act, happens}
-use Rattle.cics_units.specs.Undo.{Place, IsPlaceOf, image_of, placed, place_executed, place_committed, place_undone}
+use Rattle.cics_units.specs.Undo.{Place, IsPlaceOf, images_by, placed, place_executed, place_committed, place_undone}
 use Rattle.cics_units.specs.Marks.{shown}
 use Rattle.cics_units.specs.Ends.{Marks, AreMarksOf, marks_opened, marks_executed, marks_committed, marks_backed_out}
 
@@ -25,15 +25,15 @@ content_in_place o p (Td q) =
 abbrev pub parts_opened : OpeningState → Parts
 parts_opened o = record { place = placed o; marks = marks_opened o }
 
--- a command changes its cell where it stands, and gives its unit an image of the change
+-- a command changes its cells where they stand, and gives its unit an image of each change
 abbrev pub parts_executed : UnitsState → Parts → Option ℕ → Op → Parts
 parts_executed s p u op = record {
-  place = place_executed s p.place u op (image_of op (p.place.cells (cell_of op)));
+  place = place_executed s p.place u op (images_by (store_of s) op p.place.cells);
   marks = marks_executed s p.marks u op;
 }
 
--- an event changes the parts: none reads the history, but for what a unit holds. A commit drops the images of its
--- unit, a backout undoes them, the newest first
+-- an event changes the parts: none reads the history, but for what a unit holds and for the keys under a prefix. A commit
+-- drops the images of its unit, a backout undoes them, the newest first
 abbrev pub happens_in_place : UnitsState → Parts → Event → Parts
 happens_in_place s p (Execute u op) =
     if may_act s u && not (is_some (awaited s u op)) then parts_executed s p u op else p

@@ -11,7 +11,7 @@ use Rattle.cics_units.specs.Holders.{IsHeldByOne, HaveBegun}
 use Rattle.cics_units.specs.declared.ops.Entry.{Entry}
 use Rattle.cics_units.specs.declared.ops.Op.{Op}
 use Rattle.cics_units.specs.declared.ops.UnitState.{UnitState}
-use Rattle.cics_units.specs.Cells.{Cell, Content, content, touches, End, Reading, Writing, uses, recovers}
+use Rattle.cics_units.specs.Cells.{Cell, Content, content, touches, End, Reading, Writing, uses, recovers, IsOrdered}
 
 -- the second list begins with the first
 abbrev pub IsFront : {A : Type 0} → List A → List A → Type 0
@@ -85,6 +85,8 @@ FrontsAt o es out x =
 
 -- the open units are kept apart
 pub record IsIsolated (o : OpeningState) (es : List Entry) (out : Outcomes) : Type 0 where
+  -- the keys of each file rise when it is opened
+  pub ordered : IsOrdered (initial_store o)
   -- however the open units end, the answers that remain are right
   pub answers : (fin : Outcomes) → Extends out fin → Agrees (initial_store o) (left_by o fin es)
   -- and what an open unit sees of a recoverable cell doesn't depend on how the other open units end

@@ -6,7 +6,8 @@ use Rattle.cics_units.specs.Openings.{OpeningState, IsOpeningInOrder, HasLawfulK
 use Rattle.cics_units.specs.Holding.{UnitsState}
 use Rattle.cics_units.specs.Cells.{IsCanonical}
 use Rattle.cics_units.specs.Isolation.{IsSound}
-use Rattle.cics_units.specs.FilesImages.{definitions_of}
+use Rattle.cics_units.specs.FilesImages.{cell_of_image, files_hold, definitions_of}
+use Rattle.cics_units.specs.UnitImages.{AreHeldForImages}
 use Rattle.cics_units.specs.FilesInPlace.{AreInPlace}
 use Rattle.cics_units.specs.Matching.{store_of_files}
 use Rattle.cics_units.specs.TableInPlace.{counts_in, IsTableOf}
@@ -30,5 +31,7 @@ pub record AreKept (s : UnitsState) (stores : UndoableValue) (t : Table) : Type 
   pub place : AreInPlace s stores.files stores.images
   pub definitions : (f : Bytes) → definitions_of stores.files f ≡ option_map (λ file. file.definition) (value_at f s.opening.files)
   pub table : IsTableOf s t
+  -- each empty place belongs to an image that an open unit keeps
+  pub held : AreHeldForImages files_hold cell_of_image stores.files stores.images
   -- each unit has a list of images
   pub begun : length s.outcomes ≤ length stores.images

@@ -11,9 +11,11 @@ pub mod Cells
 pub mod Events
 pub mod Holders
 pub mod Isolation
+pub mod Serial
 pub mod Undo
 pub mod Marks
 pub mod MarkImages
+pub mod Carried
 pub mod Ends
 pub mod FilesImages
 pub mod FilesImagesLaws
@@ -22,8 +24,10 @@ pub mod Matching
 pub mod InPlace
 pub mod FilesInPlace
 pub mod UnitImages
+pub mod UnitImagesLaws
 pub mod TableInPlace
 pub mod Parts
 pub mod OpenReads
 pub mod Replaying
 pub mod KeptUnits
+pub mod SerialKept

@@ -8,7 +8,7 @@ use Rattle.cics_ksds.specs.Undo.{key_of_image, Leads as FileLeads}
 use Rattle.cics_units.specs.Store.{Store}
 use Rattle.cics_units.specs.Cells.{Key, Content}
 use Rattle.cics_units.specs.Undo.{Image}
-use Rattle.cics_units.specs.declared.files.images.FilesImage.{FilesImage}
+use Rattle.cics_units.specs.FilesImages.{FilesImage}
 
 -- the store of a region that has files alone
 abbrev pub store_of_files : Map FileValue → Store
@@ -22,7 +22,7 @@ shown (Some (r ∷ rs)) = Some (r ∷ [])
 
 -- the image that is kept undoes the change of its key
 pub record IsKept (change : Image) (image : FilesImage) : Type 0 where
-  pub cell : change.cell ≡ Key image.file (key_of_image image.image)
+  pub cell : change.cell ≡ Key image.name (key_of_image image.image)
   pub leads : FileLeads image.image (shown change.made) (shown change.before)
 
 -- the images that are kept, each for its change, newest first

@@ -2,7 +2,7 @@
 -- of them.
 use Rattle.std.specs.Prelude.{◌≡◌, ℕ, ◌<◌, ◌≤◌, Bool, true, false, IsTrue, if◌then◌else◌, length, Option, Some, None, List, ◌∷◌}
 use Rattle.cics_names.specs.Keyed.{Bytes, Map, value_at}
-use Rattle.cics_images.specs.Cells.{Kept, is_other}
+use Rattle.cics_images.specs.Cells.{Cell, Kept, is_other, is_unnamed}
 use Rattle.cics_ksds.specs.Files.{FileValue, fits_file}
 use Rattle.cics_enqueue.specs.Resources.{Table, taken}
 use Rattle.cics_ksds.specs.Undo.{ImageValue}
@@ -11,7 +11,7 @@ use Rattle.cics_units.specs.Cells.{Key, content}
 use Rattle.cics_units.specs.Holding.{UpdateRead}
 use Rattle.cics_units.specs.Undo.{changes}
 use Rattle.cics_units.specs.RegionFiles.{IsThere, key_in}
-use Rattle.cics_units.specs.FilesImages.{cell_of, FilesKeep}
+use Rattle.cics_units.specs.FilesImages.{cell_of, cell_of_image, files_hold, FilesKeep}
 use Rattle.cics_units.specs.FilesChanges.{IsFilesImage}
 use Rattle.cics_units.specs.Matching.{store_of_files}
 use Rattle.cics_units.specs.UnitImages.{kept_by, AreOthersKept}
@@ -19,8 +19,8 @@ use Rattle.cics_units.specs.TableInPlace.{file_of, key_of, value_of, table_chang
 use Rattle.cics_units.specs.Execution.{reads_after}
 use Rattle.cics_names.specs.declared.conditions.Condition.{Condition}
 use Rattle.cics_units.specs.declared.ops.Op.{Op}
-use Rattle.cics_units.specs.declared.ops.Op.TheVariants.{Write, Rewrite, Delete, ReadUpdate, TsWrite, TsRewrite, TsDelete, TdWrite, TdRead, TdDelete}
-use Rattle.cics_units.specs.declared.files.images.FilesImage.{FilesImage}
+use Rattle.cics_units.specs.declared.ops.Op.TheVariants.{Write, Rewrite, Delete, DeleteGeneric, ReadUpdate, TsWrite, TsRewrite, TsDelete, TdWrite, TdRead, TdDelete}
+use Rattle.cics_units.specs.FilesImages.{FilesImage}
 
 -- the files as they stand, and the images of each unit by its number
 pub record UndoableValue : Type 0 where
@@ -54,6 +54,7 @@ abbrev pub IsFitOp : Map FileValue → Op → Type 0
 IsFitOp files (Write f k r) = IsRecordOf (value_at f files) k r
 IsFitOp files (Rewrite f k r) = IsRecordOf (value_at f files) k r
 IsFitOp files (Delete f k) = IsThere (value_at f files)
+IsFitOp files (DeleteGeneric f p) = ⊥
 IsFitOp files (ReadUpdate f k) = IsThere (value_at f files)
 IsFitOp files (TsWrite q d) = ⊥
 IsFitOp files (TsRewrite q n d) = ⊥
@@ -65,7 +66,7 @@ IsFitOp files (TdDelete q) = ⊥
 -- the images with one of a file as the newest, if there is one
 abbrev pub with_newest : Bytes → Option ImageValue → List FilesImage → List FilesImage
 with_newest f None is = is
-with_newest f (Some i) is = record { file = f; image = i } ∷ is
+with_newest f (Some i) is = record { name = f; image = i } ∷ is
 
 -- a unit keeps an image of the change of a key as its newest
 pub record HasNewest (old new : UndoableValue) (unit : ℕ) (f k : Bytes) : Type 0 where
@@ -83,6 +84,10 @@ AreImagesAfter old new unit f k false changed = KeepsImages old new unit
 AreImagesAfter old new unit f k true true = HasNewest old new unit f k
 AreImagesAfter old new unit f k true false = (old.files ≡ new.files) × KeepsImages old new unit
 
+-- at a cell that none of these images is of, something is held back only where it was before
+abbrev pub IsHeldAsBefore : Map FileValue → Map FileValue → List FilesImage → Type 0
+IsHeldAsBefore old new images = (c : Cell) → is_unnamed cell_of_image images c ≡ true → files_hold new c ≡ true → files_hold old c ≡ true
+
 -- the files hold what the command leaves, the other keys what they held, and the images are those of the change
 pub record AreChanged (old new : UndoableValue) (unit : ℕ) (op : Op) : Type 0 where
   pub store : store_of_files new.files ≡ (apply (store_of_files old.files) op).store
@@ -90,6 +95,8 @@ pub record AreChanged (old new : UndoableValue) (unit : ℕ) (op : Op) : Type 0 
   pub apart : AreOthersKept old.images new.images unit
   pub images : AreImagesAfter old new unit (file_of op) (key_of op) (is_recoverable_in (value_at (file_of op) old.files))
       (changes op (content (store_of_files old.files) (Key (file_of op) (key_of op))))
+  -- a key has an empty place only where it had one, or where the unit keeps an image of it
+  pub held : IsHeldAsBefore old.files new.files (kept_by new.images unit)
 
 -- a unit has executed a command that is answered with this condition: the files, the table and the reads are those that it
 -- leaves

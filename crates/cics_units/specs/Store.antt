@@ -1,15 +1,16 @@
 -- Recovery (chapters on file control, temporary storage control, transient data control): the store of files and queues,
 -- and what each updating command answers and leaves.
-use Rattle.std.specs.Prelude.{Bool, true, false, if◌then◌else◌, ℕ, Option, Some, None, unwrap_or, List, [], ◌∷◌, ◌++◌, map}
+use Rattle.std.specs.Prelude.{Bool, true, false, if◌then◌else◌, ℕ, Option, Some, None, unwrap_or, List, [], ◌∷◌, ◌++◌, map, length}
 use Rattle.cics_names.specs.Keyed.{Bytes, Map, value_at, with_value, without}
 use Rattle.cics_names.specs.declared.conditions.Condition.{Condition}
 use Rattle.cics_names.specs.declared.conditions.Condition.TheVariants.{Normal, Dsiderr, Notfnd, Qzero, Qiderr}
 use Rattle.cics_ksds.specs.Files.{write_condition, change_condition, records_after_write, records_after_rewrite, records_after_delete}
+use Rattle.cics_ksds.specs.Prefixes.{outside, under}
 use Rattle.cics_tempstor.specs.Queues.{Queue, item_condition, items_after_rewrite, has_item, number_if, delete_condition, items_after_write}
 use Rattle.cics_tempstor.specs.Queues as ts
 use Rattle.cics_units.specs.Openings.{OpeningState, file_recoverable, queue_logical, has_prefix_in}
 use Rattle.cics_units.specs.declared.ops.Op.{Op}
-use Rattle.cics_units.specs.declared.ops.Op.TheVariants.{Write, Rewrite, Delete, ReadUpdate, TsWrite, TsRewrite, TsDelete, TdWrite, TdRead, TdDelete}
+use Rattle.cics_units.specs.declared.ops.Op.TheVariants.{Write, Rewrite, Delete, DeleteGeneric, ReadUpdate, TsWrite, TsRewrite, TsDelete, TdWrite, TdRead, TdDelete}
 use Rattle.cics_units.specs.declared.ops.Answer.{Answer}
 
 -- the records of each defined file by key, the items of each temporary storage queue that is there, and the records of
@@ -32,7 +33,7 @@ pub record Applied : Type 0 where
 abbrev pub only : Condition → Answer
 only c = record { condition = c; content = None; number = None }
 
--- an answer with the number of an item
+-- an answer with a number: of an item, or of records
 abbrev pub numbered : Condition → Option ℕ → Answer
 numbered c n = record { condition = c; content = None; number = n }
 
@@ -86,6 +87,16 @@ abbrev pub apply_delete : Store → Bytes → Bytes → Option (Map Bytes) → A
 apply_delete s f k None = answered s (only Dsiderr) s
 apply_delete s f k (Some records) = answered s (only (change_condition records k)) (with_file s f (records_after_delete records k))
 
+-- as many as there are under a prefix; where there is none it is NOTFND
+abbrev pub counted_answer : {X : Type 0} → List X → Answer
+counted_answer [] = only Notfnd
+counted_answer (x ∷ xs) = numbered Normal (Some (length (x ∷ xs)))
+
+-- DELETE GENERIC takes each record away whose key begins with the prefix, and answers how many they were; none is NOTFND
+abbrev pub apply_delete_generic : Store → Bytes → Bytes → Option (Map Bytes) → Applied
+apply_delete_generic s f p None = answered s (only Dsiderr) s
+apply_delete_generic s f p (Some records) = answered s (counted_answer (under p records)) (with_file s f (outside p records))
+
 -- READ UPDATE gives the record of its key and changes nothing; an absent key is NOTFND
 abbrev pub apply_read : Store → Bytes → Option (Map Bytes) → Applied
 apply_read s k None = answered s (only Dsiderr) s
@@ -124,6 +135,7 @@ abbrev pub apply : Store → Op → Applied
 apply s (Write f k r) = apply_write s f k r (value_at f s.files)
 apply s (Rewrite f k r) = apply_rewrite s f k r (value_at f s.files)
 apply s (Delete f k) = apply_delete s f k (value_at f s.files)
+apply s (DeleteGeneric f p) = apply_delete_generic s f p (value_at f s.files)
 apply s (ReadUpdate f k) = apply_read s k (value_at f s.files)
 apply s (TsWrite q d) = apply_ts_write s q d (ts_queue s q)
 apply s (TsRewrite q n d) = apply_ts_rewrite s q n d (ts_queue s q)
@@ -137,6 +149,7 @@ abbrev pub is_recoverable : OpeningState → Op → Bool
 is_recoverable o (Write f k r) = file_recoverable o f
 is_recoverable o (Rewrite f k r) = file_recoverable o f
 is_recoverable o (Delete f k) = file_recoverable o f
+is_recoverable o (DeleteGeneric f p) = file_recoverable o f
 is_recoverable o (ReadUpdate f k) = file_recoverable o f
 is_recoverable o (TsWrite q d) = has_prefix_in o.prefixes q
 is_recoverable o (TsRewrite q n d) = has_prefix_in o.prefixes q

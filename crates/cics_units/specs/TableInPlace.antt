@@ -3,23 +3,25 @@ use Rattle.std.specs.Prelude.{◌≡◌, ℕ, ◌==◌, ◌≤◌, Bool, true, f
 use Rattle.std.specs.List.{list_any}
 use Rattle.cics_names.specs.Keyed.{Bytes}
 use Rattle.cics_names.specs.declared.conditions.Condition.{Condition}
-use Rattle.cics_enqueue.specs.Resources.{Table, Held, bytes_of, overlaps, is_other, is_user, is_in_order, holder_of, count_of, taken, given_back}
+use Rattle.arrayvec.specs.ArrayVec.{ArrayVec}
+use Rattle.cics_enqueue.specs.Resources.{Table, Held, bytes_of, is_one, is_other, is_user, is_in_order, holder_of, count_of, taken, given_back}
 use Rattle.cics_enqueue.specs.declared.resources.Resource.{Resource}
-use Rattle.cics_enqueue.specs.declared.resources.Resource.TheVariants.{FileKey, User}
+use Rattle.cics_enqueue.specs.declared.resources.Resource.TheVariants.{FileKey, FilePrefix, User}
 use Rattle.cics_units.specs.Openings.{OpeningState, file_recoverable}
 use Rattle.cics_units.specs.Store.{is_normal}
 use Rattle.cics_units.specs.Holding.{UnitsState, UpdateRead, EnqCount, held_by}
 use Rattle.cics_units.specs.Execution.{is_read_of, covers}
 use Rattle.cics_units.specs.declared.ops.Op.{Op}
-use Rattle.cics_units.specs.declared.ops.Op.TheVariants.{Write, Rewrite, Delete, ReadUpdate, TsWrite, TsRewrite, TsDelete, TdWrite, TdRead, TdDelete}
+use Rattle.cics_units.specs.declared.ops.Op.TheVariants.{Write, Rewrite, Delete, DeleteGeneric, ReadUpdate, TsWrite, TsRewrite, TsDelete, TdWrite, TdRead, TdDelete}
 
 -- ---- Commands on files
 
--- a command on a record of a file
+-- a command on one record of a file
 abbrev pub is_file_op : Op → Bool
 is_file_op (Write f k r) = true
 is_file_op (Rewrite f k r) = true
 is_file_op (Delete f k) = true
+is_file_op (DeleteGeneric f p) = false
 is_file_op (ReadUpdate f k) = true
 is_file_op (TsWrite q d) = false
 is_file_op (TsRewrite q n d) = false
@@ -87,12 +89,14 @@ AreOnce (r ∷ rs) = (list_any (is_read_of r.unit r.file) rs ≡ false) × AreOn
 -- the table has what the history, the open update reads and the counts make the units hold, and nothing else
 pub record IsTableOf (s : UnitsState) (table : Table) : Type 0 where
   -- a resource that the table has held by a unit is one that the unit holds, and the other way round
-  pub holders : (r : Resource) (u : ℕ) → list_any (overlaps r) (held_by s u) ≡ is_holder u (holder_of r table)
+  pub holders : (r : Resource) (u : ℕ) → list_any (is_one r) (held_by s u) ≡ is_holder u (holder_of r table)
   -- only a value is held more than once
   pub single : (r : Resource) → is_user r ≡ false → nat_le (count_of r table) 1 ≡ true
   pub in_order : T (is_in_order table)
   pub counts : s.counts ≡ counts_in table
   pub once : AreOnce s.reads
+  -- no prefix of keys is held: the keys alone are
+  pub keys_alone : (f : Bytes) (p : ArrayVec ℕ) → holder_of (FilePrefix f p) table ≡ None
   -- a key of a file has at most 255 bytes
   pub keys : All (λ r. length r.key ≤ 255) s.reads
 

@@ -1,14 +1,16 @@
 -- Recovery: the cells in place, and the images that each open unit keeps to undo its changes. The ends of LOGICAL
 -- queues have images of their own.
-use Rattle.std.specs.Prelude.{◌≡◌, ℕ, Bool, true, false, ◌&&◌, not, ◌==◌, if◌then◌else◌, Option, List, [], ◌∷◌, ◌++◌, MatchBool}
+use Rattle.std.specs.Prelude.{◌≡◌, ℕ, Bool, true, false, ◌&&◌, not, ◌==◌, if◌then◌else◌, Option, List, [], ◌∷◌, ◌++◌, MatchBool, unwrap_or}
 use Rattle.std.specs.List.{list_any}
+use Rattle.cics_names.specs.Keyed.{Bytes, Map, value_at}
+use Rattle.cics_ksds.specs.Prefixes.{under}
 use Rattle.cics_units.specs.Openings.{OpeningState, queue_logical}
-use Rattle.cics_units.specs.Store.{is_normal, is_recoverable, initial_store}
+use Rattle.cics_units.specs.Store.{Store, is_normal, is_recoverable, initial_store}
 use Rattle.cics_units.specs.History.{is_open, is_backed_out, outcome_of}
 use Rattle.cics_units.specs.Holding.{UnitsState}
 use Rattle.cics_units.specs.Execution.{unit_or_next}
 use Rattle.cics_units.specs.declared.ops.Op.{Op}
-use Rattle.cics_units.specs.declared.ops.Op.TheVariants.{ReadUpdate}
+use Rattle.cics_units.specs.declared.ops.Op.TheVariants.{DeleteGeneric, ReadUpdate}
 use Rattle.cics_units.specs.declared.ops.Entry.{Entry}
 use Rattle.cics_units.specs.declared.ops.UnitState.{UnitState}
 use Rattle.cics_units.specs.declared.ops.UnitState.TheVariants.{BackedOut}
@@ -101,9 +103,27 @@ abbrev pub AllReady : Cells → List Image → Type 0
 AllReady s [] = Unit {0}
 AllReady s (i ∷ is) = (s i.cell ≡ i.made) × AllReady (λ x. if same_cell i.cell x then i.before else s x) is
 
+-- the image of a cell, if the command changes it
+abbrev pub image_at : Op → Cell → Content → List Image
+image_at op x c = if changes op c then record { cell = x; before = c; made = (effect op c).cell } ∷ [] else []
+
 -- the image of a command's own cell, if it changes it
 abbrev pub image_of : Op → Content → List Image
-image_of op c = if changes op c then record { cell = cell_of op; before = c; made = (effect op c).cell } ∷ [] else []
+image_of op c = image_at op (cell_of op) c
+
+-- the images of the keys of these records, the last key's the newest: each key that the command changes has one
+abbrev pub images_under : Op → Bytes → Cells → Map Bytes → List Image
+images_under op f cells [] = []
+images_under op f cells (e ∷ es) = images_under op f cells es ++ image_at op (Key f e.0) (cells (Key f e.0))
+
+-- the images of DELETE GENERIC: those of each record of the file whose key begins with the prefix
+abbrev pub prefix_images : Store → Bytes → Bytes → Cells → List Image
+prefix_images s f p cells = images_under (DeleteGeneric f p) f cells (under p (unwrap_or (value_at f s.files) []))
+
+-- the images of a command; the keys under a prefix are those of a store
+abbrev pub images_by : Store → Op → Cells → List Image
+images_by s (DeleteGeneric f p) cells = prefix_images s f p cells
+images_by s op cells = image_of op (cells (cell_of op))
 
 -- the cells in place and the images are those of this state of the units
 abbrev pub IsPlaceOf : UnitsState → Place → Type 0

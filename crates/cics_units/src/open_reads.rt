@@ -57,7 +57,8 @@ impl OpenReads {
     /// The unit has to have none open in that file. Where memory is refused, all reads stay as they were.
     pub(crate) fn open(&mut self, unit: UnitId, file: Name8, key: Record) -> Result<(), NoMemory>
         requires { read_at self.old unit file ≡ None }
-        ensures reads { OnOk result (self.new ≡ with_read (record { unit = unit; file = file; key = key }) self.old) }
+        ensures reads { OnOk result (self.new
+            ≡ with_read (record { unit = unit; file = file; key = key }) self.old) }
         ensures err { OnErr result (self.new ≡ self.old) }
     {
         let number = unit.number();
@@ -89,7 +90,8 @@ impl OpenReads {
     ///
     /// This takes no memory.
     pub(crate) fn cover(&mut self, unit: UnitId, file: &Name8, key: &[u8]) -> bool
-        ensures reads { self.new ≡ filter (λ r. not (is_read_of unit file.now r && is_same r.key key.now)) self.old }
+        ensures reads { self.new ≡ filter
+            (λ r. not (is_read_of unit file.now r && is_same r.key key.now)) self.old }
         ensures covered { result ≡ is_read_key (read_at self.old unit file.now) key.now }
     {
         let _rows = &self.rows;

@@ -16,7 +16,7 @@ use std::marker::Model;
 pub enum DefineFault {
     /// The name is defined already, or the key of a record is in the file already.
     Duplicate,
-    /// The key is not 1 to 255 bytes long, or it ends behind the record.
+    /// The key is not 1 to 255 bytes long, or it ends behind the record size.
     BadKey,
     /// The record size is not 1 to 32,767 bytes, or a record doesn't fit its file.
     BadLength,
@@ -58,7 +58,8 @@ fn is_key(definition: FileDef) -> bool
 /// Writes a record that is loaded to the file of a name: no unit of work ever undoes it.
 fn write_loaded(files: &mut Files, name: &Name8, content: Record) -> Result<(), NoMemory>
     requires { IsFitFor (value_at name.now files.old) content }
-    ensures files { OnOk result (files.new ≡ written_in files.old name.now content (value_at name.now files.old)) }
+    ensures files { OnOk result (files.new
+        ≡ written_in files.old name.now content (value_at name.now files.old)) }
     ensures err { OnErr result (files.new ≡ files.old) }
 {
     files.write(name, content, false)?;
@@ -87,7 +88,9 @@ impl Model for Opening {
 }
 
 impl Opening {
-    ghost use Rattle.cics_units.specs.Openings.{nothing_defined, file_fault, load_fault, with_file, with_record, HasLawfulKeys, HasFilesAlone, IsOpeningInOrder};
+    ghost use Rattle.cics_units.specs.Openings.{nothing_defined, file_fault, load_fault, with_file};
+    ghost use Rattle.cics_units.specs.Openings.{with_record, HasLawfulKeys, HasFilesAlone};
+    ghost use Rattle.cics_units.specs.Openings.{IsOpeningInOrder};
     ghost use Rattle.cics_units.specs.Faults.{IsRefused};
     ghost use Rattle.cics_units.specs.RegionFiles.{opened_files, AreLoaded};
     ghost use Rattle.cics_units.specs.Replaying.{files_alone};
@@ -170,7 +173,7 @@ impl Opening {
         &self.files
     }
 
-    /// The files that are defined, with what was loaded into each, for a region to begin with.
+    /// The files that are defined, with what was loaded into each.
     pub fn into_files(self) -> Files
         ensures { result ≡ opened_files self.files }
     {

@@ -1,19 +1,28 @@
 //! All that units change where it stands: the files with their images, who holds what, and the open
 //! update reads.
 
-ghost use Rattle.std.specs.Prelude.{◌≡◌, ◌==◌, ◌<◌, ◌≤◌, ℕ, Bool, if◌then◌else◌, true, false, not, [], None, is_none, length, filter, fold, List, T, IsTrue, IfOk, IfErr, IfSome, OnOk, OnErr};
+ghost use Rattle.std.specs.Prelude.{◌≡◌, ◌==◌, ◌<◌, ◌≤◌, ℕ, Bool, if◌then◌else◌, true, false, not};
+ghost use Rattle.std.specs.Prelude.{[], None, is_none, length, filter, fold, List, T, IsTrue, IfOk};
+ghost use Rattle.std.specs.Prelude.{IfErr, IfSome, OnOk, OnErr};
 ghost use Rattle.std.specs.List.{list_any};
 ghost use Rattle.std.specs.Option.{option_copied};
 ghost use Rattle.cics_names.specs.Keyed.{value_at};
 ghost use Rattle.cics_names.specs.declared.conditions.Condition.TheVariants.{Normal};
 ghost use Rattle.cics_images.specs.Cells.{AreReadyInTurn, LeadBack, images_of, is_unnamed};
+ghost use Rattle.cics_images.specs.Cells.{all_swept};
 ghost use Rattle.cics_ksds.specs.Undo.{Leads};
-ghost use Rattle.cics_enqueue.specs.Resources.{IsFreeFor, is_full, is_in_order, holder_of, taken, given_back, released};
+ghost use Rattle.cics_enqueue.specs.Resources.{IsFreeFor, is_full, is_in_order, holder_of, taken};
+ghost use Rattle.cics_enqueue.specs.Resources.{given_back, released};
 ghost use Rattle.cics_units.specs.Execution.{covers, reads_after, read_at, with_read, is_read_of};
-ghost use Rattle.cics_units.specs.FilesImages.{cell_of_image, files_content, IsReadyFor, files_undone, files_settled, FilesKeep, definitions_of};
-ghost use Rattle.cics_units.specs.UnitImages.{kept_by, room_of, AreOthersKept};
-ghost use Rattle.cics_units.specs.TableInPlace.{is_file_op, is_read, file_of, key_of, record_of, value_of, other_holder, AreOnce, table_changed, table_given_back};
-ghost use Rattle.cics_units.specs.Parts.{IsFitOp, is_recoverable_in, AreChanged, AreExecuted, AreEnqueued, ArePartsKept};
+ghost use Rattle.cics_units.specs.FilesImages.{cell_of_image, files_content, IsReadyFor};
+ghost use Rattle.cics_units.specs.FilesImages.{files_undone, files_swept, files_hold, FilesKeep};
+ghost use Rattle.cics_units.specs.FilesImages.{definitions_of};
+ghost use Rattle.cics_units.specs.UnitImages.{kept_by, room_of, AreOthersKept, AreHeldForImages};
+ghost use Rattle.cics_units.specs.TableInPlace.{is_file_op, is_read, file_of, key_of, record_of};
+ghost use Rattle.cics_units.specs.TableInPlace.{value_of, other_holder, AreOnce, table_changed};
+ghost use Rattle.cics_units.specs.TableInPlace.{table_given_back};
+ghost use Rattle.cics_units.specs.Parts.{IsFitOp, is_recoverable_in, AreChanged, AreExecuted};
+ghost use Rattle.cics_units.specs.Parts.{AreEnqueued, ArePartsKept};
 ghost use Rattle.cics_units.specs.Store.{apply};
 ghost use Rattle.cics_units.specs.Matching.{store_of_files};
 
@@ -48,7 +57,8 @@ fn hold(enqueues: &mut Enqueues, file: Name8, key: &[u8], unit: UnitId) -> Resul
     requires free { IsFreeFor enqueues.old (record_of file key.now) unit }
     requires in_order { T (is_in_order enqueues.old) }
     ensures taken { OnOk result (enqueues.new ≡ taken enqueues.old (record_of file key.now) unit) }
-    ensures was_free { IfOk result (λ was_free. was_free ≡ is_none (holder_of (record_of file key.now) enqueues.old)) }
+    ensures was_free { IfOk result (λ was_free. was_free
+        ≡ is_none (holder_of (record_of file key.now) enqueues.old)) }
     ensures err { OnErr result (enqueues.new ≡ enqueues.old) }
 {
     let resource = Resource::record(file, key);
@@ -64,7 +74,9 @@ fn hold(enqueues: &mut Enqueues, file: Name8, key: &[u8], unit: UnitId) -> Resul
 // Gives a record back that was taken for a command which then found no memory.
 fn let_go(enqueues: &mut Enqueues, file: Name8, key: &[u8], unit: UnitId, was_free: bool)
     requires most { length key.now ≤ 255 }
-    ensures { enqueues.new ≡ (if was_free then given_back enqueues.old (record_of file key.now) unit else enqueues.old) }
+    ensures { enqueues.new
+        ≡ (if was_free then given_back enqueues.old
+        (record_of file key.now) unit else enqueues.old) }
 {
     if was_free {
         enqueues.give_back(&Resource::record(file, key), unit);
@@ -74,7 +86,8 @@ fn let_go(enqueues: &mut Enqueues, file: Name8, key: &[u8], unit: UnitId, was_fr
 impl Parts {
     /// These files, and no unit that holds or has read anything.
     pub(crate) fn new(alloc: Global, files: Files) -> Parts
-        ensures { result ≡ record { stores = record { files = files; images = [] }; table = []; reads = [] } }
+        ensures { result ≡ record
+            { stores = record { files = files; images = [] }; table = []; reads = [] } }
     {
         Parts {
             files: UndoableFiles::new(alloc, files),
@@ -112,8 +125,10 @@ impl Parts {
     // Ends the update read that a command covers, and tells whether there was one.
     fn cover(&mut self, unit: UnitId, op: &Op) -> bool
         requires once { AreOnce self.old.reads }
+        requires file { is_file_op op.now ≡ true }
         ensures covered { result ≡ list_any (covers unit op.now) self.old.reads }
-        ensures rest { self.new ≡ record self.old { reads = filter (λ r. not (covers unit op.now r)) self.old.reads } }
+        ensures rest { self.new ≡ record self.old
+            { reads = filter (λ r. not (covers unit op.now r)) self.old.reads } }
     {
         match op {
             Op::Rewrite { file, key, .. } => self.reads.cover(unit, file, key.bytes()),
@@ -154,6 +169,7 @@ impl Parts {
         op: &Op,
     ) -> Result<(), NoMemory>
         requires named { (file_of op.now ≡ file) × (key_of op.now ≡ key.now) }
+        requires on_record { is_file_op op.now ≡ true }
         requires fit { IsFitOp self.old.stores.files op.now }
         requires begun { unit < length self.old.stores.images }
         requires room { 0 < room_of self.old.stores.images unit }
@@ -187,13 +203,16 @@ impl Parts {
         key: &Record,
         op: &Op,
     ) -> Result<(), NoMemory>
+        requires on_record { is_file_op op.now ≡ true }
         requires fit { IsFitOp self.old.stores.files op.now }
         requires begun { unit < length self.old.stores.images }
         requires room { 0 < room_of self.old.stores.images unit }
         requires most { length key.now ≤ 255 }
         requires once { AreOnce self.old.reads }
         ensures changed { OnOk result (AreChanged self.old.stores self.new.stores unit op.now) }
-        ensures table { OnOk result (self.new.table ≡ (if list_any (covers unit op.now) self.old.reads then given_back self.old.table (record_of file key.now) unit else self.old.table)) }
+        ensures table { OnOk result (self.new.table
+            ≡ (if list_any (covers unit op.now) self.old.reads then given_back self.old.table
+            (record_of file key.now) unit else self.old.table)) }
         ensures reads { OnOk result (self.new.reads ≡ filter (λ r. not (covers unit op.now r)) self.old.reads) }
         ensures err { OnErr result (self.new ≡ self.old) }
     {
@@ -207,6 +226,7 @@ impl Parts {
 
     // Executes a command on a file that is to be answered NORMAL.
     fn change(&mut self, unit: UnitId, op: &Op) -> Result<(), NoMemory>
+        requires on_record { is_file_op op.now ≡ true }
         requires fit { IsFitOp self.old.stores.files op.now }
         requires begun { unit < length self.old.stores.images }
         requires room { 0 < room_of self.old.stores.images unit }
@@ -216,7 +236,10 @@ impl Parts {
         requires once { AreOnce self.old.reads }
         requires none_open { is_read op.now ≡ true → read_at self.old.reads unit (file_of op.now) ≡ None }
         ensures changed { OnOk result (AreChanged self.old.stores self.new.stores unit op.now) }
-        ensures table { OnOk result (self.new.table ≡ table_changed (is_recoverable_in (value_at (file_of op.now) self.old.stores.files)) unit op.now self.old.reads self.old.table) }
+        ensures table { OnOk result (self.new.table
+            ≡ table_changed
+            (is_recoverable_in (value_at (file_of op.now) self.old.stores.files)) unit op.now
+            self.old.reads self.old.table) }
         ensures reads { OnOk result (self.new.reads ≡ reads_after unit op.now Normal self.old.reads) }
         ensures err { OnErr result (self.new ≡ self.old) }
     {
@@ -270,7 +293,9 @@ impl Parts {
         requires free { IsFreeFor self.old.table (value_of value.now) unit }
         ensures enqueued { OnOk result (AreEnqueued self.old self.new unit value.now) }
         ensures room { OnOk result (is_full (value_of value.now) self.old.table ≡ false) }
-        ensures full { IfErr result (λ fault. fault ≡ TakeFault.Full → is_full (value_of value.now) self.old.table ≡ true) }
+        ensures full { IfErr result
+            (λ fault. fault ≡ TakeFault.Full →
+            is_full (value_of value.now) self.old.table ≡ true) }
         ensures err { OnErr result (ArePartsKept self.old self.new) }
     {
         self.files.make_room(unit)?;
@@ -281,7 +306,8 @@ impl Parts {
     /// takes no memory.
     pub(crate) fn deq(&mut self, unit: UnitId, value: &[u8])
         requires most { length value.now ≤ 255 }
-        ensures { self.new ≡ record self.old { table = given_back self.old.table (value_of value.now) unit } }
+        ensures { self.new ≡ record self.old
+            { table = given_back self.old.table (value_of value.now) unit } }
     {
         self.enqueues.give_back(&Resource::value(value), unit);
     }
@@ -291,7 +317,10 @@ impl Parts {
     pub(crate) fn unlock(&mut self, unit: UnitId, file: &Name8)
         requires keys { IfSome (read_at self.old.reads unit file.now) (λ key. length key ≤ 255) }
         ensures stores { self.new.stores ≡ self.old.stores }
-        ensures table { self.new.table ≡ table_given_back (is_recoverable_in (value_at file.now self.old.stores.files)) unit file.now (read_at self.old.reads unit file.now) self.old.table }
+        ensures table { self.new.table
+            ≡ table_given_back
+            (is_recoverable_in (value_at file.now self.old.stores.files)) unit file.now
+            (read_at self.old.reads unit file.now) self.old.table }
         ensures reads { self.new.reads ≡ filter (λ r. not (is_read_of unit file.now r)) self.old.reads }
     {
         let Some(key) = self.reads.close(unit, file) else {
@@ -311,13 +340,24 @@ impl Parts {
     /// memory.
     pub(crate) fn back_out(&mut self, unit: UnitId)
         requires begun { unit < length self.old.stores.images }
-        requires ready { AreReadyInTurn IsReadyFor files_undone self.old.stores.files (kept_by self.old.stores.images unit) }
+        requires ready { AreReadyInTurn IsReadyFor files_undone self.old.stores.files
+            (kept_by self.old.stores.images unit) }
         ensures none { kept_by self.new.stores.images unit ≡ [] }
         ensures others { AreOthersKept self.old.stores.images self.new.stores.images unit }
-        ensures led_back { (c : List ℕ) → LeadBack (λ i. Leads i.image) (images_of cell_of_image c (kept_by self.old.stores.images unit)) (files_content self.old.stores.files c) (files_content self.new.stores.files c) }
-        ensures cells { FilesKeep (is_unnamed cell_of_image (kept_by self.old.stores.images unit)) self.old.stores.files self.new.stores.files }
+        ensures led_back { (c : List ℕ) →
+            LeadBack (λ i. Leads i.image)
+            (images_of cell_of_image c (kept_by self.old.stores.images unit))
+            (files_content self.old.stores.files c) (files_content self.new.stores.files c) }
+        ensures cells { FilesKeep (is_unnamed cell_of_image (kept_by self.old.stores.images unit))
+            self.old.stores.files self.new.stores.files }
         ensures definitions { definitions_of self.new.stores.files ≡ definitions_of self.old.stores.files }
-        ensures whole { self.new.stores.files ≡ fold files_undone self.old.stores.files (kept_by self.old.stores.images unit) }
+        ensures held { AreHeldForImages files_hold cell_of_image self.old.stores.files self.old.stores.images
+            → AreHeldForImages files_hold cell_of_image self.new.stores.files
+            self.new.stores.images }
+        ensures whole { self.new.stores.files
+            ≡ all_swept files_swept cell_of_image
+            (fold files_undone self.old.stores.files (kept_by self.old.stores.images unit))
+            (kept_by self.old.stores.images unit) }
         ensures table { self.new.table ≡ released self.old.table unit }
         ensures reads { self.new.reads ≡ filter (λ r. not (r.unit == unit)) self.old.reads }
     {
@@ -331,10 +371,17 @@ impl Parts {
         requires begun { unit < length self.old.stores.images }
         ensures none { kept_by self.new.stores.images unit ≡ [] }
         ensures others { AreOthersKept self.old.stores.images self.new.stores.images unit }
-        ensures contents { (c : List ℕ) → files_content self.new.stores.files c ≡ files_content self.old.stores.files c }
-        ensures cells { FilesKeep (is_unnamed cell_of_image (kept_by self.old.stores.images unit)) self.old.stores.files self.new.stores.files }
+        ensures contents { (c : List ℕ) →
+            files_content self.new.stores.files c ≡ files_content self.old.stores.files c }
+        ensures cells { FilesKeep (is_unnamed cell_of_image (kept_by self.old.stores.images unit))
+            self.old.stores.files self.new.stores.files }
         ensures definitions { definitions_of self.new.stores.files ≡ definitions_of self.old.stores.files }
-        ensures whole { self.new.stores.files ≡ fold files_settled self.old.stores.files (kept_by self.old.stores.images unit) }
+        ensures held { AreHeldForImages files_hold cell_of_image self.old.stores.files self.old.stores.images
+            → AreHeldForImages files_hold cell_of_image self.new.stores.files
+            self.new.stores.images }
+        ensures whole { self.new.stores.files
+            ≡ all_swept files_swept cell_of_image self.old.stores.files
+            (kept_by self.old.stores.images unit) }
         ensures table { self.new.table ≡ released self.old.table unit }
         ensures reads { self.new.reads ≡ filter (λ r. not (r.unit == unit)) self.old.reads }
     {

@@ -40,6 +40,7 @@ fn acts_on_recoverable(files: &Files, op: &Op) -> bool
         Op::Write { file, .. } => file_is_recoverable(files, file),
         Op::Rewrite { file, .. } => file_is_recoverable(files, file),
         Op::Delete { file, .. } => file_is_recoverable(files, file),
+        Op::DeleteGeneric { file, .. } => file_is_recoverable(files, file),
         Op::ReadUpdate { file, .. } => file_is_recoverable(files, file),
         Op::TsWrite { .. } => false,
         Op::TsRewrite { .. } => false,
@@ -110,8 +111,9 @@ fn replayed(files: &Files, trace: &[Entry], outcomes: &[UnitState]) -> Result<Pl
 ///
 /// This goes by no before image and no table of a region, so its listing can be held against that
 /// of the region which wrote the history. It takes time in proportion to the records that were
-/// loaded and the entries, each with the logarithm of the records in its file. `NoMemory` where
-/// memory is refused, for the copies of all records.
+/// loaded and the entries, each with the logarithm of the records in its file; a delete by prefix
+/// looks at each record of its file. `NoMemory` where memory is refused, for the copies of all
+/// records.
 pub fn plain_replay(
     opening: &Opening,
     trace: &[Entry],

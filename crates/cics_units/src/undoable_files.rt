@@ -1,15 +1,20 @@
 //! What the files hold as they stand, with the before images that the open units keep.
 
-ghost use Rattle.std.specs.Prelude.{◌≡◌, ◌<◌, ◌≤◌, ℕ, [], length, fold, List, T, IfOk, IfSome, OnOk, OnErr};
+ghost use Rattle.std.specs.Prelude.{◌≡◌, ◌<◌, ◌≤◌, ℕ, [], length, fold, List, T, IfOk, IfSome};
+ghost use Rattle.std.specs.Prelude.{OnOk, OnErr};
 ghost use Rattle.cics_images.specs.Cells.{AreReadyInTurn, LeadBack, images_of, is_unnamed};
+ghost use Rattle.cics_images.specs.Cells.{all_swept};
 ghost use Rattle.cics_ksds.specs.Undo.{Leads};
 ghost use Rattle.cics_ksds.specs.Files.{write_condition, change_condition};
 ghost use Rattle.cics_units.specs.Store.{apply, only as answer_of, with_content, found_condition};
 ghost use Rattle.std.specs.Option.{option_copied};
-ghost use Rattle.cics_units.specs.FilesImages.{cell_of_image, files_content, IsReadyFor, files_undone, files_settled, FilesKeep, definitions_of};
+ghost use Rattle.cics_units.specs.FilesImages.{cell_of_image, files_content, IsReadyFor};
+ghost use Rattle.cics_units.specs.FilesImages.{files_undone, files_swept, files_hold, FilesKeep};
+ghost use Rattle.cics_units.specs.FilesImages.{definitions_of};
 ghost use Rattle.cics_units.specs.Matching.{store_of_files};
-ghost use Rattle.cics_units.specs.UnitImages.{kept_by, room_of, AreOthersKept};
-ghost use Rattle.cics_units.specs.Parts.{IsFitOp, IsRecordOf, is_recoverable_in, with_newest, AreChanged};
+ghost use Rattle.cics_units.specs.UnitImages.{kept_by, room_of, AreOthersKept, AreHeldForImages};
+ghost use Rattle.cics_units.specs.Parts.{IsFitOp, IsRecordOf, is_recoverable_in, with_newest};
+ghost use Rattle.cics_units.specs.Parts.{AreChanged};
 ghost use Rattle.cics_units.specs.RegionFiles.{IsThere};
 ghost use Rattle.cics_names.specs.Keyed.{value_at, is_rising};
 ghost use Rattle.cics_units.specs.declared.ops.Op.TheVariants.{Write, Rewrite, Delete};
@@ -27,7 +32,7 @@ use std::marker::Model;
 #[derive(Drop)]
 pub(crate) struct UndoableFiles {
     files: Files,
-    images: UnitImages,
+    images: UnitImages<Files>,
 }
 
 impl Model for UndoableFiles {
@@ -70,7 +75,8 @@ impl UndoableFiles {
     // The record of a key in a file that is there.
     fn found(&self, name: &Name8, key: &Record) -> Option<&Record>
         requires there { IsThere (value_at name.now self.now.files) }
-        ensures { IfSome (value_at name.now self.now.files) (λ f. option_copied result ≡ value_at key.now f.records) }
+        ensures { IfSome (value_at name.now self.now.files)
+            (λ f. option_copied result ≡ value_at key.now f.records) }
     {
         match self.files.get(name) {
             Some(file) => file.read(key.bytes()),
@@ -81,7 +87,8 @@ impl UndoableFiles {
     // What WRITE is answered: a key that is there is DUPREC.
     fn answer_to_write(&self, name: &Name8, key: &Record) -> Answer
         requires there { IsThere (value_at name.now self.now.files) }
-        ensures { IfSome (value_at name.now self.now.files) (λ f. result ≡ answer_of (write_condition f.records key.now)) }
+        ensures { IfSome (value_at name.now self.now.files)
+            (λ f. result ≡ answer_of (write_condition f.records key.now)) }
     {
         only(if self.found(name, key).is_some() {
             Condition::Duprec
@@ -93,7 +100,8 @@ impl UndoableFiles {
     // What REWRITE and DELETE are answered: an absent key is NOTFND.
     fn answer_to_change(&self, name: &Name8, key: &Record) -> Answer
         requires there { IsThere (value_at name.now self.now.files) }
-        ensures { IfSome (value_at name.now self.now.files) (λ f. result ≡ answer_of (change_condition f.records key.now)) }
+        ensures { IfSome (value_at name.now self.now.files)
+            (λ f. result ≡ answer_of (change_condition f.records key.now)) }
     {
         only(if self.found(name, key).is_some() {
             Condition::Normal
@@ -141,7 +149,7 @@ impl UndoableFiles {
         ensures begun { OnOk result (unit < length self.new.images) }
         ensures room { OnOk result (0 < room_of self.new.images unit) }
     {
-        self.images.make_room(unit)
+        self.images.make_room(unit, 1)
     }
 
     /// Whether the file of a name is recoverable. The names of all files rise.
@@ -165,7 +173,7 @@ impl UndoableFiles {
         ensures apart { AreOthersKept self.old.images self.new.images unit }
     {
         if let Some(image) = image {
-            self.images.store(unit, FilesImage { file, image });
+            self.images.store(unit, FilesImage { name: file, image });
         }
     }
 
@@ -249,10 +257,19 @@ impl UndoableFiles {
         requires ready { AreReadyInTurn IsReadyFor files_undone self.old.files (kept_by self.old.images unit) }
         ensures none { kept_by self.new.images unit ≡ [] }
         ensures others { AreOthersKept self.old.images self.new.images unit }
-        ensures led_back { (c : List ℕ) → LeadBack (λ i. Leads i.image) (images_of cell_of_image c (kept_by self.old.images unit)) (files_content self.old.files c) (files_content self.new.files c) }
-        ensures cells { FilesKeep (is_unnamed cell_of_image (kept_by self.old.images unit)) self.old.files self.new.files }
+        ensures led_back { (c : List ℕ) →
+            LeadBack (λ i. Leads i.image)
+            (images_of cell_of_image c (kept_by self.old.images unit))
+            (files_content self.old.files c) (files_content self.new.files c) }
+        ensures cells { FilesKeep (is_unnamed cell_of_image (kept_by self.old.images unit)) self.old.files
+            self.new.files }
         ensures definitions { definitions_of self.new.files ≡ definitions_of self.old.files }
-        ensures whole { self.new.files ≡ fold files_undone self.old.files (kept_by self.old.images unit) }
+        ensures held { AreHeldForImages files_hold cell_of_image self.old.files self.old.images →
+            AreHeldForImages files_hold cell_of_image self.new.files self.new.images }
+        ensures whole { self.new.files
+            ≡ all_swept files_swept cell_of_image
+            (fold files_undone self.old.files (kept_by self.old.images unit))
+            (kept_by self.old.images unit) }
     {
         self.images.back_out(unit, &mut self.files);
     }
@@ -263,9 +280,14 @@ impl UndoableFiles {
         ensures none { kept_by self.new.images unit ≡ [] }
         ensures others { AreOthersKept self.old.images self.new.images unit }
         ensures contents { (c : List ℕ) → files_content self.new.files c ≡ files_content self.old.files c }
-        ensures cells { FilesKeep (is_unnamed cell_of_image (kept_by self.old.images unit)) self.old.files self.new.files }
+        ensures cells { FilesKeep (is_unnamed cell_of_image (kept_by self.old.images unit)) self.old.files
+            self.new.files }
         ensures definitions { definitions_of self.new.files ≡ definitions_of self.old.files }
-        ensures whole { self.new.files ≡ fold files_settled self.old.files (kept_by self.old.images unit) }
+        ensures held { AreHeldForImages files_hold cell_of_image self.old.files self.old.images →
+            AreHeldForImages files_hold cell_of_image self.new.files self.new.images }
+        ensures whole { self.new.files
+            ≡ all_swept files_swept cell_of_image self.old.files
+            (kept_by self.old.images unit) }
     {
         self.images.forget(unit, &mut self.files);
     }

@@ -1,39 +1,39 @@
 //! The before images of each unit of work, by the unit's number.
 
-ghost use Rattle.std.specs.Prelude.{◌≡◌, ◌≢◌, ◌+◌, ◌<◌, ◌≤◌, ℕ, [], ◌∷◌, ◌++◌, length, slice_get, slice_set, OnOk, IfOk, List, fold};
-ghost use Rattle.cics_images.specs.Cells.{AreReadyInTurn, LeadBack, images_of, is_unnamed};
-ghost use Rattle.cics_ksds.specs.Undo.{Leads};
-ghost use Rattle.cics_units.specs.FilesImages.{cell_of_image, files_content, IsReadyFor, files_undone, files_settled, FilesKeep, definitions_of};
-ghost use Rattle.cics_units.specs.UnitImages.{kept_by, room_of, AreOthersKept};
+ghost use Rattle.std.specs.Prelude.{◌≡◌, ◌≢◌, ◌+◌, ◌<◌, ◌≤◌, ◌&&◌, ℕ, [], ◌∷◌, length, slice_get};
+ghost use Rattle.std.specs.Prelude.{OnOk, fold};
+ghost use Rattle.cics_images.specs.Cells.{Cell, AreReadyInTurn, LeadBack, images_of, is_unnamed};
+ghost use Rattle.cics_images.specs.Cells.{all_swept};
+ghost use Rattle.cics_units.specs.UnitImages.{kept_by, room_of, AreOthersKept, AreHeldForImages};
 
-use crate::files::{Files, FilesImage};
 use cics_enqueue::UnitId;
-use cics_images::Images;
+use cics_images::{Images, Undoable};
 use cics_names::NoMemory;
 use std::alloc::Global;
 use std::marker::Model;
 use std::mem;
 
 /// The images of each unit that has begun; a unit that has ended keeps none.
+///
+/// They are of changes of one value, which is handed in where a unit ends.
 #[derive(Drop)]
-pub(crate) struct UnitImages {
-    rows: Vec<Images<Files>>,
+pub(crate) struct UnitImages<M: Undoable> {
+    rows: Vec<Images<M>>,
     alloc: Global,
 }
 
-impl Model for UnitImages {
+impl<M: Undoable> Model for UnitImages<M> {
     ghost use Rattle.std.specs.Prelude.{List};
     ghost use Rattle.cics_images.specs.Cells.{Kept};
-    ghost use Rattle.cics_units.specs.declared.files.images.FilesImage.{FilesImage};
 
-    ghost Value = { List (Kept FilesImage) };
+    ghost Value = { List (Kept M.Image) };
 
     ghost view = { λ t. t.rows.items };
 }
 
-impl UnitImages {
+impl<M: Undoable> UnitImages<M> {
     /// No unit has begun.
-    pub(crate) fn new(alloc: Global) -> UnitImages
+    pub(crate) fn new(alloc: Global) -> UnitImages<M>
         ensures { result ≡ [] }
     {
         UnitImages {
@@ -42,60 +42,84 @@ impl UnitImages {
         }
     }
 
-    /// Makes room for one more image of a unit, which may be the next one, that has yet to begin.
-    pub(crate) fn make_room(&mut self, unit: UnitId) -> Result<(), NoMemory>
+    /// Makes room for so many more images of a unit, which may be the next one, that has yet to begin. A command that
+    /// changes many cells makes room for all its images before its first change.
+    pub(crate) fn make_room(&mut self, unit: UnitId, count: usize) -> Result<(), NoMemory>
         requires begun { unit ≤ length self.old }
         ensures kept { (w : ℕ) → kept_by self.new w ≡ kept_by self.old w }
         ensures longer { length self.old ≤ length self.new }
         ensures begun { OnOk result (unit < length self.new) }
-        ensures room { OnOk result (0 < room_of self.new unit) }
+        ensures room { OnOk result (count ≤ room_of self.new unit) }
     {
         let at = unit.number() as usize;
         if at == self.rows.len() {
             self.rows.push(Images::new(self.alloc))?;
         }
-        Ok(self.rows[at].make_room()?)
+        Ok(self.rows[at].make_room(count)?)
     }
 
     /// Adds the newest image of a unit.
-    pub(crate) fn store(&mut self, unit: UnitId, image: FilesImage)
+    pub(crate) fn store(&mut self, unit: UnitId, image: M::Image)
         requires begun { unit < length self.old }
         requires room { 0 < room_of self.old unit }
         ensures kept { kept_by self.new unit ≡ image ∷ kept_by self.old unit }
+        ensures room { room_of self.new unit + 1 ≡ room_of self.old unit }
         ensures others { AreOthersKept self.old self.new unit }
     {
         let at = unit.number() as usize;
         self.rows[at].store(image);
     }
 
-    /// Backs a unit out: its images are undone, newest first. It keeps none from then on.
-    pub(crate) fn back_out(&mut self, unit: UnitId, files: &mut Files)
+    // Takes the images of a unit, which keeps none from then on.
+    fn taken(&mut self, unit: UnitId) -> Images<M>
         requires begun { unit < length self.old }
-        requires ready { AreReadyInTurn IsReadyFor files_undone files.old (kept_by self.old unit) }
+        ensures images { result.newest_first ≡ kept_by self.old unit }
         ensures none { kept_by self.new unit ≡ [] }
         ensures others { AreOthersKept self.old self.new unit }
-        ensures led_back { (c : List ℕ) → LeadBack (λ i. Leads i.image) (images_of cell_of_image c (kept_by self.old unit)) (files_content files.old c) (files_content files.new c) }
-        ensures cells { FilesKeep (is_unnamed cell_of_image (kept_by self.old unit)) files.old files.new }
-        ensures definitions { definitions_of files.new ≡ definitions_of files.old }
-        ensures whole { files.new ≡ fold files_undone files.old (kept_by self.old unit) }
     {
         let at = unit.number() as usize;
-        let mut kept = mem::replace(&mut self.rows[at], Images::new(self.alloc));
-        kept.back_out(files);
+        mem::replace(&mut self.rows[at], Images::new(self.alloc))
     }
 
-    /// Commits a unit: its images are given up.
-    pub(crate) fn forget(&mut self, unit: UnitId, files: &mut Files)
+    /// Backs a unit out: its images are undone, newest first, and their cells swept. It keeps none from then on.
+    pub(crate) fn back_out(&mut self, unit: UnitId, target: &mut M)
+        requires begun { unit < length self.old }
+        requires ready { AreReadyInTurn M.IsReady M.undone target.old (kept_by self.old unit) }
+        ensures none { kept_by self.new unit ≡ [] }
+        ensures others { AreOthersKept self.old self.new unit }
+        ensures led_back { (c : Cell) →
+            LeadBack M.leads (images_of M.cell c (kept_by self.old unit))
+            (M.content target.old c) (M.content target.new c) }
+        ensures cells { M.Keeps (is_unnamed M.cell (kept_by self.old unit)) target.old target.new }
+        ensures fixed { M.fixed target.new ≡ M.fixed target.old }
+        ensures swept { (c : Cell) →
+            M.holds_back target.new c
+            ≡ (M.holds_back target.old c && is_unnamed M.cell (kept_by self.old unit) c) }
+        ensures held { AreHeldForImages M.holds_back M.cell target.old self.old →
+            AreHeldForImages M.holds_back M.cell target.new self.new }
+        ensures whole { target.new ≡ all_swept M.swept M.cell
+            (fold M.undone target.old (kept_by self.old unit)) (kept_by self.old unit) }
+    {
+        let mut kept = self.taken(unit);
+        kept.back_out(target);
+    }
+
+    /// Commits a unit: its images are given up, and their cells swept. It keeps none from then on.
+    pub(crate) fn forget(&mut self, unit: UnitId, target: &mut M)
         requires begun { unit < length self.old }
         ensures none { kept_by self.new unit ≡ [] }
         ensures others { AreOthersKept self.old self.new unit }
-        ensures contents { (c : List ℕ) → files_content files.new c ≡ files_content files.old c }
-        ensures cells { FilesKeep (is_unnamed cell_of_image (kept_by self.old unit)) files.old files.new }
-        ensures definitions { definitions_of files.new ≡ definitions_of files.old }
-        ensures whole { files.new ≡ fold files_settled files.old (kept_by self.old unit) }
+        ensures contents { (c : Cell) → M.content target.new c ≡ M.content target.old c }
+        ensures cells { M.Keeps (is_unnamed M.cell (kept_by self.old unit)) target.old target.new }
+        ensures fixed { M.fixed target.new ≡ M.fixed target.old }
+        ensures swept { (c : Cell) →
+            M.holds_back target.new c
+            ≡ (M.holds_back target.old c && is_unnamed M.cell (kept_by self.old unit) c) }
+        ensures held { AreHeldForImages M.holds_back M.cell target.old self.old →
+            AreHeldForImages M.holds_back M.cell target.new self.new }
+        ensures whole { target.new ≡ all_swept M.swept M.cell target.old (kept_by self.old unit) }
     {
-        let at = unit.number() as usize;
-        let mut kept = mem::replace(&mut self.rows[at], Images::new(self.alloc));
-        kept.forget(files);
+        let mut kept = self.taken(unit);
+        kept.forget(target);
     }
 }

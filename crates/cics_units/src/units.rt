@@ -1,12 +1,18 @@
 //! Units of work: their commands, what they hold, and their ends.
 
-ghost use Rattle.std.specs.Prelude.{◌≡◌, ◌<◌, ◌≤◌, ◌++◌, ◌∷◌, [], true, length, vec_len, vec_capacity, IsTrue, Option, Some, None, option_map, IfOk, IfErr, IfSome, OnOk, OnErr};
+ghost use Rattle.std.specs.Prelude.{◌≡◌, ◌<◌, ◌≤◌, ◌++◌, ◌∷◌, [], true, false, length, vec_len};
+ghost use Rattle.std.specs.Prelude.{vec_capacity, IsTrue, Option, Some, None, option_map, IfOk};
+ghost use Rattle.std.specs.Prelude.{IfErr, IfSome, OnOk, OnErr};
 ghost use Rattle.std.specs.Option.{option_copied};
 ghost use Rattle.cics_names.specs.Keyed.{value_at};
+ghost use Rattle.cics_enqueue.specs.Resources.{is_prefix};
 ghost use Rattle.cics_units.specs.Openings.{is_key};
 ghost use Rattle.cics_units.specs.History.{outcome_of};
 ghost use Rattle.cics_units.specs.Holding.{held_table, first_holder, awaited};
-ghost use Rattle.cics_units.specs.Execution.{IfMustWait, IfEnqMustWait, unit_or_next, outcomes_with, IsOpenUnit, IsOpenOrNone, is_ready_op, execution, after_execution, enqueue, after_enqueue, after_dequeue, after_unlock, read_at, after_end};
+ghost use Rattle.cics_units.specs.Execution.{IfMustWait, IfEnqMustWait, unit_or_next};
+ghost use Rattle.cics_units.specs.Execution.{outcomes_with, IsOpenUnit, IsOpenOrNone, is_ready_op};
+ghost use Rattle.cics_units.specs.Execution.{execution, after_execution, enqueue, after_enqueue};
+ghost use Rattle.cics_units.specs.Execution.{after_dequeue, after_unlock, read_at, after_end};
 ghost use Rattle.cics_units.specs.Headline.{IsHeadline, LeavesNoTrace, beginning};
 ghost use Rattle.cics_units.specs.Listings.{listing_of};
 ghost use Rattle.cics_units.specs.TableInPlace.{is_file_op, file_of, key_of, record_of};
@@ -28,8 +34,8 @@ use std::marker::Model;
 /// Contracts see the state of the units, which is what was opened, the executed commands in their
 /// order, the outcome of each unit and the open update reads, and beside it the store, which is read
 /// off the files themselves. After every call the store is what replaying the executed commands gives,
-/// those left out by which a unit that was backed out changed a recoverable file, and each command of
-/// the replay has the answer that it was given (`headline`).
+/// without all that units which were backed out executed on recoverable files, and each command of the
+/// replay has the answer that it was given (`headline`).
 #[derive(Drop)]
 pub struct Units {
     opening: Opening,
@@ -110,11 +116,16 @@ impl Units {
     /// The unit that holds a resource, if it is another than the one that asks; `asking` is None for
     /// a task without a unit.
     ///
+    /// The resource is no prefix of keys.
+    ///
     /// - `awaits`: so it is the unit that a command on that record of a file has to wait for.
     pub fn holder(&self, asking: Option<UnitId>, resource: &Resource) -> Option<UnitId>
+        requires key { is_prefix resource.now ≡ false }
         ensures holder { result ≡ first_holder (held_table self.now.state) asking resource.now }
         ensures is_open { IfSome result (IsOpenUnit self.now.state) }
-        ensures awaits { (op : OpValue) → is_file_op op ≡ true → resource.now ≡ record_of (file_of op) (key_of op) → result ≡ awaited self.now.state asking op }
+        ensures awaits { (op : OpValue) → is_file_op op ≡ true →
+            resource.now ≡ record_of (file_of op) (key_of op) →
+            result ≡ awaited self.now.state asking op }
     {
         let _trace = &self.trace;
         self.parts.other_holder(asking, resource)
@@ -241,7 +252,8 @@ impl Units {
     /// Backs a unit out: each recoverable file holds what it would hold if the unit had executed
     /// nothing, and the unit holds nothing more. It takes no memory.
     ///
-    /// - `alone`: a unit that ran alone from some command on leaves what stood before it.
+    /// - `alone`: where a unit ran alone from some command on, each recoverable file holds what the
+    ///   commands before that one give.
     pub fn back_out(&mut self, unit: UnitId)
         requires is_open { IsOpenUnit self.old.state unit }
         ensures state { self.new.state ≡ after_end self.old.state unit BackedOut }
@@ -255,8 +267,10 @@ impl Units {
     /// The file of a name as it stands, the changes of open units included; None where no file of
     /// the name is defined.
     pub fn file(&self, name: &Name8) -> Option<&File>
-        ensures records { value_at name.now self.now.store.files ≡ option_map (λ f. f.records) (option_copied result) }
-        ensures definition { option_map (λ f. f.definition) (value_at name.now self.now.state.opening.files) ≡ option_map (λ f. f.definition) (option_copied result) }
+        ensures records { value_at name.now self.now.store.files
+            ≡ option_map (λ f. f.records) (option_copied result) }
+        ensures definition { option_map (λ f. f.definition) (value_at name.now self.now.state.opening.files)
+            ≡ option_map (λ f. f.definition) (option_copied result) }
         ensures lawful { IfSome result (λ f. is_key f.now.definition ≡ true) }
     {
         let _trace = &self.trace;

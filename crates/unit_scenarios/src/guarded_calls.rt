@@ -9,7 +9,7 @@ ghost use Rattle.cics_units.specs.TableInPlace.{is_file_op};
 
 use cics_enqueue::{Resource, UnitId};
 use cics_names::{Condition, Name8, NoMemory, Record};
-use cics_units::{Done, Enqueued, Op, UnitState, Units};
+use cics_units::{Done, Enqueued, Op, SerialUnits, UnitState, Units};
 
 /// What came of a call; units are told by their numbers.
 #[derive(Clone, Copy, Debug, PartialEq, Eq)]
@@ -114,6 +114,33 @@ pub(crate) fn execute(units: &mut Units, unit: Option<UnitId>, op: &Op) -> Resul
         Done::Answered(acting, answer) => Told::Answered(acting.number(), answer.condition),
         Done::MustWait(holder) => Told::Waits(holder.number()),
     })
+}
+
+/// Executes a command of units that take turns, where that may be done, and tells what came of it.
+pub(crate) fn execute_in_turn(
+    all: &mut SerialUnits,
+    unit: Option<UnitId>,
+    op: &Op,
+) -> Result<Told, NoMemory> {
+    let Some((_, key)) = op.record() else {
+        return Ok(Told::MayNot);
+    };
+    if key.len() > 255 || !is_open_or_none(all.units(), unit) || !is_ready(all.units(), unit, op) {
+        return Ok(Told::MayNot);
+    }
+    Ok(match all.execute(unit, op)? {
+        Done::Answered(acting, answer) => Told::Answered(acting.number(), answer.condition),
+        Done::MustWait(holder) => Told::Waits(holder.number()),
+    })
+}
+
+/// Commits a unit of those that take turns, where it is open.
+pub(crate) fn commit_in_turn(all: &mut SerialUnits, unit: UnitId) -> Told {
+    if !is_open(all.units(), unit) {
+        return Told::MayNot;
+    }
+    all.commit(unit);
+    Told::Done
 }
 
 /// Enqueues on a value where that may be done, and tells what came of it.

@@ -22,3 +22,5 @@ mod replays;
 mod scenarios;
 #[cfg(test)]
 mod side_by_side;
+#[cfg(test)]
+mod turns;

@@ -41,6 +41,12 @@ fn store(alloc: Global, file: Name8, rest: &str) -> Result<Option<Op>, NoMemory>
     Ok(Some(write(alloc, file, key.as_bytes(), from.as_bytes())?))
 }
 
+// A DELETE GENERIC of a prefix, as `clear ACCT k`.
+fn clear(alloc: Global, file: Name8, prefix: &str) -> Result<Option<Op>, NoMemory> {
+    let prefix = Record::from_slice(alloc, prefix.as_bytes())?;
+    Ok(Some(Op::DeleteGeneric { file, prefix }))
+}
+
 // A record for a transient data queue, as `put DEST lost`; None where a text is none.
 fn put(alloc: Global, queue: &str, from: &str) -> Result<Option<Op>, NoMemory> {
     let Ok(queue) = Name4::new(queue.as_bytes()) else {
@@ -71,6 +77,7 @@ fn any_command(alloc: Global, text: &str) -> Result<Option<Op>, NoMemory> {
         "item" => new_item(alloc, name, rest),
         "drop" => Ok(Some(Op::TsDelete { queue: name })),
         "store" => store(alloc, name, rest),
+        "clear" => clear(alloc, name, rest),
         _ => command(alloc, word, name, rest.as_bytes()),
     }
 }
@@ -159,6 +166,33 @@ fn leaves_of_two(alloc: Global, line: &str) -> Result<bool, Fail> {
     let (ends, accounts) = halves(line);
     let log = "k1 old|k2 one|k3 zero";
     leaves(alloc, TWO_UNITS, ends, accounts, log, "QUEUE one")
+}
+
+/// A unit that takes away all records under a prefix, in both files.
+const CLEARED: &str = "\
+0 write ACCT k2 zero
+0 write ACCT m1 zero
+0 write LOG k2 zero
+1 clear ACCT k
+1 clear LOG k1
+";
+
+#[test]
+fn all_records_under_a_prefix_go_and_come_back(rt: HostRuntime) -> Result<(), Fail> {
+    let log = "k2 zero";
+    assert!(rt;
+        leaves(
+            rt.alloc(),
+            CLEARED,
+            "committed committed",
+            "m1 zero",
+            log,
+            ""
+        )?
+    );
+    let back = "k1 old|k2 zero|m1 zero";
+    assert!(rt; leaves(rt.alloc(), CLEARED, "committed backed-out", back, log, "")?);
+    Ok(())
 }
 
 /// A unit without an outcome is open.

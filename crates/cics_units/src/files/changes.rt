@@ -5,16 +5,17 @@ ghost use Rattle.cics_names.specs.Keyed.{value_at};
 ghost use Rattle.cics_images.specs.Cells.{is_other};
 ghost use Rattle.cics_ksds.specs.Files.{key_of, write_condition, change_condition};
 ghost use Rattle.cics_ksds.specs.Undo.{written_image, rewritten_image, deleted_image};
-ghost use Rattle.cics_units.specs.RegionFiles.{IsFitFor, IsThere, key_in, written_in, rewritten_in, deleted_in, refilled};
+ghost use Rattle.cics_units.specs.RegionFiles.{IsFitFor, IsThere, key_in, written_in, rewritten_in};
+ghost use Rattle.cics_units.specs.RegionFiles.{deleted_in};
 ghost use Rattle.cics_units.specs.FilesImages.{cell_of, FilesKeep};
 ghost use Rattle.cics_units.specs.FilesChanges.{IsFilesImage};
 
-use crate::files::Files;
+use crate::named::Named;
 use cics_images::Changed;
-use cics_ksds::FileImage;
+use cics_ksds::{File, FileImage};
 use cics_names::{Name8, NoMemory, Record};
 
-impl Files {
+impl Named<File> {
     /// Writes a record to the file of a name, as `File::write` does: a key that is there is DUPREC.
     ///
     /// `keep` asks for the image that undoes the write. The file has to be there, and the record has
@@ -30,9 +31,10 @@ impl Files {
             (λ f. changed.condition ≡ write_condition f.records (key_of f.definition content))) }
         ensures image { IfOk result (λ changed. IfSome (value_at name.now self.old)
             (λ f. changed.image ≡ written_image keep f content)) }
-        ensures files { OnOk result (self.new ≡ written_in self.old name.now content (value_at name.now self.old)) }
+        ensures files { OnOk result (self.new
+            ≡ written_in self.old name.now content (value_at name.now self.old)) }
         ensures undoable { IfOk result (λ changed. IfSome (value_at name.now self.old) (λ f. IfSome changed.image
-            (λ i. IsFilesImage self.old self.new (cell_of name.now (key_in f content)) (record { file = name.now; image = i })))) }
+            (λ i. IsFilesImage self.old self.new (cell_of name.now (key_in f content)) (record { name = name.now; image = i })))) }
         ensures others { IfSome (value_at name.now self.old) (λ f.
             FilesKeep (is_other (cell_of name.now (key_in f content))) self.old self.new) }
         ensures err { OnErr result (self.new ≡ self.old) }
@@ -46,11 +48,13 @@ impl Files {
     /// Replaces the record of its key in the file of a name: REWRITE. It takes no memory.
     pub fn rewrite(&mut self, name: &Name8, content: Record, keep: bool) -> Changed<FileImage>
         requires { IsFitFor (value_at name.now self.old) content }
-        ensures condition { IfSome (value_at name.now self.old) (λ f. result.condition ≡ change_condition f.records (key_in f content)) }
-        ensures image { IfSome (value_at name.now self.old) (λ f. result.image ≡ rewritten_image keep f content) }
+        ensures condition { IfSome (value_at name.now self.old)
+            (λ f. result.condition ≡ change_condition f.records (key_in f content)) }
+        ensures image { IfSome (value_at name.now self.old)
+            (λ f. result.image ≡ rewritten_image keep f content) }
         ensures files { self.new ≡ rewritten_in self.old name.now content (value_at name.now self.old) }
         ensures undoable { IfSome (value_at name.now self.old) (λ f. IfSome result.image
-            (λ i. IsFilesImage self.old self.new (cell_of name.now (key_in f content)) (record { file = name.now; image = i }))) }
+            (λ i. IsFilesImage self.old self.new (cell_of name.now (key_in f content)) (record { name = name.now; image = i }))) }
         ensures others { IfSome (value_at name.now self.old) (λ f.
             FilesKeep (is_other (cell_of name.now (key_in f content))) self.old self.new) }
     {
@@ -68,11 +72,14 @@ impl Files {
         keep: bool,
     ) -> Result<Changed<FileImage>, NoMemory>
         requires { IsThere (value_at name.now self.old) }
-        ensures condition { IfOk result (λ changed. IfSome (value_at name.now self.old) (λ f. changed.condition ≡ change_condition f.records key.now)) }
-        ensures image { IfOk result (λ changed. IfSome (value_at name.now self.old) (λ f. changed.image ≡ deleted_image keep f key.now)) }
-        ensures files { OnOk result (self.new ≡ deleted_in self.old name.now key.now keep (value_at name.now self.old)) }
+        ensures condition { IfOk result (λ changed. IfSome (value_at name.now self.old)
+            (λ f. changed.condition ≡ change_condition f.records key.now)) }
+        ensures image { IfOk result (λ changed. IfSome (value_at name.now self.old)
+            (λ f. changed.image ≡ deleted_image keep f key.now)) }
+        ensures files { OnOk result (self.new
+            ≡ deleted_in self.old name.now key.now keep (value_at name.now self.old)) }
         ensures undoable { IfOk result (λ changed. IfSome changed.image
-            (λ i. IsFilesImage self.old self.new (cell_of name.now key.now) (record { file = name.now; image = i }))) }
+            (λ i. IsFilesImage self.old self.new (cell_of name.now key.now) (record { name = name.now; image = i }))) }
         ensures others { FilesKeep (is_other (cell_of name.now key.now)) self.old self.new }
         ensures err { OnErr result (self.new ≡ self.old) }
     {
@@ -80,27 +87,5 @@ impl Files {
             Some(file) => file.delete(key, keep),
             None => unreachable!(),
         }
-    }
-}
-
-impl Files {
-    // The files one after the other, each put among those before it.
-    fn refill(&self) -> Result<Files, NoMemory>
-        ensures { IfOk result (λ files. files ≡ refilled self.now) }
-    {
-        let mut files = Files::new(self.alloc);
-        for (name, file) in &self.rows {
-            files.insert(*name, file.copy()?)?;
-        }
-        Ok(files)
-    }
-
-    /// Files of their own with the same names, definitions and contents. It takes memory for each
-    /// record, and an `Err` comes only where memory is refused.
-    pub fn copy(&self) -> Result<Files, NoMemory>
-        ensures { IfOk result (λ files. files ≡ self.now) }
-    {
-        let _rows = &self.rows;
-        self.refill()
     }
 }

@@ -2,7 +2,9 @@
 
 ghost use Rattle.std.specs.Prelude.{◌≡◌, [], IfOk, OnOk};
 ghost use Rattle.cics_names.specs.Keyed.{has_key, with_value, without};
-ghost use Rattle.cics_ksds.specs.Files.{records_of, records_after_write, records_after_rewrite, records_after_delete};
+ghost use Rattle.cics_ksds.specs.Prefixes.{outside};
+ghost use Rattle.cics_ksds.specs.Files.{records_of, records_after_write, records_after_rewrite};
+ghost use Rattle.cics_ksds.specs.Files.{records_after_delete};
 
 use cics_ksds::File;
 use cics_names::{Items, NoMemory, Record};
@@ -91,6 +93,14 @@ impl PlainRecords {
         ensures { self.new ≡ records_after_delete self.old key.now }
     {
         self.rows.remove(key);
+    }
+
+    /// DELETE GENERIC: takes each record away whose key begins with the prefix.
+    pub(crate) fn delete_generic(&mut self, prefix: &Record)
+        ensures { self.new ≡ outside prefix.now self.old }
+    {
+        self.rows
+            .retain(|key, _| !key.bytes().starts_with(prefix.bytes()));
     }
 
     /// The records in the order of their keys.

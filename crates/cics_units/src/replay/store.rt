@@ -6,7 +6,9 @@ ghost use Rattle.cics_tempstor.specs.Queues.{has_item};
 ghost use Rattle.cics_units.specs.Listings.{listing_of};
 ghost use Rattle.cics_units.specs.RegionFiles.{AreLoaded};
 ghost use Rattle.cics_units.specs.Replaying.{files_alone};
-ghost use Rattle.cics_units.specs.Store.{initial_store, apply, apply_write, apply_rewrite, apply_delete, apply_ts_write, apply_ts_rewrite, apply_ts_delete, ts_queue, with_ts};
+ghost use Rattle.cics_units.specs.Store.{initial_store, apply, apply_write, apply_rewrite};
+ghost use Rattle.cics_units.specs.Store.{apply_delete, apply_delete_generic, apply_ts_write};
+ghost use Rattle.cics_units.specs.Store.{apply_ts_rewrite, apply_ts_delete, ts_queue, with_ts};
 
 use super::file_is_recoverable;
 use super::records::PlainRecords;
@@ -62,7 +64,13 @@ impl PlainStore {
 
     /// Puts the records of a file under its name.
     fn define(&mut self, name: Name8, records: PlainRecords) -> Result<(), NoMemory>
-        ensures { OnOk result (self.new ≡ record { files = with_value name records self.old.files; ts = self.old.ts; td = self.old.td }) }
+        ensures { OnOk result (self.new
+            ≡ record {
+              files = with_value name records self.old.files;
+              ts = self.old.ts;
+              td =
+                  self.old.td;
+            }) }
     {
         self.files.insert(name, records)?;
         Ok(())
@@ -105,12 +113,24 @@ impl PlainStore {
 
     /// DELETE from a file.
     fn delete(&mut self, file: &Name8, key: &Record)
-        ensures { self.new ≡ (apply_delete self.old file.now key.now (value_at file.now self.old.files)).store }
+        ensures { self.new ≡ (apply_delete self.old file.now key.now
+            (value_at file.now self.old.files)).store }
     {
         let Some(records) = self.files.get_mut(file) else {
             return;
         };
         records.delete(key);
+    }
+
+    /// DELETE GENERIC from a file.
+    fn delete_generic(&mut self, file: &Name8, prefix: &Record)
+        ensures { self.new ≡ (apply_delete_generic self.old file.now prefix.now
+            (value_at file.now self.old.files)).store }
+    {
+        let Some(records) = self.files.get_mut(file) else {
+            return;
+        };
+        records.delete_generic(prefix);
     }
 
     /// Makes a temporary storage queue of one item.
@@ -125,7 +145,9 @@ impl PlainStore {
 
     /// WRITEQ TS: the item is the last one, in a queue that it may make.
     fn ts_write(&mut self, queue: &Name8, from: &Record) -> Result<(), NoMemory>
-        ensures { OnOk result (self.new ≡ (apply_ts_write self.old queue.now from.now (ts_queue self.old queue.now)).store) }
+        ensures { OnOk result (self.new
+            ≡ (apply_ts_write self.old queue.now from.now
+            (ts_queue self.old queue.now)).store) }
     {
         let item = from.copy()?;
         let Some(items) = self.queues.get_mut(queue) else {
@@ -176,6 +198,10 @@ impl PlainStore {
             Op::Rewrite { file, key, from } => self.rewrite(file, key, from),
             Op::Delete { file, key } => {
                 self.delete(file, key);
+                Ok(())
+            }
+            Op::DeleteGeneric { file, prefix } => {
+                self.delete_generic(file, prefix);
                 Ok(())
             }
             Op::ReadUpdate { .. } => Ok(()),

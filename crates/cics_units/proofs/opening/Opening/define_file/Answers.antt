@@ -28,7 +28,7 @@ returns-in_err-insert-clause-fault c = subst (IsRefused {X = Unit {0}} c.from_re
 
 pub invariant_of-self-2 : goal.invariant_of-self-2
 invariant_of-self-2 c = subst AreLoaded
-    (sym (c.in_ok-insert.ensures.files ∙ ap (λ f. with_value c.args.name f c.self.inside.files) c.new.ensures)) (AreLoaded-defined c.self.inside.files c.self.invariant c.args.name c.args.definition (sym c.if-not-is_key.ensures))
+    (sym (c.in_ok-insert.ensures.values ∙ ap (λ f. with_value c.args.name f c.self.inside.files) c.new.ensures)) (AreLoaded-defined c.self.inside.files c.self.invariant c.args.name c.args.definition (sym c.if-not-is_key.ensures))
 
 pub returns-clause-fault : goal.returns-clause-fault
 returns-clause-fault c = subst (IsRefused {X = Unit {0}} (Ok (tt {0})))
@@ -36,6 +36,6 @@ returns-clause-fault c = subst (IsRefused {X = Unit {0}} (Ok (tt {0})))
 
 pub returns-clause-ok : goal.returns-clause-ok
 returns-clause-ok c =
-    ap files_alone (c.in_ok-insert.ensures.files ∙ ap (λ f. with_value c.args.name f c.self.inside.files) c.new.ensures)
+    ap files_alone (c.in_ok-insert.ensures.values ∙ ap (λ f. with_value c.args.name f c.self.inside.files) c.new.ensures)
     ∙ ap (λ files. record { files = files; prefixes = []; queues = [] }) (with_value-each opening_of c.args.name (record { definition = c.args.definition; records = []; empties = [] }) c.self.inside.files)
     ∙ ap (λ o. with_file o c.args.name c.args.definition) c.self.view_is

@@ -23,6 +23,6 @@ pub returns-in_default : goal.returns-in_default
 returns-in_default c =
     let op = c.args.op.now in
     record {
-      covered = sym (uncovered_any c.args.unit op c.args.self.now.reads (λ f k r is. c.in_default.not-Rewrite f k r is) (λ f k is. c.in_default.not-Delete f k is));
-      rest = λ i. record c.args.self.now { reads = sym (uncovered_rest c.args.unit op c.args.self.now.reads (λ f k r is. c.in_default.not-Rewrite f k r is) (λ f k is. c.in_default.not-Delete f k is)) i };
+      covered = sym (uncovered_any c.args.unit op c.args.self.now.reads (λ f k r is. c.in_default.not-Rewrite f k r is) (λ f k is. c.in_default.not-Delete f k is) c.requires.file);
+      rest = λ i. record c.args.self.now { reads = sym (uncovered_rest c.args.unit op c.args.self.now.reads (λ f k r is. c.in_default.not-Rewrite f k r is) (λ f k is. c.in_default.not-Delete f k is) c.requires.file) i };
     }

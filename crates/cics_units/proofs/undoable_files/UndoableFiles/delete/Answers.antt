@@ -24,5 +24,5 @@ returns-clause-changed c =
     c.keep.ensures.apart c.in_ok-changed.changed.image c.keep.ensures.kept k
     (c.keep.ensures.files ∙ c.in_ok-changed.ensures.files ∙ ap (λ b. deleted_in m name b c.is_recoverable-keep.result (value_at name m)) c.bytes.ensures ∙ ap (deleted_in m name k c.is_recoverable-keep.result) there ∙ ap (λ b. deleted_in m name k b (Some f)) keep)
     (of_this m name _ f there c.in_ok-changed.ensures.image ∙ (λ i. deleted_image (keep i) f (c.bytes.ensures i)))
-    (subst (λ n. IfSome c.in_ok-changed.changed.image (λ i. IsFilesImage m n (cell_of name k) (record { file = name; image = i }))) (sym c.keep.ensures.files) (subst (λ b. IfSome c.in_ok-changed.changed.image (λ i. IsFilesImage m c.delete.new.self (cell_of name b) (record { file = name; image = i }))) c.bytes.ensures c.in_ok-changed.ensures.undoable))
+    (subst (λ n. IfSome c.in_ok-changed.changed.image (λ i. IsFilesImage m n (cell_of name k) (record { name = name; image = i }))) (sym c.keep.ensures.files) (subst (λ b. IfSome c.in_ok-changed.changed.image (λ i. IsFilesImage m c.delete.new.self (cell_of name b) (record { name = name; image = i }))) c.bytes.ensures c.in_ok-changed.ensures.undoable))
     (subst (FilesKeep (is_other (cell_of name k)) m) (sym c.keep.ensures.files) (subst (λ b. FilesKeep (is_other (cell_of name b)) m c.delete.new.self) c.bytes.ensures c.in_ok-changed.ensures.others)))))

@@ -27,5 +27,5 @@ returns-clause-changed c =
     c.keep.ensures.apart c.rewrite-changed.result.image c.keep.ensures.kept r
     (c.keep.ensures.files ∙ c.rewrite-changed.ensures.files ∙ ap (rewritten_in m name r) there)
     (of_this m name _ f there c.rewrite-changed.ensures.image ∙ ap (λ b. rewritten_image b f r) keep)
-    (subst (λ n. IfSome c.rewrite-changed.result.image (λ i. IsFilesImage m n (cell_of name (key_of f.definition r)) (record { file = name; image = i }))) (sym c.keep.ensures.files) (of_this m name _ f there c.rewrite-changed.ensures.undoable))
+    (subst (λ n. IfSome c.rewrite-changed.result.image (λ i. IsFilesImage m n (cell_of name (key_of f.definition r)) (record { name = name; image = i }))) (sym c.keep.ensures.files) (of_this m name _ f there c.rewrite-changed.ensures.undoable))
     (subst (FilesKeep (is_other (cell_of name (key_of f.definition r))) m) (sym c.keep.ensures.files) (of_this m name _ f there c.rewrite-changed.ensures.others))))))

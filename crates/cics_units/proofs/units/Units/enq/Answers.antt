@@ -1,5 +1,5 @@
 use Rattle.std.proofs.Common.{◌≡◌, ◌∙◌, sym, ap, subst, refl, true, None}
-use Rattle.cics_enqueue.specs.Resources.{holder_of, is_full}
+use Rattle.cics_enqueue.specs.Resources.{holder_of, is_full, IsFreeFor}
 use Rattle.cics_units.specs.Execution.{IsOpenOrNone, unit_or_next, outcomes_with, enqueue, after_enqueued, after_enqueue}
 use Rattle.cics_units.specs.Events.{may_act}
 use Rattle.cics_units.specs.Headline.{IsHeadline}
@@ -12,6 +12,7 @@ use Rattle.cics_units.proofs.KeptUnits.{kept_headline}
 use Rattle.cics_units.proofs.ShownUnits.{acts_of, refused_kept, holder_open}
 use Rattle.cics_units.specs.Execution.{IsOpenUnit}
 use Rattle.cics_units.proofs.Enqueuing.{enqueue-waits, enqueue-takes, enqueue-full, enqueued_shown, enqueued_kept, refused_shown}
+use Rattle.cics_units.proofs.TableInPlace.{table_free}
 use Rattle.cics_units.proofs.units.Units.enq.Goals as goal
 
 pub returns-in-Some-clause-done : goal.returns-in-Some-clause-done
@@ -136,3 +137,13 @@ returns-in-Some-clause-holder_open c =
     let s = state_shown u.opening u.trace.items u.outcomes.items u.parts in
     subst (λ w. IsOpenUnit w.state c.in-Some.holder) c.self.view_is
     (holder_open s u.parts.table c.self.invariant.sound c.self.invariant.table c.args.unit c.value-resource.result c.in-Some.holder (sym c.other_holder.ensures ∙ c.in-Some.is))
+
+-- no other unit holds the value, and none holds a prefix
+pub enq-requires-clause-free : goal.enq-requires-clause-free
+enq-requires-clause-free c =
+    let u = c.self.inside in
+    let v = c.args.value.now in
+    let s = state_shown u.opening u.trace.items u.outcomes.items u.parts in
+    subst (IsFreeFor u.parts.table (value_of v)) (sym (c.unit_or_next-acting.ensures ∙ ap (unit_or_next c.args.unit) c.as_slice.ensures.value))
+    (table_free s u.parts.table c.self.invariant.sound c.self.invariant.table c.args.unit (value_of v) refl
+    (ap (λ r. other_holder c.args.unit (holder_of r u.parts.table)) (sym c.value-resource.ensures) ∙ sym c.other_holder.ensures ∙ c.in_default.is))

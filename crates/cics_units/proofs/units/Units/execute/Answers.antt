@@ -1,5 +1,5 @@
-use Rattle.std.proofs.Common.{◌≡◌, ◌∙◌, sym, ap, subst, true, None, [], ◌∷◌, ◌++◌}
-use Rattle.cics_enqueue.specs.Resources.{holder_of}
+use Rattle.std.proofs.Common.{◌≡◌, ◌∙◌, refl, sym, ap, subst, true, None, [], ◌∷◌, ◌++◌}
+use Rattle.cics_enqueue.specs.Resources.{holder_of, IsFreeFor}
 use Rattle.cics_units.specs.Execution.{execution, after_execution, unit_or_next, read_at, outcomes_with, IsOpenUnit, IsOpenOrNone, is_ready_op}
 use Rattle.cics_units.specs.Headline.{IsHeadline}
 use Rattle.cics_units.specs.KeptUnits.{state_shown, AreKept}
@@ -11,6 +11,7 @@ use Rattle.cics_units.specs.Events.{may_act}
 use Rattle.cics_units.specs.declared.ops.Done.TheVariants.{Answered}
 use Rattle.cics_units.proofs.KeptUnits.{kept_headline, ready_fits}
 use Rattle.cics_units.proofs.ShownUnits.{holder_open, acts_of, none_open_of, refused_kept, waits, waits_unchanged, parts_state, parts_kept, answered}
+use Rattle.cics_units.proofs.TableInPlace.{table_free}
 use Rattle.cics_units.proofs.units.Units.execute.Goals as goal
 
 pub returns-in-Some-other_holder-clause-done : goal.returns-in-Some-other_holder-clause-done
@@ -181,3 +182,14 @@ returns-clause-headline c =
     (subst (λ e. AreKept (state_shown u.opening e c.enter.new.outcomes.items c.execute.new.self) c.execute.new.self.stores c.execute.new.self.table) (sym trace)
     (subst (λ o. AreKept (state_shown u.opening (u.trace.items ++ record { unit = unit_or_next c.args.unit u.outcomes.items; op = op; answer = c.in_ok-answer.answer } ∷ []) o c.execute.new.self) c.execute.new.self.stores c.execute.new.self.table) (sym outcomes)
     (parts_kept u.opening u.trace.items u.outcomes.items u.parts c.execute.new.self c.self.invariant c.args.unit op c.requires.file acts none ready c.requires.key c.in_ok-answer.answer right done)))
+
+-- no other unit holds the record, and none holds a prefix
+pub execute-requires-clause-free : goal.execute-requires-clause-free
+execute-requires-clause-free c =
+    let u = c.self.inside in
+    let op = c.args.op.now in
+    let s = state_shown u.opening u.trace.items u.outcomes.items u.parts in
+    let asked : c.record-resource.result ≡ record_of (file_of op) (key_of op) = c.record-resource.ensures ∙ (λ i. record_of (c.in-Some.ensures.file i) ((c.bytes.ensures ∙ c.in-Some.ensures.key) i)) in
+    subst (IsFreeFor u.parts.table (record_of (file_of op) (key_of op))) (sym (c.unit_or_next-acting.ensures ∙ ap (unit_or_next c.args.unit) c.as_slice.ensures.value))
+    (table_free s u.parts.table c.self.invariant.sound c.self.invariant.table c.args.unit (record_of (file_of op) (key_of op)) refl
+    (ap (λ r. other_holder c.args.unit (holder_of r u.parts.table)) (sym asked) ∙ sym c.other_holder.ensures ∙ c.in_default-other_holder.is))

@@ -12,7 +12,7 @@ pub returns-clause-holder : goal.returns-clause-holder
 returns-clause-holder c =
     let u = c.self.inside in
     c.other_holder.ensures
-    ∙ sym (table_holder (state_shown u.opening u.trace.items u.outcomes.items u.parts) u.parts.table c.self.invariant.sound c.self.invariant.table c.args.asking c.args.resource.now)
+    ∙ sym (table_holder (state_shown u.opening u.trace.items u.outcomes.items u.parts) u.parts.table c.self.invariant.sound c.self.invariant.table c.args.asking c.args.resource.now c.requires.key)
     ∙ ap (λ v. first_holder (held_table v.state) c.args.asking c.args.resource.now) c.self.view_is
 
 pub returns-clause-awaits : goal.returns-clause-awaits

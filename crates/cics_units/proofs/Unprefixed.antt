@@ -1,0 +1,98 @@
+-- While no unit holds a prefix of keys, what overlaps is one resource.
+use Rattle.std.proofs.Common.{◌≡◌, ℕ, Bool, true, false, ◌&&◌, ◌||◌, not, List, [], ◌∷◌, refl, ap, sym, ◌∙◌}
+use Rattle.std.specs.Prelude.{if◌then◌else◌, ◌==◌}
+use Rattle.std.specs.List.{list_any}
+use Rattle.std.proofs.lemmas.Bool.{true≢false, and_right, or_from, or_parts}
+use Rattle.std.proofs.lemmas.List.Folds.{list_any-append}
+use Rattle.arrayvec.specs.ArrayVec.{ArrayVec}
+use Rattle.cics_names.specs.Keyed.{Bytes}
+use Rattle.cics_enqueue.specs.Resources.{Table, bytes_of, is_one, overlaps, is_prefix, is_user}
+use Rattle.cics_enqueue.specs.ResourceLaws.{is_one-self, overlaps-plain}
+use Rattle.cics_enqueue.specs.declared.resources.Resource.{Resource}
+use Rattle.cics_enqueue.specs.declared.resources.Resource.TheVariants.{FileKey, TsQueue, TdRead as ReadingEnd, TdWrite as WritingEnd, User, FilePrefix}
+use Rattle.cics_units.specs.Openings.{OpeningState, file_recoverable, queue_logical, has_prefix_in}
+use Rattle.cics_units.specs.Store.{is_normal, is_recoverable}
+use Rattle.cics_units.specs.Holding.{UnitsState, UpdateRead, EnqCount, uses_of, held_by}
+use Rattle.cics_units.specs.TableInPlace.{record_of, value_of, is_holder, IsTableOf}
+use Rattle.cics_units.specs.declared.ops.Op.{Op}
+use Rattle.cics_units.specs.declared.ops.Op.TheVariants.{Write, Rewrite, Delete, DeleteGeneric, ReadUpdate, TsWrite, TsRewrite, TsDelete, TdWrite, TdRead, TdDelete}
+use Rattle.cics_units.specs.declared.ops.Entry.{Entry}
+use Rattle.cics_units.proofs.HeldReads.{any_if_one}
+use Rattle.cics_units.proofs.HeldSums.{in_entries, in_reads, in_counts}
+
+-- a resource that is no record, no queue, no end of a queue and no prefix
+module _ (o : OpeningState) (n : ℕ) (r : Resource) (key : (f k : Bytes) → is_one r (record_of f k) ≡ false) (queue : (q : Bytes) → is_one r (TsQueue q) ≡ false)
+    (reading : (q : Bytes) → is_one r (ReadingEnd q) ≡ false) (writing : (q : Bytes) → is_one r (WritingEnd q) ≡ false)
+    (prefix : (f : Bytes) (p : ArrayVec ℕ) → is_one r (FilePrefix f p) ≡ false) where
+  -- no command uses it
+  pub in_entries-apart : (es : List Entry) → in_entries o n (is_one r) es ≡ false
+  in_entries-apart [] = refl
+  in_entries-apart (e ∷ es) =
+      or_from _ _ (ap_if ((e.unit == n) && (is_normal e.answer.condition && is_recoverable o e.op)) (uses_none e.op)) (in_entries-apart es)
+    where
+      ap_if : (b : Bool) → list_any (is_one r) (uses_of o e.op) ≡ false →
+          list_any (is_one r) (if b then uses_of o e.op else []) ≡ false
+      ap_if true none = none
+      ap_if false none = refl
+
+      named : (b : Bool) (q : Resource) → is_one r q ≡ false → list_any (is_one r) (if b then q ∷ [] else []) ≡ false
+      named b q apart = any_if_one (is_one r) b q ∙ and_right b (is_one r q) apart
+
+      alone : (q : Resource) → is_one r q ≡ false → list_any (is_one r) (q ∷ []) ≡ false
+      alone q apart = or_from _ _ apart refl
+
+      uses_none : (op : Op) → list_any (is_one r) (uses_of o op) ≡ false
+      uses_none (Write f k d) = alone (record_of f k) (key f k)
+      uses_none (Rewrite f k d) = alone (record_of f k) (key f k)
+      uses_none (Delete f k) = alone (record_of f k) (key f k)
+      uses_none (DeleteGeneric f p) = alone (FilePrefix f (bytes_of p)) (prefix f (bytes_of p))
+      uses_none (ReadUpdate f k) = alone (record_of f k) (key f k)
+      uses_none (TsWrite q d) = named (has_prefix_in o.prefixes q) (TsQueue q) (queue q)
+      uses_none (TsRewrite q m d) = named (has_prefix_in o.prefixes q) (TsQueue q) (queue q)
+      uses_none (TsDelete q) = named (has_prefix_in o.prefixes q) (TsQueue q) (queue q)
+      uses_none (TdWrite q d) = named (queue_logical o q) (WritingEnd q) (writing q)
+      uses_none (TdRead q) = named (queue_logical o q) (ReadingEnd q) (reading q)
+      uses_none (TdDelete q) =
+          list_any-append (is_one r) (if queue_logical o q then ReadingEnd q ∷ [] else []) (if queue_logical o q then WritingEnd q ∷ [] else [])
+          ∙ or_from _ _ (named (queue_logical o q) (ReadingEnd q) (reading q)) (named (queue_logical o q) (WritingEnd q) (writing q))
+
+  -- and no update read holds it
+  pub in_reads-apart : (xs : List UpdateRead) → in_reads o n (is_one r) xs ≡ false
+  in_reads-apart [] = refl
+  in_reads-apart (x ∷ xs) =
+      or_from _ _ (any_if_one (is_one r) ((x.unit == n) && not (file_recoverable o x.file)) (record_of x.file x.key)
+      ∙ and_right ((x.unit == n) && not (file_recoverable o x.file)) (is_one r (record_of x.file x.key)) (key x.file x.key)) (in_reads-apart xs)
+
+-- what isn't a value isn't one
+pub not_value : (r : Resource) (v : Bytes) → is_user r ≡ false → is_one r (value_of v) ≡ false
+not_value (User w) v other = absurd (true≢false other)
+not_value (FileKey f k) v other = refl
+not_value (TsQueue q) v other = refl
+not_value (ReadingEnd q) v other = refl
+not_value (WritingEnd q) v other = refl
+not_value (FilePrefix f p) v other = refl
+
+pub in_counts-other : (o : OpeningState) (n : ℕ) (r : Resource) → is_user r ≡ false → (cs : List EnqCount) → in_counts o n (is_one r) cs ≡ false
+in_counts-other o n r other [] = refl
+in_counts-other o n r other (c ∷ cs) =
+    or_from _ _ (any_if_one (is_one r) (c.unit == n) (value_of c.value) ∙ and_right (c.unit == n) (is_one r (value_of c.value)) (not_value r c.value other))
+    (in_counts-other o n r other cs)
+
+-- while no unit holds a prefix, what a unit holds of what overlaps another resource is that resource
+pub same_overlaps : (s : UnitsState) (t : Table) → IsTableOf s t → (r : Resource) → is_prefix r ≡ false → (n : ℕ) →
+    list_any (overlaps r) (held_by s n) ≡ list_any (is_one r) (held_by s n)
+same_overlaps s t k r plain n = each (held_by s n) (λ f p. k.holders (FilePrefix f p) n ∙ ap (is_holder n) (k.keys_alone f p))
+  where
+    one : (q : Resource) → ((f : Bytes) (p : ArrayVec ℕ) → is_one (FilePrefix f p) q ≡ false) → overlaps r q ≡ is_one r q
+    one (FilePrefix f p) none = absurd (true≢false (sym (is_one-self (FilePrefix f p)) ∙ none f p))
+    one (FileKey f k) none = overlaps-plain r (FileKey f k) plain refl
+    one (TsQueue q) none = overlaps-plain r (TsQueue q) plain refl
+    one (ReadingEnd q) none = overlaps-plain r (ReadingEnd q) plain refl
+    one (WritingEnd q) none = overlaps-plain r (WritingEnd q) plain refl
+    one (User v) none = overlaps-plain r (User v) plain refl
+
+    each : (qs : List Resource) → ((f : Bytes) (p : ArrayVec ℕ) → list_any (is_one (FilePrefix f p)) qs ≡ false) →
+        list_any (overlaps r) qs ≡ list_any (is_one r) qs
+    each [] none = refl
+    each (q ∷ qs) none = λ i. one q (λ f p. (or_parts (is_one (FilePrefix f p) q) (list_any (is_one (FilePrefix f p)) qs) (none f p)).0) i
+        || each qs (λ f p. (or_parts (is_one (FilePrefix f p) q) (list_any (is_one (FilePrefix f p)) qs) (none f p)).1) i
