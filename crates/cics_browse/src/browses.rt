@@ -63,8 +63,10 @@ fn nothing(condition: Condition) -> Browsed
 }
 
 impl Browse {
-    ghost use Rattle.cics_browse.specs.Positions.{finds_start, start_at, reset_condition, after_reset};
-    ghost use Rattle.cics_browse.specs.Positions.{read_next, after_next, read_prev, after_prev, reply_of, position_after};
+    ghost use Rattle.cics_browse.specs.Positions.{finds_start, start_at, reset_condition};
+    ghost use Rattle.cics_browse.specs.Positions.{after_reset};
+    ghost use Rattle.cics_browse.specs.Positions.{read_next, after_next, read_prev, after_prev};
+    ghost use Rattle.cics_browse.specs.Positions.{reply_of, position_after};
 
     /// STARTBR: a browse whose position is the key, or None where its start isn't found, which is
     /// NOTFND. The key moves in, and no memory is taken.
@@ -193,7 +195,8 @@ fn is_all_high(key: &[u8]) -> bool
     key.iter().all(|b| *b == 255)
 }
 
-ghost use Rattle.cics_browse.specs.Positions.{finds_start as found_at, prev_entry_at, prev_none, only_same};
+ghost use Rattle.cics_browse.specs.Positions.{finds_start as found_at, prev_entry_at, prev_none};
+ghost use Rattle.cics_browse.specs.Positions.{only_same};
 
 /// Whether STARTBR or RESETBR finds its start.
 fn finds<F: Ordered>(file: &F, key: &[u8], generic: bool, equal: bool) -> bool

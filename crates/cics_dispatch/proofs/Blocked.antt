@@ -7,21 +7,23 @@ use Rattle.std.proofs.lemmas.List.Folds.{list_any-append}
 use Rattle.indexmap.specs.IndexSet.{insert_key}
 use Rattle.std.proofs.lemmas.List.Elements.{All-nil, All-cons, All-head, All-tail}
 use Rattle.cics_names.specs.Keyed.{Bytes, is_same}
-use Rattle.cics_enqueue.specs.Resources.{Table, bytes_of, overlaps, is_other}
+use Rattle.cics_enqueue.specs.Resources.{bytes_of, overlaps, is_other, is_prefix}
 use Rattle.cics_enqueue.specs.declared.resources.Resource.{Resource}
 use Rattle.cics_enqueue.specs.declared.resources.Resource.TheVariants.{User}
-use Rattle.cics_units.specs.Holding.{UnitsState, uses_of, held_by, held_table, units_from, first_holder, first_some, holder_among, writer_awaited, awaited}
+use Rattle.cics_units.specs.Holding.{UnitsState, uses_of, held_by, held_table, first_holder, first_some, holder_among, writer_awaited, awaited}
 use Rattle.cics_units.specs.Execution.{IsOpenUnit}
 use Rattle.cics_units.specs.Events.{is_live}
+use Rattle.cics_units.specs.TableInPlace.{record_of, file_of, key_of}
 use Rattle.cics_units.specs.declared.ops.Op.{Op}
 use Rattle.cics_units.specs.declared.ops.Op.TheVariants.{Write, Rewrite, Delete, ReadUpdate}
 use Rattle.cics_units.proofs.Waiting.{none_first, none_either, in_table}
 use Rattle.cics_units.proofs.Holders.{any_only}
+use Rattle.cics_units.proofs.States.{holder_holds}
 use Rattle.cics_dispatch.specs.Machine.{Machine, Task, Suspended, task_at}
 use Rattle.cics_dispatch.specs.Steps.{op_of}
 use Rattle.cics_names.specs.Commands.{asks_no_queue}
 use Rattle.cics_dispatch.specs.Waits.{wait_of}
-use Rattle.cics_dispatch.specs.Waking.{holder_for, may_go_on, first_free, is_late, first_late}
+use Rattle.cics_dispatch.specs.Waking.{holder_for, resource_for, may_go_on, first_free, is_late, first_late}
 use Rattle.cics_dispatch.specs.Settled.{is_among, AreAmong, needs_of, holds_one, IsBlocked, IsInTime}
 use Rattle.cics_names.specs.declared.commands.Verb.{Verb}
 use Rattle.cics_names.specs.declared.commands.Verb.TheVariants.{Enq}
@@ -32,31 +34,11 @@ use Rattle.cics_dispatch.proofs.Ready.{is_file_op, is_file_op_of}
 
 -- ---- A unit that is found holds what was asked for
 
--- among what one unit holds, or later
-found_row : (k : ℕ) (rs : List Resource) (rest : Table) (u : Option ℕ) (r : Resource) (h : ℕ) →
-    first_holder (map (λ y. (y, record { unit = k; count = 1 })) rs ++ rest) u r ≡ Some h →
-    ((k ≡ h) × (is_other u k ≡ true) × (list_any (overlaps r) rs ≡ true)) ⊎ (first_holder rest u r ≡ Some h)
-found_row k [] rest u r h is = inr is
-found_row k (y ∷ rs) rest u r h is =
-    elim (overlaps r y && is_other u k) as
-    (λ b. (overlaps r y && is_other u k) ≡ b → cond b (Some k) (first_holder (map (λ y. (y, record { unit = k; count = 1 })) rs ++ rest) u r) ≡ Some h →
-    ((k ≡ h) × (is_other u k ≡ true) × (list_any (overlaps r) (y ∷ rs) ≡ true)) ⊎ (first_holder rest u r ≡ Some h)) [
-      | true ↦ λ both is. let same : k ≡ h = cc in let parts = and_parts (overlaps r y) (is_other u k) both in inl (same, parts.1, or_left _ _ parts.0)
-      | false ↦ λ no is. elim (found_row k rs rest u r h is) [ inl own ↦ inl (own.0, own.1, or_right _ _ own.2) | inr later ↦ inr later ]
-    ] refl is
-
-found_holds : (s : UnitsState) (u : Option ℕ) (r : Resource) (h : ℕ) (ks : List ℕ) →
-    first_holder (flat_map (λ k. map (λ y. (y, record { unit = k; count = 1 })) (held_by s k)) ks) u r ≡ Some h →
-    (is_other u h ≡ true) × (list_any (overlaps r) (held_by s h) ≡ true)
-found_holds s u r h [] is = cc
-found_holds s u r h (k ∷ ks) is =
-    elim (found_row k (held_by s k) (flat_map (λ k. map (λ y. (y, record { unit = k; count = 1 })) (held_by s k)) ks) u r h is) [
-      | inl own ↦ (
-        subst (λ n. is_other u n ≡ true) own.0 own.1,
-        subst (λ n. list_any (overlaps r) (held_by s n) ≡ true) own.0 own.2,
-      )
-      | inr later ↦ found_holds s u r h ks later
-    ]
+-- what a command asks for is no prefix of keys
+pub resource_plain : (verb : Verb) (o : Option Op) (r : Resource) → Some r ≡ resource_for verb o → is_prefix r ≡ false
+resource_plain verb (Some op) r is = let same : r ≡ record_of (file_of op) (key_of op) = cc in ap is_prefix same
+resource_plain (Enq value n nosuspend) None r is = let same : r ≡ User (bytes_of (take n value)) = cc in ap is_prefix same
+resource_plain _ None r is = cc
 
 -- one of two
 either_some : {X : Type 0} (x y : Option X) (h : X) → first_some x y ≡ Some h → (x ≡ Some h) ⊎ (y ≡ Some h)
@@ -68,7 +50,7 @@ found_among : (s : UnitsState) (u : Option ℕ) (h : ℕ) (rs : List Resource) �
 found_among s u h [] is = cc
 found_among s u h (r ∷ rs) is =
     elim (either_some (first_holder (held_table s) u r) (holder_among (held_table s) u rs) h is) [
-      | inl first ↦ let found = found_holds s u r h (units_from 0 s.outcomes) first in (found.0, or_left _ _ found.1)
+      | inl first ↦ let found = holder_holds s u r h first in (found.0, or_left _ _ found.1)
       | inr later ↦ let found = found_among s u h rs later in (found.0, or_right _ _ found.1)
     ]
 
@@ -93,7 +75,7 @@ found_for : (m : Machine) (t : Task) (h : ℕ) (verb : Verb) (o : Option Op) →
     (is_other t.unit h ≡ true) × (holds_one m.units h (needs_of m.units.opening verb o) ≡ true)
 found_for m t h verb (Some o) on_file is = found_awaited m.units t.unit h o (on_file o refl) is
 found_for m t h (Enq value n nosuspend) None on_file is =
-    let found = found_holds m.units t.unit (User (bytes_of (take n value))) h (units_from 0 m.units.outcomes) is in
+    let found = holder_holds m.units t.unit (User (bytes_of (take n value))) h is in
     (found.0, or_left _ _ found.1)
 found_for m t h verb None on_file is = cc
 

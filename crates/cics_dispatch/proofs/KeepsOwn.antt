@@ -7,6 +7,7 @@ use Rattle.std.proofs.lemmas.List.Folds.{list_any-append}
 use Rattle.cics_names.specs.Keyed.{Bytes, is_same, is_below}
 use Rattle.cics_names.specs.KeyedLaws.{is_same-eq}
 use Rattle.cics_names.specs.declared.conditions.Condition.{Condition}
+use Rattle.cics_ksds.specs.Prefixes.{has_prefix}
 use Rattle.cics_enqueue.specs.Resources.{bytes_of}
 use Rattle.cics_enqueue.specs.declared.resources.Resource.{Resource}
 use Rattle.cics_enqueue.specs.declared.resources.Resource.TheVariants.{FileKey, User}
@@ -17,7 +18,7 @@ use Rattle.cics_units.specs.Holding.{UnitsState, UpdateRead, EnqCount, held_by_e
 use Rattle.cics_units.specs.Execution.{unit_or_next, outcomes_with, is_read_of, is_read_before, with_read, covers, opened, reads_after, entered, is_count, counted, with_counts, after_unlock}
 use Rattle.cics_units.specs.Events.{is_live}
 use Rattle.cics_units.specs.declared.ops.Op.{Op}
-use Rattle.cics_units.specs.declared.ops.Op.TheVariants.{Write, Rewrite, Delete, ReadUpdate, TsWrite, TsRewrite, TsDelete, TdWrite, TdRead, TdDelete}
+use Rattle.cics_units.specs.declared.ops.Op.TheVariants.{Write, Rewrite, Delete, DeleteGeneric, ReadUpdate, TsWrite, TsRewrite, TsDelete, TdWrite, TdRead, TdDelete}
 use Rattle.cics_units.specs.declared.ops.Answer.{Answer}
 use Rattle.cics_units.proofs.Outcomes.{outcome_of-with}
 use Rattle.cics_units.proofs.Waiting.{any_flat_map}
@@ -97,6 +98,7 @@ more_read f p r (x ∷ xs) has =
 abbrev pub gives_up_nothing : OpeningState → Op → Bool
 gives_up_nothing o (Rewrite f k d) = file_recoverable o f
 gives_up_nothing o (Delete f k) = file_recoverable o f
+gives_up_nothing o (DeleteGeneric f p) = file_recoverable o f
 gives_up_nothing o _ = true
 
 -- an update read of a recoverable file holds nothing
@@ -117,6 +119,9 @@ covered_nothing o u v (Rewrite f k d) keeps r is =
     read_recoverable o v r f (and_parts (r.unit == u) (is_same r.file f) own.0).1 keeps
 covered_nothing o u v (Delete f k) keeps r is =
     let own = and_parts (is_read_of u f r) (is_same r.key k) (opposite _ is) in
+    read_recoverable o v r f (and_parts (r.unit == u) (is_same r.file f) own.0).1 keeps
+covered_nothing o u v (DeleteGeneric f p) keeps r is =
+    let own = and_parts (is_read_of u f r) (has_prefix p r.key) (opposite _ is) in
     read_recoverable o v r f (and_parts (r.unit == u) (is_same r.file f) own.0).1 keeps
 covered_nothing o u v (Write f k d) keeps r is = cc
 covered_nothing o u v (ReadUpdate f k) keeps r is = cc

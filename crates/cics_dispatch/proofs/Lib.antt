@@ -27,3 +27,4 @@ pub mod KeptHeld
 pub mod Remembered
 mod RegionRemembers
 pub mod FewerWaits
+pub mod Elements

@@ -5,13 +5,14 @@ use Rattle.std.proofs.lemmas.Bool.{false≢true, and_parts, and_from, ltb-true, 
 use Rattle.std.proofs.lemmas.List.{length-set}
 use Rattle.cics_names.specs.Keyed.{Bytes, is_same}
 use Rattle.cics_names.specs.declared.conditions.Condition.{Condition}
+use Rattle.cics_ksds.specs.Prefixes.{has_prefix}
 use Rattle.cics_units.specs.Store.{is_normal}
 use Rattle.cics_units.specs.History.{outcome_of, is_open}
 use Rattle.cics_units.specs.Holding.{UnitsState, UpdateRead, EnqCount}
 use Rattle.cics_units.specs.Execution.{unit_or_next, outcomes_with, is_read_of, read_at, is_read_before, with_read, covers, opened, reads_after, entered, with_counts, after_unlock, after_dequeue, after_end}
 use Rattle.cics_units.specs.Events.{may_act, is_live}
 use Rattle.cics_units.specs.declared.ops.Op.{Op}
-use Rattle.cics_units.specs.declared.ops.Op.TheVariants.{Write, Rewrite, Delete, ReadUpdate, TsWrite, TsRewrite, TsDelete, TdWrite, TdRead, TdDelete}
+use Rattle.cics_units.specs.declared.ops.Op.TheVariants.{Write, Rewrite, Delete, DeleteGeneric, ReadUpdate, TsWrite, TsRewrite, TsDelete, TdWrite, TdRead, TdDelete}
 use Rattle.cics_units.specs.declared.ops.Answer.{Answer}
 use Rattle.cics_units.specs.declared.ops.UnitState.{UnitState}
 use Rattle.cics_units.specs.declared.ops.UnitState.TheVariants.{Open}
@@ -61,6 +62,7 @@ covers_own : (u v : ℕ) (op : Op) → u ≢ v → (r : UpdateRead) → (r.unit 
 covers_own u v (Rewrite f k d) apart r own = ap (λ b. not ((b && is_same r.file f) && is_same r.key k)) (other_unit u v r.unit apart own)
 covers_own u v (Delete f k) apart r own = ap (λ b. not ((b && is_same r.file f) && is_same r.key k)) (other_unit u v r.unit apart own)
 covers_own u v (Write f k d) apart r own = refl
+covers_own u v (DeleteGeneric f p) apart r own = ap (λ b. not ((b && is_same r.file f) && has_prefix p r.key)) (other_unit u v r.unit apart own)
 covers_own u v (ReadUpdate f k) apart r own = refl
 covers_own u v (TsWrite q d) apart r own = refl
 covers_own u v (TsRewrite q n d) apart r own = refl

@@ -14,7 +14,7 @@ use Rattle.cics_units.specs.Holding.{UnitsState, UpdateRead, EnqCount, uses_of, 
 use Rattle.cics_units.specs.Execution.{unit_or_next, outcomes_with, is_read_of, is_read_before, with_read, covers, opened, reads_after, entered, is_count, counted, uncounted, with_counts, after_unlock, after_dequeue, after_end}
 use Rattle.cics_units.specs.Events.{is_live}
 use Rattle.cics_units.specs.declared.ops.Op.{Op}
-use Rattle.cics_units.specs.declared.ops.Op.TheVariants.{Write, Rewrite, Delete, ReadUpdate, TsWrite, TsRewrite, TsDelete, TdWrite, TdRead, TdDelete}
+use Rattle.cics_units.specs.declared.ops.Op.TheVariants.{Write, Rewrite, Delete, DeleteGeneric, ReadUpdate, TsWrite, TsRewrite, TsDelete, TdWrite, TdRead, TdDelete}
 use Rattle.cics_units.specs.declared.ops.Answer.{Answer}
 use Rattle.cics_units.specs.declared.ops.Entry.{Entry}
 use Rattle.cics_units.specs.declared.ops.UnitState.{UnitState}
@@ -75,6 +75,7 @@ covered_own u op r is = by op (opposite (covers u op r) is)
     by (Rewrite f k d) is = eqb-true r.unit u (and_parts _ _ (and_parts _ _ is).0).0
     by (Delete f k) is = eqb-true r.unit u (and_parts _ _ (and_parts _ _ is).0).0
     by (Write f k d) is = cc
+    by (DeleteGeneric f p) is = eqb-true r.unit u (and_parts _ _ (and_parts _ _ is).0).0
     by (ReadUpdate f k) is = cc
     by (TsWrite q d) is = cc
     by (TsRewrite q n d) is = cc

@@ -13,7 +13,7 @@ use Rattle.cics_browse.specs.Positions.{Position, read_next, after_next, read_pr
 use Rattle.cics_browse.specs.declared.browses.Browsed.{Browsed}
 use Rattle.cics_tempstor.specs.Queues.{has_item}
 use Rattle.cics_enqueue.specs.Resources.{most_count}
-use Rattle.cics_enqueue.proofs.Entries.{get-set, get-pushed}
+use Rattle.cics_dispatch.proofs.Elements.{get-set, get-pushed}
 use Rattle.cics_units.specs.Openings.{OpeningState}
 use Rattle.cics_units.specs.Store.{ts_queue}
 use Rattle.cics_units.specs.History.{outcome_of, is_open}

@@ -22,11 +22,12 @@ use Rattle.cics_names.specs.Commands.{file_named, asks_no_queue}
 use Rattle.cics_names.specs.declared.commands.Verb.{Verb}
 use Rattle.cics_names.specs.declared.commands.Verb.TheVariants.{Read, Write, Rewrite, Delete}
 
--- a command on a record of a file
+-- a command on one record of a file
 abbrev pub is_file_op : Op → Bool
 is_file_op (op.Write f k r) = true
 is_file_op (op.Rewrite f k r) = true
 is_file_op (op.Delete f k) = true
+is_file_op (op.DeleteGeneric f p) = false
 is_file_op (op.ReadUpdate f k) = true
 is_file_op (op.TsWrite q d) = false
 is_file_op (op.TsRewrite q n d) = false

@@ -2,10 +2,11 @@
 use Rattle.std.specs.Prelude.{◌≡◌, ℕ, ◌<◌, IfNone, IfOk, OnOk, Result, Ok, Err, if◌then◌else◌, Bool, true, false, Option, Some, None, is_some, slice_get, length, List, [], refl}
 use Rattle.std.proofs.Common.{sym, ap, ◌∙◌, subst, arith, inl, inr, ◌≤◌}
 use Rattle.std.proofs.lemmas.Option.{slice_get_cases, slice_get_within}
-use Rattle.cics_units.specs.Execution.{UnitsValue, unit_or_next, execution, after_execution, done_of, state_of}
+use Rattle.cics_units.specs.Execution.{UnitsValue, unit_or_next, execution, after_execution, done_of, state_of, IfMustWait, IsOpenUnit}
 use Rattle.cics_units.specs.Holding.{UnitsState, awaited}
 use Rattle.cics_units.specs.declared.ops.Op.{Op}
 use Rattle.cics_units.specs.declared.ops.Answer.{Answer}
+use Rattle.cics_units.specs.declared.ops.Done.{Done}
 use Rattle.cics_units.specs.declared.ops.Done.TheVariants.{Answered, MustWait}
 use Rattle.cics_units.specs.Headline.{IsHeadline}
 use Rattle.cics_units.specs.declared.ops.UnitState.{UnitState}
@@ -95,6 +96,12 @@ waits_state s u o holder = by (awaited s u o)
       where
         never : done_of s u o None ≡ MustWait holder → ⊥
         never e = cc
+
+-- so the unit that it has to wait for is open still
+pub waits_open : (s next : UnitsState) (u : Option ℕ) (o : Op) (d : Done) (h : ℕ) → next ≡ after_execution s u o → d ≡ execution s u o →
+    d ≡ MustWait h → IfMustWait d (IsOpenUnit s) → IsOpenUnit next h
+waits_open s next u o d h state done is live =
+    subst (λ n. IsOpenUnit n h) (sym (state ∙ waits_state s u o h (sym done ∙ is))) (subst (λ x. IfMustWait x (IsOpenUnit s)) is live)
 
 -- a command is executed in its task's unit, or in the next one
 pub acts_in : (s : UnitsState) (u : Option ℕ) (o : Op) (unit : ℕ) (a : Answer) → execution s u o ≡ Answered unit a → unit_or_next u s.outcomes ≡ unit

@@ -3,6 +3,7 @@ pub mod Replies
 pub mod Machine
 pub mod Checks
 pub mod Steps
+pub mod Calls
 pub mod Faults
 pub mod Updates
 pub mod Waking

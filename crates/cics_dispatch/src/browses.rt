@@ -1,10 +1,10 @@
 //! The browses of a task, by file.
 
 ghost use Rattle.std.specs.Prelude.{◌≡◌, [], OnOk, OnErr, IfOk};
-ghost use Rattle.std.specs.Option.{option_copied, option_map};
+ghost use Rattle.std.specs.Option.{option_copied};
 ghost use Rattle.cics_names.specs.Keyed.{value_at, with_value, without};
-ghost use Rattle.cics_browse.specs.Positions.{reset_condition, after_reset, read_next, after_next, read_prev, after_prev};
-ghost use Rattle.cics_dispatch.specs.Browses.{moved};
+ghost use Rattle.cics_dispatch.specs.Browses.{reset_told, reset_moved, next_told, next_moved};
+ghost use Rattle.cics_dispatch.specs.Browses.{prev_told, prev_moved};
 
 use cics_browse::{Browse, Browsed};
 use cics_ksds::File;
@@ -88,8 +88,8 @@ impl Browses {
         generic: bool,
         equal: bool,
     ) -> Option<Condition>
-        ensures condition { result ≡ option_map (λ p. reset_condition records.now.records key generic equal) (value_at file.now self.old) }
-        ensures position { self.new ≡ moved (λ p. after_reset records.now.records p key generic equal) file.now (value_at file.now self.old) self.old }
+        ensures condition { result ≡ reset_told records.now.records key generic equal file.now self.old }
+        ensures position { self.new ≡ reset_moved records.now.records key generic equal file.now self.old }
     {
         let browse = self.rows.get_mut(file)?;
         Some(browse.reset(records, key, generic, equal))
@@ -100,8 +100,8 @@ impl Browses {
     /// `records` is the file itself as it stands. `Err` comes only where memory for the copies is refused, and then
     /// the position stays.
     pub(crate) fn next(&mut self, file: &Name8, records: &File) -> Result<Option<Browsed>, NoMemory>
-        ensures reply { IfOk result (λ reply. reply ≡ option_map (read_next records.now.records) (value_at file.now self.old)) }
-        ensures position { OnOk result (self.new ≡ moved (after_next records.now.records) file.now (value_at file.now self.old) self.old) }
+        ensures reply { IfOk result (λ reply. reply ≡ next_told records.now.records file.now self.old) }
+        ensures position { OnOk result (self.new ≡ next_moved records.now.records file.now self.old) }
         ensures err { OnErr result (self.new ≡ self.old) }
     {
         let Some(browse) = self.rows.get_mut(file) else {
@@ -115,8 +115,8 @@ impl Browses {
     /// `records` is the file itself as it stands. `Err` comes only where memory for the copies is refused, and then
     /// the position stays.
     pub(crate) fn prev(&mut self, file: &Name8, records: &File) -> Result<Option<Browsed>, NoMemory>
-        ensures reply { IfOk result (λ reply. reply ≡ option_map (read_prev records.now.records) (value_at file.now self.old)) }
-        ensures position { OnOk result (self.new ≡ moved (after_prev records.now.records) file.now (value_at file.now self.old) self.old) }
+        ensures reply { IfOk result (λ reply. reply ≡ prev_told records.now.records file.now self.old) }
+        ensures position { OnOk result (self.new ≡ prev_moved records.now.records file.now self.old) }
         ensures err { OnErr result (self.new ≡ self.old) }
     {
         let Some(browse) = self.rows.get_mut(file) else {

@@ -2,11 +2,12 @@
 
 ghost use Rattle.std.specs.Prelude.{◌≡◌, IsTrue, IfOk, Some, None, if◌then◌else◌};
 ghost use Rattle.std.specs.Option.{option_copied};
-ghost use Rattle.cics_names.specs.Keyed.{is_same};
-ghost use Rattle.cics_ksds.specs.Files.{key_of, fits_file};
-ghost use Rattle.cics_dispatch.specs.Lengths.{is_length_given, is_key_length, key_fault, is_within, used_of, from_fault, own_key_fault, write_fault};
-ghost use Rattle.cics_dispatch.specs.Checks.{resource_fault, read_fault, rewrite_fault, delete_fault};
-ghost use Rattle.cics_dispatch.specs.Faults.{startbr_fault, resetbr_fault, absent_fault, backward_fault};
+ghost use Rattle.cics_dispatch.specs.Lengths.{is_length_given, key_fault, is_within, used_of};
+ghost use Rattle.cics_dispatch.specs.Lengths.{write_fault};
+ghost use Rattle.cics_dispatch.specs.Checks.{resource_fault, read_fault, rewrite_fault};
+ghost use Rattle.cics_dispatch.specs.Checks.{delete_fault};
+ghost use Rattle.cics_dispatch.specs.Faults.{startbr_fault, resetbr_fault, absent_fault};
+ghost use Rattle.cics_dispatch.specs.Faults.{backward_fault};
 
 use cics_ksds::FileDef;
 use cics_names::{Condition, NoMemory, Record};
@@ -45,7 +46,8 @@ pub(crate) fn key_fault(
 
 // The bytes of FROM that LENGTH uses, if it is from 1 to their count.
 fn used(from: &[u8], length: Option<u64>) -> Option<&[u8]>
-    ensures { option_copied result ≡ (if is_within from.now length then Some (used_of from.now length) else None) }
+    ensures { option_copied result
+        ≡ (if is_within from.now length then Some (used_of from.now length) else None) }
 {
     match length {
         None => Some(from),
@@ -97,7 +99,8 @@ pub(crate) fn read_fault(
     gteq: bool,
     update: bool,
 ) -> Option<Condition>
-    ensures { result ≡ read_fault definition (option_copied open_key.entry) key.now given generic gteq update }
+    ensures { result ≡ read_fault definition (option_copied open_key.entry)
+        key.now given generic gteq update }
 {
     if update && (gteq || generic) {
         return Some(Condition::Invreq);
@@ -142,7 +145,8 @@ pub(crate) fn delete_fault(
     ridfld: Option<&Record>,
     given: Option<u64>,
 ) -> Option<Condition>
-    ensures { result ≡ delete_fault definition (option_copied open_key.entry) (option_copied ridfld.entry) given }
+    ensures { result ≡ delete_fault definition (option_copied open_key.entry)
+        (option_copied ridfld.entry) given }
 {
     if let Some(key) = ridfld {
         return key_fault(definition, key.bytes(), given, false);

@@ -6,42 +6,39 @@ mod listing;
 mod performing;
 mod waking;
 
-ghost use Rattle.std.specs.Prelude.{◌≡◌, ◌<◌, ◌≤◌, Bool, true, false, Option, Some, None, option_map, is_none, is_some, take, length, slice_get, IsTrue, IfOk, IfErr, IfSome, IfNone, OnOk, OnErr, if◌then◌else◌, Result, Ok, Err};
+ghost use Rattle.std.specs.Prelude.{◌≡◌, ◌<◌, ◌≤◌, true, false, Option, Some, None, length, IfOk};
+ghost use Rattle.std.specs.Prelude.{IfErr, IfSome, OnOk, OnErr, if◌then◌else◌, Result, Ok, Err};
 ghost use Rattle.std.specs.Option.{option_copied};
-ghost use Rattle.cics_units.specs.Store.{initial_store};
 ghost use Rattle.cics_units.specs.declared.ops.UnitState.TheVariants.{Committed, BackedOut};
-ghost use Rattle.cics_units.specs.declared.ops.Answer.{Answer as AnswerValue};
-ghost use Rattle.cics_dispatch.specs.Machine.{units_after, definition_of, records_in, Machine, Task as TaskValue, RegionValue, beginning_region, task_at, is_waiting, abended, unit_closed, with_waiting, not_waiting};
+ghost use Rattle.cics_dispatch.specs.Machine.{units_after, definition_of, Task as TaskValue};
+ghost use Rattle.cics_dispatch.specs.Machine.{RegionValue, beginning_region, task_at, abended};
+ghost use Rattle.cics_dispatch.specs.Machine.{unit_closed};
 ghost use Rattle.cics_dispatch.specs.Checks.{fault_of, open_key};
-ghost use Rattle.cics_units.specs.Execution.{execution, enqueue, IsOpenUnit, IsOpenOrNone};
+ghost use Rattle.cics_units.specs.Execution.{IsOpenUnit, IsOpenOrNone};
 ghost use Rattle.cics_units.specs.Headline.{IsHeadline};
 ghost use Rattle.cics_units.specs.TableInPlace.{key_of};
-ghost use Rattle.cics_names.specs.declared.conditions.Condition.TheVariants.{Normal};
-ghost use Rattle.cics_dispatch.specs.Replies.{plain, cut, read_reply};
-ghost use Rattle.cics_names.specs.Commands.{length_of, asks_no_queue};
-ghost use Rattle.cics_dispatch.specs.Steps.{unlocked, dequeued, started, reset, browsed, browse_ended, enqueued, Stepped, answered, attached, issued, performed, executed, other_command, op_of, new_task, reply_of, suspended};
-ghost use Rattle.cics_dispatch.specs.Waking.{clock_set, woken, expired, first_free, first_late};
+ghost use Rattle.cics_names.specs.Commands.{asks_no_queue};
+ghost use Rattle.cics_dispatch.specs.Steps.{answered, attached, op_of, suspended};
+ghost use Rattle.cics_dispatch.specs.Waking.{clock_set};
 ghost use Rattle.cics_units.specs.Openings.{file_recoverable};
 ghost use Rattle.cics_dispatch.specs.Regions.{IsRegionKept};
 ghost use Rattle.cics_dispatch.specs.Settled.{is_keeping};
-ghost use Rattle.cics_dispatch.specs.Answers.{IsStep, always, attach_may_want, may_want, is_growing, IsHeadlineRegion, region_listing, replayed_listing};
+ghost use Rattle.cics_dispatch.specs.Answers.{IsStep, attach_may_want, IsHeadlineRegion};
 ghost use Rattle.cics_dispatch.specs.Faults.{is_generic};
 ghost use Rattle.cics_names.specs.Keyed.{value_at};
-ghost use Rattle.cics_browse.specs.Positions.{read_next, after_next, read_prev, after_prev};
 ghost use Rattle.cics_names.specs.declared.commands.Verb.TheVariants.{Enq};
+ghost use Rattle.cics_dispatch.specs.Calls.{OfTask, IsAwake, PassesChecks, IsOutcomeOf, IsLeftBy};
+ghost use Rattle.cics_dispatch.specs.Calls.{executing};
 
 use crate::faults::fault_of_verb;
-use crate::outcomes::{Expired, Outcome, Refused, Reply, Woken};
-use crate::reads::{plain_reply, read_plain};
-use crate::replies::{reply_of_answer, reply_of_browsed};
+use crate::outcomes::{Outcome, Refused, Reply};
+use crate::replies::reply_of_answer;
 use crate::tasks::Tasks;
-use crate::updates::updating;
 use crate::waits::Waits;
-use cics_browse::Browse;
 use cics_enqueue::UnitId;
 use cics_ksds::FileDef;
-use cics_names::{AbendCode, Command, Condition, Items, Name4, Name8, NoMemory, Record, Verb};
-use cics_units::{Done, Enqueued, Listing, Op, Opening, TaskState, UnitState, Units, plain_replay};
+use cics_names::{Command, Condition, Name4, Name8, NoMemory, Record, Verb};
+use cics_units::{Done, Op, Opening, UnitState, Units};
 use std::alloc::Global;
 use std::marker::Model;
 
@@ -73,7 +70,8 @@ impl Model for Dispatcher {
 fn end_unit(units: &mut Units, unit: Option<UnitId>, commits: bool)
     requires is_open { IsOpenOrNone units.old.state unit }
     requires headline { IsHeadline units.old }
-    ensures state { units.new.state ≡ units_after units.old.state unit (if commits then Committed else BackedOut) }
+    ensures state { units.new.state
+        ≡ units_after units.old.state unit (if commits then Committed else BackedOut) }
     ensures headline { IsHeadline units.new }
 {
     let Some(unit) = unit else {
@@ -114,7 +112,8 @@ impl Dispatcher {
 
     /// The open unit of work of the task of a label, if there is one.
     pub(crate) fn unit_of(&self, label: &Name8) -> Option<UnitId>
-        ensures { (t : TaskValue) → task_at self.now.machine.tasks label.now ≡ Some t → result ≡ t.unit }
+        ensures { (t : TaskValue) →
+            task_at self.now.machine.tasks label.now ≡ Some t → result ≡ t.unit }
     {
         let _units = &self.units;
         let at = self.tasks.find(label)?;
@@ -157,7 +156,8 @@ impl Dispatcher {
     /// It is refused where a task has or had the label (`DuplicateLabel`), and else for want of memory
     /// (`NoMemory`). A refusal changes nothing.
     pub fn attach(&mut self, label: Name8, _transaction: Name4, dtimout: u64) -> Result<(), Refused>
-        ensures step { IsStep (attach_may_want self.old.machine label) self.old (attached self.old.machine label dtimout) result self.new }
+        ensures step { IsStep (attach_may_want self.old.machine label) self.old
+            (attached self.old.machine label dtimout) result self.new }
         ensures headline { IsHeadlineRegion self.new }
     {
         let _units = &self.units;
@@ -184,7 +184,8 @@ impl Dispatcher {
     // The key of the record that the task at a place has read for update in a file.
     fn open_key(&self, at: usize, file: &Name8) -> Option<&Record>
         requires within { at < length self.now.machine.tasks }
-        ensures key { (t : TaskValue) → slice_get self.now.machine.tasks at ≡ Some t → option_copied result ≡ open_key self.now.machine t file.now }
+        ensures key { OfTask self.now.machine.tasks at
+            (λ t. option_copied result ≡ open_key self.now.machine t file.now) }
         ensures most { IfSome result (λ key. length key.now ≤ 255) }
     {
         let unit = self.tasks.get(at).unit()?;
@@ -202,7 +203,8 @@ impl Dispatcher {
     // Whether the browse of a file of the task at a place was started with GENERIC, if one is open.
     fn browse(&self, at: usize, name: &Name8) -> Option<bool>
         requires within { at < length self.now.machine.tasks }
-        ensures { (t : TaskValue) → slice_get self.now.machine.tasks at ≡ Some t → result ≡ is_generic (value_at name.now t.browses) }
+        ensures { OfTask self.now.machine.tasks at
+            (λ t. result ≡ is_generic (value_at name.now t.browses)) }
     {
         let browse = self.tasks.get(at).browse(name)?;
         Some(browse.is_generic())
@@ -212,7 +214,8 @@ impl Dispatcher {
     fn fault(&self, at: usize, verb: &Verb) -> Option<Condition>
         requires within { at < length self.now.machine.tasks }
         requires no_queue { asks_no_queue verb.now ≡ true }
-        ensures fault { (t : TaskValue) → slice_get self.now.machine.tasks at ≡ Some t → result ≡ fault_of self.now.machine t verb.now }
+        ensures fault { OfTask self.now.machine.tasks at
+            (λ t. result ≡ fault_of self.now.machine t verb.now) }
     {
         let Some(name) = verb.file() else {
             return fault_of_verb(verb, None, None, None);
@@ -225,8 +228,11 @@ impl Dispatcher {
     // Ends the unit of the task at a place and its browses; the task ends too where that is said.
     fn close(&mut self, at: usize, commits: bool, has_ended: bool)
         requires within { at < length self.old.machine.tasks }
-        requires awake { (t : TaskValue) → slice_get self.old.machine.tasks at ≡ Some t → is_waiting self.old.machine.waiting t.label ≡ false }
-        ensures machine { (t : TaskValue) → slice_get self.old.machine.tasks at ≡ Some t → self.new.machine ≡ unit_closed self.old.machine t (if commits then Committed else BackedOut) has_ended }
+        requires awake { IsAwake self.old.machine at }
+        ensures machine { OfTask self.old.machine.tasks at
+            (λ t. self.new.machine
+            ≡ unit_closed self.old.machine t
+            (if commits then Committed else BackedOut) has_ended) }
         ensures headline { IsHeadlineRegion self.new }
     {
         let unit = self.tasks.close_unit(at, has_ended);
@@ -236,7 +242,8 @@ impl Dispatcher {
     // Abends the task at a place: its unit is backed out, its wait ends, and so does the task.
     fn abend(&mut self, at: usize)
         requires within { at < length self.old.machine.tasks }
-        ensures machine { (t : TaskValue) → slice_get self.old.machine.tasks at ≡ Some t → self.new.machine ≡ abended self.old.machine t }
+        ensures machine { OfTask self.old.machine.tasks at
+            (λ t. self.new.machine ≡ abended self.old.machine t) }
         ensures headline { IsHeadlineRegion self.new }
     {
         let label = self.tasks.get(at).label();
@@ -248,8 +255,9 @@ impl Dispatcher {
     // Tells the task at a place a reply, or abends it for a condition that nothing handles.
     fn answer(&mut self, at: usize, resp: bool, reply: Reply) -> Outcome
         requires within { at < length self.old.machine.tasks }
-        ensures outcome { (t : TaskValue) → slice_get self.old.machine.tasks at ≡ Some t → result ≡ (answered self.old.machine t resp reply).outcome }
-        ensures machine { (t : TaskValue) → slice_get self.old.machine.tasks at ≡ Some t → self.new.machine ≡ (answered self.old.machine t resp reply).machine }
+        ensures outcome { IsOutcomeOf self.old.machine at (λ t. answered self.old.machine t resp reply) result }
+        ensures machine { IsLeftBy self.old.machine at
+            (λ t. answered self.old.machine t resp reply) self.new.machine }
         ensures headline { IsHeadlineRegion self.new }
     {
         let _units = &self.units;
@@ -265,12 +273,14 @@ impl Dispatcher {
     // Makes a command of the task at a place wait, last of all, for a unit that another task has.
     fn suspend(&mut self, at: usize, command: Command, holder: UnitId) -> Result<Outcome, NoMemory>
         requires within { at < length self.old.machine.tasks }
-        requires awake { (t : TaskValue) → slice_get self.old.machine.tasks at ≡ Some t → is_waiting self.old.machine.waiting t.label ≡ false }
-        requires passed { (t : TaskValue) → slice_get self.old.machine.tasks at ≡ Some t → fault_of self.old.machine t command.verb ≡ None }
+        requires awake { IsAwake self.old.machine at }
+        requires passed { PassesChecks self.old.machine at command.verb }
         requires no_queue { asks_no_queue command.verb ≡ true }
         requires is_open { IsOpenUnit self.old.machine.units holder }
-        ensures outcome { IfOk result (λ outcome. (t : TaskValue) → slice_get self.old.machine.tasks at ≡ Some t → outcome ≡ (suspended self.old.machine t command holder).outcome) }
-        ensures machine { OnOk result ((t : TaskValue) → slice_get self.old.machine.tasks at ≡ Some t → self.new.machine ≡ (suspended self.old.machine t command holder).machine) }
+        ensures outcome { IfOk result (IsOutcomeOf self.old.machine at
+            (λ t. suspended self.old.machine t command holder)) }
+        ensures machine { OnOk result (IsLeftBy self.old.machine at
+            (λ t. suspended self.old.machine t command holder) self.new.machine) }
         ensures headline { IsHeadlineRegion self.new }
         ensures err { OnErr result (self.new ≡ self.old) }
     {
@@ -286,13 +296,16 @@ impl Dispatcher {
     // Executes the updating command that a command of the task at a place asks for, or makes it wait.
     fn update(&mut self, at: usize, command: Command, op: &Op) -> Result<Outcome, NoMemory>
         requires within { at < length self.old.machine.tasks }
-        requires awake { (t : TaskValue) → slice_get self.old.machine.tasks at ≡ Some t → is_waiting self.old.machine.waiting t.label ≡ false }
-        requires passed { (t : TaskValue) → slice_get self.old.machine.tasks at ≡ Some t → fault_of self.old.machine t command.verb ≡ None }
+        requires awake { IsAwake self.old.machine at }
+        requires passed { PassesChecks self.old.machine at command.verb }
         requires no_queue { asks_no_queue command.verb ≡ true }
-        requires asked { (t : TaskValue) → slice_get self.old.machine.tasks at ≡ Some t → op_of self.old.machine t command.verb ≡ Some op.now }
+        requires asked { OfTask self.old.machine.tasks at
+            (λ t. op_of self.old.machine t command.verb ≡ Some op.now) }
         requires short { length (key_of op.now) ≤ 255 }
-        ensures outcome { IfOk result (λ outcome. (t : TaskValue) → slice_get self.old.machine.tasks at ≡ Some t → outcome ≡ (executed self.old.machine t command op.now (execution self.old.machine.units t.unit op.now)).outcome) }
-        ensures machine { OnOk result ((t : TaskValue) → slice_get self.old.machine.tasks at ≡ Some t → self.new.machine ≡ (executed self.old.machine t command op.now (execution self.old.machine.units t.unit op.now)).machine) }
+        ensures outcome { IfOk result (IsOutcomeOf self.old.machine at
+            (executing self.old.machine command op.now)) }
+        ensures machine { OnOk result (IsLeftBy self.old.machine at
+            (executing self.old.machine command op.now) self.new.machine) }
         ensures headline { IsHeadlineRegion self.new }
         ensures err { OnErr result (self.new ≡ self.old) }
     {

@@ -2,7 +2,7 @@
 
 ghost use Rattle.std.specs.Prelude.{◌≡◌, IsTrue, IfOk, false};
 ghost use Rattle.cics_browse.specs.Positions.{is_asked_for};
-ghost use Rattle.cics_ksds.specs.Files.{first_from, key_of, fits_file};
+ghost use Rattle.cics_ksds.specs.Files.{key_of, fits_file};
 ghost use Rattle.cics_dispatch.specs.Replies.{read_reply, plain, giving, cut};
 
 use crate::outcomes::Reply;
@@ -60,7 +60,8 @@ pub(crate) fn read_plain(
     generic: bool,
     gteq: bool,
 ) -> Result<Reply, NoMemory>
-    ensures { IfOk result (λ reply. reply ≡ cut length (read_reply file.now.records key.now generic gteq)) }
+    ensures { IfOk result (λ reply. reply
+        ≡ cut length (read_reply file.now.records key.now generic gteq)) }
 {
     let Some(found) = file.first_from(key, false) else {
         return Ok(plain_reply(Condition::Notfnd));

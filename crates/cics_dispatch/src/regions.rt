@@ -4,7 +4,8 @@ ghost use Rattle.std.specs.Prelude.{◌≡◌, ◌&&◌, ◌||◌, not, true, fa
 ghost use Rattle.cics_dispatch.specs.Machine.{beginning_region};
 ghost use Rattle.cics_dispatch.specs.Steps.{attached, issued};
 ghost use Rattle.cics_dispatch.specs.Waking.{clock_set, woken, expired};
-ghost use Rattle.cics_dispatch.specs.Answers.{IsStep, always, attach_may_want, may_want, IsHeadlineRegion, region_listing, replayed_listing};
+ghost use Rattle.cics_dispatch.specs.Answers.{IsStep, always, attach_may_want, may_want};
+ghost use Rattle.cics_dispatch.specs.Answers.{IsHeadlineRegion, region_listing, replayed_listing};
 ghost use Rattle.cics_dispatch.specs.Settled.{is_blocker, goes_on};
 ghost use Rattle.cics_names.specs.Commands.{asks_no_queue};
 
@@ -90,7 +91,8 @@ impl Region {
     /// It is refused where a task has or had the label (`DuplicateLabel`), and else for want of memory
     /// (`NoMemory`). A refusal changes nothing.
     pub fn attach(&mut self, label: Name8, transaction: Name4, dtimout: u64) -> Result<(), Refused>
-        ensures step { IsStep (attach_may_want self.old.machine label) self.old (attached self.old.machine label dtimout) result self.new }
+        ensures step { IsStep (attach_may_want self.old.machine label) self.old
+            (attached self.old.machine label dtimout) result self.new }
         ensures headline { IsHeadlineRegion self.new }
     {
         self.dispatcher.keeps();
@@ -116,7 +118,8 @@ impl Region {
     /// exceptional conditions).
     pub fn issue(&mut self, label: Name8, command: Command) -> Result<Outcome, Refused>
         requires no_queue { IsTrue (asks_no_queue command.verb) }
-        ensures step { IsStep (may_want self.old.machine label command) self.old (issued self.old.machine label command) result self.new }
+        ensures step { IsStep (may_want self.old.machine label command) self.old
+            (issued self.old.machine label command) result self.new }
         ensures headline { IsHeadlineRegion self.new }
     {
         self.dispatcher.keeps();

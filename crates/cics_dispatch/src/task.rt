@@ -1,10 +1,10 @@
 //! A task.
 
 ghost use Rattle.std.specs.Prelude.{◌≡◌, [], None, OnOk, OnErr, IfOk};
-ghost use Rattle.std.specs.Option.{option_copied, option_map};
+ghost use Rattle.std.specs.Option.{option_copied};
 ghost use Rattle.cics_names.specs.Keyed.{value_at, with_value, without};
-ghost use Rattle.cics_browse.specs.Positions.{reset_condition, after_reset, read_next, after_next, read_prev, after_prev};
-ghost use Rattle.cics_dispatch.specs.Browses.{moved};
+ghost use Rattle.cics_dispatch.specs.Browses.{reset_told, reset_moved, next_told, next_moved};
+ghost use Rattle.cics_dispatch.specs.Browses.{prev_told, prev_moved};
 ghost use Rattle.cics_dispatch.specs.Machine.{is_unit, with_unit, with_browses};
 ghost use Rattle.cics_dispatch.specs.Steps.{new_task};
 
@@ -116,7 +116,8 @@ impl Task {
 
     /// Opens a browse of a file, as `Browses::put` does.
     pub(crate) fn put_browse(&mut self, file: Name8, browse: Browse) -> Result<(), NoMemory>
-        ensures ok { OnOk result (self.new ≡ with_browses self.old (with_value file browse self.old.browses)) }
+        ensures ok { OnOk result
+            (self.new ≡ with_browses self.old (with_value file browse self.old.browses)) }
         ensures err { OnErr result (self.new ≡ self.old) }
     {
         self.browses.put(file, browse)
@@ -138,16 +139,19 @@ impl Task {
         generic: bool,
         equal: bool,
     ) -> Option<Condition>
-        ensures condition { result ≡ option_map (λ p. reset_condition records.now.records key generic equal) (value_at file.now self.old.browses) }
-        ensures task { self.new ≡ with_browses self.old (moved (λ p. after_reset records.now.records p key generic equal) file.now (value_at file.now self.old.browses) self.old.browses) }
+        ensures condition { result ≡ reset_told records.now.records key generic equal file.now self.old.browses }
+        ensures task { self.new ≡ with_browses self.old
+            (reset_moved records.now.records key generic equal file.now self.old.browses) }
     {
         self.browses.reset(file, records, key, generic, equal)
     }
 
     /// READNEXT of its browse of a file, as `Browses::next` does.
     pub(crate) fn next(&mut self, file: &Name8, records: &File) -> Result<Option<Browsed>, NoMemory>
-        ensures reply { IfOk result (λ reply. reply ≡ option_map (read_next records.now.records) (value_at file.now self.old.browses)) }
-        ensures task { OnOk result (self.new ≡ with_browses self.old (moved (after_next records.now.records) file.now (value_at file.now self.old.browses) self.old.browses)) }
+        ensures reply { IfOk result (λ reply. reply
+            ≡ next_told records.now.records file.now self.old.browses) }
+        ensures task { OnOk result (self.new ≡ with_browses self.old
+            (next_moved records.now.records file.now self.old.browses)) }
         ensures err { OnErr result (self.new ≡ self.old) }
     {
         self.browses.next(file, records)
@@ -155,8 +159,10 @@ impl Task {
 
     /// READPREV of its browse of a file, as `Browses::prev` does.
     pub(crate) fn prev(&mut self, file: &Name8, records: &File) -> Result<Option<Browsed>, NoMemory>
-        ensures reply { IfOk result (λ reply. reply ≡ option_map (read_prev records.now.records) (value_at file.now self.old.browses)) }
-        ensures task { OnOk result (self.new ≡ with_browses self.old (moved (after_prev records.now.records) file.now (value_at file.now self.old.browses) self.old.browses)) }
+        ensures reply { IfOk result (λ reply. reply
+            ≡ prev_told records.now.records file.now self.old.browses) }
+        ensures task { OnOk result (self.new ≡ with_browses self.old
+            (prev_moved records.now.records file.now self.old.browses)) }
         ensures err { OnErr result (self.new ≡ self.old) }
     {
         self.browses.prev(file, records)

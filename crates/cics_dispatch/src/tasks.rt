@@ -1,13 +1,15 @@
 //! The tasks of a region.
 
-ghost use Rattle.std.specs.Prelude.{◌≡◌, ◌<◌, ℕ, [], ◌∷◌, ◌++◌, Some, None, length, slice_get, unwrap_or, OnOk, OnErr, IfOk, IfSome, IfNone};
-ghost use Rattle.std.specs.Option.{option_map};
-ghost use Rattle.cics_names.specs.Keyed.{value_at, with_value, without};
-ghost use Rattle.cics_browse.specs.Positions.{reset_condition, after_reset, read_next, after_next, read_prev, after_prev};
-ghost use Rattle.cics_dispatch.specs.Browses.{moved};
-ghost use Rattle.cics_dispatch.specs.Machine.{Task as TaskValue, task_at, replaced, label_of, with_unit, with_browses};
+ghost use Rattle.std.specs.Prelude.{◌≡◌, ◌<◌, ℕ, [], ◌∷◌, ◌++◌, Some, None, length, slice_get};
+ghost use Rattle.std.specs.Prelude.{unwrap_or, OnOk, OnErr, IfOk, IfSome, IfNone};
+ghost use Rattle.cics_names.specs.Keyed.{with_value, without};
+ghost use Rattle.cics_dispatch.specs.Browses.{reset_told, reset_moved, next_told, next_moved};
+ghost use Rattle.cics_dispatch.specs.Browses.{prev_told, prev_moved};
+ghost use Rattle.cics_dispatch.specs.Machine.{Task as TaskValue, task_at, replaced, label_of};
+ghost use Rattle.cics_dispatch.specs.Machine.{with_unit, with_browses};
 ghost use Rattle.cics_dispatch.specs.Steps.{new_task};
 ghost use Rattle.cics_dispatch.specs.Tasks.{HasNoOwner};
+ghost use Rattle.cics_dispatch.specs.Calls.{OfTask, HasChanged};
 
 use crate::task::Task;
 use cics_browse::{Browse, Browsed};
@@ -129,7 +131,7 @@ impl Tasks {
     pub(crate) fn begin_unit(&mut self, at: usize, unit: UnitId)
         requires within { at < length self.old }
         requires free { HasNoOwner self.old unit }
-        ensures { (t : TaskValue) → slice_get self.old at ≡ Some t → self.new ≡ replaced self.old (with_unit t unit) }
+        ensures { HasChanged self.old at (λ t. with_unit t unit) self.new }
     {
         self.rows[at].begin_unit(unit);
         let _ = self.owners.insert(unit, at);
@@ -140,9 +142,10 @@ impl Tasks {
     /// It takes no memory after `make_room_for_unit`.
     pub(crate) fn own_unit(&mut self, at: usize, unit: UnitId)
         requires within { at < length self.old }
-        requires free { (t : TaskValue) → slice_get self.old at ≡ Some t → t.unit ≡ None → HasNoOwner self.old unit }
-        requires own { (t : TaskValue) (u : ℕ) → slice_get self.old at ≡ Some t → t.unit ≡ Some u → u ≡ unit }
-        ensures { (t : TaskValue) → slice_get self.old at ≡ Some t → self.new ≡ replaced self.old (with_unit t unit) }
+        requires free { OfTask self.old at (λ t. t.unit ≡ None → HasNoOwner self.old unit) }
+        requires own { (t : TaskValue) (u : ℕ) →
+            slice_get self.old at ≡ Some t → t.unit ≡ Some u → u ≡ unit }
+        ensures { HasChanged self.old at (λ t. with_unit t unit) self.new }
     {
         let _rows = &self.rows;
         if self.get(at).unit().is_none() {
@@ -155,7 +158,8 @@ impl Tasks {
     pub(crate) fn close_unit(&mut self, at: usize, has_ended: bool) -> Option<UnitId>
         requires { at < length self.old }
         ensures unit { (t : TaskValue) → slice_get self.old at ≡ Some t → result ≡ t.unit }
-        ensures task { (t : TaskValue) → slice_get self.old at ≡ Some t → self.new ≡ replaced self.old (record t { unit = None; browses = []; has_ended = has_ended }) }
+        ensures task { HasChanged self.old at
+            (λ t. record t { unit = None; browses = []; has_ended = has_ended }) self.new }
     {
         let unit = self.rows[at].close_unit(has_ended);
         if let Some(ended) = unit {
@@ -174,7 +178,9 @@ impl Tasks {
         browse: Browse,
     ) -> Result<(), NoMemory>
         requires { at < length self.old }
-        ensures ok { (t : TaskValue) → slice_get self.old at ≡ Some t → OnOk result (self.new ≡ replaced self.old (with_browses t (with_value file browse t.browses))) }
+        ensures ok { OfTask self.old at
+            (λ t. OnOk result (self.new
+            ≡ replaced self.old (with_browses t (with_value file browse t.browses)))) }
         ensures err { OnErr result (self.new ≡ self.old) }
     {
         self.rows[at].put_browse(file, browse)
@@ -183,7 +189,7 @@ impl Tasks {
     /// Ends the browse of a file of the task at a place, if one is open. Takes no memory.
     pub(crate) fn end_browse(&mut self, at: usize, file: &Name8)
         requires { at < length self.old }
-        ensures { (t : TaskValue) → slice_get self.old at ≡ Some t → self.new ≡ replaced self.old (with_browses t (without file.now t.browses)) }
+        ensures { HasChanged self.old at (λ t. with_browses t (without file.now t.browses)) self.new }
     {
         self.rows[at].end_browse(file);
     }
@@ -202,8 +208,10 @@ impl Tasks {
         equal: bool,
     ) -> Option<Condition>
         requires { at < length self.old }
-        ensures condition { (t : TaskValue) → slice_get self.old at ≡ Some t → result ≡ option_map (λ p. reset_condition records.now.records key generic equal) (value_at file.now t.browses) }
-        ensures position { (t : TaskValue) → slice_get self.old at ≡ Some t → self.new ≡ replaced self.old (with_browses t (moved (λ p. after_reset records.now.records p key generic equal) file.now (value_at file.now t.browses) t.browses)) }
+        ensures condition { OfTask self.old at (λ t. result
+            ≡ reset_told records.now.records key generic equal file.now t.browses) }
+        ensures position { HasChanged self.old at (λ t. with_browses t
+            (reset_moved records.now.records key generic equal file.now t.browses)) self.new }
     {
         self.rows[at].reset_browse(file, records, key, generic, equal)
     }
@@ -219,8 +227,10 @@ impl Tasks {
         records: &File,
     ) -> Result<Option<Browsed>, NoMemory>
         requires { at < length self.old }
-        ensures reply { (t : TaskValue) → slice_get self.old at ≡ Some t → IfOk result (λ reply. reply ≡ option_map (read_next records.now.records) (value_at file.now t.browses)) }
-        ensures position { (t : TaskValue) → slice_get self.old at ≡ Some t → OnOk result (self.new ≡ replaced self.old (with_browses t (moved (after_next records.now.records) file.now (value_at file.now t.browses) t.browses))) }
+        ensures reply { OfTask self.old at (λ t. IfOk result (λ reply. reply
+            ≡ next_told records.now.records file.now t.browses)) }
+        ensures position { OfTask self.old at (λ t. OnOk result (self.new ≡ replaced self.old
+            (with_browses t (next_moved records.now.records file.now t.browses)))) }
         ensures err { OnErr result (self.new ≡ self.old) }
     {
         self.rows[at].next(file, records)
@@ -238,8 +248,10 @@ impl Tasks {
         records: &File,
     ) -> Result<Option<Browsed>, NoMemory>
         requires { at < length self.old }
-        ensures reply { (t : TaskValue) → slice_get self.old at ≡ Some t → IfOk result (λ reply. reply ≡ option_map (read_prev records.now.records) (value_at file.now t.browses)) }
-        ensures position { (t : TaskValue) → slice_get self.old at ≡ Some t → OnOk result (self.new ≡ replaced self.old (with_browses t (moved (after_prev records.now.records) file.now (value_at file.now t.browses) t.browses))) }
+        ensures reply { OfTask self.old at (λ t. IfOk result (λ reply. reply
+            ≡ prev_told records.now.records file.now t.browses)) }
+        ensures position { OfTask self.old at (λ t. OnOk result (self.new ≡ replaced self.old
+            (with_browses t (prev_moved records.now.records file.now t.browses)))) }
         ensures err { OnErr result (self.new ≡ self.old) }
     {
         self.rows[at].prev(file, records)

@@ -27,7 +27,8 @@ fn rewrite_op(
     from: &Record,
     length: Option<u64>,
 ) -> Result<Option<Op>, NoMemory>
-    ensures { IfOk result (λ op. op ≡ option_map (λ key. Op.Rewrite file key (used_of from.now length)) (option_copied key.entry)) }
+    ensures { IfOk result (λ op. op
+        ≡ option_map (λ key. Op.Rewrite file key (used_of from.now length)) (option_copied key.entry)) }
 {
     let Some(key) = key else {
         return Ok(None);
@@ -41,7 +42,8 @@ fn rewrite_op(
 
 // A DELETE of the record of a key, None without one.
 fn delete_op(file: Name8, key: Option<&Record>) -> Result<Option<Op>, NoMemory>
-    ensures { IfOk result (λ op. op ≡ option_map (λ key. Op.Delete file key) (option_copied key.entry)) }
+    ensures { IfOk result (λ op. op
+        ≡ option_map (λ key. Op.Delete file key) (option_copied key.entry)) }
 {
     let Some(key) = key else {
         return Ok(None);

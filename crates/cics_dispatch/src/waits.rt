@@ -1,6 +1,7 @@
 //! The commands of a region that wait.
 
-ghost use Rattle.std.specs.Prelude.{◌≡◌, ◌↔◌, [], ◌∷◌, ◌++◌, false, length, IsTrue, OnOk, OnErr, IfErr, IfSome, option_map};
+ghost use Rattle.std.specs.Prelude.{◌≡◌, ◌↔◌, [], ◌∷◌, ◌++◌, false, length, IsTrue, OnOk, OnErr};
+ghost use Rattle.std.specs.Prelude.{IfErr, IfSome, option_map};
 ghost use Rattle.std.specs.Option.{option_copied};
 ghost use Rattle.std.specs.Map.Iter.{ShowsInOrder, deref};
 ghost use Rattle.cics_dispatch.specs.Machine.{is_waiting, not_waiting};
@@ -95,7 +96,8 @@ fn add(
 ) -> Result<(), Suspended>
     requires { AreBelow number rows.old.entries }
     ensures ok { OnOk result (rows.new.entries ≡ rows.old.entries ++ (number, suspended) ∷ []) }
-    ensures err { IfErr result (λ back. (back ≡ suspended) × (rows.new.entries ≡ rows.old.entries)) }
+    ensures err { IfErr result (λ back.
+        (back ≡ suspended) × (rows.new.entries ≡ rows.old.entries)) }
 {
     match rows.insert(number, suspended) {
         Ok(_) => Ok(()),
@@ -157,7 +159,8 @@ impl Waits {
     /// waits are as they were then.
     pub(crate) fn push(&mut self, label: Name8, command: Command, since: u64) -> Result<(), Command>
         requires { is_waiting self.old label ≡ false }
-        ensures ok { OnOk result (self.new ≡ self.old ++ record { label = label; command = command; since = since } ∷ []) }
+        ensures ok { OnOk result (self.new
+            ≡ self.old ++ record { label = label; command = command; since = since } ∷ []) }
         ensures err { IfErr result (λ back. (back ≡ command) × (self.new ≡ self.old)) }
     {
         let Some(number) = next_number(&self.rows) else {
@@ -186,7 +189,8 @@ impl Waits {
         since: u64,
     ) -> Result<(), NoMemory>
         requires { is_waiting self.old label ≡ false }
-        ensures ok { OnOk result (self.new ≡ self.old ++ record { label = label; command = command; since = since } ∷ []) }
+        ensures ok { OnOk result (self.new
+            ≡ self.old ++ record { label = label; command = command; since = since } ∷ []) }
         ensures err { OnErr result (self.new ≡ self.old) }
     {
         match self.push(label, command, since) {

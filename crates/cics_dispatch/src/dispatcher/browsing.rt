@@ -1,15 +1,19 @@
 //! Plain READ, UNLOCK and browses of the tasks of a region.
 
-ghost use Rattle.std.specs.Prelude.{◌≡◌, ◌<◌, true, false, Some, if◌then◌else◌, is_some, length, slice_get, IfOk, OnOk, OnErr};
+ghost use Rattle.std.specs.Prelude.{◌≡◌, ◌<◌, true, Some, if◌then◌else◌, is_some, length, IfOk};
+ghost use Rattle.std.specs.Prelude.{OnOk, OnErr};
 ghost use Rattle.cics_names.specs.Keyed.{value_at};
 ghost use Rattle.cics_names.specs.declared.conditions.Condition.TheVariants.{Normal, Notfnd};
 ghost use Rattle.cics_units.specs.Execution.{IsOpenOrNone};
 ghost use Rattle.cics_units.specs.Headline.{IsHeadline};
-ghost use Rattle.cics_browse.specs.Positions.{finds_start, start_at, read_next, after_next, read_prev, after_prev};
-ghost use Rattle.cics_dispatch.specs.Machine.{Machine, definition_of, records_in, is_waiting, replaced, with_units, Task as TaskValue};
-ghost use Rattle.cics_dispatch.specs.Replies.{plain, cut, read_reply};
-ghost use Rattle.cics_dispatch.specs.Steps.{answered, unlocked, started, with_browse, reset, browsed, browse_ended};
+ghost use Rattle.cics_browse.specs.Positions.{finds_start, start_at, read_next, read_prev};
+ghost use Rattle.cics_dispatch.specs.Machine.{Machine, definition_of, replaced, with_units};
+ghost use Rattle.cics_dispatch.specs.Replies.{plain};
+ghost use Rattle.cics_dispatch.specs.Steps.{answered, unlocked, started, with_browse, reset};
+ghost use Rattle.cics_dispatch.specs.Steps.{browsed, browse_ended};
 ghost use Rattle.cics_dispatch.specs.Answers.{IsHeadlineRegion};
+ghost use Rattle.cics_dispatch.specs.Calls.{OfTask, IsAwake, HasBrowse, IsOutcomeOf, IsLeftBy};
+ghost use Rattle.cics_dispatch.specs.Calls.{reading, reading_next, reading_prev};
 
 use crate::dispatcher::Dispatcher;
 use crate::outcomes::Outcome;
@@ -26,7 +30,8 @@ use cics_units::Units;
 fn unlock_file(units: &mut Units, unit: Option<UnitId>, name: &Name8)
     requires is_open { IsOpenOrNone units.old.state unit }
     requires headline { IsHeadline units.old }
-    ensures state { (m : Machine) → with_units m units.new.state ≡ unlocked (with_units m units.old.state) unit name.now }
+    ensures state { (m : Machine) → with_units m units.new.state
+        ≡ unlocked (with_units m units.old.state) unit name.now }
     ensures headline { IsHeadline units.new }
 {
     let Some(unit) = unit else {
@@ -46,8 +51,12 @@ fn open_browse(
     equal: bool,
 ) -> Result<Condition, NoMemory>
     requires { at < length tasks.old }
-    ensures condition { IfOk result (λ condition. condition ≡ (if finds_start file.now.records key generic equal then Normal else Notfnd)) }
-    ensures tasks { (t : TaskValue) → slice_get tasks.old at ≡ Some t → OnOk result (tasks.new ≡ (if finds_start file.now.records key generic equal then replaced tasks.old (with_browse t name (start_at key generic)) else tasks.old)) }
+    ensures condition { IfOk result (λ condition. condition
+        ≡ (if finds_start file.now.records key generic equal then Normal else Notfnd)) }
+    ensures tasks { OfTask tasks.old at (λ t. OnOk result (tasks.new
+        ≡ (if finds_start file.now.records key generic equal
+        then replaced tasks.old (with_browse t name (start_at key generic))
+        else tasks.old))) }
     ensures err { OnErr result (tasks.new ≡ tasks.old) }
 {
     let Some(browse) = Browse::start(file, key, generic, equal) else {
@@ -71,10 +80,11 @@ impl Dispatcher {
     ) -> Result<Outcome, NoMemory>
         requires within { at < length self.old.machine.tasks }
         requires there { is_some (definition_of self.old.machine name.now) ≡ true }
-        ensures outcome { IfOk result (λ outcome. (t : TaskValue) → slice_get self.old.machine.tasks at ≡ Some t →
-            outcome ≡ (answered self.old.machine t resp (cut limit (read_reply (records_in self.old.machine name.now) key.now generic gteq))).outcome) }
-        ensures machine { OnOk result ((t : TaskValue) → slice_get self.old.machine.tasks at ≡ Some t →
-            self.new.machine ≡ (answered self.old.machine t resp (cut limit (read_reply (records_in self.old.machine name.now) key.now generic gteq))).machine) }
+        ensures outcome { IfOk result (IsOutcomeOf self.old.machine at
+            (reading self.old.machine resp name.now key.now limit generic gteq)) }
+        ensures machine { OnOk result (IsLeftBy self.old.machine at
+            (reading self.old.machine resp name.now key.now limit generic gteq)
+            self.new.machine) }
         ensures headline { IsHeadlineRegion self.new }
         ensures err { OnErr result (self.new ≡ self.old) }
     {
@@ -88,9 +98,13 @@ impl Dispatcher {
     // UNLOCK.
     pub(super) fn unlock(&mut self, at: usize, resp: bool, name: &Name8) -> Outcome
         requires within { at < length self.old.machine.tasks }
-        requires awake { (t : TaskValue) → slice_get self.old.machine.tasks at ≡ Some t → is_waiting self.old.machine.waiting t.label ≡ false }
-        ensures outcome { (t : TaskValue) → slice_get self.old.machine.tasks at ≡ Some t → result ≡ (answered (unlocked self.old.machine t.unit name.now) t resp (plain Normal)).outcome }
-        ensures machine { (t : TaskValue) → slice_get self.old.machine.tasks at ≡ Some t → self.new.machine ≡ (answered (unlocked self.old.machine t.unit name.now) t resp (plain Normal)).machine }
+        requires awake { IsAwake self.old.machine at }
+        ensures outcome { IsOutcomeOf self.old.machine at
+            (λ t. answered (unlocked self.old.machine t.unit name.now) t resp
+            (plain Normal)) result }
+        ensures machine { IsLeftBy self.old.machine at
+            (λ t. answered (unlocked self.old.machine t.unit name.now) t resp
+            (plain Normal)) self.new.machine }
         ensures headline { IsHeadlineRegion self.new }
     {
         let unit = self.tasks.get(at).unit();
@@ -109,10 +123,12 @@ impl Dispatcher {
         equal: bool,
     ) -> Result<Outcome, NoMemory>
         requires within { at < length self.old.machine.tasks }
-        requires awake { (t : TaskValue) → slice_get self.old.machine.tasks at ≡ Some t → is_waiting self.old.machine.waiting t.label ≡ false }
+        requires awake { IsAwake self.old.machine at }
         requires there { is_some (definition_of self.old.machine name) ≡ true }
-        ensures outcome { IfOk result (λ outcome. (t : TaskValue) → slice_get self.old.machine.tasks at ≡ Some t → outcome ≡ (started self.old.machine t resp name key generic equal).outcome) }
-        ensures machine { OnOk result ((t : TaskValue) → slice_get self.old.machine.tasks at ≡ Some t → self.new.machine ≡ (started self.old.machine t resp name key generic equal).machine) }
+        ensures outcome { IfOk result (IsOutcomeOf self.old.machine at
+            (λ t. started self.old.machine t resp name key generic equal)) }
+        ensures machine { OnOk result (IsLeftBy self.old.machine at
+            (λ t. started self.old.machine t resp name key generic equal) self.new.machine) }
         ensures headline { IsHeadlineRegion self.new }
         ensures err { OnErr result (self.new ≡ self.old) }
     {
@@ -134,10 +150,14 @@ impl Dispatcher {
         equal: bool,
     ) -> Outcome
         requires within { at < length self.old.machine.tasks }
-        requires awake { (t : TaskValue) → slice_get self.old.machine.tasks at ≡ Some t → is_waiting self.old.machine.waiting t.label ≡ false }
+        requires awake { IsAwake self.old.machine at }
         requires there { is_some (definition_of self.old.machine name.now) ≡ true }
-        ensures outcome { (t : TaskValue) → slice_get self.old.machine.tasks at ≡ Some t → result ≡ (reset self.old.machine t resp name.now key generic equal (value_at name.now t.browses)).outcome }
-        ensures machine { (t : TaskValue) → slice_get self.old.machine.tasks at ≡ Some t → self.new.machine ≡ (reset self.old.machine t resp name.now key generic equal (value_at name.now t.browses)).machine }
+        ensures outcome { IsOutcomeOf self.old.machine at
+            (λ t. reset self.old.machine t resp name.now key generic equal
+            (value_at name.now t.browses)) result }
+        ensures machine { IsLeftBy self.old.machine at
+            (λ t. reset self.old.machine t resp name.now key generic equal
+            (value_at name.now t.browses)) self.new.machine }
         ensures headline { IsHeadlineRegion self.new }
     {
         let Some(file) = self.units.file(name) else {
@@ -157,11 +177,13 @@ impl Dispatcher {
         limit: Option<u64>,
     ) -> Result<Outcome, NoMemory>
         requires within { at < length self.old.machine.tasks }
-        requires awake { (t : TaskValue) → slice_get self.old.machine.tasks at ≡ Some t → is_waiting self.old.machine.waiting t.label ≡ false }
+        requires awake { IsAwake self.old.machine at }
         requires there { is_some (definition_of self.old.machine name.now) ≡ true }
-        requires browsing { (t : TaskValue) → slice_get self.old.machine.tasks at ≡ Some t → is_some (value_at name.now t.browses) ≡ true }
-        ensures outcome { IfOk result (λ outcome. (t : TaskValue) → slice_get self.old.machine.tasks at ≡ Some t → outcome ≡ (browsed self.old.machine t resp name.now limit (value_at name.now t.browses) (read_next (records_in self.old.machine name.now)) (after_next (records_in self.old.machine name.now))).outcome) }
-        ensures machine { OnOk result ((t : TaskValue) → slice_get self.old.machine.tasks at ≡ Some t → self.new.machine ≡ (browsed self.old.machine t resp name.now limit (value_at name.now t.browses) (read_next (records_in self.old.machine name.now)) (after_next (records_in self.old.machine name.now))).machine) }
+        requires browsing { HasBrowse self.old.machine at name.now }
+        ensures outcome { IfOk result (IsOutcomeOf self.old.machine at
+            (reading_next self.old.machine resp name.now limit)) }
+        ensures machine { OnOk result (IsLeftBy self.old.machine at
+            (reading_next self.old.machine resp name.now limit) self.new.machine) }
         ensures headline { IsHeadlineRegion self.new }
         ensures err { OnErr result (self.new ≡ self.old) }
     {
@@ -183,11 +205,13 @@ impl Dispatcher {
         limit: Option<u64>,
     ) -> Result<Outcome, NoMemory>
         requires within { at < length self.old.machine.tasks }
-        requires awake { (t : TaskValue) → slice_get self.old.machine.tasks at ≡ Some t → is_waiting self.old.machine.waiting t.label ≡ false }
+        requires awake { IsAwake self.old.machine at }
         requires there { is_some (definition_of self.old.machine name.now) ≡ true }
-        requires browsing { (t : TaskValue) → slice_get self.old.machine.tasks at ≡ Some t → is_some (value_at name.now t.browses) ≡ true }
-        ensures outcome { IfOk result (λ outcome. (t : TaskValue) → slice_get self.old.machine.tasks at ≡ Some t → outcome ≡ (browsed self.old.machine t resp name.now limit (value_at name.now t.browses) (read_prev (records_in self.old.machine name.now)) (after_prev (records_in self.old.machine name.now))).outcome) }
-        ensures machine { OnOk result ((t : TaskValue) → slice_get self.old.machine.tasks at ≡ Some t → self.new.machine ≡ (browsed self.old.machine t resp name.now limit (value_at name.now t.browses) (read_prev (records_in self.old.machine name.now)) (after_prev (records_in self.old.machine name.now))).machine) }
+        requires browsing { HasBrowse self.old.machine at name.now }
+        ensures outcome { IfOk result (IsOutcomeOf self.old.machine at
+            (reading_prev self.old.machine resp name.now limit)) }
+        ensures machine { OnOk result (IsLeftBy self.old.machine at
+            (reading_prev self.old.machine resp name.now limit) self.new.machine) }
         ensures headline { IsHeadlineRegion self.new }
         ensures err { OnErr result (self.new ≡ self.old) }
     {
@@ -203,9 +227,11 @@ impl Dispatcher {
     // ENDBR.
     pub(super) fn end_browse(&mut self, at: usize, resp: bool, name: &Name8) -> Outcome
         requires within { at < length self.old.machine.tasks }
-        requires awake { (t : TaskValue) → slice_get self.old.machine.tasks at ≡ Some t → is_waiting self.old.machine.waiting t.label ≡ false }
-        ensures outcome { (t : TaskValue) → slice_get self.old.machine.tasks at ≡ Some t → result ≡ (browse_ended self.old.machine t resp name.now).outcome }
-        ensures machine { (t : TaskValue) → slice_get self.old.machine.tasks at ≡ Some t → self.new.machine ≡ (browse_ended self.old.machine t resp name.now).machine }
+        requires awake { IsAwake self.old.machine at }
+        ensures outcome { IsOutcomeOf self.old.machine at
+            (λ t. browse_ended self.old.machine t resp name.now) result }
+        ensures machine { IsLeftBy self.old.machine at
+            (λ t. browse_ended self.old.machine t resp name.now) self.new.machine }
         ensures headline { IsHeadlineRegion self.new }
     {
         self.tasks.end_browse(at, name);

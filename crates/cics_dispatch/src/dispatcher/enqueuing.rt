@@ -1,14 +1,15 @@
 //! ENQ and DEQ of the tasks of a region.
 
-ghost use Rattle.std.specs.Prelude.{◌≡◌, ◌<◌, ◌≤◌, false, take, length, slice_get, IfOk, OnOk, OnErr};
+ghost use Rattle.std.specs.Prelude.{◌≡◌, ◌<◌, ◌≤◌, length, IfOk, OnOk, OnErr};
 ghost use Rattle.cics_names.specs.declared.conditions.Condition.TheVariants.{Normal};
 ghost use Rattle.cics_units.specs.Execution.{enqueue, IsOpenUnit, IsOpenOrNone};
 ghost use Rattle.cics_units.specs.Headline.{IsHeadline};
-ghost use Rattle.cics_dispatch.specs.Machine.{is_waiting, Task as TaskValue};
 ghost use Rattle.cics_dispatch.specs.Replies.{plain};
-ghost use Rattle.cics_dispatch.specs.Steps.{answered, busy_of, dequeued, enqueued, made_to_wait, units_dequeued};
+ghost use Rattle.cics_dispatch.specs.Steps.{answered, dequeued, units_dequeued};
 ghost use Rattle.cics_dispatch.specs.Answers.{IsHeadlineRegion};
 ghost use Rattle.cics_names.specs.declared.commands.Verb.TheVariants.{Enq};
+ghost use Rattle.cics_dispatch.specs.Calls.{IsAwake, IsOutcomeOf, IsLeftBy, enqueuing};
+ghost use Rattle.cics_dispatch.specs.Calls.{awaiting_value};
 
 use crate::dispatcher::Dispatcher;
 use crate::outcomes::Outcome;
@@ -43,11 +44,14 @@ impl Dispatcher {
         holder: UnitId,
     ) -> Result<Outcome, NoMemory>
         requires within { at < length self.old.machine.tasks }
-        requires awake { (t : TaskValue) → slice_get self.old.machine.tasks at ≡ Some t → is_waiting self.old.machine.waiting t.label ≡ false }
+        requires awake { IsAwake self.old.machine at }
         requires count { (1 ≤ count) × (count ≤ 255) × (count ≤ length resource) }
         requires is_open { IsOpenUnit self.old.machine.units holder }
-        ensures outcome { IfOk result (λ outcome. (t : TaskValue) → slice_get self.old.machine.tasks at ≡ Some t → outcome ≡ (made_to_wait self.old.machine t (record { verb = Enq resource count nosuspend; resp = resp }) holder (busy_of (Enq resource count nosuspend))).outcome) }
-        ensures machine { OnOk result ((t : TaskValue) → slice_get self.old.machine.tasks at ≡ Some t → self.new.machine ≡ (made_to_wait self.old.machine t (record { verb = Enq resource count nosuspend; resp = resp }) holder (busy_of (Enq resource count nosuspend))).machine) }
+        ensures outcome { IfOk result (IsOutcomeOf self.old.machine at
+            (awaiting_value self.old.machine resource count nosuspend resp holder)) }
+        ensures machine { OnOk result (IsLeftBy self.old.machine at
+            (awaiting_value self.old.machine resource count nosuspend resp holder)
+            self.new.machine) }
         ensures headline { IsHeadlineRegion self.new }
         ensures err { OnErr result (self.new ≡ self.old) }
     {
@@ -72,10 +76,12 @@ impl Dispatcher {
         nosuspend: bool,
     ) -> Result<Outcome, NoMemory>
         requires within { at < length self.old.machine.tasks }
-        requires awake { (t : TaskValue) → slice_get self.old.machine.tasks at ≡ Some t → is_waiting self.old.machine.waiting t.label ≡ false }
+        requires awake { IsAwake self.old.machine at }
         requires count { (1 ≤ count) × (count ≤ 255) × (count ≤ length resource) }
-        ensures outcome { IfOk result (λ outcome. (t : TaskValue) → slice_get self.old.machine.tasks at ≡ Some t → outcome ≡ (enqueued self.old.machine t (record { verb = Enq resource count nosuspend; resp = resp }) (take count resource) (enqueue self.old.machine.units t.unit (take count resource))).outcome) }
-        ensures machine { OnOk result ((t : TaskValue) → slice_get self.old.machine.tasks at ≡ Some t → self.new.machine ≡ (enqueued self.old.machine t (record { verb = Enq resource count nosuspend; resp = resp }) (take count resource) (enqueue self.old.machine.units t.unit (take count resource))).machine) }
+        ensures outcome { IfOk result (IsOutcomeOf self.old.machine at
+            (enqueuing self.old.machine resource count nosuspend resp)) }
+        ensures machine { OnOk result (IsLeftBy self.old.machine at
+            (enqueuing self.old.machine resource count nosuspend resp) self.new.machine) }
         ensures headline { IsHeadlineRegion self.new }
         ensures err { OnErr result (self.new ≡ self.old) }
     {
@@ -96,10 +102,14 @@ impl Dispatcher {
     // DEQ, of a value.
     pub(super) fn dequeue(&mut self, at: usize, resp: bool, value: &[u8]) -> Outcome
         requires within { at < length self.old.machine.tasks }
-        requires awake { (t : TaskValue) → slice_get self.old.machine.tasks at ≡ Some t → is_waiting self.old.machine.waiting t.label ≡ false }
+        requires awake { IsAwake self.old.machine at }
         requires most { length value.now ≤ 255 }
-        ensures outcome { (t : TaskValue) → slice_get self.old.machine.tasks at ≡ Some t → result ≡ (answered (dequeued self.old.machine t.unit value.now) t resp (plain Normal)).outcome }
-        ensures machine { (t : TaskValue) → slice_get self.old.machine.tasks at ≡ Some t → self.new.machine ≡ (answered (dequeued self.old.machine t.unit value.now) t resp (plain Normal)).machine }
+        ensures outcome { IsOutcomeOf self.old.machine at
+            (λ t. answered (dequeued self.old.machine t.unit value.now) t resp
+            (plain Normal)) result }
+        ensures machine { IsLeftBy self.old.machine at
+            (λ t. answered (dequeued self.old.machine t.unit value.now) t resp
+            (plain Normal)) self.new.machine }
         ensures headline { IsHeadlineRegion self.new }
     {
         let unit = self.tasks.get(at).unit();

@@ -1,7 +1,8 @@
 //! What a region lists: its files and its tasks, and what replaying its history gives.
 
 ghost use Rattle.std.specs.Prelude.{◌≡◌, IfOk};
-ghost use Rattle.cics_dispatch.specs.Answers.{region_listing, replayed_listing, task_state, tasks_listed};
+ghost use Rattle.cics_dispatch.specs.Answers.{region_listing, replayed_listing, task_state};
+ghost use Rattle.cics_dispatch.specs.Answers.{tasks_listed};
 
 use crate::dispatcher::Dispatcher;
 use crate::task::Task;

@@ -1,9 +1,9 @@
 //! The commands of the tasks of a region, from the look at what other units hold on.
 
-ghost use Rattle.std.specs.Prelude.{◌≡◌, ◌<◌, ◌≤◌, true, false, Some, None, length, slice_get, if◌then◌else◌, IsTrue, IfOk, IfSome, OnOk, OnErr};
+ghost use Rattle.std.specs.Prelude.{◌≡◌, ◌<◌, ◌≤◌, true, false, Some, None, length, if◌then◌else◌};
+ghost use Rattle.std.specs.Prelude.{IsTrue, IfOk, IfSome, OnOk, OnErr};
 ghost use Rattle.cics_units.specs.TableInPlace.{key_of};
-ghost use Rattle.cics_dispatch.specs.Machine.{is_waiting, unit_closed, Task as TaskValue};
-ghost use Rattle.cics_dispatch.specs.Checks.{fault_of};
+ghost use Rattle.cics_dispatch.specs.Machine.{unit_closed};
 ghost use Rattle.cics_dispatch.specs.Steps.{op_of, code_of, performed, other_command, issued};
 ghost use Rattle.cics_dispatch.specs.Answers.{is_growing, may_want, IsStep, IsHeadlineRegion};
 ghost use Rattle.cics_names.specs.Commands.{asks_no_queue};
@@ -11,6 +11,7 @@ ghost use Rattle.cics_dispatch.specs.Replies.{plain};
 ghost use Rattle.cics_names.specs.declared.conditions.Condition.TheVariants.{Normal};
 ghost use Rattle.cics_dispatch.specs.declared.outcomes.Outcome.TheVariants.{Replied};
 ghost use Rattle.cics_units.specs.declared.ops.UnitState.TheVariants.{Committed, BackedOut};
+ghost use Rattle.cics_dispatch.specs.Calls.{OfTask, IsAwake, PassesChecks, IsOutcomeOf, IsLeftBy};
 
 use crate::dispatcher::Dispatcher;
 use crate::outcomes::{Outcome, Refused};
@@ -36,9 +37,10 @@ impl Dispatcher {
     // The updating command that a command of the task at a place asks for, if it asks for one.
     fn op(&self, at: usize, verb: &Verb) -> Result<Option<Op>, NoMemory>
         requires within { at < length self.now.machine.tasks }
-        requires passed { (t : TaskValue) → slice_get self.now.machine.tasks at ≡ Some t → fault_of self.now.machine t verb.now ≡ None }
+        requires passed { PassesChecks self.now.machine at verb.now }
         requires no_queue { asks_no_queue verb.now ≡ true }
-        ensures op { IfOk result (λ op. (t : TaskValue) → slice_get self.now.machine.tasks at ≡ Some t → op ≡ op_of self.now.machine t verb.now) }
+        ensures op { IfOk result (λ op. OfTask self.now.machine.tasks at
+            (λ t. op ≡ op_of self.now.machine t verb.now)) }
         ensures short { IfOk result (λ op. IfSome op (λ o. length (key_of o) ≤ 255)) }
         ensures growing { OnErr result (IsTrue (is_growing verb.now)) }
     {
@@ -55,12 +57,15 @@ impl Dispatcher {
     // A command of the task at a place that updates nothing.
     fn perform_other(&mut self, at: usize, command: Command) -> Result<Outcome, NoMemory>
         requires within { at < length self.old.machine.tasks }
-        requires awake { (t : TaskValue) → slice_get self.old.machine.tasks at ≡ Some t → is_waiting self.old.machine.waiting t.label ≡ false }
-        requires passed { (t : TaskValue) → slice_get self.old.machine.tasks at ≡ Some t → fault_of self.old.machine t command.verb ≡ None }
+        requires awake { IsAwake self.old.machine at }
+        requires passed { PassesChecks self.old.machine at command.verb }
         requires no_queue { asks_no_queue command.verb ≡ true }
-        requires no_op { (t : TaskValue) → slice_get self.old.machine.tasks at ≡ Some t → op_of self.old.machine t command.verb ≡ None }
-        ensures outcome { IfOk result (λ outcome. (t : TaskValue) → slice_get self.old.machine.tasks at ≡ Some t → outcome ≡ (other_command self.old.machine t command command.verb).outcome) }
-        ensures machine { OnOk result ((t : TaskValue) → slice_get self.old.machine.tasks at ≡ Some t → self.new.machine ≡ (other_command self.old.machine t command command.verb).machine) }
+        requires no_op { OfTask self.old.machine.tasks at
+            (λ t. op_of self.old.machine t command.verb ≡ None) }
+        ensures outcome { IfOk result (IsOutcomeOf self.old.machine at
+            (λ t. other_command self.old.machine t command command.verb)) }
+        ensures machine { OnOk result (IsLeftBy self.old.machine at
+            (λ t. other_command self.old.machine t command command.verb) self.new.machine) }
         ensures headline { IsHeadlineRegion self.new }
         ensures err { OnErr result (self.new ≡ self.old) }
         ensures growing { OnErr result (IsTrue (is_growing command.verb)) }
@@ -118,9 +123,12 @@ impl Dispatcher {
     // SYNCPOINT, with ROLLBACK or without.
     fn end_of_unit(&mut self, at: usize, commits: bool) -> Outcome
         requires within { at < length self.old.machine.tasks }
-        requires awake { (t : TaskValue) → slice_get self.old.machine.tasks at ≡ Some t → is_waiting self.old.machine.waiting t.label ≡ false }
+        requires awake { IsAwake self.old.machine at }
         ensures outcome { result ≡ Replied (plain Normal) }
-        ensures machine { (t : TaskValue) → slice_get self.old.machine.tasks at ≡ Some t → self.new.machine ≡ unit_closed self.old.machine t (if commits then Committed else BackedOut) false }
+        ensures machine { OfTask self.old.machine.tasks at
+            (λ t. self.new.machine
+            ≡ unit_closed self.old.machine t
+            (if commits then Committed else BackedOut) false) }
         ensures headline { IsHeadlineRegion self.new }
     {
         self.close(at, commits, false);
@@ -130,11 +138,13 @@ impl Dispatcher {
     // A command of the task at a place whose checks have passed.
     pub(super) fn perform(&mut self, at: usize, command: Command) -> Result<Outcome, NoMemory>
         requires within { at < length self.old.machine.tasks }
-        requires awake { (t : TaskValue) → slice_get self.old.machine.tasks at ≡ Some t → is_waiting self.old.machine.waiting t.label ≡ false }
-        requires passed { (t : TaskValue) → slice_get self.old.machine.tasks at ≡ Some t → fault_of self.old.machine t command.verb ≡ None }
+        requires awake { IsAwake self.old.machine at }
+        requires passed { PassesChecks self.old.machine at command.verb }
         requires no_queue { asks_no_queue command.verb ≡ true }
-        ensures outcome { IfOk result (λ outcome. (t : TaskValue) → slice_get self.old.machine.tasks at ≡ Some t → outcome ≡ (performed self.old.machine t command).outcome) }
-        ensures machine { OnOk result ((t : TaskValue) → slice_get self.old.machine.tasks at ≡ Some t → self.new.machine ≡ (performed self.old.machine t command).machine) }
+        ensures outcome { IfOk result (IsOutcomeOf self.old.machine at
+            (λ t. performed self.old.machine t command)) }
+        ensures machine { OnOk result (IsLeftBy self.old.machine at
+            (λ t. performed self.old.machine t command) self.new.machine) }
         ensures headline { IsHeadlineRegion self.new }
         ensures err { OnErr result (self.new ≡ self.old) }
         ensures growing { OnErr result (IsTrue (is_growing command.verb)) }
@@ -156,7 +166,8 @@ impl Dispatcher {
     /// exceptional conditions).
     pub fn issue(&mut self, label: Name8, command: Command) -> Result<Outcome, Refused>
         requires no_queue { IsTrue (asks_no_queue command.verb) }
-        ensures step { IsStep (may_want self.old.machine label command) self.old (issued self.old.machine label command) result self.new }
+        ensures step { IsStep (may_want self.old.machine label command) self.old
+            (issued self.old.machine label command) result self.new }
         ensures headline { IsHeadlineRegion self.new }
     {
         let _units = &self.units;

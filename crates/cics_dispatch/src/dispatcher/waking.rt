@@ -1,19 +1,22 @@
 //! Waiting commands: which one goes on, and which one's time is over.
 
-ghost use Rattle.std.specs.Prelude.{◌≡◌, ◌<◌, [], ◌∷◌, All, Some, None, option_map, true, false, length, slice_get, IfOk, OnOk, OnErr, IfSome, IfNone};
+ghost use Rattle.std.specs.Prelude.{◌≡◌, ◌<◌, [], ◌∷◌, All, Some, None, option_map, true, false};
+ghost use Rattle.std.specs.Prelude.{length, slice_get, IfOk, OnOk, OnErr, IfSome, IfNone};
 ghost use Rattle.std.specs.Option.{option_copied};
 ghost use Rattle.cics_units.specs.Execution.{IsOpenUnit};
 ghost use Rattle.cics_units.specs.TableInPlace.{key_of};
-ghost use Rattle.cics_dispatch.specs.Machine.{task_at, timed_out, with_waiting, not_waiting, Task as TaskValue, Suspended as SuspendedValue};
-ghost use Rattle.cics_dispatch.specs.Checks.{fault_of};
+ghost use Rattle.cics_dispatch.specs.Machine.{task_at, timed_out, with_waiting, not_waiting};
+ghost use Rattle.cics_dispatch.specs.Machine.{Suspended as SuspendedValue};
 ghost use Rattle.cics_names.specs.Commands.{asks_no_queue};
 ghost use Rattle.cics_dispatch.specs.KeptTasks.{HasPassed};
 ghost use Rattle.cics_dispatch.specs.Steps.{op_of, performed};
 ghost use Rattle.cics_dispatch.specs.Updates.{file_op};
-ghost use Rattle.cics_dispatch.specs.Waking.{expired, woken, first_free, first_late, holder_for, is_late, may_go_on, resource_for};
+ghost use Rattle.cics_dispatch.specs.Waking.{expired, woken, first_free, first_late, holder_for};
+ghost use Rattle.cics_dispatch.specs.Waking.{is_late, may_go_on, resource_for};
 ghost use Rattle.cics_dispatch.specs.Settled.{AreAmong, IsBlocked};
 ghost use Rattle.cics_dispatch.specs.Waits.{wait_of};
 ghost use Rattle.cics_dispatch.specs.Answers.{IsStep, always, IsHeadlineRegion};
+ghost use Rattle.cics_dispatch.specs.Calls.{OfTask, PassesChecks, IsOutcomeOf, IsLeftBy};
 
 use crate::dispatcher::Dispatcher;
 use crate::outcomes::{Expired, Outcome, Refused, Woken};
@@ -36,7 +39,8 @@ fn time_out_code() -> AbendCode
 // The key of the record that an updating command on a file uses, where `open_key` is the key of its
 // task's open update read of the file. None of another command.
 fn used_key<'a>(verb: &'a Verb, open_key: Option<&'a Record>) -> Option<&'a Record>
-    ensures { option_copied result ≡ option_map key_of (file_op (option_copied open_key.entry) verb.now) }
+    ensures { option_copied result
+        ≡ option_map key_of (file_op (option_copied open_key.entry) verb.now) }
 {
     match verb {
         Verb::Read {
@@ -56,8 +60,9 @@ impl Dispatcher {
     fn asked(&self, at: usize, verb: &Verb) -> Option<Resource>
         requires within { at < length self.now.machine.tasks }
         requires no_queue { asks_no_queue verb.now ≡ true }
-        requires passed { (t : TaskValue) → slice_get self.now.machine.tasks at ≡ Some t → fault_of self.now.machine t verb.now ≡ None }
-        ensures { (t : TaskValue) → slice_get self.now.machine.tasks at ≡ Some t → result ≡ resource_for verb.now (op_of self.now.machine t verb.now) }
+        requires passed { PassesChecks self.now.machine at verb.now }
+        ensures { OfTask self.now.machine.tasks at
+            (λ t. result ≡ resource_for verb.now (op_of self.now.machine t verb.now)) }
     {
         if let Verb::Enq {
             resource,
@@ -78,8 +83,10 @@ impl Dispatcher {
     fn awaited(&self, at: usize, verb: &Verb) -> Option<UnitId>
         requires within { at < length self.now.machine.tasks }
         requires no_queue { asks_no_queue verb.now ≡ true }
-        requires passed { (t : TaskValue) → slice_get self.now.machine.tasks at ≡ Some t → fault_of self.now.machine t verb.now ≡ None }
-        ensures holder { (t : TaskValue) → slice_get self.now.machine.tasks at ≡ Some t → result ≡ holder_for self.now.machine t verb.now (op_of self.now.machine t verb.now) }
+        requires passed { PassesChecks self.now.machine at verb.now }
+        ensures holder { OfTask self.now.machine.tasks at
+            (λ t. result
+            ≡ holder_for self.now.machine t verb.now (op_of self.now.machine t verb.now)) }
         ensures is_open { IfSome result (IsOpenUnit self.now.machine.units) }
     {
         let resource = self.asked(at, verb)?;
@@ -90,7 +97,8 @@ impl Dispatcher {
     // Whether a waiting command needn't wait any more.
     fn may_go_on(&self, wait: &Suspended) -> bool
         requires passed { HasPassed self.now.machine wait.now }
-        ensures { result ≡ may_go_on self.now.machine wait.now (task_at self.now.machine.tasks wait.now.label) }
+        ensures { result
+            ≡ may_go_on self.now.machine wait.now (task_at self.now.machine.tasks wait.now.label) }
     {
         let _units = &self.units;
         let Some(at) = self.tasks.find(&wait.label()) else {
@@ -124,7 +132,8 @@ impl Dispatcher {
     /// Adds to `blockers` the unit that each waiting command has to wait for. `false` where one needn't wait, or memory
     /// is refused.
     pub(crate) fn note_blockers(&self, blockers: &mut IndexSet<UnitId>) -> bool
-        ensures { result ≡ true → All (IsBlocked self.now.machine blockers.new.keys) self.now.machine.waiting }
+        ensures { result ≡ true →
+            All (IsBlocked self.now.machine blockers.new.keys) self.now.machine.waiting }
     {
         for wait in self.waits.iter() {
             let Some(unit) = self.blocker(wait) else {
@@ -146,7 +155,9 @@ impl Dispatcher {
         blockers: &mut IndexSet<UnitId>,
     ) -> bool
         ensures settled { result ≡ true → is_settled ≡ true }
-        ensures own { result ≡ true → (w : SuspendedValue) → wait_of self.now.machine.waiting label.now ≡ Some w → IsBlocked self.now.machine blockers.new.keys w }
+        ensures own { result ≡ true → (w : SuspendedValue) →
+            wait_of self.now.machine.waiting label.now ≡ Some w →
+            IsBlocked self.now.machine blockers.new.keys w }
         ensures more { AreAmong blockers.old.keys blockers.new.keys }
     {
         let _units = &self.units;
@@ -168,11 +179,17 @@ impl Dispatcher {
     // Ends the wait of the task at a place and performs its command, which needn't wait any more.
     fn go_on(&mut self, at: usize, command: Command) -> Result<Outcome, NoMemory>
         requires within { at < length self.old.machine.tasks }
-        requires passed { (t : TaskValue) → slice_get self.old.machine.tasks at ≡ Some t → fault_of self.old.machine t command.verb ≡ None }
+        requires passed { PassesChecks self.old.machine at command.verb }
         requires no_queue { asks_no_queue command.verb ≡ true }
-        requires free { (t : TaskValue) → slice_get self.old.machine.tasks at ≡ Some t → holder_for self.old.machine t command.verb (op_of self.old.machine t command.verb) ≡ None }
-        ensures outcome { IfOk result (λ outcome. (t : TaskValue) → slice_get self.old.machine.tasks at ≡ Some t → outcome ≡ (performed (with_waiting self.old.machine (not_waiting self.old.machine.waiting t.label)) t command).outcome) }
-        ensures machine { OnOk result ((t : TaskValue) → slice_get self.old.machine.tasks at ≡ Some t → self.new.machine ≡ (performed (with_waiting self.old.machine (not_waiting self.old.machine.waiting t.label)) t command).machine) }
+        requires free { OfTask self.old.machine.tasks at
+            (λ t. holder_for self.old.machine t command.verb
+            (op_of self.old.machine t command.verb) ≡ None) }
+        ensures outcome { IfOk result (IsOutcomeOf self.old.machine at
+            (λ t. performed (with_waiting self.old.machine
+            (not_waiting self.old.machine.waiting t.label)) t command)) }
+        ensures machine { OnOk result (IsLeftBy self.old.machine at
+            (λ t. performed (with_waiting self.old.machine
+            (not_waiting self.old.machine.waiting t.label)) t command) self.new.machine) }
         ensures headline { IsHeadlineRegion self.new }
         ensures err { OnErr result (self.new ≡ self.old) }
     {
@@ -217,10 +234,14 @@ impl Dispatcher {
 
     // The place of a waiting command's task, if the task has waited too long.
     fn late(&self, wait: &Suspended) -> Option<usize>
-        ensures late { IfSome result (λ at. is_late self.now.machine wait.now (task_at self.now.machine.tasks wait.now.label) ≡ true) }
-        ensures task { IfSome result (λ at. slice_get self.now.machine.tasks at ≡ task_at self.now.machine.tasks wait.now.label) }
+        ensures late { IfSome result (λ at.
+            is_late self.now.machine wait.now (task_at self.now.machine.tasks wait.now.label) ≡ true) }
+        ensures task { IfSome result (λ at. slice_get self.now.machine.tasks at
+            ≡ task_at self.now.machine.tasks wait.now.label) }
         ensures within { IfSome result (λ at. at < length self.now.machine.tasks) }
-        ensures none { IfNone result (is_late self.now.machine wait.now (task_at self.now.machine.tasks wait.now.label) ≡ false) }
+        ensures none { IfNone result
+            (is_late self.now.machine wait.now (task_at self.now.machine.tasks wait.now.label)
+            ≡ false) }
     {
         let _units = &self.units;
         let at = self.tasks.find(&wait.label())?;
@@ -235,7 +256,8 @@ impl Dispatcher {
 
     // The place of the first task that has waited too long, in the order in which the waits began.
     fn first_late(&self) -> Option<usize>
-        ensures task { IfSome result (λ at. slice_get self.now.machine.tasks at ≡ first_late self.now.machine self.now.machine.waiting) }
+        ensures task { IfSome result (λ at. slice_get self.now.machine.tasks at
+            ≡ first_late self.now.machine self.now.machine.waiting) }
         ensures within { IfSome result (λ at. at < length self.now.machine.tasks) }
         ensures none { IfNone result (first_late self.now.machine self.now.machine.waiting ≡ None) }
     {

@@ -1,7 +1,7 @@
 use Rattle.std.proofs.Common.{◌∙◌, ap, sym, Some}
 use Rattle.std.specs.Option.{option_map}
 use Rattle.cics_browse.specs.Positions.{read_prev, after_prev}
-use Rattle.cics_enqueue.proofs.Listing.{on_err_anyway}
+use Rattle.cics_enqueue.proofs.Owning.{on_err_anyway}
 use Rattle.cics_dispatch.specs.Browses.{moved}
 use Rattle.cics_dispatch.proofs.Browsing.{there, absent, unmoved, moved-to, moved-rising}
 use Rattle.cics_dispatch.proofs.browses.Browses.prev.Goals as goal

@@ -1,11 +1,11 @@
-use Rattle.std.proofs.Common.{◌≡◌, ◌∙◌, ◌≤◌, length, sym, ap, subst, arith, refl, true}
+use Rattle.std.proofs.Common.{◌≡◌, ◌∙◌, ◌≤◌, take, length, sym, ap, subst, arith, refl, true}
 use Rattle.std.proofs.lemmas.Bool.{false≢true}
 use Rattle.std.proofs.lemmas.List.{length-take-le}
-use Rattle.cics_names.specs.declared.conditions.Condition.TheVariants.{Invreq}
+use Rattle.cics_names.specs.declared.conditions.Condition.TheVariants.{Normal, Invreq}
 use Rattle.cics_names.specs.Commands.{file_named, asks_no_queue}
 use Rattle.cics_dispatch.specs.Machine.{Task}
 use Rattle.cics_dispatch.specs.Replies.{plain}
-use Rattle.cics_dispatch.specs.Steps.{answered, other_command}
+use Rattle.cics_dispatch.specs.Steps.{answered, dequeued, other_command}
 use Rattle.cics_names.specs.declared.commands.Verb.{Verb}
 use Rattle.cics_names.specs.declared.commands.Verb.TheVariants.{Read, Unlock, StartBr, ResetBr, ReadNext, ReadPrev, EndBr, ReadqTs, Enq, Deq, Syncpoint, Rollback, Return, Abend}
 use Rattle.cics_dispatch.proofs.RegionSteps.{place}
@@ -71,6 +71,13 @@ dequeue-requires-clause-most c =
     let e = length-take-le n c.bytes-in-Deq.result.now (subst (λ b. n ≤ length b) (sym c.bytes-in-Deq.ensures) h.2) in
     let most = h.1 in
     omega (arith, e, most)
+
+pub returns-in-Deq-clause-machine : goal.returns-in-Deq-clause-machine
+returns-in-Deq-clause-machine c = λ t there.
+    let m = c.args.self.now.machine in
+    c.dequeue.ensures.machine t there
+    ∙ ap (λ b. (answered (dequeued m t.unit (take c.in-Deq.length b)) t c.args.command.resp (plain Normal)).machine) c.bytes-in-Deq.ensures
+    ∙ ap (λ v. (other_command m t c.args.command v).machine) (sym c.in-Deq.is)
 
 pub returns : goal.returns
 returns c =

@@ -6,7 +6,7 @@ use Rattle.cics_dispatch.specs.Checks.{fault_of}
 use Rattle.cics_dispatch.specs.Steps.{op_of, executed, reply_of}
 use Rattle.cics_dispatch.specs.Regions.{region_of}
 use Rattle.cics_dispatch.proofs.Ready.{ready_of, is_file_op_of}
-use Rattle.cics_dispatch.proofs.RegionSteps.{told_of, IfOk-then, OnOk-then, waits_step, acted_step, busy_none, waits_machine, waits_kept, acted_kept, owner_free, owner_there, placed_within, one_task}
+use Rattle.cics_dispatch.proofs.RegionSteps.{told_of, IfOk-then, OnOk-then, waits_open, waits_step, acted_step, busy_none, waits_machine, waits_kept, acted_kept, owner_free, owner_there, placed_within, one_task}
 use Rattle.cics_dispatch.proofs.dispatcher.Dispatcher.update.Goals as goal
 
 pub execute-requires-clause-file : goal.execute-requires-clause-file
@@ -28,6 +28,11 @@ invariant_of-self-in-MustWait c =
     let state : c.execute.new.self.state ≡ after_execution u.units.state t.unit c.args.op.now = c.in_ok-holder.ensures.state ∙ ap (λ x. after_execution u.units.state x c.args.op.now) c.unit-unit.ensures in
     let done : execution u.units.state t.unit c.args.op.now ≡ c.in_ok-holder.field-0 = ap (λ x. execution u.units.state x c.args.op.now) (sym c.unit-unit.ensures) ∙ sym c.in_ok-holder.ensures.done in
     waits_kept u.units u.tasks u.waits u.clock c.self.invariant c.args.at t c.get.ensures c.args.op.now c.execute.new.self state c.execute.ensures.headline c.in-MustWait.holder (done ∙ c.in-MustWait.is) c.make_room_for_unit.new.self c.make_room_for_unit.ensures
+
+pub suspend-requires-clause-is_open : goal.suspend-requires-clause-is_open
+suspend-requires-clause-is_open c =
+    waits_open c.self.inside.units.state c.execute.new.self.state _ c.args.op.now c.in_ok-holder.field-0 c.in-MustWait.holder
+    c.in_ok-holder.ensures.state c.in_ok-holder.ensures.done c.in-MustWait.is c.in_ok-holder.ensures.holder_open
 
 pub suspend-requires-clause-passed : goal.suspend-requires-clause-passed
 suspend-requires-clause-passed c = λ s there.
