@@ -1,7 +1,12 @@
 //! The lines of the journal.
 
 ghost use Rattle.std.specs.Prelude.{◌≡◌, ◌++◌, OnOk, codes};
-ghost use Rattle.cics_run.specs.Journal.{numbered, condition_text, part, number_part, reply_text, abend_text, outcome_text, attached_line, outcome_line, woken_line, expired_line, clock_line, refusal_number, refusal_title, refusal_text, refused_line, clock_refused_line, define_number, define_title, define_fault_line, line_fault_line};
+ghost use Rattle.cics_run.specs.Journal.{numbered, condition_text, part, number_part, reply_text};
+ghost use Rattle.cics_run.specs.Journal.{abend_text, outcome_text, attached_line, outcome_line};
+ghost use Rattle.cics_run.specs.Journal.{woken_line, expired_line, clock_line, refusal_number};
+ghost use Rattle.cics_run.specs.Journal.{refusal_title, refusal_text, refused_line};
+ghost use Rattle.cics_run.specs.Journal.{clock_refused_line, define_number, define_title};
+ghost use Rattle.cics_run.specs.Journal.{define_fault_line, line_fault_line};
 ghost use Rattle.cics_run.specs.Texts.{text_of, name_text, bare};
 
 use crate::texts::{push_bare, push_name, push_number, push_str, push_text};

@@ -2,7 +2,10 @@
 
 ghost use Rattle.std.specs.Prelude.{◌≡◌, ◌++◌, OnOk, length};
 ghost use Rattle.std.specs.List.{flat_map};
-ghost use Rattle.cics_run.specs.Listings.{heading, recoverable_title, recovery_title, record_line, file_text, storage_text, transient_text, state_title, task_text, listing_text, replay_text, count_text, parts_text};
+ghost use Rattle.cics_run.specs.Listings.{heading, recoverable_title, recovery_title, record_line};
+ghost use Rattle.cics_run.specs.Listings.{file_text, storage_text, transient_text, state_title};
+ghost use Rattle.cics_run.specs.Listings.{task_text, listing_text, replay_text, count_text};
+ghost use Rattle.cics_run.specs.Listings.{parts_text};
 
 use crate::texts::{push_bare, push_name, push_number, push_str, push_text};
 use cics_names::{Items, Name4, Name8, NoMemory, Record};
@@ -114,7 +117,8 @@ fn push_heading(
     counted: &str,
     count: usize,
 ) -> Result<(), NoMemory>
-    ensures { OnOk result (out.new.items ≡ out.old.items ++ heading kind.now name.now recovery.now counted.now count) }
+    ensures { OnOk result (out.new.items
+        ≡ out.old.items ++ heading kind.now name.now recovery.now counted.now count) }
 {
     push_str(out, kind)?;
     push_str(out, " ")?;

@@ -51,7 +51,8 @@ pub fn run<R: Read, W: Write>(
     writer: &mut W,
     options: Options,
 ) -> Result<Status, RunFault>
-    ensures { RunsOver options (R.remaining reader.old) (R.remaining reader.new) (W.contents writer.old) (W.contents writer.new) result }
+    ensures { RunsOver options (R.remaining reader.old) (R.remaining reader.new) (W.contents writer.old)
+        (W.contents writer.new) result }
 {
     let mut session = Session::new(alloc);
     run_from(&mut session, reader, writer, options)
@@ -68,7 +69,8 @@ fn run_from<R: Read, W: Write>(
     requires number { session.old.number ≡ 0 }
     requires line { session.old.line.items ≡ [] }
     requires pending { session.old.pending.items ≡ [] }
-    ensures { RunsOver options (R.remaining reader.old) (R.remaining reader.new) (W.contents writer.old) (W.contents writer.new) result }
+    ensures { RunsOver options (R.remaining reader.old) (R.remaining reader.new) (W.contents writer.old)
+        (W.contents writer.new) result }
 {
     let mut buffer = [0u8; CHUNK];
     let mut room = LIMIT;

@@ -1,6 +1,7 @@
 //! A run between two reads.
 
-ghost use Rattle.std.specs.Prelude.{◌≡◌, ℕ, true, List, [], ◌++◌, ◌+◌, ◌<◌, ◌^◌, Option, length, IfOk, OnOk, OnErr};
+ghost use Rattle.std.specs.Prelude.{◌≡◌, ℕ, true, List, [], ◌++◌, ◌+◌, ◌<◌, ◌^◌, Option, length};
+ghost use Rattle.std.specs.Prelude.{IfOk, OnOk, OnErr};
 ghost use Rattle.std.specs.Io.BufRead.{strip_last};
 ghost use Rattle.cics_run.specs.Stages.{step, first_stage};
 ghost use Rattle.cics_run.specs.declared.stage.Stage.TheVariants.{Running};
@@ -54,9 +55,13 @@ fn run_one<W: Write>(
 ) -> Result<bool, Stop>
     ensures stage { IfOk result (λ _. stage.new ≡ (step number stage.old line.now).stage) }
     ensures fault { IfOk result (λ fault. fault ≡ (step number stage.old line.now).is_fault) }
-    ensures printed { OnOk result (Prints (W.contents writer.old) (W.contents writer.new) pending.old.items pending.new.items (step number stage.old line.now).text) }
+    ensures printed { OnOk result (Prints (W.contents writer.old)
+        (W.contents writer.new) pending.old.items pending.new.items
+        (step number stage.old line.now).text) }
     ensures left { IfOk result (λ fault. fault ≡ true → pending.new.items ≡ []) }
-    ensures err { OnErr result (AppendsFront (W.contents writer.old) (W.contents writer.new) (pending.old.items ++ (step number stage.old line.now).text)) }
+    ensures err { OnErr result
+        (AppendsFront (W.contents writer.old) (W.contents writer.new)
+        (pending.old.items ++ (step number stage.old line.now).text)) }
 {
     let is_fault = match stage.run_line(number, line, pending) {
         Ok(is_fault) => is_fault,
@@ -97,9 +102,13 @@ impl Session {
         ensures number { OnOk result (self.new.number ≡ self.old.number + 1) }
         ensures line { OnOk result (self.new.line.items ≡ []) }
         ensures fault { IfOk result (λ fault. fault ≡ (line_step self.old).is_fault) }
-        ensures printed { OnOk result (Prints (W.contents writer.old) (W.contents writer.new) self.old.pending.items self.new.pending.items (line_step self.old).text) }
+        ensures printed { OnOk result (Prints (W.contents writer.old)
+            (W.contents writer.new) self.old.pending.items self.new.pending.items
+            (line_step self.old).text) }
         ensures left { IfOk result (λ fault. fault ≡ true → self.new.pending.items ≡ []) }
-        ensures err { OnErr result (AppendsFront (W.contents writer.old) (W.contents writer.new) (self.old.pending.items ++ (line_step self.old).text)) }
+        ensures err { OnErr result
+            (AppendsFront (W.contents writer.old) (W.contents writer.new)
+            (self.old.pending.items ++ (line_step self.old).text)) }
     {
         self.number += 1;
         let line = without_cr(&self.line);
@@ -183,8 +192,11 @@ fn write_end<W: Write>(
     pending: &mut Vec<u8>,
     writer: &mut W,
 ) -> Result<(), Stop>
-    ensures ok { OnOk result (Appends (W.contents writer.old) (W.contents writer.new) (pending.old.items ++ ending options stage.old)) }
-    ensures err { OnErr result (AppendsFront (W.contents writer.old) (W.contents writer.new) (pending.old.items ++ ending options stage.old)) }
+    ensures ok { OnOk result (Appends (W.contents writer.old) (W.contents writer.new)
+        (pending.old.items ++ ending options stage.old)) }
+    ensures err { OnErr result
+        (AppendsFront (W.contents writer.old) (W.contents writer.new)
+        (pending.old.items ++ ending options stage.old)) }
 {
     match push_ending(stage, options, pending) {
         Ok(()) => write_pending(pending, writer),

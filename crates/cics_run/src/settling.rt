@@ -13,8 +13,11 @@ use cics_names::NoMemory;
 /// A command that may go on comes before a task whose time is over. It is refused for want of memory
 /// alone.
 pub fn settle(region: &mut Region, out: &mut Vec<u8>) -> Result<(), NoMemory>
-    ensures region { OnOk result (region.new ≡ region_at (settled (length region.old.machine.waiting) region.old.machine).machine) }
-    ensures text { OnOk result (out.new.items ≡ out.old.items ++ (settled (length region.old.machine.waiting) region.old.machine).text) }
+    ensures region { OnOk result (region.new
+        ≡ region_at (settled (length region.old.machine.waiting) region.old.machine).machine) }
+    ensures text { OnOk result (out.new.items
+        ≡ out.old.items ++
+        (settled (length region.old.machine.waiting) region.old.machine).text) }
     ensures quiet { OnOk result (turn region.new.machine ≡ None) }
 {
     while turn(region, out)? {}

@@ -6,8 +6,11 @@ ghost use Rattle.cics_units.specs.Faults.{IsRefused};
 ghost use Rattle.cics_units.specs.declared.opening.DefineFault.{DefineFault};
 ghost use Rattle.cics_names.specs.Commands.{asks_no_queue};
 ghost use Rattle.cics_script.specs.Lines.{AsksNoQueue};
-ghost use Rattle.cics_run.specs.Journal.{line_fault_line, attached_line, outcome_line, refused_line, clock_line, clock_refused_line};
-ghost use Rattle.cics_run.specs.Stages.{first_stage, region_of, file_defined, file_loaded, event, task_attached, clock_moved, command_issued, followed, step, defined, told_line, IsAnswered, Leads, Happens};
+ghost use Rattle.cics_run.specs.Journal.{line_fault_line, attached_line, outcome_line};
+ghost use Rattle.cics_run.specs.Journal.{refused_line, clock_line, clock_refused_line};
+ghost use Rattle.cics_run.specs.Stages.{first_stage, region_of, file_defined, file_loaded, event};
+ghost use Rattle.cics_run.specs.Stages.{task_attached, clock_moved, command_issued, followed, step};
+ghost use Rattle.cics_run.specs.Stages.{defined, told_line, IsAnswered, Leads, Happens};
 ghost use Rattle.cics_run.specs.declared.stage.Stage.TheVariants.{Opening as OpeningStage, Running};
 
 use crate::journal::{
@@ -81,7 +84,8 @@ impl Stage {
         definition: FileDef,
         out: &mut Vec<u8>,
     ) -> Result<bool, NoMemory>
-        ensures { Leads (file_defined number self.old name definition) self.new out.old.items out.new.items result }
+        ensures { Leads (file_defined number self.old name definition) self.new out.old.items
+            out.new.items result }
     {
         match self {
             Stage::Opening(opening) => {
@@ -98,7 +102,8 @@ impl Stage {
         content: Record,
         out: &mut Vec<u8>,
     ) -> Result<bool, NoMemory>
-        ensures { Leads (file_loaded number self.old name content) self.new out.old.items out.new.items result }
+        ensures { Leads (file_loaded number self.old name content) self.new out.old.items out.new.items
+            result }
     {
         match self {
             Stage::Opening(opening) => {
@@ -115,7 +120,8 @@ impl Stage {
         dtimout: u64,
         out: &mut Vec<u8>,
     ) -> Result<bool, NoMemory>
-        ensures { Leads (task_attached (region_of self.old).machine label transaction dtimout) self.new out.old.items out.new.items result }
+        ensures { Leads (task_attached (region_of self.old).machine label transaction dtimout) self.new
+            out.old.items out.new.items result }
     {
         self.open()?;
         match self {
@@ -126,7 +132,8 @@ impl Stage {
     }
 
     fn set_clock(&mut self, seconds: u64, out: &mut Vec<u8>) -> Result<bool, NoMemory>
-        ensures { Leads (clock_moved (region_of self.old).machine seconds) self.new out.old.items out.new.items result }
+        ensures { Leads (clock_moved (region_of self.old).machine seconds) self.new out.old.items
+            out.new.items result }
     {
         self.open()?;
         match self {
@@ -138,7 +145,8 @@ impl Stage {
 
     fn issue(&mut self, label: Name8, command: Command, out: &mut Vec<u8>) -> Result<bool, NoMemory>
         requires { asks_no_queue command.verb ≡ true }
-        ensures { Leads (command_issued (region_of self.old).machine label command) self.new out.old.items out.new.items result }
+        ensures { Leads (command_issued (region_of self.old).machine label command) self.new
+            out.old.items out.new.items result }
     {
         self.open()?;
         match self {
@@ -206,7 +214,8 @@ fn attach(
     dtimout: u64,
     out: &mut Vec<u8>,
 ) -> Result<(), NoMemory>
-    ensures { Happens (task_attached region.old.machine label transaction dtimout) region.new out.old.items out.new.items result }
+    ensures { Happens (task_attached region.old.machine label transaction dtimout) region.new
+        out.old.items out.new.items result }
 {
     let answer = region.attach(label, transaction, dtimout);
     tell_attached(label, transaction, answer, out)?;
@@ -219,7 +228,9 @@ fn tell_attached(
     answer: Result<(), Refused>,
     out: &mut Vec<u8>,
 ) -> Result<(), NoMemory>
-    ensures text { OnOk result (out.new.items ≡ out.old.items ++ told_line (λ _. attached_line label transaction) (refused_line label) answer) }
+    ensures text { OnOk result (out.new.items
+        ≡ out.old.items ++ told_line (λ _. attached_line label transaction)
+        (refused_line label) answer) }
     ensures answered { OnOk result (IsAnswered answer) }
 {
     match answer {
@@ -231,7 +242,8 @@ fn tell_attached(
 
 // Sets the clock of the region, and prints what comes of it.
 fn set_clock(region: &mut Region, seconds: u64, out: &mut Vec<u8>) -> Result<(), NoMemory>
-    ensures { Happens (clock_moved region.old.machine seconds) region.new out.old.items out.new.items result }
+    ensures { Happens (clock_moved region.old.machine seconds) region.new out.old.items out.new.items
+        result }
 {
     let answer = region.set_clock(seconds);
     tell_clock(seconds, answer, out)?;
@@ -239,7 +251,8 @@ fn set_clock(region: &mut Region, seconds: u64, out: &mut Vec<u8>) -> Result<(),
 }
 
 fn tell_clock(seconds: u64, answer: Result<(), Refused>, out: &mut Vec<u8>) -> Result<(), NoMemory>
-    ensures text { OnOk result (out.new.items ≡ out.old.items ++ told_line (λ _. clock_line seconds) clock_refused_line answer) }
+    ensures text { OnOk result (out.new.items
+        ≡ out.old.items ++ told_line (λ _. clock_line seconds) clock_refused_line answer) }
     ensures answered { OnOk result (IsAnswered answer) }
 {
     match answer {
@@ -257,7 +270,8 @@ fn issue(
     out: &mut Vec<u8>,
 ) -> Result<(), NoMemory>
     requires { asks_no_queue command.verb ≡ true }
-    ensures { Happens (command_issued region.old.machine label command) region.new out.old.items out.new.items result }
+    ensures { Happens (command_issued region.old.machine label command) region.new out.old.items
+        out.new.items result }
 {
     let answer = region.issue(label, command);
     tell_issued(label, answer, out)?;
@@ -269,7 +283,8 @@ fn tell_issued(
     answer: Result<Outcome, Refused>,
     out: &mut Vec<u8>,
 ) -> Result<(), NoMemory>
-    ensures text { OnOk result (out.new.items ≡ out.old.items ++ told_line (outcome_line label) (refused_line label) answer) }
+    ensures text { OnOk result (out.new.items
+        ≡ out.old.items ++ told_line (outcome_line label) (refused_line label) answer) }
     ensures answered { OnOk result (IsAnswered answer) }
 {
     match &answer {
@@ -281,7 +296,8 @@ fn tell_issued(
 
 // Goes on behind the line of an event: the region settles.
 fn go_on(region: &mut Region, out: &mut Vec<u8>) -> Result<(), NoMemory>
-    ensures { (before text : List ℕ) → out.old.items ≡ before ++ text → Happens (event text region.old.machine) region.new before out.new.items result }
+    ensures { (before text : List ℕ) → out.old.items ≡ before ++ text →
+        Happens (event text region.old.machine) region.new before out.new.items result }
 {
     settle(region, out)
 }

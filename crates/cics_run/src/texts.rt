@@ -3,7 +3,8 @@
 ghost use Rattle.std.specs.Prelude.{◌≡◌, ◌++◌, ◌<◌, OnOk, codes};
 ghost use Rattle.std.specs.List.{flat_map, list_all};
 ghost use Rattle.std.specs.Fmt.{decimal};
-ghost use Rattle.cics_run.specs.Texts.{has_character, doubled, quoted, digit, hexadecimal, text_of, unfilled, name_text, bare, shown};
+ghost use Rattle.cics_run.specs.Texts.{has_character, doubled, quoted, digit, hexadecimal, text_of};
+ghost use Rattle.cics_run.specs.Texts.{unfilled, name_text, bare, shown};
 
 use cics_names::{NoMemory, from_ebcdic};
 

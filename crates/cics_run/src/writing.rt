@@ -44,7 +44,8 @@ fn write_all<W: Write>(writer: &mut W, bytes: &[u8]) -> Result<(), Stop>
 /// Writes what is pending.
 pub fn write_pending<W: Write>(pending: &mut Vec<u8>, writer: &mut W) -> Result<(), Stop>
     ensures ok { OnOk result (Appends (W.contents writer.old) (W.contents writer.new) pending.old.items) }
-    ensures err { OnErr result (AppendsFront (W.contents writer.old) (W.contents writer.new) pending.old.items) }
+    ensures err { OnErr result
+        (AppendsFront (W.contents writer.old) (W.contents writer.new) pending.old.items) }
     ensures left { OnOk result (pending.new.items ≡ []) }
 {
     match write_all(writer, pending) {
@@ -62,9 +63,11 @@ pub fn write_printed<W: Write>(
     writer: &mut W,
     at_once: bool,
 ) -> Result<(), Stop>
-    ensures printed { OnOk result (Prints (W.contents writer.old) (W.contents writer.new) pending.old.items pending.new.items []) }
+    ensures printed { OnOk result (Prints (W.contents writer.old)
+        (W.contents writer.new) pending.old.items pending.new.items []) }
     ensures left { OnOk result (at_once ≡ true → pending.new.items ≡ []) }
-    ensures err { OnErr result (AppendsFront (W.contents writer.old) (W.contents writer.new) pending.old.items) }
+    ensures err { OnErr result
+        (AppendsFront (W.contents writer.old) (W.contents writer.new) pending.old.items) }
 {
     if at_once || pending.len() >= FULL {
         return write_pending(pending, writer);

@@ -5,7 +5,10 @@ ghost use Rattle.std.specs.List.{list_all};
 ghost use Rattle.cics_script.specs.Faults.{Reads};
 ghost use Rattle.cics_script.specs.Tokens.{capital, tokens, after_blanks, is_capital, is_digit};
 ghost use Rattle.cics_script.specs.Views.{entries, GivesWord, GivesNumber, GivesRest};
-ghost use Rattle.cics_script.specs.Lines.{recovery_in, definition_in, load_in, attach_in, word_first, behind, label_in, define, load, attach, number_first, clock, command_line, issue, statement, is_script_byte, is_empty_or_comment, line, AsksNoQueue};
+ghost use Rattle.cics_script.specs.Lines.{recovery_in, definition_in, load_in, attach_in};
+ghost use Rattle.cics_script.specs.Lines.{word_first, behind, label_in, define, load, attach};
+ghost use Rattle.cics_script.specs.Lines.{number_first, clock, command_line, issue, statement};
+ghost use Rattle.cics_script.specs.Lines.{is_script_byte, is_empty_or_comment, line, AsksNoQueue};
 
 use crate::commands::{is_handled, verb_of};
 use crate::faults::LineFault;

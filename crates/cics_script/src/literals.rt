@@ -116,7 +116,8 @@ fn encoded_byte(encoding: Encoding, byte: u8) -> u8
 impl<'a> Literal<'a> {
     /// The line behind the literal, or nothing where the bytes behind the quote are no literal.
     pub fn rest(self) -> Option<&'a [u8]>
-        ensures { option_map (λ rest. rest.now) result ≡ option_map (λ t. t.1) (text_in self.entry.notation self.entry.behind_quote.now) }
+        ensures { option_map (λ rest. rest.now) result
+            ≡ option_map (λ t. t.1) (text_in self.entry.notation self.entry.behind_quote.now) }
     {
         let mut rest = self.behind_quote;
         'pieces: loop {
@@ -130,7 +131,9 @@ impl<'a> Literal<'a> {
 
     /// What the literal says: its characters with `''` once, or the bytes that its digits make.
     pub fn copy(self, alloc: Global, encoding: Encoding) -> Result<Vec<u8>, AllocError>
-        ensures { IfOk result (λ text. text.items ≡ encoded_text encoding (said (text_in self.entry.notation self.entry.behind_quote.now))) }
+        ensures { IfOk result (λ text. text.items
+            ≡ encoded_text encoding
+            (said (text_in self.entry.notation self.entry.behind_quote.now))) }
     {
         let mut text = Vec::new(alloc);
         let mut rest = self.behind_quote;
@@ -148,7 +151,9 @@ impl<'a> Literal<'a> {
 
     /// The record that the literal writes: a quoted one in EBCDIC.
     pub fn record(self, alloc: Global) -> Result<Record, NoMemory>
-        ensures { IfOk result (λ made. made ≡ recorded self.entry.notation (said (text_in self.entry.notation self.entry.behind_quote.now))) }
+        ensures { IfOk result (λ made. made
+            ≡ recorded self.entry.notation
+            (said (text_in self.entry.notation self.entry.behind_quote.now))) }
     {
         match self.notation {
             Notation::Quoted => Ok(Record::new(self.copy(alloc, Encoding::Ebcdic)?)),

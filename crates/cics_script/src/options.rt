@@ -4,8 +4,10 @@ ghost use Rattle.std.specs.Prelude.{◌≡◌, ◌++◌, ◌∷◌, [], ◌<◌,
 ghost use Rattle.std.specs.List.{list_any};
 ghost use Rattle.cics_script.specs.Words.{same, excludes, kind_in};
 ghost use Rattle.cics_script.specs.Tokens.{tokens, capital};
-ghost use Rattle.cics_script.specs.Options.{Content, Entry, fault_of, content_in, surplus, allowed, at_option, at_opening, at_value, at_closing, options};
-ghost use Rattle.cics_script.specs.Views.{view, content, entries, GivesContent, Steps, Enters, Ends, GivesEntries};
+ghost use Rattle.cics_script.specs.Options.{Content, Entry, fault_of, content_in, surplus, allowed};
+ghost use Rattle.cics_script.specs.Options.{at_option, at_opening, at_value, at_closing, options};
+ghost use Rattle.cics_script.specs.Views.{view, content, entries, GivesContent, Steps, Enters};
+ghost use Rattle.cics_script.specs.Views.{Ends, GivesEntries};
 ghost use Rattle.std.specs.Prelude.{map};
 
 use crate::faults::LineFault;
@@ -210,7 +212,8 @@ fn read_option<'a>(
     word: &[u8],
     bytes: &'a [u8],
 ) -> Result<Next<'a>, LineFault>
-    ensures { (last : Option Kind) → Enters form last (entries found.now) (map capital word.now) bytes.entry.now result }
+    ensures { (last : Option Kind) →
+        Enters form last (entries found.now) (map capital word.now) bytes.entry.now result }
 {
     let Some(option) = option_named(word) else {
         return Err(LineFault::UnknownWord);

@@ -7,7 +7,9 @@ ghost use Rattle.cics_script.specs.Tokens.{Token, word};
 ghost use Rattle.cics_script.specs.Options.{Entry};
 ghost use Rattle.cics_script.specs.Lines.{command_line, label_in, line};
 ghost use Rattle.cics_script.specs.Layout.{is_word, laid_out};
-ghost use Rattle.cics_script.specs.Spelling.{Written, command_word, option_tokens, command_tokens, options_of, word_of, AreOptions, AreApart, Says, AreWritten, AllCanBeGiven, go_together, Spelling};
+ghost use Rattle.cics_script.specs.Spelling.{Written, command_word, option_tokens, command_tokens};
+ghost use Rattle.cics_script.specs.Spelling.{options_of, word_of, AreOptions, AreApart, Says};
+ghost use Rattle.cics_script.specs.Spelling.{AreWritten, AllCanBeGiven, go_together, Spelling};
 
 use crate::lines::Line;
 use crate::words::{CommandWord, Form};

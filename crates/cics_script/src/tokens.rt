@@ -1,8 +1,11 @@
 //! The tokens of a line: words, numbers, literals and parentheses.
 
-ghost use Rattle.std.specs.Prelude.{◌≡◌, ◌==◌, ◌+◌, ◌-◌, ◌*◌, ◌<◌, ◌≤◌, ◌^◌, Option, Some, None, length, nat_lt, if◌then◌else◌, option_map};
+ghost use Rattle.std.specs.Prelude.{◌≡◌, ◌==◌, ◌+◌, ◌-◌, ◌*◌, ◌<◌, ◌≤◌, ◌^◌, Option, Some, None};
+ghost use Rattle.std.specs.Prelude.{length, nat_lt, if◌then◌else◌, option_map};
 ghost use Rattle.std.specs.List.{prefix_len};
-ghost use Rattle.cics_script.specs.Tokens.{is_blank, is_digit, is_letter, is_word_byte, after_blanks, value_of, text_in, token_at, number_at, word_at, as_literal, behind_x};
+ghost use Rattle.cics_script.specs.Tokens.{is_blank, is_digit, is_letter, is_word_byte};
+ghost use Rattle.cics_script.specs.Tokens.{after_blanks, value_of, text_in, token_at, number_at};
+ghost use Rattle.cics_script.specs.Tokens.{word_at, as_literal, behind_x};
 ghost use Rattle.cics_script.specs.Views.{GivesToken, Takes};
 
 use crate::faults::LineFault;
@@ -73,7 +76,8 @@ pub fn skip_blanks(bytes: &[u8]) -> &[u8]
 
 // A number with one digit more, where it fits.
 fn with_digit(value: u64, digit: u8) -> Option<u64>
-    ensures { result ≡ (if nat_lt (value * 10 + (digit - 48)) (2 ^ 64) then Some (value * 10 + (digit - 48)) else None) }
+    ensures { result ≡ (if nat_lt (value * 10 + (digit - 48)) (2 ^ 64) then Some
+        (value * 10 + (digit - 48)) else None) }
 {
     value
         .checked_mul(10)?
@@ -82,7 +86,8 @@ fn with_digit(value: u64, digit: u8) -> Option<u64>
 
 // The value of digits, where it fits.
 fn number_of(digits: &[u8]) -> Option<u64>
-    ensures { result ≡ (if nat_lt (value_of digits.now) (2 ^ 64) then Some (value_of digits.now) else None) }
+    ensures { result ≡ (if nat_lt (value_of digits.now) (2 ^ 64) then Some
+        (value_of digits.now) else None) }
 {
     let mut value = 0;
     for digit in digits {

@@ -3,7 +3,8 @@
 ghost use Rattle.std.specs.Prelude.{◌≡◌, Ok, option_map};
 ghost use Rattle.cics_script.specs.Faults.{Reads};
 ghost use Rattle.cics_script.specs.Views.{content, entries};
-ghost use Rattle.cics_script.specs.Values.{content_at, text_at, name8_at, name4_at, amount_at, needed};
+ghost use Rattle.cics_script.specs.Values.{content_at, text_at, name8_at, name4_at, amount_at};
+ghost use Rattle.cics_script.specs.Values.{needed};
 
 use crate::faults::LineFault;
 use crate::options::{Found, Value};

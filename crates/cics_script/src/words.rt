@@ -4,7 +4,9 @@ ghost use Rattle.std.specs.Prelude.{◌≡◌, ◌||◌, ◌&&◌, Option, Some,
 ghost use Rattle.std.specs.List.{list_any};
 ghost use Rattle.std.specs.Str.{bytes_eq};
 ghost use Rattle.cics_script.specs.Tokens.{capital};
-ghost use Rattle.cics_script.specs.Words.{lookup, starts, define_objects, load_objects, commands, option_words, same, kind_among, kind_in, options_of_command, is_pair_in, excludes};
+ghost use Rattle.cics_script.specs.Words.{lookup, starts, define_objects, load_objects, commands};
+ghost use Rattle.cics_script.specs.Words.{option_words, same, kind_among, kind_in};
+ghost use Rattle.cics_script.specs.Words.{options_of_command, is_pair_in, excludes};
 
 /// What the first word of a line makes of it, where the word is no label.
 #[derive(Clone, Copy, Debug, PartialEq, Eq)]
