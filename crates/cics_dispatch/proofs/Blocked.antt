@@ -10,15 +10,16 @@ use Rattle.cics_names.specs.Keyed.{Bytes, is_same}
 use Rattle.cics_enqueue.specs.Resources.{bytes_of, overlaps, is_other, is_prefix}
 use Rattle.cics_enqueue.specs.declared.resources.Resource.{Resource}
 use Rattle.cics_enqueue.specs.declared.resources.Resource.TheVariants.{User}
-use Rattle.cics_units.specs.Holding.{UnitsState, uses_of, held_by, held_table, first_holder, first_some, holder_among, writer_awaited, awaited}
-use Rattle.cics_units.specs.Execution.{IsOpenUnit}
-use Rattle.cics_units.specs.Events.{is_live}
-use Rattle.cics_units.specs.TableInPlace.{record_of, file_of, key_of}
-use Rattle.cics_units.specs.declared.ops.Op.{Op}
-use Rattle.cics_units.specs.declared.ops.Op.TheVariants.{Write, Rewrite, Delete, ReadUpdate}
-use Rattle.cics_units.proofs.Waiting.{none_first, none_either, in_table}
-use Rattle.cics_units.proofs.Holders.{any_only}
-use Rattle.cics_units.proofs.States.{holder_holds}
+use Rattle.cics_history.specs.Holding.{UnitsState, uses_of, held_by, held_table, first_holder, first_some, holder_among, writer_awaited, awaited}
+use Rattle.cics_history.specs.Execution.{IsOpenUnit}
+use Rattle.cics_history.specs.Events.{is_live}
+use Rattle.cics_history.specs.Records.{file_of, key_of}
+use Rattle.cics_units.specs.TableInPlace.{record_of}
+use Rattle.cics_history.specs.declared.ops.Op.{Op}
+use Rattle.cics_history.specs.declared.ops.Op.TheVariants.{Write, Rewrite, Delete, ReadUpdate}
+use Rattle.cics_history.proofs.Waiting.{none_first, none_either, in_table}
+use Rattle.cics_history.proofs.Holders.{any_only}
+use Rattle.cics_history.proofs.States.{holder_holds}
 use Rattle.cics_dispatch.specs.Machine.{Machine, Task, Suspended, task_at}
 use Rattle.cics_dispatch.specs.Steps.{op_of}
 use Rattle.cics_names.specs.Commands.{asks_no_queue}

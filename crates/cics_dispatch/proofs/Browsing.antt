@@ -12,7 +12,7 @@ use Rattle.cics_names.specs.KeyedLaws.{same_bytes}
 use Rattle.cics_names.specs.RisingLaws.{rising-without}
 use Rattle.cics_browse.specs.Positions.{Position}
 use Rattle.cics_dispatch.specs.Browses.{moved}
-use Rattle.cics_units.proofs.Entries.{value_at-looked_up, with_value-set, rising-set, unchanged-set}
+use Rattle.cics_history.proofs.Entries.{value_at-looked_up, with_value-set, rising-set, unchanged-set}
 
 first : (a b : Bool) → T (a && b) → T a
 first true b p = tt

@@ -9,11 +9,11 @@ use Rattle.cics_names.specs.declared.conditions.Condition.TheVariants.{Normal, N
 use Rattle.cics_browse.specs.Positions.{Position, finds_start, start_at, read_next, after_next, read_prev, after_prev, reset_condition, after_reset}
 use Rattle.cics_browse.specs.declared.browses.Browsed.{Browsed}
 use Rattle.cics_enqueue.specs.Resources.{most_count}
-use Rattle.cics_units.specs.Holding.{awaited, value_holder, store_of}
-use Rattle.cics_units.specs.Store.{apply}
-use Rattle.cics_units.specs.Execution.{unit_or_next, done_of, execution, after_execution, count_at, enq_of, enqueue, after_enqueue, ts_reading, after_ts_reading, item_asked}
-use Rattle.cics_units.specs.declared.ops.Op.{Op}
-use Rattle.cics_units.specs.declared.ops.Enqueued.TheVariants.{Taken, CountFull}
+use Rattle.cics_history.specs.Holding.{awaited, value_holder, store_of}
+use Rattle.cics_history.specs.Store.{apply}
+use Rattle.cics_history.specs.Execution.{unit_or_next, done_of, execution, after_execution, count_at, enq_of, enqueue, after_enqueue, ts_reading, after_ts_reading, item_asked}
+use Rattle.cics_history.specs.declared.ops.Op.{Op}
+use Rattle.cics_history.specs.declared.ops.Enqueued.TheVariants.{Taken, CountFull}
 use Rattle.cics_dispatch.specs.Machine.{Machine, Task, Suspended, task_at, is_waiting, not_waiting, with_waiting, with_units, with_task, with_unit, with_browses, records_in}
 use Rattle.cics_dispatch.specs.Replies.{plain, cut, read_reply}
 use Rattle.cics_names.specs.Commands.{length_of}

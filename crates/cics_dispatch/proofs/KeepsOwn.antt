@@ -11,18 +11,18 @@ use Rattle.cics_ksds.specs.Prefixes.{has_prefix}
 use Rattle.cics_enqueue.specs.Resources.{bytes_of}
 use Rattle.cics_enqueue.specs.declared.resources.Resource.{Resource}
 use Rattle.cics_enqueue.specs.declared.resources.Resource.TheVariants.{FileKey, User}
-use Rattle.cics_units.specs.Openings.{OpeningState, file_recoverable}
-use Rattle.cics_units.specs.Store.{is_normal}
-use Rattle.cics_units.specs.History.{outcome_of, is_open}
-use Rattle.cics_units.specs.Holding.{UnitsState, UpdateRead, EnqCount, held_by_entry, held_by_read, held_by_count, held_by}
-use Rattle.cics_units.specs.Execution.{unit_or_next, outcomes_with, is_read_of, is_read_before, with_read, covers, opened, reads_after, entered, is_count, counted, with_counts, after_unlock}
-use Rattle.cics_units.specs.Events.{is_live}
-use Rattle.cics_units.specs.declared.ops.Op.{Op}
-use Rattle.cics_units.specs.declared.ops.Op.TheVariants.{Write, Rewrite, Delete, DeleteGeneric, ReadUpdate, TsWrite, TsRewrite, TsDelete, TdWrite, TdRead, TdDelete}
-use Rattle.cics_units.specs.declared.ops.Answer.{Answer}
-use Rattle.cics_units.proofs.Outcomes.{outcome_of-with}
-use Rattle.cics_units.proofs.Waiting.{any_flat_map}
-use Rattle.cics_units.proofs.Holders.{any_if}
+use Rattle.cics_history.specs.Openings.{OpeningState, file_recoverable}
+use Rattle.cics_history.specs.Store.{is_normal}
+use Rattle.cics_history.specs.History.{outcome_of, is_open}
+use Rattle.cics_history.specs.Holding.{UnitsState, UpdateRead, EnqCount, held_by_entry, held_by_read, held_by_count, held_by}
+use Rattle.cics_history.specs.Execution.{unit_or_next, outcomes_with, is_read_of, is_read_before, with_read, covers, opened, reads_after, entered, is_count, counted, with_counts, after_unlock}
+use Rattle.cics_history.specs.Events.{is_live}
+use Rattle.cics_history.specs.declared.ops.Op.{Op}
+use Rattle.cics_history.specs.declared.ops.Op.TheVariants.{Write, Rewrite, Delete, DeleteGeneric, ReadUpdate, TsWrite, TsRewrite, TsDelete, TdWrite, TdRead, TdDelete}
+use Rattle.cics_history.specs.declared.ops.Answer.{Answer}
+use Rattle.cics_history.proofs.Outcomes.{outcome_of-with}
+use Rattle.cics_history.proofs.Waiting.{any_flat_map}
+use Rattle.cics_history.proofs.Holders.{any_if}
 use Rattle.cics_dispatch.proofs.OtherUnits.{lives_with}
 
 -- an open unit is open yet, and what it holds passes a test yet

@@ -9,16 +9,16 @@ use Rattle.cics_names.specs.declared.conditions.Condition.{Condition}
 use Rattle.cics_names.specs.declared.conditions.Condition.TheVariants.{Normal, Notfnd, Invreq}
 use Rattle.cics_browse.specs.Positions.{Position, finds_start, start_at, read_next, after_next, read_prev, after_prev, after_reset, reset_condition}
 use Rattle.cics_browse.specs.declared.browses.Browsed.{Browsed}
-use Rattle.cics_units.specs.Openings.{OpeningState, file_recoverable}
-use Rattle.cics_units.specs.Store.{apply}
-use Rattle.cics_units.specs.Holding.{store_of, awaited, value_holder}
-use Rattle.cics_units.specs.Execution.{unit_or_next, state_of, execution, after_execution, enqueue, after_enqueued, after_enqueue}
-use Rattle.cics_units.specs.declared.ops.Op.{Op}
-use Rattle.cics_units.specs.declared.ops.Op.TheVariants as op
-use Rattle.cics_units.specs.declared.ops.Done.{Done}
-use Rattle.cics_units.specs.declared.ops.Done.TheVariants.{Answered, MustWait}
-use Rattle.cics_units.specs.declared.ops.Enqueued.{Enqueued}
-use Rattle.cics_units.specs.declared.ops.Enqueued.TheVariants.{Taken, MustWait as EnqMustWait, CountFull}
+use Rattle.cics_history.specs.Openings.{OpeningState, file_recoverable}
+use Rattle.cics_history.specs.Store.{apply}
+use Rattle.cics_history.specs.Holding.{store_of, awaited, value_holder}
+use Rattle.cics_history.specs.Execution.{unit_or_next, state_of, execution, after_execution, enqueue, after_enqueued, after_enqueue}
+use Rattle.cics_history.specs.declared.ops.Op.{Op}
+use Rattle.cics_history.specs.declared.ops.Op.TheVariants as op
+use Rattle.cics_history.specs.declared.ops.Done.{Done}
+use Rattle.cics_history.specs.declared.ops.Done.TheVariants.{Answered, MustWait}
+use Rattle.cics_history.specs.declared.ops.Enqueued.{Enqueued}
+use Rattle.cics_history.specs.declared.ops.Enqueued.TheVariants.{Taken, MustWait as EnqMustWait, CountFull}
 use Rattle.cics_dispatch.specs.Lengths.{used_of}
 use Rattle.cics_dispatch.specs.Replies.{plain}
 use Rattle.cics_dispatch.specs.Machine.{Machine, Task, with_task, with_units, with_unit, with_browses, records_in}

@@ -10,13 +10,13 @@ use Rattle.cics_names.specs.declared.conditions.Condition.TheVariants.{Normal, N
 use Rattle.cics_names.specs.declared.conditions.AbendCode.{AbendCode}
 use Rattle.cics_browse.specs.Positions.{Position, finds_start, start_at, after_next, read_next, after_prev, read_prev, after_reset}
 use Rattle.cics_browse.specs.declared.browses.Browsed.{Browsed}
-use Rattle.cics_units.specs.Execution.{execution, after_execution, enqueue, after_enqueue}
-use Rattle.cics_units.specs.declared.ops.Op.{Op}
-use Rattle.cics_units.specs.declared.ops.Done.{Done}
-use Rattle.cics_units.specs.declared.ops.Done.TheVariants.{Answered, MustWait}
-use Rattle.cics_units.specs.declared.ops.Enqueued.{Enqueued}
-use Rattle.cics_units.specs.declared.ops.Enqueued.TheVariants.{Taken, MustWait as EnqMustWait, CountFull}
-use Rattle.cics_units.specs.declared.ops.UnitState.TheVariants.{Committed, BackedOut}
+use Rattle.cics_history.specs.Execution.{execution, after_execution, enqueue, after_enqueue}
+use Rattle.cics_history.specs.declared.ops.Op.{Op}
+use Rattle.cics_history.specs.declared.ops.Done.{Done}
+use Rattle.cics_history.specs.declared.ops.Done.TheVariants.{Answered, MustWait}
+use Rattle.cics_history.specs.declared.ops.Enqueued.{Enqueued}
+use Rattle.cics_history.specs.declared.ops.Enqueued.TheVariants.{Taken, MustWait as EnqMustWait, CountFull}
+use Rattle.cics_history.specs.declared.ops.UnitState.TheVariants.{Committed, BackedOut}
 use Rattle.cics_dispatch.specs.Replies.{plain}
 use Rattle.cics_dispatch.specs.Machine.{Machine, Task, Suspended, task_at, is_waiting, not_waiting, with_task, with_units, with_waiting, with_unit, with_browses, records_in}
 use Rattle.cics_dispatch.specs.Checks.{fault_of}

@@ -7,18 +7,18 @@ use Rattle.cics_names.specs.Keyed.{Bytes, Map, value_at, is_same}
 use Rattle.cics_names.specs.KeyedLaws.{is_same-self}
 use Rattle.cics_browse.specs.Positions.{Position}
 use Rattle.cics_enqueue.specs.Resources.{most_count}
-use Rattle.cics_units.specs.Openings.{OpeningState}
-use Rattle.cics_units.specs.Holding.{UnitsState, store_of, awaited, value_holder}
-use Rattle.cics_units.specs.Store.{apply}
-use Rattle.cics_units.specs.History.{outcome_of, is_open}
-use Rattle.cics_units.specs.Execution.{has_read, unit_or_next, count_at, counted, done_of, state_of, execution, after_execution, enq_of, enqueue, after_enqueued, after_enqueue, after_dequeue, after_unlock, IsOpenUnit, IsOpenOrNone}
-use Rattle.cics_units.specs.Events.{is_live, may_act}
-use Rattle.cics_units.specs.declared.ops.Op.{Op}
-use Rattle.cics_units.specs.declared.ops.Answer.{Answer}
-use Rattle.cics_units.specs.declared.ops.Done.TheVariants.{Answered}
-use Rattle.cics_units.specs.declared.ops.Enqueued.TheVariants.{Taken, CountFull}
-use Rattle.cics_units.specs.declared.ops.UnitState.{UnitState}
-use Rattle.cics_units.specs.declared.ops.UnitState.TheVariants.{BackedOut}
+use Rattle.cics_history.specs.Openings.{OpeningState}
+use Rattle.cics_history.specs.Holding.{UnitsState, store_of, awaited, value_holder}
+use Rattle.cics_history.specs.Store.{apply}
+use Rattle.cics_history.specs.History.{outcome_of, is_open}
+use Rattle.cics_history.specs.Execution.{has_read, unit_or_next, count_at, counted, done_of, state_of, execution, after_execution, enq_of, enqueue, after_enqueued, after_enqueue, after_dequeue, after_unlock, IsOpenUnit, IsOpenOrNone}
+use Rattle.cics_history.specs.Events.{is_live, may_act}
+use Rattle.cics_history.specs.declared.ops.Op.{Op}
+use Rattle.cics_history.specs.declared.ops.Answer.{Answer}
+use Rattle.cics_history.specs.declared.ops.Done.TheVariants.{Answered}
+use Rattle.cics_history.specs.declared.ops.Enqueued.TheVariants.{Taken, CountFull}
+use Rattle.cics_history.specs.declared.ops.UnitState.{UnitState}
+use Rattle.cics_history.specs.declared.ops.UnitState.TheVariants.{BackedOut}
 use Rattle.cics_dispatch.specs.Machine.{Machine, Task, Suspended, beginning_region, task_at, replaced, is_waiting, not_waiting, with_task, with_units, with_waiting, with_unit, with_browses, units_after, unit_closed, abended}
 use Rattle.cics_dispatch.specs.Checks.{open_key, fault_of}
 use Rattle.cics_dispatch.specs.Steps.{new_task, with_new_task, unlocked, dequeued}

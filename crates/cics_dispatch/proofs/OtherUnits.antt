@@ -6,18 +6,18 @@ use Rattle.std.proofs.lemmas.List.{length-set}
 use Rattle.cics_names.specs.Keyed.{Bytes, is_same}
 use Rattle.cics_names.specs.declared.conditions.Condition.{Condition}
 use Rattle.cics_ksds.specs.Prefixes.{has_prefix}
-use Rattle.cics_units.specs.Store.{is_normal}
-use Rattle.cics_units.specs.History.{outcome_of, is_open}
-use Rattle.cics_units.specs.Holding.{UnitsState, UpdateRead, EnqCount}
-use Rattle.cics_units.specs.Execution.{unit_or_next, outcomes_with, is_read_of, read_at, is_read_before, with_read, covers, opened, reads_after, entered, with_counts, after_unlock, after_dequeue, after_end}
-use Rattle.cics_units.specs.Events.{may_act, is_live}
-use Rattle.cics_units.specs.declared.ops.Op.{Op}
-use Rattle.cics_units.specs.declared.ops.Op.TheVariants.{Write, Rewrite, Delete, DeleteGeneric, ReadUpdate, TsWrite, TsRewrite, TsDelete, TdWrite, TdRead, TdDelete}
-use Rattle.cics_units.specs.declared.ops.Answer.{Answer}
-use Rattle.cics_units.specs.declared.ops.UnitState.{UnitState}
-use Rattle.cics_units.specs.declared.ops.UnitState.TheVariants.{Open}
-use Rattle.cics_units.proofs.Outcomes.{outcome_of-push, outcome_of-set}
-use Rattle.cics_units.proofs.States.{acting_open}
+use Rattle.cics_history.specs.Store.{is_normal}
+use Rattle.cics_history.specs.History.{outcome_of, is_open}
+use Rattle.cics_history.specs.Holding.{UnitsState, UpdateRead, EnqCount}
+use Rattle.cics_history.specs.Execution.{unit_or_next, outcomes_with, is_read_of, read_at, is_read_before, with_read, covers, opened, reads_after, entered, with_counts, after_unlock, after_dequeue, after_end}
+use Rattle.cics_history.specs.Events.{may_act, is_live}
+use Rattle.cics_history.specs.declared.ops.Op.{Op}
+use Rattle.cics_history.specs.declared.ops.Op.TheVariants.{Write, Rewrite, Delete, DeleteGeneric, ReadUpdate, TsWrite, TsRewrite, TsDelete, TdWrite, TdRead, TdDelete}
+use Rattle.cics_history.specs.declared.ops.Answer.{Answer}
+use Rattle.cics_history.specs.declared.ops.UnitState.{UnitState}
+use Rattle.cics_history.specs.declared.ops.UnitState.TheVariants.{Open}
+use Rattle.cics_history.proofs.Outcomes.{outcome_of-push, outcome_of-set}
+use Rattle.cics_history.proofs.States.{acting_open}
 use Rattle.cics_dispatch.specs.Machine.{units_after}
 
 -- a step of a unit, or of a task without one, leaves the opening, and every other open unit with its update reads

@@ -14,21 +14,21 @@ use Rattle.cics_browse.specs.declared.browses.Browsed.{Browsed}
 use Rattle.cics_tempstor.specs.Queues.{has_item}
 use Rattle.cics_enqueue.specs.Resources.{most_count}
 use Rattle.cics_dispatch.proofs.Elements.{get-set, get-pushed}
-use Rattle.cics_units.specs.Openings.{OpeningState}
-use Rattle.cics_units.specs.Store.{ts_queue}
-use Rattle.cics_units.specs.History.{outcome_of, is_open}
-use Rattle.cics_units.specs.Holding.{UnitsState, store_of, awaited, value_holder}
-use Rattle.cics_units.specs.Execution.{count_at, item_asked, ts_reading, after_ts_reading, unit_or_next, outcomes_with, done_of, state_of, execution, after_execution, enq_of, enqueue, after_enqueue, after_enqueued}
-use Rattle.cics_units.specs.Headline.{beginning}
-use Rattle.cics_units.specs.Events.{is_live}
-use Rattle.cics_units.specs.declared.ops.Op.{Op}
-use Rattle.cics_units.specs.declared.ops.Answer.{Answer}
-use Rattle.cics_units.specs.declared.ops.Done.{Done}
-use Rattle.cics_units.specs.declared.ops.Done.TheVariants.{Answered, MustWait}
-use Rattle.cics_units.specs.declared.ops.Enqueued.{Enqueued}
-use Rattle.cics_units.specs.declared.ops.Enqueued.TheVariants.{Taken, MustWait as EnqMustWait, CountFull}
-use Rattle.cics_units.specs.declared.ops.UnitState.{UnitState}
-use Rattle.cics_units.specs.declared.ops.UnitState.TheVariants.{Open, Committed, BackedOut}
+use Rattle.cics_history.specs.Openings.{OpeningState}
+use Rattle.cics_history.specs.Store.{ts_queue}
+use Rattle.cics_history.specs.History.{outcome_of, is_open}
+use Rattle.cics_history.specs.Holding.{UnitsState, store_of, awaited, value_holder}
+use Rattle.cics_history.specs.Execution.{count_at, item_asked, ts_reading, after_ts_reading, unit_or_next, outcomes_with, done_of, state_of, execution, after_execution, enq_of, enqueue, after_enqueue, after_enqueued}
+use Rattle.cics_history.specs.Headline.{beginning}
+use Rattle.cics_history.specs.Events.{is_live}
+use Rattle.cics_history.specs.declared.ops.Op.{Op}
+use Rattle.cics_history.specs.declared.ops.Answer.{Answer}
+use Rattle.cics_history.specs.declared.ops.Done.{Done}
+use Rattle.cics_history.specs.declared.ops.Done.TheVariants.{Answered, MustWait}
+use Rattle.cics_history.specs.declared.ops.Enqueued.{Enqueued}
+use Rattle.cics_history.specs.declared.ops.Enqueued.TheVariants.{Taken, MustWait as EnqMustWait, CountFull}
+use Rattle.cics_history.specs.declared.ops.UnitState.{UnitState}
+use Rattle.cics_history.specs.declared.ops.UnitState.TheVariants.{Open, Committed, BackedOut}
 use Rattle.cics_dispatch.specs.Replies.{plain, cut, read_reply}
 use Rattle.cics_dispatch.specs.Machine.{Machine, Task, Suspended, beginning_region, task_at, replaced, is_unit, with_task, with_units, with_waiting, with_unit, with_browses, units_after, unit_closed, abended, not_waiting, records_in}
 use Rattle.cics_dispatch.specs.Checks.{fault_of}

@@ -9,11 +9,11 @@ use Rattle.cics_names.specs.declared.conditions.Condition.{Condition}
 use Rattle.cics_names.specs.declared.conditions.Condition.TheVariants.{Invreq, Lengerr}
 use Rattle.cics_ksds.specs.Files.{key_of as key_in, fits_file}
 use Rattle.cics_ksds.specs.declared.definition.FileDef.{FileDef}
-use Rattle.cics_units.specs.Openings.{FileOpening, is_key}
-use Rattle.cics_units.specs.Execution.{is_fit_for, is_ready_op}
-use Rattle.cics_units.specs.declared.ops.Op.{Op}
-use Rattle.cics_units.specs.declared.ops.Op.TheVariants as op
-use Rattle.cics_units.specs.declared.ops.Op.TheVariants.{TsWrite, TsRewrite, TsDelete, TdWrite, TdRead, TdDelete}
+use Rattle.cics_history.specs.Openings.{FileOpening, is_key}
+use Rattle.cics_history.specs.Execution.{is_fit_for, is_ready_op}
+use Rattle.cics_history.specs.declared.ops.Op.{Op}
+use Rattle.cics_history.specs.declared.ops.Op.TheVariants as op
+use Rattle.cics_history.specs.declared.ops.Op.TheVariants.{TsWrite, TsRewrite, TsDelete, TdWrite, TdRead, TdDelete}
 use Rattle.cics_dispatch.specs.Lengths.{fault_unless, first_fault, is_length_given, is_key_length, key_fault, is_within, used_of, from_fault, own_key_fault, write_fault}
 use Rattle.cics_dispatch.specs.Machine.{Machine, Task, definition_of}
 use Rattle.cics_dispatch.specs.Checks.{defined_fault, open_key, read_fault, rewrite_fault, delete_fault, fault_of}

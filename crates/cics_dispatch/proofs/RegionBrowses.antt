@@ -8,8 +8,8 @@ use Rattle.cics_names.specs.declared.conditions.Condition.{Condition}
 use Rattle.cics_names.specs.declared.conditions.Condition.TheVariants.{Normal, Notfnd, Invreq}
 use Rattle.cics_browse.specs.Positions.{Position, finds_start, start_at, reset_condition, after_reset}
 use Rattle.cics_browse.specs.declared.browses.Browsed.{Browsed}
-use Rattle.cics_units.specs.Execution.{UnitsValue}
-use Rattle.cics_units.specs.Headline.{IsHeadline}
+use Rattle.cics_history.specs.Execution.{UnitsValue}
+use Rattle.cics_history.specs.Headline.{IsHeadline}
 use Rattle.cics_dispatch.specs.Browses.{moved}
 use Rattle.cics_dispatch.specs.Machine.{Machine, Task, Suspended, replaced, is_waiting, records_in, with_task, with_units, with_browses}
 use Rattle.cics_dispatch.specs.Replies.{plain, cut}

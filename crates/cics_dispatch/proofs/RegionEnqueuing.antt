@@ -4,10 +4,10 @@ use Rattle.std.proofs.Common.{sym, ap, ◌∙◌, subst}
 use Rattle.std.proofs.lemmas.Bool.{false≢true}
 use Rattle.cics_names.specs.Keyed.{Bytes}
 use Rattle.cics_names.specs.declared.conditions.Condition.TheVariants.{Normal, Invreq, Enqbusy}
-use Rattle.cics_units.specs.Execution.{UnitsValue, unit_or_next, enqueue, enq_of, after_enqueue, after_enqueued}
-use Rattle.cics_units.specs.Holding.{UnitsState, value_holder}
-use Rattle.cics_units.specs.Headline.{IsHeadline}
-use Rattle.cics_units.specs.declared.ops.Enqueued.TheVariants.{Taken, CountFull}
+use Rattle.cics_history.specs.Execution.{UnitsValue, unit_or_next, enqueue, enq_of, after_enqueue, after_enqueued}
+use Rattle.cics_history.specs.Holding.{UnitsState, value_holder}
+use Rattle.cics_history.specs.Headline.{IsHeadline}
+use Rattle.cics_history.specs.declared.ops.Enqueued.TheVariants.{Taken, CountFull}
 use Rattle.cics_dispatch.specs.Machine.{Machine, Task, Suspended, replaced, is_waiting, with_units, with_task, with_unit}
 use Rattle.cics_dispatch.specs.Replies.{plain}
 use Rattle.cics_dispatch.specs.Steps.{answered, made_to_wait, busy_of, enqueued, dequeued, units_dequeued}

@@ -7,9 +7,9 @@ use Rattle.cics_names.specs.declared.conditions.Condition.{Condition}
 use Rattle.cics_names.specs.declared.conditions.Condition.TheVariants.{Lengerr}
 use Rattle.cics_browse.specs.Positions.{Position}
 use Rattle.cics_ksds.specs.declared.definition.FileDef.{FileDef}
-use Rattle.cics_units.specs.Openings.{is_key}
-use Rattle.cics_units.specs.TableInPlace.{key_of}
-use Rattle.cics_units.specs.declared.ops.Op.{Op}
+use Rattle.cics_history.specs.Openings.{is_key}
+use Rattle.cics_history.specs.Records.{key_of}
+use Rattle.cics_history.specs.declared.ops.Op.{Op}
 use Rattle.cics_dispatch.specs.Machine.{Machine, Task, RegionValue, definition_of, task_at, is_waiting}
 use Rattle.cics_dispatch.specs.Checks.{defined_fault, browse_fault, back_fault, resource_fault, fault_of, open_key}
 use Rattle.cics_names.specs.Commands.{file_named, asks_no_queue}

@@ -2,16 +2,16 @@
 use Rattle.std.specs.Prelude.{◌≡◌, ℕ, ◌<◌, IfNone, IfOk, OnOk, Result, Ok, Err, if◌then◌else◌, Bool, true, false, Option, Some, None, is_some, slice_get, length, List, [], refl}
 use Rattle.std.proofs.Common.{sym, ap, ◌∙◌, subst, arith, inl, inr, ◌≤◌}
 use Rattle.std.proofs.lemmas.Option.{slice_get_cases, slice_get_within}
-use Rattle.cics_units.specs.Execution.{UnitsValue, unit_or_next, execution, after_execution, done_of, state_of, IfMustWait, IsOpenUnit}
-use Rattle.cics_units.specs.Holding.{UnitsState, awaited}
-use Rattle.cics_units.specs.declared.ops.Op.{Op}
-use Rattle.cics_units.specs.declared.ops.Answer.{Answer}
-use Rattle.cics_units.specs.declared.ops.Done.{Done}
-use Rattle.cics_units.specs.declared.ops.Done.TheVariants.{Answered, MustWait}
-use Rattle.cics_units.specs.Headline.{IsHeadline}
-use Rattle.cics_units.specs.declared.ops.UnitState.{UnitState}
-use Rattle.cics_units.specs.History.{is_open}
-use Rattle.cics_units.specs.declared.ops.UnitState.TheVariants.{Committed, BackedOut}
+use Rattle.cics_history.specs.Execution.{UnitsValue, unit_or_next, execution, after_execution, done_of, state_of, IfMustWait, IsOpenUnit}
+use Rattle.cics_history.specs.Holding.{UnitsState, awaited}
+use Rattle.cics_history.specs.declared.ops.Op.{Op}
+use Rattle.cics_history.specs.declared.ops.Answer.{Answer}
+use Rattle.cics_history.specs.declared.ops.Done.{Done}
+use Rattle.cics_history.specs.declared.ops.Done.TheVariants.{Answered, MustWait}
+use Rattle.cics_history.specs.Headline.{IsHeadline}
+use Rattle.cics_history.specs.declared.ops.UnitState.{UnitState}
+use Rattle.cics_history.specs.History.{is_open}
+use Rattle.cics_history.specs.declared.ops.UnitState.TheVariants.{Committed, BackedOut}
 use Rattle.std.proofs.lemmas.Bool.{true≢false}
 use Rattle.cics_dispatch.specs.Machine.{Machine, Task, Suspended, RegionValue, replaced, is_waiting, not_waiting, units_after, unit_closed, abended, with_unit, with_task, with_units}
 use Rattle.cics_dispatch.specs.Answers.{IsHeadlineRegion}

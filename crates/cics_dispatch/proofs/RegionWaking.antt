@@ -11,14 +11,14 @@ use Rattle.cics_browse.specs.Positions.{Position, finds_start, start_at, read_ne
 use Rattle.cics_browse.specs.declared.browses.Browsed.{Browsed}
 use Rattle.cics_enqueue.specs.Resources.{most_count}
 use Rattle.cics_ksds.specs.declared.definition.FileDef.{FileDef}
-use Rattle.cics_units.specs.Openings.{is_key}
-use Rattle.cics_units.specs.TableInPlace.{key_of}
-use Rattle.cics_units.specs.declared.ops.Op.{Op}
-use Rattle.cics_units.specs.declared.ops.Enqueued.TheVariants.{Taken, CountFull}
-use Rattle.cics_units.specs.declared.ops.UnitState.TheVariants.{BackedOut}
-use Rattle.cics_units.specs.Store.{apply}
-use Rattle.cics_units.specs.Holding.{awaited, value_holder, store_of}
-use Rattle.cics_units.specs.Execution.{unit_or_next, done_of, execution, after_execution, count_at, enq_of, enqueue, after_enqueue, ts_reading, after_ts_reading, item_asked}
+use Rattle.cics_history.specs.Openings.{is_key}
+use Rattle.cics_history.specs.Records.{key_of}
+use Rattle.cics_history.specs.declared.ops.Op.{Op}
+use Rattle.cics_history.specs.declared.ops.Enqueued.TheVariants.{Taken, CountFull}
+use Rattle.cics_history.specs.declared.ops.UnitState.TheVariants.{BackedOut}
+use Rattle.cics_history.specs.Store.{apply}
+use Rattle.cics_history.specs.Holding.{awaited, value_holder, store_of}
+use Rattle.cics_history.specs.Execution.{unit_or_next, done_of, execution, after_execution, count_at, enq_of, enqueue, after_enqueue, ts_reading, after_ts_reading, item_asked}
 use Rattle.cics_dispatch.specs.Machine.{Machine, Task, Suspended, task_at, definition_of, not_waiting, with_waiting, with_units, with_task, with_unit, with_browses, unit_closed, records_in, no_code}
 use Rattle.cics_dispatch.specs.Checks.{fault_of, open_key}
 use Rattle.cics_names.specs.Commands.{file_named, asks_no_queue, length_of}

@@ -8,10 +8,10 @@ use Rattle.cics_names.specs.Keyed.{Bytes, is_same}
 use Rattle.cics_names.specs.KeyedLaws.{is_same-self}
 use Rattle.cics_enqueue.specs.Resources.{overlaps}
 use Rattle.cics_enqueue.specs.declared.resources.Resource.{Resource}
-use Rattle.cics_units.specs.Events.{is_live}
-use Rattle.cics_units.specs.Holding.{held_by}
-use Rattle.cics_units.proofs.Waiting.{any_more}
-use Rattle.cics_units.specs.Execution.{has_read}
+use Rattle.cics_history.specs.Events.{is_live}
+use Rattle.cics_history.specs.Holding.{held_by}
+use Rattle.cics_history.proofs.Waiting.{any_more}
+use Rattle.cics_history.specs.Execution.{has_read}
 use Rattle.cics_dispatch.specs.Machine.{Machine, Task, Suspended, RegionValue, task_at, is_waiting}
 use Rattle.cics_dispatch.specs.Checks.{open_key, fault_of}
 use Rattle.cics_names.specs.Commands.{file_named, asks_no_queue}

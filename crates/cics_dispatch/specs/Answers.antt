@@ -2,9 +2,9 @@
 -- a region lists.
 use Rattle.std.specs.Prelude.{◌≡◌, Bool, true, false, not, ◌&&◌, if◌then◌else◌, IsTrue, Option, Some, None, is_some, is_none, Result, Ok, Err, map, filter, List}
 use Rattle.cics_names.specs.Keyed.{Bytes}
-use Rattle.cics_units.specs.Headline.{IsHeadline}
+use Rattle.cics_history.specs.Headline.{IsHeadline}
 use Rattle.cics_units.specs.Listings.{listing_of}
-use Rattle.cics_units.specs.Holding.{store_of}
+use Rattle.cics_history.specs.Holding.{store_of}
 use Rattle.cics_units.specs.declared.listings.Listing.{Listing}
 use Rattle.cics_units.specs.declared.listings.TaskState.{TaskState}
 use Rattle.cics_units.specs.declared.listings.TaskState.TheVariants.{Idle, HasUnit, IsWaiting}

@@ -5,8 +5,8 @@ use Rattle.cics_names.specs.declared.commands.Command.{Command}
 use Rattle.cics_names.specs.declared.commands.Verb.{Verb}
 use Rattle.cics_names.specs.declared.commands.Verb.TheVariants.{Enq}
 use Rattle.cics_browse.specs.Positions.{read_next, after_next, read_prev, after_prev}
-use Rattle.cics_units.specs.Execution.{enqueue, execution}
-use Rattle.cics_units.specs.declared.ops.Op.{Op}
+use Rattle.cics_history.specs.Execution.{enqueue, execution}
+use Rattle.cics_history.specs.declared.ops.Op.{Op}
 use Rattle.cics_dispatch.specs.Machine.{Machine, Task, is_waiting, records_in, replaced}
 use Rattle.cics_dispatch.specs.Checks.{fault_of}
 use Rattle.cics_dispatch.specs.Steps.{Stepped, answered, browsed, busy_of, enqueued, executed, made_to_wait}

@@ -7,7 +7,7 @@ use Rattle.cics_names.specs.declared.conditions.Condition.{Condition}
 use Rattle.cics_names.specs.declared.conditions.Condition.TheVariants.{Dsiderr, Invreq, Lengerr, Qiderr}
 use Rattle.cics_ksds.specs.declared.definition.FileDef.{FileDef}
 use Rattle.cics_browse.specs.Positions.{Position}
-use Rattle.cics_units.specs.Execution.{has_read, is_item}
+use Rattle.cics_history.specs.Execution.{has_read, is_item}
 use Rattle.cics_dispatch.specs.Lengths.{fault_unless, first_fault, key_fault, is_within, used_of, from_fault, own_key_fault, write_fault}
 use Rattle.cics_dispatch.specs.Machine.{Machine, Task, definition_of}
 use Rattle.cics_names.specs.declared.commands.Verb.{Verb}

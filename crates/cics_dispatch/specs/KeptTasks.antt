@@ -1,6 +1,6 @@
 -- Task control: what holds between the tasks of a region, its waiting commands and its units.
 use Rattle.std.specs.Prelude.{◌≡◌, ℕ, true, Some, None, All, is_some, slice_get}
-use Rattle.cics_units.specs.Events.{is_live}
+use Rattle.cics_history.specs.Events.{is_live}
 use Rattle.cics_dispatch.specs.Machine.{Machine, Task, Suspended, task_at}
 use Rattle.cics_dispatch.specs.Checks.{fault_of}
 use Rattle.cics_names.specs.Commands.{asks_no_queue}

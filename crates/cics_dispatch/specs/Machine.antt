@@ -5,13 +5,13 @@ use Rattle.cics_names.specs.Keyed.{Bytes, Map, value_at, is_same}
 use Rattle.cics_names.specs.declared.conditions.AbendCode.{AbendCode}
 use Rattle.cics_ksds.specs.declared.definition.FileDef.{FileDef}
 use Rattle.cics_browse.specs.Positions.{Position}
-use Rattle.cics_units.specs.Openings.{OpeningState}
-use Rattle.cics_units.specs.Store.{Store}
-use Rattle.cics_units.specs.Holding.{UnitsState, store_of}
-use Rattle.cics_units.specs.Execution.{after_end}
-use Rattle.cics_units.specs.Headline.{beginning}
-use Rattle.cics_units.specs.declared.ops.UnitState.{UnitState}
-use Rattle.cics_units.specs.declared.ops.UnitState.TheVariants.{BackedOut}
+use Rattle.cics_history.specs.Openings.{OpeningState}
+use Rattle.cics_history.specs.Store.{Store}
+use Rattle.cics_history.specs.Holding.{UnitsState, store_of}
+use Rattle.cics_history.specs.Execution.{after_end}
+use Rattle.cics_history.specs.Headline.{beginning}
+use Rattle.cics_history.specs.declared.ops.UnitState.{UnitState}
+use Rattle.cics_history.specs.declared.ops.UnitState.TheVariants.{BackedOut}
 use Rattle.cics_names.specs.declared.commands.Command.{Command}
 
 -- a task: its label, the seconds that it may wait (0: without limit), its open unit of work if it has one, its browses by

@@ -1,6 +1,6 @@
 -- Task control: an open unit of work is a task's.
 use Rattle.std.specs.Prelude.{◌≡◌, ℕ, true}
-use Rattle.cics_units.specs.Events.{is_live}
+use Rattle.cics_history.specs.Events.{is_live}
 use Rattle.cics_dispatch.specs.Machine.{Machine}
 use Rattle.cics_dispatch.specs.Tasks.{HasNoOwner}
 

@@ -1,6 +1,6 @@
 -- A region as it is kept: its machine, and the store of its units.
 use Rattle.std.specs.Prelude.{ℕ, List}
-use Rattle.cics_units.specs.Execution.{UnitsValue}
+use Rattle.cics_history.specs.Execution.{UnitsValue}
 use Rattle.cics_dispatch.specs.Machine.{Task, Suspended, RegionValue}
 use Rattle.cics_dispatch.specs.Answers.{IsHeadlineRegion}
 use Rattle.cics_dispatch.specs.KeptTasks.{AreTasksKept}

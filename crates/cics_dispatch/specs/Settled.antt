@@ -4,10 +4,10 @@ use Rattle.std.specs.List.{list_any}
 use Rattle.cics_enqueue.specs.Resources.{bytes_of, overlaps, is_other}
 use Rattle.cics_enqueue.specs.declared.resources.Resource.{Resource}
 use Rattle.cics_enqueue.specs.declared.resources.Resource.TheVariants.{User}
-use Rattle.cics_units.specs.Openings.{OpeningState, file_recoverable}
-use Rattle.cics_units.specs.Holding.{UnitsState, uses_of, held_by}
-use Rattle.cics_units.specs.Events.{is_live}
-use Rattle.cics_units.specs.declared.ops.Op.{Op}
+use Rattle.cics_history.specs.Openings.{OpeningState, file_recoverable}
+use Rattle.cics_history.specs.Holding.{UnitsState, uses_of, held_by}
+use Rattle.cics_history.specs.Events.{is_live}
+use Rattle.cics_history.specs.declared.ops.Op.{Op}
 use Rattle.cics_dispatch.specs.Machine.{Machine, Task, Suspended, task_at}
 use Rattle.cics_dispatch.specs.Steps.{op_of}
 use Rattle.cics_dispatch.specs.Waking.{is_late}

@@ -10,16 +10,16 @@ use Rattle.cics_names.specs.declared.conditions.Condition.TheVariants.{Normal, N
 use Rattle.cics_names.specs.declared.conditions.AbendCode.{AbendCode}
 use Rattle.cics_browse.specs.Positions.{Position, finds_start, start_at, read_next, after_next, read_prev, after_prev, reset_condition, after_reset}
 use Rattle.cics_browse.specs.declared.browses.Browsed.{Browsed}
-use Rattle.cics_units.specs.Holding.{UnitsState}
-use Rattle.cics_units.specs.Execution.{execution, after_execution, enqueue, after_enqueue, after_dequeue, after_unlock, ts_reading, after_ts_reading, item_asked}
-use Rattle.cics_units.specs.declared.ops.Op.{Op}
-use Rattle.cics_units.specs.declared.ops.Op.TheVariants as op
-use Rattle.cics_units.specs.declared.ops.Answer.{Answer}
-use Rattle.cics_units.specs.declared.ops.Done.{Done}
-use Rattle.cics_units.specs.declared.ops.Done.TheVariants.{Answered, MustWait}
-use Rattle.cics_units.specs.declared.ops.Enqueued.{Enqueued}
-use Rattle.cics_units.specs.declared.ops.Enqueued.TheVariants.{Taken, MustWait as EnqMustWait, CountFull}
-use Rattle.cics_units.specs.declared.ops.UnitState.TheVariants.{Committed, BackedOut}
+use Rattle.cics_history.specs.Holding.{UnitsState}
+use Rattle.cics_history.specs.Execution.{execution, after_execution, enqueue, after_enqueue, after_dequeue, after_unlock, ts_reading, after_ts_reading, item_asked}
+use Rattle.cics_history.specs.declared.ops.Op.{Op}
+use Rattle.cics_history.specs.declared.ops.Op.TheVariants as op
+use Rattle.cics_history.specs.declared.ops.Answer.{Answer}
+use Rattle.cics_history.specs.declared.ops.Done.{Done}
+use Rattle.cics_history.specs.declared.ops.Done.TheVariants.{Answered, MustWait}
+use Rattle.cics_history.specs.declared.ops.Enqueued.{Enqueued}
+use Rattle.cics_history.specs.declared.ops.Enqueued.TheVariants.{Taken, MustWait as EnqMustWait, CountFull}
+use Rattle.cics_history.specs.declared.ops.UnitState.TheVariants.{Committed, BackedOut}
 use Rattle.cics_dispatch.specs.Lengths.{used_of}
 use Rattle.cics_dispatch.specs.Replies.{plain, cut, read_reply}
 use Rattle.cics_dispatch.specs.Machine.{Machine, Task, task_at, is_waiting, label_of, with_units, with_task, with_waiting, with_unit, with_browses, unit_closed, abended, records_in, no_code}

@@ -1,8 +1,8 @@
 -- The updating command that a command asks for, from the key of its task's open update read of its file.
 use Rattle.std.specs.Prelude.{if◌then◌else◌, Option, Some, None, option_map}
 use Rattle.cics_names.specs.Keyed.{Bytes}
-use Rattle.cics_units.specs.declared.ops.Op.{Op}
-use Rattle.cics_units.specs.declared.ops.Op.TheVariants as op
+use Rattle.cics_history.specs.declared.ops.Op.{Op}
+use Rattle.cics_history.specs.declared.ops.Op.TheVariants as op
 use Rattle.cics_dispatch.specs.Lengths.{used_of}
 use Rattle.cics_dispatch.specs.Steps.{delete_op, ts_write_op}
 use Rattle.cics_names.specs.declared.commands.Verb.{Verb}

@@ -1,11 +1,12 @@
 -- Waiting commands (chapter on task control): which one goes on, which one's time is over, and the clock.
 use Rattle.std.specs.Prelude.{ℕ, ◌-◌, Bool, false, ◌&&◌, if◌then◌else◌, Option, Some, None, is_none, Result, nat_le, nat_lt, take, List, [], ◌∷◌}
-use Rattle.cics_units.specs.Holding.{awaited, value_holder}
+use Rattle.cics_history.specs.Holding.{awaited, value_holder}
 use Rattle.cics_enqueue.specs.Resources.{bytes_of}
 use Rattle.cics_enqueue.specs.declared.resources.Resource.{Resource}
 use Rattle.cics_enqueue.specs.declared.resources.Resource.TheVariants.{User}
-use Rattle.cics_units.specs.TableInPlace.{record_of, file_of, key_of}
-use Rattle.cics_units.specs.declared.ops.Op.{Op}
+use Rattle.cics_history.specs.Records.{file_of, key_of}
+use Rattle.cics_units.specs.TableInPlace.{record_of}
+use Rattle.cics_history.specs.declared.ops.Op.{Op}
 use Rattle.cics_dispatch.specs.Machine.{Machine, Task, Suspended, task_at, with_waiting, not_waiting, abended, timed_out}
 use Rattle.cics_dispatch.specs.Steps.{Stepped, op_of, performed, refused_or}
 use Rattle.cics_names.specs.declared.commands.Verb.{Verb}

@@ -1,6 +1,6 @@
 -- What a region does by itself after an event: waiting commands go on, and tasks that have waited too long are abended.
 use Rattle.std.specs.Prelude.{◌≡◌, ℕ, zero, suc, Bool, true, false, List, [], ◌++◌, Option, Some, None}
-use Rattle.cics_units.specs.Holding.{store_of}
+use Rattle.cics_history.specs.Holding.{store_of}
 use Rattle.cics_dispatch.specs.Machine.{Machine, RegionValue}
 use Rattle.cics_dispatch.specs.Waking.{woken, expired}
 use Rattle.cics_dispatch.specs.declared.outcomes.Woken.{Woken}

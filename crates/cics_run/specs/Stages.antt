@@ -2,7 +2,8 @@
 use Rattle.std.specs.Prelude.{◌≡◌, ℕ, Bool, true, false, List, [], ◌++◌, length, Option, Some, None, Result, Ok, Err, MatchResult, OnOk}
 use Rattle.cics_names.specs.Keyed.{Bytes, value_at}
 use Rattle.cics_ksds.specs.declared.definition.FileDef.{FileDef}
-use Rattle.cics_units.specs.Openings.{OpeningState, nothing_defined, file_fault, load_fault, with_file, with_record}
+use Rattle.cics_history.specs.Openings.{OpeningState, nothing_defined, with_file, with_record}
+use Rattle.cics_units.specs.Faults.{file_fault, load_fault}
 use Rattle.cics_units.specs.declared.opening.DefineFault.{DefineFault}
 use Rattle.cics_dispatch.specs.Machine.{Machine, RegionValue, beginning_region}
 use Rattle.cics_dispatch.specs.Steps.{attached, issued}

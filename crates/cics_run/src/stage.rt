@@ -1,7 +1,7 @@
 //! What the lines of a script lead to.
 
 ghost use Rattle.std.specs.Prelude.{◌≡◌, ◌++◌, List, ℕ, OnOk, OnErr, IfOk, Ok, Option, true};
-ghost use Rattle.cics_units.specs.Openings.{OpeningState};
+ghost use Rattle.cics_history.specs.Openings.{OpeningState};
 ghost use Rattle.cics_units.specs.Faults.{IsRefused};
 ghost use Rattle.cics_units.specs.declared.opening.DefineFault.{DefineFault};
 ghost use Rattle.cics_names.specs.Commands.{asks_no_queue};

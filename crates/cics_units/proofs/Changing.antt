@@ -9,7 +9,7 @@ use Rattle.cics_ksds.specs.Files.{FileValue}
 use Rattle.cics_ksds.specs.Undo.{ImageValue, KeepsKeys, IsFileImage}
 use Rattle.cics_units.specs.FilesImages.{cell_of, FilesKeep}
 use Rattle.cics_units.specs.FilesChanges.{IsFilesImage, others_kept, image_among}
-use Rattle.cics_units.proofs.Entries.{value_at-looked_up, with_value-set, rising-set}
+use Rattle.cics_history.proofs.Entries.{value_at-looked_up, with_value-set, rising-set}
 
 module _ (name : Bytes) (es files : Map FileValue) (f : FileValue) (rising : T (is_rising es)) (found : Some f ≡ lookup (is_at (bytes_cmp name)) es) (view : es ≡ files) where
   pub there : value_at name files ≡ Some f

@@ -10,24 +10,24 @@ use Rattle.cics_enqueue.specs.Resources.{Table, Held, resource_cmp, most_count, 
 use Rattle.cics_enqueue.proofs.TableLaws.{unit_in}
 use Rattle.cics_enqueue.specs.declared.resources.Resource.{Resource}
 use Rattle.cics_enqueue.specs.declared.resources.Resource.TheVariants.{FileKey, TsQueue, TdRead as ReadingEnd, TdWrite as WritingEnd, User, FilePrefix}
-use Rattle.cics_units.specs.Openings.{OpeningState}
-use Rattle.cics_units.specs.History.{is_open}
-use Rattle.cics_units.specs.Holding.{UnitsState, EnqCount, value_holder}
-use Rattle.cics_units.specs.Execution.{unit_or_next, outcomes_with, count_at, enq_of, enqueue, after_enqueued, after_enqueue, after_dequeue}
-use Rattle.cics_units.specs.Events.{may_act}
-use Rattle.cics_units.specs.Isolation.{IsSound}
-use Rattle.cics_units.specs.Cells.{content}
-use Rattle.cics_units.specs.Undo.{IsUndoable}
+use Rattle.cics_history.specs.Openings.{OpeningState}
+use Rattle.cics_history.specs.History.{is_open}
+use Rattle.cics_history.specs.Holding.{UnitsState, EnqCount, value_holder}
+use Rattle.cics_history.specs.Execution.{unit_or_next, outcomes_with, count_at, enq_of, enqueue, after_enqueued, after_enqueue, after_dequeue}
+use Rattle.cics_history.specs.Events.{may_act}
+use Rattle.cics_history.specs.Isolation.{IsSound}
+use Rattle.cics_history.specs.Cells.{content}
+use Rattle.cics_history.specs.Undo.{IsUndoable}
 use Rattle.cics_units.specs.Matching.{store_of_files}
 use Rattle.cics_units.specs.TableInPlace.{value_of, other_holder, counted_before, counts_in}
 use Rattle.cics_units.specs.Parts.{UndoableValue, PartsValue, AreRoomier, AreEnqueued, ArePartsKept}
 use Rattle.cics_units.specs.KeptUnits.{state_shown, AreKept}
-use Rattle.cics_units.specs.declared.ops.Entry.{Entry}
-use Rattle.cics_units.specs.declared.ops.UnitState.{UnitState}
-use Rattle.cics_units.specs.declared.ops.UnitState.TheVariants.{Open}
-use Rattle.cics_units.specs.declared.ops.Enqueued.TheVariants.{Taken, MustWait as EnqMustWait, CountFull}
-use Rattle.cics_units.proofs.Outcomes.{outcome_of-with}
-use Rattle.cics_units.proofs.States.{enqueue-IsSound, dequeue-IsSound}
+use Rattle.cics_history.specs.declared.ops.Entry.{Entry}
+use Rattle.cics_history.specs.declared.ops.UnitState.{UnitState}
+use Rattle.cics_history.specs.declared.ops.UnitState.TheVariants.{Open}
+use Rattle.cics_history.specs.declared.ops.Enqueued.TheVariants.{Taken, MustWait as EnqMustWait, CountFull}
+use Rattle.cics_history.proofs.Outcomes.{outcome_of-with}
+use Rattle.cics_history.proofs.States.{enqueue-IsSound, dequeue-IsSound}
 use Rattle.cics_units.proofs.TableInPlace.{table_holder, table_free}
 use Rattle.cics_units.proofs.TableValues.{table_enqueued_of, table_dequeued_of}
 use Rattle.cics_units.proofs.KeptUnits.{roomier_held, kept_roomier}

@@ -7,11 +7,11 @@ use Rattle.cics_names.specs.declared.conditions.Condition.TheVariants.{Normal, D
 use Rattle.cics_images.specs.Cells.{is_other, is_unnamed}
 use Rattle.cics_ksds.specs.Files.{FileValue, key_of, written, rewritten, deleted, filled, emptied, dropped, write_condition, change_condition}
 use Rattle.cics_ksds.specs.Undo.{ImageValue, written_image, rewritten_image, deleted_image}
-use Rattle.cics_units.specs.Store.{apply, apply_write, apply_rewrite, apply_delete, apply_read, answered, only, with_file, with_content, found_condition}
-use Rattle.cics_units.specs.Cells.{Key, content, listed, record_in}
-use Rattle.cics_units.specs.Undo.{changes}
-use Rattle.cics_units.specs.declared.ops.Op.{Op}
-use Rattle.cics_units.specs.declared.ops.Op.TheVariants.{Write, Rewrite, Delete, ReadUpdate}
+use Rattle.cics_history.specs.Store.{apply, apply_write, apply_rewrite, apply_delete, apply_read, answered, only, with_file, with_content, found_condition}
+use Rattle.cics_history.specs.Cells.{Key, content, listed, record_in}
+use Rattle.cics_history.specs.Undo.{changes}
+use Rattle.cics_history.specs.declared.ops.Op.{Op}
+use Rattle.cics_history.specs.declared.ops.Op.TheVariants.{Write, Rewrite, Delete, ReadUpdate}
 use Rattle.cics_units.specs.RegionFiles.{IsThere}
 use Rattle.cics_units.specs.FilesImages.{cell_of, cell_of_image, files_hold, FilesKeep, KeepsIn, definitions_of}
 use Rattle.cics_units.proofs.HeldPlaces.{written_held, rewritten_held, deleted_held}
@@ -19,9 +19,9 @@ use Rattle.cics_units.specs.FilesChanges.{IsFilesImage, held_among}
 use Rattle.cics_units.specs.Matching.{store_of_files}
 use Rattle.cics_units.specs.UnitImages.{kept_by, AreOthersKept}
 use Rattle.cics_units.specs.Parts.{UndoableValue, is_recoverable_in, IsRecordOf, with_newest, HasNewest, AreImagesAfter, AreChanged}
-use Rattle.cics_units.proofs.Entries.{with_value-same}
+use Rattle.cics_history.proofs.Entries.{with_value-same}
 use Rattle.cics_units.proofs.Opened.{with_value-each}
-use Rattle.cics_units.proofs.Stores.{value_at_each}
+use Rattle.cics_history.proofs.Stores.{value_at_each}
 
 -- what one of the files has of a record's key, and what a command on it is answered
 module _ (m : Map FileValue) (name : Bytes) (f : FileValue) (there : value_at name m ≡ Some f) where

@@ -7,25 +7,25 @@ use Rattle.cics_images.specs.Cells.{Kept, is_other, is_unnamed, AreOf, AreReadyI
 use Rattle.cics_images.specs.Turns.{in_turn_kept, one_before}
 use Rattle.cics_ksds.specs.Files.{FileValue}
 use Rattle.cics_ksds.specs.Undo.{key_of_image, Leads as FileLeads}
-use Rattle.cics_units.specs.Openings.{OpeningState}
-use Rattle.cics_units.specs.Store.{Store, apply, is_recoverable, initial_store}
-use Rattle.cics_units.specs.History.{outcome_of, is_open, kept}
-use Rattle.cics_units.specs.Holding.{UnitsState, store_of, awaited, held_by}
-use Rattle.cics_units.specs.Execution.{unit_or_next, outcomes_with, state_of, after_execution, after_end}
-use Rattle.cics_units.specs.declared.ops.Op.{Op}
-use Rattle.cics_units.specs.declared.ops.UnitState.{UnitState}
-use Rattle.cics_units.specs.declared.ops.UnitState.TheVariants.{Committed, BackedOut}
-use Rattle.cics_units.specs.Headline.{beginning}
-use Rattle.cics_units.proofs.Replays.{replay-there}
-use Rattle.cics_units.proofs.Undoing.{Leads-none, undone-at}
+use Rattle.cics_history.specs.Openings.{OpeningState}
+use Rattle.cics_history.specs.Store.{Store, apply, is_recoverable, initial_store}
+use Rattle.cics_history.specs.History.{outcome_of, is_open, kept}
+use Rattle.cics_history.specs.Holding.{UnitsState, store_of, awaited, held_by}
+use Rattle.cics_history.specs.Execution.{unit_or_next, outcomes_with, state_of, after_execution, after_end}
+use Rattle.cics_history.specs.declared.ops.Op.{Op}
+use Rattle.cics_history.specs.declared.ops.UnitState.{UnitState}
+use Rattle.cics_history.specs.declared.ops.UnitState.TheVariants.{Committed, BackedOut}
+use Rattle.cics_history.specs.Headline.{beginning}
+use Rattle.cics_history.proofs.Replays.{replay-there}
+use Rattle.cics_history.proofs.Undoing.{Leads-none, undone-at}
 use Rattle.cics_ksds.specs.UndoLaws as file
 use Rattle.cics_enqueue.specs.Resources.{overlaps}
 use Rattle.std.specs.List.{list_any}
 use Rattle.cics_units.specs.FilesImages.{FilesImage}
-use Rattle.cics_units.specs.Cells.{Cell, Key, Ts, Td, content, is_generic, cell_of as cell_of_op, same_cell, touches, effect, listed, record_in, Writing, uses, recovers}
-use Rattle.cics_units.specs.Events.{is_live, may_act}
-use Rattle.cics_units.specs.Isolation.{used, IsSound}
-use Rattle.cics_units.specs.Undo.{Image, Cells, Leads, names, is_plain, changes, image_of, IsPlaceOf, after, put, without_images, undone}
+use Rattle.cics_history.specs.Cells.{Cell, Key, Ts, Td, content, is_generic, cell_of as cell_of_op, same_cell, touches, effect, listed, record_in, Writing, uses, recovers}
+use Rattle.cics_history.specs.Events.{is_live, may_act}
+use Rattle.cics_history.specs.Isolation.{used, IsSound}
+use Rattle.cics_history.specs.Undo.{Image, Cells, Leads, names, is_plain, changes, image_of, IsPlaceOf, after, put, without_images, undone}
 use Rattle.cics_units.specs.FilesImages.{cell_of, cell_of_image, content_in, files_content, IsReadyFor, files_undone, FilesKeep, definitions_of}
 use Rattle.cics_units.specs.FilesImagesLaws as files
 use Rattle.cics_units.specs.FilesImagesLaws.{content_of_cell}
@@ -33,13 +33,13 @@ use Rattle.cics_units.specs.FilesChanges.{IsFilesImage}
 use Rattle.cics_units.specs.Matching.{store_of_files, shown, IsKept, AreKept}
 use Rattle.cics_units.specs.FilesInPlace.{AreInPlace}
 use Rattle.cics_units.specs.UnitImages.{kept_by}
-use Rattle.cics_units.proofs.Executes.{MayRun}
-use Rattle.cics_units.proofs.Joining.{same_cell-true, same_cell-refl, apply-content, touches-self, touches-named, touches-recovers}
-use Rattle.cics_units.proofs.States.{acting_open}
-use Rattle.cics_units.proofs.Outcomes.{outcome_of-with, outcome_of-set}
-use Rattle.cics_units.proofs.Stores.{value_at_each}
-use Rattle.cics_units.proofs.Waiting.{MayRun_from, covers, any_more, covers-overlaps, used-held}
-use Rattle.cics_units.proofs.Places.{beginning-IsPlaceOf, execution-IsPlaceOf, commit-IsPlaceOf, back_out-IsPlaceOf, leads_back, image_of-AreImages}
+use Rattle.cics_history.proofs.Executes.{MayRun}
+use Rattle.cics_history.proofs.Joining.{same_cell-true, same_cell-refl, apply-content, touches-self, touches-named, touches-recovers}
+use Rattle.cics_history.proofs.States.{acting_open}
+use Rattle.cics_history.proofs.Outcomes.{outcome_of-with, outcome_of-set}
+use Rattle.cics_history.proofs.Stores.{value_at_each}
+use Rattle.cics_history.proofs.Waiting.{MayRun_from, covers, any_more, covers-overlaps, used-held}
+use Rattle.cics_history.proofs.Places.{beginning-IsPlaceOf, execution-IsPlaceOf, commit-IsPlaceOf, back_out-IsPlaceOf, leads_back, image_of-AreImages}
 use Rattle.cics_units.proofs.Matched.{same_cell-bytes, of_cell, led_back, kept_elsewhere, told_by_shown}
 
 -- what a file shows of a key is the content of its cell among the files

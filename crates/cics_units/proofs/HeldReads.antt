@@ -11,13 +11,14 @@ use Rattle.cics_names.specs.RisingLaws.{is_same-turned}
 use Rattle.cics_enqueue.specs.Resources.{is_one}
 use Rattle.cics_enqueue.specs.ResourceLaws.{is_one-eq}
 use Rattle.cics_enqueue.specs.declared.resources.Resource.{Resource}
-use Rattle.cics_units.specs.Openings.{OpeningState, file_recoverable}
-use Rattle.cics_units.specs.Holding.{UpdateRead, held_by_read}
-use Rattle.cics_units.specs.Execution.{is_read_of, read_at, is_read_before, with_read, covers, opened}
-use Rattle.cics_units.specs.TableInPlace.{is_file_op, file_of, key_of, record_of, is_read, AreOnce}
-use Rattle.cics_units.specs.declared.ops.Op.{Op}
-use Rattle.cics_units.specs.declared.ops.Op.TheVariants.{Write, Rewrite, Delete, DeleteGeneric, ReadUpdate, TsWrite, TsRewrite, TsDelete, TdWrite, TdRead, TdDelete}
-use Rattle.cics_units.proofs.Holders.{any_filter}
+use Rattle.cics_history.specs.Openings.{OpeningState, file_recoverable}
+use Rattle.cics_history.specs.Holding.{UpdateRead, held_by_read}
+use Rattle.cics_history.specs.Execution.{is_read_of, read_at, is_read_before, with_read, covers, opened}
+use Rattle.cics_history.specs.Records.{is_file_op, file_of, key_of}
+use Rattle.cics_units.specs.TableInPlace.{record_of, is_read, AreOnce}
+use Rattle.cics_history.specs.declared.ops.Op.{Op}
+use Rattle.cics_history.specs.declared.ops.Op.TheVariants.{Write, Rewrite, Delete, DeleteGeneric, ReadUpdate, TsWrite, TsRewrite, TsDelete, TdWrite, TdRead, TdDelete}
+use Rattle.cics_history.proofs.Holders.{any_filter}
 
 -- ---- Tests over lists
 

@@ -11,19 +11,20 @@ use Rattle.cics_enqueue.specs.Resources.{bytes_of, is_one}
 use Rattle.cics_enqueue.specs.ResourceLaws.{is_one-eq}
 use Rattle.cics_enqueue.specs.declared.resources.Resource.{Resource}
 use Rattle.cics_enqueue.specs.declared.resources.Resource.TheVariants.{TsQueue, TdRead as ReadingEnd, TdWrite as WritingEnd, User}
-use Rattle.cics_units.specs.Openings.{OpeningState, file_recoverable, queue_logical, has_prefix_in}
-use Rattle.cics_units.specs.Store.{is_normal, is_recoverable}
-use Rattle.cics_units.specs.History.{outcome_of, is_open}
-use Rattle.cics_units.specs.Holding.{UnitsState, UpdateRead, EnqCount, uses_of, held_by_entry, held_by_read, held_by_count, held_by}
-use Rattle.cics_units.specs.Execution.{unit_or_next, reads_after, entered}
-use Rattle.cics_units.specs.TableInPlace.{is_file_op, file_of, key_of, record_of}
-use Rattle.cics_units.specs.declared.ops.Op.{Op}
-use Rattle.cics_units.specs.declared.ops.Op.TheVariants.{Write, Rewrite, Delete, DeleteGeneric, ReadUpdate, TsWrite, TsRewrite, TsDelete, TdWrite, TdRead, TdDelete}
-use Rattle.cics_units.specs.declared.ops.Answer.{Answer}
-use Rattle.cics_units.specs.declared.ops.Entry.{Entry}
-use Rattle.cics_units.proofs.Waiting.{any_flat_map}
-use Rattle.cics_units.proofs.Holders.{any_if, any_only}
-use Rattle.cics_units.proofs.Outcomes.{outcome_of-with}
+use Rattle.cics_history.specs.Openings.{OpeningState, file_recoverable, queue_logical, has_prefix_in}
+use Rattle.cics_history.specs.Store.{is_normal, is_recoverable}
+use Rattle.cics_history.specs.History.{outcome_of, is_open}
+use Rattle.cics_history.specs.Holding.{UnitsState, UpdateRead, EnqCount, uses_of, held_by_entry, held_by_read, held_by_count, held_by}
+use Rattle.cics_history.specs.Execution.{unit_or_next, reads_after, entered}
+use Rattle.cics_history.specs.Records.{is_file_op, file_of, key_of}
+use Rattle.cics_units.specs.TableInPlace.{record_of}
+use Rattle.cics_history.specs.declared.ops.Op.{Op}
+use Rattle.cics_history.specs.declared.ops.Op.TheVariants.{Write, Rewrite, Delete, DeleteGeneric, ReadUpdate, TsWrite, TsRewrite, TsDelete, TdWrite, TdRead, TdDelete}
+use Rattle.cics_history.specs.declared.ops.Answer.{Answer}
+use Rattle.cics_history.specs.declared.ops.Entry.{Entry}
+use Rattle.cics_history.proofs.Waiting.{any_flat_map}
+use Rattle.cics_history.proofs.Holders.{any_if, any_only}
+use Rattle.cics_history.proofs.Outcomes.{outcome_of-with}
 use Rattle.cics_units.proofs.HeldReads.{any_if_one}
 
 module _ (o : OpeningState) (n : ℕ) (p : Resource → Bool) where

@@ -12,16 +12,16 @@ use Rattle.cics_ksds.specs.Undo.{ImageValue, key_of_image, Leads, undone, undone
 use Rattle.cics_ksds.specs.declared.images.Before.{Before}
 use Rattle.cics_ksds.specs.declared.images.Before.TheVariants.{Added, Replaced, Removed}
 use Rattle.cics_enqueue.specs.Resources.{Table, released}
-use Rattle.cics_units.specs.Openings.{OpeningState, FileOpening, is_key, file_recoverable, queue_logical, is_in_order, HasLawfulKeys, HasFilesAlone, IsOpeningInOrder}
-use Rattle.cics_units.specs.Store.{Store, apply, is_recoverable, initial_store}
-use Rattle.cics_units.specs.History.{is_open, kept}
-use Rattle.cics_units.specs.Holding.{UnitsState, store_of, awaited}
-use Rattle.cics_units.specs.Execution.{unit_or_next, outcomes_with, next_after, entered, state_of, after_execution, after_unlock, after_end, read_at, is_fit_for, is_ready_op}
-use Rattle.cics_units.specs.Headline.{IsHeadline, beginning}
-use Rattle.cics_units.specs.Cells.{Cell, Key, Ts, Td, content, is_generic, cell_of as cell_of_op, Writing, uses, IsCanonical}
-use Rattle.cics_units.specs.Events.{may_act, is_live}
-use Rattle.cics_units.specs.Isolation.{IsSound}
-use Rattle.cics_units.specs.Undo.{is_plain, changes}
+use Rattle.cics_history.specs.Openings.{OpeningState, FileOpening, is_key, file_recoverable, queue_logical, is_in_order, HasLawfulKeys, HasFilesAlone, IsOpeningInOrder}
+use Rattle.cics_history.specs.Store.{Store, apply, is_recoverable, initial_store}
+use Rattle.cics_history.specs.History.{is_open, kept}
+use Rattle.cics_history.specs.Holding.{UnitsState, store_of, awaited}
+use Rattle.cics_history.specs.Execution.{unit_or_next, outcomes_with, next_after, entered, state_of, after_execution, after_unlock, after_end, read_at, is_fit_for, is_ready_op}
+use Rattle.cics_history.specs.Headline.{IsHeadline, beginning}
+use Rattle.cics_history.specs.Cells.{Cell, Key, Ts, Td, content, is_generic, cell_of as cell_of_op, Writing, uses, IsCanonical}
+use Rattle.cics_history.specs.Events.{may_act, is_live}
+use Rattle.cics_history.specs.Isolation.{IsSound}
+use Rattle.cics_history.specs.Undo.{is_plain, changes}
 use Rattle.cics_units.specs.RegionFiles.{IsThere, opened_files, file_of as file_of_opening}
 use Rattle.cics_units.specs.FilesImages.{cell_of, cell_of_image, files_content, files_hold, FilesKeep, IsReadyFor, files_undone, files_swept, definitions_of}
 use Rattle.cics_images.specs.NamedValues.{changed_where, changed_at, split, split_swept, of_value, of_split}
@@ -32,19 +32,20 @@ use Rattle.cics_units.specs.FilesInPlace.{AreInPlace}
 use Rattle.cics_units.specs.Matching.{store_of_files, AreKept as KeptChanges}
 use Rattle.cics_units.specs.UnitImages.{kept_none, kept_by, AreOthersKept, AreHeldForImages}
 use Rattle.cics_units.specs.UnitImagesLaws.{held_after_change}
-use Rattle.cics_units.specs.TableInPlace.{is_file_op, file_of, key_of, table_executed, table_unlocked}
+use Rattle.cics_history.specs.Records.{is_file_op, file_of, key_of}
+use Rattle.cics_units.specs.TableInPlace.{table_executed, table_unlocked}
 use Rattle.cics_units.specs.Parts.{UndoableValue, is_recoverable_in, IsRecordOf, IsFitOp, AreImagesAfter, AreChanged}
 use Rattle.cics_units.specs.KeptUnits.{AreKept}
-use Rattle.cics_units.specs.declared.ops.Op.{Op}
-use Rattle.cics_units.specs.declared.ops.Op.TheVariants.{Write, Rewrite, Delete, DeleteGeneric, ReadUpdate, TsWrite, TsRewrite, TsDelete, TdWrite, TdRead, TdDelete}
-use Rattle.cics_units.specs.declared.ops.Answer.{Answer}
-use Rattle.cics_units.specs.declared.ops.UnitState.{UnitState}
-use Rattle.cics_units.specs.declared.ops.UnitState.TheVariants.{Open, Committed, BackedOut}
+use Rattle.cics_history.specs.declared.ops.Op.{Op}
+use Rattle.cics_history.specs.declared.ops.Op.TheVariants.{Write, Rewrite, Delete, DeleteGeneric, ReadUpdate, TsWrite, TsRewrite, TsDelete, TdWrite, TdRead, TdDelete}
+use Rattle.cics_history.specs.declared.ops.Answer.{Answer}
+use Rattle.cics_history.specs.declared.ops.UnitState.{UnitState}
+use Rattle.cics_history.specs.declared.ops.UnitState.TheVariants.{Open, Committed, BackedOut}
 use Rattle.cics_units.specs.FilesImages.{FilesImage}
-use Rattle.cics_units.proofs.Maps.{rising-with_value, rising-without}
+use Rattle.cics_history.proofs.Maps.{rising-with_value, rising-without}
 use Rattle.cics_units.proofs.Opened.{with_value-each}
-use Rattle.cics_units.proofs.Stores.{same_store, apply-canonical, replay-canonical, initial-canonical, file_canonical, value_at_each}
-use Rattle.cics_units.proofs.States.{beginning-IsSound, execution-IsSound, unlock-IsSound, end-IsSound, agrees_of}
+use Rattle.cics_history.proofs.Stores.{same_store, apply-canonical, replay-canonical, initial-canonical, file_canonical, value_at_each}
+use Rattle.cics_history.proofs.States.{beginning-IsSound, execution-IsSound, unlock-IsSound, end-IsSound, agrees_of}
 use Rattle.cics_units.proofs.FileChanges.{kept_definitions}
 use Rattle.cics_units.proofs.FilesInPlace.{executed_kept, executed_plain, executed_unchanged, same_cells, committed_in_place, backed_out_in_place, beginning_in_place}
 use Rattle.cics_units.proofs.TableInPlace.{table_begins, table_executed_of, table_unlocked_of, table_ended_of}

@@ -10,8 +10,8 @@ use Rattle.cics_names.specs.KeyedLaws.{is_same-self, is_same-eq}
 use Rattle.cics_images.specs.Cells.{images_of, is_other, AreOf, LeadBack}
 use Rattle.cics_images.specs.Cells as images
 use Rattle.cics_ksds.specs.Undo.{key_of_image, Leads as FileLeads}
-use Rattle.cics_units.specs.Cells.{Key, Content, same_cell, listed, record_in}
-use Rattle.cics_units.specs.Undo.{Image, Leads, names}
+use Rattle.cics_history.specs.Cells.{Key, Content, same_cell, listed, record_in}
+use Rattle.cics_history.specs.Undo.{Image, Leads, names}
 use Rattle.cics_units.specs.FilesImages.{cell_of, cell_of_image}
 use Rattle.cics_images.specs.NamedLaws.{took, left}
 use Rattle.cics_units.specs.Matching.{shown, IsKept, AreKept}

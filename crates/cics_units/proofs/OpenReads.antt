@@ -19,8 +19,8 @@ use Rattle.std.specs.Map.{lookup, set_value, remove_entry, keys_of, values_of}
 use Rattle.cics_names.specs.Keyed.{Bytes, Map, bytes_cmp, is_same, is_below}
 use Rattle.cics_names.specs.KeyedLaws.{is_same-self, is_same-eq}
 use Rattle.cics_names.specs.RisingLaws.{is_same-turned}
-use Rattle.cics_units.specs.Holding.{UpdateRead}
-use Rattle.cics_units.specs.Execution.{is_read_of, read_at, with_read}
+use Rattle.cics_history.specs.Holding.{UpdateRead}
+use Rattle.cics_history.specs.Execution.{is_read_of, read_at, with_read}
 use Rattle.cics_units.specs.OpenReads.{reads_of, reads_in, AreRising, is_read_key}
 
 abbrev Rows : Type 0

@@ -12,12 +12,13 @@ use Rattle.cics_names.specs.KeyedLaws.{same_bytes}
 use Rattle.cics_names.specs.RisingLaws.{rising-with_value}
 use Rattle.cics_ksds.specs.Files.{FileValue, key_of, fits_file, written, filled}
 use Rattle.cics_ksds.specs.declared.definition.FileDef.{FileDef}
-use Rattle.cics_units.specs.Openings.{OpeningState, FileOpening, with_record, loaded_file, is_record_size, is_key, file_fault, load_fault, is_in_order, HasLawfulKeys, IsOpeningInOrder}
+use Rattle.cics_history.specs.Openings.{OpeningState, FileOpening, with_record, loaded_file, is_record_size, is_key, is_in_order, HasLawfulKeys, IsOpeningInOrder}
+use Rattle.cics_units.specs.Faults.{file_fault, load_fault}
 use Rattle.cics_units.specs.declared.opening.DefineFault.{DefineFault}
 use Rattle.cics_units.specs.declared.opening.DefineFault.TheVariants.{Duplicate, BadKey, BadLength, NotThere}
 use Rattle.cics_units.specs.Replaying.{files_alone}
 use Rattle.cics_units.specs.RegionFiles.{opening_of, openings_of, opened_files, IsLoaded, AreLoaded}
-use Rattle.cics_units.proofs.Entries.{lookup-value_at}
+use Rattle.cics_history.proofs.Entries.{lookup-value_at}
 
 -- ---- maps by name, each value seen in another way
 module _ {X Y : Type 0} (v : X → Y) where

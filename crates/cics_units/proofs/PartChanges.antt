@@ -13,13 +13,14 @@ use Rattle.cics_enqueue.specs.Resources.{Table, Held, held_at, holder_of, IsFree
 use Rattle.cics_enqueue.proofs.TableLaws.{given_back-taken}
 use Rattle.cics_enqueue.specs.ResourceLaws.{free_own, resource_cmp_total, same_resources}
 use Rattle.cics_enqueue.specs.declared.resources.Resource.{Resource}
-use Rattle.cics_units.specs.Holding.{UpdateRead}
-use Rattle.cics_units.specs.Execution.{is_read_of, read_at, covers}
+use Rattle.cics_history.specs.Holding.{UpdateRead}
+use Rattle.cics_history.specs.Execution.{is_read_of, read_at, covers}
 use Rattle.cics_units.specs.OpenReads.{is_read_key}
-use Rattle.cics_units.specs.TableInPlace.{is_file_op, AreOnce}
-use Rattle.cics_units.specs.declared.ops.Op.{Op}
-use Rattle.cics_units.specs.declared.ops.Op.TheVariants.{Write, Rewrite, Delete, DeleteGeneric, ReadUpdate, TsWrite, TsRewrite, TsDelete, TdWrite, TdRead, TdDelete}
-use Rattle.cics_units.proofs.Waiting.{any_more}
+use Rattle.cics_history.specs.Records.{is_file_op}
+use Rattle.cics_units.specs.TableInPlace.{AreOnce}
+use Rattle.cics_history.specs.declared.ops.Op.{Op}
+use Rattle.cics_history.specs.declared.ops.Op.TheVariants.{Write, Rewrite, Delete, DeleteGeneric, ReadUpdate, TsWrite, TsRewrite, TsDelete, TdWrite, TdRead, TdDelete}
+use Rattle.cics_history.proofs.Waiting.{any_more}
 
 -- to hold a resource as it is held changes nothing
 put-same : (r : Resource) (h : Held) (t : Table) → T (is_in_order t) → held_at r t ≡ Some h → map_by.put resource_cmp r h t ≡ t

@@ -16,8 +16,8 @@ use Rattle.cics_names.specs.declared.conditions.Condition.TheVariants.{Normal, D
 use Rattle.cics_ksds.specs.Files.{records_after_write, records_after_rewrite, records_after_delete}
 use Rattle.cics_ksds.specs.Prefixes.{has_prefix, under, outside}
 use Rattle.cics_tempstor.specs.Queues.{Queue, most_items, has_item, is_there}
-use Rattle.cics_units.specs.Store.{Store, is_normal, apply_write, apply_rewrite, apply_delete, apply_delete_generic, counted_answer, apply_ts_write, apply_ts_rewrite, apply_ts_delete, ts_queue, with_ts, with_file}
-use Rattle.cics_units.proofs.Entries.{first, second, value_at-below, value_at-looked_up, with_value-set, rising-set, with_value-same}
+use Rattle.cics_history.specs.Store.{Store, is_normal, apply_write, apply_rewrite, apply_delete, apply_delete_generic, counted_answer, apply_ts_write, apply_ts_rewrite, apply_ts_delete, ts_queue, with_ts, with_file}
+use Rattle.cics_history.proofs.Entries.{first, second, value_at-below, value_at-looked_up, with_value-set, rising-set, with_value-same}
 
 absent : {X : Type 0} (o : Option X) → is_some o ≡ false → o ≡ None
 absent None e = refl

@@ -6,10 +6,10 @@ use Rattle.std.proofs.lemmas.List.Elements.{All-head, All-tail, All-same, All-ma
 use Rattle.cics_names.specs.Keyed.{Bytes, Map, value_at, with_value, is_rising}
 use Rattle.cics_ksds.specs.Files.{FileValue, IsContent, key_of, fits_file, records_of}
 use Rattle.cics_ksds.specs.declared.definition.FileDef.{FileDef}
-use Rattle.cics_units.specs.Openings.{OpeningState, FileOpening, file_recoverable}
+use Rattle.cics_history.specs.Openings.{OpeningState, FileOpening, file_recoverable}
 use Rattle.cics_units.specs.RegionFiles.{opening_of, refilled}
 use Rattle.cics_units.specs.Replaying.{files_alone}
-use Rattle.cics_units.specs.Store.{Store, initial_store}
+use Rattle.cics_history.specs.Store.{Store, initial_store}
 use Rattle.cics_units.proofs.Opened.{each, value_at-each, rising-each}
 use Rattle.cics_units.proofs.Refilled.{refilled-rising}
 

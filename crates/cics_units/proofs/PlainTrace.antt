@@ -2,10 +2,10 @@
 use Rattle.std.specs.Prelude.{◌≡◌, ℕ, ◌+◌, ◌<◌, Bool, cond, List, [], ◌∷◌, ◌++◌, length, take, filter}
 use Rattle.std.proofs.Common.{sym, ap, ◌∙◌, get_or}
 use Rattle.std.proofs.lemmas.List.{take_more}
-use Rattle.cics_units.specs.History.{replay}
-use Rattle.cics_units.specs.Store.{Store, apply}
-use Rattle.cics_units.specs.declared.ops.Entry.{Entry}
-use Rattle.cics_units.proofs.Replays.{replay-push}
+use Rattle.cics_history.specs.History.{replay}
+use Rattle.cics_history.specs.Store.{Store, apply}
+use Rattle.cics_history.specs.declared.ops.Entry.{Entry}
+use Rattle.cics_history.proofs.Replays.{replay-push}
 
 -- one more entry, which is kept or not
 pub replayed_more : (p : Entry → Bool) (s : Store) (trace : List Entry) (i : ℕ) (e : Entry) → i < length trace → e ≡ get_or trace i e →

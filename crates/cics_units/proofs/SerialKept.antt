@@ -8,26 +8,26 @@ use Rattle.std.proofs.lemmas.Option.{slice_get_past}
 use Rattle.std.proofs.lemmas.Map.Keys.{IsDistinct-cons}
 use Rattle.std.proofs.lemmas.Map.Steps.{length-le_from_distinct_below}
 use Rattle.cics_names.specs.Keyed.{Bytes}
-use Rattle.cics_units.specs.Openings.{OpeningState, IsOpeningInOrder}
-use Rattle.cics_units.specs.Store.{initial_store}
-use Rattle.cics_units.specs.History.{outcome_of, is_open}
-use Rattle.cics_units.specs.Holding.{UnitsState, awaited}
-use Rattle.cics_units.specs.Execution.{UnitsValue, outcomes_with, state_of, after_execution, after_end, enqueue, after_enqueued, after_enqueue, after_dequeue, after_unlock}
-use Rattle.cics_units.specs.Headline.{beginning, IsHeadline, IsSameRecoverable}
-use Rattle.cics_units.specs.Events.{is_live, may_act}
-use Rattle.cics_units.specs.Cells.{IsCanonical}
-use Rattle.cics_units.specs.Isolation.{IsSound}
-use Rattle.cics_units.specs.Serial.{among, is_committed, are_distinct, serial_store, IsInOrder}
+use Rattle.cics_history.specs.Openings.{OpeningState, IsOpeningInOrder}
+use Rattle.cics_history.specs.Store.{initial_store}
+use Rattle.cics_history.specs.History.{outcome_of, is_open}
+use Rattle.cics_history.specs.Holding.{UnitsState, awaited}
+use Rattle.cics_history.specs.Execution.{UnitsValue, outcomes_with, state_of, after_execution, after_end, enqueue, after_enqueued, after_enqueue, after_dequeue, after_unlock}
+use Rattle.cics_history.specs.Headline.{beginning, IsHeadline, IsSameRecoverable}
+use Rattle.cics_history.specs.Events.{is_live, may_act}
+use Rattle.cics_history.specs.Cells.{IsCanonical}
+use Rattle.cics_history.specs.Isolation.{IsSound}
+use Rattle.cics_history.specs.Serial.{among, is_committed, are_distinct, serial_store, IsInOrder}
 use Rattle.cics_units.specs.SerialKept.{TakeTurns, AreSerial}
-use Rattle.cics_units.specs.declared.ops.Op.{Op}
-use Rattle.cics_units.specs.declared.ops.UnitState.{UnitState}
-use Rattle.cics_units.specs.declared.ops.UnitState.TheVariants.{Open, Committed, BackedOut}
-use Rattle.cics_units.specs.declared.ops.Enqueued.TheVariants.{Taken, MustWait, CountFull}
-use Rattle.cics_units.proofs.Stores.{initial-canonical}
-use Rattle.cics_units.proofs.States.{beginning-IsSound, execution-IsSound, end-IsSound, enqueue-IsSound, dequeue-IsSound, unlock-IsSound}
-use Rattle.cics_units.proofs.SerialLists.{eqb-turned, or_neither}
-use Rattle.cics_units.proofs.SerialTurns.{turns_permute, distinct_behind}
-use Rattle.cics_units.proofs.SerialRuns.{open_absent, beginning-IsInOrder, execution-IsInOrder, commit-IsInOrder, backout-IsInOrder, enqueue-IsInOrder, dequeue-IsInOrder, unlock-IsInOrder, serial_answers, serial_stores, serial_whole, serial_closed}
+use Rattle.cics_history.specs.declared.ops.Op.{Op}
+use Rattle.cics_history.specs.declared.ops.UnitState.{UnitState}
+use Rattle.cics_history.specs.declared.ops.UnitState.TheVariants.{Open, Committed, BackedOut}
+use Rattle.cics_history.specs.declared.ops.Enqueued.TheVariants.{Taken, MustWait, CountFull}
+use Rattle.cics_history.proofs.Stores.{initial-canonical}
+use Rattle.cics_history.proofs.States.{beginning-IsSound, execution-IsSound, end-IsSound, enqueue-IsSound, dequeue-IsSound, unlock-IsSound}
+use Rattle.cics_history.proofs.SerialLists.{eqb-turned, or_neither}
+use Rattle.cics_history.proofs.SerialTurns.{turns_permute, distinct_behind}
+use Rattle.cics_history.proofs.SerialRuns.{open_absent, beginning-IsInOrder, execution-IsInOrder, commit-IsInOrder, backout-IsInOrder, enqueue-IsInOrder, dequeue-IsInOrder, unlock-IsInOrder, serial_answers, serial_stores, serial_whole, serial_closed}
 
 -- ---- What is kept gives the turns
 

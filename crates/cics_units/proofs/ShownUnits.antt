@@ -8,7 +8,7 @@ use Rattle.cics_names.specs.Keyed.{is_same, is_rising}
 use Rattle.cics_names.specs.KeyedLaws.{is_same-self, is_same-eq}
 use Rattle.cics_ksds.specs.Files.{records_of}
 use Rattle.cics_units.specs.RegionFiles.{files_listed}
-use Rattle.cics_units.proofs.Entries.{first, second, value_at-below}
+use Rattle.cics_history.proofs.Entries.{first, second, value_at-below}
 use Rattle.std.specs.List.{list_any}
 use Rattle.std.specs.Prelude.{is_some}
 use Rattle.std.proofs.Common.{inl, inr, eqb}
@@ -21,32 +21,33 @@ use Rattle.cics_images.specs.Cells.{is_other}
 use Rattle.cics_ksds.specs.Files.{FileValue}
 use Rattle.cics_enqueue.specs.Resources.{Table, is_one, is_other as is_other_unit, holder_of, released}
 use Rattle.cics_enqueue.specs.declared.resources.Resource.{Resource}
-use Rattle.cics_units.specs.Openings.{OpeningState, file_recoverable}
-use Rattle.cics_units.specs.Store.{Store, apply, apply_write, apply_rewrite, apply_delete, is_normal}
-use Rattle.cics_units.specs.Holding.{UnitsState, UpdateRead, store_of, awaited, held_by}
-use Rattle.cics_units.specs.Execution.{execution, done_of, state_of, has_read, IsOpenUnit, IsOpenOrNone, unit_or_next, outcomes_with, reads_after, is_read_of, read_at, entered, after_execution, after_unlock, after_end, is_ready_op}
-use Rattle.cics_units.specs.Headline.{beginning}
-use Rattle.cics_units.specs.Cells.{content, cell_of as cell_of_op}
-use Rattle.cics_units.specs.Events.{is_live, may_act}
-use Rattle.cics_units.specs.Undo.{changes}
+use Rattle.cics_history.specs.Openings.{OpeningState, file_recoverable}
+use Rattle.cics_history.specs.Store.{Store, apply, apply_write, apply_rewrite, apply_delete, is_normal}
+use Rattle.cics_history.specs.Holding.{UnitsState, UpdateRead, store_of, awaited, held_by}
+use Rattle.cics_history.specs.Execution.{execution, done_of, state_of, has_read, IsOpenUnit, IsOpenOrNone, unit_or_next, outcomes_with, reads_after, is_read_of, read_at, entered, after_execution, after_unlock, after_end, is_ready_op}
+use Rattle.cics_history.specs.Headline.{beginning}
+use Rattle.cics_history.specs.Cells.{content, cell_of as cell_of_op}
+use Rattle.cics_history.specs.Events.{is_live, may_act}
+use Rattle.cics_history.specs.Undo.{changes}
 use Rattle.cics_units.specs.FilesImages.{cell_of}
 use Rattle.cics_units.specs.FilesImagesLaws as files
 use Rattle.cics_units.specs.Matching.{store_of_files}
-use Rattle.cics_units.specs.TableInPlace.{is_holder, IsTableOf, is_file_op, is_read, file_of, key_of, record_of, other_holder, counts_in, table_changed, table_executed, table_given_back}
+use Rattle.cics_history.specs.Records.{is_file_op, file_of, key_of}
+use Rattle.cics_units.specs.TableInPlace.{is_holder, IsTableOf, is_read, record_of, other_holder, counts_in, table_changed, table_executed, table_given_back}
 use Rattle.cics_units.specs.Parts.{UndoableValue, PartsValue, AreExecuted, ArePartsKept, is_recoverable_in, AreImagesAfter, AreChanged}
 use Rattle.cics_units.specs.KeptUnits.{state_shown, AreKept}
-use Rattle.cics_units.specs.declared.ops.Op.{Op}
-use Rattle.cics_units.specs.declared.ops.Op.TheVariants.{Write, Rewrite, Delete, DeleteGeneric, ReadUpdate, TsWrite, TsRewrite, TsDelete, TdWrite, TdRead, TdDelete}
-use Rattle.cics_units.specs.declared.ops.Answer.{Answer}
-use Rattle.cics_units.specs.declared.ops.Done.TheVariants.{Answered, MustWait}
-use Rattle.cics_units.specs.declared.ops.Entry.{Entry}
-use Rattle.cics_units.specs.declared.ops.UnitState.{UnitState}
-use Rattle.cics_units.specs.Isolation.{IsSound}
+use Rattle.cics_history.specs.declared.ops.Op.{Op}
+use Rattle.cics_history.specs.declared.ops.Op.TheVariants.{Write, Rewrite, Delete, DeleteGeneric, ReadUpdate, TsWrite, TsRewrite, TsDelete, TdWrite, TdRead, TdDelete}
+use Rattle.cics_history.specs.declared.ops.Answer.{Answer}
+use Rattle.cics_history.specs.declared.ops.Done.TheVariants.{Answered, MustWait}
+use Rattle.cics_history.specs.declared.ops.Entry.{Entry}
+use Rattle.cics_history.specs.declared.ops.UnitState.{UnitState}
+use Rattle.cics_history.specs.Isolation.{IsSound}
 use Rattle.std.proofs.lemmas.Bool.{eq-eqb, true≢false, false_from_ne_true}
-use Rattle.cics_units.proofs.Holders.{holder_begun, held_cases}
+use Rattle.cics_history.proofs.Holders.{holder_begun, held_cases}
 use Rattle.cics_ksds.proofs.UnderPrefix.{prefix_itself}
-use Rattle.cics_units.proofs.Generic.{normal-generic}
-use Rattle.cics_units.proofs.Joining.{apply-answer, read_only}
+use Rattle.cics_history.proofs.Generic.{normal-generic}
+use Rattle.cics_history.proofs.Joining.{apply-answer, read_only}
 use Rattle.cics_units.proofs.TableInPlace.{awaited-file, table_holder}
 use Rattle.cics_units.proofs.KeptUnits.{kept_roomier, recoverable_alike, store_is, is_entered, next_none, key_op, kept_executed, kept_unlocked}
 

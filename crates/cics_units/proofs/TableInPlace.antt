@@ -11,24 +11,25 @@ use Rattle.cics_names.specs.Keyed.{Bytes, is_same}
 use Rattle.cics_enqueue.specs.Resources.{Table, bytes_of, is_one, overlaps, is_other, is_prefix, holder_of, IsFreeFor, taken, given_back, released}
 use Rattle.cics_enqueue.specs.declared.resources.Resource.{Resource}
 use Rattle.cics_enqueue.specs.declared.resources.Resource.TheVariants.{User}
-use Rattle.cics_units.specs.Openings.{OpeningState, file_recoverable}
-use Rattle.cics_units.specs.Store.{is_normal, is_recoverable}
-use Rattle.cics_units.specs.History.{outcome_of, is_open}
-use Rattle.cics_units.specs.Holding.{UnitsState, UpdateRead, EnqCount, held_by, held_by_count, held_table, first_holder, first_some, awaited}
-use Rattle.cics_units.specs.Execution.{unit_or_next, is_read_of, read_at, covers, opened, reads_after, entered, after_unlock, after_end, is_ready_op}
-use Rattle.cics_units.specs.Headline.{beginning}
-use Rattle.cics_units.specs.Events.{is_live, may_act}
-use Rattle.cics_units.specs.Isolation.{IsSound}
-use Rattle.cics_units.specs.TableInPlace.{is_file_op, file_of, key_of, record_of, is_read, is_holder, other_holder, AreOnce, IsTableOf, table_executed, table_unlocked}
-use Rattle.cics_units.specs.declared.ops.Op.{Op}
-use Rattle.cics_units.specs.declared.ops.Op.TheVariants.{Write, Rewrite, Delete, DeleteGeneric, ReadUpdate, TsWrite, TsRewrite, TsDelete, TdWrite, TdRead, TdDelete}
-use Rattle.cics_units.specs.declared.ops.Answer.{Answer}
-use Rattle.cics_units.specs.declared.ops.UnitState.{UnitState}
-use Rattle.cics_units.specs.declared.ops.UnitState.TheVariants.{Open}
-use Rattle.cics_units.proofs.Waiting.{any_more}
-use Rattle.cics_units.proofs.Holders.{none_found, holder-found}
-use Rattle.cics_units.proofs.States.{acting_open}
-use Rattle.cics_units.proofs.Outcomes.{outcome_of-set}
+use Rattle.cics_history.specs.Openings.{OpeningState, file_recoverable}
+use Rattle.cics_history.specs.Store.{is_normal, is_recoverable}
+use Rattle.cics_history.specs.History.{outcome_of, is_open}
+use Rattle.cics_history.specs.Holding.{UnitsState, UpdateRead, EnqCount, held_by, held_by_count, held_table, first_holder, first_some, awaited}
+use Rattle.cics_history.specs.Execution.{unit_or_next, is_read_of, read_at, covers, opened, reads_after, entered, after_unlock, after_end, is_ready_op}
+use Rattle.cics_history.specs.Headline.{beginning}
+use Rattle.cics_history.specs.Events.{is_live, may_act}
+use Rattle.cics_history.specs.Isolation.{IsSound}
+use Rattle.cics_history.specs.Records.{is_file_op, file_of, key_of}
+use Rattle.cics_units.specs.TableInPlace.{record_of, is_read, is_holder, other_holder, AreOnce, IsTableOf, table_executed, table_unlocked}
+use Rattle.cics_history.specs.declared.ops.Op.{Op}
+use Rattle.cics_history.specs.declared.ops.Op.TheVariants.{Write, Rewrite, Delete, DeleteGeneric, ReadUpdate, TsWrite, TsRewrite, TsDelete, TdWrite, TdRead, TdDelete}
+use Rattle.cics_history.specs.declared.ops.Answer.{Answer}
+use Rattle.cics_history.specs.declared.ops.UnitState.{UnitState}
+use Rattle.cics_history.specs.declared.ops.UnitState.TheVariants.{Open}
+use Rattle.cics_history.proofs.Waiting.{any_more}
+use Rattle.cics_history.proofs.Holders.{none_found, holder-found}
+use Rattle.cics_history.proofs.States.{acting_open}
+use Rattle.cics_history.proofs.Outcomes.{outcome_of-set}
 use Rattle.cics_units.proofs.HeldReads.{any_kept, filter_none, none_read, OnEach-any, read_keys, by_read, by_read-is, by_read-recoverable, any_ended, covers-record, covers-all, AreOnce-opened, All-opened, AreOnce-dropped, any_opened-recoverable, any_opened-read, any_opened-none}
 use Rattle.cics_units.proofs.TableChanges.{table_same, table_taken, table_given, table_released}
 use Rattle.cics_enqueue.specs.ResourceLaws.{free_unprefixed}

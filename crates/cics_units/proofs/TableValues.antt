@@ -16,18 +16,18 @@ use Rattle.cics_enqueue.specs.ResourceLaws.{free_own, is_one-eq, is_one-cmp, is_
 use Rattle.cics_enqueue.proofs.TableLaws.{left_of, right_of, unit_in, held_less, held_below, held_before, freed-absent, held_at-with_holder, held_at-given_back, holder_of-taken, is_in_order-taken, is_in_order-given_back}
 use Rattle.cics_enqueue.specs.declared.resources.Resource.{Resource}
 use Rattle.cics_enqueue.specs.declared.resources.Resource.TheVariants.{FileKey, TsQueue, TdRead as ReadingEnd, TdWrite as WritingEnd, User, FilePrefix}
-use Rattle.cics_units.specs.Openings.{OpeningState}
-use Rattle.cics_units.specs.History.{outcome_of, is_open}
-use Rattle.cics_units.specs.Holding.{UnitsState, UpdateRead, EnqCount, value_holder}
-use Rattle.cics_units.specs.Execution.{unit_or_next, outcomes_with, is_count, count_at, counted, uncounted, with_counts, enq_of, enqueue, after_enqueued, after_dequeue}
-use Rattle.cics_units.specs.Events.{may_act}
-use Rattle.cics_units.specs.Isolation.{IsSound}
+use Rattle.cics_history.specs.Openings.{OpeningState}
+use Rattle.cics_history.specs.History.{outcome_of, is_open}
+use Rattle.cics_history.specs.Holding.{UnitsState, UpdateRead, EnqCount, value_holder}
+use Rattle.cics_history.specs.Execution.{unit_or_next, outcomes_with, is_count, count_at, counted, uncounted, with_counts, enq_of, enqueue, after_enqueued, after_dequeue}
+use Rattle.cics_history.specs.Events.{may_act}
+use Rattle.cics_history.specs.Isolation.{IsSound}
 use Rattle.cics_units.specs.TableInPlace.{value_of, is_holder, counted_before, counts_in, IsTableOf}
-use Rattle.cics_units.specs.declared.ops.Entry.{Entry}
-use Rattle.cics_units.specs.declared.ops.UnitState.{UnitState}
-use Rattle.cics_units.specs.declared.ops.Enqueued.TheVariants.{Taken, MustWait as EnqMustWait, CountFull}
-use Rattle.cics_units.proofs.States.{acting_open}
-use Rattle.cics_units.proofs.Outcomes.{outcome_of-with}
+use Rattle.cics_history.specs.declared.ops.Entry.{Entry}
+use Rattle.cics_history.specs.declared.ops.UnitState.{UnitState}
+use Rattle.cics_history.specs.declared.ops.Enqueued.TheVariants.{Taken, MustWait as EnqMustWait, CountFull}
+use Rattle.cics_history.proofs.States.{acting_open}
+use Rattle.cics_history.proofs.Outcomes.{outcome_of-with}
 use Rattle.cics_units.proofs.HeldReads.{any_if_one}
 use Rattle.cics_units.proofs.HeldSums.{in_entries, in_reads, in_counts, held_sum}
 use Rattle.cics_units.proofs.TableInPlace.{table_holder, table_free}

@@ -10,13 +10,13 @@ use Rattle.cics_enqueue.specs.Resources.{Table, bytes_of, is_one, overlaps, is_p
 use Rattle.cics_enqueue.specs.ResourceLaws.{is_one-self, overlaps-plain}
 use Rattle.cics_enqueue.specs.declared.resources.Resource.{Resource}
 use Rattle.cics_enqueue.specs.declared.resources.Resource.TheVariants.{FileKey, TsQueue, TdRead as ReadingEnd, TdWrite as WritingEnd, User, FilePrefix}
-use Rattle.cics_units.specs.Openings.{OpeningState, file_recoverable, queue_logical, has_prefix_in}
-use Rattle.cics_units.specs.Store.{is_normal, is_recoverable}
-use Rattle.cics_units.specs.Holding.{UnitsState, UpdateRead, EnqCount, uses_of, held_by}
+use Rattle.cics_history.specs.Openings.{OpeningState, file_recoverable, queue_logical, has_prefix_in}
+use Rattle.cics_history.specs.Store.{is_normal, is_recoverable}
+use Rattle.cics_history.specs.Holding.{UnitsState, UpdateRead, EnqCount, uses_of, held_by}
 use Rattle.cics_units.specs.TableInPlace.{record_of, value_of, is_holder, IsTableOf}
-use Rattle.cics_units.specs.declared.ops.Op.{Op}
-use Rattle.cics_units.specs.declared.ops.Op.TheVariants.{Write, Rewrite, Delete, DeleteGeneric, ReadUpdate, TsWrite, TsRewrite, TsDelete, TdWrite, TdRead, TdDelete}
-use Rattle.cics_units.specs.declared.ops.Entry.{Entry}
+use Rattle.cics_history.specs.declared.ops.Op.{Op}
+use Rattle.cics_history.specs.declared.ops.Op.TheVariants.{Write, Rewrite, Delete, DeleteGeneric, ReadUpdate, TsWrite, TsRewrite, TsDelete, TdWrite, TdRead, TdDelete}
+use Rattle.cics_history.specs.declared.ops.Entry.{Entry}
 use Rattle.cics_units.proofs.HeldReads.{any_if_one}
 use Rattle.cics_units.proofs.HeldSums.{in_entries, in_reads, in_counts}
 

@@ -1,7 +1,33 @@
--- When a definition is refused: for its first fault, and where it has none for want of memory alone.
-use Rattle.std.specs.Prelude.{◌≡◌, Bool, if◌then◌else◌, Option, Some, None, Result, Ok, Err}
+-- When a definition or a record of an opening is refused: for its first fault, and where it has none for want of memory
+-- alone.
+use Rattle.std.specs.Prelude.{◌≡◌, Bool, not, if◌then◌else◌, Option, Some, None, Result, Ok, Err, length}
+use Rattle.cics_names.specs.Keyed.{Bytes, has_key}
+use Rattle.cics_ksds.specs.Files.{key_of, fits_file}
+use Rattle.cics_ksds.specs.declared.definition.FileDef.{FileDef}
+use Rattle.cics_history.specs.Openings.{OpeningState, FileOpening, QueueOpening, is_record_size, is_key}
 use Rattle.cics_units.specs.declared.opening.DefineFault.{DefineFault}
-use Rattle.cics_units.specs.declared.opening.DefineFault.TheVariants.{Duplicate, NoMemory}
+use Rattle.cics_units.specs.declared.opening.DefineFault.TheVariants.{Duplicate, BadKey, BadLength, NotThere, NoMemory}
+
+-- the first fault of a file's definition: its name is defined already, its record size, its key
+abbrev pub file_fault : OpeningState → Bytes → FileDef → Option DefineFault
+file_fault o name d =
+    if has_key name o.files then Some Duplicate
+    else if not (is_record_size d.record_size) then Some BadLength
+    else if not (is_key d) then Some BadKey
+    else None
+
+-- the first fault of a record to be loaded into a file: no such file, a record that doesn't fit, a key that is there
+abbrev pub load_fault : Option FileOpening → Bytes → Option DefineFault
+load_fault None r = Some NotThere
+load_fault (Some file) r =
+    if not (fits_file file.definition r) then Some BadLength
+    else if has_key (key_of file.definition r) file.records then Some Duplicate
+    else None
+
+-- the first fault of a record to be loaded into a transient data queue: no such queue, a record of no byte or too many
+abbrev pub load_td_fault : Option QueueOpening → Bytes → Option DefineFault
+load_td_fault None r = Some NotThere
+load_td_fault (Some queue) r = if is_record_size (length r) then None else Some BadLength
 
 -- a refusal names the fault that stands; where none stands the answer is Ok or NoMemory
 abbrev pub IsRefused : {X : Type 0} → Result X DefineFault → Option DefineFault → Type 0

@@ -3,10 +3,10 @@ use Rattle.std.specs.Prelude.{◌≡◌, ℕ, false, List, []}
 use Rattle.cics_names.specs.Keyed.{Map}
 use Rattle.cics_images.specs.Cells.{Kept, AreReadyInTurn}
 use Rattle.cics_ksds.specs.Files.{FileValue}
-use Rattle.cics_units.specs.History.{outcome_of, is_open}
-use Rattle.cics_units.specs.Holding.{UnitsState}
-use Rattle.cics_units.specs.Cells.{content}
-use Rattle.cics_units.specs.Undo.{Image, IsPlaceOf}
+use Rattle.cics_history.specs.History.{outcome_of, is_open}
+use Rattle.cics_history.specs.Holding.{UnitsState}
+use Rattle.cics_history.specs.Cells.{content}
+use Rattle.cics_history.specs.Undo.{Image, IsPlaceOf}
 use Rattle.cics_units.specs.FilesImages.{IsReadyFor, files_undone}
 use Rattle.cics_units.specs.UnitImages.{kept_by}
 use Rattle.cics_units.specs.Matching.{store_of_files, AreKept}

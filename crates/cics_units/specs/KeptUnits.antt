@@ -2,18 +2,18 @@
 use Rattle.std.specs.Prelude.{◌≡◌, ◌≤◌, option_map, length, List, []}
 use Rattle.cics_names.specs.Keyed.{Bytes, value_at}
 use Rattle.cics_enqueue.specs.Resources.{Table}
-use Rattle.cics_units.specs.Openings.{OpeningState, IsOpeningInOrder, HasLawfulKeys, HasFilesAlone}
-use Rattle.cics_units.specs.Holding.{UnitsState}
-use Rattle.cics_units.specs.Cells.{IsCanonical}
-use Rattle.cics_units.specs.Isolation.{IsSound}
+use Rattle.cics_history.specs.Openings.{OpeningState, IsOpeningInOrder, HasLawfulKeys, HasFilesAlone}
+use Rattle.cics_history.specs.Holding.{UnitsState}
+use Rattle.cics_history.specs.Cells.{IsCanonical}
+use Rattle.cics_history.specs.Isolation.{IsSound}
 use Rattle.cics_units.specs.FilesImages.{cell_of_image, files_hold, definitions_of}
 use Rattle.cics_units.specs.UnitImages.{AreHeldForImages}
 use Rattle.cics_units.specs.FilesInPlace.{AreInPlace}
 use Rattle.cics_units.specs.Matching.{store_of_files}
 use Rattle.cics_units.specs.TableInPlace.{counts_in, IsTableOf}
 use Rattle.cics_units.specs.Parts.{UndoableValue, PartsValue}
-use Rattle.cics_units.specs.declared.ops.Entry.{Entry}
-use Rattle.cics_units.specs.declared.ops.UnitState.{UnitState}
+use Rattle.cics_history.specs.declared.ops.Entry.{Entry}
+use Rattle.cics_history.specs.declared.ops.UnitState.{UnitState}
 
 -- the state of the units, as their parts show it: no temporary storage queue is there, so no NEXT place
 abbrev pub state_shown : OpeningState → List Entry → List UnitState → PartsValue → UnitsState

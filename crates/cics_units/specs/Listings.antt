@@ -4,8 +4,8 @@ use Rattle.cics_names.specs.Keyed.{value_at}
 use Rattle.cics_ksds.specs.Files.{records_of}
 use Rattle.cics_transdata.specs.declared.queues.Recovery.{Recovery}
 use Rattle.cics_transdata.specs.declared.queues.Recovery.TheVariants.{Unrecovered}
-use Rattle.cics_units.specs.Openings.{OpeningState, QueueOpening, file_recoverable, has_prefix_in}
-use Rattle.cics_units.specs.Store.{Store}
+use Rattle.cics_history.specs.Openings.{OpeningState, QueueOpening, file_recoverable, has_prefix_in}
+use Rattle.cics_history.specs.Store.{Store}
 use Rattle.cics_units.specs.declared.listings.Listing.{Listing}
 
 -- the recovery of a queue; one that isn't defined has none

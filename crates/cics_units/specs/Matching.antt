@@ -5,9 +5,9 @@ use Rattle.cics_names.specs.Keyed.{Map}
 use Rattle.cics_images.specs.Cells.{Content as Shown}
 use Rattle.cics_ksds.specs.Files.{FileValue}
 use Rattle.cics_ksds.specs.Undo.{key_of_image, Leads as FileLeads}
-use Rattle.cics_units.specs.Store.{Store}
-use Rattle.cics_units.specs.Cells.{Key, Content}
-use Rattle.cics_units.specs.Undo.{Image}
+use Rattle.cics_history.specs.Store.{Store}
+use Rattle.cics_history.specs.Cells.{Key, Content}
+use Rattle.cics_history.specs.Undo.{Image}
 use Rattle.cics_units.specs.FilesImages.{FilesImage}
 
 -- the store of a region that has files alone

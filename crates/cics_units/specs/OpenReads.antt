@@ -5,7 +5,7 @@ use Rattle.std.specs.Map.{keys_of, values_of}
 use Rattle.std.specs.List.Sorted.{IsStrictlySortedBy}
 use Rattle.std.specs.Ordering.{nat_cmp}
 use Rattle.cics_names.specs.Keyed.{Bytes, Map, bytes_cmp, is_same}
-use Rattle.cics_units.specs.Holding.{UpdateRead}
+use Rattle.cics_history.specs.Holding.{UpdateRead}
 
 -- the update reads of a unit, by file
 abbrev pub reads_of : ℕ → Map Bytes → List UpdateRead

@@ -6,20 +6,21 @@ use Rattle.cics_images.specs.Cells.{Cell, Kept, is_other, is_unnamed}
 use Rattle.cics_ksds.specs.Files.{FileValue, fits_file}
 use Rattle.cics_enqueue.specs.Resources.{Table, taken}
 use Rattle.cics_ksds.specs.Undo.{ImageValue}
-use Rattle.cics_units.specs.Store.{apply, is_normal}
-use Rattle.cics_units.specs.Cells.{Key, content}
-use Rattle.cics_units.specs.Holding.{UpdateRead}
-use Rattle.cics_units.specs.Undo.{changes}
+use Rattle.cics_history.specs.Store.{apply, is_normal}
+use Rattle.cics_history.specs.Cells.{Key, content}
+use Rattle.cics_history.specs.Holding.{UpdateRead}
+use Rattle.cics_history.specs.Undo.{changes}
 use Rattle.cics_units.specs.RegionFiles.{IsThere, key_in}
 use Rattle.cics_units.specs.FilesImages.{cell_of, cell_of_image, files_hold, FilesKeep}
 use Rattle.cics_units.specs.FilesChanges.{IsFilesImage}
 use Rattle.cics_units.specs.Matching.{store_of_files}
 use Rattle.cics_units.specs.UnitImages.{kept_by, AreOthersKept}
-use Rattle.cics_units.specs.TableInPlace.{file_of, key_of, value_of, table_changed}
-use Rattle.cics_units.specs.Execution.{reads_after}
+use Rattle.cics_history.specs.Records.{file_of, key_of}
+use Rattle.cics_units.specs.TableInPlace.{value_of, table_changed}
+use Rattle.cics_history.specs.Execution.{reads_after}
 use Rattle.cics_names.specs.declared.conditions.Condition.{Condition}
-use Rattle.cics_units.specs.declared.ops.Op.{Op}
-use Rattle.cics_units.specs.declared.ops.Op.TheVariants.{Write, Rewrite, Delete, DeleteGeneric, ReadUpdate, TsWrite, TsRewrite, TsDelete, TdWrite, TdRead, TdDelete}
+use Rattle.cics_history.specs.declared.ops.Op.{Op}
+use Rattle.cics_history.specs.declared.ops.Op.TheVariants.{Write, Rewrite, Delete, DeleteGeneric, ReadUpdate, TsWrite, TsRewrite, TsDelete, TdWrite, TdRead, TdDelete}
 use Rattle.cics_units.specs.FilesImages.{FilesImage}
 
 -- the files as they stand, and the images of each unit by its number

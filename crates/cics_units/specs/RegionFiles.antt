@@ -2,7 +2,7 @@
 use Rattle.std.specs.Prelude.{◌≡◌, Bool, true, IsTrue, T, All, Option, Some, None, List, [], map, fold}
 use Rattle.cics_names.specs.Keyed.{Bytes, Map, with_value, is_rising}
 use Rattle.cics_ksds.specs.Files.{FileValue, IsContent, key_of, fits_file, records_of, written, rewritten, deleted}
-use Rattle.cics_units.specs.Openings.{FileOpening, is_key}
+use Rattle.cics_history.specs.Openings.{FileOpening, is_key}
 
 -- a record can be written to a file that is there and that it fits
 abbrev pub IsFitFor : Option FileValue → Bytes → Type 0

@@ -2,7 +2,7 @@
 use Rattle.std.specs.Prelude.{[]}
 use Rattle.cics_names.specs.Keyed.{Map}
 use Rattle.cics_ksds.specs.Files.{FileValue}
-use Rattle.cics_units.specs.Openings.{OpeningState}
+use Rattle.cics_history.specs.Openings.{OpeningState}
 use Rattle.cics_units.specs.RegionFiles.{openings_of}
 
 -- an opening that defines these files with what was loaded into them, no prefix and no transient data queue

@@ -1,12 +1,12 @@
 -- Recovery: units with the order in which they committed, and what holds of both after every call.
 use Rattle.std.specs.Prelude.{◌≤◌, ℕ, List, ◌++◌, length, IsPermutation}
-use Rattle.cics_units.specs.Store.{initial_store}
-use Rattle.cics_units.specs.History.{Agrees}
-use Rattle.cics_units.specs.Execution.{UnitsValue}
-use Rattle.cics_units.specs.Headline.{IsHeadline, IsSameRecoverable}
-use Rattle.cics_units.specs.Cells.{IsCanonical}
-use Rattle.cics_units.specs.Isolation.{IsSound}
-use Rattle.cics_units.specs.Serial.{IsCommitOrder, done_by_any, one_by_one, AreOpen, AreAllOpen, NoneIsOpen, store_without_others, serial_store, IsInOrder}
+use Rattle.cics_history.specs.Store.{initial_store}
+use Rattle.cics_history.specs.History.{Agrees}
+use Rattle.cics_history.specs.Execution.{UnitsValue}
+use Rattle.cics_history.specs.Headline.{IsHeadline, IsSameRecoverable}
+use Rattle.cics_history.specs.Cells.{IsCanonical}
+use Rattle.cics_history.specs.Isolation.{IsSound}
+use Rattle.cics_history.specs.Serial.{IsCommitOrder, done_by_any, one_by_one, AreOpen, AreAllOpen, NoneIsOpen, store_without_others, serial_store, IsInOrder}
 
 -- the units, and those that committed, in the order in which they did
 pub record SerialValue : Type 0 where

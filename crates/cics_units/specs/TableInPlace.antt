@@ -7,44 +7,13 @@ use Rattle.arrayvec.specs.ArrayVec.{ArrayVec}
 use Rattle.cics_enqueue.specs.Resources.{Table, Held, bytes_of, is_one, is_other, is_user, is_in_order, holder_of, count_of, taken, given_back}
 use Rattle.cics_enqueue.specs.declared.resources.Resource.{Resource}
 use Rattle.cics_enqueue.specs.declared.resources.Resource.TheVariants.{FileKey, FilePrefix, User}
-use Rattle.cics_units.specs.Openings.{OpeningState, file_recoverable}
-use Rattle.cics_units.specs.Store.{is_normal}
-use Rattle.cics_units.specs.Holding.{UnitsState, UpdateRead, EnqCount, held_by}
-use Rattle.cics_units.specs.Execution.{is_read_of, covers}
-use Rattle.cics_units.specs.declared.ops.Op.{Op}
-use Rattle.cics_units.specs.declared.ops.Op.TheVariants.{Write, Rewrite, Delete, DeleteGeneric, ReadUpdate, TsWrite, TsRewrite, TsDelete, TdWrite, TdRead, TdDelete}
-
--- ---- Commands on files
-
--- a command on one record of a file
-abbrev pub is_file_op : Op → Bool
-is_file_op (Write f k r) = true
-is_file_op (Rewrite f k r) = true
-is_file_op (Delete f k) = true
-is_file_op (DeleteGeneric f p) = false
-is_file_op (ReadUpdate f k) = true
-is_file_op (TsWrite q d) = false
-is_file_op (TsRewrite q n d) = false
-is_file_op (TsDelete q) = false
-is_file_op (TdWrite q d) = false
-is_file_op (TdRead q) = false
-is_file_op (TdDelete q) = false
-
--- the file that such a command names
-abbrev pub file_of : Op → Bytes
-file_of (Write f k r) = f
-file_of (Rewrite f k r) = f
-file_of (Delete f k) = f
-file_of (ReadUpdate f k) = f
-file_of _ = []
-
--- the key that such a command names
-abbrev pub key_of : Op → Bytes
-key_of (Write f k r) = k
-key_of (Rewrite f k r) = k
-key_of (Delete f k) = k
-key_of (ReadUpdate f k) = k
-key_of _ = []
+use Rattle.cics_history.specs.Openings.{OpeningState, file_recoverable}
+use Rattle.cics_history.specs.Store.{is_normal}
+use Rattle.cics_history.specs.Holding.{UnitsState, UpdateRead, EnqCount, held_by}
+use Rattle.cics_history.specs.Execution.{is_read_of, covers}
+use Rattle.cics_history.specs.Records.{file_of, key_of}
+use Rattle.cics_history.specs.declared.ops.Op.{Op}
+use Rattle.cics_history.specs.declared.ops.Op.TheVariants.{Write, Rewrite, Delete, DeleteGeneric, ReadUpdate, TsWrite, TsRewrite, TsDelete, TdWrite, TdRead, TdDelete}
 
 -- a key of a file as a resource
 abbrev pub record_of : Bytes → Bytes → Resource

@@ -2,12 +2,10 @@
 #![tactic(auto)]
 
 mod files;
-pub mod laws;
 mod listings;
 mod named;
 mod open_reads;
 mod opening;
-mod ops;
 mod parts;
 mod replay;
 mod serial_units;
@@ -15,11 +13,11 @@ mod undoable_files;
 mod unit_images;
 mod units;
 
+pub use cics_history::{Answer, Done, Enqueued, Entry, Op, UnitState};
 pub use files::{Files, FilesImage};
 pub use listings::{Listing, TaskState};
 pub use named::Named;
 pub use opening::{DefineFault, Opening};
-pub use ops::{Answer, Done, Enqueued, Entry, Op, UnitState};
 pub use replay::plain_replay;
 pub use serial_units::SerialUnits;
 pub use units::Units;

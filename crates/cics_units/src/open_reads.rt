@@ -3,7 +3,7 @@
 ghost use Rattle.std.specs.Prelude.{◌≡◌, ◌==◌, ◌&&◌, not, filter, [], None, OnOk, OnErr};
 ghost use Rattle.std.specs.Option.{option_copied};
 ghost use Rattle.cics_names.specs.Keyed.{is_same};
-ghost use Rattle.cics_units.specs.Execution.{is_read_of, read_at, with_read};
+ghost use Rattle.cics_history.specs.Execution.{is_read_of, read_at, with_read};
 ghost use Rattle.cics_units.specs.OpenReads.{is_read_key};
 
 use cics_enqueue::UnitId;
@@ -24,7 +24,7 @@ pub(crate) struct OpenReads {
 
 impl Model for OpenReads {
     ghost use Rattle.std.specs.Prelude.{List};
-    ghost use Rattle.cics_units.specs.Holding.{UpdateRead};
+    ghost use Rattle.cics_history.specs.Holding.{UpdateRead};
     ghost use Rattle.cics_units.specs.OpenReads.{reads_in, AreRising};
 
     ghost Value = { List UpdateRead };

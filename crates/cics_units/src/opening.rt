@@ -2,7 +2,7 @@
 
 ghost use Rattle.std.specs.Prelude.{◌≡◌, OnOk, OnErr};
 ghost use Rattle.cics_names.specs.Keyed.{value_at};
-ghost use Rattle.cics_units.specs.Openings.{is_record_size, is_key};
+ghost use Rattle.cics_history.specs.Openings.{is_record_size, is_key};
 ghost use Rattle.cics_units.specs.RegionFiles.{IsFitFor, written_in};
 
 use crate::files::Files;
@@ -77,7 +77,7 @@ pub struct Opening {
 
 impl Model for Opening {
     ghost use Rattle.std.specs.Prelude.{[]};
-    ghost use Rattle.cics_units.specs.Openings.{OpeningState};
+    ghost use Rattle.cics_history.specs.Openings.{OpeningState};
     ghost use Rattle.cics_units.specs.RegionFiles.{openings_of, AreLoaded};
 
     ghost Value = { OpeningState };
@@ -88,9 +88,10 @@ impl Model for Opening {
 }
 
 impl Opening {
-    ghost use Rattle.cics_units.specs.Openings.{nothing_defined, file_fault, load_fault, with_file};
-    ghost use Rattle.cics_units.specs.Openings.{with_record, HasLawfulKeys, HasFilesAlone};
-    ghost use Rattle.cics_units.specs.Openings.{IsOpeningInOrder};
+    ghost use Rattle.cics_history.specs.Openings.{nothing_defined, with_file};
+    ghost use Rattle.cics_units.specs.Faults.{file_fault, load_fault};
+    ghost use Rattle.cics_history.specs.Openings.{with_record, HasLawfulKeys, HasFilesAlone};
+    ghost use Rattle.cics_history.specs.Openings.{IsOpeningInOrder};
     ghost use Rattle.cics_units.specs.Faults.{IsRefused};
     ghost use Rattle.cics_units.specs.RegionFiles.{opened_files, AreLoaded};
     ghost use Rattle.cics_units.specs.Replaying.{files_alone};

@@ -7,17 +7,17 @@ mod records;
 mod store;
 
 ghost use Rattle.std.specs.Prelude.{◌≡◌, if◌then◌else◌, IfOk, OnOk};
-ghost use Rattle.cics_units.specs.History.{outcome_of, is_backed_out, is_kept, kept, replay};
+ghost use Rattle.cics_history.specs.History.{outcome_of, is_backed_out, is_kept, kept, replay};
 ghost use Rattle.cics_units.specs.Listings.{listing_of};
-ghost use Rattle.cics_units.specs.Openings.{file_recoverable};
+ghost use Rattle.cics_history.specs.Openings.{file_recoverable};
 ghost use Rattle.cics_units.specs.RegionFiles.{AreLoaded};
 ghost use Rattle.cics_units.specs.Replaying.{files_alone};
-ghost use Rattle.cics_units.specs.Store.{apply, initial_store, is_recoverable};
+ghost use Rattle.cics_history.specs.Store.{apply, initial_store, is_recoverable};
 
 use crate::files::Files;
 use crate::listings::Listing;
 use crate::opening::Opening;
-use crate::ops::{Entry, Op, UnitState};
+use cics_history::{Entry, Op, UnitState};
 use cics_enqueue::UnitId;
 use cics_names::{Name8, NoMemory};
 use store::PlainStore;

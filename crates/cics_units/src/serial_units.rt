@@ -2,17 +2,17 @@
 
 ghost use Rattle.std.specs.Prelude.{◌≡◌, ◌≤◌, ◌+◌, ◌∷◌, ◌++◌, [], length, vec_capacity, IsTrue};
 ghost use Rattle.std.specs.Prelude.{IfOk, IfErr, OnOk, OnErr};
-ghost use Rattle.cics_units.specs.Execution.{IfMustWait, IfEnqMustWait, IsOpenUnit, IsOpenOrNone};
-ghost use Rattle.cics_units.specs.Execution.{is_ready_op, execution, after_execution, enqueue};
-ghost use Rattle.cics_units.specs.Execution.{after_enqueue, after_dequeue, after_unlock, after_end};
-ghost use Rattle.cics_units.specs.Headline.{IsHeadline, LeavesNoTrace, beginning};
+ghost use Rattle.cics_history.specs.Execution.{IfMustWait, IfEnqMustWait, IsOpenUnit, IsOpenOrNone};
+ghost use Rattle.cics_history.specs.Execution.{is_ready_op, execution, after_execution, enqueue};
+ghost use Rattle.cics_history.specs.Execution.{after_enqueue, after_dequeue, after_unlock, after_end};
+ghost use Rattle.cics_history.specs.Headline.{IsHeadline, LeavesNoTrace, beginning};
 ghost use Rattle.cics_units.specs.SerialKept.{TakeTurns};
-ghost use Rattle.cics_units.specs.TableInPlace.{is_file_op, key_of};
-ghost use Rattle.cics_units.specs.declared.ops.Op.{Op as OpValue};
-ghost use Rattle.cics_units.specs.declared.ops.UnitState.TheVariants.{Committed, BackedOut};
+ghost use Rattle.cics_history.specs.Records.{is_file_op, key_of};
+ghost use Rattle.cics_history.specs.declared.ops.Op.{Op as OpValue};
+ghost use Rattle.cics_history.specs.declared.ops.UnitState.TheVariants.{Committed, BackedOut};
 
 use crate::opening::Opening;
-use crate::ops::{Done, Enqueued, Op, UnitState};
+use cics_history::{Done, Enqueued, Op, UnitState};
 use crate::units::Units;
 use cics_enqueue::UnitId;
 use cics_names::{Name8, NoMemory};

@@ -6,7 +6,7 @@ ghost use Rattle.cics_images.specs.Cells.{AreReadyInTurn, LeadBack, images_of, i
 ghost use Rattle.cics_images.specs.Cells.{all_swept};
 ghost use Rattle.cics_ksds.specs.Undo.{Leads};
 ghost use Rattle.cics_ksds.specs.Files.{write_condition, change_condition};
-ghost use Rattle.cics_units.specs.Store.{apply, only as answer_of, with_content, found_condition};
+ghost use Rattle.cics_history.specs.Store.{apply, only as answer_of, with_content, found_condition};
 ghost use Rattle.std.specs.Option.{option_copied};
 ghost use Rattle.cics_units.specs.FilesImages.{cell_of_image, files_content, IsReadyFor};
 ghost use Rattle.cics_units.specs.FilesImages.{files_undone, files_swept, files_hold, FilesKeep};
@@ -17,10 +17,10 @@ ghost use Rattle.cics_units.specs.Parts.{IsFitOp, IsRecordOf, is_recoverable_in,
 ghost use Rattle.cics_units.specs.Parts.{AreChanged};
 ghost use Rattle.cics_units.specs.RegionFiles.{IsThere};
 ghost use Rattle.cics_names.specs.Keyed.{value_at, is_rising};
-ghost use Rattle.cics_units.specs.declared.ops.Op.TheVariants.{Write, Rewrite, Delete};
+ghost use Rattle.cics_history.specs.declared.ops.Op.TheVariants.{Write, Rewrite, Delete};
 
 use crate::files::{Files, FilesImage};
-use crate::ops::{Answer, Op};
+use cics_history::{Answer, Op};
 use crate::unit_images::UnitImages;
 use cics_enqueue::UnitId;
 use cics_ksds::FileImage;

@@ -6,22 +6,23 @@ ghost use Rattle.std.specs.Prelude.{IfErr, IfSome, OnOk, OnErr};
 ghost use Rattle.std.specs.Option.{option_copied};
 ghost use Rattle.cics_names.specs.Keyed.{value_at};
 ghost use Rattle.cics_enqueue.specs.Resources.{is_prefix};
-ghost use Rattle.cics_units.specs.Openings.{is_key};
-ghost use Rattle.cics_units.specs.History.{outcome_of};
-ghost use Rattle.cics_units.specs.Holding.{held_table, first_holder, awaited};
-ghost use Rattle.cics_units.specs.Execution.{IfMustWait, IfEnqMustWait, unit_or_next};
-ghost use Rattle.cics_units.specs.Execution.{outcomes_with, IsOpenUnit, IsOpenOrNone, is_ready_op};
-ghost use Rattle.cics_units.specs.Execution.{execution, after_execution, enqueue, after_enqueue};
-ghost use Rattle.cics_units.specs.Execution.{after_dequeue, after_unlock, read_at, after_end};
-ghost use Rattle.cics_units.specs.Headline.{IsHeadline, LeavesNoTrace, beginning};
+ghost use Rattle.cics_history.specs.Openings.{is_key};
+ghost use Rattle.cics_history.specs.History.{outcome_of};
+ghost use Rattle.cics_history.specs.Holding.{held_table, first_holder, awaited};
+ghost use Rattle.cics_history.specs.Execution.{IfMustWait, IfEnqMustWait, unit_or_next};
+ghost use Rattle.cics_history.specs.Execution.{outcomes_with, IsOpenUnit, IsOpenOrNone, is_ready_op};
+ghost use Rattle.cics_history.specs.Execution.{execution, after_execution, enqueue, after_enqueue};
+ghost use Rattle.cics_history.specs.Execution.{after_dequeue, after_unlock, read_at, after_end};
+ghost use Rattle.cics_history.specs.Headline.{IsHeadline, LeavesNoTrace, beginning};
 ghost use Rattle.cics_units.specs.Listings.{listing_of};
-ghost use Rattle.cics_units.specs.TableInPlace.{is_file_op, file_of, key_of, record_of};
-ghost use Rattle.cics_units.specs.declared.ops.Op.{Op as OpValue};
-ghost use Rattle.cics_units.specs.declared.ops.UnitState.TheVariants.{Committed, BackedOut};
+ghost use Rattle.cics_history.specs.Records.{is_file_op, file_of, key_of};
+ghost use Rattle.cics_units.specs.TableInPlace.{record_of};
+ghost use Rattle.cics_history.specs.declared.ops.Op.{Op as OpValue};
+ghost use Rattle.cics_history.specs.declared.ops.UnitState.TheVariants.{Committed, BackedOut};
 
 use crate::listings::Listing;
 use crate::opening::Opening;
-use crate::ops::{Done, Enqueued, Entry, Op, UnitState};
+use cics_history::{Done, Enqueued, Entry, Op, UnitState};
 use crate::parts::Parts;
 use cics_enqueue::{Resource, TakeFault, UnitId};
 use cics_ksds::File;
@@ -46,7 +47,7 @@ pub struct Units {
 }
 
 impl Model for Units {
-    ghost use Rattle.cics_units.specs.Execution.{UnitsValue};
+    ghost use Rattle.cics_history.specs.Execution.{UnitsValue};
     ghost use Rattle.cics_units.specs.Matching.{store_of_files};
     ghost use Rattle.cics_units.specs.KeptUnits.{state_shown, AreKept};
 

@@ -3,9 +3,9 @@
 ghost use Rattle.std.specs.Prelude.{◌≡◌, ◌&&◌, true, IsTrue};
 ghost use Rattle.std.specs.Option.{option_copied};
 ghost use Rattle.cics_names.specs.Keyed.{value_at, has_key, is_same};
-ghost use Rattle.cics_units.specs.Execution.{has_read, is_fit_for, is_ready_op, IsOpenUnit, IsOpenOrNone};
+ghost use Rattle.cics_history.specs.Execution.{has_read, is_fit_for, is_ready_op, IsOpenUnit, IsOpenOrNone};
 ghost use Rattle.cics_units.specs.OpenReads.{is_read_key};
-ghost use Rattle.cics_units.specs.TableInPlace.{is_file_op};
+ghost use Rattle.cics_history.specs.Records.{is_file_op};
 
 use cics_enqueue::{Resource, UnitId};
 use cics_names::{Condition, Name8, NoMemory, Record};

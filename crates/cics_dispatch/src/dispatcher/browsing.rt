@@ -4,8 +4,8 @@ ghost use Rattle.std.specs.Prelude.{◌≡◌, ◌<◌, true, Some, if◌then◌
 ghost use Rattle.std.specs.Prelude.{OnOk, OnErr};
 ghost use Rattle.cics_names.specs.Keyed.{value_at};
 ghost use Rattle.cics_names.specs.declared.conditions.Condition.TheVariants.{Normal, Notfnd};
-ghost use Rattle.cics_units.specs.Execution.{IsOpenOrNone};
-ghost use Rattle.cics_units.specs.Headline.{IsHeadline};
+ghost use Rattle.cics_history.specs.Execution.{IsOpenOrNone};
+ghost use Rattle.cics_history.specs.Headline.{IsHeadline};
 ghost use Rattle.cics_browse.specs.Positions.{finds_start, start_at, read_next, read_prev};
 ghost use Rattle.cics_dispatch.specs.Machine.{Machine, definition_of, replaced, with_units};
 ghost use Rattle.cics_dispatch.specs.Replies.{plain};

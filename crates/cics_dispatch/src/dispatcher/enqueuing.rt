@@ -2,8 +2,8 @@
 
 ghost use Rattle.std.specs.Prelude.{◌≡◌, ◌<◌, ◌≤◌, length, IfOk, OnOk, OnErr};
 ghost use Rattle.cics_names.specs.declared.conditions.Condition.TheVariants.{Normal};
-ghost use Rattle.cics_units.specs.Execution.{enqueue, IsOpenUnit, IsOpenOrNone};
-ghost use Rattle.cics_units.specs.Headline.{IsHeadline};
+ghost use Rattle.cics_history.specs.Execution.{enqueue, IsOpenUnit, IsOpenOrNone};
+ghost use Rattle.cics_history.specs.Headline.{IsHeadline};
 ghost use Rattle.cics_dispatch.specs.Replies.{plain};
 ghost use Rattle.cics_dispatch.specs.Steps.{answered, dequeued, units_dequeued};
 ghost use Rattle.cics_dispatch.specs.Answers.{IsHeadlineRegion};

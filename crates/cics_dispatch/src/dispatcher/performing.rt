@@ -2,7 +2,7 @@
 
 ghost use Rattle.std.specs.Prelude.{◌≡◌, ◌<◌, ◌≤◌, true, false, Some, None, length, if◌then◌else◌};
 ghost use Rattle.std.specs.Prelude.{IsTrue, IfOk, IfSome, OnOk, OnErr};
-ghost use Rattle.cics_units.specs.TableInPlace.{key_of};
+ghost use Rattle.cics_history.specs.Records.{key_of};
 ghost use Rattle.cics_dispatch.specs.Machine.{unit_closed};
 ghost use Rattle.cics_dispatch.specs.Steps.{op_of, code_of, performed, other_command, issued};
 ghost use Rattle.cics_dispatch.specs.Answers.{is_growing, may_want, IsStep, IsHeadlineRegion};
@@ -10,7 +10,7 @@ ghost use Rattle.cics_names.specs.Commands.{asks_no_queue};
 ghost use Rattle.cics_dispatch.specs.Replies.{plain};
 ghost use Rattle.cics_names.specs.declared.conditions.Condition.TheVariants.{Normal};
 ghost use Rattle.cics_dispatch.specs.declared.outcomes.Outcome.TheVariants.{Replied};
-ghost use Rattle.cics_units.specs.declared.ops.UnitState.TheVariants.{Committed, BackedOut};
+ghost use Rattle.cics_history.specs.declared.ops.UnitState.TheVariants.{Committed, BackedOut};
 ghost use Rattle.cics_dispatch.specs.Calls.{OfTask, IsAwake, PassesChecks, IsOutcomeOf, IsLeftBy};
 
 use crate::dispatcher::Dispatcher;

@@ -3,8 +3,8 @@
 ghost use Rattle.std.specs.Prelude.{◌≡◌, ◌<◌, [], ◌∷◌, All, Some, None, option_map, true, false};
 ghost use Rattle.std.specs.Prelude.{length, slice_get, IfOk, OnOk, OnErr, IfSome, IfNone};
 ghost use Rattle.std.specs.Option.{option_copied};
-ghost use Rattle.cics_units.specs.Execution.{IsOpenUnit};
-ghost use Rattle.cics_units.specs.TableInPlace.{key_of};
+ghost use Rattle.cics_history.specs.Execution.{IsOpenUnit};
+ghost use Rattle.cics_history.specs.Records.{key_of};
 ghost use Rattle.cics_dispatch.specs.Machine.{task_at, timed_out, with_waiting, not_waiting};
 ghost use Rattle.cics_dispatch.specs.Machine.{Suspended as SuspendedValue};
 ghost use Rattle.cics_names.specs.Commands.{asks_no_queue};

@@ -6,15 +6,15 @@ ghost use Rattle.cics_tempstor.specs.Queues.{has_item};
 ghost use Rattle.cics_units.specs.Listings.{listing_of};
 ghost use Rattle.cics_units.specs.RegionFiles.{AreLoaded};
 ghost use Rattle.cics_units.specs.Replaying.{files_alone};
-ghost use Rattle.cics_units.specs.Store.{initial_store, apply, apply_write, apply_rewrite};
-ghost use Rattle.cics_units.specs.Store.{apply_delete, apply_delete_generic, apply_ts_write};
-ghost use Rattle.cics_units.specs.Store.{apply_ts_rewrite, apply_ts_delete, ts_queue, with_ts};
+ghost use Rattle.cics_history.specs.Store.{initial_store, apply, apply_write, apply_rewrite};
+ghost use Rattle.cics_history.specs.Store.{apply_delete, apply_delete_generic, apply_ts_write};
+ghost use Rattle.cics_history.specs.Store.{apply_ts_rewrite, apply_ts_delete, ts_queue, with_ts};
 
 use super::file_is_recoverable;
 use super::records::PlainRecords;
 use crate::files::Files;
 use crate::listings::Listing;
-use crate::ops::Op;
+use cics_history::Op;
 use cics_names::{Items, Name8, NoMemory, Record};
 use std::alloc::Global;
 use std::collections::BTreeMap;
@@ -34,7 +34,7 @@ pub(crate) struct PlainStore {
 impl Model for PlainStore {
     ghost use Rattle.std.specs.Prelude.{[], T};
     ghost use Rattle.cics_names.specs.Keyed.{is_rising};
-    ghost use Rattle.cics_units.specs.Store.{Store};
+    ghost use Rattle.cics_history.specs.Store.{Store};
 
     ghost Value = { Store };
 

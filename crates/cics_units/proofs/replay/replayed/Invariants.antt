@@ -1,7 +1,7 @@
 use Rattle.std.proofs.Common.{◌≡◌, take}
-use Rattle.cics_units.specs.History.{kept, replay}
+use Rattle.cics_history.specs.History.{kept, replay}
 use Rattle.cics_units.specs.Replaying.{files_alone}
-use Rattle.cics_units.specs.Store.{initial_store}
+use Rattle.cics_history.specs.Store.{initial_store}
 use Rattle.cics_units.proofs.replay.replayed.Given as goal
 
 -- the entries that were passed are replayed

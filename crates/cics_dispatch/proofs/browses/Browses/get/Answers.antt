@@ -1,5 +1,5 @@
 use Rattle.std.proofs.Common.{sym}
-use Rattle.cics_units.proofs.Entries.{value_at-looked_up}
+use Rattle.cics_history.proofs.Entries.{value_at-looked_up}
 use Rattle.cics_dispatch.proofs.browses.Browses.get.Goals as goal
 
 pub returns : goal.returns

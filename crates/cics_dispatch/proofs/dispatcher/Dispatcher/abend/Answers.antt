@@ -1,6 +1,6 @@
 use Rattle.std.proofs.Common.{◌∙◌, sym, ap, subst}
-use Rattle.cics_units.specs.Execution.{IsOpenOrNone}
-use Rattle.cics_units.specs.declared.ops.UnitState.TheVariants.{BackedOut}
+use Rattle.cics_history.specs.Execution.{IsOpenOrNone}
+use Rattle.cics_history.specs.declared.ops.UnitState.TheVariants.{BackedOut}
 use Rattle.cics_dispatch.specs.Machine.{not_waiting, units_after}
 use Rattle.cics_dispatch.specs.Regions.{region_of}
 use Rattle.cics_dispatch.proofs.KeptTasks.{acting_or_none}

@@ -1,7 +1,7 @@
 use Rattle.std.proofs.Common.{◌≡◌, ◌∙◌, sym, ap, subst, ◌<◌, length, Some, false}
 use Rattle.std.specs.Prelude.{if◌then◌else◌, slice_get}
-use Rattle.cics_units.specs.Execution.{IsOpenOrNone}
-use Rattle.cics_units.specs.declared.ops.UnitState.TheVariants.{Committed, BackedOut}
+use Rattle.cics_history.specs.Execution.{IsOpenOrNone}
+use Rattle.cics_history.specs.declared.ops.UnitState.TheVariants.{Committed, BackedOut}
 use Rattle.cics_dispatch.specs.Machine.{Task, is_waiting, units_after}
 use Rattle.cics_dispatch.specs.Regions.{region_of}
 use Rattle.cics_dispatch.proofs.KeptTasks.{acting_or_none}

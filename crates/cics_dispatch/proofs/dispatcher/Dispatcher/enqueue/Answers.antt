@@ -1,6 +1,6 @@
 use Rattle.std.proofs.Common.{◌≡◌, ◌∙◌, sym, ap, subst, Some, false}
 use Rattle.std.specs.Prelude.{slice_get, take}
-use Rattle.cics_units.specs.Execution.{enqueue, after_enqueue}
+use Rattle.cics_history.specs.Execution.{enqueue, after_enqueue}
 use Rattle.cics_dispatch.specs.Machine.{Task, is_waiting, replaced, with_unit}
 use Rattle.cics_dispatch.specs.Regions.{region_of}
 use Rattle.cics_dispatch.specs.Steps.{enqueued}

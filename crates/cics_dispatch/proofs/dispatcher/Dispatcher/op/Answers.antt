@@ -1,5 +1,5 @@
 use Rattle.std.proofs.Common.{◌∙◌, sym, ap, ◌≤◌, length, IfSome}
-use Rattle.cics_units.specs.TableInPlace.{key_of}
+use Rattle.cics_history.specs.Records.{key_of}
 use Rattle.std.specs.Option.{option_copied}
 use Rattle.cics_dispatch.specs.Machine.{definition_of}
 use Rattle.cics_dispatch.proofs.RegionSteps.{place}

@@ -1,6 +1,6 @@
 use Rattle.std.proofs.Common.{◌≡◌, ◌∙◌, sym, ap, subst, Some, None, false}
 use Rattle.std.specs.Prelude.{slice_get}
-use Rattle.cics_units.specs.Execution.{execution, after_execution}
+use Rattle.cics_history.specs.Execution.{execution, after_execution}
 use Rattle.cics_dispatch.specs.Machine.{Task, is_waiting, replaced, with_unit}
 use Rattle.cics_dispatch.specs.Checks.{fault_of}
 use Rattle.cics_dispatch.specs.Steps.{op_of, executed, reply_of}

@@ -1,7 +1,7 @@
 use Rattle.std.proofs.Common.{ap}
 use Rattle.cics_names.specs.Keyed.{value_at}
 use Rattle.cics_browse.specs.Positions.{after_next}
-use Rattle.cics_units.proofs.Entries.{OnOk-more, OnErr-more}
+use Rattle.cics_history.proofs.Entries.{OnOk-more, OnErr-more}
 use Rattle.cics_dispatch.specs.Machine.{with_browses}
 use Rattle.cics_dispatch.specs.Browses.{moved}
 use Rattle.cics_dispatch.proofs.TaskTable.{changed, unchanged, kept-either}

@@ -1,6 +1,6 @@
 use Rattle.std.proofs.Common.{ap}
 use Rattle.cics_names.specs.Keyed.{with_value}
-use Rattle.cics_units.proofs.Entries.{OnOk-more, OnErr-more}
+use Rattle.cics_history.proofs.Entries.{OnOk-more, OnErr-more}
 use Rattle.cics_dispatch.specs.Machine.{with_browses}
 use Rattle.cics_dispatch.proofs.TaskTable.{changed, unchanged, kept-either}
 use Rattle.cics_dispatch.proofs.tasks.Tasks.put_browse.Goals as goal

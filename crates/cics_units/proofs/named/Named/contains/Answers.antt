@@ -1,5 +1,5 @@
 use Rattle.std.proofs.Common.{◌∙◌, ap, sym, refl, is_some}
-use Rattle.cics_units.proofs.Entries.{value_at-looked_up}
+use Rattle.cics_history.proofs.Entries.{value_at-looked_up}
 use Rattle.cics_units.proofs.named.Named.contains.Goals as goal
 
 pub returns : goal.returns

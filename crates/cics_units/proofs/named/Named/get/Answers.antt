@@ -1,7 +1,7 @@
 use Rattle.std.proofs.Common.{sym, subst}
 use Rattle.std.specs.Prelude.{T}
 use Rattle.cics_names.specs.Keyed.{is_rising}
-use Rattle.cics_units.proofs.Entries.{value_at-looked_up}
+use Rattle.cics_history.proofs.Entries.{value_at-looked_up}
 use Rattle.cics_units.proofs.named.Named.get.Goals as goal
 
 pub returns-clause-value : goal.returns-clause-value

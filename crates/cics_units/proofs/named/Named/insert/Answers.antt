@@ -3,7 +3,7 @@ use Rattle.std.specs.Prelude.{T}
 use Rattle.cics_names.specs.Keyed.{with_value, is_rising}
 use Rattle.cics_names.specs.RisingLaws.{rising-with_value}
 use Rattle.std.proofs.lemmas.Result.{err_from_is_err_and}
-use Rattle.cics_units.proofs.Entries.{value_at-looked_up, insert_entry-with_value}
+use Rattle.cics_history.proofs.Entries.{value_at-looked_up, insert_entry-with_value}
 use Rattle.cics_units.proofs.named.Named.insert.Goals as goal
 
 pub invariant_of-self-2 : goal.invariant_of-self-2

@@ -1,7 +1,7 @@
 use Rattle.std.proofs.Common.{◌≡◌, Some, None, ◌∙◌, ap, sym, refl}
 use Rattle.cics_names.specs.Keyed.{value_at, with_value}
 use Rattle.cics_images.specs.NamedValues.{replaced}
-use Rattle.cics_units.proofs.Entries.{value_at-looked_up, with_value-set, rising-set}
+use Rattle.cics_history.proofs.Entries.{value_at-looked_up, with_value-set, rising-set}
 use Rattle.cics_units.proofs.named.Named.replace.Goals as goal
 
 pub returns-in_default-clause-old : goal.returns-in_default-clause-old

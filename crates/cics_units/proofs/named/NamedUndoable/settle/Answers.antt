@@ -2,7 +2,7 @@ use Rattle.std.proofs.Common.{◌≡◌, Some, None, ◌∙◌, ap, sym, refl}
 use Rattle.cics_names.specs.Keyed.{value_at, with_value}
 use Rattle.cics_images.specs.NamedValues.{changed_where, split_swept}
 use Rattle.cics_images.specs.NamedLaws.{split_cell}
-use Rattle.cics_units.proofs.Entries.{value_at-looked_up, with_value-set, rising-set}
+use Rattle.cics_history.proofs.Entries.{value_at-looked_up, with_value-set, rising-set}
 use Rattle.cics_units.proofs.named.NamedUndoable.settle.Goals as goal
 
 pub returns-in_default : goal.returns-in_default

@@ -1,7 +1,7 @@
 use Rattle.std.proofs.Common.{◌≡◌, Some, None, ◌∙◌, ap, subst, sym, refl}
 use Rattle.cics_names.specs.Keyed.{value_at, with_value}
 use Rattle.cics_images.specs.NamedValues.{IsReadyIn, changed_where}
-use Rattle.cics_units.proofs.Entries.{value_at-looked_up, with_value-set, rising-set}
+use Rattle.cics_history.proofs.Entries.{value_at-looked_up, with_value-set, rising-set}
 use Rattle.cics_units.proofs.named.NamedUndoable.undo.Goals as goal
 
 pub undo-requires : goal.undo-requires

@@ -1,5 +1,5 @@
 use Rattle.std.proofs.Common.{◌≡◌, ◌∙◌, ap, sym, None, filter, not}
-use Rattle.cics_units.specs.Execution.{read_at, is_read_of}
+use Rattle.cics_history.specs.Execution.{read_at, is_read_of}
 use Rattle.cics_units.specs.OpenReads.{reads_in}
 use Rattle.cics_units.proofs.OpenReads.{absent_now, there_now, closed_in_row, closed_without_row, rising-set}
 use Rattle.cics_units.proofs.open_reads.OpenReads.close.Goals as goal

@@ -1,6 +1,6 @@
 use Rattle.std.proofs.Common.{◌≡◌, ◌∙◌, ap, sym, None}
 use Rattle.std.specs.Option.{option_copied}
-use Rattle.cics_units.specs.Execution.{read_at}
+use Rattle.cics_history.specs.Execution.{read_at}
 use Rattle.cics_units.proofs.OpenReads.{absent_now, there_now}
 use Rattle.cics_units.proofs.open_reads.OpenReads.key.Goals as goal
 

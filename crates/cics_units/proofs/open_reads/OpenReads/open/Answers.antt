@@ -3,7 +3,7 @@ use Rattle.cics_names.specs.Keyed.{bytes_cmp}
 use Rattle.std.proofs.lemmas.Result.{err_from_is_err_and}
 use Rattle.std.specs.Ordering.{nat_cmp}
 use Rattle.std.specs.BTreeMap.{insert_entry}
-use Rattle.cics_units.specs.Execution.{with_read}
+use Rattle.cics_history.specs.Execution.{with_read}
 use Rattle.cics_units.specs.OpenReads.{reads_in}
 use Rattle.cics_units.proofs.OpenReads.{key_at, there_now, opened_in_row, opened_with_row, same_row, rising-set, rising-insert}
 use Rattle.cics_units.proofs.open_reads.OpenReads.open.Goals as goal

@@ -2,7 +2,7 @@ use Rattle.std.proofs.Common.{[], true, false, Ok, Err, ◌∙◌, ap, sym, subs
 use Rattle.std.proofs.lemmas.Result.{err_from_is_err_and}
 use Rattle.cics_names.specs.Keyed.{with_value}
 use Rattle.cics_units.specs.Faults.{IsRefused}
-use Rattle.cics_units.specs.Openings.{with_file, is_record_size, is_key}
+use Rattle.cics_history.specs.Openings.{with_file, is_record_size, is_key}
 use Rattle.cics_units.specs.RegionFiles.{AreLoaded, opening_of}
 use Rattle.cics_units.specs.declared.opening.DefineFault.TheVariants.{Duplicate, BadLength, BadKey}
 use Rattle.cics_units.specs.Replaying.{files_alone}

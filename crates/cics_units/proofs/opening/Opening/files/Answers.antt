@@ -1,5 +1,5 @@
 use Rattle.std.proofs.Common.{◌∙◌, ap, sym, subst, refl}
-use Rattle.cics_units.specs.Openings.{IsOpeningInOrder, HasLawfulKeys, HasFilesAlone}
+use Rattle.cics_history.specs.Openings.{IsOpeningInOrder, HasLawfulKeys, HasFilesAlone}
 use Rattle.cics_units.specs.RegionFiles.{opened_files}
 use Rattle.cics_units.proofs.Opened.{opened_files-openings_of, IsOpeningInOrder-with, HasLawfulKeys-with}
 use Rattle.cics_units.proofs.opening.Opening.files.Goals as goal

@@ -4,7 +4,7 @@ use Rattle.std.proofs.lemmas.Result.{err_from_is_err_and}
 use Rattle.cics_names.specs.Keyed.{value_at, has_key}
 use Rattle.cics_ksds.specs.Files.{key_of, fits_file}
 use Rattle.cics_units.specs.Faults.{IsRefused}
-use Rattle.cics_units.specs.Openings.{with_record}
+use Rattle.cics_history.specs.Openings.{with_record}
 use Rattle.cics_units.specs.RegionFiles.{AreLoaded, written_in}
 use Rattle.cics_units.specs.declared.opening.DefineFault.TheVariants.{Duplicate, BadLength, NotThere}
 use Rattle.cics_units.specs.Replaying.{files_alone}

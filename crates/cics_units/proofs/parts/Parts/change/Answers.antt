@@ -1,7 +1,7 @@
 use Rattle.std.proofs.Common.{◌∙◌, sym, ap}
-use Rattle.cics_units.specs.Execution.{with_read}
-use Rattle.cics_units.specs.TableInPlace.{file_of, key_of}
-use Rattle.cics_units.proofs.Entries.{OnOk-more}
+use Rattle.cics_history.specs.Execution.{with_read}
+use Rattle.cics_history.specs.Records.{file_of, key_of}
+use Rattle.cics_history.proofs.Entries.{OnOk-more}
 use Rattle.cics_units.proofs.PartChanges.{ends_none}
 use Rattle.cics_units.proofs.parts.Parts.change.Goals as goal
 

@@ -1,9 +1,9 @@
 use Rattle.std.proofs.Common.{◌≡◌, ◌∙◌, sym, ap, subst}
 use Rattle.std.specs.List.{list_any}
-use Rattle.cics_units.specs.Execution.{covers, read_at}
+use Rattle.cics_history.specs.Execution.{covers, read_at}
 use Rattle.cics_units.specs.OpenReads.{is_read_key}
 use Rattle.cics_units.specs.TableInPlace.{AreOnce}
-use Rattle.cics_units.specs.declared.ops.Op.TheVariants.{Rewrite, Delete}
+use Rattle.cics_history.specs.declared.ops.Op.TheVariants.{Rewrite, Delete}
 use Rattle.cics_units.proofs.PartChanges.{covered-read_at, uncovered_any, uncovered_rest}
 use Rattle.cics_units.proofs.parts.Parts.cover.Goals as goal
 

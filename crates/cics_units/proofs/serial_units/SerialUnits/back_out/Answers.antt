@@ -1,6 +1,6 @@
 use Rattle.std.proofs.Common.{◌≡◌, true, sym, subst}
-use Rattle.cics_units.specs.Execution.{IsOpenUnit}
-use Rattle.cics_units.specs.Events.{is_live}
+use Rattle.cics_history.specs.Execution.{IsOpenUnit}
+use Rattle.cics_history.specs.Events.{is_live}
 use Rattle.cics_units.proofs.ShownUnits.{live_of}
 use Rattle.std.specs.Vec.{vec_capacity}
 use Rattle.cics_units.proofs.SerialKept.{turns_of, backs_out_serial}

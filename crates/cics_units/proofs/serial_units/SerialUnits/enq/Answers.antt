@@ -1,7 +1,7 @@
 use Rattle.std.proofs.Common.{arith, ◌≡◌, ◌+◌, ◌≤◌, true, length, refl, ap, sym, subst}
 use Rattle.std.specs.Vec.{vec_capacity}
-use Rattle.cics_units.specs.Execution.{IsOpenOrNone}
-use Rattle.cics_units.specs.Events.{may_act}
+use Rattle.cics_history.specs.Execution.{IsOpenOrNone}
+use Rattle.cics_history.specs.Events.{may_act}
 use Rattle.cics_units.proofs.ShownUnits.{acts_of}
 use Rattle.cics_units.proofs.SerialKept.{turns_of, either, roomier, enqueues_serial}
 use Rattle.cics_units.proofs.serial_units.SerialUnits.enq.Goals as goal

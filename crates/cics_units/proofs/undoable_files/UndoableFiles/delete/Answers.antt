@@ -7,7 +7,7 @@ use Rattle.cics_units.specs.FilesImages.{cell_of, FilesKeep}
 use Rattle.cics_units.specs.FilesChanges.{IsFilesImage}
 use Rattle.cics_units.specs.Parts.{UndoableValue, AreChanged, is_recoverable_in}
 use Rattle.cics_units.specs.RegionFiles.{IsThere, deleted_in}
-use Rattle.cics_units.specs.declared.ops.Op.TheVariants.{Delete}
+use Rattle.cics_history.specs.declared.ops.Op.TheVariants.{Delete}
 use Rattle.cics_units.proofs.FileChanges.{delete_changed, of_there, of_this}
 use Rattle.cics_units.proofs.undoable_files.UndoableFiles.delete.Goals as goal
 

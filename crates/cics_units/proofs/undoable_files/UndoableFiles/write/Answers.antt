@@ -8,7 +8,7 @@ use Rattle.cics_units.specs.FilesImages.{cell_of, FilesKeep}
 use Rattle.cics_units.specs.FilesChanges.{IsFilesImage}
 use Rattle.cics_units.specs.Parts.{UndoableValue, AreChanged, is_recoverable_in, IsRecordOf}
 use Rattle.cics_units.specs.RegionFiles.{written_in}
-use Rattle.cics_units.specs.declared.ops.Op.TheVariants.{Write}
+use Rattle.cics_history.specs.declared.ops.Op.TheVariants.{Write}
 use Rattle.cics_units.proofs.FileChanges.{write_changed, of_record, of_this}
 use Rattle.cics_units.proofs.undoable_files.UndoableFiles.write.Goals as goal
 

@@ -1,14 +1,14 @@
 use Rattle.std.proofs.Common.{◌∙◌, sym, ap, subst}
 use Rattle.std.specs.Prelude.{slice_set}
-use Rattle.cics_units.specs.Execution.{IsOpenUnit, after_end}
+use Rattle.cics_history.specs.Execution.{IsOpenUnit, after_end}
 use Rattle.std.proofs.Common.{◌≡◌, true}
 use Rattle.cics_enqueue.specs.Resources.{released}
-use Rattle.cics_units.specs.Events.{is_live}
-use Rattle.cics_units.specs.Headline.{LeavesNoTrace}
+use Rattle.cics_history.specs.Events.{is_live}
+use Rattle.cics_history.specs.Headline.{LeavesNoTrace}
 use Rattle.cics_units.specs.Matching.{store_of_files}
-use Rattle.cics_units.proofs.Alone.{leaves_no_trace}
+use Rattle.cics_history.proofs.Alone.{leaves_no_trace}
 use Rattle.cics_units.specs.KeptUnits.{state_shown}
-use Rattle.cics_units.specs.declared.ops.UnitState.TheVariants.{BackedOut}
+use Rattle.cics_history.specs.declared.ops.UnitState.TheVariants.{BackedOut}
 use Rattle.cics_units.proofs.KeptUnits.{store_is, kept_headline, kept_backed_out}
 use Rattle.cics_units.proofs.ShownUnits.{live_of, ended_state, ended_kept}
 use Rattle.cics_units.proofs.units.Units.back_out.Goals as goal

@@ -1,8 +1,8 @@
 use Rattle.std.proofs.Common.{◌∙◌, sym, ap, subst}
 use Rattle.std.specs.Prelude.{slice_set}
-use Rattle.cics_units.specs.Execution.{IsOpenUnit, after_end}
+use Rattle.cics_history.specs.Execution.{IsOpenUnit, after_end}
 use Rattle.cics_units.specs.KeptUnits.{state_shown}
-use Rattle.cics_units.specs.declared.ops.UnitState.TheVariants.{Committed}
+use Rattle.cics_history.specs.declared.ops.UnitState.TheVariants.{Committed}
 use Rattle.cics_units.proofs.KeptUnits.{kept_headline, kept_committed, committed_store}
 use Rattle.cics_units.proofs.ShownUnits.{live_of, ended_state, ended_kept}
 use Rattle.cics_units.proofs.units.Units.commit.Goals as goal

@@ -1,5 +1,5 @@
 use Rattle.std.proofs.Common.{◌∙◌, ap}
-use Rattle.cics_units.specs.Execution.{after_dequeue}
+use Rattle.cics_history.specs.Execution.{after_dequeue}
 use Rattle.cics_units.specs.KeptUnits.{state_shown}
 use Rattle.cics_units.proofs.KeptUnits.{kept_headline}
 use Rattle.cics_units.proofs.Enqueuing.{dequeued_shown, dequeued_kept}

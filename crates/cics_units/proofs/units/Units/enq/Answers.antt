@@ -1,16 +1,16 @@
 use Rattle.std.proofs.Common.{◌≡◌, ◌∙◌, sym, ap, subst, refl, true, None}
 use Rattle.cics_enqueue.specs.Resources.{holder_of, is_full, IsFreeFor}
-use Rattle.cics_units.specs.Execution.{IsOpenOrNone, unit_or_next, outcomes_with, enqueue, after_enqueued, after_enqueue}
-use Rattle.cics_units.specs.Events.{may_act}
-use Rattle.cics_units.specs.Headline.{IsHeadline}
+use Rattle.cics_history.specs.Execution.{IsOpenOrNone, unit_or_next, outcomes_with, enqueue, after_enqueued, after_enqueue}
+use Rattle.cics_history.specs.Events.{may_act}
+use Rattle.cics_history.specs.Headline.{IsHeadline}
 use Rattle.cics_units.specs.KeptUnits.{state_shown, AreKept}
 use Rattle.cics_units.specs.Matching.{store_of_files}
 use Rattle.cics_units.specs.Parts.{AreEnqueued}
 use Rattle.cics_units.specs.TableInPlace.{value_of, other_holder}
-use Rattle.cics_units.specs.declared.ops.Enqueued.TheVariants.{Taken}
+use Rattle.cics_history.specs.declared.ops.Enqueued.TheVariants.{Taken}
 use Rattle.cics_units.proofs.KeptUnits.{kept_headline}
 use Rattle.cics_units.proofs.ShownUnits.{acts_of, refused_kept, holder_open}
-use Rattle.cics_units.specs.Execution.{IsOpenUnit}
+use Rattle.cics_history.specs.Execution.{IsOpenUnit}
 use Rattle.cics_units.proofs.Enqueuing.{enqueue-waits, enqueue-takes, enqueue-full, enqueued_shown, enqueued_kept, refused_shown}
 use Rattle.cics_units.proofs.TableInPlace.{table_free}
 use Rattle.cics_units.proofs.units.Units.enq.Goals as goal

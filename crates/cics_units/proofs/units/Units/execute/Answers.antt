@@ -1,14 +1,15 @@
 use Rattle.std.proofs.Common.{◌≡◌, ◌∙◌, refl, sym, ap, subst, true, None, [], ◌∷◌, ◌++◌}
 use Rattle.cics_enqueue.specs.Resources.{holder_of, IsFreeFor}
-use Rattle.cics_units.specs.Execution.{execution, after_execution, unit_or_next, read_at, outcomes_with, IsOpenUnit, IsOpenOrNone, is_ready_op}
-use Rattle.cics_units.specs.Headline.{IsHeadline}
+use Rattle.cics_history.specs.Execution.{execution, after_execution, unit_or_next, read_at, outcomes_with, IsOpenUnit, IsOpenOrNone, is_ready_op}
+use Rattle.cics_history.specs.Headline.{IsHeadline}
 use Rattle.cics_units.specs.KeptUnits.{state_shown, AreKept}
 use Rattle.cics_units.specs.Matching.{store_of_files}
-use Rattle.cics_units.specs.TableInPlace.{file_of, key_of, record_of, other_holder}
+use Rattle.cics_history.specs.Records.{file_of, key_of}
+use Rattle.cics_units.specs.TableInPlace.{record_of, other_holder}
 use Rattle.cics_units.specs.Parts.{IsFitOp, AreExecuted}
-use Rattle.cics_units.specs.Store.{apply}
-use Rattle.cics_units.specs.Events.{may_act}
-use Rattle.cics_units.specs.declared.ops.Done.TheVariants.{Answered}
+use Rattle.cics_history.specs.Store.{apply}
+use Rattle.cics_history.specs.Events.{may_act}
+use Rattle.cics_history.specs.declared.ops.Done.TheVariants.{Answered}
 use Rattle.cics_units.proofs.KeptUnits.{kept_headline, ready_fits}
 use Rattle.cics_units.proofs.ShownUnits.{holder_open, acts_of, none_open_of, refused_kept, waits, waits_unchanged, parts_state, parts_kept, answered}
 use Rattle.cics_units.proofs.TableInPlace.{table_free}

@@ -1,7 +1,7 @@
 use Rattle.std.proofs.Common.{◌∙◌, sym, ap}
 use Rattle.std.specs.Prelude.{option_map}
 use Rattle.cics_names.specs.Keyed.{value_at}
-use Rattle.cics_units.proofs.Stores.{value_at_each}
+use Rattle.cics_history.proofs.Stores.{value_at_each}
 use Rattle.cics_units.proofs.units.Units.file.Goals as goal
 
 pub returns-clause-records : goal.returns-clause-records

@@ -1,9 +1,9 @@
 use Rattle.std.proofs.Common.{◌∙◌, sym, ap, subst}
-use Rattle.cics_units.specs.Holding.{held_table, first_holder, awaited}
+use Rattle.cics_history.specs.Holding.{held_table, first_holder, awaited}
 use Rattle.cics_enqueue.specs.Resources.{holder_of}
 use Rattle.cics_units.specs.TableInPlace.{other_holder}
 use Rattle.cics_units.proofs.ShownUnits.{awaited_is, holder_open, if_open}
-use Rattle.cics_units.specs.Execution.{IsOpenUnit}
+use Rattle.cics_history.specs.Execution.{IsOpenUnit}
 use Rattle.cics_units.specs.KeptUnits.{state_shown}
 use Rattle.cics_units.proofs.TableInPlace.{table_holder}
 use Rattle.cics_units.proofs.units.Units.holder.Goals as goal

@@ -4,7 +4,7 @@ use Rattle.cics_units.specs.Listings.{listing_of}
 use Rattle.cics_units.specs.Parts.{is_recoverable_in}
 use Rattle.cics_units.specs.RegionFiles.{files_listed}
 use Rattle.cics_units.proofs.KeptUnits.{recoverable_alike}
-use Rattle.cics_units.proofs.Maps.{to_T}
+use Rattle.cics_history.proofs.Maps.{to_T}
 use Rattle.cics_units.proofs.Opened.{rising-each}
 use Rattle.cics_units.proofs.ShownUnits.{files_alike}
 use Rattle.cics_units.proofs.units.Units.listing.Goals as goal

@@ -1,5 +1,5 @@
 use Rattle.std.proofs.Common.{◌∙◌, sym, ap, subst}
-use Rattle.cics_units.specs.Execution.{IsOpenUnit, after_unlock}
+use Rattle.cics_history.specs.Execution.{IsOpenUnit, after_unlock}
 use Rattle.cics_units.specs.KeptUnits.{state_shown}
 use Rattle.cics_units.proofs.KeptUnits.{kept_headline}
 use Rattle.cics_units.proofs.ShownUnits.{live_of, read_short, unlocked_state, unlocked_kept}

@@ -1,7 +1,7 @@
 use Rattle.std.proofs.Common.{None, ◌∙◌, ap, subst, sym}
 use Rattle.cics_names.specs.Keyed.{with_value}
 use Rattle.cics_units.specs.RegionFiles.{IsFitFor, key_in, rewritten_in}
-use Rattle.cics_units.proofs.Entries.{value_at-looked_up}
+use Rattle.cics_history.proofs.Entries.{value_at-looked_up}
 use Rattle.cics_units.proofs.Changing.{there, changed, risen, others, each_image}
 use Rattle.cics_units.proofs.files.changes.Named+File.rewrite.Goals as goal
 

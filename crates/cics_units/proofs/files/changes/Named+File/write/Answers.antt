@@ -1,7 +1,7 @@
 use Rattle.std.proofs.Common.{None, ◌∙◌, ap, subst, sym, refl}
 use Rattle.cics_names.specs.Keyed.{with_value}
 use Rattle.cics_units.specs.RegionFiles.{IsFitFor, key_in, written_in}
-use Rattle.cics_units.proofs.Entries.{value_at-looked_up, unchanged-set, OnOk-more, OnErr-more}
+use Rattle.cics_history.proofs.Entries.{value_at-looked_up, unchanged-set, OnOk-more, OnErr-more}
 use Rattle.cics_units.proofs.Changing.{there, changed, risen, others, each_image, IfOk-more}
 use Rattle.cics_units.proofs.files.changes.Named+File.write.Goals as goal
 

@@ -2,7 +2,7 @@ use Rattle.std.proofs.Common.{◌∙◌, ap, subst, sym}
 use Rattle.std.specs.Prelude.{T}
 use Rattle.cics_names.specs.Keyed.{with_value, is_rising}
 use Rattle.cics_names.specs.RisingLaws.{rising-with_value}
-use Rattle.cics_units.proofs.Entries.{insert_entry-with_value}
+use Rattle.cics_history.proofs.Entries.{insert_entry-with_value}
 use Rattle.cics_units.proofs.replay.records.PlainRecords.put.Goals as goal
 
 pub invariant_of-self-2 : goal.invariant_of-self-2

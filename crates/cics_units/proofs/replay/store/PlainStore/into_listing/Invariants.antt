@@ -1,6 +1,6 @@
 use Rattle.std.proofs.Common.{◌≡◌, map, false}
 use Rattle.cics_ksds.specs.Files.{records_of}
-use Rattle.cics_units.specs.Openings.{file_recoverable}
+use Rattle.cics_history.specs.Openings.{file_recoverable}
 use Rattle.cics_units.specs.Replaying.{files_alone}
 use Rattle.cics_units.proofs.replay.store.PlainStore.into_listing.Given as goal
 

@@ -1,5 +1,5 @@
 use Rattle.std.proofs.Common.{ap}
-use Rattle.cics_units.proofs.Entries.{OnOk-more}
+use Rattle.cics_history.proofs.Entries.{OnOk-more}
 use Rattle.cics_units.proofs.Plain.{kept_rising, rewrite_nowhere, rewrite_there}
 use Rattle.cics_units.proofs.replay.store.PlainStore.rewrite.Goals as goal
 

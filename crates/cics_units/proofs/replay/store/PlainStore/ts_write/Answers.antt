@@ -1,6 +1,6 @@
 use Rattle.std.proofs.Common.{◌∷◌, [], ◌++◌, ◌∙◌, ap, refl, arith}
-use Rattle.cics_units.specs.Store.{with_ts}
-use Rattle.cics_units.proofs.Entries.{OnOk-more}
+use Rattle.cics_history.specs.Store.{with_ts}
+use Rattle.cics_history.proofs.Entries.{OnOk-more}
 use Rattle.cics_units.proofs.Plain.{store_of, kept_rising, ts_made, ts_write_full, ts_write_there}
 use Rattle.cics_units.proofs.replay.store.PlainStore.ts_write.Goals as goal
 

@@ -1,5 +1,5 @@
 use Rattle.std.proofs.Common.{ap}
-use Rattle.cics_units.proofs.Entries.{OnOk-more}
+use Rattle.cics_history.proofs.Entries.{OnOk-more}
 use Rattle.cics_units.proofs.Plain.{kept_rising, write_nowhere, write_there}
 use Rattle.cics_units.proofs.replay.store.PlainStore.write.Goals as goal
 

@@ -1,0 +1,196 @@
+-- What is found for a resource is the least, in byte order, of what other units hold and overlaps it.
+use Rattle.std.proofs.Common.{is_some, ◌≡◌, ℕ, Bool, true, false, ◌&&◌, ◌||◌, Option, Some, None, List, [], ◌∷◌, refl, ap, sym, subst, ◌∙◌, eqb, inl, inr}
+use Rattle.std.specs.Prelude.{if◌then◌else◌, map}
+use Rattle.std.specs.List.{list_any}
+use Rattle.std.specs.Ordering.{is_lt, ordering_reverse}
+use Rattle.std.specs.declared.cmp.Ordering.{Ordering}
+use Rattle.std.specs.declared.cmp.Ordering.TheVariants.{Less, Equal, Greater}
+use Rattle.std.specs.Cmp.{tied_itself}
+use Rattle.std.specs.Cmp.Lexicographic.{nat_list_cmp_total}
+use Rattle.std.proofs.lemmas.Bool.{true≢false, false≢true, cases_Bool, eq-eqb, and_parts, and_from, or_cases, or_from, or_left, or_right, false_from_ne_true}
+use Rattle.cics_names.specs.Keyed.{Bytes, bytes_cmp, is_below}
+use Rattle.cics_enqueue.specs.Resources.{Table, Held, is_one, overlaps, is_other, lesser, place_of}
+use Rattle.cics_enqueue.specs.ResourceLaws.{is_one-self, is_one-eq}
+use Rattle.cics_enqueue.specs.declared.resources.Resource.{Resource}
+use Rattle.cics_history.specs.Holding.{UnitsState, held_by, held_table, units_from, first_held, first_holder}
+use Rattle.cics_history.specs.Holders.{IsLeastHeld}
+use Rattle.cics_history.specs.Isolation.{IsSound}
+use Rattle.cics_history.proofs.Waiting.{any_map, any_flat_map, any_more, any_less, stands_one, in_table, none_held, none_first}
+use Rattle.cics_history.proofs.Holders.{holder_begun, one_unit}
+
+-- ---- The order of bytes
+
+less : (o : Ordering) → is_lt o ≡ true → o ≡ Less
+less Less h = refl
+less Equal h = absurd (false≢true h)
+less Greater h = absurd (false≢true h)
+
+never_below : (a : Bytes) → is_below a a ≡ false
+never_below a = ap is_lt (tied_itself nat_list_cmp_total a)
+
+below_turned : (a b : Bytes) → is_below a b ≡ true → is_below b a ≡ false
+below_turned a b h = ap is_lt (nat_list_cmp_total.antisymm b a) ∙ reversed (bytes_cmp a b) (less (bytes_cmp a b) h)
+  where
+    reversed : (o : Ordering) → o ≡ Less → is_lt (ordering_reverse o) ≡ false
+    reversed o e = ap (λ x. is_lt (ordering_reverse x)) e
+
+not_below : (a b c : Bytes) → is_below a b ≡ false → is_below b c ≡ false → is_below a c ≡ false
+not_below a b c h k = false_from_ne_true (is_below a c) (λ t. by t (bytes_cmp a b) refl)
+  where
+    by : is_below a c ≡ true → (o : Ordering) → bytes_cmp a b ≡ o → ⊥
+    by t Less e = true≢false (sym (ap is_lt e) ∙ h)
+    by t Equal e = true≢false (sym t ∙ (ap is_lt (nat_list_cmp_total.congr a b c e) ∙ k))
+    by t Greater e =
+        let turned : bytes_cmp b a ≡ Less = nat_list_cmp_total.antisymm b a ∙ ap ordering_reverse e in
+        true≢false (sym (ap is_lt (nat_list_cmp_total.trans b a c turned (less (bytes_cmp a c) t))) ∙ k)
+
+-- ---- The entry that is found
+
+abbrev passes : Option ℕ → Resource → Resource × Held → Bool
+passes u r e = overlaps r e.0 && is_other u e.1.unit
+
+-- the lesser of two is one of them
+lesser_either : {P : Type 0} (d : Resource × Held) (o : Option (Resource × Held)) (e : Resource × Held) →
+    lesser (Some d) o ≡ Some e → (d ≡ e → P) → (o ≡ Some e → P) → P
+lesser_either d None e h own later = own (given d e h)
+  where
+    given : (d e : Resource × Held) → Some d ≡ Some e → d ≡ e
+    given d e h = cc
+lesser_either {P} d (Some y) e h own later =
+    elim (is_below (place_of y.0) (place_of d.0)) as (λ b. (if b then Some y else Some d) ≡ Some e → P)
+    [ true ↦ λ g. later g | false ↦ λ g. own (given d e g) ] h
+  where
+    given : (d e : Resource × Held) → Some d ≡ Some e → d ≡ e
+    given d e h = cc
+
+none_some : (e : Resource × Held) → None ≡ Some e → ⊥
+none_some e h = cc
+
+-- it passes
+first_passes : (t : Table) (u : Option ℕ) (r : Resource) (e : Resource × Held) → first_held t u r ≡ Some e → passes u r e ≡ true
+first_passes [] u r e h = absurd (none_some e h)
+first_passes (d ∷ t) u r e h =
+    elim (passes u r d) as (λ b. passes u r d ≡ b → (if b then lesser (Some d) (first_held t u r) else first_held t u r) ≡ Some e →
+    passes u r e ≡ true) [
+      | true ↦ λ y g. lesser_either d (first_held t u r) e g (λ same. subst (λ x. passes u r x ≡ true) same y) (first_passes t u r e)
+      | false ↦ λ n g. first_passes t u r e g
+    ] refl h
+
+-- it stands in the table
+first_stands : (test : Resource × Held → Bool) (t : Table) (u : Option ℕ) (r : Resource) (e : Resource × Held) →
+    first_held t u r ≡ Some e → test e ≡ true → list_any test t ≡ true
+first_stands test [] u r e h q = absurd (none_some e h)
+first_stands test (d ∷ t) u r e h q =
+    elim (passes u r d) as (λ b. (if b then lesser (Some d) (first_held t u r) else first_held t u r) ≡ Some e →
+    list_any test (d ∷ t) ≡ true) [
+      | true ↦ λ g. lesser_either d (first_held t u r) e g (λ same. or_left _ _ (subst (λ x. test x ≡ true) (sym same) q))
+          (λ later. or_right _ _ (first_stands test t u r e later q))
+      | false ↦ λ g. or_right _ _ (first_stands test t u r e g q)
+    ] h
+
+-- an entry that passes and comes before these bytes
+abbrev is_before : Option ℕ → Resource → Bytes → Resource × Held → Bool
+is_before u r b d = passes u r d && is_below (place_of d.0) b
+
+-- none of a list, and not its head, passes and comes before an entry
+abbrev none_before : Option ℕ → Resource → Resource × Held → Table → Resource × Held → Type 0
+none_before u r d t x = (is_below (place_of d.0) (place_of x.0) || list_any (is_before u r (place_of x.0)) t) ≡ false
+
+-- and none that passes comes before it
+first_least : (t : Table) (u : Option ℕ) (r : Resource) (e : Resource × Held) → first_held t u r ≡ Some e →
+    list_any (is_before u r (place_of e.0)) t ≡ false
+first_least [] u r e h = refl
+first_least (d ∷ t) u r e h =
+    elim (passes u r d) as (λ b. (if b then lesser (Some d) (first_held t u r) else first_held t u r) ≡ Some e →
+    ((b && is_below (place_of d.0) (place_of e.0)) || list_any (is_before u r (place_of e.0)) t) ≡ false) [
+      | true ↦ λ g. by (first_least t u r) (first_held t u r) refl g
+      | false ↦ λ g. first_least t u r e g
+    ] h
+  where
+    given : (x y : Resource × Held) → Some x ≡ Some y → x ≡ y
+    given x y h = cc
+
+    by : ((y : Resource × Held) → first_held t u r ≡ Some y → list_any (is_before u r (place_of y.0)) t ≡ false) →
+        (o : Option (Resource × Held)) → first_held t u r ≡ o → lesser (Some d) o ≡ Some e → none_before u r d t e
+    by rest None is g = subst (none_before u r d t) (given d e g) (or_from _ _ (never_below (place_of d.0))
+        (any_less (is_before u r (place_of d.0)) (passes u r) (λ x y. (and_parts (passes u r x) (is_below (place_of x.0) (place_of d.0)) y).0) t (none_held t u r is)))
+    by rest (Some y) is g = elim (is_below (place_of y.0) (place_of d.0)) as
+        (λ b. is_below (place_of y.0) (place_of d.0) ≡ b → (if b then Some y else Some d) ≡ Some e → none_before u r d t e) [
+          | true ↦ λ lower g. subst (none_before u r d t) (given y e g) (or_from _ _ (below_turned (place_of y.0) (place_of d.0) lower) (rest y is))
+          | false ↦ λ higher g. subst (none_before u r d t) (given d e g) (or_from _ _ (never_below (place_of d.0))
+              (any_less (is_before u r (place_of d.0)) (is_before u r (place_of y.0)) (further y higher) t (rest y is)))
+        ] refl g
+      where
+        further : (y : Resource × Held) → is_below (place_of y.0) (place_of d.0) ≡ false → (x : Resource × Held) →
+            is_before u r (place_of d.0) x ≡ true → is_before u r (place_of y.0) x ≡ true
+        further y higher x z =
+            let both = and_parts (passes u r x) (is_below (place_of x.0) (place_of d.0)) z in
+            elim (cases_Bool (is_below (place_of x.0) (place_of y.0))) [
+              | inl low ↦ and_from _ _ both.0 low
+              | inr high ↦ absurd (true≢false (sym both.1 ∙ not_below (place_of x.0) (place_of y.0) (place_of d.0) high higher))
+            ]
+
+-- ---- Who holds it
+
+-- an entry is of a resource that passes, and this unit's
+abbrev is_of : (Resource → Bool) → ℕ → Resource × Held → Bool
+is_of p m d = p d.0 && eqb d.1.unit m
+
+-- what stands in the table under a unit the unit holds
+table_holds : (s : UnitsState) (p : Resource → Bool) (m : ℕ) → list_any (is_of p m) (held_table s) ≡ true →
+    list_any p (held_by s m) ≡ true
+table_holds s p m h =
+    one_unit (λ k. list_any p (held_by s k)) m (units_from 0 s.outcomes)
+    (any_more (λ k. list_any (is_of p m) (map (λ y. (y, record { unit = k; count = 1 })) (held_by s k)))
+    (λ k. list_any p (held_by s k) && eqb k m) own (units_from 0 s.outcomes)
+    (sym (any_flat_map (λ k. map (λ y. (y, record { unit = k; count = 1 })) (held_by s k)) (is_of p m)
+    (units_from 0 s.outcomes)) ∙ h))
+  where
+    among : (k : ℕ) (rs : List Resource) → list_any (λ y. p y && eqb k m) rs ≡ true → (list_any p rs && eqb k m) ≡ true
+    among k [] h = absurd (false≢true h)
+    among k (y ∷ rs) h = elim (or_cases (p y && eqb k m) (list_any (λ y. p y && eqb k m) rs) h) [
+      | inl z ↦ let a = and_parts (p y) (eqb k m) z in and_from _ _ (or_left _ _ a.0) a.1
+      | inr z ↦ let a = and_parts (list_any p rs) (eqb k m) (among k rs z) in and_from _ _ (or_right _ _ a.0) a.1
+    ]
+
+    own : (k : ℕ) → list_any (is_of p m) (map (λ y. (y, record { unit = k; count = 1 })) (held_by s k)) ≡ true →
+        (list_any p (held_by s k) && eqb k m) ≡ true
+    own k t =
+        among k (held_by s k)
+        (sym (any_map (λ y. (y, record { unit = k; count = 1 })) (is_of p m) (held_by s k)) ∙ t)
+
+-- a resource overlaps another and comes before an entry
+abbrev is_low : Resource → Resource × Held → Resource → Bool
+is_low r e x = overlaps r x && is_below (place_of x) (place_of e.0)
+
+-- what is found is the least
+pub least_held : (s : UnitsState) (u : Option ℕ) (r : Resource) (e : Resource × Held) → IsSound s →
+    first_held (held_table s) u r ≡ Some e → IsLeastHeld s u r e
+least_held s u r e i found = record {
+  meets = (and_parts (overlaps r e.0) (is_other u e.1.unit) (first_passes (held_table s) u r e found)).0;
+  other = (and_parts (overlaps r e.0) (is_other u e.1.unit) (first_passes (held_table s) u r e found)).1;
+  holds = table_holds s (is_one e.0) e.1.unit (first_stands (is_of (is_one e.0) e.1.unit) (held_table s) u r e found
+      (and_from _ _ (is_one-self e.0) (eq-eqb e.1.unit e.1.unit refl)));
+  least = λ q unit meets other holds. false_from_ne_true (is_below (place_of q) (place_of e.0)) (λ low.
+      true≢false (sym (any_more (stands_one (is_low r e) u) (is_before u r (place_of e.0)) turned (held_table s)
+      (in_table s (is_low r e) u unit (holder_begun s i.known i.begun unit (is_one q) holds) other
+      (any_more (is_one q) (is_low r e) (λ x same. subst (λ y. is_low r e y ≡ true) (is_one-eq q x same) (and_from _ _ meets low)) (held_by s unit) holds)))
+      ∙ first_least (held_table s) u r e found));
+}
+  where
+    turned : (d : Resource × Held) → stands_one (is_low r e) u d ≡ true → is_before u r (place_of e.0) d ≡ true
+    turned d h =
+        let a = and_parts (is_low r e d.0) (is_other u d.1.unit) h in
+        let b = and_parts (overlaps r d.0) (is_below (place_of d.0) (place_of e.0)) a.0 in
+        and_from _ _ (and_from _ _ b.0 a.1) b.1
+
+-- where another unit holds what overlaps a resource, somebody is found
+pub holder_some : (s : UnitsState) (u : Option ℕ) (r : Resource) (n : ℕ) → IsSound s → is_other u n ≡ true →
+    list_any (overlaps r) (held_by s n) ≡ true → is_some (first_holder (held_table s) u r) ≡ true
+holder_some s u r n i other holds = by (first_holder (held_table s) u r) refl
+  where
+    by : (o : Option ℕ) → first_holder (held_table s) u r ≡ o → is_some o ≡ true
+    by (Some x) found = refl
+    by None free = absurd (true≢false (
+        sym (in_table s (overlaps r) u n (holder_begun s i.known i.begun n (overlaps r) holds) other holds)
+        ∙ none_first (held_table s) u r free))

@@ -1,0 +1,391 @@
+-- Where no unit is awaited, no other open unit holds what the command uses.
+use Rattle.std.proofs.Common.{arith, ◌≡◌, ℕ, Bool, true, false, cond, ◌&&◌, ◌||◌, not, Option, Some, None, List, [], ◌∷◌, ◌++◌, length, refl, ap, sym, subst, ◌∙◌, eqb, ◌⊎◌, inl, inr, ◌<◌, ◌≤◌, ◌+◌}
+use Rattle.std.specs.Prelude.{if◌then◌else◌, filter, map, flat_map, unwrap_or, option_map}
+use Rattle.std.specs.List.{list_any}
+use Rattle.std.proofs.lemmas.Bool.{true≢false, false≢true, cases_Bool, eqb-true, eqb-false, eq-eqb, ne_eqb, and_parts, and_from, or_cases, or_left, or_right}
+use Rattle.std.proofs.lemmas.List.Folds.{list_any-append}
+use Rattle.cics_names.specs.Keyed.{Bytes, is_same, is_below}
+use Rattle.cics_names.specs.KeyedLaws.{is_same-self, is_same-eq}
+use Rattle.cics_enqueue.specs.Resources.{Table, Held, begins_with, overlaps, is_other, lesser, place_of}
+use Rattle.cics_enqueue.proofs.Seeking.{starts_with-begins}
+use Rattle.cics_ksds.specs.Prefixes.{has_prefix}
+use Rattle.cics_enqueue.specs.declared.resources.Resource.{Resource}
+use Rattle.cics_enqueue.specs.declared.resources.Resource.TheVariants.{FileKey, TsQueue, TdRead as ReadingEnd, TdWrite as WritingEnd, FilePrefix}
+use Rattle.cics_history.specs.Openings.{OpeningState, queue_logical}
+use Rattle.cics_history.specs.Store.{is_recoverable, is_normal, initial_store}
+use Rattle.cics_history.specs.History.{outcome_of, is_open, is_backed_out, replay}
+use Rattle.cics_history.specs.Holding.{UnitsState, uses_of, held_by_entry, held_by_read, held_by_count, held_by, units_from, held_table, first_held, first_holder, first_some, holder_among, is_own, committed_for, is_nothing, writer_awaited, awaited}
+use Rattle.cics_history.specs.Execution.{unit_or_next}
+use Rattle.cics_history.specs.declared.ops.Op.{Op}
+use Rattle.cics_history.specs.declared.ops.Op.TheVariants.{Write, Rewrite, Delete, DeleteGeneric, ReadUpdate, TsWrite, TsRewrite, TsDelete, TdWrite, TdRead, TdDelete}
+use Rattle.cics_history.specs.declared.ops.Entry.{Entry}
+use Rattle.cics_history.specs.declared.ops.UnitState.{UnitState}
+use Rattle.cics_history.specs.declared.ops.UnitState.TheVariants.{Open, Committed, BackedOut}
+use Rattle.cics_history.specs.Cells.{Cell, Key, Ts, Td, content, cell_of, touches, End, Reading, Writing, uses, recovers}
+use Rattle.cics_history.proofs.Effects.{is_empty}
+use Rattle.cics_history.proofs.Joining.{touches-recovers}
+use Rattle.cics_history.proofs.Replays.{Each_more, replay-at}
+use Rattle.cics_history.proofs.Executes.{alone, MayRun}
+use Rattle.cics_history.specs.Isolation.{Outcomes, stays, store_by, Each, claims, used, IsFree, AreKnown}
+
+-- tests over lists
+pub any_map : {A B : Type 0} (f : A → B) (p : B → Bool) (xs : List A) →
+    list_any p (map f xs) ≡ list_any (λ x. p (f x)) xs
+any_map f p [] = refl
+any_map f p (x ∷ xs) = ap (λ b. p (f x) || b) (any_map f p xs)
+
+pub any_flat_map : {A B : Type 0} (f : A → List B) (p : B → Bool) (xs : List A) →
+    list_any p (flat_map f xs) ≡ list_any (λ x. list_any p (f x)) xs
+any_flat_map f p [] = refl
+any_flat_map f p (x ∷ xs) =
+    list_any-append p (f x) (flat_map f xs) ∙ ap (λ b. list_any p (f x) || b) (any_flat_map f p xs)
+
+pub any_more : {A : Type 0} (p q : A → Bool) → ((x : A) → p x ≡ true → q x ≡ true) → (xs : List A) →
+    list_any p xs ≡ true → list_any q xs ≡ true
+any_more p q h [] t = absurd (false≢true t)
+any_more p q h (x ∷ xs) t =
+    elim (or_cases (p x) (list_any p xs) t) [
+      | inl y ↦ or_left _ _ (h x y)
+      | inr y ↦ or_right _ _ (any_more p q h xs y)
+    ]
+
+pub any_less : {A : Type 0} (p q : A → Bool) → ((x : A) → p x ≡ true → q x ≡ true) → (xs : List A) →
+    list_any q xs ≡ false → list_any p xs ≡ false
+any_less p q h xs n =
+    elim (cases_Bool (list_any p xs)) [
+      | inl y ↦ absurd (true≢false (sym (any_more p q h xs y) ∙ n))
+      | inr m ↦ m
+    ]
+
+-- the resource takes hold of this end of the cell
+abbrev pub covers : Cell → End → Resource → Bool
+covers (Key g l) end (FileKey f k) = is_same f g && is_same k.items l
+covers (Key g l) end (FilePrefix f p) = is_same f g && begins_with p.items l
+covers (Ts q) end (TsQueue r) = is_same r q
+covers (Td q) Reading (ReadingEnd r) = is_same r q
+covers (Td q) Writing (WritingEnd r) = is_same r q
+covers _ _ _ = false
+
+same_by_third : (a b c : Bytes) → is_same a c ≡ true → is_same b c ≡ true → is_same a b ≡ true
+same_by_third a b c x y =
+    subst (λ z. is_same a z ≡ true) (is_same-eq a c x ∙ sym (is_same-eq b c y)) (is_same-self a)
+
+same_turned : (a b : Bytes) → is_same a b ≡ true → is_same b a ≡ true
+same_turned a b x = subst (λ z. is_same z a ≡ true) (is_same-eq a b x) (is_same-self a)
+
+-- of two prefixes of some bytes one begins with the other
+pub one_begins : (p q b : Bytes) → begins_with p b ≡ true → begins_with q b ≡ true → (begins_with p q || begins_with q p) ≡ true
+one_begins [] q b m n = refl
+one_begins (x ∷ p) [] b m n = refl
+one_begins (x ∷ p) (y ∷ q) [] m n = absurd (false≢true m)
+one_begins (x ∷ p) (y ∷ q) (z ∷ b) m n =
+    let front = and_parts (eqb x z) (begins_with p b) m in
+    let back = and_parts (eqb y z) (begins_with q b) n in
+    let same : x ≡ y = eqb-true x z front.0 ∙ sym (eqb-true y z back.0) in
+    elim (or_cases (begins_with p q) (begins_with q p) (one_begins p q b front.1 back.1)) [
+      | inl t ↦ or_left _ _ (and_from _ _ (eq-eqb x y same) t)
+      | inr t ↦ or_right _ _ (and_from _ _ (eq-eqb y x (sym same)) t)
+    ]
+
+-- bytes that are the same begin with the same
+pub begins_same : (p a b : Bytes) → is_same a b ≡ true → begins_with p a ≡ true → begins_with p b ≡ true
+begins_same p a b same t = subst (λ c. begins_with p c ≡ true) (is_same-eq a b same) t
+
+-- two resources that take hold of one end overlap
+pub covers-overlaps : (x : Cell) (end : End) (r s : Resource) → covers x end r ≡ true →
+    covers x end s ≡ true → overlaps r s ≡ true
+covers-overlaps (Key g l) end (FileKey f k) (FileKey h m) a b =
+    let c = and_parts _ _ a in let d = and_parts _ _ b in
+    and_from _ _ (same_by_third f h g c.0 d.0) (same_by_third k.items m.items l c.1 d.1)
+covers-overlaps (Key g l) end (FileKey f k) (FilePrefix h q) a b =
+    let c = and_parts _ _ a in let d = and_parts _ _ b in
+    and_from _ _ (same_by_third f h g c.0 d.0) (begins_same q.items l k.items (same_turned k.items l c.1) d.1)
+covers-overlaps (Key g l) end (FilePrefix f p) (FileKey h m) a b =
+    let c = and_parts _ _ a in let d = and_parts _ _ b in
+    and_from _ _ (same_by_third f h g c.0 d.0) (begins_same p.items l m.items (same_turned m.items l d.1) c.1)
+covers-overlaps (Key g l) end (FilePrefix f p) (FilePrefix h q) a b =
+    let c = and_parts _ _ a in let d = and_parts _ _ b in
+    and_from _ _ (same_by_third f h g c.0 d.0) (one_begins p.items q.items l c.1 d.1)
+covers-overlaps (Ts q) end (TsQueue r) (TsQueue t) a b = same_by_third r t q a b
+covers-overlaps (Td q) Reading (ReadingEnd r) (ReadingEnd t) a b = same_by_third r t q a b
+covers-overlaps (Td q) Writing (WritingEnd r) (WritingEnd t) a b = same_by_third r t q a b
+covers-overlaps (Key g l) end (FileKey f k) _ a b = absurd (false≢true b)
+covers-overlaps (Key g l) end (FilePrefix f p) _ a b = absurd (false≢true b)
+covers-overlaps (Ts q) end (TsQueue r) _ a b = absurd (false≢true b)
+covers-overlaps (Td q) Reading (ReadingEnd r) _ a b = absurd (false≢true b)
+covers-overlaps (Td q) Writing (WritingEnd r) _ a b = absurd (false≢true b)
+covers-overlaps _ _ _ s a b = absurd (false≢true a)
+
+-- a command on a recoverable cell uses a resource that takes hold of each end that it uses
+uses_of-covers : (o : OpeningState) (op : Op) (x : Cell) (end : End) → touches op x ≡ true →
+    uses op end ≡ true → is_recoverable o op ≡ true → list_any (covers x end) (uses_of o op) ≡ true
+uses_of-covers o (Write f k r) (Key g l) end y t rec = or_left _ _ y
+uses_of-covers o (Rewrite f k r) (Key g l) end y t rec = or_left _ _ y
+uses_of-covers o (Delete f k) (Key g l) end y t rec = or_left _ _ y
+uses_of-covers o (DeleteGeneric f p) (Key g l) end y t rec =
+    let b = and_parts (is_same f g) (has_prefix p l) y in
+    or_left _ _ (and_from _ _ b.0 (sym (starts_with-begins p l) ∙ b.1))
+uses_of-covers o (ReadUpdate f k) (Key g l) end y t rec = or_left _ _ y
+uses_of-covers o (TsWrite q d) (Ts r) end y t rec = rw rec (or_left _ _ y)
+uses_of-covers o (TsRewrite q n d) (Ts r) end y t rec = rw rec (or_left _ _ y)
+uses_of-covers o (TsDelete q) (Ts r) end y t rec = rw rec (or_left _ _ y)
+uses_of-covers o (TdWrite q d) (Td r) Writing y t rec = rw rec (or_left _ _ y)
+uses_of-covers o (TdWrite q d) (Td r) Reading y t rec = absurd (false≢true t)
+uses_of-covers o (TdRead q) (Td r) Reading y t rec = rw rec (or_left _ _ y)
+uses_of-covers o (TdRead q) (Td r) Writing y t rec = absurd (false≢true t)
+uses_of-covers o (TdDelete q) (Td r) Reading y t rec = rw rec (or_left _ _ y)
+uses_of-covers o (TdDelete q) (Td r) Writing y t rec = rw rec (or_left _ _ y)
+uses_of-covers o _ _ end y t rec = absurd (false≢true y)
+
+-- a resource of this kind stands in the table, held by another unit
+abbrev pub stands_one : (Resource → Bool) → Option ℕ → Resource × Held → Bool
+stands_one p u e = p e.0 && is_other u e.1.unit
+
+abbrev pub stands : (Resource → Bool) → Option ℕ → Table → Bool
+stands p u t = list_any (stands_one p u) t
+
+-- what the lesser of two says, either says, where the first is there
+pub lesser_cases : {P : Type 0} (e : Resource × Held) (o : Option (Resource × Held)) (f : Resource × Held → ℕ) (m : ℕ) →
+    option_map f (lesser (Some e) o) ≡ Some m → (f e ≡ m → P) → (option_map f o ≡ Some m → P) → P
+lesser_cases e None f m h own rest = own (given h)
+  where
+    given : Some (f e) ≡ Some m → f e ≡ m
+    given h = cc
+lesser_cases {P} e (Some d) f m h own rest =
+    elim (is_below (place_of d.0) (place_of e.0)) as
+    (λ b. option_map f (if b then Some d else Some e) ≡ Some m → P)
+    [ true ↦ λ g. rest g | false ↦ λ g. own (given g) ] h
+  where
+    given : Some (f e) ≡ Some m → f e ≡ m
+    given h = cc
+
+lesser_there : (e : Resource × Held) (o : Option (Resource × Held)) → lesser (Some e) o ≡ None → ⊥
+lesser_there e None h = absurd (some_none h)
+  where
+    some_none : Some e ≡ None → ⊥
+    some_none h = cc
+lesser_there e (Some d) h =
+    elim (is_below (place_of d.0) (place_of e.0)) as (λ b. (if b then Some d else Some e) ≡ None → ⊥)
+    [ true ↦ λ g. some_none d g | false ↦ λ g. some_none e g ] h
+  where
+    some_none : (x : Resource × Held) → Some x ≡ None → ⊥
+    some_none x h = cc
+
+-- nothing found: nothing is there
+pub none_held : (t : Table) (u : Option ℕ) (r : Resource) → first_held t u r ≡ None →
+    list_any (λ e. overlaps r e.0 && is_other u e.1.unit) t ≡ false
+none_held [] u r h = refl
+none_held (e ∷ t) u r h =
+    elim (overlaps r e.0 && is_other u e.1.unit) as
+    (λ b. (if b then lesser (Some e) (first_held t u r) else first_held t u r) ≡ None →
+    (b || list_any (λ d. overlaps r d.0 && is_other u d.1.unit) t) ≡ false)
+    [ true ↦ λ g. absurd (lesser_there e (first_held t u r) g) | false ↦ λ g. none_held t u r g ] h
+
+-- nobody found: nobody is there
+pub none_first : (t : Table) (u : Option ℕ) (r : Resource) → first_holder t u r ≡ None →
+    list_any (λ e. overlaps r e.0 && is_other u e.1.unit) t ≡ false
+none_first t u r h = none_held t u r (nothing (first_held t u r) h)
+  where
+    nothing : (o : Option (Resource × Held)) → option_map (λ e. e.1.unit) o ≡ None → o ≡ None
+    nothing None g = refl
+    nothing (Some e) g = absurd (some_none e.1.unit g)
+      where
+        some_none : (n : ℕ) → Some n ≡ None → ⊥
+        some_none n g = cc
+
+pub none_either : {X : Type 0} (x y : Option X) → first_some x y ≡ None → (x ≡ None) × (y ≡ None)
+none_either None y h = (refl, h)
+none_either (Some x) y h = absurd (some_none x h)
+  where
+    some_none : {X : Type 0} (x : X) → Some x ≡ None → ⊥
+    some_none x e = cc
+
+abbrev held_there : Table → Option ℕ → Cell → End → Bool
+held_there t u x end = list_any (λ e. covers x end e.0 && is_other u e.1.unit) t
+
+not_there : (t : Table) (u : Option ℕ) (x : Cell) (end : End) (r : Resource) → covers x end r ≡ true →
+    list_any (λ e. overlaps r e.0 && is_other u e.1.unit) t ≡ false → held_there t u x end ≡ false
+not_there t u x end r c n =
+    any_less (λ e. covers x end e.0 && is_other u e.1.unit) (λ e. overlaps r e.0 && is_other u e.1.unit)
+    (λ e y. let both = and_parts _ _ y in and_from _ _ (covers-overlaps x end r e.0 c both.0) both.1) t n
+
+none_among : (t : Table) (u : Option ℕ) (x : Cell) (end : End) (rs : List Resource) →
+    holder_among t u rs ≡ None → list_any (covers x end) rs ≡ true → held_there t u x end ≡ false
+none_among t u x end [] h c = absurd (false≢true c)
+none_among t u x end (r ∷ rs) h c =
+    let both = none_either (first_holder t u r) (holder_among t u rs) h in
+    elim (or_cases (covers x end r) (list_any (covers x end) rs) c) [
+      | inl y ↦ not_there t u x end r y (none_first t u r both.0)
+      | inr y ↦ none_among t u x end rs both.1 y
+    ]
+
+-- whoever used the end of a recoverable cell and is open stands in the table
+claims_held : (o : OpeningState) (x : Cell) (end : End) (n : ℕ) → recovers o x ≡ true → (e : Entry) →
+    (claims x end e && eqb e.unit n) ≡ true → list_any (covers x end) (held_by_entry o n e) ≡ true
+claims_held o x end n r e h =
+    let both = and_parts (claims x end e) (eqb e.unit n) h in
+    let c = and_parts (touches e.op x) (is_normal e.answer.condition && uses e.op end) both.0 in
+    let d = and_parts (is_normal e.answer.condition) (uses e.op end) c.1 in
+    let rec : is_recoverable o e.op ≡ true = touches-recovers o e.op x c.0 ∙ r in
+    rw (both.1, d.0, rec) (uses_of-covers o e.op x end c.0 d.1 rec)
+
+unit_among : (q : ℕ → Bool) (n k : ℕ) (xs : List UnitState) → k ≤ n → n < k + length xs → q n ≡ true →
+    list_any q (units_from k xs) ≡ true
+unit_among q n k [] a b h = absurd (omega arith)
+unit_among q n k (x ∷ xs) a b h = elim (cases_Bool (eqb k n)) [
+  | inl y ↦ or_left _ _ (subst (λ z. q z ≡ true) (sym (eqb-true k n y)) h)
+  | inr m ↦
+      let apart = eqb-false k n m in
+      let above : k + 1 ≤ n = omega (arith, apart) in
+      let within : n < (k + 1) + length xs = omega arith in
+      or_right _ _ (unit_among q n (k + 1) xs above within h)
+]
+
+-- what a unit that has begun holds stands in the table
+pub in_table : (s : UnitsState) (p : Resource → Bool) (u : Option ℕ) (n : ℕ) → n < length s.outcomes →
+    is_other u n ≡ true →
+    list_any p (held_by s n) ≡ true → stands p u (held_table s) ≡ true
+in_table s p u n less other own =
+    any_flat_map (λ m. map (λ y. (y, record { unit = m; count = 1 })) (held_by s m)) (stands_one p u)
+    (units_from 0 s.outcomes)
+    ∙ unit_among (λ m. stands p u (map (λ y. (y, record { unit = m; count = 1 })) (held_by s m))) n 0 s.outcomes
+    (omega arith) (omega arith) mine
+  where
+    mine : stands p u (map (λ y. (y, record { unit = n; count = 1 })) (held_by s n)) ≡ true
+    mine =
+        any_map (λ y. (y, record { unit = n; count = 1 })) (stands_one p u) (held_by s n)
+        ∙ any_more p (λ y. p y && is_other u n) (λ y c. and_from _ _ c other) (held_by s n) own
+
+-- an open unit that used an end of a recoverable cell holds a resource that takes hold of this end
+pub used-held : (s : UnitsState) (n : ℕ) (x : Cell) (end : End) → recovers s.opening x ≡ true →
+    is_open (outcome_of s.outcomes n) ≡ true →
+    used s.trace n x end ≡ true → list_any (covers x end) (held_by s n) ≡ true
+used-held s n x end r live h =
+    rw live (list_any-append (covers x end)
+    (flat_map (held_by_entry s.opening n) s.trace ++ flat_map (held_by_read s.opening n) s.reads)
+    (flat_map (held_by_count n) s.counts)
+    ∙ or_left _ _ (list_any-append (covers x end) (flat_map (held_by_entry s.opening n) s.trace)
+    (flat_map (held_by_read s.opening n) s.reads)
+    ∙ or_left _ _ (any_flat_map (held_by_entry s.opening n) (covers x end) s.trace
+    ∙ any_more _ _ (claims_held s.opening x end n r) s.trace h)))
+
+used_known : (m n : ℕ) (x : Cell) (end : End) (es : List Entry) → Each (λ e. e.unit < m) es →
+    used es n x end ≡ true → n < m
+used_known m n x end [] k h = absurd (false≢true h)
+used_known m n x end (e ∷ es) k h = elim (or_cases (claims x end e && eqb e.unit n) (used es n x end) h) [
+  | inl y ↦ subst (λ z. z < m) (eqb-true e.unit n (and_parts _ _ y).1) k.0
+  | inr y ↦ used_known m n x end es k.1 y
+]
+
+pub other_unit : (u : Option ℕ) (outcomes : List UnitState) (n : ℕ) →
+    eqb n (unit_or_next u outcomes) ≡ false → is_other u n ≡ true
+other_unit None outcomes n h = refl
+other_unit (Some w) outcomes n h = rw h refl
+
+own_unit : (u : Option ℕ) (outcomes : List UnitState) (n : ℕ) → n < length outcomes →
+    is_own u n ≡ eqb n (unit_or_next u outcomes)
+own_unit None outcomes n h = sym (ne_eqb n (length outcomes) (λ e. absurd (omega arith)))
+own_unit (Some w) outcomes n h = not_twice (eqb n w)
+  where
+    not_twice : (b : Bool) → not (not b) ≡ b
+    not_twice true = refl
+    not_twice false = refl
+
+module _ (s : UnitsState) (known : AreKnown s) (u : Option ℕ) where
+  -- what nobody else holds is free
+  free_from : (x : Cell) (end : End) → recovers s.opening x ≡ true →
+      held_there (held_table s) u x end ≡ false →
+      IsFree s.trace (outcome_of s.outcomes) (unit_or_next u s.outcomes) x end
+  free_from x end r h n t = elim (cases_Bool (eqb n (unit_or_next u s.outcomes))) [
+    | inl own ↦ inl (eqb-true _ _ own)
+    | inr other ↦ elim (cases_Bool (is_open (outcome_of s.outcomes n))) [
+      | inr shut ↦ inr shut
+      | inl live ↦
+          absurd
+          (true≢false (sym (in_table s (covers x end) u n
+          (used_known (length s.outcomes) n x end s.trace known t) (other_unit u s.outcomes n other)
+          (used-held s n x end r live t)) ∙ h))
+    ]
+  ]
+
+  filter_filter : (p q : Entry → Bool) (es : List Entry) →
+      filter q (filter p es) ≡ filter (λ e. p e && q e) es
+  filter_filter p q [] = refl
+  filter_filter p q (e ∷ es) =
+      elim (p e) as (λ b. filter q (cond b (e ∷ filter p es) (filter p es)) ≡ cond (b && q e)
+      (e ∷ filter (λ d. p d && q d) es) (filter (λ d. p d && q d) es))
+      [ true ↦ ap (λ l. cond (q e) (e ∷ l) l) (filter_filter p q es) | false ↦ filter_filter p q es ]
+
+  sees : (oc : UnitState) (own : Bool) →
+      (not (is_backed_out oc) && (own || not (is_open oc)))
+      ≡ not (is_backed_out (if is_open oc && not own then BackedOut else oc))
+  sees Open true = refl
+  sees Open false = refl
+  sees Committed true = refl
+  sees Committed false = refl
+  sees BackedOut true = refl
+  sees BackedOut false = refl
+
+  -- what may be read of a queue is what it holds if every other open unit is backed out
+  pub committed-content : (q : Bytes) → queue_logical s.opening q ≡ true →
+      committed_for s u q
+      ≡ unwrap_or (content (store_by s.opening (alone (outcome_of s.outcomes) (unit_or_next u s.outcomes)) s.trace) (Td q)) []
+  committed-content q r =
+      let o = s.opening in
+      let out : Outcomes = outcome_of s.outcomes in
+      let v = unit_or_next u s.outcomes in
+      let seen : Entry → Bool = λ e. is_own u e.unit || not (is_open (out e.unit)) in
+      let on : (e : Entry) → e.unit < length s.outcomes → touches e.op (Td q) ≡ true →
+      (stays o out e && seen e) ≡ stays o (alone out v) e =
+      λ e k c. let rec : is_recoverable o e.op ≡ true = touches-recovers o e.op (Td q) c ∙ r in
+      rw (rec, own_unit u s.outcomes e.unit k) (sees (out e.unit) (eqb e.unit v)) in
+      ap (λ c. unwrap_or c [])
+      (ap (λ es. content (replay (initial_store o) es) (Td q)) (filter_filter (stays o out) seen s.trace)
+      ∙ replay-at (Td q) (λ e. stays o out e && seen e) (stays o (alone out v)) s.trace
+      (Each_more _ _ on s.trace known) (initial_store o) (initial_store o) refl)
+
+  committed-alone : (q : Bytes) → queue_logical s.opening q ≡ true →
+      is_nothing (committed_for s u q)
+      ≡ is_empty (content (store_by s.opening (alone (outcome_of s.outcomes) (unit_or_next u s.outcomes)) s.trace) (Td q))
+  committed-alone q r = ap is_nothing (committed-content q r) ∙ nothing _
+    where
+      nothing : (c : Option (List Bytes)) → is_nothing (unwrap_or c []) ≡ is_empty c
+      nothing None = refl
+      nothing (Some []) = refl
+      nothing (Some (x ∷ xs)) = refl
+
+  -- an end that nobody else is found to hold is free
+  pub free_end : (x : Cell) (end : End) (r : Resource) → recovers s.opening x ≡ true → covers x end r ≡ true →
+      first_holder (held_table s) u r ≡ None → IsFree s.trace (outcome_of s.outcomes) (unit_or_next u s.outcomes) x end
+  free_end x end r rec c free =
+      free_from x end rec (not_there (held_table s) u x end r c (none_first (held_table s) u r free))
+
+  reader_first : (op : Op) → writer_awaited s u op ≡ None → is_recoverable s.opening op ≡ true →
+      uses op Writing ≡ false →
+      (is_empty (content (store_by s.opening
+      (alone (outcome_of s.outcomes) (unit_or_next u s.outcomes)) s.trace) (cell_of op)) ≡ false)
+      ⊎ (IsFree s.trace (outcome_of s.outcomes) (unit_or_next u s.outcomes) (cell_of op) Writing)
+  reader_first (TdRead q) h r n = elim (cases_Bool (is_nothing (committed_for s u q))) [
+    | inr some ↦ inl (sym (committed-alone q r) ∙ some)
+    | inl none ↦
+        inr (free_end (Td q) Writing (WritingEnd q) r (is_same-self q) (rw (r, none) at h))
+  ]
+  reader_first _ h r n = absurd (true≢false n)
+
+  -- WAITING: where no unit is awaited, the command may run
+  pub MayRun_from : (op : Op) → awaited s u op ≡ None →
+      is_open (outcome_of s.outcomes (unit_or_next u s.outcomes)) ≡ true →
+      MayRun s.opening s.trace (outcome_of s.outcomes) (unit_or_next u s.outcomes) op
+  MayRun_from op h live =
+      let both = none_either (holder_among (held_table s) u (uses_of s.opening op)) (writer_awaited s u op) h in
+      let free : (end : End) → is_recoverable s.opening op ≡ true → uses op end ≡ true → (x : Cell) →
+      touches op x ≡ true → IsFree s.trace (outcome_of s.outcomes) (unit_or_next u s.outcomes) x end =
+      λ end r t x y. free_from x end (sym (touches-recovers s.opening op x y) ∙ r)
+      (none_among (held_table s) u x end (uses_of s.opening op) both.0
+      (uses_of-covers s.opening op x end y t r)) in
+      record {
+        is_live = live;
+        reading = free Reading;
+        writing = free Writing;
+        first = reader_first op both.1;
+      }

@@ -1,0 +1,33 @@
+-- Units that execute, commit and back out, in any order.
+use Rattle.std.specs.Prelude.{ℕ, Bool, true, ◌&&◌, if◌then◌else◌, Option, Some, None, nat_lt, length, List, [], ◌∷◌}
+use Rattle.cics_history.specs.History.{outcome_of, is_open}
+use Rattle.cics_history.specs.Holding.{UnitsState}
+use Rattle.cics_history.specs.Execution.{after_execution, after_end}
+use Rattle.cics_history.specs.declared.ops.Op.{Op}
+use Rattle.cics_history.specs.declared.ops.UnitState.TheVariants.{Committed, BackedOut}
+
+-- a unit, or a task without one, has a command executed; a unit commits; a unit is backed out
+pub data Event : Type 0 where
+  Execute : (unit : Option ℕ) (op : Op) → Event
+  Commit : (unit : ℕ) → Event
+  BackOut : (unit : ℕ) → Event
+
+-- a unit that has begun and not ended
+abbrev pub is_live : UnitsState → ℕ → Bool
+is_live s u = nat_lt u (length s.outcomes) && is_open (outcome_of s.outcomes u)
+
+-- a command is of such a unit, or of the next one, which begins with it
+abbrev pub may_act : UnitsState → Option ℕ → Bool
+may_act s None = true
+may_act s (Some u) = is_live s u
+
+-- an event of a unit that isn't open changes nothing, and neither does a command that must wait
+abbrev pub happens : UnitsState → Event → UnitsState
+happens s (Execute u op) = if may_act s u then after_execution s u op else s
+happens s (Commit u) = if is_live s u then after_end s u Committed else s
+happens s (BackOut u) = if is_live s u then after_end s u BackedOut else s
+
+-- the units after these events, in their order
+abbrev pub run : UnitsState → List Event → UnitsState
+run s [] = s
+run s (e ∷ es) = run (happens s e) es

@@ -1,0 +1,31 @@
+-- Recovery: after any calls, the store holds what replaying the kept history from the opening gives, and in that replay
+-- each kept command has the answer that it was given.
+use Rattle.std.specs.Prelude.{◌≡◌, ℕ, List, [], ◌++◌, All, IsTrue}
+use Rattle.cics_names.specs.Keyed.{Bytes, value_at}
+use Rattle.cics_history.specs.declared.ops.Entry.{Entry}
+use Rattle.cics_history.specs.Openings.{OpeningState, file_recoverable, has_prefix_in, queue_logical}
+use Rattle.cics_history.specs.Store.{Store, initial_store}
+use Rattle.cics_history.specs.History.{kept, replay, Agrees}
+use Rattle.cics_history.specs.Holding.{UnitsState}
+use Rattle.cics_history.specs.Execution.{UnitsValue}
+
+-- the store of the parts is the replay of the kept history, and each kept entry has the answer that its place gives
+pub record IsHeadline (u : UnitsValue) : Type 0 where
+  pub store : u.store ≡ replay (initial_store u.state.opening) (kept u.state.opening u.state.trace u.state.outcomes)
+  pub agrees : Agrees (initial_store u.state.opening) (kept u.state.opening u.state.trace u.state.outcomes)
+
+-- an opening begins with no command executed, no unit, and nothing held
+abbrev pub beginning : OpeningState → UnitsState
+beginning o = record { opening = o; trace = []; outcomes = []; reads = []; counts = []; next = [] }
+
+-- two stores hold the same in each recoverable file and queue
+pub record IsSameRecoverable (o : OpeningState) (s t : Store) : Type 0 where
+  pub files : (f : Bytes) → IsTrue (file_recoverable o f) → value_at f s.files ≡ value_at f t.files
+  pub ts : (q : Bytes) → IsTrue (has_prefix_in o.prefixes q) → value_at q s.ts ≡ value_at q t.ts
+  pub td : (q : Bytes) → IsTrue (queue_logical o q) → value_at q s.td ≡ value_at q t.td
+
+-- a unit that ran alone from some entry on and is backed out leaves what the entries before it give
+abbrev pub LeavesNoTrace : UnitsValue → UnitsValue → ℕ → Type 0
+LeavesNoTrace old new u =
+    (before own : List Entry) → old.state.trace ≡ before ++ own → All (λ e. e.unit ≡ u) own →
+    IsSameRecoverable new.state.opening new.store (replay (initial_store new.state.opening) (kept new.state.opening before new.state.outcomes))

@@ -1,0 +1,116 @@
+-- What a region opens with: the files, the prefixes of the recoverable temporary storage queues, and the transient data
+-- queues, each file and queue with what was loaded into it. The files, queues and prefixes are this profile's own way to
+-- say what the manual leaves to the system's tables.
+use Rattle.std.specs.Prelude.{◌≡◌, ℕ, ◌+◌, ◌==◌, Bool, true, false, not, ◌&&◌, ◌||◌, if◌then◌else◌, Option, Some, None, option_map, nat_eq, nat_le, List, [], ◌∷◌, ◌++◌, length}
+use Rattle.std.specs.List.{starts_with}
+use Rattle.cics_names.specs.Keyed.{Bytes, Map, value_at, has_key, with_value, is_rising}
+use Rattle.cics_names.specs.Names.{blank}
+use Rattle.cics_ksds.specs.Files.{key_of, fits_file}
+use Rattle.cics_ksds.specs.declared.definition.FileDef.{FileDef}
+use Rattle.cics_transdata.specs.Trans.{is_logical}
+use Rattle.cics_transdata.specs.declared.queues.Recovery.{Recovery}
+
+-- a file that is defined: its definition, and the records that were loaded, by key
+pub record FileOpening : Type 0 where
+  pub definition : FileDef
+  pub records : Map Bytes
+
+-- a transient data queue that is defined: its recovery, and the records that were loaded, the first first
+pub record QueueOpening : Type 0 where
+  pub recovery : Recovery
+  pub records : List Bytes
+
+-- all that is defined: files and transient data queues by name, prefixes in the order of their definitions
+pub record OpeningState : Type 0 where
+  pub files : Map FileOpening
+  pub prefixes : List Bytes
+  pub queues : Map QueueOpening
+
+-- nothing is defined at first
+abbrev pub nothing_defined : OpeningState
+nothing_defined = record { files = []; prefixes = []; queues = [] }
+
+-- a name without the blanks that fill it up
+abbrev pub unpadded : Bytes → Bytes
+unpadded [] = []
+unpadded (b ∷ bs) = without_blank b (unpadded bs) where
+  without_blank : ℕ → Bytes → Bytes
+  without_blank b [] = if b == blank then [] else b ∷ []
+  without_blank b (c ∷ cs) = b ∷ c ∷ cs
+
+-- a temporary storage queue is recoverable where its name begins with a defined prefix
+abbrev pub has_prefix_in : List Bytes → Bytes → Bool
+has_prefix_in [] q = false
+has_prefix_in (p ∷ ps) q = starts_with nat_eq q (unpadded p) || has_prefix_in ps q
+
+-- a file is recoverable where its definition says so
+abbrev pub file_recoverable : OpeningState → Bytes → Bool
+file_recoverable o f = is_yes (value_at f o.files) where
+  is_yes : Option FileOpening → Bool
+  is_yes None = false
+  is_yes (Some file) = file.definition.recoverable
+
+-- a transient data queue is recoverable where it is LOGICAL
+abbrev pub queue_logical : OpeningState → Bytes → Bool
+queue_logical o q = is_yes (value_at q o.queues) where
+  is_yes : Option QueueOpening → Bool
+  is_yes None = false
+  is_yes (Some queue) = is_logical queue.recovery
+
+-- a record size is 1 to 32,767
+abbrev pub is_record_size : ℕ → Bool
+is_record_size n = nat_le 1 n && nat_le n 32767
+
+-- a key has 1 to 255 bytes and ends within the record
+abbrev pub is_key : FileDef → Bool
+is_key d = nat_le 1 d.key_length && nat_le d.key_length 255 && nat_le (d.key_offset + d.key_length) d.record_size
+
+-- a file is defined, without a record
+abbrev pub with_file : OpeningState → Bytes → FileDef → OpeningState
+with_file o name d = record { files = with_value name (record { definition = d; records = [] }) o.files; prefixes = o.prefixes; queues = o.queues }
+
+-- a prefix is defined
+abbrev pub with_prefix : OpeningState → Bytes → OpeningState
+with_prefix o p = record { files = o.files; prefixes = o.prefixes ++ p ∷ []; queues = o.queues }
+
+-- a transient data queue is defined, without a record
+abbrev pub with_queue : OpeningState → Bytes → Recovery → OpeningState
+with_queue o name recovery = record { files = o.files; prefixes = o.prefixes; queues = with_value name (record { recovery = recovery; records = [] }) o.queues }
+
+-- a file with a record more, under the key that lies in it
+abbrev pub loaded_file : FileOpening → Bytes → FileOpening
+loaded_file file r = record { definition = file.definition; records = with_value (key_of file.definition r) r file.records }
+
+-- a record is loaded into a file
+abbrev pub with_record : OpeningState → Bytes → Bytes → OpeningState
+with_record o name r = record { files = changed (value_at name o.files); prefixes = o.prefixes; queues = o.queues } where
+  changed : Option FileOpening → Map FileOpening
+  changed None = o.files
+  changed (Some file) = with_value name (loaded_file file r) o.files
+
+-- a record is loaded into a transient data queue, last
+abbrev pub with_td_record : OpeningState → Bytes → Bytes → OpeningState
+with_td_record o name r = record { files = o.files; prefixes = o.prefixes; queues = changed (value_at name o.queues) } where
+  changed : Option QueueOpening → Map QueueOpening
+  changed None = o.queues
+  changed (Some queue) = with_value name (record { recovery = queue.recovery; records = queue.records ++ r ∷ [] }) o.queues
+
+-- the keys of a file's records rise, where the file is defined
+abbrev pub is_in_order : Option (Map Bytes) → Bool
+is_in_order None = true
+is_in_order (Some records) = is_rising records
+
+-- each file's key has 1 to 255 bytes and ends within the record
+abbrev pub HasLawfulKeys : OpeningState → Type 0
+HasLawfulKeys o = (f : Bytes) (file : FileOpening) → value_at f o.files ≡ Some file → is_key file.definition ≡ true
+
+-- an opening that defines files alone
+pub record HasFilesAlone (o : OpeningState) : Type 0 where
+  pub prefixes : o.prefixes ≡ []
+  pub queues : o.queues ≡ []
+
+-- an opening is in order: the names of its files and of its queues rise, and so do the keys of each file
+pub record IsOpeningInOrder (o : OpeningState) : Type 0 where
+  pub files : is_rising o.files ≡ true
+  pub records : (f : Bytes) → is_in_order (option_map (λ e. e.records) (value_at f o.files)) ≡ true
+  pub queues : is_rising o.queues ≡ true

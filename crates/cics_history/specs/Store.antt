@@ -1,0 +1,159 @@
+-- Recovery (chapters on file control, temporary storage control, transient data control): the store of files and queues,
+-- and what each updating command answers and leaves.
+use Rattle.std.specs.Prelude.{Bool, true, false, if◌then◌else◌, ℕ, Option, Some, None, unwrap_or, List, [], ◌∷◌, ◌++◌, map, length}
+use Rattle.cics_names.specs.Keyed.{Bytes, Map, value_at, with_value, without}
+use Rattle.cics_names.specs.declared.conditions.Condition.{Condition}
+use Rattle.cics_names.specs.declared.conditions.Condition.TheVariants.{Normal, Dsiderr, Notfnd, Qzero, Qiderr}
+use Rattle.cics_ksds.specs.Files.{write_condition, change_condition, records_after_write, records_after_rewrite, records_after_delete}
+use Rattle.cics_ksds.specs.Prefixes.{outside, under}
+use Rattle.cics_tempstor.specs.Queues.{Queue, item_condition, items_after_rewrite, has_item, number_if, delete_condition, items_after_write}
+use Rattle.cics_tempstor.specs.Queues as ts
+use Rattle.cics_history.specs.Openings.{OpeningState, file_recoverable, queue_logical, has_prefix_in}
+use Rattle.cics_history.specs.declared.ops.Op.{Op}
+use Rattle.cics_history.specs.declared.ops.Op.TheVariants.{Write, Rewrite, Delete, DeleteGeneric, ReadUpdate, TsWrite, TsRewrite, TsDelete, TdWrite, TdRead, TdDelete}
+use Rattle.cics_history.specs.declared.ops.Answer.{Answer}
+
+-- the records of each defined file by key, the items of each temporary storage queue that is there, and the records of
+-- each defined transient data queue
+pub record Store : Type 0 where
+  pub files : Map (Map Bytes)
+  pub ts : Map Queue
+  pub td : Map (List Bytes)
+
+-- the store of an opening is what was loaded, and no temporary storage queue
+abbrev pub initial_store : OpeningState → Store
+initial_store o = record { files = map (λ e. (e.0, e.1.records)) o.files; ts = []; td = map (λ e. (e.0, e.1.records)) o.queues }
+
+-- what a command answers, and the store that it leaves
+pub record Applied : Type 0 where
+  pub answer : Answer
+  pub store : Store
+
+-- an answer of a condition alone
+abbrev pub only : Condition → Answer
+only c = record { condition = c; content = None; number = None }
+
+-- an answer with a number: of an item, or of records
+abbrev pub numbered : Condition → Option ℕ → Answer
+numbered c n = record { condition = c; content = None; number = n }
+
+-- an answer with a record
+abbrev pub with_content : Condition → Option Bytes → Answer
+with_content c content = record { condition = c; content = content; number = None }
+
+-- NORMAL is the condition of a command that did what it asks for
+abbrev pub is_normal : Condition → Bool
+is_normal Normal = true
+is_normal _ = false
+
+-- a command that isn't answered NORMAL leaves the store as it was
+abbrev pub answered : Store → Answer → Store → Applied
+answered s a changed = record { answer = a; store = if is_normal a.condition then changed else s }
+
+-- the store with these records in a file
+abbrev pub with_file : Store → Bytes → Map Bytes → Store
+with_file s f records = record { files = with_value f records s.files; ts = s.ts; td = s.td }
+
+-- the items of a temporary storage queue, none where it is absent
+abbrev pub ts_queue : Store → Bytes → Queue
+ts_queue s q = unwrap_or (value_at q s.ts) []
+
+-- the store with these items in a temporary storage queue, which with no item is absent
+abbrev pub with_ts : Store → Bytes → Queue → Store
+with_ts s q [] = record { files = s.files; ts = without q s.ts; td = s.td }
+with_ts s q (d ∷ ds) = record { files = s.files; ts = with_value q (d ∷ ds) s.ts; td = s.td }
+
+-- the store with these records in a transient data queue
+abbrev pub with_td : Store → Bytes → List Bytes → Store
+with_td s q records = record { files = s.files; ts = s.ts; td = with_value q records s.td }
+
+-- a record that isn't found is NOTFND
+abbrev pub found_condition : Option Bytes → Condition
+found_condition None = Notfnd
+found_condition (Some r) = Normal
+
+-- WRITE adds a record; a key that is there is DUPREC, and a file that isn't defined DSIDERR
+abbrev pub apply_write : Store → Bytes → Bytes → Bytes → Option (Map Bytes) → Applied
+apply_write s f k r None = answered s (only Dsiderr) s
+apply_write s f k r (Some records) = answered s (only (write_condition records k)) (with_file s f (records_after_write records k r))
+
+-- REWRITE replaces the record of its key
+abbrev pub apply_rewrite : Store → Bytes → Bytes → Bytes → Option (Map Bytes) → Applied
+apply_rewrite s f k r None = answered s (only Dsiderr) s
+apply_rewrite s f k r (Some records) = answered s (only (change_condition records k)) (with_file s f (records_after_rewrite records k r))
+
+-- DELETE takes the record of its key away; an absent key is NOTFND
+abbrev pub apply_delete : Store → Bytes → Bytes → Option (Map Bytes) → Applied
+apply_delete s f k None = answered s (only Dsiderr) s
+apply_delete s f k (Some records) = answered s (only (change_condition records k)) (with_file s f (records_after_delete records k))
+
+-- as many as there are under a prefix; where there is none it is NOTFND
+abbrev pub counted_answer : {X : Type 0} → List X → Answer
+counted_answer [] = only Notfnd
+counted_answer (x ∷ xs) = numbered Normal (Some (length (x ∷ xs)))
+
+-- DELETE GENERIC takes each record away whose key begins with the prefix, and answers how many they were; none is NOTFND
+abbrev pub apply_delete_generic : Store → Bytes → Bytes → Option (Map Bytes) → Applied
+apply_delete_generic s f p None = answered s (only Dsiderr) s
+apply_delete_generic s f p (Some records) = answered s (counted_answer (under p records)) (with_file s f (outside p records))
+
+-- READ UPDATE gives the record of its key and changes nothing; an absent key is NOTFND
+abbrev pub apply_read : Store → Bytes → Option (Map Bytes) → Applied
+apply_read s k None = answered s (only Dsiderr) s
+apply_read s k (Some records) = answered s (with_content (found_condition (value_at k records)) (value_at k records)) s
+
+-- WRITEQ TS adds an item and answers its number; the most items are ITEMERR
+abbrev pub apply_ts_write : Store → Bytes → Bytes → Queue → Applied
+apply_ts_write s q d items = answered s (numbered (ts.write_condition items) (ts.write_number items)) (with_ts s q (items_after_write items d))
+
+-- WRITEQ TS REWRITE replaces an item and answers its number; an absent queue is QIDERR, an absent item ITEMERR
+abbrev pub apply_ts_rewrite : Store → Bytes → ℕ → Bytes → Queue → Applied
+apply_ts_rewrite s q n d items = answered s (numbered (item_condition items n) (number_if (has_item items n) n)) (with_ts s q (items_after_rewrite items n d))
+
+-- DELETEQ TS takes the whole queue away; an absent queue is QIDERR
+abbrev pub apply_ts_delete : Store → Bytes → Queue → Applied
+apply_ts_delete s q items = answered s (only (delete_condition items)) (with_ts s q [])
+
+-- WRITEQ TD adds a record last; a queue that isn't defined is QIDERR
+abbrev pub apply_td_write : Store → Bytes → Bytes → Option (List Bytes) → Applied
+apply_td_write s q d None = answered s (only Qiderr) s
+apply_td_write s q d (Some records) = answered s (only Normal) (with_td s q (records ++ d ∷ []))
+
+-- READQ TD gives the first record and takes it away; an empty queue is QZERO
+abbrev pub apply_td_read : Store → Bytes → Option (List Bytes) → Applied
+apply_td_read s q None = answered s (only Qiderr) s
+apply_td_read s q (Some []) = answered s (only Qzero) s
+apply_td_read s q (Some (d ∷ ds)) = answered s (with_content Normal (Some d)) (with_td s q ds)
+
+-- DELETEQ TD takes all records away
+abbrev pub apply_td_delete : Store → Bytes → Option (List Bytes) → Applied
+apply_td_delete s q None = answered s (only Qiderr) s
+apply_td_delete s q (Some records) = answered s (only Normal) (with_td s q [])
+
+-- what each updating command answers and leaves
+abbrev pub apply : Store → Op → Applied
+apply s (Write f k r) = apply_write s f k r (value_at f s.files)
+apply s (Rewrite f k r) = apply_rewrite s f k r (value_at f s.files)
+apply s (Delete f k) = apply_delete s f k (value_at f s.files)
+apply s (DeleteGeneric f p) = apply_delete_generic s f p (value_at f s.files)
+apply s (ReadUpdate f k) = apply_read s k (value_at f s.files)
+apply s (TsWrite q d) = apply_ts_write s q d (ts_queue s q)
+apply s (TsRewrite q n d) = apply_ts_rewrite s q n d (ts_queue s q)
+apply s (TsDelete q) = apply_ts_delete s q (ts_queue s q)
+apply s (TdWrite q d) = apply_td_write s q d (value_at q s.td)
+apply s (TdRead q) = apply_td_read s q (value_at q s.td)
+apply s (TdDelete q) = apply_td_delete s q (value_at q s.td)
+
+-- whether the file or queue that a command acts on is recoverable
+abbrev pub is_recoverable : OpeningState → Op → Bool
+is_recoverable o (Write f k r) = file_recoverable o f
+is_recoverable o (Rewrite f k r) = file_recoverable o f
+is_recoverable o (Delete f k) = file_recoverable o f
+is_recoverable o (DeleteGeneric f p) = file_recoverable o f
+is_recoverable o (ReadUpdate f k) = file_recoverable o f
+is_recoverable o (TsWrite q d) = has_prefix_in o.prefixes q
+is_recoverable o (TsRewrite q n d) = has_prefix_in o.prefixes q
+is_recoverable o (TsDelete q) = has_prefix_in o.prefixes q
+is_recoverable o (TdWrite q d) = queue_logical o q
+is_recoverable o (TdRead q) = queue_logical o q
+is_recoverable o (TdDelete q) = queue_logical o q

@@ -1,0 +1,388 @@
+//! The laws of backout: what stands after commands, commits and backouts of any number of units, in
+//! any interleaving.
+//!
+//! The contract of each function is a law, and its body is empty: nothing is computed here. The
+//! laws speak of the same definitions as the contracts of the calls, so that each of them is a
+//! lemma about the program too.
+//!
+//! Units are numbered by the list of outcomes; a unit that isn't handed in is the next one. A
+//! command that must wait, and an event of a unit that isn't open, changes nothing.
+//!
+//! What is said of whole runs supposes an opening in order, one whose names and keys rise; `Opening`
+//! makes no other. The answer of a delete by prefix counts records, which cells tell only there.
+
+ghost use Rattle.std.specs.Prelude.{◌≡◌, ◌≤◌, ℕ, Bool, true, false, not, length, slice_get};
+ghost use Rattle.std.specs.Prelude.{if◌then◌else◌, Option, Some, None, is_some, List, [], ◌∷◌, ◌++◌, All};
+ghost use Rattle.std.specs.Prelude.{IsPermutation};
+ghost use Rattle.std.specs.List.{list_any};
+ghost use Rattle.cics_names.specs.Keyed.{Bytes, Map, value_at};
+ghost use Rattle.cics_ksds.specs.Prefixes.{under};
+ghost use Rattle.cics_enqueue.specs.Resources.{Held, overlaps, is_other, is_prefix};
+ghost use Rattle.cics_enqueue.specs.declared.resources.Resource.{Resource};
+ghost use Rattle.cics_enqueue.specs.declared.resources.Resource.TheVariants.{TdRead as ReadingEnd};
+ghost use Rattle.cics_transdata.specs.Trans.{TransState, IsMarked, is_logical, queue_of, first_of};
+ghost use Rattle.cics_transdata.specs.Trans.{trans_written, trans_read, trans_deleted};
+ghost use Rattle.cics_transdata.specs.Trans.{reader_committed, writer_committed};
+ghost use Rattle.cics_transdata.specs.Undo.{IsReadyImage, undone as undone_queue, written_image};
+ghost use Rattle.cics_transdata.specs.Undo.{read_image, deleted_image};
+ghost use Rattle.cics_transdata.specs.declared.images.TdImage.{TdImage};
+ghost use Rattle.cics_history.specs.Openings.{OpeningState, IsOpeningInOrder, queue_logical};
+ghost use Rattle.cics_history.specs.Store.{Store, apply, counted_answer, initial_store};
+ghost use Rattle.cics_history.specs.History.{outcome_of, is_backed_out, kept, replay, Agrees};
+ghost use Rattle.cics_history.specs.Holding.{UnitsState, store_of, held_by, held_table, first_held};
+ghost use Rattle.cics_history.specs.Holding.{first_holder, committed_for, is_nothing, awaited};
+ghost use Rattle.cics_history.specs.Execution.{UnitsValue, unit_or_next, after_execution, after_end};
+ghost use Rattle.cics_history.specs.Execution.{after_enqueue, after_dequeue, after_unlock};
+ghost use Rattle.cics_history.specs.Execution.{after_ts_reading};
+ghost use Rattle.cics_history.specs.Headline.{beginning, IsSameRecoverable, LeavesNoTrace};
+ghost use Rattle.cics_history.specs.declared.ops.Op.{Op};
+ghost use Rattle.cics_history.specs.declared.ops.Op.TheVariants.{DeleteGeneric, TdWrite, TdRead};
+ghost use Rattle.cics_history.specs.declared.ops.Op.TheVariants.{TdDelete};
+ghost use Rattle.cics_history.specs.declared.ops.Entry.{Entry};
+ghost use Rattle.cics_history.specs.declared.ops.UnitState.{UnitState};
+ghost use Rattle.cics_history.specs.declared.ops.UnitState.TheVariants.{Committed, BackedOut};
+ghost use Rattle.cics_history.specs.Cells.{Cell, Key, Td, content, is_generic, cell_of, touches, effect};
+ghost use Rattle.cics_history.specs.Cells.{Reading, Writing, recovers, IsOrdered, IsCanonical};
+ghost use Rattle.cics_history.specs.Events.{Event, is_live, may_act, run};
+ghost use Rattle.cics_history.specs.Holders.{IsHeldByOne, IsLeastHeld};
+ghost use Rattle.cics_history.specs.Isolation.{used, IsOneAtEachEnd, IsSound};
+ghost use Rattle.cics_history.specs.Serial.{commit_order, IsCommitOrder, done_by_any, one_by_one};
+ghost use Rattle.cics_history.specs.Serial.{AreOpen, AreAllOpen, NoneIsOpen, store_without_others};
+ghost use Rattle.cics_history.specs.Serial.{serial_store, IsInOrder};
+ghost use Rattle.cics_history.specs.Undo.{Image, Cells, Leads, AllReady, AreImages, image_of};
+ghost use Rattle.cics_history.specs.Undo.{prefix_images, is_plain, Place, IsPlaceOf, placed};
+ghost use Rattle.cics_history.specs.Undo.{place_executed, place_committed, place_undone};
+ghost use Rattle.cics_history.specs.Marks.{Queues, seen, shown, marked, marks_of, reader_settled};
+ghost use Rattle.cics_history.specs.Marks.{writer_settled, queue_backed_out};
+ghost use Rattle.cics_history.specs.MarkImages.{MarkImage, unmarked, IsMarkReady, mark_images};
+ghost use Rattle.cics_history.specs.MarkImages.{marks_undone, AllMarksReady};
+ghost use Rattle.cics_history.specs.Carried.{Carries, CarriesIfAny};
+ghost use Rattle.cics_history.specs.Ends.{Marks, AreMarksOf, marks_opened, marks_executed};
+ghost use Rattle.cics_history.specs.Ends.{marks_committed, marks_backed_out};
+ghost use Rattle.cics_history.specs.InPlace.{content_in_place, parts_opened, run_in_place};
+
+/// Whatever was executed, committed and backed out, in any interleaving, each command that is kept
+/// has the answer that replaying what is kept, from the opening and in order of execution, gives at
+/// its place.
+pub fn answers_stay()
+    ensures { (o : OpeningState) (events : List Event) → IsOpeningInOrder o →
+        let s = run (beginning o) events in
+        Agrees (initial_store o) (kept o s.trace s.outcomes) }
+{}
+
+/// What files and queues hold in place is what replaying what is kept gives. In place a command
+/// changes the cells that it acts on, a commit drops the unit's images, and a backout undoes them,
+/// the newest first; a LOGICAL queue is marked at its two ends, each by itself. Cells are no list,
+/// so which keys are under a prefix the run in place takes from the store.
+///
+/// - `cells`: each key of a file, each temporary storage queue and each transient data queue holds
+///   what the replay gives.
+/// - `whole`: so a store in order that holds what is in place is the replay, as whole maps.
+/// - `images`: an open unit's images of keys and temporary storage queues are ready one after the
+///   other, the newest first: each finds what its change made.
+/// - `marks`: so are its images of the ends of LOGICAL queues; no record that is to go is marked as
+///   read.
+pub fn parts_stay()
+    ensures cells { (o : OpeningState) (events : List Event) (x : Cell) → IsOpeningInOrder o →
+        content_in_place o (run_in_place (beginning o) (parts_opened o) events) x ≡ content (store_of (run (beginning o) events)) x }
+    ensures whole { (o : OpeningState) (events : List Event) (held : Store) → IsOpeningInOrder o → IsCanonical held →
+        ((x : Cell) → content held x ≡ content_in_place o (run_in_place (beginning o) (parts_opened o) events) x) →
+        held ≡ store_of (run (beginning o) events) }
+    ensures images { (o : OpeningState) (events : List Event) (unit : ℕ) → IsOpeningInOrder o → is_live (run (beginning o) events) unit ≡ true →
+        let p = run_in_place (beginning o) (parts_opened o) events in
+        AllReady p.place.cells (p.place.images unit) }
+    ensures marks { (o : OpeningState) (events : List Event) (unit : ℕ) → IsOpeningInOrder o → is_live (run (beginning o) events) unit ≡ true →
+        let p = run_in_place (beginning o) (parts_opened o) events in
+        AllMarksReady p.marks.queues (p.marks.images unit) }
+{}
+
+/// A unit that runs alone and is backed out is the identity on what is recoverable: where all
+/// entries from some place on are its own, each recoverable file and queue holds what the entries
+/// before give.
+///
+/// - `alone`: so it is in the history, whenever it runs.
+/// - `call`: so it is for the call that backs the unit out, where the store is the replay.
+pub fn runs_alone()
+    ensures alone { (o : OpeningState) (outcomes : List UnitState) (unit : ℕ) (before own : List Entry) →
+        IsCanonical (initial_store o) → is_backed_out (outcome_of outcomes unit) ≡ true → All (λ e. e.unit ≡ unit) own →
+        IsSameRecoverable o (replay (initial_store o) (kept o (before ++ own) outcomes))
+        (replay (initial_store o) (kept o before outcomes)) }
+    ensures call { (old : UnitsValue) (unit : ℕ) (store : Store) → IsOpeningInOrder old.state.opening →
+        is_live old.state unit ≡ true → store ≡ store_of (after_end old.state unit BackedOut) →
+        LeavesNoTrace old (record { state = after_end old.state unit BackedOut; store = store }) unit }
+{}
+
+/// What interleaved units did to recoverable files and queues is what they would have done one
+/// after the other, in the order in which they committed: each command that a unit was answered
+/// NORMAL there has, in its unit's turn, the very answer that its task was given, and the files and
+/// queues hold what the turns give. A command that was answered otherwise changed nothing and holds
+/// nothing, so it is left out; so is a command on something unrecoverable, which no unit holds.
+///
+/// Units that are still open take their turns behind those that committed, in any order; those that
+/// are left out count as backed out.
+///
+/// - `order`: the order has each unit that committed, once, and no other.
+/// - `commands`: taking turns changes the order of the commands alone: none is lost and none comes
+///   twice.
+/// - `answers`: in that order, with any open units behind it, each command has the answer that it
+///   was given.
+/// - `stores`: the turns give what stands once every other open unit is backed out.
+/// - `whole`: with all open units behind the others, they give what stands.
+/// - `closed`: where no unit is open, the units that committed give what stands.
+pub fn units_take_turns()
+    ensures order { (o : OpeningState) (events : List Event) → IsOpeningInOrder o →
+        IsCommitOrder (run (beginning o) events) (commit_order (beginning o) events) }
+    ensures commands { (o : OpeningState) (events : List Event) → IsOpeningInOrder o → (later : List ℕ) →
+        let s = run (beginning o) events in
+        let units = commit_order (beginning o) events ++ later in
+        AreOpen s later → IsPermutation (done_by_any o s.trace units) (one_by_one o s.trace units) }
+    ensures answers { (o : OpeningState) (events : List Event) → IsOpeningInOrder o → (later : List ℕ) →
+        let s = run (beginning o) events in
+        AreOpen s later → Agrees (initial_store o) (one_by_one o s.trace (commit_order (beginning o) events ++ later)) }
+    ensures stores { (o : OpeningState) (events : List Event) → IsOpeningInOrder o → (later : List ℕ) →
+        let s = run (beginning o) events in
+        AreOpen s later →
+        IsSameRecoverable o (store_without_others s later) (serial_store s (commit_order (beginning o) events ++ later)) }
+    ensures whole { (o : OpeningState) (events : List Event) → IsOpeningInOrder o → (later : List ℕ) →
+        let s = run (beginning o) events in
+        AreOpen s later → AreAllOpen s later →
+        IsSameRecoverable o (store_of s) (serial_store s (commit_order (beginning o) events ++ later)) }
+    ensures closed { (o : OpeningState) (events : List Event) → IsOpeningInOrder o →
+        let s = run (beginning o) events in
+        NoneIsOpen s → IsSameRecoverable o (store_of s) (serial_store s (commit_order (beginning o) events)) }
+{}
+
+/// Each call keeps the units in the order in which they committed, where the list of those that
+/// committed is kept beside them: a commit adds its unit at the end, and no other call changes it.
+/// `answers`, `whole` and `closed` are what this gives.
+pub fn calls_keep_the_order()
+    ensures begins { (o : OpeningState) → IsOpeningInOrder o → IsInOrder (beginning o) [] }
+    ensures executes { (s : UnitsState) (unit : Option ℕ) (op : Op) (order : List ℕ) → IsSound s → IsInOrder s order →
+        may_act s unit ≡ true → IsInOrder (after_execution s unit op) order }
+    ensures commits { (s : UnitsState) (unit : ℕ) (order : List ℕ) → IsInOrder s order → is_live s unit ≡ true →
+        IsInOrder (after_end s unit Committed) (order ++ unit ∷ []) }
+    ensures backs_out { (s : UnitsState) (unit : ℕ) (order : List ℕ) → IsInOrder s order → is_live s unit ≡ true →
+        IsInOrder (after_end s unit BackedOut) order }
+    ensures enqueues { (s : UnitsState) (unit : Option ℕ) (value : Bytes) (order : List ℕ) → IsInOrder s order →
+        IsInOrder (after_enqueue s unit value) order }
+    ensures dequeues { (s : UnitsState) (unit : ℕ) (value : Bytes) (order : List ℕ) → IsInOrder s order →
+        IsInOrder (after_dequeue s unit value) order }
+    ensures unlocks { (s : UnitsState) (unit : ℕ) (file : Bytes) (order : List ℕ) → IsInOrder s order →
+        IsInOrder (after_unlock s unit file) order }
+    ensures reads { (s : UnitsState) (queue : Bytes) (item : ℕ) (order : List ℕ) → IsInOrder s order →
+        IsInOrder (after_ts_reading s queue item) order }
+    ensures answers { (s : UnitsState) (order later : List ℕ) → IsInOrder s order → AreOpen s later →
+        Agrees (initial_store s.opening) (one_by_one s.opening s.trace (order ++ later)) }
+    ensures whole { (s : UnitsState) (order later : List ℕ) → IsSound s → IsInOrder s order →
+        IsCanonical (initial_store s.opening) → AreOpen s later → AreAllOpen s later →
+        IsSameRecoverable s.opening (store_of s) (serial_store s (order ++ later)) }
+    ensures closed { (s : UnitsState) (order : List ℕ) → IsSound s → IsInOrder s order →
+        IsCanonical (initial_store s.opening) → NoneIsOpen s →
+        IsSameRecoverable s.opening (store_of s) (serial_store s order) }
+{}
+
+/// A resource has one holder.
+///
+/// - `one`: after every run, two units that hold resources which overlap are one unit.
+/// - `ends`: so at most one open unit holds an end of a recoverable cell.
+/// - `found`: whoever holds a resource that is no prefix of keys, and isn't the unit that asks, is
+///   the holder that is found.
+/// - `holds`: for any resource, the holder that is found is another unit than the one that asks,
+///   and holds something that overlaps it.
+/// - `least`: what is found is held by another unit and overlaps the resource, and nothing of which
+///   that is so comes before it in byte order.
+/// - `somebody`: where another unit holds what overlaps it, somebody is found.
+/// - `none`: where no other unit holds what overlaps it, none is found.
+pub fn each_resource_has_one_holder()
+    ensures one { (o : OpeningState) (events : List Event) → IsOpeningInOrder o →
+        IsHeldByOne (run (beginning o) events) }
+    ensures ends { (s : UnitsState) → IsSound s → IsOneAtEachEnd s.opening s.trace (outcome_of s.outcomes) }
+    ensures found { (s : UnitsState) (asking : Option ℕ) (r : Resource) (holder : ℕ) → IsSound s → is_prefix r ≡ false →
+        is_other asking holder ≡ true → list_any (overlaps r) (held_by s holder) ≡ true →
+        first_holder (held_table s) asking r ≡ Some holder }
+    ensures holds { (s : UnitsState) (asking : Option ℕ) (r : Resource) (holder : ℕ) →
+        first_holder (held_table s) asking r ≡ Some holder →
+        (is_other asking holder ≡ true) × (list_any (overlaps r) (held_by s holder) ≡ true) }
+    ensures least { (s : UnitsState) (asking : Option ℕ) (r : Resource) (e : Resource × Held) → IsSound s →
+        first_held (held_table s) asking r ≡ Some e → IsLeastHeld s asking r e }
+    ensures somebody { (s : UnitsState) (asking : Option ℕ) (r : Resource) (unit : ℕ) → IsSound s →
+        is_other asking unit ≡ true → list_any (overlaps r) (held_by s unit) ≡ true →
+        is_some (first_holder (held_table s) asking r) ≡ true }
+    ensures none { (s : UnitsState) (asking : Option ℕ) (r : Resource) →
+        ((unit : ℕ) → is_other asking unit ≡ true → list_any (overlaps r) (held_by s unit) ≡ false) →
+        first_holder (held_table s) asking r ≡ None }
+{}
+
+/// A store is determined by its cells.
+///
+/// - `equal`: two stores in order whose cells hold the same are equal, as whole maps.
+/// - `initial`: the store of an opening in order is in order.
+/// - `replayed`: replaying keeps a store in order.
+pub fn stores_are_their_cells()
+    ensures equal { (s t : Store) → IsCanonical s → IsCanonical t → ((x : Cell) → content s x ≡ content t x) →
+        s ≡ t }
+    ensures initial { (o : OpeningState) → IsOpeningInOrder o → IsCanonical (initial_store o) }
+    ensures replayed { (s : Store) (entries : List Entry) → IsCanonical s → IsCanonical (replay s entries) }
+{}
+
+/// A command acts by cells.
+///
+/// - `cells`: it changes each cell that it touches by what the cell holds, and no other.
+/// - `answer`: its answer is the one that its cell gives, where it acts on one cell.
+/// - `generic`: DELETE GENERIC, which acts on every key that begins with its prefix, answers how many
+///   of them have records, and NOTFND where none has.
+/// - `local`: so the answer depends on the touched cells alone, where the keys rise.
+/// - `ordered`: the keys of each file go on rising.
+pub fn commands_act_by_cells()
+    ensures cells { (s : Store) (op : Op) (x : Cell) →
+        content (apply s op).store x ≡ (if touches op x then (effect op (content s x)).cell else content s x) }
+    ensures answer { (s : Store) (op : Op) → is_generic op ≡ false →
+        (apply s op).answer ≡ (effect op (content s (cell_of op))).answer }
+    ensures generic { (s : Store) (file prefix : Bytes) (records : Map Bytes) → value_at file s.files ≡ Some records →
+        (apply s (DeleteGeneric file prefix)).answer ≡ counted_answer (under prefix records) }
+    ensures local { (op : Op) (s t : Store) → IsOrdered s → IsOrdered t → ((x : Cell) → touches op x ≡ true → content s x ≡ content t x) →
+        (apply s op).answer ≡ (apply t op).answer }
+    ensures ordered { (s : Store) (op : Op) → IsOrdered s → IsOrdered (apply s op).store }
+{}
+
+/// Each call keeps the open units apart, and each resource with one holder; `agrees` is what this
+/// gives. The unit that is handed in is open.
+pub fn calls_keep_apart()
+    ensures begins { (o : OpeningState) → IsOpeningInOrder o → IsSound (beginning o) }
+    ensures executes { (s : UnitsState) (unit : Option ℕ) (op : Op) → IsSound s → may_act s unit ≡ true →
+        IsSound (after_execution s unit op) }
+    ensures ends { (s : UnitsState) (unit : ℕ) (outcome : UnitState) → IsSound s → is_live s unit ≡ true →
+        IsSound (after_end s unit outcome) }
+    ensures enqueues { (s : UnitsState) (unit : Option ℕ) (value : Bytes) → IsSound s → may_act s unit ≡ true →
+        IsSound (after_enqueue s unit value) }
+    ensures dequeues { (s : UnitsState) (unit : ℕ) (value : Bytes) → IsSound s →
+        IsSound (after_dequeue s unit value) }
+    ensures unlocks { (s : UnitsState) (unit : ℕ) (file : Bytes) → IsSound s →
+        IsSound (after_unlock s unit file) }
+    ensures reads { (s : UnitsState) (queue : Bytes) (item : ℕ) → IsSound s →
+        IsSound (after_ts_reading s queue item) }
+    ensures agrees { (s : UnitsState) → IsSound s →
+        Agrees (initial_store s.opening) (kept s.opening s.trace s.outcomes) }
+{}
+
+/// A command, a commit and a backout keep the cells in place as the history gives them, and the
+/// open units' images as those that lead back. All cells are meant but those of LOGICAL queues.
+///
+/// - `image`: the image of a command's own cell is the one that is asked for, where it acts on one.
+/// - `prefix`: those of DELETE GENERIC are the images of the records under its prefix, that of the last
+///   key the newest, in cells that hold at each key what a store does.
+pub fn calls_keep_places()
+    ensures begins { (o : OpeningState) → IsPlaceOf (beginning o) (placed o) }
+    ensures executes { (s : UnitsState) (p : Place) (unit : Option ℕ) (op : Op) (new : List Image) → IsSound s → IsPlaceOf s p →
+        may_act s unit ≡ true → awaited s unit op ≡ None → AreImages op p.cells new →
+        IsPlaceOf (after_execution s unit op) (place_executed s p unit op new) }
+    ensures commits { (s : UnitsState) (p : Place) (unit : ℕ) → IsPlaceOf s p → is_live s unit ≡ true →
+        IsPlaceOf (after_end s unit Committed) (place_committed p unit) }
+    ensures backs_out { (s : UnitsState) (p : Place) (unit : ℕ) → IsPlaceOf s p → is_live s unit ≡ true →
+        IsPlaceOf (after_end s unit BackedOut) (place_undone p unit) }
+    ensures image { (op : Op) (cells : Cells) → is_generic op ≡ false →
+        AreImages op cells (image_of op (cells (cell_of op))) }
+    ensures prefix { (s : Store) (file prefix : Bytes) (cells : Cells) → IsOrdered s →
+        ((f key : Bytes) → cells (Key f key) ≡ content s (Key f key)) →
+        AreImages (DeleteGeneric file prefix) cells (prefix_images s file prefix cells) }
+{}
+
+/// A command, a commit and a backout keep the LOGICAL queues in place as the history gives them,
+/// however the units at their two ends end, and the open units' images of the marks as those that
+/// lead back.
+///
+/// - `shown`: what a queue shows is what the history gives.
+/// - `committed`: where no other unit holds the reading end, what a task may read is what is shown,
+///   without what another unit wrote.
+pub fn calls_keep_marks()
+    ensures begins { (o : OpeningState) → AreMarksOf (beginning o) (marks_opened o) }
+    ensures executes { (s : UnitsState) (p : Marks) (unit : Option ℕ) (op : Op) → IsSound s → AreMarksOf s p →
+        may_act s unit ≡ true → awaited s unit op ≡ None → AreMarksOf (after_execution s unit op) (marks_executed s p unit op) }
+    ensures commits { (s : UnitsState) (p : Marks) (unit : ℕ) → IsSound s → AreMarksOf s p → is_live s unit ≡ true →
+        AreMarksOf (after_end s unit Committed) (marks_committed s p unit) }
+    ensures backs_out { (s : UnitsState) (p : Marks) (unit : ℕ) → IsSound s → AreMarksOf s p → is_live s unit ≡ true →
+        AreMarksOf (after_end s unit BackedOut) (marks_backed_out p unit) }
+    ensures shown { (s : UnitsState) (p : Marks) → AreMarksOf s p → (queue : Bytes) → queue_logical s.opening queue ≡ true →
+        content (store_of s) (Td queue) ≡ Some (shown (p.queues queue)) }
+    ensures committed { (s : UnitsState) (asking : Option ℕ) (p : Marks) (queue : Bytes) → IsSound s → AreMarksOf s p →
+        may_act s asking ≡ true → queue_logical s.opening queue ≡ true →
+        first_holder (held_table s) asking (ReadingEnd queue) ≡ None →
+        committed_for s asking queue
+        ≡ seen false (not (used s.trace (unit_or_next asking s.outcomes) (Td queue) Writing)) (p.queues queue) }
+{}
+
+/// An open unit's images, the newest first, each ready in its turn, lead each cell to what the
+/// history gives without that unit.
+///
+/// - `leads`, `ready`: the images of keys, of temporary storage queues and of queues that aren't
+///   LOGICAL.
+/// - `unmarks`, `marks_ready`: the images of the ends of LOGICAL queues; undone, they clear the
+///   ends that the unit holds and leave the other end to its holder.
+pub fn images_lead_back()
+    ensures leads { (s : UnitsState) (p : Place) (unit : ℕ) (x : Cell) → IsPlaceOf s p → is_live s unit ≡ true →
+        is_plain s.opening x ≡ true → recovers s.opening x ≡ true →
+        Leads (p.images unit) x (p.cells x) (content (store_of (after_end s unit BackedOut)) x) }
+    ensures ready { (s : UnitsState) (p : Place) (unit : ℕ) → IsPlaceOf s p → is_live s unit ≡ true →
+        AllReady p.cells (p.images unit) }
+    ensures unmarks { (s : UnitsState) (p : Marks) (unit : ℕ) → IsSound s → AreMarksOf s p → is_live s unit ≡ true →
+        (queue : Bytes) → queue_logical s.opening queue ≡ true →
+        marks_undone p.queues (p.images unit) queue
+        ≡ queue_backed_out (used s.trace unit (Td queue) Reading) (used s.trace unit (Td queue) Writing) (p.queues queue) }
+    ensures marks_ready { (s : UnitsState) (p : Marks) (unit : ℕ) → IsSound s → AreMarksOf s p → is_live s unit ≡ true →
+        AllMarksReady p.queues (p.images unit) }
+{}
+
+/// A transient data queue, which has its records in place and two counts, is a queue with marks:
+/// what each change does to it is what the change does to the marks. So the laws of marked queues
+/// are laws of it.
+///
+/// - `shown`: its records are those that are shown.
+/// - `first`: a reader that may see uncommitted records or not is given the first of those that it
+///   sees.
+/// - `read`: a reader that may not see them reads as if it might, where it sees something or there
+///   is nothing else to see.
+/// - `reader_commits`: the unit at the reading end commits; what it read was no record of another
+///   open unit.
+pub fn queues_carry_their_marks()
+    ensures shown { (s : TransState) → queue_of s ≡ shown (marks_of s) }
+    ensures first { (s : TransState) (past_fresh : Bool) →
+        first_of s past_fresh ≡ slice_get (seen false (not past_fresh) (marks_of s)) 0 }
+    ensures written { (s : TransState) (queue from : Bytes) → IsMarked s → is_logical s.kind ≡ true →
+        marks_of (trans_written s from) ≡ marked (TdWrite queue from) (marks_of s) }
+    ensures read { (s : TransState) (queue : Bytes) (past_fresh : Bool) → is_logical s.kind ≡ true →
+        is_nothing (seen false (not past_fresh) (marks_of s)) ≡ is_nothing (shown (marks_of s)) →
+        marks_of (trans_read s past_fresh) ≡ marked (TdRead queue) (marks_of s) }
+    ensures deleted { (s : TransState) (queue : Bytes) → is_logical s.kind ≡ true →
+        marks_of (trans_deleted s) ≡ marked (TdDelete queue) (marks_of s) }
+    ensures reader_commits { (s : TransState) → IsMarked s → s.read ≤ length (marks_of s).settled →
+        marks_of (reader_committed s) ≡ reader_settled true (marks_of s) }
+    ensures writer_commits { (s : TransState) → marks_of (writer_committed s) ≡ writer_settled true (marks_of s) }
+{}
+
+/// The before images that a LOGICAL queue gives are images of its marks, and to undo the one is to
+/// undo the other. So the laws of the images of marks are laws of them.
+///
+/// - `written`, `read`, `deleted`: the image that a change gives is the one that its marks have; a
+///   read gives none exactly where the reader sees nothing.
+/// - `ready`: it is ready where that one is.
+/// - `undone`: undone, both leave the same marks.
+/// - `marked`: and the queue is one of which all this holds again, so it holds along a list of
+///   images.
+pub fn queues_give_the_images_of_their_marks()
+    ensures written { (s : TransState) (queues : Queues) (queue from : Bytes) →
+        is_logical s.kind ≡ true →
+        CarriesIfAny (written_image s) (mark_images (TdWrite queue from) queues) }
+    ensures read { (s : TransState) (queues : Queues) (queue : Bytes) (past_fresh : Bool) →
+        queues queue ≡ marks_of s → is_logical s.kind ≡ true →
+        is_nothing (seen false (not past_fresh) (marks_of s)) ≡ is_nothing (shown (marks_of s)) →
+        CarriesIfAny (read_image s past_fresh) (mark_images (TdRead queue) queues) }
+    ensures deleted { (s : TransState) (queues : Queues) (queue : Bytes) → IsMarked s →
+        queues queue ≡ marks_of s → is_logical s.kind ≡ true →
+        CarriesIfAny (deleted_image s) (mark_images (TdDelete queue) queues) }
+    ensures ready { (s : TransState) (i : TdImage) (m : MarkImage) → IsMarked s → Carries i m →
+        IsMarkReady m (marks_of s) → IsReadyImage s i }
+    ensures undone { (s : TransState) (i : TdImage) (m : MarkImage) → IsMarked s → Carries i m →
+        IsMarkReady m (marks_of s) → marks_of (undone_queue s i) ≡ unmarked m (marks_of s) }
+    ensures marked { (s : TransState) (i : TdImage) (m : MarkImage) → IsMarked s → Carries i m →
+        IsMarkReady m (marks_of s) → IsMarked (undone_queue s i) }
+{}

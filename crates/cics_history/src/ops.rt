@@ -1,0 +1,202 @@
+//! The updating commands, their answers, and the history of them.
+
+ghost use Rattle.std.specs.Prelude.{◌≡◌, IfOk, IfSome, is_some};
+ghost use Rattle.cics_history.specs.Records.{is_file_op, file_of, key_of};
+
+use cics_enqueue::UnitId;
+use cics_names::{Condition, Name4, Name8, NoMemory, Record};
+
+/// An updating command. A key is the one that lies in the record, a record or an item its bytes.
+#[derive(Drop)]
+pub enum Op {
+    /// Adds the record of a key that isn't there.
+    Write {
+        file: Name8,
+        key: Record,
+        from: Record,
+    },
+    /// Replaces the record of a key, which is the one that the unit has read for update.
+    Rewrite {
+        file: Name8,
+        key: Record,
+        from: Record,
+    },
+    /// Takes the record of a key away.
+    Delete {
+        file: Name8,
+        key: Record,
+    },
+    /// Takes every record away whose key begins with the prefix.
+    DeleteGeneric {
+        file: Name8,
+        prefix: Record,
+    },
+    /// Reads the record of a key, to be rewritten or deleted by the same unit.
+    ReadUpdate {
+        file: Name8,
+        key: Record,
+    },
+    /// Adds an item to a temporary storage queue, and makes the queue where it is absent.
+    TsWrite {
+        queue: Name8,
+        from: Record,
+    },
+    /// Replaces an item of a temporary storage queue, by its number from 1 on.
+    TsRewrite {
+        queue: Name8,
+        item: u64,
+        from: Record,
+    },
+    /// Takes a whole temporary storage queue away.
+    TsDelete {
+        queue: Name8,
+    },
+    /// Adds a record at the end of a transient data queue.
+    TdWrite {
+        queue: Name4,
+        from: Record,
+    },
+    /// Gives the first record of a transient data queue and takes it away.
+    TdRead {
+        queue: Name4,
+    },
+    /// Empties a transient data queue.
+    TdDelete {
+        queue: Name4,
+    },
+}
+
+impl Op {
+    /// The file and the key that a command on one record names; one on a queue, or on all records under
+    /// a prefix, names none.
+    pub fn record(&self) -> Option<(&Name8, &Record)>
+        ensures there { is_some result ≡ is_file_op self.now }
+        ensures file { IfSome result (λ named. named.0.now ≡ file_of self.now) }
+        ensures key { IfSome result (λ named. named.1.now ≡ key_of self.now) }
+    {
+        match self {
+            Op::Write { file, key, .. } => Some((file, key)),
+            Op::Rewrite { file, key, .. } => Some((file, key)),
+            Op::Delete { file, key } => Some((file, key)),
+            Op::ReadUpdate { file, key } => Some((file, key)),
+            _ => None,
+        }
+    }
+
+    /// A copy of the command. It takes memory for the copies of its records.
+    pub fn copy(&self) -> Result<Op, NoMemory>
+        ensures { IfOk result (λ copy. copy ≡ self.now) }
+    {
+        Ok(match self {
+            Op::Write { file, key, from } => Op::Write {
+                file: *file,
+                key: key.copy()?,
+                from: from.copy()?,
+            },
+            Op::Rewrite { file, key, from } => Op::Rewrite {
+                file: *file,
+                key: key.copy()?,
+                from: from.copy()?,
+            },
+            Op::Delete { file, key } => Op::Delete {
+                file: *file,
+                key: key.copy()?,
+            },
+            Op::DeleteGeneric { file, prefix } => Op::DeleteGeneric {
+                file: *file,
+                prefix: prefix.copy()?,
+            },
+            Op::ReadUpdate { file, key } => Op::ReadUpdate {
+                file: *file,
+                key: key.copy()?,
+            },
+            Op::TsWrite { queue, from } => Op::TsWrite {
+                queue: *queue,
+                from: from.copy()?,
+            },
+            Op::TsRewrite { queue, item, from } => Op::TsRewrite {
+                queue: *queue,
+                item: *item,
+                from: from.copy()?,
+            },
+            Op::TsDelete { queue } => Op::TsDelete { queue: *queue },
+            Op::TdWrite { queue, from } => Op::TdWrite {
+                queue: *queue,
+                from: from.copy()?,
+            },
+            Op::TdRead { queue } => Op::TdRead { queue: *queue },
+            Op::TdDelete { queue } => Op::TdDelete { queue: *queue },
+        })
+    }
+}
+
+/// What an executed command answers.
+#[derive(Drop)]
+pub struct Answer {
+    /// NORMAL where the command did what it asks for; at every other condition it changed nothing.
+    pub condition: Condition,
+    /// The record that was read, whole.
+    pub content: Option<Record>,
+    /// The number of the item that was written, from 1 on, or of the records that were taken away
+    /// under a prefix.
+    pub number: Option<u64>,
+}
+
+impl Answer {
+    /// A copy of the answer. It takes memory for the copy of its record, if it has one.
+    pub fn copy(&self) -> Result<Answer, NoMemory>
+        ensures { IfOk result (λ copy. copy ≡ self.now) }
+    {
+        let content = match &self.content {
+            Some(record) => Some(record.copy()?),
+            None => None,
+        };
+        Ok(Answer {
+            condition: self.condition,
+            content,
+            number: self.number,
+        })
+    }
+}
+
+/// A command that was executed.
+#[derive(Drop)]
+pub struct Entry {
+    /// The unit that executed it.
+    pub unit: UnitId,
+    /// What it asked for.
+    pub op: Op,
+    /// What it was answered.
+    pub answer: Answer,
+}
+
+/// Whether a unit has ended, and how.
+#[derive(Clone, Copy, Debug, PartialEq, Eq)]
+pub enum UnitState {
+    /// It goes on.
+    Open,
+    /// It ended, and what it did stays.
+    Committed,
+    /// It ended, and what it did to recoverable files and queues is undone.
+    BackedOut,
+}
+
+/// What came of a command.
+#[derive(Drop)]
+pub enum Done {
+    /// It was executed by this unit, which may have begun with it, and is answered so.
+    Answered(UnitId, Answer),
+    /// It wasn't executed: this other unit holds what it uses.
+    MustWait(UnitId),
+}
+
+/// What came of an enqueue.
+#[derive(Clone, Copy, Debug, PartialEq, Eq)]
+pub enum Enqueued {
+    /// This unit, which may have begun with it, holds the value once more.
+    Taken(UnitId),
+    /// Nothing was taken: this other unit holds the value.
+    MustWait(UnitId),
+    /// Nothing was taken: the unit holds the value 65,535 times.
+    CountFull,
+}

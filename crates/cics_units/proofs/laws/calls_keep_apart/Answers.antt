@@ -1,5 +1,0 @@
-use Rattle.cics_units.proofs.States.{beginning-IsSound, execution-IsSound, end-IsSound, agrees_of, enqueue-IsSound, dequeue-IsSound, unlock-IsSound, ts_reading-IsSound}
-use Rattle.cics_units.proofs.laws.calls_keep_apart.Goals as goal
-
-pub returns : goal.returns
-returns c = record { begins = beginning-IsSound; executes = execution-IsSound; ends = end-IsSound; enqueues = enqueue-IsSound; dequeues = dequeue-IsSound; unlocks = unlock-IsSound; reads = ts_reading-IsSound; agrees = agrees_of }

@@ -1,6 +1,0 @@
-use Rattle.cics_units.proofs.PrefixImages.{prefix_images-AreImages}
-use Rattle.cics_units.proofs.Places.{beginning-IsPlaceOf, execution-IsPlaceOf, commit-IsPlaceOf, back_out-IsPlaceOf, image_of-AreImages}
-use Rattle.cics_units.proofs.laws.calls_keep_places.Goals as goal
-
-pub returns : goal.returns
-returns c = record { begins = beginning-IsPlaceOf; executes = execution-IsPlaceOf; commits = commit-IsPlaceOf; backs_out = back_out-IsPlaceOf; image = image_of-AreImages; prefix = λ s f p cells i holds. prefix_images-AreImages s f p cells i holds }
