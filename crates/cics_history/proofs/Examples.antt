@@ -4,17 +4,21 @@ use Rattle.std.specs.Prelude.{map}
 use Rattle.cics_names.specs.Keyed.{Bytes}
 use Rattle.cics_names.specs.declared.conditions.Condition.{Condition}
 use Rattle.cics_names.specs.declared.conditions.Condition.TheVariants.{Normal, Notfnd, Duprec, Qzero}
-use Rattle.cics_enqueue.specs.Resources.{bytes_of}
-use Rattle.cics_enqueue.specs.declared.resources.Resource.TheVariants.{FileKey, FilePrefix, TdRead as ReadingEnd, TdWrite as WritingEnd}
+use Rattle.std.specs.List.{list_any}
+use Rattle.cics_enqueue.specs.Resources.{bytes_of, is_one}
+use Rattle.cics_enqueue.specs.declared.resources.Resource.TheVariants.{FileKey, FilePrefix, TdRead as ReadingEnd, TdWrite as WritingEnd, User}
 use Rattle.cics_ksds.specs.declared.definition.FileDef.{FileDef}
 use Rattle.cics_transdata.specs.declared.queues.Recovery.TheVariants.{Logical}
 use Rattle.cics_history.specs.Openings.{OpeningState}
 use Rattle.cics_history.specs.History.{kept}
-use Rattle.cics_history.specs.Holding.{UnitsState, store_of, held_by, awaited}
+use Rattle.cics_history.specs.Holding.{UnitsState, store_of, held_by, awaited, value_holder}
+use Rattle.cics_history.specs.Execution.{place_at, item_asked}
+use Rattle.cics_history.specs.declared.ops.UnitState.TheVariants.{Open}
 use Rattle.cics_history.specs.Headline.{beginning}
 use Rattle.cics_history.specs.declared.ops.Op.TheVariants.{Write, Rewrite, Delete, DeleteGeneric, ReadUpdate, TsWrite, TsDelete, TdWrite, TdRead, TdDelete}
-use Rattle.cics_history.specs.Cells.{Cell, Key, Ts, Td, Content, content}
-use Rattle.cics_history.specs.Events.{Event, Execute, Commit, BackOut, run}
+use Rattle.cics_history.specs.Cells.{Cell, Key, Ts, Td, Content, content, End, Reading, Writing}
+use Rattle.cics_history.specs.Holders.{end_of}
+use Rattle.cics_history.specs.Events.{Event, Execute, Commit, BackOut, Enqueue, Dequeue, Unlock, ReadItem, run}
 use Rattle.cics_history.specs.InPlace.{content_in_place, parts_opened, run_in_place}
 
 -- a recoverable file with one record, an unrecoverable file, a recoverable prefix, and a LOGICAL queue with one
@@ -187,6 +191,16 @@ both_gone = refl
 
 both_gone_replayed : replayed (two_ends (BackOut 0 ∷ BackOut 1 ∷ [])) (Td queue) ≡ Some ((7 ∷ []) ∷ [])
 both_gone_replayed = refl
+
+-- each end is named where it was used, and no other is
+abbrev names_end : UnitsState → ℕ → End → Bool
+names_end s unit end = list_any (is_one (end_of queue end)) (held_by s unit)
+
+ends_named : (names_end held 0 Writing ≡ true) × (names_end held 0 Reading ≡ false) × (names_end held 1 Reading ≡ true)
+ends_named = (refl, refl, refl)
+
+ended_unnamed : names_end (after (two_ends (Commit 0 ∷ []))) 0 Writing ≡ false
+ended_unnamed = refl
 
 -- each end is held until its unit ends: nobody else writes, and nobody else reads
 writing_end_held : awaited held None (TdWrite queue (9 ∷ [])) ≡ Some 0
@@ -368,3 +382,110 @@ unrecovered_gone = refl
 
 unrecovered_waits : awaited (after (Execute None (Write log (4 ∷ []) (4 ∷ [])) ∷ Execute (Some 0) (ReadUpdate log (4 ∷ [])) ∷ [])) None (DeleteGeneric log []) ≡ Some 0
 unrecovered_waits = refl
+
+-- ---- ENQ, DEQ, UNLOCK and READQ TS among the other events
+
+abbrev counter : Bytes
+counter = 67 ∷ []
+
+-- an ENQ of a task without a unit begins one, which holds the value; the history has nothing of it
+abbrev enqueued : UnitsState
+enqueued = after (Enqueue None counter ∷ [])
+
+enqueued_begins : (enqueued.outcomes ≡ Open ∷ []) × (enqueued.trace ≡ [])
+enqueued_begins = (refl, refl)
+
+enqueued_holds : held_by enqueued 0 ≡ User (bytes_of counter) ∷ []
+enqueued_holds = refl
+
+-- another that must wait for it changes nothing, and begins no unit
+enqueue_waits : (value_holder enqueued None counter ≡ Some 0) × (after (Enqueue None counter ∷ Enqueue None counter ∷ []) ≡ enqueued)
+enqueue_waits = (refl, refl)
+
+-- the unit itself holds it twice then, and gives it back with its second DEQ
+abbrev enqueued_twice : List Event → UnitsState
+enqueued_twice rest = after (Enqueue None counter ∷ Enqueue (Some 0) counter ∷ Dequeue 0 counter ∷ rest)
+
+dequeued_once : value_holder (enqueued_twice []) None counter ≡ Some 0
+dequeued_once = refl
+
+dequeued_twice : (held_by (enqueued_twice (Dequeue 0 counter ∷ [])) 0 ≡ []) × (value_holder (enqueued_twice (Dequeue 0 counter ∷ [])) None counter ≡ None)
+dequeued_twice = (refl, refl)
+
+-- a DEQ of a unit that hasn't begun changes nothing, and neither does one of a value that isn't held
+dequeue_of_none : (after (Enqueue None counter ∷ Dequeue 1 counter ∷ []) ≡ enqueued) × (after (Enqueue None counter ∷ Dequeue 0 queue ∷ []) ≡ enqueued)
+dequeue_of_none = (refl, refl)
+
+-- a unit that ends gives its values up, and from then on its calls change nothing
+enqueue_ended : value_holder (after (Enqueue None counter ∷ Commit 0 ∷ [])) None counter ≡ None
+enqueue_ended = refl
+
+enqueue_after_end : after (Enqueue None counter ∷ BackOut 0 ∷ Enqueue (Some 0) counter ∷ []) ≡ after (Enqueue None counter ∷ BackOut 0 ∷ [])
+enqueue_after_end = refl
+
+-- UNLOCK frees the record of an update read where the file isn't recoverable
+abbrev read_for_update : List Event → UnitsState
+read_for_update rest =
+    after (Execute None (Write log (4 ∷ []) (4 ∷ [])) ∷ Execute (Some 0) (ReadUpdate log (4 ∷ [])) ∷ rest)
+
+read_holds : awaited (read_for_update []) None (Delete log (4 ∷ [])) ≡ Some 0
+read_holds = refl
+
+unlocked_frees : awaited (read_for_update (Unlock 0 log ∷ [])) None (Delete log (4 ∷ [])) ≡ None
+unlocked_frees = refl
+
+-- another unit's UNLOCK doesn't
+unlocked_by_other : awaited (read_for_update (Enqueue None counter ∷ Unlock 1 log ∷ [])) None (Delete log (4 ∷ [])) ≡ Some 0
+unlocked_by_other = refl
+
+-- in a recoverable file the record stays held until the unit ends
+abbrev unlocked_acct : UnitsState
+unlocked_acct = after (Execute None (ReadUpdate acct (1 ∷ [])) ∷ Unlock 0 acct ∷ [])
+
+unlocked_stays_held : (unlocked_acct.reads ≡ []) × (awaited unlocked_acct None (Delete acct (1 ∷ [])) ≡ Some 0)
+unlocked_stays_held = (refl, refl)
+
+-- READQ TS sets the NEXT place where the item is there; with its queue the place goes
+abbrev two_items : List Event → UnitsState
+two_items rest = after (Execute None (TsWrite scratch (40 ∷ [])) ∷ Execute (Some 0) (TsWrite scratch (41 ∷ [])) ∷ rest)
+
+item_read : place_at (two_items (ReadItem scratch 1 ∷ [])) scratch ≡ 1
+item_read = refl
+
+next_is_second : item_asked (two_items (ReadItem scratch 1 ∷ [])) scratch None ≡ 2
+next_is_second = refl
+
+absent_item : place_at (two_items (ReadItem scratch 1 ∷ ReadItem scratch 3 ∷ [])) scratch ≡ 1
+absent_item = refl
+
+place_gone : place_at (two_items (ReadItem scratch 2 ∷ BackOut 0 ∷ [])) scratch ≡ 0
+place_gone = refl
+
+-- a unit that began with an ENQ is rolled back, and all of these calls stand between its commands
+abbrev with_calls : List Event
+with_calls =
+    Enqueue None counter
+    ∷ Execute (Some 0) (ReadUpdate acct (1 ∷ []))
+    ∷ Execute (Some 0) (Rewrite acct (1 ∷ []) (1 ∷ 11 ∷ []))
+    ∷ Execute (Some 0) (TsWrite scratch (40 ∷ []))
+    ∷ ReadItem scratch 1
+    ∷ Dequeue 0 counter
+    ∷ Enqueue None counter
+    ∷ Execute (Some 0) (ReadUpdate acct (1 ∷ []))
+    ∷ Unlock 0 acct
+    ∷ Execute (Some 1) (TdWrite queue (8 ∷ []))
+    ∷ BackOut 0
+    ∷ []
+
+with_calls_ran : answers (after with_calls) ≡ Normal ∷ Normal ∷ Normal ∷ Normal ∷ Normal ∷ []
+with_calls_ran = refl
+
+with_calls_placed : (placed with_calls (Key acct (1 ∷ [])) ≡ Some ((1 ∷ 10 ∷ []) ∷ [])) × (placed with_calls (Ts scratch) ≡ Some [])
+with_calls_placed = (refl, refl)
+
+with_calls_replayed : replayed with_calls (Key acct (1 ∷ [])) ≡ Some ((1 ∷ 10 ∷ []) ∷ [])
+with_calls_replayed = refl
+
+-- the other unit goes on holding its value and its end of the queue, and the unit that ended holds nothing
+with_calls_held : (held_by (after with_calls) 1 ≡ WritingEnd queue ∷ User (bytes_of counter) ∷ []) × (held_by (after with_calls) 0 ≡ [])
+with_calls_held = (refl, refl)

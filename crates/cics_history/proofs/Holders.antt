@@ -1,6 +1,6 @@
 -- At most one unit holds a resource, whatever was executed, enqueued and ended.
 use Rattle.std.proofs.Common.{◌≡◌, ℕ, ◌+◌, ltb, Bool, true, false, ◌&&◌, ◌||◌, not, Option, Some, None, List, [], ◌∷◌, ◌++◌, length, refl, ap, sym, subst, ◌∙◌, eqb, ◌⊎◌, inl, inr, ◌<◌}
-use Rattle.std.specs.Prelude.{if◌then◌else◌, ◌-◌, ◌==◌, nat_lt, map, filter, flat_map, slice_set}
+use Rattle.std.specs.Prelude.{if◌then◌else◌, ◌-◌, ◌==◌, nat_lt, filter, flat_map, slice_set}
 use Rattle.std.specs.List.{list_any}
 use Rattle.std.proofs.lemmas.Bool.{true≢false, false≢true, cases_Bool, eq-eqb, eqb-true, eqb-false, and_parts, and_from, or_cases, or_left, or_right}
 use Rattle.std.proofs.lemmas.List.Folds.{list_any-append}
@@ -13,7 +13,7 @@ use Rattle.cics_enqueue.specs.declared.resources.Resource.TheVariants.{FileKey, 
 use Rattle.cics_history.specs.Openings.{OpeningState}
 use Rattle.cics_history.specs.Store.{is_normal, is_recoverable}
 use Rattle.cics_history.specs.History.{outcome_of, is_open}
-use Rattle.cics_history.specs.Holding.{UnitsState, UpdateRead, EnqCount, uses_of, held_by_entry, held_by_read, held_by_count, held_by, units_from, held_table, first_held, first_holder, first_some, holder_among}
+use Rattle.cics_history.specs.Holding.{UnitsState, UpdateRead, EnqCount, uses_of, held_by_entry, held_by_read, held_by_count, held_by, held_table, first_held, first_holder, first_some, holder_among}
 use Rattle.cics_history.specs.Execution.{unit_or_next, outcomes_with, with_read, is_read_before, covers, opened, reads_after, entered, is_count, counted, uncounted, with_counts, after_dequeue, after_unlock, after_end}
 use Rattle.cics_history.specs.declared.ops.Op.{Op}
 use Rattle.cics_history.specs.declared.ops.Op.TheVariants.{ReadUpdate}
@@ -24,7 +24,7 @@ use Rattle.cics_history.specs.declared.ops.Entry.{Entry}
 use Rattle.cics_history.specs.Isolation.{Each, AreKnown}
 use Rattle.cics_history.specs.Holders.{meet, IsHeldByOne, HaveBegun}
 use Rattle.cics_history.proofs.Outcomes.{outcome_of-with, outcome_of-set}
-use Rattle.cics_history.proofs.Waiting.{any_map, any_flat_map, any_more, one_begins, begins_same, lesser_cases, none_first, none_either, in_table, other_unit}
+use Rattle.cics_history.proofs.Waiting.{any_flat_map, any_more, one_begins, begins_same, lesser_cases, none_first, none_either, is_of, table_holds, in_table, other_unit}
 
 -- ---- Lists
 
@@ -470,44 +470,16 @@ found_in (e ∷ t) u r m h = elim (cases_Bool (overlaps r e.0 && is_other u e.1.
   | inr n ↦ or_right _ _ (found_in t u r m (rw n at h))
 ]
 
-pub one_unit : (P : ℕ → Bool) (m : ℕ) (ks : List ℕ) → list_any (λ k. P k && eqb k m) ks ≡ true → P m ≡ true
-one_unit P m [] h = absurd (false≢true h)
-one_unit P m (k ∷ ks) h = elim (or_cases (P k && eqb k m) (list_any (λ k. P k && eqb k m) ks) h) [
-  | inl y ↦ let both = and_parts (P k) (eqb k m) y in subst (λ z. P z ≡ true) (eqb-true k m both.1) both.0
-  | inr y ↦ one_unit P m ks y
-]
-
 pub found_holds : (s : UnitsState) (u : Option ℕ) (r : Resource) (m : ℕ) →
     first_holder (held_table s) u r ≡ Some m → list_any (overlaps r) (held_by s m) ≡ true
 found_holds s u r m h =
-    one_unit (λ k. list_any (overlaps r) (held_by s k)) m (units_from 0 s.outcomes)
-    (any_more (λ k. list_any (found_one u r m) (map (λ y. (y, record { unit = k; count = 1 })) (held_by s k)))
-    (λ k. list_any (overlaps r) (held_by s k) && eqb k m) own (units_from 0 s.outcomes)
-    (sym (any_flat_map (λ k. map (λ y. (y, record { unit = k; count = 1 })) (held_by s k)) (found_one u r m)
-    (units_from 0 s.outcomes)) ∙ found_in (held_table s) u r m h))
+    table_holds s (overlaps r) m
+    (any_more (found_one u r m) (is_of (overlaps r) m) theirs (held_table s) (found_in (held_table s) u r m h))
   where
-    among : (k : ℕ) (rs : List Resource) →
-        list_any (λ y. overlaps r y && (is_other u k && eqb k m)) rs ≡ true →
-        (list_any (overlaps r) rs && eqb k m) ≡ true
-    among k [] h = absurd (false≢true h)
-    among k (y ∷ rs) h = elim
-        (or_cases (overlaps r y && (is_other u k && eqb k m))
-        (list_any (λ y. overlaps r y && (is_other u k && eqb k m)) rs) h) [
-          | inl z ↦
-              let a = and_parts (overlaps r y) (is_other u k && eqb k m) z in
-              let b = and_parts (is_other u k) (eqb k m) a.1 in
-              and_from _ _ (or_left _ _ a.0) b.1
-          | inr z ↦
-              let a = and_parts (list_any (overlaps r) rs) (eqb k m) (among k rs z) in
-              and_from _ _ (or_right _ _ a.0) a.1
-        ]
-
-    own : (k : ℕ) →
-        list_any (found_one u r m) (map (λ y. (y, record { unit = k; count = 1 })) (held_by s k)) ≡ true →
-        (list_any (overlaps r) (held_by s k) && eqb k m) ≡ true
-    own k t =
-        among k (held_by s k)
-        (sym (any_map (λ y. (y, record { unit = k; count = 1 })) (found_one u r m) (held_by s k)) ∙ t)
+    theirs : (e : Resource × Held) → found_one u r m e ≡ true → is_of (overlaps r) m e ≡ true
+    theirs e y =
+        let a = and_parts (overlaps r e.0) (is_other u e.1.unit && eqb e.1.unit m) y in
+        and_from _ _ a.0 (and_parts (is_other u e.1.unit) (eqb e.1.unit m) a.1).1
 
 -- what overlaps one resource that is no prefix overlaps
 overlaps-joined : (r s t : Resource) → is_prefix r ≡ false → overlaps r s ≡ true → overlaps r t ≡ true → overlaps s t ≡ true

@@ -1,22 +1,22 @@
 -- What is found for a resource is the least, in byte order, of what other units hold and overlaps it.
-use Rattle.std.proofs.Common.{is_some, ◌≡◌, ℕ, Bool, true, false, ◌&&◌, ◌||◌, Option, Some, None, List, [], ◌∷◌, refl, ap, sym, subst, ◌∙◌, eqb, inl, inr}
-use Rattle.std.specs.Prelude.{if◌then◌else◌, map}
+use Rattle.std.proofs.Common.{is_some, ◌≡◌, ℕ, Bool, true, false, ◌&&◌, ◌||◌, Option, Some, None, [], ◌∷◌, refl, ap, sym, subst, ◌∙◌, inl, inr}
+use Rattle.std.specs.Prelude.{if◌then◌else◌}
 use Rattle.std.specs.List.{list_any}
 use Rattle.std.specs.Ordering.{is_lt, ordering_reverse}
 use Rattle.std.specs.declared.cmp.Ordering.{Ordering}
 use Rattle.std.specs.declared.cmp.Ordering.TheVariants.{Less, Equal, Greater}
 use Rattle.std.specs.Cmp.{tied_itself}
 use Rattle.std.specs.Cmp.Lexicographic.{nat_list_cmp_total}
-use Rattle.std.proofs.lemmas.Bool.{true≢false, false≢true, cases_Bool, eq-eqb, and_parts, and_from, or_cases, or_from, or_left, or_right, false_from_ne_true}
+use Rattle.std.proofs.lemmas.Bool.{true≢false, false≢true, cases_Bool, eq-eqb, and_parts, and_from, or_from, or_left, or_right, false_from_ne_true}
 use Rattle.cics_names.specs.Keyed.{Bytes, bytes_cmp, is_below}
 use Rattle.cics_enqueue.specs.Resources.{Table, Held, is_one, overlaps, is_other, lesser, place_of}
 use Rattle.cics_enqueue.specs.ResourceLaws.{is_one-self, is_one-eq}
 use Rattle.cics_enqueue.specs.declared.resources.Resource.{Resource}
-use Rattle.cics_history.specs.Holding.{UnitsState, held_by, held_table, units_from, first_held, first_holder}
+use Rattle.cics_history.specs.Holding.{UnitsState, held_by, held_table, first_held, first_holder}
 use Rattle.cics_history.specs.Holders.{IsLeastHeld}
 use Rattle.cics_history.specs.Isolation.{IsSound}
-use Rattle.cics_history.proofs.Waiting.{any_map, any_flat_map, any_more, any_less, stands_one, in_table, none_held, none_first}
-use Rattle.cics_history.proofs.Holders.{holder_begun, one_unit}
+use Rattle.cics_history.proofs.Waiting.{any_more, any_less, is_of, table_holds, stands_one, in_table, none_held, none_first}
+use Rattle.cics_history.proofs.Holders.{holder_begun}
 
 -- ---- The order of bytes
 
@@ -131,33 +131,6 @@ first_least (d ∷ t) u r e h =
             ]
 
 -- ---- Who holds it
-
--- an entry is of a resource that passes, and this unit's
-abbrev is_of : (Resource → Bool) → ℕ → Resource × Held → Bool
-is_of p m d = p d.0 && eqb d.1.unit m
-
--- what stands in the table under a unit the unit holds
-table_holds : (s : UnitsState) (p : Resource → Bool) (m : ℕ) → list_any (is_of p m) (held_table s) ≡ true →
-    list_any p (held_by s m) ≡ true
-table_holds s p m h =
-    one_unit (λ k. list_any p (held_by s k)) m (units_from 0 s.outcomes)
-    (any_more (λ k. list_any (is_of p m) (map (λ y. (y, record { unit = k; count = 1 })) (held_by s k)))
-    (λ k. list_any p (held_by s k) && eqb k m) own (units_from 0 s.outcomes)
-    (sym (any_flat_map (λ k. map (λ y. (y, record { unit = k; count = 1 })) (held_by s k)) (is_of p m)
-    (units_from 0 s.outcomes)) ∙ h))
-  where
-    among : (k : ℕ) (rs : List Resource) → list_any (λ y. p y && eqb k m) rs ≡ true → (list_any p rs && eqb k m) ≡ true
-    among k [] h = absurd (false≢true h)
-    among k (y ∷ rs) h = elim (or_cases (p y && eqb k m) (list_any (λ y. p y && eqb k m) rs) h) [
-      | inl z ↦ let a = and_parts (p y) (eqb k m) z in and_from _ _ (or_left _ _ a.0) a.1
-      | inr z ↦ let a = and_parts (list_any p rs) (eqb k m) (among k rs z) in and_from _ _ (or_right _ _ a.0) a.1
-    ]
-
-    own : (k : ℕ) → list_any (is_of p m) (map (λ y. (y, record { unit = k; count = 1 })) (held_by s k)) ≡ true →
-        (list_any p (held_by s k) && eqb k m) ≡ true
-    own k t =
-        among k (held_by s k)
-        (sym (any_map (λ y. (y, record { unit = k; count = 1 })) (is_of p m) (held_by s k)) ∙ t)
 
 -- a resource overlaps another and comes before an entry
 abbrev is_low : Resource → Resource × Held → Resource → Bool

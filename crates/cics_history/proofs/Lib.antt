@@ -14,8 +14,10 @@ pub mod SerialLists
 mod Serial
 pub mod Waiting
 pub mod Outcomes
+pub mod SameHistory
 pub mod Holders
 mod LeastHeld
+pub mod EndsHeld
 pub mod States
 pub mod Stores
 pub mod SerialTurns

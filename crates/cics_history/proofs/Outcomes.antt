@@ -5,6 +5,7 @@ use Rattle.std.proofs.lemmas.Option.{unwrap_or-slice_get}
 use Rattle.std.proofs.lemmas.List.{get_or-set_other}
 use Rattle.cics_history.specs.History.{outcome_of}
 use Rattle.cics_history.specs.Execution.{outcomes_with}
+use Rattle.cics_history.specs.Isolation.{Outcomes}
 use Rattle.cics_history.specs.declared.ops.UnitState.{UnitState}
 use Rattle.cics_history.specs.declared.ops.UnitState.TheVariants.{Open}
 
@@ -19,6 +20,17 @@ pub outcome_of-with : (u : Option ℕ) (outs : List UnitState) (n : ℕ) →
     outcome_of (outcomes_with u outs) n ≡ outcome_of outs n
 outcome_of-with None outs n = outcome_of-push outs n
 outcome_of-with (Some u) outs n = refl
+
+-- outcomes that are alike of each unit are the same
+pub same_function : (f g : Outcomes) → ((n : ℕ) → f n ≡ g n) → f ≡ g
+same_function f g h = λ i n. h n i
+
+-- so the outcomes stay where one begins, or none
+pub same_outcomes : (u : Option ℕ) (outs : List UnitState) →
+    outcome_of outs ≡ outcome_of (outcomes_with u outs)
+same_outcomes u outs =
+    same_function (outcome_of outs) (outcome_of (outcomes_with u outs))
+    (λ n. sym (outcome_of-with u outs n))
 
 -- and one that ends changes no other
 pub outcome_of-set : (outs : List UnitState) (u n : ℕ) (oc : UnitState) → n ≢ u →

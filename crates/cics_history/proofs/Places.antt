@@ -4,11 +4,12 @@ use Rattle.std.specs.Prelude.{if◌then◌else◌, MatchBool, slice_set}
 use Rattle.std.proofs.lemmas.Bool.{false≢true, cases_Bool, cond_both, eqb-true, eqb-false, and_parts, and_cases, and_left, ltb-true}
 use Rattle.std.proofs.lemmas.Option.{unwrap_or-slice_get}
 use Rattle.std.proofs.lemmas.List.{get_or-set_same}
+use Rattle.cics_names.specs.Keyed.{Bytes}
 use Rattle.cics_history.specs.Openings.{OpeningState}
 use Rattle.cics_history.specs.Store.{apply}
 use Rattle.cics_history.specs.History.{outcome_of, is_open, is_backed_out}
 use Rattle.cics_history.specs.Holding.{UnitsState, store_of, awaited}
-use Rattle.cics_history.specs.Execution.{unit_or_next, outcomes_with, entered, state_of, after_execution, after_end}
+use Rattle.cics_history.specs.Execution.{unit_or_next, entered, state_of, after_execution, after_end, after_enqueue, after_dequeue, after_unlock, after_ts_reading}
 use Rattle.cics_history.specs.Headline.{beginning}
 use Rattle.cics_history.specs.declared.ops.Op.{Op}
 use Rattle.cics_history.specs.declared.ops.Entry.{Entry}
@@ -22,7 +23,8 @@ use Rattle.cics_history.proofs.Joining.{same_cell-true, same_cell-refl, touches-
 use Rattle.cics_history.proofs.Isolated.{Extends-refl, unrecovered}
 use Rattle.cics_history.proofs.Executes.{open_kept}
 use Rattle.cics_history.proofs.Waiting.{MayRun_from}
-use Rattle.cics_history.proofs.Outcomes.{outcome_of-with, outcome_of-set}
+use Rattle.cics_history.proofs.Outcomes.{same_function, same_outcomes, outcome_of-set}
+use Rattle.cics_history.proofs.SameHistory.{enqueue-same, dequeue-same, unlock-same, ts_reading-same}
 use Rattle.cics_history.proofs.States.{acting_open}
 use Rattle.cics_history.proofs.Undoing.{Leads-none, undone-at, store_by-alike, Extends-ended, puts, passes}
 
@@ -145,10 +147,7 @@ image_of-AreImages op s one x = single op (touches-named op one) x
           (λ t. refl))
     ]
 
--- outcomes as functions
-same_function : (f g : Outcomes) → ((n : ℕ) → f n ≡ g n) → f ≡ g
-same_function f g h = λ i n. h n i
-
+-- the outcomes after one ends
 pub ended_by_set : (outs : List UnitState) (v : ℕ) (oc : UnitState) → v < length outs →
     ended (outcome_of outs) v oc ≡ outcome_of (slice_set outs v oc)
 ended_by_set outs v oc less =
@@ -168,12 +167,6 @@ beginning-IsPlaceOf o = record {
   named = λ x u n. refl;
   bare = λ x u n. refl;
 }
-
-pub same_outcomes : (u : Option ℕ) (outs : List UnitState) →
-    outcome_of outs ≡ outcome_of (outcomes_with u outs)
-same_outcomes u outs =
-    same_function (outcome_of outs) (outcome_of (outcomes_with u outs))
-    (λ n. sym (outcome_of-with u outs n))
 
 pub entered-IsPlaceOf : (s : UnitsState) (p : Place) (u : Option ℕ) (op : Op) (new : List Image) →
     IsSound s → IsPlaceOf s p → may_act s u ≡ true → awaited s u op ≡ None → AreImages op p.cells new →
@@ -211,6 +204,23 @@ back_out-IsPlaceOf s p v h live =
     let a = and_parts _ _ live in
     subst (λ out. IsUndoable s.opening s.trace out (place_undone p v))
     (ended_by_set s.outcomes v BackedOut (ltb-true _ _ a.0)) (backs_out h v a.1)
+
+-- ENQ, DEQ, UNLOCK and READQ TS keep the place
+pub enqueue-IsPlaceOf : (s : UnitsState) (p : Place) (u : Option ℕ) (v : Bytes) → IsPlaceOf s p →
+    IsPlaceOf (after_enqueue s u v) p
+enqueue-IsPlaceOf s p u v h = enqueue-same (λ o es out. IsUndoable o es out p) s h u v
+
+pub dequeue-IsPlaceOf : (s : UnitsState) (p : Place) (u : ℕ) (v : Bytes) → IsPlaceOf s p →
+    IsPlaceOf (after_dequeue s u v) p
+dequeue-IsPlaceOf s p u v h = dequeue-same (λ o es out. IsUndoable o es out p) s h u v
+
+pub unlock-IsPlaceOf : (s : UnitsState) (p : Place) (u : ℕ) (f : Bytes) → IsPlaceOf s p →
+    IsPlaceOf (after_unlock s u f) p
+unlock-IsPlaceOf s p u f h = unlock-same (λ o es out. IsUndoable o es out p) s h u f
+
+pub ts_reading-IsPlaceOf : (s : UnitsState) (p : Place) (q : Bytes) (n : ℕ) → IsPlaceOf s p →
+    IsPlaceOf (after_ts_reading s q n) p
+ts_reading-IsPlaceOf s p q n h = ts_reading-same (λ o es out. IsUndoable o es out p) s h q n
 
 -- LEADING BACK
 pub leads_back : (s : UnitsState) (p : Place) (v : ℕ) (x : Cell) → IsPlaceOf s p → is_live s v ≡ true →

@@ -14,7 +14,7 @@ use Rattle.cics_history.specs.Headline.{beginning}
 use Rattle.cics_history.specs.declared.ops.Entry.{Entry}
 use Rattle.cics_history.specs.declared.ops.Op.TheVariants.{Write, Rewrite, Delete, ReadUpdate, TsWrite, TsRewrite, TdWrite, TdRead, TdDelete}
 use Rattle.cics_history.specs.Cells.{Cell, Key, Ts, Td, Content, content}
-use Rattle.cics_history.specs.Events.{Event, Execute, Commit, BackOut, run}
+use Rattle.cics_history.specs.Events.{Event, Execute, Commit, BackOut, Enqueue, Dequeue, ReadItem, run}
 use Rattle.cics_history.specs.Serial.{commit_order, one_by_one, store_without_others, serial_store}
 
 -- a recoverable file with one record, an unrecoverable file, a recoverable prefix, and a LOGICAL queue with one record
@@ -336,3 +336,22 @@ unprotected_given = refl
 
 unprotected_by_turns : all_by_turns unprotected (1 ∷ 0 ∷ []) ≡ Notfnd ∷ Normal ∷ []
 unprotected_by_turns = refl
+
+-- ---- A unit that began with an ENQ, or did nothing else, is in the order where it commits
+
+abbrev enqueued_first : List Event
+enqueued_first =
+    Enqueue None acct
+    ∷ Enqueue None log
+    ∷ Execute (Some 0) (Rewrite acct (1 ∷ []) (1 ∷ 11 ∷ []))
+    ∷ Commit 1
+    ∷ ReadItem scratch 1
+    ∷ Dequeue 0 acct
+    ∷ Commit 0
+    ∷ []
+
+enqueued_order : order enqueued_first ≡ 1 ∷ 0 ∷ []
+enqueued_order = refl
+
+enqueued_by_turns : all_by_turns enqueued_first (1 ∷ 0 ∷ []) ≡ Normal ∷ []
+enqueued_by_turns = refl

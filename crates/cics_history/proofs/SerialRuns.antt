@@ -1,35 +1,33 @@
 -- Every call of the units keeps them in serial order, so every run does.
-use Rattle.std.proofs.Common.{arith, ◌≡◌, ℕ, true, false, not, ◌||◌, Option, Some, None, List, [], ◌∷◌, ◌++◌, length, refl, ap, sym, subst, ◌∙◌, ◌<◌, eqb, leb, ltb, inl, inr, ◌⊎◌}
+use Rattle.std.proofs.Common.{arith, ◌≡◌, ℕ, true, false, not, ◌||◌, Option, Some, None, List, [], ◌∷◌, ◌++◌, length, refl, ap, sym, subst, ◌∙◌, ◌<◌, eqb, ltb, inl, inr, ◌⊎◌}
 use Rattle.std.specs.Prelude.{if◌then◌else◌, unwrap_or, slice_set, IsPermutation}
 use Rattle.std.proofs.Math.Bool.{or-false}
 use Rattle.std.proofs.lemmas.Bool.{true≢false, false≢true, cases_Bool, cond_both, and_parts, and_from, not-true, lt-ltb, ltb-true, eqb-true, eq-eqb, or_left, or_right}
 use Rattle.std.proofs.lemmas.Option.{unwrap_or-slice_get, slice_get_past}
 use Rattle.std.proofs.lemmas.List.{get_or-set_same, append-nil, append_assoc}
 use Rattle.std.proofs.lemmas.List.Folds.{list_any-append}
-use Rattle.cics_names.specs.Keyed.{Bytes, value_at, with_value}
-use Rattle.cics_tempstor.specs.Queues.{has_item}
-use Rattle.cics_enqueue.specs.Resources.{most_count}
+use Rattle.cics_names.specs.Keyed.{Bytes, value_at}
 use Rattle.cics_history.specs.Openings.{OpeningState, IsOpeningInOrder}
-use Rattle.cics_history.specs.Store.{Store, apply, initial_store, ts_queue}
+use Rattle.cics_history.specs.Store.{Store, apply, initial_store}
 use Rattle.cics_history.specs.History.{outcome_of, is_open, is_backed_out, replay, Agrees}
-use Rattle.cics_history.specs.Holding.{UnitsState, store_of, awaited, value_holder}
-use Rattle.cics_history.specs.Execution.{unit_or_next, outcomes_with, entered, state_of, after_execution, after_end, count_at, enq_of, after_enqueued, after_enqueue, after_dequeue, after_unlock, after_ts_reading}
+use Rattle.cics_history.specs.Holding.{UnitsState, store_of, awaited}
+use Rattle.cics_history.specs.Execution.{unit_or_next, outcomes_with, entered, state_of, after_execution, after_end, after_enqueue, after_dequeue, after_unlock, after_ts_reading}
 use Rattle.cics_history.specs.Headline.{beginning, IsSameRecoverable}
 use Rattle.cics_history.specs.declared.ops.Op.{Op}
 use Rattle.cics_history.specs.declared.ops.Entry.{Entry}
 use Rattle.cics_history.specs.declared.ops.UnitState.{UnitState}
 use Rattle.cics_history.specs.declared.ops.UnitState.TheVariants.{Open, Committed, BackedOut}
-use Rattle.cics_history.specs.declared.ops.Enqueued.TheVariants.{Taken, CountFull}
-use Rattle.cics_history.specs.Cells.{Cell, Key, Ts, Td, content, recovers, IsCanonical}
-use Rattle.cics_history.specs.Events.{Event, Execute, Commit, BackOut, is_live, may_act, happens, run}
+use Rattle.cics_history.specs.Cells.{Cell, Key, Ts, Td, content, recovers, IsOrdered, IsCanonical}
+use Rattle.cics_history.specs.Events.{Event, Execute, Commit, BackOut, Enqueue, Dequeue, Unlock, ReadItem, is_live, may_act, happens, run}
 use Rattle.cics_history.specs.Isolation.{Outcomes, Extends, left_by, AreKnown, IsSound}
-use Rattle.cics_history.specs.Serial.{among, committed_by, commit_order, is_committed, are_distinct, IsCommitOrder, done_by_any, one_by_one, AreOpen, are_backed_out_but, store_without_others, AreAllOpen, NoneIsOpen, serial_store, IsSerial, IsInOrder}
+use Rattle.cics_history.specs.Serial.{among, committed_by, commit_order, is_committed, are_distinct, IsCommitOrder, done_by_any, one_by_one, AreOpen, are_backed_out_but, store_without_others, AreAllOpen, NoneIsOpen, serial_store, IsSerial, OrderIsSerial, EachCanBeLast, IsInOrder}
 use Rattle.cics_history.proofs.Executes.{open_kept}
 use Rattle.cics_history.proofs.Replays.{Each_more}
 use Rattle.cics_history.proofs.Stores.{same_file, same_queue, initial-canonical, replay-canonical}
 use Rattle.cics_history.proofs.Outcomes.{outcome_of-with, outcome_of-set}
 use Rattle.cics_history.proofs.Waiting.{MayRun_from}
 use Rattle.cics_history.proofs.States.{acting_open, happens-IsSound, beginning-IsSound, run-IsSound, run-opening}
+use Rattle.cics_history.proofs.SameHistory.{enqueue-same, dequeue-same, unlock-same, ts_reading-same}
 use Rattle.cics_history.proofs.SerialLists.{eqb-turned, or_neither}
 use Rattle.cics_history.proofs.SerialTurns.{turns_permute, distinct_behind}
 use Rattle.cics_history.proofs.Serial.{same_left, executes-last, executes-serial, open_last, ends-last, ends-serial, commits-serial}
@@ -168,57 +166,44 @@ execution-IsInOrder s u op order sound i acts =
       | Some holder ↦ λ waits. i
     ] refl
 
--- ENQ, DEQ, UNLOCK and READQ TS
+-- ENQ, DEQ, UNLOCK and READQ TS: what an order says, it says of the opening, the history and the outcomes alone
+abbrev IsOrderOf : List ℕ → OpeningState → List Entry → Outcomes → Type 0
+IsOrderOf order o es out =
+    IsOrdered (initial_store o) × ((u : ℕ) → among u order ≡ is_committed (out u)) × OrderIsSerial o es out order × EachCanBeLast o es out
+
+module _ (s : UnitsState) (order : List ℕ) (i : IsInOrder s order) where
+  -- what an order says
+  said : IsOrderOf order s.opening s.trace (outcome_of s.outcomes)
+  said = (i.ordered, i.commits.committed, i.serial, i.last)
+
+  -- where it is said of a state, the units are in this order there
+  in_order_of : (t : UnitsState) → IsOrderOf order t.opening t.trace (outcome_of t.outcomes) → IsInOrder t order
+  in_order_of t (ordered, committed, serial, last) = record {
+    ordered = ordered;
+    commits = record { committed = committed; once = i.commits.once };
+    serial = serial;
+    last = last;
+  }
+
 pub enqueue-IsInOrder : (s : UnitsState) (u : Option ℕ) (v : Bytes) (order : List ℕ) → IsInOrder s order →
     IsInOrder (after_enqueue s u v) order
 enqueue-IsInOrder s u v order i =
-    elim (value_holder s u v) as (λ h. IsInOrder (after_enqueued s u v (enq_of s u v h)) order) [
-      | Some holder ↦ i
-      | None ↦ elim (leb most_count (count_at s.counts (unit_or_next u s.outcomes) v)) as
-          (λ b. IsInOrder (after_enqueued s u v (if b then CountFull else Taken (unit_or_next u s.outcomes))) order) [
-            | true ↦ i
-            | false ↦ record {
-              ordered = i.ordered;
-              commits = with-order s (after_enqueued s u v (Taken (unit_or_next u s.outcomes))) u order refl i.commits;
-              serial = ends-serial order i.serial (λ n shut. outcome_of-with u s.outcomes n) (still_open u s.outcomes);
-              last = ends-last i.last (λ n shut. outcome_of-with u s.outcomes n);
-            }
-          ]
-    ]
-
--- what an order says, it says of the opening, the trace and the outcomes alone
-same_parts : (s t : UnitsState) (order : List ℕ) → t.opening ≡ s.opening → t.trace ≡ s.trace → t.outcomes ≡ s.outcomes →
-    IsInOrder s order → IsInOrder t order
-same_parts s t order a b c i = record {
-  ordered = rw a i.ordered;
-  commits = record { committed = λ n. i.commits.committed n ∙ ap (λ l. is_committed (outcome_of l n)) (sym c); once = i.commits.once };
-  serial = rw (a, b, c) i.serial;
-  last = rw (a, b, c) i.last;
-}
+    in_order_of s order i (after_enqueue s u v) (enqueue-same (IsOrderOf order) s (said s order i) u v)
 
 pub dequeue-IsInOrder : (s : UnitsState) (u : ℕ) (v : Bytes) (order : List ℕ) → IsInOrder s order →
     IsInOrder (after_dequeue s u v) order
-dequeue-IsInOrder s u v order i = same_parts s (after_dequeue s u v) order refl refl refl i
+dequeue-IsInOrder s u v order i =
+    in_order_of s order i (after_dequeue s u v) (dequeue-same (IsOrderOf order) s (said s order i) u v)
 
 pub unlock-IsInOrder : (s : UnitsState) (u : ℕ) (f : Bytes) (order : List ℕ) → IsInOrder s order →
     IsInOrder (after_unlock s u f) order
-unlock-IsInOrder s u f order i = same_parts s (after_unlock s u f) order refl refl refl i
+unlock-IsInOrder s u f order i =
+    in_order_of s order i (after_unlock s u f) (unlock-same (IsOrderOf order) s (said s order i) u f)
 
 pub ts_reading-IsInOrder : (s : UnitsState) (q : Bytes) (n : ℕ) (order : List ℕ) → IsInOrder s order →
     IsInOrder (after_ts_reading s q n) order
 ts_reading-IsInOrder s q n order i =
-    elim (has_item (ts_queue (store_of s) q) n) as
-    (λ b. IsInOrder (if b then record {
-      opening = s.opening;
-      trace = s.trace;
-      outcomes = s.outcomes;
-      reads = s.reads;
-      counts = s.counts;
-      next = with_value q n s.next;
-    } else s) order) [
-      | true ↦ record { ordered = i.ordered; commits = record { committed = i.commits.committed; once = i.commits.once }; serial = i.serial; last = i.last }
-      | false ↦ i
-    ]
+    in_order_of s order i (after_ts_reading s q n) (ts_reading-same (IsOrderOf order) s (said s order i) q n)
 
 -- ---- Runs
 
@@ -249,6 +234,20 @@ happens-IsInOrder s (BackOut u) order sound i =
     subst (λ l. IsInOrder (happens s (BackOut u)) l) (sym (append-nil order))
     (cond_both (is_live s u) (after_end s u BackedOut) s (λ t. IsInOrder t order)
     (λ t. backout-IsInOrder s u t order i) (λ f. i))
+happens-IsInOrder s (Enqueue u v) order sound i =
+    subst (λ l. IsInOrder (happens s (Enqueue u v)) l) (sym (append-nil order))
+    (cond_both (may_act s u) (after_enqueue s u v) s (λ t. IsInOrder t order)
+    (λ t. enqueue-IsInOrder s u v order i) (λ f. i))
+happens-IsInOrder s (Dequeue u v) order sound i =
+    subst (λ l. IsInOrder (happens s (Dequeue u v)) l) (sym (append-nil order))
+    (cond_both (is_live s u) (after_dequeue s u v) s (λ t. IsInOrder t order)
+    (λ t. dequeue-IsInOrder s u v order i) (λ f. i))
+happens-IsInOrder s (Unlock u f) order sound i =
+    subst (λ l. IsInOrder (happens s (Unlock u f)) l) (sym (append-nil order))
+    (cond_both (is_live s u) (after_unlock s u f) s (λ t. IsInOrder t order)
+    (λ t. unlock-IsInOrder s u f order i) (λ n. i))
+happens-IsInOrder s (ReadItem q n) order sound i =
+    subst (λ l. IsInOrder (happens s (ReadItem q n)) l) (sym (append-nil order)) (ts_reading-IsInOrder s q n order i)
 
 pub run-IsInOrder : (s : UnitsState) (events : List Event) (order : List ℕ) → IsSound s → IsInOrder s order →
     IsInOrder (run s events) (order ++ commit_order s events)

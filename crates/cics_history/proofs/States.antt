@@ -19,11 +19,12 @@ use Rattle.cics_history.specs.declared.ops.Op.{Op}
 use Rattle.cics_history.specs.declared.ops.Entry.{Entry}
 use Rattle.cics_history.specs.declared.ops.UnitState.{UnitState}
 use Rattle.cics_history.specs.declared.ops.UnitState.TheVariants.{Open, Committed, BackedOut}
-use Rattle.cics_history.specs.Events.{Event, Execute, Commit, BackOut, is_live, may_act, happens, run}
+use Rattle.cics_history.specs.Events.{Event, Execute, Commit, BackOut, Enqueue, Dequeue, Unlock, ReadItem, is_live, may_act, happens, run}
 use Rattle.cics_history.proofs.Effects.{Begins-refl}
 use Rattle.cics_history.proofs.Replays.{Each-push, Each_more}
 use Rattle.cics_history.proofs.Isolated.{Extends-refl}
 use Rattle.cics_history.proofs.Steps.{executes, ends}
+use Rattle.cics_history.proofs.SameHistory.{enqueue-same, ts_reading-same}
 use Rattle.cics_history.specs.Holders.{IsHeldByOne, HaveBegun}
 use Rattle.cics_enqueue.specs.Resources.{overlaps, is_other, is_prefix, most_count}
 use Rattle.cics_enqueue.specs.declared.resources.Resource.{Resource}
@@ -131,63 +132,6 @@ end-IsSound s u outcome i live = record {
     was_open : is_open (outcome_of s.outcomes u) ≡ true
     was_open = (and_parts (ltb u (length s.outcomes)) (is_open (outcome_of s.outcomes u)) live).1
 
-pub happens-IsSound : (s : UnitsState) (e : Event) → IsSound s → IsSound (happens s e)
-happens-IsSound s (Execute u op) i =
-    cond_both (may_act s u) (after_execution s u op) s IsSound (λ t. execution-IsSound s u op i t) (λ f. i)
-happens-IsSound s (Commit u) i =
-    cond_both (is_live s u) (after_end s u Committed) s IsSound (λ t. end-IsSound s u Committed i t)
-    (λ f. i)
-happens-IsSound s (BackOut u) i =
-    cond_both (is_live s u) (after_end s u BackedOut) s IsSound (λ t. end-IsSound s u BackedOut i t)
-    (λ f. i)
-
-pub run-IsSound : (s : UnitsState) (es : List Event) → IsSound s → IsSound (run s es)
-run-IsSound s [] i = i
-run-IsSound s (e ∷ es) i = run-IsSound (happens s e) es (happens-IsSound s e i)
-
-pub beginning-IsSound : (o : OpeningState) → IsOpeningInOrder o → IsSound (beginning o)
-beginning-IsSound o order = record {
-  isolated = record {
-    ordered = (initial-canonical o order).records;
-    answers = λ fin f. tt;
-    fronts = λ x r fin more f m a b. Begins-refl _;
-  };
-  known = tt;
-  begun = record { readers = λ n h. absurd (false≢true h); counters = λ n h. absurd (false≢true h) };
-  one = λ u n h. absurd (false≢true h);
-}
-
--- the opening stays
-pub agrees_of : (s : UnitsState) → IsSound s →
-    Agrees (initial_store s.opening) (kept s.opening s.trace s.outcomes)
-agrees_of s i = i.isolated.answers (outcome_of s.outcomes) (Extends-refl (outcome_of s.outcomes))
-
-execution_opening : (s : UnitsState) (u : Option ℕ) (op : Op) (h : Option ℕ) →
-    (state_of s u op h).opening ≡ s.opening
-execution_opening s u op None = refl
-execution_opening s u op (Some holder) = refl
-
-if_opening : (b : Bool) (t s : UnitsState) → t.opening ≡ s.opening → (if b then t else s).opening ≡ s.opening
-if_opening true t s e = e
-if_opening false t s e = refl
-
-pub happens-opening : (s : UnitsState) (e : Event) → (happens s e).opening ≡ s.opening
-happens-opening s (Execute u op) =
-    if_opening (may_act s u) (after_execution s u op) s (execution_opening s u op (awaited s u op))
-happens-opening s (Commit u) = if_opening (is_live s u) (after_end s u Committed) s refl
-happens-opening s (BackOut u) = if_opening (is_live s u) (after_end s u BackedOut) s refl
-
-pub run-opening : (s : UnitsState) (es : List Event) → (run s es).opening ≡ s.opening
-run-opening s [] = refl
-run-opening s (e ∷ es) = run-opening (happens s e) es ∙ happens-opening s e
-
-pub agrees : (o : OpeningState) (es : List Event) → IsOpeningInOrder o → let s = run (beginning o) es in
-    Agrees (initial_store o) (kept o s.trace s.outcomes)
-agrees o es order =
-    let s = run (beginning o) es in
-    subst (λ p. Agrees (initial_store p) (kept p s.trace s.outcomes)) (run-opening (beginning o) es)
-    (agrees_of s (run-IsSound (beginning o) es (beginning-IsSound o order)))
-
 -- ENQ, DEQ, UNLOCK and READQ TS add no entry
 pub enqueue-IsSound : (s : UnitsState) (u : Option ℕ) (v : Bytes) → IsSound s → may_act s u ≡ true →
     IsSound (after_enqueue s u v)
@@ -253,6 +197,77 @@ ts_reading-IsSound s q n i =
       begun = record { readers = i.begun.readers; counters = i.begun.counters };
       one = i.one;
     }) (λ f. i)
+
+-- every event, and so every run
+pub happens-IsSound : (s : UnitsState) (e : Event) → IsSound s → IsSound (happens s e)
+happens-IsSound s (Execute u op) i =
+    cond_both (may_act s u) (after_execution s u op) s IsSound (λ t. execution-IsSound s u op i t) (λ f. i)
+happens-IsSound s (Commit u) i =
+    cond_both (is_live s u) (after_end s u Committed) s IsSound (λ t. end-IsSound s u Committed i t)
+    (λ f. i)
+happens-IsSound s (BackOut u) i =
+    cond_both (is_live s u) (after_end s u BackedOut) s IsSound (λ t. end-IsSound s u BackedOut i t)
+    (λ f. i)
+happens-IsSound s (Enqueue u v) i =
+    cond_both (may_act s u) (after_enqueue s u v) s IsSound (λ t. enqueue-IsSound s u v i t) (λ f. i)
+happens-IsSound s (Dequeue u v) i =
+    cond_both (is_live s u) (after_dequeue s u v) s IsSound (λ t. dequeue-IsSound s u v i) (λ f. i)
+happens-IsSound s (Unlock u f) i =
+    cond_both (is_live s u) (after_unlock s u f) s IsSound (λ t. unlock-IsSound s u f i) (λ f. i)
+happens-IsSound s (ReadItem q n) i = ts_reading-IsSound s q n i
+
+pub run-IsSound : (s : UnitsState) (es : List Event) → IsSound s → IsSound (run s es)
+run-IsSound s [] i = i
+run-IsSound s (e ∷ es) i = run-IsSound (happens s e) es (happens-IsSound s e i)
+
+pub beginning-IsSound : (o : OpeningState) → IsOpeningInOrder o → IsSound (beginning o)
+beginning-IsSound o order = record {
+  isolated = record {
+    ordered = (initial-canonical o order).records;
+    answers = λ fin f. tt;
+    fronts = λ x r fin more f m a b. Begins-refl _;
+  };
+  known = tt;
+  begun = record { readers = λ n h. absurd (false≢true h); counters = λ n h. absurd (false≢true h) };
+  one = λ u n h. absurd (false≢true h);
+}
+
+-- what is kept has the answers that it was given
+pub agrees_of : (s : UnitsState) → IsSound s →
+    Agrees (initial_store s.opening) (kept s.opening s.trace s.outcomes)
+agrees_of s i = i.isolated.answers (outcome_of s.outcomes) (Extends-refl (outcome_of s.outcomes))
+
+-- the opening stays, through every event and every run
+execution_opening : (s : UnitsState) (u : Option ℕ) (op : Op) (h : Option ℕ) →
+    (state_of s u op h).opening ≡ s.opening
+execution_opening s u op None = refl
+execution_opening s u op (Some holder) = refl
+
+if_opening : (b : Bool) (t s : UnitsState) → t.opening ≡ s.opening → (if b then t else s).opening ≡ s.opening
+if_opening true t s e = e
+if_opening false t s e = refl
+
+pub happens-opening : (s : UnitsState) (e : Event) → (happens s e).opening ≡ s.opening
+happens-opening s (Execute u op) =
+    if_opening (may_act s u) (after_execution s u op) s (execution_opening s u op (awaited s u op))
+happens-opening s (Commit u) = if_opening (is_live s u) (after_end s u Committed) s refl
+happens-opening s (BackOut u) = if_opening (is_live s u) (after_end s u BackedOut) s refl
+happens-opening s (Enqueue u v) =
+    if_opening (may_act s u) (after_enqueue s u v) s (enqueue-same (λ o es out. o ≡ s.opening) s refl u v)
+happens-opening s (Dequeue u v) = if_opening (is_live s u) (after_dequeue s u v) s refl
+happens-opening s (Unlock u f) = if_opening (is_live s u) (after_unlock s u f) s refl
+happens-opening s (ReadItem q n) = ts_reading-same (λ o es out. o ≡ s.opening) s refl q n
+
+pub run-opening : (s : UnitsState) (es : List Event) → (run s es).opening ≡ s.opening
+run-opening s [] = refl
+run-opening s (e ∷ es) = run-opening (happens s e) es ∙ happens-opening s e
+
+pub agrees : (o : OpeningState) (es : List Event) → IsOpeningInOrder o → let s = run (beginning o) es in
+    Agrees (initial_store o) (kept o s.trace s.outcomes)
+agrees o es order =
+    let s = run (beginning o) es in
+    subst (λ p. Agrees (initial_store p) (kept p s.trace s.outcomes)) (run-opening (beginning o) es)
+    (agrees_of s (run-IsSound (beginning o) es (beginning-IsSound o order)))
 
 -- one holder for each resource is one unit at each end of a recoverable cell
 pub one_at_each_end : (s : UnitsState) → IsHeldByOne s →

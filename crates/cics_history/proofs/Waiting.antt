@@ -1,12 +1,13 @@
 -- Where no unit is awaited, no other open unit holds what the command uses.
-use Rattle.std.proofs.Common.{arith, ◌≡◌, ℕ, Bool, true, false, cond, ◌&&◌, ◌||◌, not, Option, Some, None, List, [], ◌∷◌, ◌++◌, length, refl, ap, sym, subst, ◌∙◌, eqb, ◌⊎◌, inl, inr, ◌<◌, ◌≤◌, ◌+◌}
+use Rattle.std.proofs.Common.{arith, ◌≡◌, ℕ, ltb, Bool, true, false, cond, ◌&&◌, ◌||◌, not, Option, Some, None, List, [], ◌∷◌, ◌++◌, length, refl, ap, sym, subst, ◌∙◌, eqb, ◌⊎◌, inl, inr, ◌<◌, ◌≤◌, ◌+◌}
 use Rattle.std.specs.Prelude.{if◌then◌else◌, filter, map, flat_map, unwrap_or, option_map}
 use Rattle.std.specs.List.{list_any}
-use Rattle.std.proofs.lemmas.Bool.{true≢false, false≢true, cases_Bool, eqb-true, eqb-false, eq-eqb, ne_eqb, and_parts, and_from, or_cases, or_left, or_right}
+use Rattle.std.proofs.lemmas.Bool.{true≢false, false≢true, cases_Bool, eqb-true, eqb-false, eq-eqb, ne_eqb, lt-ltb, ltb-true, and_parts, and_from, or_cases, or_left, or_right}
 use Rattle.std.proofs.lemmas.List.Folds.{list_any-append}
 use Rattle.cics_names.specs.Keyed.{Bytes, is_same, is_below}
 use Rattle.cics_names.specs.KeyedLaws.{is_same-self, is_same-eq}
 use Rattle.cics_enqueue.specs.Resources.{Table, Held, begins_with, overlaps, is_other, lesser, place_of}
+use Rattle.cics_enqueue.specs.ResourceLaws.{same_test}
 use Rattle.cics_enqueue.proofs.Seeking.{starts_with-begins}
 use Rattle.cics_ksds.specs.Prefixes.{has_prefix}
 use Rattle.cics_enqueue.specs.declared.resources.Resource.{Resource}
@@ -56,6 +57,15 @@ any_less p q h xs n =
       | inl y ↦ absurd (true≢false (sym (any_more p q h xs y) ∙ n))
       | inr m ↦ m
     ]
+
+-- a test and a truth beside it
+pub any_both : {A : Type 0} (p : A → Bool) (b : Bool) (xs : List A) → list_any (λ x. p x && b) xs ≡ true →
+    (list_any p xs && b) ≡ true
+any_both p b [] h = absurd (false≢true h)
+any_both p b (x ∷ xs) h = elim (or_cases (p x && b) (list_any (λ y. p y && b) xs) h) [
+  | inl y ↦ let a = and_parts (p x) b y in and_from _ _ (or_left (p x) (list_any p xs) a.0) a.1
+  | inr y ↦ let a = and_parts (list_any p xs) b (any_both p b xs y) in and_from _ _ (or_right (p x) (list_any p xs) a.0) a.1
+]
 
 -- the resource takes hold of this end of the cell
 abbrev pub covers : Cell → End → Resource → Bool
@@ -229,6 +239,7 @@ claims_held o x end n r e h =
     let rec : is_recoverable o e.op ≡ true = touches-recovers o e.op x c.0 ∙ r in
     rw (both.1, d.0, rec) (uses_of-covers o e.op x end c.0 d.1 rec)
 
+-- a test that a unit which has begun passes is passed by one of those that have begun
 unit_among : (q : ℕ → Bool) (n k : ℕ) (xs : List UnitState) → k ≤ n → n < k + length xs → q n ≡ true →
     list_any q (units_from k xs) ≡ true
 unit_among q n k [] a b h = absurd (omega arith)
@@ -241,20 +252,76 @@ unit_among q n k (x ∷ xs) a b h = elim (cases_Bool (eqb k n)) [
       or_right _ _ (unit_among q n (k + 1) xs above within h)
 ]
 
+-- a unit among those from some number on is below their end
+unit_below : (n k : ℕ) (xs : List UnitState) → list_any (λ m. eqb m n) (units_from k xs) ≡ true → n < k + length xs
+unit_below n k [] h = absurd (false≢true h)
+unit_below n k (x ∷ xs) h = elim (or_cases (eqb k n) (list_any (λ m. eqb m n) (units_from (k + 1) xs)) h) [
+  | inl y ↦ let same = eqb-true k n y in omega (arith, same)
+  | inr y ↦ let later = unit_below n (k + 1) xs y in omega (arith, later)
+]
+
+-- what one of them passes that is this unit, this unit passes
+one_unit : (P : ℕ → Bool) (m : ℕ) (ks : List ℕ) → list_any (λ k. P k && eqb k m) ks ≡ true → P m ≡ true
+one_unit P m [] h = absurd (false≢true h)
+one_unit P m (k ∷ ks) h = elim (or_cases (P k && eqb k m) (list_any (λ k. P k && eqb k m) ks) h) [
+  | inl y ↦ let both = and_parts (P k) (eqb k m) y in subst (λ z. P z ≡ true) (eqb-true k m both.1) both.0
+  | inr y ↦ one_unit P m ks y
+]
+
+-- an entry is of a resource that passes, and this unit's
+abbrev pub is_of : (Resource → Bool) → ℕ → Resource × Held → Bool
+is_of p m e = p e.0 && eqb e.1.unit m
+
+-- the table names a unit that has begun, at what the unit holds
+module _ (s : UnitsState) (p : Resource → Bool) (n : ℕ) where
+  abbrev entries_of : ℕ → Table
+  entries_of m = map (λ r. (r, record { unit = m; count = 1 })) (held_by s m)
+
+  pub table_names : list_any (is_of p n) (held_table s) ≡ (ltb n (length s.outcomes) && list_any p (held_by s n))
+  table_names = same_test (list_any (is_of p n) (held_table s)) (ltb n (length s.outcomes) && list_any p (held_by s n)) there back
+    where
+      of_unit : (m : ℕ) → list_any (is_of p n) (entries_of m) ≡ true → (list_any p (held_by s m) && eqb m n) ≡ true
+      of_unit m h =
+          any_both p (eqb m n) (held_by s m)
+          (sym (any_map (λ r. (r, record { unit = m; count = 1 })) (is_of p n) (held_by s m)) ∙ h)
+
+      there : list_any (is_of p n) (held_table s) ≡ true → (ltb n (length s.outcomes) && list_any p (held_by s n)) ≡ true
+      there h =
+          let found = any_more (λ m. list_any (is_of p n) (entries_of m)) (λ m. list_any p (held_by s m) && eqb m n) of_unit
+          (units_from 0 s.outcomes) (sym (any_flat_map entries_of (is_of p n) (units_from 0 s.outcomes)) ∙ h) in
+          let below = unit_below n 0 s.outcomes
+          (any_more (λ m. list_any p (held_by s m) && eqb m n) (λ m. eqb m n)
+          (λ m y. (and_parts (list_any p (held_by s m)) (eqb m n) y).1) (units_from 0 s.outcomes) found) in
+          let begun : n < length s.outcomes = omega (arith, below) in
+          and_from _ _ (lt-ltb n (length s.outcomes) begun) (one_unit (λ m. list_any p (held_by s m)) n (units_from 0 s.outcomes) found)
+
+      back : (ltb n (length s.outcomes) && list_any p (held_by s n)) ≡ true → list_any (is_of p n) (held_table s) ≡ true
+      back h =
+          let a = and_parts (ltb n (length s.outcomes)) (list_any p (held_by s n)) h in
+          let less : n < length s.outcomes = ltb-true n (length s.outcomes) a.0 in
+          any_flat_map entries_of (is_of p n) (units_from 0 s.outcomes)
+          ∙ unit_among (λ m. list_any (is_of p n) (entries_of m)) n 0 s.outcomes (omega arith) (omega (arith, less))
+          (any_map (λ r. (r, record { unit = n; count = 1 })) (is_of p n) (held_by s n)
+          ∙ any_more p (λ r. p r && eqb n n) (λ r y. and_from _ _ y (eq-eqb n n refl)) (held_by s n) a.1)
+
+-- what stands in the table under a unit the unit holds
+pub table_holds : (s : UnitsState) (p : Resource → Bool) (m : ℕ) → list_any (is_of p m) (held_table s) ≡ true →
+    list_any p (held_by s m) ≡ true
+table_holds s p m h =
+    (and_parts (ltb m (length s.outcomes)) (list_any p (held_by s m)) (sym (table_names s p m) ∙ h)).1
+
 -- what a unit that has begun holds stands in the table
 pub in_table : (s : UnitsState) (p : Resource → Bool) (u : Option ℕ) (n : ℕ) → n < length s.outcomes →
     is_other u n ≡ true →
     list_any p (held_by s n) ≡ true → stands p u (held_table s) ≡ true
 in_table s p u n less other own =
-    any_flat_map (λ m. map (λ y. (y, record { unit = m; count = 1 })) (held_by s m)) (stands_one p u)
-    (units_from 0 s.outcomes)
-    ∙ unit_among (λ m. stands p u (map (λ y. (y, record { unit = m; count = 1 })) (held_by s m))) n 0 s.outcomes
-    (omega arith) (omega arith) mine
+    any_more (is_of p n) (stands_one p u) theirs (held_table s)
+    (table_names s p n ∙ and_from _ _ (lt-ltb n (length s.outcomes) less) own)
   where
-    mine : stands p u (map (λ y. (y, record { unit = n; count = 1 })) (held_by s n)) ≡ true
-    mine =
-        any_map (λ y. (y, record { unit = n; count = 1 })) (stands_one p u) (held_by s n)
-        ∙ any_more p (λ y. p y && is_other u n) (λ y c. and_from _ _ c other) (held_by s n) own
+    theirs : (e : Resource × Held) → is_of p n e ≡ true → stands_one p u e ≡ true
+    theirs e y =
+        let a = and_parts (p e.0) (eqb e.1.unit n) y in
+        and_from _ _ a.0 (subst (λ m. is_other u m ≡ true) (sym (eqb-true e.1.unit n a.1)) other)
 
 -- an open unit that used an end of a recoverable cell holds a resource that takes hold of this end
 pub used-held : (s : UnitsState) (n : ℕ) (x : Cell) (end : End) → recovers s.opening x ≡ true →

@@ -1,31 +1,41 @@
--- Units that execute, commit and back out, in any order.
+-- Units that execute, enqueue and dequeue, unlock, commit and back out, in any order, and tasks that read temporary storage.
 use Rattle.std.specs.Prelude.{ℕ, Bool, true, ◌&&◌, if◌then◌else◌, Option, Some, None, nat_lt, length, List, [], ◌∷◌}
+use Rattle.cics_names.specs.Keyed.{Bytes}
 use Rattle.cics_history.specs.History.{outcome_of, is_open}
 use Rattle.cics_history.specs.Holding.{UnitsState}
-use Rattle.cics_history.specs.Execution.{after_execution, after_end}
+use Rattle.cics_history.specs.Execution.{after_execution, after_end, after_enqueue, after_dequeue, after_unlock, after_ts_reading}
 use Rattle.cics_history.specs.declared.ops.Op.{Op}
 use Rattle.cics_history.specs.declared.ops.UnitState.TheVariants.{Committed, BackedOut}
 
--- a unit, or a task without one, has a command executed; a unit commits; a unit is backed out
+-- a unit, or a task without one, has a command executed, or enqueues on a value; a unit dequeues from a value, or unlocks a
+-- file; it commits, or is backed out; a task reads an item of a temporary storage queue, which is of no unit
 pub data Event : Type 0 where
   Execute : (unit : Option ℕ) (op : Op) → Event
   Commit : (unit : ℕ) → Event
   BackOut : (unit : ℕ) → Event
+  Enqueue : (unit : Option ℕ) (value : Bytes) → Event
+  Dequeue : (unit : ℕ) (value : Bytes) → Event
+  Unlock : (unit : ℕ) (file : Bytes) → Event
+  ReadItem : (queue : Bytes) (item : ℕ) → Event
 
 -- a unit that has begun and not ended
 abbrev pub is_live : UnitsState → ℕ → Bool
 is_live s u = nat_lt u (length s.outcomes) && is_open (outcome_of s.outcomes u)
 
--- a command is of such a unit, or of the next one, which begins with it
+-- a command, or an ENQ, is of such a unit, or of the next one, which begins with it
 abbrev pub may_act : UnitsState → Option ℕ → Bool
 may_act s None = true
 may_act s (Some u) = is_live s u
 
--- an event of a unit that isn't open changes nothing, and neither does a command that must wait
+-- an event of a unit that isn't open changes nothing, and neither does a command or an ENQ that must wait
 abbrev pub happens : UnitsState → Event → UnitsState
 happens s (Execute u op) = if may_act s u then after_execution s u op else s
 happens s (Commit u) = if is_live s u then after_end s u Committed else s
 happens s (BackOut u) = if is_live s u then after_end s u BackedOut else s
+happens s (Enqueue u v) = if may_act s u then after_enqueue s u v else s
+happens s (Dequeue u v) = if is_live s u then after_dequeue s u v else s
+happens s (Unlock u f) = if is_live s u then after_unlock s u f else s
+happens s (ReadItem q n) = after_ts_reading s q n
 
 -- the units after these events, in their order
 abbrev pub run : UnitsState → List Event → UnitsState

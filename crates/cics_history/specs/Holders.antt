@@ -1,10 +1,17 @@
 -- Task control and recovery: at most one unit holds a resource, and the least of what is held is found.
 use Rattle.std.specs.Prelude.{◌≡◌, ℕ, ◌<◌, ◌==◌, Bool, true, false, Option, List, length}
 use Rattle.std.specs.List.{list_any}
-use Rattle.cics_names.specs.Keyed.{is_below}
+use Rattle.cics_names.specs.Keyed.{Bytes, is_below}
 use Rattle.cics_enqueue.specs.Resources.{Held, is_one, overlaps, is_other, place_of}
 use Rattle.cics_enqueue.specs.declared.resources.Resource.{Resource}
+use Rattle.cics_enqueue.specs.declared.resources.Resource.TheVariants.{TdRead as ReadingEnd, TdWrite as WritingEnd}
 use Rattle.cics_history.specs.Holding.{UnitsState, held_by}
+use Rattle.cics_history.specs.Cells.{End, Reading, Writing}
+
+-- an end of a transient data queue, as a resource
+abbrev pub end_of : Bytes → End → Resource
+end_of q Reading = ReadingEnd q
+end_of q Writing = WritingEnd q
 
 -- a resource among the first overlaps one among the second
 abbrev pub meet : List Resource → List Resource → Bool

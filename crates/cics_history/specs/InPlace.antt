@@ -1,10 +1,10 @@
--- Recovery: all that the units change in place, through executions, commits and backouts in any order.
+-- Recovery: all that the units change in place, through executions, commits, backouts and all other calls in any order.
 use Rattle.std.specs.Prelude.{ℕ, ◌&&◌, not, if◌then◌else◌, Option, Some, is_some, List, [], ◌∷◌}
 use Rattle.cics_history.specs.Openings.{OpeningState, queue_logical}
 use Rattle.cics_history.specs.Holding.{UnitsState, store_of, awaited}
 use Rattle.cics_history.specs.declared.ops.Op.{Op}
 use Rattle.cics_history.specs.Cells.{Cell, Key, Ts, Td, Content}
-use Rattle.cics_history.specs.Events.{Event, Execute, Commit, BackOut, is_live, may_act, happens}
+use Rattle.cics_history.specs.Events.{Event, Execute, Commit, BackOut, Enqueue, Dequeue, Unlock, ReadItem, is_live, may_act, happens}
 use Rattle.cics_history.specs.Undo.{Place, IsPlaceOf, images_by, placed, place_executed, place_committed, place_undone}
 use Rattle.cics_history.specs.Marks.{shown}
 use Rattle.cics_history.specs.Ends.{Marks, AreMarksOf, marks_opened, marks_executed, marks_committed, marks_backed_out}
@@ -33,7 +33,8 @@ parts_executed s p u op = record {
 }
 
 -- an event changes the parts: none reads the history, but for what a unit holds and for the keys under a prefix. A commit
--- drops the images of its unit, a backout undoes them, the newest first
+-- drops the images of its unit, a backout undoes them, the newest first; ENQ, DEQ, UNLOCK and READQ TS change no cell, no
+-- image and no mark
 abbrev pub happens_in_place : UnitsState → Parts → Event → Parts
 happens_in_place s p (Execute u op) =
     if may_act s u && not (is_some (awaited s u op)) then parts_executed s p u op else p
@@ -41,6 +42,10 @@ happens_in_place s p (Commit u) =
     if is_live s u then record { place = place_committed p.place u; marks = marks_committed s p.marks u } else p
 happens_in_place s p (BackOut u) =
     if is_live s u then record { place = place_undone p.place u; marks = marks_backed_out p.marks u } else p
+happens_in_place s p (Enqueue u v) = p
+happens_in_place s p (Dequeue u v) = p
+happens_in_place s p (Unlock u f) = p
+happens_in_place s p (ReadItem q n) = p
 
 -- and so does each of a list of events
 abbrev pub run_in_place : UnitsState → Parts → List Event → Parts

@@ -1,11 +1,11 @@
 -- What a region opens with: the files, the prefixes of the recoverable temporary storage queues, and the transient data
 -- queues, each file and queue with what was loaded into it. The files, queues and prefixes are this profile's own way to
 -- say what the manual leaves to the system's tables.
-use Rattle.std.specs.Prelude.{◌≡◌, ℕ, ◌+◌, ◌==◌, Bool, true, false, not, ◌&&◌, ◌||◌, if◌then◌else◌, Option, Some, None, option_map, nat_eq, nat_le, List, [], ◌∷◌, ◌++◌, length}
+use Rattle.std.specs.Prelude.{◌≡◌, ℕ, ◌+◌, ◌==◌, Bool, true, false, ◌&&◌, ◌||◌, if◌then◌else◌, Option, Some, None, option_map, nat_eq, nat_le, List, [], ◌∷◌, ◌++◌}
 use Rattle.std.specs.List.{starts_with}
-use Rattle.cics_names.specs.Keyed.{Bytes, Map, value_at, has_key, with_value, is_rising}
+use Rattle.cics_names.specs.Keyed.{Bytes, Map, value_at, with_value, is_rising}
 use Rattle.cics_names.specs.Names.{blank}
-use Rattle.cics_ksds.specs.Files.{key_of, fits_file}
+use Rattle.cics_ksds.specs.Files.{key_of}
 use Rattle.cics_ksds.specs.declared.definition.FileDef.{FileDef}
 use Rattle.cics_transdata.specs.Trans.{is_logical}
 use Rattle.cics_transdata.specs.declared.queues.Recovery.{Recovery}

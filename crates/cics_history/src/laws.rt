@@ -1,23 +1,25 @@
 //! The laws of backout: what stands after commands, commits and backouts of any number of units, in
-//! any interleaving.
+//! any interleaving, with ENQ, DEQ, UNLOCK and READQ TS anywhere among them.
 //!
 //! The contract of each function is a law, and its body is empty: nothing is computed here. The
 //! laws speak of the same definitions as the contracts of the calls, so that each of them is a
 //! lemma about the program too.
 //!
-//! Units are numbered by the list of outcomes; a unit that isn't handed in is the next one. A
-//! command that must wait, and an event of a unit that isn't open, changes nothing.
+//! Units are numbered by the list of outcomes; a unit that isn't handed in is the next one, which
+//! begins with its first command or ENQ. A command or an ENQ that must wait, and an event of a unit
+//! that isn't open, changes nothing. READQ TS is of no unit.
 //!
 //! What is said of whole runs supposes an opening in order, one whose names and keys rise; `Opening`
 //! makes no other. The answer of a delete by prefix counts records, which cells tell only there.
 
-ghost use Rattle.std.specs.Prelude.{◌≡◌, ◌≤◌, ℕ, Bool, true, false, not, length, slice_get};
+ghost use Rattle.std.specs.Prelude.{◌≡◌, ◌≤◌, ℕ, ◌==◌, Bool, true, false, not, ◌&&◌, length};
+ghost use Rattle.std.specs.Prelude.{slice_get};
 ghost use Rattle.std.specs.Prelude.{if◌then◌else◌, Option, Some, None, is_some, List, [], ◌∷◌, ◌++◌, All};
 ghost use Rattle.std.specs.Prelude.{IsPermutation};
 ghost use Rattle.std.specs.List.{list_any};
 ghost use Rattle.cics_names.specs.Keyed.{Bytes, Map, value_at};
 ghost use Rattle.cics_ksds.specs.Prefixes.{under};
-ghost use Rattle.cics_enqueue.specs.Resources.{Held, overlaps, is_other, is_prefix};
+ghost use Rattle.cics_enqueue.specs.Resources.{Held, is_one, overlaps, is_other, is_prefix};
 ghost use Rattle.cics_enqueue.specs.declared.resources.Resource.{Resource};
 ghost use Rattle.cics_enqueue.specs.declared.resources.Resource.TheVariants.{TdRead as ReadingEnd};
 ghost use Rattle.cics_transdata.specs.Trans.{TransState, IsMarked, is_logical, queue_of, first_of};
@@ -28,7 +30,8 @@ ghost use Rattle.cics_transdata.specs.Undo.{read_image, deleted_image};
 ghost use Rattle.cics_transdata.specs.declared.images.TdImage.{TdImage};
 ghost use Rattle.cics_history.specs.Openings.{OpeningState, IsOpeningInOrder, queue_logical};
 ghost use Rattle.cics_history.specs.Store.{Store, apply, counted_answer, initial_store};
-ghost use Rattle.cics_history.specs.History.{outcome_of, is_backed_out, kept, replay, Agrees};
+ghost use Rattle.cics_history.specs.History.{outcome_of, is_open, is_backed_out, kept, replay};
+ghost use Rattle.cics_history.specs.History.{Agrees};
 ghost use Rattle.cics_history.specs.Holding.{UnitsState, store_of, held_by, held_table, first_held};
 ghost use Rattle.cics_history.specs.Holding.{first_holder, committed_for, is_nothing, awaited};
 ghost use Rattle.cics_history.specs.Execution.{UnitsValue, unit_or_next, after_execution, after_end};
@@ -42,9 +45,9 @@ ghost use Rattle.cics_history.specs.declared.ops.Entry.{Entry};
 ghost use Rattle.cics_history.specs.declared.ops.UnitState.{UnitState};
 ghost use Rattle.cics_history.specs.declared.ops.UnitState.TheVariants.{Committed, BackedOut};
 ghost use Rattle.cics_history.specs.Cells.{Cell, Key, Td, content, is_generic, cell_of, touches, effect};
-ghost use Rattle.cics_history.specs.Cells.{Reading, Writing, recovers, IsOrdered, IsCanonical};
+ghost use Rattle.cics_history.specs.Cells.{End, Reading, Writing, recovers, IsOrdered, IsCanonical};
 ghost use Rattle.cics_history.specs.Events.{Event, is_live, may_act, run};
-ghost use Rattle.cics_history.specs.Holders.{IsHeldByOne, IsLeastHeld};
+ghost use Rattle.cics_history.specs.Holders.{end_of, IsHeldByOne, IsLeastHeld};
 ghost use Rattle.cics_history.specs.Isolation.{used, IsOneAtEachEnd, IsSound};
 ghost use Rattle.cics_history.specs.Serial.{commit_order, IsCommitOrder, done_by_any, one_by_one};
 ghost use Rattle.cics_history.specs.Serial.{AreOpen, AreAllOpen, NoneIsOpen, store_without_others};
@@ -61,9 +64,9 @@ ghost use Rattle.cics_history.specs.Ends.{Marks, AreMarksOf, marks_opened, marks
 ghost use Rattle.cics_history.specs.Ends.{marks_committed, marks_backed_out};
 ghost use Rattle.cics_history.specs.InPlace.{content_in_place, parts_opened, run_in_place};
 
-/// Whatever was executed, committed and backed out, in any interleaving, each command that is kept
-/// has the answer that replaying what is kept, from the opening and in order of execution, gives at
-/// its place.
+/// Whatever was executed, enqueued, dequeued, unlocked, committed and backed out, in any
+/// interleaving, each command that is kept has the answer that replaying what is kept, from the
+/// opening and in order of execution, gives at its place.
 pub fn answers_stay()
     ensures { (o : OpeningState) (events : List Event) → IsOpeningInOrder o →
         let s = run (beginning o) events in
@@ -72,8 +75,9 @@ pub fn answers_stay()
 
 /// What files and queues hold in place is what replaying what is kept gives. In place a command
 /// changes the cells that it acts on, a commit drops the unit's images, and a backout undoes them,
-/// the newest first; a LOGICAL queue is marked at its two ends, each by itself. Cells are no list,
-/// so which keys are under a prefix the run in place takes from the store.
+/// the newest first; a LOGICAL queue is marked at its two ends, each by itself. ENQ, DEQ, UNLOCK
+/// and READQ TS change nothing there. Cells are no list, so which keys are under a prefix the run
+/// in place takes from the store.
 ///
 /// - `cells`: each key of a file, each temporary storage queue and each transient data queue holds
 ///   what the replay gives.
@@ -213,6 +217,22 @@ pub fn each_resource_has_one_holder()
         first_holder (held_table s) asking r ≡ None }
 {}
 
+/// A unit holds an end of a LOGICAL queue exactly where it is open and has used that end, and no
+/// unit holds an end of another queue. So whoever walks what a unit holds, or the table of all that
+/// is held, knows at which ends the unit is to be committed or backed out.
+///
+/// - `held`: so it is of what a unit holds.
+/// - `table`: so it is of the table, which names units that have begun.
+pub fn ends_are_held_by_use()
+    ensures held { (s : UnitsState) (unit : ℕ) (queue : Bytes) (end : End) →
+        list_any (is_one (end_of queue end)) (held_by s unit)
+        ≡ (is_open (outcome_of s.outcomes unit)
+        && (queue_logical s.opening queue && used s.trace unit (Td queue) end)) }
+    ensures table { (s : UnitsState) (unit : ℕ) (queue : Bytes) (end : End) →
+        list_any (λ e. is_one (end_of queue end) e.0 && (e.1.unit == unit)) (held_table s)
+        ≡ (is_live s unit && (queue_logical s.opening queue && used s.trace unit (Td queue) end)) }
+{}
+
 /// A store is determined by its cells.
 ///
 /// - `equal`: two stores in order whose cells hold the same are equal, as whole maps.
@@ -268,6 +288,9 @@ pub fn calls_keep_apart()
 /// A command, a commit and a backout keep the cells in place as the history gives them, and the
 /// open units' images as those that lead back. All cells are meant but those of LOGICAL queues.
 ///
+/// - `enqueues`, `dequeues`, `unlocks`, `reads`: ENQ, DEQ, UNLOCK and READQ TS leave cells and
+///   images as they are, and those are right after each of these calls too: an ENQ may begin a
+///   unit, which has no image.
 /// - `image`: the image of a command's own cell is the one that is asked for, where it acts on one.
 /// - `prefix`: those of DELETE GENERIC are the images of the records under its prefix, that of the last
 ///   key the newest, in cells that hold at each key what a store does.
@@ -280,6 +303,14 @@ pub fn calls_keep_places()
         IsPlaceOf (after_end s unit Committed) (place_committed p unit) }
     ensures backs_out { (s : UnitsState) (p : Place) (unit : ℕ) → IsPlaceOf s p → is_live s unit ≡ true →
         IsPlaceOf (after_end s unit BackedOut) (place_undone p unit) }
+    ensures enqueues { (s : UnitsState) (p : Place) (unit : Option ℕ) (value : Bytes) →
+        IsPlaceOf s p → IsPlaceOf (after_enqueue s unit value) p }
+    ensures dequeues { (s : UnitsState) (p : Place) (unit : ℕ) (value : Bytes) →
+        IsPlaceOf s p → IsPlaceOf (after_dequeue s unit value) p }
+    ensures unlocks { (s : UnitsState) (p : Place) (unit : ℕ) (file : Bytes) →
+        IsPlaceOf s p → IsPlaceOf (after_unlock s unit file) p }
+    ensures reads { (s : UnitsState) (p : Place) (queue : Bytes) (item : ℕ) →
+        IsPlaceOf s p → IsPlaceOf (after_ts_reading s queue item) p }
     ensures image { (op : Op) (cells : Cells) → is_generic op ≡ false →
         AreImages op cells (image_of op (cells (cell_of op))) }
     ensures prefix { (s : Store) (file prefix : Bytes) (cells : Cells) → IsOrdered s →
@@ -291,9 +322,13 @@ pub fn calls_keep_places()
 /// however the units at their two ends end, and the open units' images of the marks as those that
 /// lead back.
 ///
+/// - `enqueues`, `dequeues`, `unlocks`, `reads`: ENQ, DEQ, UNLOCK and READQ TS leave the marks and
+///   their images as they are, and those are right after each of these calls too.
 /// - `shown`: what a queue shows is what the history gives.
 /// - `committed`: where no other unit holds the reading end, what a task may read is what is shown,
 ///   without what another unit wrote.
+/// - `sees`: a task that need not wait for its read sees a record exactly where the queue shows
+///   one; so its read marks what a read of all that is shown marks.
 pub fn calls_keep_marks()
     ensures begins { (o : OpeningState) → AreMarksOf (beginning o) (marks_opened o) }
     ensures executes { (s : UnitsState) (p : Marks) (unit : Option ℕ) (op : Op) → IsSound s → AreMarksOf s p →
@@ -302,6 +337,14 @@ pub fn calls_keep_marks()
         AreMarksOf (after_end s unit Committed) (marks_committed s p unit) }
     ensures backs_out { (s : UnitsState) (p : Marks) (unit : ℕ) → IsSound s → AreMarksOf s p → is_live s unit ≡ true →
         AreMarksOf (after_end s unit BackedOut) (marks_backed_out p unit) }
+    ensures enqueues { (s : UnitsState) (p : Marks) (unit : Option ℕ) (value : Bytes) →
+        AreMarksOf s p → AreMarksOf (after_enqueue s unit value) p }
+    ensures dequeues { (s : UnitsState) (p : Marks) (unit : ℕ) (value : Bytes) →
+        AreMarksOf s p → AreMarksOf (after_dequeue s unit value) p }
+    ensures unlocks { (s : UnitsState) (p : Marks) (unit : ℕ) (file : Bytes) →
+        AreMarksOf s p → AreMarksOf (after_unlock s unit file) p }
+    ensures reads { (s : UnitsState) (p : Marks) (queue : Bytes) (item : ℕ) →
+        AreMarksOf s p → AreMarksOf (after_ts_reading s queue item) p }
     ensures shown { (s : UnitsState) (p : Marks) → AreMarksOf s p → (queue : Bytes) → queue_logical s.opening queue ≡ true →
         content (store_of s) (Td queue) ≡ Some (shown (p.queues queue)) }
     ensures committed { (s : UnitsState) (asking : Option ℕ) (p : Marks) (queue : Bytes) → IsSound s → AreMarksOf s p →
@@ -309,6 +352,12 @@ pub fn calls_keep_marks()
         first_holder (held_table s) asking (ReadingEnd queue) ≡ None →
         committed_for s asking queue
         ≡ seen false (not (used s.trace (unit_or_next asking s.outcomes) (Td queue) Writing)) (p.queues queue) }
+    ensures sees { (s : UnitsState) (asking : Option ℕ) (p : Marks) (queue : Bytes) →
+        IsSound s → AreMarksOf s p → queue_logical s.opening queue ≡ true →
+        awaited s asking (TdRead queue) ≡ None →
+        let past_fresh = used s.trace (unit_or_next asking s.outcomes) (Td queue) Writing in
+        is_nothing (seen false (not past_fresh) (p.queues queue))
+        ≡ is_nothing (shown (p.queues queue)) }
 {}
 
 /// An open unit's images, the newest first, each ready in its turn, lead each cell to what the
@@ -340,7 +389,7 @@ pub fn images_lead_back()
 /// - `first`: a reader that may see uncommitted records or not is given the first of those that it
 ///   sees.
 /// - `read`: a reader that may not see them reads as if it might, where it sees something or there
-///   is nothing else to see.
+///   is nothing else to see, as is so of each that need not wait (`sees` of `calls_keep_marks`).
 /// - `reader_commits`: the unit at the reading end commits; what it read was no record of another
 ///   open unit.
 pub fn queues_carry_their_marks()

@@ -1,6 +1,17 @@
 use Rattle.cics_history.proofs.PrefixImages.{prefix_images-AreImages}
-use Rattle.cics_history.proofs.Places.{beginning-IsPlaceOf, execution-IsPlaceOf, commit-IsPlaceOf, back_out-IsPlaceOf, image_of-AreImages}
+use Rattle.cics_history.proofs.Places.{beginning-IsPlaceOf, execution-IsPlaceOf, commit-IsPlaceOf, back_out-IsPlaceOf, enqueue-IsPlaceOf, dequeue-IsPlaceOf, unlock-IsPlaceOf, ts_reading-IsPlaceOf, image_of-AreImages}
 use Rattle.cics_history.proofs.laws.calls_keep_places.Goals as goal
 
 pub returns : goal.returns
-returns c = record { begins = beginning-IsPlaceOf; executes = execution-IsPlaceOf; commits = commit-IsPlaceOf; backs_out = back_out-IsPlaceOf; image = image_of-AreImages; prefix = λ s f p cells i holds. prefix_images-AreImages s f p cells i holds }
+returns c = record {
+  begins = beginning-IsPlaceOf;
+  executes = execution-IsPlaceOf;
+  commits = commit-IsPlaceOf;
+  backs_out = back_out-IsPlaceOf;
+  enqueues = enqueue-IsPlaceOf;
+  dequeues = dequeue-IsPlaceOf;
+  unlocks = unlock-IsPlaceOf;
+  reads = ts_reading-IsPlaceOf;
+  image = image_of-AreImages;
+  prefix = λ s f p cells i holds. prefix_images-AreImages s f p cells i holds;
+}

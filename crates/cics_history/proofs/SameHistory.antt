@@ -1,0 +1,53 @@
+-- ENQ, DEQ, UNLOCK and READQ TS add no entry to the history and end no unit: what is said of the opening, the history and the
+-- outcomes alone stays through each of them.
+use Rattle.std.proofs.Common.{ℕ, Option, List, subst}
+use Rattle.std.proofs.lemmas.Bool.{cond_both}
+use Rattle.cics_names.specs.Keyed.{Bytes, with_value}
+use Rattle.cics_tempstor.specs.Queues.{has_item}
+use Rattle.cics_history.specs.Openings.{OpeningState}
+use Rattle.cics_history.specs.Store.{ts_queue}
+use Rattle.cics_history.specs.History.{outcome_of}
+use Rattle.cics_history.specs.Holding.{UnitsState, store_of}
+use Rattle.cics_history.specs.Execution.{enqueue, after_enqueued, after_enqueue, after_dequeue, after_unlock, after_ts_reading}
+use Rattle.cics_history.specs.Isolation.{Outcomes}
+use Rattle.cics_history.specs.declared.ops.Entry.{Entry}
+use Rattle.cics_history.specs.declared.ops.Enqueued.{Enqueued}
+use Rattle.cics_history.specs.declared.ops.Enqueued.TheVariants.{Taken, MustWait as EnqMustWait, CountFull}
+use Rattle.cics_history.proofs.Outcomes.{same_outcomes}
+
+module _ (P : OpeningState → List Entry → Outcomes → Type 0) (s : UnitsState)
+    (h : P s.opening s.trace (outcome_of s.outcomes)) where
+  -- what is said of the opening, the history and the outcomes of a state
+  abbrev IsSaidOf : UnitsState → Type 0
+  IsSaidOf t = P t.opening t.trace (outcome_of t.outcomes)
+
+  -- an ENQ adds a unit that is open, as each is that hasn't begun, or none
+  enqueued-same : (u : Option ℕ) (v : Bytes) (e : Enqueued) → IsSaidOf (after_enqueued s u v e)
+  enqueued-same u v (Taken unit) = subst (P s.opening s.trace) (same_outcomes u s.outcomes) h
+  enqueued-same u v (EnqMustWait holder) = h
+  enqueued-same u v CountFull = h
+
+  -- ENQ changes the counts, and the outcomes as lists alone
+  pub enqueue-same : (u : Option ℕ) (v : Bytes) → IsSaidOf (after_enqueue s u v)
+  enqueue-same u v = enqueued-same u v (enqueue s u v)
+
+  -- DEQ changes the counts alone
+  pub dequeue-same : (u : ℕ) (v : Bytes) → IsSaidOf (after_dequeue s u v)
+  dequeue-same u v = h
+
+  -- UNLOCK changes the update reads alone
+  pub unlock-same : (u : ℕ) (f : Bytes) → IsSaidOf (after_unlock s u f)
+  unlock-same u f = h
+
+  -- READQ TS changes a NEXT place, or nothing
+  pub ts_reading-same : (q : Bytes) (n : ℕ) → IsSaidOf (after_ts_reading s q n)
+  ts_reading-same q n =
+      cond_both (has_item (ts_queue (store_of s) q) n)
+      (record {
+        opening = s.opening;
+        trace = s.trace;
+        outcomes = s.outcomes;
+        reads = s.reads;
+        counts = s.counts;
+        next = with_value q n s.next;
+      }) s IsSaidOf (λ t. h) (λ f. h)
