@@ -482,7 +482,7 @@ found_holds s u r m h =
         and_from _ _ a.0 (and_parts (is_other u e.1.unit) (eqb e.1.unit m) a.1).1
 
 -- what overlaps one resource that is no prefix overlaps
-overlaps-joined : (r s t : Resource) → is_prefix r ≡ false → overlaps r s ≡ true → overlaps r t ≡ true → overlaps s t ≡ true
+pub overlaps-joined : (r s t : Resource) → is_prefix r ≡ false → overlaps r s ≡ true → overlaps r t ≡ true → overlaps s t ≡ true
 overlaps-joined (FileKey f k) (FileKey g l) (FileKey h m) p a b =
     let c = and_parts (is_same f g) (is_same k.items l.items) a in
     let d = and_parts (is_same f h) (is_same k.items m.items) b in

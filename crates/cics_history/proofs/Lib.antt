@@ -16,7 +16,7 @@ pub mod Waiting
 pub mod Outcomes
 pub mod SameHistory
 pub mod Holders
-mod LeastHeld
+pub mod LeastHeld
 pub mod EndsHeld
 pub mod States
 pub mod Stores
@@ -25,7 +25,7 @@ pub mod SerialRuns
 mod SerialRows
 pub mod Undoing
 pub mod Places
-mod PrefixImages
+pub mod PrefixImages
 pub mod Examples
 pub mod Alone
 pub mod Queues

@@ -67,8 +67,8 @@ pub enum Op {
 }
 
 impl Op {
-    /// The file and the key that a command on one record names; one on a queue, or on all records under
-    /// a prefix, names none.
+    /// The file that a command on a file names, and the key, or the prefix of the keys whose records it
+    /// takes away; one on a queue names none.
     pub fn record(&self) -> Option<(&Name8, &Record)>
         ensures there { is_some result ≡ is_file_op self.now }
         ensures file { IfSome result (λ named. named.0.now ≡ file_of self.now) }
@@ -78,6 +78,7 @@ impl Op {
             Op::Write { file, key, .. } => Some((file, key)),
             Op::Rewrite { file, key, .. } => Some((file, key)),
             Op::Delete { file, key } => Some((file, key)),
+            Op::DeleteGeneric { file, prefix } => Some((file, prefix)),
             Op::ReadUpdate { file, key } => Some((file, key)),
             _ => None,
         }
