@@ -6,7 +6,7 @@ use Rattle.std.proofs.lemmas.Bool.{cases_Bool, eq-eqb, and_from, and_right}
 use Rattle.cics_names.specs.Keyed.{Bytes, is_same}
 use Rattle.cics_names.specs.RisingLaws.{is_same-turned}
 use Rattle.cics_enqueue.specs.ResourceLaws.{free_own}
-use Rattle.cics_enqueue.specs.Resources.{Table, Held, resource_cmp, most_count, held_at, holder_of, count_in, count_of, is_full, IsFreeFor, taken, given_back}
+use Rattle.cics_enqueue.specs.Resources.{Table, Held, resource_cmp, most_count, held_at, holder_over, count_in, count_of, is_full, IsFreeFor, taken, given_back}
 use Rattle.cics_enqueue.proofs.TableLaws.{unit_in}
 use Rattle.cics_enqueue.specs.declared.resources.Resource.{Resource}
 use Rattle.cics_enqueue.specs.declared.resources.Resource.TheVariants.{FileKey, TsQueue, TdRead as ReadingEnd, TdWrite as WritingEnd, User, FilePrefix}
@@ -19,7 +19,7 @@ use Rattle.cics_history.specs.Isolation.{IsSound}
 use Rattle.cics_history.specs.Cells.{content}
 use Rattle.cics_history.specs.Undo.{IsUndoable}
 use Rattle.cics_units.specs.Matching.{store_of_files}
-use Rattle.cics_units.specs.TableInPlace.{value_of, other_holder, counted_before, counts_in}
+use Rattle.cics_units.specs.TableInPlace.{value_of, counted_before, counts_in}
 use Rattle.cics_units.specs.Parts.{UndoableValue, PartsValue, AreRoomier, AreEnqueued, ArePartsKept}
 use Rattle.cics_units.specs.KeptUnits.{state_shown, AreKept}
 use Rattle.cics_history.specs.declared.ops.Entry.{Entry}
@@ -28,7 +28,7 @@ use Rattle.cics_history.specs.declared.ops.UnitState.TheVariants.{Open}
 use Rattle.cics_history.specs.declared.ops.Enqueued.TheVariants.{Taken, MustWait as EnqMustWait, CountFull}
 use Rattle.cics_history.proofs.Outcomes.{outcome_of-with}
 use Rattle.cics_history.proofs.States.{enqueue-IsSound, dequeue-IsSound}
-use Rattle.cics_units.proofs.TableInPlace.{table_holder, table_free}
+use Rattle.cics_units.proofs.HeldOver.{table_holder, table_free}
 use Rattle.cics_units.proofs.TableValues.{table_enqueued_of, table_dequeued_of}
 use Rattle.cics_units.proofs.KeptUnits.{roomier_held, kept_roomier}
 
@@ -70,16 +70,16 @@ module _ (s : UnitsState) (st : UndoableValue) (t : Table) (is : AreKept s st t)
   abbrev pub taker : ℕ
   taker = unit_or_next u s.outcomes
 
-  pub value_held : value_holder s u v ≡ other_holder u (holder_of (value_of v) t)
-  value_held = table_holder s t is.sound is.table u (value_of v) refl
+  pub value_held : value_holder s u v ≡ holder_over (value_of v) u t
+  value_held = table_holder s t is.sound is.table u (value_of v)
 
   -- another unit holds the value
-  pub enqueue-waits : (h : ℕ) → other_holder u (holder_of (value_of v) t) ≡ Some h → enqueue s u v ≡ EnqMustWait h
+  pub enqueue-waits : (h : ℕ) → holder_over (value_of v) u t ≡ Some h → enqueue s u v ≡ EnqMustWait h
   enqueue-waits h held = ap (enq_of s u v) (value_held ∙ held)
 
-  module _ (none : other_holder u (holder_of (value_of v) t) ≡ None) where
+  module _ (none : holder_over (value_of v) u t ≡ None) where
     pub value_free : IsFreeFor t (value_of v) taker
-    value_free = table_free s t is.sound is.table u (value_of v) refl none
+    value_free = table_free s t is.sound is.table u (value_of v) none
 
     enqueue-by : (b : Bool) → is_full (value_of v) t ≡ b → enqueue s u v ≡ (if b then CountFull else Taken taker)
     enqueue-by b full =

@@ -1,34 +1,36 @@
 -- What an executed command on a file makes of the files and of the images of its unit.
-use Rattle.std.specs.Prelude.{◌≡◌, ℕ, Bool, true, false, if◌then◌else◌, T, Option, Some, None, is_some, option_map, IfSome, List, [], refl}
+use Rattle.std.specs.Prelude.{◌≡◌, ℕ, Bool, true, false, if◌then◌else◌, T, Option, Some, None, is_some, option_map, IfSome, List, [], ◌∷◌, refl}
 use Rattle.std.proofs.Common.{sym, ap, ◌∙◌, subst}
 use Rattle.std.proofs.lemmas.Bool.{true≢false, false≢true}
 use Rattle.cics_names.specs.Keyed.{Bytes, Map, value_at, has_key, with_value, without, is_rising}
 use Rattle.cics_names.specs.declared.conditions.Condition.TheVariants.{Normal, Duprec, Notfnd}
 use Rattle.cics_images.specs.Cells.{is_other, is_unnamed}
 use Rattle.cics_ksds.specs.Files.{FileValue, key_of, written, rewritten, deleted, filled, emptied, dropped, write_condition, change_condition}
+use Rattle.cics_ksds.specs.Prefixes.{under}
 use Rattle.cics_ksds.specs.Undo.{ImageValue, written_image, rewritten_image, deleted_image}
-use Rattle.cics_history.specs.Store.{apply, apply_write, apply_rewrite, apply_delete, apply_read, answered, only, with_file, with_content, found_condition}
-use Rattle.cics_history.specs.Cells.{Key, content, listed, record_in}
+use Rattle.cics_history.specs.Store.{apply, apply_write, apply_rewrite, apply_delete, apply_delete_generic, apply_read, answered, counted_answer, only, with_file, with_content, found_condition}
+use Rattle.cics_history.specs.Cells.{Key, content, is_generic, cell_of as cell_of_op, listed, record_in}
 use Rattle.cics_history.specs.Undo.{changes}
 use Rattle.cics_history.specs.declared.ops.Op.{Op}
-use Rattle.cics_history.specs.declared.ops.Op.TheVariants.{Write, Rewrite, Delete, ReadUpdate}
+use Rattle.cics_history.specs.declared.ops.Op.TheVariants.{Write, Rewrite, Delete, DeleteGeneric, ReadUpdate}
 use Rattle.cics_units.specs.RegionFiles.{IsThere}
-use Rattle.cics_units.specs.FilesImages.{cell_of, cell_of_image, files_hold, FilesKeep, KeepsIn, definitions_of}
+use Rattle.cics_units.specs.FilesImages.{FilesImage, cell_of, cell_of_image, files_hold, FilesKeep, KeepsIn, definitions_of}
 use Rattle.cics_units.proofs.HeldPlaces.{written_held, rewritten_held, deleted_held}
 use Rattle.cics_units.specs.FilesChanges.{IsFilesImage, held_among}
 use Rattle.cics_units.specs.Matching.{store_of_files}
 use Rattle.cics_units.specs.UnitImages.{kept_by, AreOthersKept}
-use Rattle.cics_units.specs.Parts.{UndoableValue, is_recoverable_in, IsRecordOf, with_newest, HasNewest, AreImagesAfter, AreChanged}
+use Rattle.cics_units.specs.Parts.{UndoableValue, is_recoverable_in, IsRecordOf, with_newest, KeepsImages, AreImagesAfter, AreChanged}
 use Rattle.cics_history.proofs.Entries.{with_value-same}
+use Rattle.cics_units.proofs.MadeImages.{with_image, without_image}
 use Rattle.cics_units.proofs.Opened.{with_value-each}
 use Rattle.cics_history.proofs.Stores.{value_at_each}
 
 -- what one of the files has of a record's key, and what a command on it is answered
 module _ (m : Map FileValue) (name : Bytes) (f : FileValue) (there : value_at name m ≡ Some f) where
-  records_there : value_at name (store_of_files m).files ≡ Some f.records
+  pub records_there : value_at name (store_of_files m).files ≡ Some f.records
   records_there = value_at_each (λ x. x.records) name m ∙ ap (option_map (λ x. x.records)) there
 
-  cell_there : (k : Bytes) → content (store_of_files m) (Key name k) ≡ Some (listed (value_at k f.records))
+  pub cell_there : (k : Bytes) → content (store_of_files m) (Key name k) ≡ Some (listed (value_at k f.records))
   cell_there k = ap (record_in k) records_there
 
   pub write_answer : (k r : Bytes) → (apply (store_of_files m) (Write name k r)).answer ≡ only (write_condition f.records k)
@@ -40,14 +42,17 @@ module _ (m : Map FileValue) (name : Bytes) (f : FileValue) (there : value_at na
   pub delete_answer : (k : Bytes) → (apply (store_of_files m) (Delete name k)).answer ≡ only (change_condition f.records k)
   delete_answer k = ap (λ o. (apply_delete (store_of_files m) name k o).answer) records_there
 
+  pub generic_answer : (p : Bytes) → (apply (store_of_files m) (DeleteGeneric name p)).answer ≡ counted_answer (under p f.records)
+  generic_answer p = ap (λ o. (apply_delete_generic (store_of_files m) name p o).answer) records_there
+
   pub read_answer : (k : Bytes) → (apply (store_of_files m) (ReadUpdate name k)).answer ≡ with_content (found_condition (value_at k f.records)) (value_at k f.records)
   read_answer k = ap (λ o. (apply_read (store_of_files m) k o).answer) records_there
 
   module _ (rising : T (is_rising m)) where
-    kept_store : store_of_files (with_value name f m) ≡ store_of_files m
+    pub kept_store : store_of_files (with_value name f m) ≡ store_of_files m
     kept_store = ap store_of_files (with_value-same name f m rising there)
 
-    changed_store : (g : FileValue) → store_of_files (with_value name g m) ≡ with_file (store_of_files m) name g.records
+    pub changed_store : (g : FileValue) → store_of_files (with_value name g m) ≡ with_file (store_of_files m) name g.records
     changed_store g = λ i. record { files = with_value-each (λ x. x.records) name g m i; ts = []; td = [] }
 
     pub write_store : (r : Bytes) → store_of_files (with_value name (written f r) m) ≡ (apply (store_of_files m) (Write name (key_of f.definition r) r)).store
@@ -95,6 +100,28 @@ kept_definitions p m n kept = λ i q. by (λ key. p (cell_of q key)) (value_at q
     by p (Some f) None k = absurd k
     by p (Some f) (Some g) k = ap Some k.same_file
 
+-- a unit keeps an image of the change of a key as its newest
+pub record HasNewest (old new : UndoableValue) (unit : ℕ) (f k : Bytes) : Type 0 where
+  pub image : FilesImage
+  pub undoes : IsFilesImage old.files new.files (cell_of f k) image
+  pub newest : kept_by new.images unit ≡ image ∷ kept_by old.images unit
+
+-- a change of one key of a recoverable file gives its unit an image; in another file it gives none; what changes nothing
+-- gives none
+abbrev pub AreKeyImages : UndoableValue → UndoableValue → ℕ → Bytes → Bytes → Bool → Bool → Type 0
+AreKeyImages old new unit f k false changed = KeepsImages old new unit
+AreKeyImages old new unit f k true true = HasNewest old new unit f k
+AreKeyImages old new unit f k true false = (old.files ≡ new.files) × KeepsImages old new unit
+
+-- they are the images of the command
+module _ (old new : UndoableValue) (unit : ℕ) (op : Op) (one : is_generic op ≡ false) (f k : Bytes) (on : cell_of_op op ≡ Key f k)
+    (store : store_of_files new.files ≡ (apply (store_of_files old.files) op).store) where
+  images_from : (rec changed : Bool) → changes op (content (store_of_files old.files) (Key f k)) ≡ changed →
+      AreKeyImages old new unit f k rec changed → AreImagesAfter old new unit op rec
+  images_from false changed e images = images
+  images_from true true e images = with_image old new unit op one store f k on (ap (λ x. changes op (content (store_of_files old.files) x)) on ∙ e) images.image images.undoes images.newest
+  images_from true false e images = without_image old new unit op one (ap (λ x. changes op (content (store_of_files old.files) x)) on ∙ e) images.0 images.1
+
 -- a change's image, where there is one, is kept as the newest of the unit; and there is one just where it is asked for
 module _ (old new : UndoableValue) (unit : ℕ) (name key : Bytes) (image : Option ImageValue)
     (kept : kept_by new.images unit ≡ with_newest name image (kept_by old.images unit))
@@ -111,7 +138,7 @@ module _ (old new : UndoableValue) (unit : ℕ) (name key : Bytes) (image : Opti
   }
 
   pub images_after : (recoverable changed : Bool) → (recoverable ≡ false → image ≡ None) → (changed ≡ false → (image ≡ None) × (old.files ≡ new.files)) →
-      (recoverable ≡ true → changed ≡ true → is_some image ≡ true) → AreImagesAfter old new unit name key recoverable changed
+      (recoverable ≡ true → changed ≡ true → is_some image ≡ true) → AreKeyImages old new unit name key recoverable changed
   images_after false changed plain still asked = none_kept (plain refl)
   images_after true true plain still asked = newest_kept image refl (asked refl refl)
   images_after true false plain still asked = ((still refl).1, none_kept (still refl).0)
@@ -164,11 +191,11 @@ module _ (name : Bytes) (m : Map FileValue) (f : FileValue) (there : value_at na
 module _ (old new : UndoableValue) (unit : ℕ) (name : Bytes) (f : FileValue) (there : value_at name old.files ≡ Some f) (rising : T (is_rising old.files))
     (apart : AreOthersKept old.images new.images unit) (image : Option ImageValue) (kept : kept_by new.images unit ≡ with_newest name image (kept_by old.images unit)) where
   -- what is said of the file is said of the files
-  images_of_change : (op : Op) (k : Bytes) → AreImagesAfter old new unit name k f.definition.recoverable (changes op (Some (listed (value_at k f.records)))) →
-      AreImagesAfter old new unit name k (is_recoverable_in (value_at name old.files)) (changes op (content (store_of_files old.files) (Key name k)))
+  images_of_change : (op : Op) (k : Bytes) → AreKeyImages old new unit name k f.definition.recoverable (changes op (Some (listed (value_at k f.records)))) →
+      AreKeyImages old new unit name k (is_recoverable_in (value_at name old.files)) (changes op (content (store_of_files old.files) (Key name k)))
   images_of_change op k after =
-      subst (λ b. AreImagesAfter old new unit name k b (changes op (content (store_of_files old.files) (Key name k)))) (sym (ap is_recoverable_in there))
-      (subst (λ c. AreImagesAfter old new unit name k f.definition.recoverable (changes op c)) (sym (cell_there old.files name f there k)) after)
+      subst (λ b. AreKeyImages old new unit name k b (changes op (content (store_of_files old.files) (Key name k)))) (sym (ap is_recoverable_in there))
+      (subst (λ c. AreKeyImages old new unit name k f.definition.recoverable (changes op c)) (sym (cell_there old.files name f there k)) after)
 
   -- an image that isn't kept is none
   asked_of : (Bool → Option ImageValue) → Type 0
@@ -179,14 +206,15 @@ module _ (old new : UndoableValue) (unit : ℕ) (name : Bytes) (f : FileValue) (
       FilesKeep (is_other (cell_of name (key_of f.definition r))) old.files new.files → AreChanged old new unit (Write name (key_of f.definition r) r)
   write_changed r files is undoes others =
       let k = key_of f.definition r in
+      let store : store_of_files new.files ≡ (apply (store_of_files old.files) (Write name k r)).store = ap store_of_files files ∙ write_store old.files name f there rising r in
       record {
-        store = ap store_of_files files ∙ write_store old.files name f there rising r;
+        store = store;
         others = others;
         apart = apart;
-        images = images_of_change (Write name k r) k (images_after old new unit name k image kept undoes f.definition.recoverable (changes (Write name k r) (Some (listed (value_at k f.records))))
+        images = images_from old new unit (Write name k r) refl name k refl store _ _ refl (images_of_change (Write name k r) k (images_after old new unit name k image kept undoes f.definition.recoverable (changes (Write name k r) (Some (listed (value_at k f.records))))
             (λ plain. is ∙ ap (λ b. written_image b f r) plain ∙ write_plain name old.files f there rising r (value_at k f.records) refl)
             (λ still. let w = write_still name old.files f there rising f.definition.recoverable r (value_at k f.records) refl still in (is ∙ w.0, w.1 ∙ sym files))
-            (λ rec changed. ap is_some (is ∙ ap (λ b. written_image b f r) rec) ∙ write_asked name old.files f there rising r (value_at k f.records) refl changed));
+            (λ rec changed. ap is_some (is ∙ ap (λ b. written_image b f r) rec) ∙ write_asked name old.files f there rising r (value_at k f.records) refl changed)));
         held = λ c unnamed has. held_among name f (written f r) old.files there (λ c. true) (λ q pass. written_held f q r) c refl (sym (ap (λ m. files_hold m c) files) ∙ has);
       }
 
@@ -195,14 +223,15 @@ module _ (old new : UndoableValue) (unit : ℕ) (name : Bytes) (f : FileValue) (
       FilesKeep (is_other (cell_of name (key_of f.definition r))) old.files new.files → AreChanged old new unit (Rewrite name (key_of f.definition r) r)
   rewrite_changed r files is undoes others =
       let k = key_of f.definition r in
+      let store : store_of_files new.files ≡ (apply (store_of_files old.files) (Rewrite name k r)).store = ap store_of_files files ∙ rewrite_store old.files name f there rising r in
       record {
-        store = ap store_of_files files ∙ rewrite_store old.files name f there rising r;
+        store = store;
         others = others;
         apart = apart;
-        images = images_of_change (Rewrite name k r) k (images_after old new unit name k image kept undoes f.definition.recoverable (changes (Rewrite name k r) (Some (listed (value_at k f.records))))
+        images = images_from old new unit (Rewrite name k r) refl name k refl store _ _ refl (images_of_change (Rewrite name k r) k (images_after old new unit name k image kept undoes f.definition.recoverable (changes (Rewrite name k r) (Some (listed (value_at k f.records))))
             (λ plain. is ∙ ap (λ b. rewritten_image b f r) plain)
             (λ still. let w = rewrite_still name old.files f there rising f.definition.recoverable r (value_at k f.records) refl still in (is ∙ w.0, w.1 ∙ sym files))
-            (λ rec changed. ap is_some (is ∙ ap (λ b. rewritten_image b f r) rec) ∙ rewrite_asked name old.files f there rising r (value_at k f.records) refl changed));
+            (λ rec changed. ap is_some (is ∙ ap (λ b. rewritten_image b f r) rec) ∙ rewrite_asked name old.files f there rising r (value_at k f.records) refl changed)));
         held = λ c unnamed has. held_among name f (rewritten f r) old.files there (λ c. true) (λ q pass. rewritten_held f q r) c refl (sym (ap (λ m. files_hold m c) files) ∙ has);
       }
 
@@ -214,18 +243,20 @@ module _ (old new : UndoableValue) (unit : ℕ) (name : Bytes) (f : FileValue) (
   pub delete_changed : (k : Bytes) → new.files ≡ with_value name (deleted f.definition.recoverable f k) old.files → image ≡ deleted_image f.definition.recoverable f k →
       IfSome image (λ i. IsFilesImage old.files new.files (cell_of name k) (record { name = name; image = i })) →
       FilesKeep (is_other (cell_of name k)) old.files new.files → AreChanged old new unit (Delete name k)
-  delete_changed k files is undoes others = record {
-    store = ap store_of_files files ∙ delete_store old.files name f there rising f.definition.recoverable k;
-    others = others;
-    apart = apart;
-    images = images_of_change (Delete name k) k (images_after old new unit name k image kept undoes f.definition.recoverable (changes (Delete name k) (Some (listed (value_at k f.records))))
-        (λ plain. is ∙ ap (λ b. deleted_image b f k) plain)
-        (λ still. let w = delete_still name old.files f there rising f.definition.recoverable k (value_at k f.records) refl still in (is ∙ w.0, w.1 ∙ sym files))
-        (λ rec changed. ap is_some (is ∙ ap (λ b. deleted_image b f k) rec) ∙ delete_asked name old.files f there rising k (value_at k f.records) refl changed));
-    held = λ c unnamed has. held_among name f (deleted f.definition.recoverable f k) old.files there (is_unnamed cell_of_image (kept_by new.images unit))
-        (λ q pass. deleted_held name f k q (kept_by old.images unit) f.definition.recoverable image is (each_named k image undoes) (sym (ap (λ is. is_unnamed cell_of_image is (cell_of name q)) kept) ∙ pass))
-        c unnamed (sym (ap (λ m. files_hold m c) files) ∙ has);
-  }
+  delete_changed k files is undoes others =
+      let store : store_of_files new.files ≡ (apply (store_of_files old.files) (Delete name k)).store = ap store_of_files files ∙ delete_store old.files name f there rising f.definition.recoverable k in
+      record {
+        store = store;
+        others = others;
+        apart = apart;
+        images = images_from old new unit (Delete name k) refl name k refl store _ _ refl (images_of_change (Delete name k) k (images_after old new unit name k image kept undoes f.definition.recoverable (changes (Delete name k) (Some (listed (value_at k f.records))))
+            (λ plain. is ∙ ap (λ b. deleted_image b f k) plain)
+            (λ still. let w = delete_still name old.files f there rising f.definition.recoverable k (value_at k f.records) refl still in (is ∙ w.0, w.1 ∙ sym files))
+            (λ rec changed. ap is_some (is ∙ ap (λ b. deleted_image b f k) rec) ∙ delete_asked name old.files f there rising k (value_at k f.records) refl changed)));
+        held = λ c unnamed has. held_among name f (deleted f.definition.recoverable f k) old.files there (is_unnamed cell_of_image (kept_by new.images unit))
+            (λ q pass. deleted_held name f k q (kept_by old.images unit) f.definition.recoverable image is (each_named k image undoes) (sym (ap (λ is. is_unnamed cell_of_image is (cell_of name q)) kept) ∙ pass))
+            c unnamed (sym (ap (λ m. files_hold m c) files) ∙ has);
+      }
 
 -- ---- What is told of the file of a name where it is there
 -- the file of a name is there, and what is said of it is said of the files

@@ -1,10 +1,10 @@
 -- Each call keeps the files and the images in place.
-use Rattle.std.proofs.Common.{◌≡◌, ◌≢◌, ℕ, Bool, true, false, ◌&&◌, not, Option, Some, None, List, [], ◌∷◌, ◌++◌, refl, ap, sym, subst, ◌∙◌, eqb, inl, inr, ◌⊎◌}
+use Rattle.std.proofs.Common.{◌≡◌, ◌≢◌, ℕ, true, false, ◌&&◌, not, Option, Some, None, List, [], ◌∷◌, ◌++◌, refl, ap, sym, subst, ◌∙◌, eqb, inl, inr, ◌⊎◌}
 use Rattle.std.specs.Prelude.{if◌then◌else◌, is_some, option_map, slice_set}
-use Rattle.std.proofs.lemmas.Bool.{true≢false, cases_Bool, cond_both, eqb-true, eqb-false, eq-eqb, and_parts, and_from, and_left, or_parts, or_left, or_right, or_from, false_from_ne_true, true_from_ne_false}
+use Rattle.std.proofs.lemmas.Bool.{true≢false, cases_Bool, eqb-true, eqb-false, eq-eqb, and_parts, and_from, and_left, or_parts, or_left, or_right, or_from, false_from_ne_true, true_from_ne_false}
 use Rattle.cics_names.specs.Keyed.{Bytes, Map, value_at}
-use Rattle.cics_images.specs.Cells.{Kept, is_other, is_unnamed, AreOf, AreReadyInTurn, LeadBack, images_of}
-use Rattle.cics_images.specs.Turns.{in_turn_kept, one_before}
+use Rattle.cics_images.specs.Cells.{Kept, is_unnamed, AreOf, LeadBack, images_of}
+use Rattle.cics_images.specs.Turns.{one_before}
 use Rattle.cics_ksds.specs.Files.{FileValue}
 use Rattle.cics_ksds.specs.Undo.{key_of_image, Leads as FileLeads}
 use Rattle.cics_history.specs.Openings.{OpeningState}
@@ -22,70 +22,36 @@ use Rattle.cics_ksds.specs.UndoLaws as file
 use Rattle.cics_enqueue.specs.Resources.{overlaps}
 use Rattle.std.specs.List.{list_any}
 use Rattle.cics_units.specs.FilesImages.{FilesImage}
-use Rattle.cics_history.specs.Cells.{Cell, Key, Ts, Td, content, is_generic, cell_of as cell_of_op, same_cell, touches, effect, listed, record_in, Writing, uses, recovers}
+use Rattle.cics_history.specs.Cells.{Cell, Key, Ts, Td, content, cell_of as cell_of_op, same_cell, touches, record_in, Writing, recovers}
 use Rattle.cics_history.specs.Events.{is_live, may_act}
 use Rattle.cics_history.specs.Isolation.{used, IsSound}
-use Rattle.cics_history.specs.Undo.{Image, Cells, Leads, names, is_plain, changes, image_of, IsPlaceOf, after, put, without_images, undone}
-use Rattle.cics_units.specs.FilesImages.{cell_of, cell_of_image, content_in, files_content, IsReadyFor, files_undone, FilesKeep, definitions_of}
+use Rattle.cics_history.specs.Undo.{Image, Cells, Leads, names, is_plain, IsPlaceOf, after, put, without_images, undone}
+use Rattle.cics_units.specs.FilesImages.{cell_of, cell_of_image, files_content, FilesKeep, definitions_of}
 use Rattle.cics_units.specs.FilesImagesLaws as files
 use Rattle.cics_units.specs.FilesImagesLaws.{content_of_cell}
-use Rattle.cics_units.specs.FilesChanges.{IsFilesImage}
-use Rattle.cics_units.specs.Matching.{store_of_files, shown, IsKept, AreKept}
+use Rattle.cics_units.specs.Matching.{store_of_files, shown, AreKept}
 use Rattle.cics_units.specs.FilesInPlace.{AreInPlace}
 use Rattle.cics_units.specs.UnitImages.{kept_by}
 use Rattle.cics_history.proofs.Executes.{MayRun}
-use Rattle.cics_history.proofs.Joining.{same_cell-true, same_cell-refl, apply-content, touches-self, touches-named, touches-recovers}
+use Rattle.cics_history.proofs.Joining.{same_cell-refl, apply-content, touches-recovers}
 use Rattle.cics_history.proofs.States.{acting_open}
 use Rattle.cics_history.proofs.Outcomes.{outcome_of-with, outcome_of-set}
 use Rattle.cics_history.proofs.Stores.{value_at_each}
 use Rattle.cics_history.proofs.Waiting.{MayRun_from, covers, any_more, covers-overlaps, used-held}
-use Rattle.cics_history.proofs.Places.{beginning-IsPlaceOf, execution-IsPlaceOf, commit-IsPlaceOf, back_out-IsPlaceOf, leads_back, image_of-AreImages}
-use Rattle.cics_units.proofs.Matched.{same_cell-bytes, of_cell, led_back, kept_elsewhere, told_by_shown}
+use Rattle.cics_history.proofs.Places.{beginning-IsPlaceOf, execution-IsPlaceOf, commit-IsPlaceOf, back_out-IsPlaceOf, leads_back}
+use Rattle.cics_history.specs.Cells.{IsOrdered}
+use Rattle.cics_history.specs.Undo.{images_by}
+use Rattle.cics_history.specs.Records.{is_file_op}
+use Rattle.cics_history.proofs.PrefixImages.{images_by-AreImages}
+use Rattle.cics_units.specs.Parts.{leaves}
+use Rattle.cics_units.proofs.MadeImages.{shown-content, AreReady, ready_where, key_op, writes_op, touched_from, kept_where, kept_joined}
+use Rattle.cics_units.proofs.Matched.{of_cell, led_back, told_by_shown}
 
--- what a file shows of a key is the content of its cell among the files
-pub shown-content : (m : Map FileValue) (f k : Bytes) → shown (content (store_of_files m) (Key f k)) ≡ files_content m (cell_of f k)
-shown-content m f k =
-    ap (λ o. shown (record_in k o)) (value_at_each (λ x. x.records) f m) ∙ by (value_at f m) ∙ sym (content_of_cell m f k)
-  where
-    record_shown : (o : Option Bytes) → shown (Some (listed o)) ≡ option_map (λ r. r ∷ []) o
-    record_shown None = refl
-    record_shown (Some r) = refl
-
-    by : (o : Option FileValue) → shown (record_in k (option_map (λ x. x.records) o)) ≡ content_in o k
-    by None = refl
-    by (Some x) = record_shown (value_at k x.records)
-
--- every image is of some cell
-all_of : (is : List FilesImage) → AreOf cell_of_image (λ c. true) is
-all_of [] = tt
-all_of (i ∷ is) = (refl, all_of is)
-
-abbrev AreReady : Map FileValue → List FilesImage → Type 0
-AreReady m is = AreReadyInTurn IsReadyFor files_undone m is
-
--- images stay ready where their cells are kept
-pub ready_where : (p : List ℕ → Bool) (m n : Map FileValue) (is : List FilesImage) → FilesKeep p m n → AreOf cell_of_image p is → AreReady m is → AreReady n is
-ready_where p m n is kept named ready = in_turn_kept cell_of_image IsReadyFor files_undone FilesKeep files.keeps_ready files.keeps_undone p m n is kept named ready
-
--- the unit's list with its newest image is ready, in the files after the change
-pub ready_with : (m n : Map FileValue) (c : List ℕ) (i : FilesImage) (is : List FilesImage) → IsFilesImage m n c i → AreReady m is → AreReady n (i ∷ is)
-ready_with m n c i is image ready = (image.ready, ready_where (λ x. true) m (files_undone n i) is image.back (all_of is) ready)
-
--- the image that a change of a key gives stands for its change
-pub stands_for : (m n : Map FileValue) (f k : Bytes) (i : FilesImage) → IsFilesImage m n (cell_of f k) i →
-    IsKept (record { cell = Key f k; before = content (store_of_files m) (Key f k); made = content (store_of_files n) (Key f k) }) i
-stands_for m n f k i image = record {
-  cell = sym (same_cell-true (Key i.name (key_of_image i.image)) (Key f k)
-      (sym (same_cell-bytes i.name f (key_of_image i.image) k) ∙ (files.same_bytes-eq (cell_of_image i) (cell_of f k) image.named)));
-  leads = subst (λ a. FileLeads i.image a (shown (content (store_of_files m) (Key f k)))) (sym (shown-content n f k))
-      (subst (FileLeads i.image (files_content n (cell_of f k))) (sym (shown-content m f k)) image.leads_back);
-}
-
--- ---- A command on a key of a file is executed
-module _ (s : UnitsState) (m n : Map FileValue) (images after_images : List (Kept FilesImage)) (u : Option ℕ) (op : Op) (f k : Bytes)
+-- ---- A command on a file is executed
+module _ (s : UnitsState) (m n : Map FileValue) (images after_images : List (Kept FilesImage)) (u : Option ℕ) (op : Op)
     (sound : IsSound s) (place : AreInPlace s m images) (acts : may_act s u ≡ true) (free : awaited s u op ≡ None)
-    (on : cell_of_op op ≡ Key f k) (one : is_generic op ≡ false) (writes : uses op Writing ≡ true)
-    (store : store_of_files n ≡ (apply (store_of_files m) op).store) (others : FilesKeep (is_other (cell_of f k)) m n) where
+    (file : is_file_op op ≡ true) (ordered : IsOrdered (store_of_files m))
+    (store : store_of_files n ≡ (apply (store_of_files m) op).store) (others : FilesKeep (leaves op) m n) where
   abbrev unit : ℕ
   unit = unit_or_next u s.outcomes
 
@@ -93,7 +59,7 @@ module _ (s : UnitsState) (m n : Map FileValue) (images after_images : List (Kep
   before = content (store_of_files m)
 
   abbrev made : List Image
-  made = image_of op (before (cell_of_op op))
+  made = images_by (store_of_files m) op before
 
   abbrev changes_then : ℕ → List Image
   changes_then w = if eqb w unit && is_recoverable s.opening op then made ++ place.changes w else place.changes w
@@ -111,32 +77,29 @@ module _ (s : UnitsState) (m n : Map FileValue) (images after_images : List (Kep
   all_moved = λ i x. moved x i
 
   plain : is_plain s.opening (cell_of_op op) ≡ true
-  plain = ap (is_plain s.opening) on
+  plain = ap (is_plain s.opening) (key_op op file)
 
   pub place_then : IsPlaceOf (after_execution s u op) (record { cells = content (store_of_files n); images = changes_then })
   place_then =
       subst (λ c. IsPlaceOf (after_execution s u op) (record { cells = c; images = changes_then })) all_moved
       (subst (λ b. IsPlaceOf (after_execution s u op) (if b then put s.opening (record { cells = before; images = place.changes }) unit op made else record { cells = before; images = place.changes })) plain
-      (execution-IsPlaceOf s (record { cells = before; images = place.changes }) u op made sound place.place acts free (image_of-AreImages op before one)))
+      (execution-IsPlaceOf s (record { cells = before; images = place.changes }) u op made sound place.place acts free
+      (images_by-AreImages (store_of_files m) op before ordered (λ g k. refl))))
 
-  -- no other open unit keeps an image of the key
-  unnamed : (w : ℕ) → w ≢ unit → names (Key f k) (place.changes w) ≡ false ⊎ (is_open (outcome_of s.outcomes w) ≡ false)
-  unnamed w apart = elim (cases_Bool (is_open (outcome_of s.outcomes w))) [
-    | inr shut ↦ inr shut
-    | inl opened ↦ inl (place.place.named (Key f k) w (false_from_ne_true _ (λ t.
-        let both = and_parts (recovers s.opening (Key f k)) (used s.trace w (Key f k) Writing) t in
-        elim (may.writing (touches-recovers s.opening op (Key f k) touched ∙ both.0) writes (Key f k) touched w both.1) [
-          | inl same ↦ apart same
-          | inr shut ↦ true≢false (sym opened ∙ shut)
-        ])))
-  ]
-    where
-      touched : touches op (Key f k) ≡ true
-      touched = touches-named op one (Key f k) ∙ ap (λ x. same_cell x (Key f k)) on ∙ same_cell-refl (Key f k)
+  -- no other open unit keeps an image of a key that the command acts on
+  unnamed : (x : Cell) → touches op x ≡ true → (w : ℕ) → w ≢ unit → is_open (outcome_of s.outcomes w) ≡ true → names x (place.changes w) ≡ false
+  unnamed x touched w apart opened = place.place.named x w (false_from_ne_true _ (λ t.
+      let both = and_parts (recovers s.opening x) (used s.trace w x Writing) t in
+      elim (may.writing (touches-recovers s.opening op x touched ∙ both.0) (writes_op op file) x touched w both.1) [
+        | inl same ↦ apart same
+        | inr shut ↦ true≢false (sym opened ∙ shut)
+      ]))
 
   apart_ready : (w : ℕ) → w ≢ unit → AreReady n (kept_by images w)
-  apart_ready w apart = elim (unnamed w apart) [
-    | inl none ↦ ready_where (is_other (cell_of f k)) m n (kept_by images w) others (kept_elsewhere (place.changes w) (kept_by images w) (place.kept w) f k none) (place.ready w)
+  apart_ready w apart = elim (cases_Bool (is_open (outcome_of s.outcomes w))) [
+    | inl opened ↦ ready_where (leaves op) m n (kept_by images w) others
+        (kept_where (leaves op) (place.changes w) (kept_by images w) (place.kept w)
+        (λ f k named. true_from_ne_false _ (λ not_left. true≢false (sym named ∙ unnamed (Key f k) (touched_from op file f k not_left) w apart opened)))) (place.ready w)
     | inr shut ↦ subst (AreReady n) (sym (place.over w shut)) tt
   ]
 
@@ -174,36 +137,25 @@ module _ (s : UnitsState) (m n : Map FileValue) (images after_images : List (Kep
       over = over_now;
     }
 
-    -- the change of a recoverable file gave an image, which the unit keeps as its newest
-    pub executed_kept : is_recoverable s.opening op ≡ true → changes op (before (cell_of_op op)) ≡ true → (i : FilesImage) → IsFilesImage m n (cell_of f k) i →
-        kept_by after_images unit ≡ i ∷ kept_by images unit → AreInPlace (after_execution s u op) n after_images
-    executed_kept rec changed i image newest = in_place_by
-        (subst (AreKept (changes_then unit)) (sym newest) (rw (eq-eqb unit unit refl, rec, changed) (own, place.kept unit)))
-        (subst (AreReady n) (sym newest) (ready_with m n (cell_of f k) i (kept_by images unit) image (place.ready unit)))
-      where
-        made_here : content (store_of_files n) (cell_of_op op) ≡ (effect op (before (cell_of_op op))).cell
-        made_here = sym (moved (cell_of_op op)) ∙ rw (touches-self op) refl
-
-        own : IsKept (record { cell = cell_of_op op; before = before (cell_of_op op); made = (effect op (before (cell_of_op op))).cell }) i
-        own = subst (λ c. IsKept (record { cell = cell_of_op op; before = before (cell_of_op op); made = c }) i) made_here
-            (subst (λ x. IsKept (record { cell = x; before = before x; made = content (store_of_files n) x }) i) (sym on) (stands_for m n f k i image))
+    -- the changes of a recoverable file gave images, which the unit keeps as its newest
+    pub executed_kept : is_recoverable s.opening op ≡ true → (is : List FilesImage) → AreKept made is →
+        kept_by after_images unit ≡ is ++ kept_by images unit → (AreReady m (kept_by images unit) → AreReady n (kept_by after_images unit)) →
+        AreInPlace (after_execution s u op) n after_images
+    executed_kept rec is stand newest ready = in_place_by
+        (subst (AreKept (changes_then unit)) (sym newest) (rw (eq-eqb unit unit refl, rec) (kept_joined made is stand (place.changes unit) (kept_by images unit) (place.kept unit))))
+        (ready (place.ready unit))
 
     -- the file is not recoverable, and the unit's images are as they were
     pub executed_plain : is_recoverable s.opening op ≡ false → kept_by after_images unit ≡ kept_by images unit → AreInPlace (after_execution s u op) n after_images
     executed_plain rec same = in_place_by
         (subst (AreKept (changes_then unit)) (sym same) (rw (eq-eqb unit unit refl, rec) (place.kept unit)))
-        (subst (AreReady n) (sym same) (ready_where (is_other (cell_of f k)) m n (kept_by images unit) others
-        (kept_elsewhere (place.changes unit) (kept_by images unit) (place.kept unit) f k none) (place.ready unit)))
+        (subst (AreReady n) (sym same) (ready_where (leaves op) m n (kept_by images unit) others
+        (kept_where (leaves op) (place.changes unit) (kept_by images unit) (place.kept unit)
+        (λ f k named. true_from_ne_false _ (λ not_left. true≢false (sym named ∙ none f k (touched_from op file f k not_left))))) (place.ready unit)))
       where
-        none : names (Key f k) (place.changes unit) ≡ false
-        none = place.place.named (Key f k) unit (and_left (recovers s.opening (Key f k)) (used s.trace unit (Key f k) Writing)
-            (sym (touches-recovers s.opening op (Key f k) (touches-named op one (Key f k) ∙ ap (λ x. same_cell x (Key f k)) on ∙ same_cell-refl (Key f k))) ∙ rec))
-
-    -- nothing was changed, and the unit's images are as they were
-    pub executed_unchanged : changes op (before (cell_of_op op)) ≡ false → m ≡ n → kept_by after_images unit ≡ kept_by images unit → AreInPlace (after_execution s u op) n after_images
-    executed_unchanged still files_same same = in_place_by
-        (subst (AreKept (changes_then unit)) (sym same) (rw still (cond_both (eqb unit unit && is_recoverable s.opening op) (place.changes unit) (place.changes unit) (λ l. AreKept l (kept_by images unit)) (λ t. place.kept unit) (λ t. place.kept unit))))
-        (subst (AreReady n) (sym same) (subst (λ x. AreReady x (kept_by images unit)) files_same (place.ready unit)))
+        none : (f k : Bytes) → touches op (Key f k) ≡ true → names (Key f k) (place.changes unit) ≡ false
+        none f k touched = place.place.named (Key f k) unit (and_left (recovers s.opening (Key f k)) (used s.trace unit (Key f k) Writing)
+            (sym (touches-recovers s.opening op (Key f k) touched) ∙ rec))
 
 -- ---- The end of a unit
 

@@ -2,8 +2,8 @@
 use Rattle.std.proofs.Common.{◌≡◌, ℕ, Bool, true, false, ◌&&◌, ◌||◌, not, Some, is_some, List, [], ◌∷◌, refl, ap, sym, subst, ◌∙◌, eqb, inl, inr}
 use Rattle.std.specs.Prelude.{if◌then◌else◌, ◌==◌, All, filter}
 use Rattle.std.specs.List.{list_any}
-use Rattle.std.proofs.Math.Bool.{or-false, and-true}
-use Rattle.std.proofs.lemmas.Bool.{true≢false, false≢true, cases_Bool, eq-eqb, eqb-true, and_parts, and_from, or_parts, or_from, false_from_ne_true}
+use Rattle.std.proofs.Math.Bool.{or-false, and-true, and-false}
+use Rattle.std.proofs.lemmas.Bool.{true≢false, false≢true, cases_Bool, eq-eqb, eqb-true, and_parts, and_from, or_cases, or_parts, or_from, false_from_ne_true}
 use Rattle.std.proofs.lemmas.List.Elements.{All-cons, All-head, All-tail, All-filter}
 use Rattle.cics_names.specs.Keyed.{Bytes, is_same}
 use Rattle.cics_names.specs.KeyedLaws.{is_same-self, is_same-eq}
@@ -19,6 +19,8 @@ use Rattle.cics_units.specs.TableInPlace.{record_of, is_read, AreOnce}
 use Rattle.cics_history.specs.declared.ops.Op.{Op}
 use Rattle.cics_history.specs.declared.ops.Op.TheVariants.{Write, Rewrite, Delete, DeleteGeneric, ReadUpdate, TsWrite, TsRewrite, TsDelete, TdWrite, TdRead, TdDelete}
 use Rattle.cics_history.proofs.Holders.{any_filter}
+use Rattle.cics_history.proofs.Waiting.{any_more}
+use Rattle.cics_ksds.specs.Prefixes.{has_prefix}
 
 -- ---- Tests over lists
 
@@ -126,6 +128,10 @@ OnEach P (x ∷ xs) = P x × OnEach P xs
 pub OnEach-any : (P : UpdateRead → Type 0) → ((x : UpdateRead) → P x) → (xs : List UpdateRead) → OnEach P xs
 OnEach-any P h [] = tt
 OnEach-any P h (x ∷ xs) = (h x, OnEach-any P h xs)
+
+pub OnEach-map : (P Q : UpdateRead → Type 0) → ((x : UpdateRead) → P x → Q x) → (xs : List UpdateRead) → OnEach P xs → OnEach Q xs
+OnEach-map P Q h [] each = tt
+OnEach-map P Q h (x ∷ xs) each = (h x each.0, OnEach-map P Q h xs each.1)
 
 -- a unit's update read of a file has the one key
 pub read_keys : (xs : List UpdateRead) (u : ℕ) (f k : Bytes) → AreOnce xs → read_at xs u f ≡ Some k →
@@ -236,35 +242,73 @@ module _ (o : OpeningState) (n : ℕ) (r : Resource) where
 
 -- ---- The update reads after a command
 
--- a command on one record covers the reads of its own record
-pub covers-record : (v : ℕ) (op : Op) → is_file_op op ≡ true → (x : UpdateRead) → covers v op x ≡ true →
-    (is_read_of v (file_of op) x && is_same x.key (key_of op)) ≡ true
-covers-record v (Rewrite f k r) file x h = h
-covers-record v (Delete f k) file x h = h
-covers-record v (Write f k r) file x h = absurd (false≢true h)
-covers-record v (DeleteGeneric f p) file x h = absurd (false≢true file)
-covers-record v (ReadUpdate f k) file x h = absurd (false≢true h)
-covers-record v (TsWrite q d) file x h = absurd (false≢true h)
-covers-record v (TsRewrite q n d) file x h = absurd (false≢true h)
-covers-record v (TsDelete q) file x h = absurd (false≢true h)
-covers-record v (TdWrite q d) file x h = absurd (false≢true h)
-covers-record v (TdRead q) file x h = absurd (false≢true h)
-covers-record v (TdDelete q) file x h = absurd (false≢true h)
+-- whether a command on a file covers its unit's read of that file, by the key that was read
+abbrev pub covers_key : Op → Bytes → Bool
+covers_key (Rewrite f k r) l = is_same l k
+covers_key (Delete f k) l = is_same l k
+covers_key (DeleteGeneric f p) l = has_prefix p l
+covers_key _ l = false
 
--- and one that covers some covers them all
-pub covers-all : (v : ℕ) (op : Op) → is_file_op op ≡ true → (xs : List UpdateRead) → list_any (covers v op) xs ≡ true → (x : UpdateRead) →
-    (is_read_of v (file_of op) x && is_same x.key (key_of op)) ≡ true → covers v op x ≡ true
-covers-all v (Rewrite f k r) file xs some x h = h
-covers-all v (Delete f k) file xs some x h = h
-covers-all v (Write f k r) file xs some x h = absurd (true≢false (sym some ∙ any_never xs))
-covers-all v (DeleteGeneric f p) file xs some x h = absurd (false≢true file)
-covers-all v (ReadUpdate f k) file xs some x h = absurd (true≢false (sym some ∙ any_never xs))
-covers-all v (TsWrite q d) file xs some x h = absurd (true≢false (sym some ∙ any_never xs))
-covers-all v (TsRewrite q n d) file xs some x h = absurd (true≢false (sym some ∙ any_never xs))
-covers-all v (TsDelete q) file xs some x h = absurd (true≢false (sym some ∙ any_never xs))
-covers-all v (TdWrite q d) file xs some x h = absurd (true≢false (sym some ∙ any_never xs))
-covers-all v (TdRead q) file xs some x h = absurd (true≢false (sym some ∙ any_never xs))
-covers-all v (TdDelete q) file xs some x h = absurd (true≢false (sym some ∙ any_never xs))
+pub covers-key : (v : ℕ) (op : Op) → is_file_op op ≡ true → (x : UpdateRead) → covers v op x ≡ (is_read_of v (file_of op) x && covers_key op x.key)
+covers-key v (Rewrite f k r) file x = refl
+covers-key v (Delete f k) file x = refl
+covers-key v (DeleteGeneric f p) file x = refl
+covers-key v (Write f k r) file x = sym (and-false (is_read_of v f x))
+covers-key v (ReadUpdate f k) file x = sym (and-false (is_read_of v f x))
+covers-key v (TsWrite q d) file x = absurd (false≢true file)
+covers-key v (TsRewrite q n d) file x = absurd (false≢true file)
+covers-key v (TsDelete q) file x = absurd (false≢true file)
+covers-key v (TdWrite q d) file x = absurd (false≢true file)
+covers-key v (TdRead q) file x = absurd (false≢true file)
+covers-key v (TdDelete q) file x = absurd (false≢true file)
+
+-- what it covers is its unit's read of its file
+pub covers-own : (v : ℕ) (op : Op) → is_file_op op ≡ true → (x : UpdateRead) → covers v op x ≡ true → is_read_of v (file_of op) x ≡ true
+covers-own v op file x h = (and_parts (is_read_of v (file_of op) x) (covers_key op x.key) (sym (covers-key v op file x) ∙ h)).0
+
+-- where a unit has one read of a file at most, one that passes a test is the one that is found
+pub read_found : (test : Bytes → Bool) (xs : List UpdateRead) (v : ℕ) (f : Bytes) → AreOnce xs →
+    list_any (λ x. is_read_of v f x && test x.key) xs ≡ true → (k : Bytes) × (read_at xs v f ≡ Some k) × (test k ≡ true)
+read_found test [] v f once h = absurd (false≢true h)
+read_found test (x ∷ xs) v f once h =
+    elim (cases_Bool (is_read_of v f x)) [
+      | inl own ↦
+          let both = and_parts (eqb x.unit v) (is_same x.file f) own in
+          let no_more : list_any (is_read_of v f) xs ≡ false =
+          ap (λ m. list_any (is_read_of m f) xs) (sym (eqb-true x.unit v both.0))
+          ∙ ap (λ g. list_any (is_read_of x.unit g) xs) (sym (is_same-eq x.file f both.1)) ∙ once.0 in
+          elim (or_cases (is_read_of v f x && test x.key) (list_any (λ y. is_read_of v f y && test y.key) xs) h) [
+            | inl here ↦ (x.key, ap (λ b. if b then Some x.key else read_at xs v f) own, (and_parts (is_read_of v f x) (test x.key) here).1)
+            | inr later ↦ absurd (true≢false (sym (any_more (λ y. is_read_of v f y && test y.key) (is_read_of v f)
+                (λ y t. (and_parts (is_read_of v f y) (test y.key) t).0) xs later) ∙ no_more))
+          ]
+      | inr other ↦
+          let rest = read_found test xs v f once.1 (sym (ap (λ b. (b && test x.key) || list_any (λ y. is_read_of v f y && test y.key) xs) other) ∙ h) in
+          (rest.0, ap (λ b. if b then Some x.key else read_at xs v f) other ∙ rest.1, rest.2)
+    ]
+
+-- the reads that a command covers are the unit's read of its file, where it covers any
+module _ (v : ℕ) (op : Op) (file : is_file_op op ≡ true) (xs : List UpdateRead) (once : AreOnce xs) (some : list_any (covers v op) xs ≡ true) where
+  abbrev covered_found : (k : Bytes) × (read_at xs v (file_of op) ≡ Some k) × (covers_key op k ≡ true)
+  covered_found = read_found (covers_key op) xs v (file_of op) once (ap (λ p. list_any p xs) (λ i x. sym (covers-key v op file x) i) ∙ some)
+
+  abbrev pub covered_key : Bytes
+  covered_key = covered_found.0
+
+  pub covered_at : read_at xs v (file_of op) ≡ Some covered_key
+  covered_at = covered_found.1
+
+  -- each is a read of that key
+  pub covered_is : OnEach (λ x. covers v op x ≡ true → (is_read_of v (file_of op) x && is_same x.key covered_key) ≡ true) xs
+  covered_is = OnEach-map (λ x. is_read_of v (file_of op) x ≡ true → (is_read_of v (file_of op) x && is_same x.key covered_key) ≡ true)
+      (λ x. covers v op x ≡ true → (is_read_of v (file_of op) x && is_same x.key covered_key) ≡ true)
+      (λ x h c. h (covers-own v op file x c)) xs (read_keys xs v (file_of op) covered_key once covered_at)
+
+  -- and each read of that key is covered
+  pub covered_all : (x : UpdateRead) → (is_read_of v (file_of op) x && is_same x.key covered_key) ≡ true → covers v op x ≡ true
+  covered_all x h =
+      let parts = and_parts (is_read_of v (file_of op) x) (is_same x.key covered_key) h in
+      covers-key v op file x ∙ and_from _ _ parts.0 (subst (λ l. covers_key op l ≡ true) (sym (is_same-eq x.key covered_key parts.1)) covered_found.2)
 
 -- the update reads of each unit and file stay one
 pub AreOnce-opened : (v : ℕ) (op : Op) (xs : List UpdateRead) →
@@ -295,8 +339,7 @@ module _ (o : OpeningState) (n : ℕ) (r : Resource) (v : ℕ) where
   pub any_opened-recoverable : (op : Op) → is_file_op op ≡ true → file_recoverable o (file_of op) ≡ true → (xs : List UpdateRead) →
       list_any (by_read o n r) (opened v op (filter (λ x. not (covers v op x)) xs)) ≡ list_any (by_read o n r) xs
   any_opened-recoverable op file rec xs = opens op rec (any_kept (by_read o n r) (covers v op) xs (λ x c.
-      by_read-recoverable o n r (file_of op) rec x (and_parts (eqb x.unit v) (is_same x.file (file_of op))
-      (and_parts (is_read_of v (file_of op) x) (is_same x.key (key_of op)) (covers-record v op file x c)).0).1))
+      by_read-recoverable o n r (file_of op) rec x (and_parts (eqb x.unit v) (is_same x.file (file_of op)) (covers-own v op file x c)).1))
     where
       opens : (op : Op) → file_recoverable o (file_of op) ≡ true →
           list_any (by_read o n r) (filter (λ x. not (covers v op x)) xs) ≡ list_any (by_read o n r) xs →

@@ -16,8 +16,8 @@ use Rattle.cics_history.specs.Store.{is_normal, is_recoverable}
 use Rattle.cics_history.specs.History.{outcome_of, is_open}
 use Rattle.cics_history.specs.Holding.{UnitsState, UpdateRead, EnqCount, uses_of, held_by_entry, held_by_read, held_by_count, held_by}
 use Rattle.cics_history.specs.Execution.{unit_or_next, reads_after, entered}
-use Rattle.cics_history.specs.Records.{is_file_op, file_of, key_of}
-use Rattle.cics_units.specs.TableInPlace.{record_of}
+use Rattle.cics_history.specs.Records.{is_file_op, file_of}
+use Rattle.cics_units.specs.TableInPlace.{record_of, resource_of}
 use Rattle.cics_history.specs.declared.ops.Op.{Op}
 use Rattle.cics_history.specs.declared.ops.Op.TheVariants.{Write, Rewrite, Delete, DeleteGeneric, ReadUpdate, TsWrite, TsRewrite, TsDelete, TdWrite, TdRead, TdDelete}
 use Rattle.cics_history.specs.declared.ops.Answer.{Answer}
@@ -144,19 +144,19 @@ module _ (s : UnitsState) (u : Option ℕ) (op : Op) (a : Answer) (n : ℕ) (p :
   pub by_entry-none : (is_normal a.condition && is_recoverable s.opening op) ≡ false → by_entry ≡ false
   by_entry-none none = ap (λ b. list_any p (if b then uses_of s.opening op else [])) (and_right (unit_or_next u s.outcomes == n) _ none)
 
-  -- a command on a record of a recoverable file holds the record
+  -- a command on a recoverable file holds what it uses of it
   pub by_entry-file : is_normal a.condition ≡ true → is_file_op op ≡ true → file_recoverable s.opening (file_of op) ≡ true →
-      by_entry ≡ ((unit_or_next u s.outcomes == n) && p (record_of (file_of op) (key_of op)))
+      by_entry ≡ ((unit_or_next u s.outcomes == n) && p (resource_of op))
   by_entry-file normal file rec =
       (λ i. list_any p (if (unit_or_next u s.outcomes == n) && (normal i && (recovers op file ∙ rec) i) then uses op file i else []))
-      ∙ any_if_one p ((unit_or_next u s.outcomes == n) && true) (record_of (file_of op) (key_of op))
-      ∙ ap (λ b. b && p (record_of (file_of op) (key_of op))) (and-true (unit_or_next u s.outcomes == n))
+      ∙ any_if_one p ((unit_or_next u s.outcomes == n) && true) (resource_of op)
+      ∙ ap (λ b. b && p (resource_of op)) (and-true (unit_or_next u s.outcomes == n))
     where
-      uses : (op : Op) → is_file_op op ≡ true → uses_of s.opening op ≡ record_of (file_of op) (key_of op) ∷ []
+      uses : (op : Op) → is_file_op op ≡ true → uses_of s.opening op ≡ resource_of op ∷ []
       uses (Write f k d) h = refl
       uses (Rewrite f k d) h = refl
       uses (Delete f k) h = refl
-      uses (DeleteGeneric f q) h = absurd (false≢true h)
+      uses (DeleteGeneric f q) h = refl
       uses (ReadUpdate f k) h = refl
       uses (TsWrite q d) h = absurd (false≢true h)
       uses (TsRewrite q m d) h = absurd (false≢true h)
@@ -169,7 +169,7 @@ module _ (s : UnitsState) (u : Option ℕ) (op : Op) (a : Answer) (n : ℕ) (p :
       recovers (Write f k d) h = refl
       recovers (Rewrite f k d) h = refl
       recovers (Delete f k) h = refl
-      recovers (DeleteGeneric f q) h = absurd (false≢true h)
+      recovers (DeleteGeneric f q) h = refl
       recovers (ReadUpdate f k) h = refl
       recovers (TsWrite q d) h = absurd (false≢true h)
       recovers (TsRewrite q m d) h = absurd (false≢true h)

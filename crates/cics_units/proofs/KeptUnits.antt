@@ -1,5 +1,5 @@
 -- Each call keeps the units: what their state says, what the files and images hold, and what the table tells.
-use Rattle.std.proofs.Common.{◌≡◌, ◌≢◌, ℕ, ◌<◌, ◌≤◌, Bool, true, false, not, Option, Some, None, List, [], ◌∷◌, length, length-append, refl, ap, sym, subst, ◌∙◌, arith}
+use Rattle.std.proofs.Common.{◌≡◌, ◌≢◌, ℕ, ◌<◌, ◌≤◌, Bool, true, false, not, Option, Some, None, List, [], ◌∷◌, ◌++◌, length, length-append, refl, ap, sym, subst, ◌∙◌, arith}
 use Rattle.std.specs.Prelude.{◌&&◌, is_some, map, option_map, unwrap_or, IsTrue, fold}
 use Rattle.std.proofs.lemmas.Bool.{false≢true, true≢false, and_parts}
 use Rattle.std.proofs.lemmas.List.{length-set}
@@ -18,12 +18,12 @@ use Rattle.cics_history.specs.History.{is_open, kept}
 use Rattle.cics_history.specs.Holding.{UnitsState, store_of, awaited}
 use Rattle.cics_history.specs.Execution.{unit_or_next, outcomes_with, next_after, entered, state_of, after_execution, after_unlock, after_end, read_at, is_fit_for, is_ready_op}
 use Rattle.cics_history.specs.Headline.{IsHeadline, beginning}
-use Rattle.cics_history.specs.Cells.{Cell, Key, Ts, Td, content, is_generic, cell_of as cell_of_op, Writing, uses, IsCanonical}
+use Rattle.cics_history.specs.Cells.{Cell, Key, Ts, Td, IsCanonical}
 use Rattle.cics_history.specs.Events.{may_act, is_live}
 use Rattle.cics_history.specs.Isolation.{IsSound}
-use Rattle.cics_history.specs.Undo.{is_plain, changes}
+use Rattle.cics_history.specs.Undo.{is_plain}
 use Rattle.cics_units.specs.RegionFiles.{IsThere, opened_files, file_of as file_of_opening}
-use Rattle.cics_units.specs.FilesImages.{cell_of, cell_of_image, files_content, files_hold, FilesKeep, IsReadyFor, files_undone, files_swept, definitions_of}
+use Rattle.cics_units.specs.FilesImages.{cell_of_image, files_content, files_hold, FilesKeep, IsReadyFor, files_undone, files_swept, definitions_of}
 use Rattle.cics_images.specs.NamedValues.{changed_where, changed_at, split, split_swept, of_value, of_split}
 use Rattle.cics_images.specs.NamedLaws.{split_cell}
 use Rattle.cics_images.specs.Cells.{all_swept}
@@ -34,7 +34,7 @@ use Rattle.cics_units.specs.UnitImages.{kept_none, kept_by, AreOthersKept, AreHe
 use Rattle.cics_units.specs.UnitImagesLaws.{held_after_change}
 use Rattle.cics_history.specs.Records.{is_file_op, file_of, key_of}
 use Rattle.cics_units.specs.TableInPlace.{table_executed, table_unlocked}
-use Rattle.cics_units.specs.Parts.{UndoableValue, is_recoverable_in, IsRecordOf, IsFitOp, AreImagesAfter, AreChanged}
+use Rattle.cics_units.specs.Parts.{UndoableValue, is_recoverable_in, IsRecordOf, IsFitOp, AreImagesAfter, AreChanged, leaves}
 use Rattle.cics_units.specs.KeptUnits.{AreKept}
 use Rattle.cics_history.specs.declared.ops.Op.{Op}
 use Rattle.cics_history.specs.declared.ops.Op.TheVariants.{Write, Rewrite, Delete, DeleteGeneric, ReadUpdate, TsWrite, TsRewrite, TsDelete, TdWrite, TdRead, TdDelete}
@@ -47,7 +47,7 @@ use Rattle.cics_units.proofs.Opened.{with_value-each}
 use Rattle.cics_history.proofs.Stores.{same_store, apply-canonical, replay-canonical, initial-canonical, file_canonical, value_at_each}
 use Rattle.cics_history.proofs.States.{beginning-IsSound, execution-IsSound, unlock-IsSound, end-IsSound, agrees_of}
 use Rattle.cics_units.proofs.FileChanges.{kept_definitions}
-use Rattle.cics_units.proofs.FilesInPlace.{executed_kept, executed_plain, executed_unchanged, same_cells, committed_in_place, backed_out_in_place, beginning_in_place}
+use Rattle.cics_units.proofs.FilesInPlace.{executed_kept, executed_plain, same_cells, committed_in_place, backed_out_in_place, beginning_in_place}
 use Rattle.cics_units.proofs.TableInPlace.{table_begins, table_executed_of, table_unlocked_of, table_ended_of}
 
 none_some : {A : Type 0} {x : A} → None ≡ Some x → ⊥
@@ -77,12 +77,16 @@ either_false : (a b : Bool) → b ≡ false → (a && b) ≡ false
 either_false true b none = none
 either_false false b none = refl
 
+-- what a list names a longer one names
+named_still : (more is : List FilesImage) (c : List ℕ) → is_unnamed cell_of_image is c ≡ false → is_unnamed cell_of_image (more ++ is) c ≡ false
+named_still [] is c named = named
+named_still (i ∷ more) is c named = either_false (is_other (cell_of_image i) c) (is_unnamed cell_of_image (more ++ is) c) (named_still more is c named)
+
 -- a unit that changes something keeps an image of each cell that it kept one of
-more_named : (old new : UndoableValue) (unit : ℕ) (f k : Bytes) (recoverable changed : Bool) → AreImagesAfter old new unit f k recoverable changed → (c : List ℕ) →
+more_named : (old new : UndoableValue) (unit : ℕ) (op : Op) (recoverable : Bool) → AreImagesAfter old new unit op recoverable → (c : List ℕ) →
     is_unnamed cell_of_image (kept_by old.images unit) c ≡ false → is_unnamed cell_of_image (kept_by new.images unit) c ≡ false
-more_named old new unit f k false changed after c named = ap (λ is. is_unnamed cell_of_image is c) after ∙ named
-more_named old new unit f k true false after c named = ap (λ is. is_unnamed cell_of_image is c) after.1 ∙ named
-more_named old new unit f k true true after c named = ap (λ is. is_unnamed cell_of_image is c) after.newest ∙ either_false (is_other (cell_of_image after.image) c) (is_unnamed cell_of_image (kept_by old.images unit) c) named
+more_named old new unit op false after c named = ap (λ is. is_unnamed cell_of_image is c) after ∙ named
+more_named old new unit op true after c named = ap (λ is. is_unnamed cell_of_image is c) after.newest ∙ named_still after.images (kept_by old.images unit) c named
 
 module _ (s : UnitsState) (st : UndoableValue) (t : Table) (is : AreKept s st t) where
   -- ---- What the files are to the opening
@@ -134,7 +138,7 @@ module _ (s : UnitsState) (st : UndoableValue) (t : Table) (is : AreKept s st t)
   ready_fits u (Write f k r) file ready = record_of_defined f k r ready
   ready_fits u (Rewrite f k r) file ready = record_of_defined f k r (and_parts (is_fit_for (value_at f s.opening.files) k r) _ ready).0
   ready_fits u (Delete f k) file ready = defined_there f ready
-  ready_fits u (DeleteGeneric f p) file ready = absurd (false≢true file)
+  ready_fits u (DeleteGeneric f p) file ready = defined_there f ready
   ready_fits u (ReadUpdate f k) file ready = defined_there f (and_parts (has_key f s.opening.files) _ ready).0
   ready_fits u (TsWrite q d) file ready = absurd (false≢true file)
   ready_fits u (TsRewrite q n d) file ready = absurd (false≢true file)
@@ -223,7 +227,7 @@ recoverable_op : (o : OpeningState) (op : Op) → is_file_op op ≡ true → is_
 recoverable_op o (Write f k r) file = refl
 recoverable_op o (Rewrite f k r) file = refl
 recoverable_op o (Delete f k) file = refl
-recoverable_op o (DeleteGeneric f p) file = absurd (false≢true file)
+recoverable_op o (DeleteGeneric f p) file = refl
 recoverable_op o (ReadUpdate f k) file = refl
 recoverable_op o (TsWrite q d) file = absurd (false≢true file)
 recoverable_op o (TsRewrite q n d) file = absurd (false≢true file)
@@ -232,42 +236,12 @@ recoverable_op o (TdWrite q d) file = absurd (false≢true file)
 recoverable_op o (TdRead q) file = absurd (false≢true file)
 recoverable_op o (TdDelete q) file = absurd (false≢true file)
 
-pub key_op : (op : Op) → is_file_op op ≡ true → cell_of_op op ≡ Key (file_of op) (key_of op)
-key_op (Write f k r) file = refl
-key_op (Rewrite f k r) file = refl
-key_op (Delete f k) file = refl
-key_op (DeleteGeneric f p) file = absurd (false≢true file)
-key_op (ReadUpdate f k) file = refl
-key_op (TsWrite q d) file = absurd (false≢true file)
-key_op (TsRewrite q n d) file = absurd (false≢true file)
-key_op (TsDelete q) file = absurd (false≢true file)
-key_op (TdWrite q d) file = absurd (false≢true file)
-key_op (TdRead q) file = absurd (false≢true file)
-key_op (TdDelete q) file = absurd (false≢true file)
-
-single_op : (op : Op) → is_file_op op ≡ true → is_generic op ≡ false
-single_op (DeleteGeneric f p) file = absurd (false≢true file)
-single_op op file = refl
-
-writes_op : (op : Op) → is_file_op op ≡ true → uses op Writing ≡ true
-writes_op (Write f k r) file = refl
-writes_op (Rewrite f k r) file = refl
-writes_op (Delete f k) file = refl
-writes_op (DeleteGeneric f p) file = refl
-writes_op (ReadUpdate f k) file = refl
-writes_op (TsWrite q d) file = refl
-writes_op (TsRewrite q n d) file = refl
-writes_op (TsDelete q) file = refl
-writes_op (TdWrite q d) file = refl
-writes_op (TdRead q) file = absurd (false≢true file)
-writes_op (TdDelete q) file = refl
-
 -- no command on a file moves a NEXT place
 pub next_none : (t : Store) (op : Op) (c : Condition) → is_file_op op ≡ true → next_after t op c [] ≡ []
 next_none t (Write f k r) c file = refl
 next_none t (Rewrite f k r) c file = refl
 next_none t (Delete f k) c file = refl
-next_none t (DeleteGeneric f p) c file = absurd (false≢true file)
+next_none t (DeleteGeneric f p) c file = refl
 next_none t (ReadUpdate f k) c file = refl
 next_none t (TsWrite q d) c file = absurd (false≢true file)
 next_none t (TsRewrite q n d) c file = absurd (false≢true file)
@@ -292,20 +266,13 @@ module _ (s : UnitsState) (st new : UndoableValue) (t : Table) (is : AreKept s s
     rec : (b : Bool) → is_recoverable_in (value_at (file_of op) st.files) ≡ b → is_recoverable s.opening op ≡ b
     rec b e = recoverable_op s.opening op file ∙ sym (recoverable_alike s st t is (file_of op)) ∙ e
 
-    at_key : (b : Bool) → changes op (content (store_of_files st.files) (Key (file_of op) (key_of op))) ≡ b → changes op (content (store_of_files st.files) (cell_of_op op)) ≡ b
-    at_key b e = ap (λ x. changes op (content (store_of_files st.files) x)) (key_op op file) ∙ e
-
-    place_then : (r c : Bool) → is_recoverable_in (value_at (file_of op) st.files) ≡ r → changes op (content (store_of_files st.files) (Key (file_of op) (key_of op))) ≡ c →
-        AreImagesAfter st new (unit_or_next u s.outcomes) (file_of op) (key_of op) r c → AreInPlace (after_execution s u op) new.files new.images
-    place_then false c er ec images =
-        executed_plain s st.files new.files st.images new.images u op (file_of op) (key_of op) is.sound is.place acts free (key_op op file) (single_op op file) (writes_op op file) changed.store changed.others apart
-        (rec false er) images
-    place_then true true er ec images =
-        executed_kept s st.files new.files st.images new.images u op (file_of op) (key_of op) is.sound is.place acts free (key_op op file) (single_op op file) (writes_op op file) changed.store changed.others apart
-        (rec true er) (at_key true ec) images.image images.undoes images.newest
-    place_then true false er ec images =
-        executed_unchanged s st.files new.files st.images new.images u op (file_of op) (key_of op) is.sound is.place acts free (key_op op file) (single_op op file) (writes_op op file) changed.store changed.others apart
-        (at_key false ec) images.0 images.1
+    place_then : (r : Bool) → is_recoverable_in (value_at (file_of op) st.files) ≡ r → AreImagesAfter st new (unit_or_next u s.outcomes) op r →
+        AreInPlace (after_execution s u op) new.files new.images
+    place_then false er images =
+        executed_plain s st.files new.files st.images new.images u op is.sound is.place acts free file is.canonical.records changed.store changed.others apart (rec false er) images
+    place_then true er images =
+        executed_kept s st.files new.files st.images new.images u op is.sound is.place acts free file is.canonical.records changed.store changed.others apart (rec true er)
+        images.images images.made images.newest images.ready
 
     pub kept_executed : AreKept (entered s u op answer) new (table_executed s.opening (unit_or_next u s.outcomes) op answer.condition s.reads t)
     kept_executed = record {
@@ -314,11 +281,11 @@ module _ (s : UnitsState) (st new : UndoableValue) (t : Table) (is : AreKept s s
       files_alone = is.files_alone;
       sound = subst IsSound is_entered (execution-IsSound s u op is.sound acts);
       canonical = subst IsCanonical (sym changed.store) (apply-canonical (store_of_files st.files) op is.canonical);
-      place = subst (λ n. AreInPlace n new.files new.images) is_entered (place_then _ _ refl refl changed.images);
-      definitions = λ f. ap (λ d. d f) (kept_definitions (is_other (cell_of (file_of op) (key_of op))) st.files new.files changed.others) ∙ is.definitions f;
+      place = subst (λ n. AreInPlace n new.files new.images) is_entered (place_then _ refl changed.images);
+      definitions = λ f. ap (λ d. d f) (kept_definitions (leaves op) st.files new.files changed.others) ∙ is.definitions f;
       table = table_executed_of s t u op answer is.sound is.table acts file free ready short;
       held = held_after_change files_hold cell_of_image st.files new.files st.images new.images (unit_or_next u s.outcomes) changed.apart changed.held
-          (more_named st new (unit_or_next u s.outcomes) (file_of op) (key_of op) _ _ changed.images) is.held;
+          (more_named st new (unit_or_next u s.outcomes) op _ changed.images) is.held;
       begun = begun_by u room;
     }
       where

@@ -4,9 +4,12 @@ mod OpeningRows
 mod SerialKept
 pub mod Matched
 pub mod Changing
+pub mod MadeImages
+mod DeletedUnder
 pub mod FilesInPlace
 pub mod Refilled
 mod FileChanges
+mod StoredImages
 mod PartChanges
 pub mod OpenReads
 pub mod HeldPlaces
@@ -14,6 +17,7 @@ pub mod HeldReads
 pub mod HeldSums
 mod Unprefixed
 pub mod TableChanges
+pub mod HeldOver
 pub mod TableInPlace
 pub mod Plain
 pub mod PlainOpening
@@ -22,3 +26,10 @@ pub mod TableValues
 mod KeptUnits
 mod ShownUnits
 mod Enqueuing
+pub mod StoreMatched
+mod StoreExamples
+pub mod StoreQueues
+pub mod StoreInPlace
+pub mod StoreCommitted
+pub mod StoreBackedOut
+pub mod StoreExecuted

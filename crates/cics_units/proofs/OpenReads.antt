@@ -1,8 +1,7 @@
 -- The update reads of each unit by file, and the list that they show.
 use Rattle.std.specs.Prelude.{◌≡◌, ◌<◌, ℕ, Bool, true, false, cond, not, ◌==◌, ◌&&◌, ◌||◌, nat_lt, Option, Some, None, List, [], ◌∷◌, ◌++◌, filter, All, IfSome, refl}
 use Rattle.std.proofs.Common.{sym, ap, ◌∙◌, subst, arith}
-use Rattle.std.proofs.lemmas.Bool.{false≢true, eqb-true, lt-ltb, le-ltb, ne_eqb, eq-eqb, and_left, and_parts}
-use Rattle.std.proofs.lemmas.List.Elements.{All-head, All-tail}
+use Rattle.std.proofs.lemmas.Bool.{false≢true, eqb-true, lt-ltb, le-ltb, ne_eqb, eq-eqb}
 use Rattle.std.proofs.lemmas.Map.{lookup-none}
 use Rattle.std.proofs.lemmas.Map.Entries.{none_past_head}
 use Rattle.std.proofs.lemmas.Map.Keys.{sorted_head, sorted_tail, IsDistinct-from_sorted}
@@ -17,11 +16,10 @@ use Rattle.std.specs.List.Sorted.{IsStrictlySortedBy}
 use Rattle.std.specs.BTreeMap.{BTreeMap, is_at, insert_entry}
 use Rattle.std.specs.Map.{lookup, set_value, remove_entry, keys_of, values_of}
 use Rattle.cics_names.specs.Keyed.{Bytes, Map, bytes_cmp, is_same, is_below}
-use Rattle.cics_names.specs.KeyedLaws.{is_same-self, is_same-eq}
 use Rattle.cics_names.specs.RisingLaws.{is_same-turned}
 use Rattle.cics_history.specs.Holding.{UpdateRead}
 use Rattle.cics_history.specs.Execution.{is_read_of, read_at, with_read}
-use Rattle.cics_units.specs.OpenReads.{reads_of, reads_in, AreRising, is_read_key}
+use Rattle.cics_units.specs.OpenReads.{reads_of, reads_in, AreRising}
 
 abbrev Rows : Type 0
 Rows = List (ℕ × BTreeMap Bytes Bytes)
@@ -334,79 +332,6 @@ ended_row u (row ∷ rows) sorted =
           ap (λ r. reads_of row.0 row.1.entries ++ r) (ended_row u rows (tail row rows sorted))
           ∙ sym (filter-skip u row.0 (λ r. not (r.unit == u)) (others_unit u) row.1.entries (reads_in rows) (tied u row.0 (nat_cmp u row.0) refl e))
     ] refl
-
--- ---- a read is covered by its key
-
--- no unit has two reads of a file
-abbrev AreApart : List UpdateRead → Type 0
-AreApart [] = Unit {0}
-AreApart (x ∷ xs) = (read_at xs x.unit x.file ≡ None) × AreApart xs
-
-of_apart : (v : ℕ) (es : Map Bytes) (rest : List UpdateRead) → IsStrictlySortedBy bytes_cmp (keys_of es) → AreLater v rest → AreApart rest →
-    AreApart (reads_of v es ++ rest)
-of_apart v [] rest sorted later apart = apart
-of_apart v (e ∷ es) rest sorted later apart =
-    (read_at-own v e.0 es rest later ∙ none_later e.0 e es sorted (is_same-self e.0), of_apart v es rest (sorted_tail bytes_cmp e.0 (keys_of es) sorted) later apart)
-
-in_apart : (rows : Rows) → IsStrictlySortedBy nat_cmp (keys_of rows) → All FilesRise (values_of rows) → AreApart (reads_in rows)
-in_apart [] sorted files = tt
-in_apart (row ∷ rows) sorted files =
-    of_apart row.0 row.1.entries (reads_in rows) (All-head FilesRise row.1 (values_of rows) files) (rest_later row rows sorted)
-    (in_apart rows (tail row rows sorted) (All-tail FilesRise row.1 (values_of rows) files))
-
--- the reads after a command that covers a key
-abbrev uncovered : ℕ → Bytes → Bytes → List UpdateRead → List UpdateRead
-uncovered u f k xs = filter (λ r. not (is_read_of u f r && is_same r.key k)) xs
-
-abbrev unread : ℕ → Bytes → List UpdateRead → List UpdateRead
-unread u f xs = filter (λ r. not (is_read_of u f r)) xs
-
-uncovered-absent : (u : ℕ) (f k : Bytes) (xs : List UpdateRead) → read_at xs u f ≡ None → uncovered u f k xs ≡ xs
-uncovered-absent u f k [] absent = refl
-uncovered-absent u f k (x ∷ xs) absent =
-    let parts = not_chosen (is_read_of u f x) x.key (read_at xs u f) absent in
-    keeps_all (is_read_of u f x && is_same x.key k) x _ xs (and_left _ _ parts.0) (uncovered-absent u f k xs parts.1)
-
--- of reads that are apart a covered one alone goes
-covered : (u : ℕ) (f k : Bytes) (xs : List UpdateRead) → AreApart xs →
-    uncovered u f k xs ≡ cond (is_read_key (read_at xs u f) k) (unread u f xs) xs
-covered u f k [] apart = nothing (is_read_key None k)
-  where
-    nothing : (b : Bool) → [] ≡ cond b (unread u f []) []
-    nothing true = refl
-    nothing false = refl
-covered u f k (x ∷ xs) apart =
-    elim (is_read_of u f x) as (λ b. is_read_of u f x ≡ b →
-    cond (not (b && is_same x.key k)) (x ∷ uncovered u f k xs) (uncovered u f k xs)
-    ≡ cond (is_read_key (cond b (Some x.key) (read_at xs u f)) k) (cond (not b) (x ∷ unread u f xs) (unread u f xs)) (x ∷ xs)) [
-      | true ↦ λ e.
-          let parts = and_parts (x.unit == u) (is_same x.file f) e in
-          let own : x.unit ≡ u = eqb-true x.unit u parts.0 in
-          let file : x.file ≡ f = is_same-eq x.file f parts.1 in
-          let none : read_at xs u f ≡ None = (λ i. read_at xs (sym own i) (sym file i)) ∙ apart.0 in
-          by (is_same x.key k) none
-      | false ↦ λ e. ap (λ r. x ∷ r) (covered u f k xs apart.1) ∙ both (is_read_key (read_at xs u f) k)
-    ] refl
-  where
-    by : (b : Bool) → read_at xs u f ≡ None → cond (not b) (x ∷ uncovered u f k xs) (uncovered u f k xs) ≡ cond b (unread u f xs) (x ∷ xs)
-    by true none = uncovered-absent u f k xs none ∙ sym (filter-absent u f xs none)
-    by false none = ap (λ r. x ∷ r) (uncovered-absent u f k xs none)
-
-    both : (b : Bool) → x ∷ cond b (unread u f xs) xs ≡ cond b (x ∷ unread u f xs) (x ∷ xs)
-    both true = refl
-    both false = refl
-
-module _ (u : ℕ) (f k : Bytes) (rows : Rows) (now : List UpdateRead) (rising : AreRising rows) (view : reads_in rows ≡ now) where
-  seen_covered : (b : Bool) → is_read_key (read_at now u f) k ≡ b → uncovered u f k now ≡ cond b (unread u f now) now
-  seen_covered b is =
-      covered u f k now (subst AreApart view (in_apart rows rising.units rising.files)) ∙ ap (λ c. cond c (unread u f now) now) is
-
-  -- what is covered ends as where it is closed
-  pub covered_in : is_read_key (read_at now u f) k ≡ true → unread u f now ≡ uncovered u f k now
-  covered_in is = sym (seen_covered true is)
-
-  pub not_covered_in : is_read_key (read_at now u f) k ≡ false → now ≡ uncovered u f k now
-  not_covered_in is = sym (seen_covered false is)
 
 -- ---- the rows rise after each change
 

@@ -1,12 +1,13 @@
 -- What the table of enqueues and the update reads are after a change of the parts.
 use Rattle.std.specs.Prelude.{◌≡◌, ℕ, ◌+◌, Bool, true, false, not, cond, ◌&&◌, ◌||◌, if◌then◌else◌, T, Option, Some, None, is_some, is_none, option_map, filter, List, [], ◌∷◌, refl}
-use Rattle.std.proofs.Common.{sym, ap, ◌∙◌, subst, eqb}
+use Rattle.std.proofs.Common.{sym, ap, ◌∙◌, subst, eqb, inl, inr}
 use Rattle.std.specs.List.{list_any}
 use Rattle.std.specs.declared.cmp.Ordering.TheVariants.{Less, Equal, Greater}
 use Rattle.std.specs.Ordering.{is_eq}
 use Rattle.std.specs.FinMap as map_by
 use Rattle.std.specs.FinMap.Entries.{find-put, is_sorted-put, same_entries}
-use Rattle.std.proofs.lemmas.Bool.{true≢false, false≢true, eqb-true, and_parts, false_from_ne_true}
+use Rattle.std.proofs.lemmas.Bool.{true≢false, false≢true, cases_Bool, eqb-true, and_parts, false_from_ne_true}
+use Rattle.std.proofs.Math.Bool.{or-false}
 use Rattle.cics_names.specs.Keyed.{Bytes, is_same}
 use Rattle.cics_names.specs.KeyedLaws.{is_same-eq}
 use Rattle.cics_enqueue.specs.Resources.{Table, Held, held_at, holder_of, IsFreeFor, is_user, is_in_order, raised_count, resource_cmp, taken, given_back}
@@ -15,12 +16,14 @@ use Rattle.cics_enqueue.specs.ResourceLaws.{free_own, resource_cmp_total, same_r
 use Rattle.cics_enqueue.specs.declared.resources.Resource.{Resource}
 use Rattle.cics_history.specs.Holding.{UpdateRead}
 use Rattle.cics_history.specs.Execution.{is_read_of, read_at, covers}
-use Rattle.cics_units.specs.OpenReads.{is_read_key}
-use Rattle.cics_history.specs.Records.{is_file_op}
-use Rattle.cics_units.specs.TableInPlace.{AreOnce}
+use Rattle.cics_ksds.specs.Prefixes.{has_prefix}
+use Rattle.cics_units.specs.OpenReads.{is_read_key, is_read_under}
+use Rattle.cics_history.specs.Records.{is_file_op, file_of}
+use Rattle.cics_units.specs.TableInPlace.{AreOnce, covered_read}
 use Rattle.cics_history.specs.declared.ops.Op.{Op}
 use Rattle.cics_history.specs.declared.ops.Op.TheVariants.{Write, Rewrite, Delete, DeleteGeneric, ReadUpdate, TsWrite, TsRewrite, TsDelete, TdWrite, TdRead, TdDelete}
 use Rattle.cics_history.proofs.Waiting.{any_more}
+use Rattle.cics_units.proofs.HeldReads.{any_never, OnEach, OnEach-map, read_keys, covers-own, covered_key, covered_at, covered_all}
 
 -- to hold a resource as it is held changes nothing
 put-same : (r : Resource) (h : Held) (t : Table) → T (is_in_order t) → held_at r t ≡ Some h → map_by.put resource_cmp r h t ≡ t
@@ -48,33 +51,47 @@ taken-held t r u rises held plain = by (held_at r t) refl held
         ∙ ap (λ n. map_by.put resource_cmp r (record { unit = n; count = h.count }) t) (sym unit)
         ∙ put-same r h t rises at
 
--- where a unit has one read of a file at most, one of a key is the one that is found
-pub covered-read_at : (u : ℕ) (f k : Bytes) (reads : List UpdateRead) → AreOnce reads →
-    list_any (λ r. is_read_of u f r && is_same r.key k) reads ≡ is_read_key (read_at reads u f) k
-covered-read_at u f k [] once = refl
-covered-read_at u f k (r ∷ rs) once =
+-- a test of the key of an update read, if there is one
+abbrev pub is_read_with : (Bytes → Bool) → Option Bytes → Bool
+is_read_with test None = false
+is_read_with test (Some key) = test key
+
+-- where a unit has one read of a file at most, one that passes a test is the one that is found
+pub covered-read_at : (test : Bytes → Bool) (u : ℕ) (f : Bytes) (reads : List UpdateRead) → AreOnce reads →
+    list_any (λ r. is_read_of u f r && test r.key) reads ≡ is_read_with test (read_at reads u f)
+covered-read_at test u f [] once = refl
+covered-read_at test u f (r ∷ rs) once =
     elim (is_read_of u f r) as (λ b. is_read_of u f r ≡ b →
-    ((b && is_same r.key k) || list_any (λ x. is_read_of u f x && is_same x.key k) rs) ≡ is_read_key (if b then Some r.key else read_at rs u f) k) [
-      | true ↦ λ own. ap (λ b. is_same r.key k || b) (none own) ∙ or_none (is_same r.key k)
-      | false ↦ λ other. covered-read_at u f k rs once.1
+    ((b && test r.key) || list_any (λ x. is_read_of u f x && test x.key) rs) ≡ is_read_with test (if b then Some r.key else read_at rs u f)) [
+      | true ↦ λ own. ap (λ b. test r.key || b) (none own) ∙ or-false (test r.key)
+      | false ↦ λ other. covered-read_at test u f rs once.1
     ] refl
   where
-    or_none : (b : Bool) → (b || false) ≡ b
-    or_none true = refl
-    or_none false = refl
-
-    none : is_read_of u f r ≡ true → list_any (λ x. is_read_of u f x && is_same x.key k) rs ≡ false
+    none : is_read_of u f r ≡ true → list_any (λ x. is_read_of u f x && test x.key) rs ≡ false
     none own = false_from_ne_true _ (λ some. true≢false (sym (
-        any_more (λ x. is_read_of u f x && is_same x.key k) (is_read_of r.unit r.file) (λ x t.
+        any_more (λ x. is_read_of u f x && test x.key) (is_read_of r.unit r.file) (λ x t.
         let parts = and_parts (eqb r.unit u) (is_same r.file f) own in
         subst (λ n. is_read_of n r.file x ≡ true) (sym (eqb-true r.unit u parts.0))
-        (subst (λ g. is_read_of u g x ≡ true) (sym (is_same-eq r.file f parts.1)) (and_parts (is_read_of u f x) (is_same x.key k) t).0)) rs some) ∙ once.0))
+        (subst (λ g. is_read_of u g x ≡ true) (sym (is_same-eq r.file f parts.1)) (and_parts (is_read_of u f x) (test x.key) t).0)) rs some) ∙ once.0))
 
--- no read is covered by a command that covers none
-pub covers_none : (reads : List UpdateRead) → list_any (λ r. false) reads ≡ false
-covers_none [] = refl
-covers_none (r ∷ rs) = covers_none rs
+-- the tests of a key and of a prefix
+pub covered-key : (u : ℕ) (f k : Bytes) (reads : List UpdateRead) → AreOnce reads →
+    list_any (λ r. is_read_of u f r && is_same r.key k) reads ≡ is_read_key (read_at reads u f) k
+covered-key u f k reads once = covered-read_at (λ l. is_same l k) u f reads once ∙ by (read_at reads u f)
+  where
+    by : (o : Option Bytes) → is_read_with (λ l. is_same l k) o ≡ is_read_key o k
+    by None = refl
+    by (Some l) = refl
 
+pub covered-under : (u : ℕ) (f p : Bytes) (reads : List UpdateRead) → AreOnce reads →
+    list_any (λ r. is_read_of u f r && has_prefix p r.key) reads ≡ is_read_under (read_at reads u f) p
+covered-under u f p reads once = covered-read_at (has_prefix p) u f reads once ∙ by (read_at reads u f)
+  where
+    by : (o : Option Bytes) → is_read_with (has_prefix p) o ≡ is_read_under o p
+    by None = refl
+    by (Some l) = refl
+
+-- to drop none leaves all
 pub ends_none : (reads : List UpdateRead) → filter (λ r. true) reads ≡ reads
 ends_none [] = refl
 ends_none (r ∷ rs) = ap (λ l. r ∷ l) (ends_none rs)
@@ -101,24 +118,53 @@ let_go-taken t r u false rises plain free some = taken-held t r u rises (held_ow
     someone None e = absurd (true≢false e)
     someone (Some v) e = refl
 
--- a command on one record that is no REWRITE and no DELETE covers no read
+-- a command on a file that is no REWRITE, no DELETE and no DELETE GENERIC covers no read
 module _ (u : ℕ) where
-  covers-false : (op : Op) → ((f k r : Bytes) → op ≡ Rewrite f k r → ⊥) → ((f k : Bytes) → op ≡ Delete f k → ⊥) → is_file_op op ≡ true → (r : UpdateRead) → covers u op r ≡ false
-  covers-false (Write f k x) no_rewrite no_delete file r = refl
-  covers-false (Rewrite f k x) no_rewrite no_delete file r = absurd (no_rewrite f k x refl)
-  covers-false (Delete f k) no_rewrite no_delete file r = absurd (no_delete f k refl)
-  covers-false (DeleteGeneric f p) no_rewrite no_delete file r = absurd (false≢true file)
-  covers-false (ReadUpdate f k) no_rewrite no_delete file r = refl
-  covers-false (TsWrite q d) no_rewrite no_delete file r = refl
-  covers-false (TsRewrite q n d) no_rewrite no_delete file r = refl
-  covers-false (TsDelete q) no_rewrite no_delete file r = refl
-  covers-false (TdWrite q d) no_rewrite no_delete file r = refl
-  covers-false (TdRead q) no_rewrite no_delete file r = refl
-  covers-false (TdDelete q) no_rewrite no_delete file r = refl
+  covers-false : (op : Op) → ((f k r : Bytes) → op ≡ Rewrite f k r → ⊥) → ((f k : Bytes) → op ≡ Delete f k → ⊥) →
+      ((f p : Bytes) → op ≡ DeleteGeneric f p → ⊥) → is_file_op op ≡ true → (r : UpdateRead) → covers u op r ≡ false
+  covers-false (Write f k x) no_rewrite no_delete no_generic file r = refl
+  covers-false (Rewrite f k x) no_rewrite no_delete no_generic file r = absurd (no_rewrite f k x refl)
+  covers-false (Delete f k) no_rewrite no_delete no_generic file r = absurd (no_delete f k refl)
+  covers-false (DeleteGeneric f p) no_rewrite no_delete no_generic file r = absurd (no_generic f p refl)
+  covers-false (ReadUpdate f k) no_rewrite no_delete no_generic file r = refl
+  covers-false (TsWrite q d) no_rewrite no_delete no_generic file r = refl
+  covers-false (TsRewrite q n d) no_rewrite no_delete no_generic file r = refl
+  covers-false (TsDelete q) no_rewrite no_delete no_generic file r = refl
+  covers-false (TdWrite q d) no_rewrite no_delete no_generic file r = refl
+  covers-false (TdRead q) no_rewrite no_delete no_generic file r = refl
+  covers-false (TdDelete q) no_rewrite no_delete no_generic file r = refl
 
-  module _ (op : Op) (reads : List UpdateRead) (no_rewrite : (f k r : Bytes) → op ≡ Rewrite f k r → ⊥) (no_delete : (f k : Bytes) → op ≡ Delete f k → ⊥) (file : is_file_op op ≡ true) where
-    pub uncovered_any : list_any (covers u op) reads ≡ false
-    uncovered_any = ap (λ p. list_any p reads) (λ i r. covers-false op no_rewrite no_delete file r i) ∙ covers_none reads
+  pub uncovered_any : (op : Op) (reads : List UpdateRead) → ((f k r : Bytes) → op ≡ Rewrite f k r → ⊥) → ((f k : Bytes) → op ≡ Delete f k → ⊥) →
+      ((f p : Bytes) → op ≡ DeleteGeneric f p → ⊥) → is_file_op op ≡ true → list_any (covers u op) reads ≡ false
+  uncovered_any op reads no_rewrite no_delete no_generic file =
+      ap (λ p. list_any p reads) (λ i r. covers-false op no_rewrite no_delete no_generic file r i) ∙ any_never reads
 
-    pub uncovered_rest : filter (λ r. not (covers u op r)) reads ≡ reads
-    uncovered_rest = ap (λ p. filter p reads) (λ i r. not (covers-false op no_rewrite no_delete file r i)) ∙ ends_none reads
+-- where a command covers a read, the reads of its unit in its file are those that it covers
+module _ (u : ℕ) (op : Op) (file : is_file_op op ≡ true) where
+  same_test : (x : UpdateRead) → (is_read_of u (file_of op) x ≡ true → covers u op x ≡ true) → is_read_of u (file_of op) x ≡ covers u op x
+  same_test x all =
+      elim (cases_Bool (is_read_of u (file_of op) x)) [
+        | inl own ↦ own ∙ sym (all own)
+        | inr other ↦ other ∙ sym (false_from_ne_true _ (λ c. true≢false (sym (covers-own u op file x c) ∙ other)))
+      ]
+
+  same_rest : (xs : List UpdateRead) → OnEach (λ x. is_read_of u (file_of op) x ≡ true → covers u op x ≡ true) xs →
+      filter (λ x. not (is_read_of u (file_of op) x)) xs ≡ filter (λ x. not (covers u op x)) xs
+  same_rest [] each = refl
+  same_rest (x ∷ xs) each = λ i. if not (same_test x each.0 i) then x ∷ same_rest xs each.1 i else same_rest xs each.1 i
+
+  pub covered_rest : (reads : List UpdateRead) → AreOnce reads → list_any (covers u op) reads ≡ true →
+      filter (λ x. not (is_read_of u (file_of op) x)) reads ≡ filter (λ x. not (covers u op x)) reads
+  covered_rest reads once some =
+      let key = covered_key u op file reads once some in
+      same_rest reads (OnEach-map (λ x. is_read_of u (file_of op) x ≡ true → (is_read_of u (file_of op) x && is_same x.key key) ≡ true)
+      (λ x. is_read_of u (file_of op) x ≡ true → covers u op x ≡ true) (λ x h own. covered_all u op file reads once some x (h own))
+      reads (read_keys reads u (file_of op) key once (covered_at u op file reads once some)))
+
+-- the key of the read that a command covers is the one that its unit has read in the file
+pub covered_some : (u : ℕ) (op : Op) (reads : List UpdateRead) (k : Bytes) → covered_read u op reads ≡ Some k → read_at reads u (file_of op) ≡ Some k
+covered_some u op reads k = by (list_any (covers u op) reads)
+  where
+    by : (b : Bool) → (if b then read_at reads u (file_of op) else None) ≡ Some k → read_at reads u (file_of op) ≡ Some k
+    by true is = is
+    by false is = let wrong : None ≡ Some k = is in cc

@@ -10,31 +10,30 @@ use Rattle.cics_ksds.specs.Files.{records_of}
 use Rattle.cics_units.specs.RegionFiles.{files_listed}
 use Rattle.cics_history.proofs.Entries.{first, second, value_at-below}
 use Rattle.std.specs.List.{list_any}
-use Rattle.std.specs.Prelude.{is_some}
+use Rattle.std.specs.Prelude.{is_some, unwrap_or}
+use Rattle.cics_ksds.specs.Prefixes.{under}
 use Rattle.std.proofs.Common.{inl, inr, eqb}
 use Rattle.cics_names.specs.Keyed.{has_key}
 use Rattle.std.proofs.lemmas.Bool.{cases_Bool, and_parts, or_left, or_right, false≢true, and_from, lt-ltb}
 use Rattle.cics_names.specs.Keyed.{Bytes, Map, value_at}
 use Rattle.cics_names.specs.declared.conditions.Condition.{Condition}
 use Rattle.cics_names.specs.declared.conditions.Condition.TheVariants.{Normal}
-use Rattle.cics_images.specs.Cells.{is_other}
 use Rattle.cics_ksds.specs.Files.{FileValue}
-use Rattle.cics_enqueue.specs.Resources.{Table, is_one, is_other as is_other_unit, holder_of, released}
+use Rattle.cics_enqueue.specs.Resources.{Table, holder_over, released}
 use Rattle.cics_enqueue.specs.declared.resources.Resource.{Resource}
 use Rattle.cics_history.specs.Openings.{OpeningState, file_recoverable}
-use Rattle.cics_history.specs.Store.{Store, apply, apply_write, apply_rewrite, apply_delete, is_normal}
-use Rattle.cics_history.specs.Holding.{UnitsState, UpdateRead, store_of, awaited, held_by}
+use Rattle.cics_history.specs.Store.{Store, apply, apply_write, apply_rewrite, apply_delete, apply_delete_generic, counted_answer, is_normal}
+use Rattle.cics_history.specs.Holding.{UnitsState, UpdateRead, store_of, awaited}
 use Rattle.cics_history.specs.Execution.{execution, done_of, state_of, has_read, IsOpenUnit, IsOpenOrNone, unit_or_next, outcomes_with, reads_after, is_read_of, read_at, entered, after_execution, after_unlock, after_end, is_ready_op}
 use Rattle.cics_history.specs.Headline.{beginning}
-use Rattle.cics_history.specs.Cells.{content, cell_of as cell_of_op}
+use Rattle.cics_history.specs.Cells.{content, is_generic, cell_of as cell_of_op, effect}
 use Rattle.cics_history.specs.Events.{is_live, may_act}
-use Rattle.cics_history.specs.Undo.{changes}
-use Rattle.cics_units.specs.FilesImages.{cell_of}
+use Rattle.cics_history.specs.Undo.{changes, images_under, images_by}
 use Rattle.cics_units.specs.FilesImagesLaws as files
-use Rattle.cics_units.specs.Matching.{store_of_files}
+use Rattle.cics_units.specs.Matching.{store_of_files, AreKept as KeptChanges}
 use Rattle.cics_history.specs.Records.{is_file_op, file_of, key_of}
-use Rattle.cics_units.specs.TableInPlace.{is_holder, IsTableOf, is_read, record_of, other_holder, counts_in, table_changed, table_executed, table_given_back}
-use Rattle.cics_units.specs.Parts.{UndoableValue, PartsValue, AreExecuted, ArePartsKept, is_recoverable_in, AreImagesAfter, AreChanged}
+use Rattle.cics_units.specs.TableInPlace.{is_read, resource_of, counts_in, table_changed, table_executed, table_given_back}
+use Rattle.cics_units.specs.Parts.{UndoableValue, PartsValue, AreExecuted, ArePartsKept, is_recoverable_in, AreImagesAfter, AreChanged, leaves}
 use Rattle.cics_units.specs.KeptUnits.{state_shown, AreKept}
 use Rattle.cics_history.specs.declared.ops.Op.{Op}
 use Rattle.cics_history.specs.declared.ops.Op.TheVariants.{Write, Rewrite, Delete, DeleteGeneric, ReadUpdate, TsWrite, TsRewrite, TsDelete, TdWrite, TdRead, TdDelete}
@@ -42,14 +41,14 @@ use Rattle.cics_history.specs.declared.ops.Answer.{Answer}
 use Rattle.cics_history.specs.declared.ops.Done.TheVariants.{Answered, MustWait}
 use Rattle.cics_history.specs.declared.ops.Entry.{Entry}
 use Rattle.cics_history.specs.declared.ops.UnitState.{UnitState}
-use Rattle.cics_history.specs.Isolation.{IsSound}
-use Rattle.std.proofs.lemmas.Bool.{eq-eqb, true≢false, false_from_ne_true}
-use Rattle.cics_history.proofs.Holders.{holder_begun, held_cases}
+use Rattle.std.proofs.lemmas.Bool.{true≢false, false_from_ne_true}
 use Rattle.cics_ksds.proofs.UnderPrefix.{prefix_itself}
 use Rattle.cics_history.proofs.Generic.{normal-generic}
 use Rattle.cics_history.proofs.Joining.{apply-answer, read_only}
-use Rattle.cics_units.proofs.TableInPlace.{awaited-file, table_holder}
-use Rattle.cics_units.proofs.KeptUnits.{kept_roomier, recoverable_alike, store_is, is_entered, next_none, key_op, kept_executed, kept_unlocked}
+use Rattle.cics_units.proofs.HeldOver.{table_holder}
+use Rattle.cics_units.proofs.MadeImages.{images_by-one}
+use Rattle.cics_units.proofs.TableInPlace.{awaited-file}
+use Rattle.cics_units.proofs.KeptUnits.{kept_roomier, recoverable_alike, store_is, is_entered, next_none, kept_executed, kept_unlocked}
 
 -- a unit that is open has begun and not ended
 pub live_of : (s : UnitsState) (u : ℕ) → IsOpenUnit s u → is_live s u ≡ true
@@ -143,7 +142,11 @@ refused_store s (Delete f k) file h = by (value_at f s.files) h
     by : (m : Option (Map Bytes)) → is_normal (apply_delete s f k m).answer.condition ≡ false → (apply_delete s f k m).store ≡ s
     by None h = refl
     by (Some m) h = rw h refl
-refused_store s (DeleteGeneric f p) file h = absurd (false≢true file)
+refused_store s (DeleteGeneric f p) file h = by (value_at f s.files) h
+  where
+    by : (m : Option (Map Bytes)) → is_normal (apply_delete_generic s f p m).answer.condition ≡ false → (apply_delete_generic s f p m).store ≡ s
+    by None h = refl
+    by (Some m) h = rw h refl
 refused_store s (ReadUpdate f k) file h = read_only s f k
 refused_store s (TsWrite q d) file h = absurd (false≢true file)
 refused_store s (TsRewrite q n d) file h = absurd (false≢true file)
@@ -151,6 +154,14 @@ refused_store s (TsDelete q) file h = absurd (false≢true file)
 refused_store s (TdWrite q d) file h = absurd (false≢true file)
 refused_store s (TdRead q) file h = absurd (false≢true file)
 refused_store s (TdDelete q) file h = absurd (false≢true file)
+
+-- where a delete by prefix is refused there is no record under the prefix
+none_under : (p : Bytes) (m : Map Bytes) → is_normal (counted_answer (under p m)).condition ≡ false → under p m ≡ []
+none_under p m h = by (under p m) h
+  where
+    by : (es : Map Bytes) → is_normal (counted_answer es).condition ≡ false → es ≡ []
+    by [] h = refl
+    by (e ∷ es) h = absurd (true≢false h)
 
 changes_none : (s : Store) (op : Op) → is_normal (apply s op).answer.condition ≡ false → changes op (content s (cell_of_op op)) ≡ false
 changes_none s (ReadUpdate f k) h = refl
@@ -166,19 +177,43 @@ changes_none s (TdWrite q d) h = ap (λ a. is_normal a.condition) (sym (apply-an
 changes_none s (TdRead q) h = ap (λ a. is_normal a.condition) (sym (apply-answer s (TdRead q) refl)) ∙ h
 changes_none s (TdDelete q) h = ap (λ a. is_normal a.condition) (sym (apply-answer s (TdDelete q) refl)) ∙ h
 
+one_refused : (s : Store) (op : Op) → is_generic op ≡ false → is_normal (apply s op).answer.condition ≡ false → images_by s op (content s) ≡ []
+one_refused s op one h = images_by-one s op (content s) one ∙ ap (λ b. if b then record { cell = cell_of_op op; before = content s (cell_of_op op); made = (effect op (content s (cell_of_op op))).cell } ∷ [] else []) (changes_none s op h)
+
+-- a command that is refused gives no image
+refused_images : (s : Store) (op : Op) → is_file_op op ≡ true → is_normal (apply s op).answer.condition ≡ false → images_by s op (content s) ≡ []
+refused_images s (DeleteGeneric f p) file h = ap (λ es. images_under (DeleteGeneric f p) f (content s) es) (by (value_at f s.files) h)
+  where
+    by : (m : Option (Map Bytes)) → is_normal (apply_delete_generic s f p m).answer.condition ≡ false → under p (unwrap_or m []) ≡ []
+    by None h = refl
+    by (Some m) h = none_under p m h
+refused_images s (Write f k r) file h = one_refused s (Write f k r) refl h
+refused_images s (Rewrite f k r) file h = one_refused s (Rewrite f k r) refl h
+refused_images s (Delete f k) file h = one_refused s (Delete f k) refl h
+refused_images s (ReadUpdate f k) file h = one_refused s (ReadUpdate f k) refl h
+refused_images s (TsWrite q d) file h = absurd (false≢true file)
+refused_images s (TsRewrite q n d) file h = absurd (false≢true file)
+refused_images s (TsDelete q) file h = absurd (false≢true file)
+refused_images s (TdWrite q d) file h = absurd (false≢true file)
+refused_images s (TdRead q) file h = absurd (false≢true file)
+refused_images s (TdDelete q) file h = absurd (false≢true file)
+
 pub refused_changed : (st : UndoableValue) (unit : ℕ) (op : Op) → is_file_op op ≡ true → is_normal (apply (store_of_files st.files) op).answer.condition ≡ false → AreChanged st st unit op
 refused_changed st unit op file h = record {
   store = sym (refused_store (store_of_files st.files) op file h);
-  others = files.keeps_itself (is_other (cell_of (file_of op) (key_of op))) st.files;
+  others = files.keeps_itself (leaves op) st.files;
   apart = record { count = refl; rows = λ w apart. refl };
-  images = subst (AreImagesAfter st st unit (file_of op) (key_of op) (is_recoverable_in (value_at (file_of op) st.files)))
-      (sym (ap (λ x. changes op (content (store_of_files st.files) x)) (sym (key_op op file)) ∙ changes_none (store_of_files st.files) op h))
-      (none_after (is_recoverable_in (value_at (file_of op) st.files)));
+  images = none_after (is_recoverable_in (value_at (file_of op) st.files));
   held = λ c unnamed has. has;
 }
   where
-    none_after : (b : Bool) → AreImagesAfter st st unit (file_of op) (key_of op) b false
-    none_after true = (refl, refl)
+    none_after : (b : Bool) → AreImagesAfter st st unit op b
+    none_after true = record {
+      images = [];
+      made = subst (λ l. KeptChanges l []) (sym (refused_images (store_of_files st.files) op file h)) tt;
+      newest = refl;
+      ready = λ r. r;
+    }
     none_after false = refl
 
 -- NORMAL is the one condition of a command that did what it asks for
@@ -248,19 +283,19 @@ module _ (o : OpeningState) (trace : List Entry) (outcomes : List UnitState) (p 
 
   module _ (u : Option ℕ) (op : Op) (file : is_file_op op ≡ true) where
     abbrev asked : Resource
-    asked = record_of (file_of op) (key_of op)
+    asked = resource_of op
 
     -- a command waits for the other unit that the table has as the holder of its record
-    pub awaited_is : awaited state_before u op ≡ other_holder u (holder_of asked p.table)
-    awaited_is = awaited-file state_before u op file ∙ table_holder state_before p.table is.sound is.table u asked refl
+    pub awaited_is : awaited state_before u op ≡ holder_over asked u p.table
+    awaited_is = awaited-file state_before u op file ∙ table_holder state_before p.table is.sound is.table u asked
 
-    pub waits : (h : ℕ) → other_holder u (holder_of asked p.table) ≡ Some h → MustWait h ≡ execution state_before u op
+    pub waits : (h : ℕ) → holder_over asked u p.table ≡ Some h → MustWait h ≡ execution state_before u op
     waits h held = sym (ap (done_of state_before u op) (awaited_is ∙ held))
 
-    pub waits_unchanged : (h : ℕ) → other_holder u (holder_of asked p.table) ≡ Some h → state_before ≡ after_execution state_before u op
+    pub waits_unchanged : (h : ℕ) → holder_over asked u p.table ≡ Some h → state_before ≡ after_execution state_before u op
     waits_unchanged h held = sym (ap (state_of state_before u op) (awaited_is ∙ held))
 
-    module _ (acts : may_act state_before u ≡ true) (none : other_holder u (holder_of asked p.table) ≡ None) (ready : is_ready_op state_before u op ≡ true) (short : length (key_of op) ≤ 255)
+    module _ (acts : may_act state_before u ≡ true) (none : holder_over asked u p.table ≡ None) (ready : is_ready_op state_before u op ≡ true) (short : length (key_of op) ≤ 255)
         (answer : Answer) (right : answer ≡ (apply (store_of_files p.stores.files) op).answer) (done : AreExecuted p new (unit_or_next u outcomes) op answer.condition) where
       free : awaited state_before u op ≡ None
       free = awaited_is ∙ none
@@ -323,29 +358,6 @@ none_open_of s u (TsDelete q) known ready read = absurd (false≢true read)
 none_open_of s u (TdWrite q d) known ready read = absurd (false≢true read)
 none_open_of s u (TdRead q) known ready read = absurd (false≢true read)
 none_open_of s u (TdDelete q) known ready read = absurd (false≢true read)
-
--- the holder that the table has is a unit that is open
-pub holder_open : (s : UnitsState) (t : Table) → IsSound s → IsTableOf s t → (asking : Option ℕ) (r : Resource) (h : ℕ) → other_holder asking (holder_of r t) ≡ Some h → IsOpenUnit s h
-holder_open s t sound table asking r h found = by (holder_of r t) refl found
-  where
-    held : (v : ℕ) → holder_of r t ≡ Some v → IsOpenUnit s v
-    held v at =
-        let holds : list_any (is_one r) (held_by s v) ≡ true = table.holders r v ∙ ap (is_holder v) at ∙ eq-eqb v v refl in
-        (holder_begun s sound.known sound.begun v (is_one r) holds, (held_cases s v (is_one r) holds).0)
-
-    by : (o : Option ℕ) → holder_of r t ≡ o → other_holder asking o ≡ Some h → IsOpenUnit s h
-    by None at is = absurd (none_held is)
-      where
-        none_held : None ≡ Some h → ⊥
-        none_held e = cc
-    by (Some v) at is = other (is_other_unit asking v) is
-      where
-        other : (b : Bool) → (if b then Some v else None) ≡ Some h → IsOpenUnit s h
-        other true is = let same : v ≡ h = cc in subst (IsOpenUnit s) same (held v at)
-        other false is = absurd (none_held is)
-          where
-            none_held : None ≡ Some h → ⊥
-            none_held e = cc
 
 -- what follows of whatever is there
 pub if_open : {P : ℕ → Type 0} (o : Option ℕ) → ((h : ℕ) → o ≡ Some h → P h) → IfSome o P

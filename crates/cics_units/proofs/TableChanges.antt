@@ -8,7 +8,7 @@ use Rattle.std.specs.FinMap.Entries.{by_order}
 use Rattle.std.proofs.Math.Bool.{or-false, and-true, and-false}
 use Rattle.std.proofs.lemmas.Bool.{true≢false, eq-eqb, eqb-true}
 use Rattle.cics_names.specs.Keyed.{Bytes}
-use Rattle.cics_enqueue.specs.Resources.{Table, Held, is_one, resource_cmp, held_at, holder_of, IsFreeFor, with_holder, freed, taken, given_back, given_back_of, raised_count, released}
+use Rattle.cics_enqueue.specs.Resources.{Table, Held, is_one, resource_cmp, held_at, holder_of, is_user, IsFreeFor, with_holder, freed, taken, given_back, given_back_of, raised_count, released}
 use Rattle.cics_enqueue.specs.ResourceLaws.{free_own, is_one-eq, same_resources}
 use Rattle.cics_enqueue.proofs.TableLaws.{holder_without, holder_of-taken, holder_of-given_back, holder_of-released, once-taken, once-given_back, once-released, is_in_order-taken, is_in_order-given_back, is_in_order-released}
 use Rattle.cics_enqueue.specs.declared.resources.Resource.{Resource}
@@ -18,16 +18,26 @@ use Rattle.cics_units.specs.TableInPlace.{record_of, is_holder, counted_before, 
 
 -- ---- The counts of values
 
-counts_in-put : (f k : Bytes) (h : Held) (t : Table) → counts_in (map_by.put resource_cmp (record_of f k) h t) ≡ counts_in t
-counts_in-put f k h [] = refl
-counts_in-put f k h (e ∷ es) =
-    elim (resource_cmp (record_of f k) e.0) as (λ o. resource_cmp (record_of f k) e.0 ≡ o →
-    counts_in (by_order o ((record_of f k, h) ∷ e ∷ es) ((e.0, h) ∷ es) (e ∷ map_by.put resource_cmp (record_of f k) h es)) ≡ counted_before e.0 e.1 (counts_in es)) [
-      | Less ↦ λ tied. refl
+-- what is no value is not counted
+uncounted_is : (q : Resource) → is_user q ≡ false → (h : Held) (cs : List EnqCount) → counted_before q h cs ≡ cs
+uncounted_is (FileKey f k) plain h cs = refl
+uncounted_is (TsQueue q) plain h cs = refl
+uncounted_is (ReadingEnd q) plain h cs = refl
+uncounted_is (WritingEnd q) plain h cs = refl
+uncounted_is (FilePrefix f p) plain h cs = refl
+uncounted_is (User v) plain h cs = absurd (true≢false plain)
+
+counts_in-put : (q : Resource) → is_user q ≡ false → (h : Held) (t : Table) → counts_in (map_by.put resource_cmp q h t) ≡ counts_in t
+counts_in-put q plain h [] = uncounted_is q plain h []
+counts_in-put q plain h (e ∷ es) =
+    elim (resource_cmp q e.0) as (λ o. resource_cmp q e.0 ≡ o →
+    counts_in (by_order o ((q, h) ∷ e ∷ es) ((e.0, h) ∷ es) (e ∷ map_by.put resource_cmp q h es)) ≡ counted_before e.0 e.1 (counts_in es)) [
+      | Less ↦ λ tied. uncounted_is q plain h (counted_before e.0 e.1 (counts_in es))
       | Equal ↦ λ tied.
-          let same = same_resources (record_of f k) e.0 tied in
-          sym (ap (λ r. counted_before r h (counts_in es)) same) ∙ ap (λ r. counted_before r e.1 (counts_in es)) same
-      | Greater ↦ λ tied. ap (counted_before e.0 e.1) (counts_in-put f k h es)
+          let same = same_resources q e.0 tied in
+          sym (ap (λ r. counted_before r h (counts_in es)) same) ∙ uncounted_is q plain h (counts_in es)
+          ∙ sym (uncounted_is q plain e.1 (counts_in es)) ∙ ap (λ r. counted_before r e.1 (counts_in es)) same
+      | Greater ↦ λ tied. ap (counted_before e.0 e.1) (counts_in-put q plain h es)
     ] refl
 
 counts_in-freed : (f k : Bytes) (t : Table) → counts_in (freed t (record_of f k)) ≡ counts_in t
@@ -46,7 +56,7 @@ counts_in-given_back f k u t =
       | None ↦ refl
       | Some h ↦ elim (h.unit == u) as (λ b. counts_in (if b then (if ltb 1 h.count then with_holder t (record_of f k) u (h.count - 1) else freed t (record_of f k)) else t) ≡ counts_in t) [
         | true ↦ elim (ltb 1 h.count) as (λ b. counts_in (if b then with_holder t (record_of f k) u (h.count - 1) else freed t (record_of f k)) ≡ counts_in t) [
-          | true ↦ counts_in-put f k (record { unit = u; count = h.count - 1 }) t
+          | true ↦ counts_in-put (record_of f k) refl (record { unit = u; count = h.count - 1 }) t
           | false ↦ counts_in-freed f k t
         ]
         | false ↦ refl
@@ -107,29 +117,27 @@ module _ (s next : UnitsState) (t : Table) (k : IsTableOf s t) (once : AreOnce n
     in_order = k.in_order;
     counts = counts ∙ k.counts;
     once = once;
-    keys_alone = k.keys_alone;
     keys = keys;
   }
 
-  -- where a unit holds a free record more, it takes it
-  pub table_taken : next.counts ≡ s.counts → (v : ℕ) (f l : Bytes) → IsFreeFor t (record_of f l) v →
+  -- where a unit holds more what is free and no value, it takes it
+  pub table_taken : next.counts ≡ s.counts → (v : ℕ) (q : Resource) → is_user q ≡ false → IsFreeFor t q v →
       ((r : Resource) (n : ℕ) → list_any (is_one r) (held_by next n)
-      ≡ (list_any (is_one r) (held_by s n) || ((v == n) && is_one r (record_of f l)))) →
-      IsTableOf next (taken t (record_of f l) v)
-  table_taken counts v f l free held = record {
+      ≡ (list_any (is_one r) (held_by s n) || ((v == n) && is_one r q))) →
+      IsTableOf next (taken t q v)
+  table_taken counts v q plain free held = record {
     holders = λ r n. held r n
-        ∙ ap (λ b. b || ((v == n) && is_one r (record_of f l))) (k.holders r n)
-        ∙ elim (is_one r (record_of f l)) as (λ b. is_one r (record_of f l) ≡ b →
+        ∙ ap (λ b. b || ((v == n) && is_one r q)) (k.holders r n)
+        ∙ elim (is_one r q) as (λ b. is_one r q ≡ b →
         (is_holder n (holder_of r t) || ((v == n) && b)) ≡ is_holder n (if b then Some v else holder_of r t)) [
-          | true ↦ λ one. own n (holder_of r t) (λ w at. free_own t (record_of f l) v free w (ap (λ q. holder_of q t) (sym (is_one-eq r (record_of f l) one)) ∙ at))
+          | true ↦ λ one. own n (holder_of r t) (λ w at. free_own t q v free w (ap (λ x. holder_of x t) (sym (is_one-eq r q one)) ∙ at))
           | false ↦ λ other. ap (λ b. is_holder n (holder_of r t) || b) (and-false (v == n)) ∙ or-false (is_holder n (holder_of r t))
         ] refl
-        ∙ sym (ap (is_holder n) (holder_of-taken t (record_of f l) v r));
-    single = λ r other. once-taken t (record_of f l) v r other (k.single r other);
-    in_order = is_in_order-taken t (record_of f l) v k.in_order;
-    counts = counts ∙ k.counts ∙ sym (counts_in-put f l (record { unit = v; count = raised_count (record_of f l) (held_at (record_of f l) t) }) t);
+        ∙ sym (ap (is_holder n) (holder_of-taken t q v r));
+    single = λ r other. once-taken t q v r other (k.single r other);
+    in_order = is_in_order-taken t q v k.in_order;
+    counts = counts ∙ k.counts ∙ sym (counts_in-put q plain (record { unit = v; count = raised_count q (held_at q t) }) t);
     once = once;
-    keys_alone = λ g p. holder_of-taken t (record_of f l) v (FilePrefix g p) ∙ k.keys_alone g p;
     keys = keys;
   }
     where
@@ -164,7 +172,6 @@ module _ (s next : UnitsState) (t : Table) (k : IsTableOf s t) (once : AreOnce n
     in_order = is_in_order-given_back t (record_of f l) v k.in_order;
     counts = counts ∙ k.counts ∙ sym (counts_in-given_back f l v t);
     once = once;
-    keys_alone = λ g p. holder_of-given_back t (record_of f l) v (FilePrefix g p) (k.single (record_of f l) refl) ∙ k.keys_alone g p;
     keys = keys;
   }
 
@@ -181,6 +188,5 @@ module _ (s next : UnitsState) (t : Table) (k : IsTableOf s t) (once : AreOnce n
     in_order = is_in_order-released t v k.in_order;
     counts = counts ∙ ap (filter (λ c. not (c.unit == v))) k.counts ∙ counts_in-released v t;
     once = once;
-    keys_alone = λ g p. holder_of-released t v (FilePrefix g p) k.in_order ∙ ap (holder_without v) (k.keys_alone g p);
     keys = keys;
   }

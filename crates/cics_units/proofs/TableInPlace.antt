@@ -3,12 +3,12 @@ use Rattle.std.proofs.Common.{◌≡◌, ◌≢◌, ℕ, ◌≤◌, Bool, true, 
 use Rattle.std.specs.Prelude.{if◌then◌else◌, ◌==◌, All, filter, slice_set}
 use Rattle.std.specs.List.{list_any}
 use Rattle.std.proofs.Math.Bool.{or-false, and-true, and-false}
-use Rattle.std.proofs.lemmas.Bool.{true≢false, false≢true, cases_Bool, not-true, eq-eqb, eqb-true, eqb-false, ltb-true, and_parts, and_right, false_from_ne_true}
+use Rattle.std.proofs.lemmas.Bool.{false≢true, cases_Bool, not-true, eqb-true, eqb-false, ltb-true, and_parts, and_right, false_from_ne_true}
 use Rattle.std.proofs.lemmas.Option.{unwrap_or-slice_get}
 use Rattle.std.proofs.lemmas.List.{get_or-set_same}
 use Rattle.std.proofs.lemmas.List.Elements.{All-nil, All-filter}
 use Rattle.cics_names.specs.Keyed.{Bytes, is_same}
-use Rattle.cics_enqueue.specs.Resources.{Table, bytes_of, is_one, overlaps, is_other, is_prefix, holder_of, IsFreeFor, taken, given_back, released}
+use Rattle.cics_enqueue.specs.Resources.{Table, bytes_of, is_one, is_user, IsFreeFor, taken, given_back, released}
 use Rattle.cics_enqueue.specs.declared.resources.Resource.{Resource}
 use Rattle.cics_enqueue.specs.declared.resources.Resource.TheVariants.{User}
 use Rattle.cics_history.specs.Openings.{OpeningState, file_recoverable}
@@ -20,20 +20,18 @@ use Rattle.cics_history.specs.Headline.{beginning}
 use Rattle.cics_history.specs.Events.{is_live, may_act}
 use Rattle.cics_history.specs.Isolation.{IsSound}
 use Rattle.cics_history.specs.Records.{is_file_op, file_of, key_of}
-use Rattle.cics_units.specs.TableInPlace.{record_of, is_read, is_holder, other_holder, AreOnce, IsTableOf, table_executed, table_unlocked}
+use Rattle.cics_units.specs.TableInPlace.{record_of, resource_of, is_read, AreOnce, IsTableOf, table_given_back, table_executed, table_unlocked}
 use Rattle.cics_history.specs.declared.ops.Op.{Op}
 use Rattle.cics_history.specs.declared.ops.Op.TheVariants.{Write, Rewrite, Delete, DeleteGeneric, ReadUpdate, TsWrite, TsRewrite, TsDelete, TdWrite, TdRead, TdDelete}
 use Rattle.cics_history.specs.declared.ops.Answer.{Answer}
 use Rattle.cics_history.specs.declared.ops.UnitState.{UnitState}
 use Rattle.cics_history.specs.declared.ops.UnitState.TheVariants.{Open}
 use Rattle.cics_history.proofs.Waiting.{any_more}
-use Rattle.cics_history.proofs.Holders.{none_found, holder-found}
 use Rattle.cics_history.proofs.States.{acting_open}
 use Rattle.cics_history.proofs.Outcomes.{outcome_of-set}
-use Rattle.cics_units.proofs.HeldReads.{any_kept, filter_none, none_read, OnEach-any, read_keys, by_read, by_read-is, by_read-recoverable, any_ended, covers-record, covers-all, AreOnce-opened, All-opened, AreOnce-dropped, any_opened-recoverable, any_opened-read, any_opened-none}
+use Rattle.cics_units.proofs.HeldReads.{any_kept, filter_none, none_read, read_keys, by_read, by_read-is, by_read-recoverable, any_ended, covered_key, covered_at, covered_is, covered_all, AreOnce-opened, All-opened, AreOnce-dropped, any_opened-recoverable, any_opened-read, any_opened-none}
 use Rattle.cics_units.proofs.TableChanges.{table_same, table_taken, table_given, table_released}
-use Rattle.cics_enqueue.specs.ResourceLaws.{free_unprefixed}
-use Rattle.cics_units.proofs.Unprefixed.{same_overlaps}
+use Rattle.cics_units.proofs.HeldOver.{table_holder, table_free}
 use Rattle.cics_units.proofs.HeldSums.{in_entries, in_reads, in_counts, held_sum, entries_apart, counts_apart, entered_sum, by_entry-none, by_entry-file}
 
 -- ---- At the beginning
@@ -45,32 +43,14 @@ table_begins o = record {
   in_order = tt;
   counts = refl;
   once = tt;
-  keys_alone = λ f p. refl;
   keys = All-nil (λ r. length r.key ≤ 255);
 }
 
 -- ---- Who is found
 
--- the unit that is found to hold a resource, if it is another, is the one in the table
-pub table_holder : (s : UnitsState) (t : Table) → IsSound s → IsTableOf s t → (asking : Option ℕ) (r : Resource) →
-    is_prefix r ≡ false → first_holder (held_table s) asking r ≡ other_holder asking (holder_of r t)
-table_holder s t i k asking r plain =
-    elim (holder_of r t) as (λ h. holder_of r t ≡ h → first_holder (held_table s) asking r ≡ other_holder asking h) [
-      | None ↦ λ e. none_found s asking r (λ n other. held_as n ∙ ap (is_holder n) e)
-      | Some v ↦ λ e. elim (is_other asking v) as (λ b. is_other asking v ≡ b → first_holder (held_table s) asking r ≡ (if b then Some v else None)) [
-        | true ↦ λ other. holder-found s i.known i.begun i.one asking r v plain other
-            (held_as v ∙ ap (is_holder v) e ∙ eq-eqb v v refl)
-        | false ↦ λ own. none_found s asking r (λ n other. false_from_ne_true _ (λ y.
-            true≢false (sym other ∙ ap (is_other asking) (sym (eqb-true v n (sym (ap (is_holder n) e) ∙ sym (held_as n) ∙ y))) ∙ own)))
-      ] refl
-    ] refl
-  where
-    held_as : (n : ℕ) → list_any (overlaps r) (held_by s n) ≡ is_holder n (holder_of r t)
-    held_as n = same_overlaps s t k r plain n ∙ k.holders r n
-
--- a command on a file waits for whoever holds its record
+-- a command on a file waits for whoever holds the least of what overlaps what it uses
 pub awaited-file : (s : UnitsState) (u : Option ℕ) (op : Op) → is_file_op op ≡ true →
-    awaited s u op ≡ first_holder (held_table s) u (record_of (file_of op) (key_of op))
+    awaited s u op ≡ first_holder (held_table s) u (resource_of op)
 awaited-file s u op = by_file op
   where
     alone : (h : Option ℕ) → first_some (first_some h None) None ≡ h
@@ -78,11 +58,11 @@ awaited-file s u op = by_file op
     alone (Some v) = refl
 
     by_file : (op : Op) → is_file_op op ≡ true →
-        awaited s u op ≡ first_holder (held_table s) u (record_of (file_of op) (key_of op))
+        awaited s u op ≡ first_holder (held_table s) u (resource_of op)
     by_file (Write f k d) h = alone (first_holder (held_table s) u (record_of f k))
     by_file (Rewrite f k d) h = alone (first_holder (held_table s) u (record_of f k))
     by_file (Delete f k) h = alone (first_holder (held_table s) u (record_of f k))
-    by_file (DeleteGeneric f p) h = absurd (false≢true h)
+    by_file (DeleteGeneric f p) h = alone (first_holder (held_table s) u (resource_of (DeleteGeneric f p)))
     by_file (ReadUpdate f k) h = alone (first_holder (held_table s) u (record_of f k))
     by_file (TsWrite q d) h = absurd (false≢true h)
     by_file (TsRewrite q n d) h = absurd (false≢true h)
@@ -91,17 +71,33 @@ awaited-file s u op = by_file op
     by_file (TdRead q) h = absurd (false≢true h)
     by_file (TdDelete q) h = absurd (false≢true h)
 
--- what no other unit holds is free
-pub table_free : (s : UnitsState) (t : Table) → IsSound s → IsTableOf s t → (u : Option ℕ) (r : Resource) →
-    is_prefix r ≡ false → other_holder u (holder_of r t) ≡ None → IsFreeFor t r (unit_or_next u s.outcomes)
-table_free s t i k u r plain none = free_unprefixed t r (unit_or_next u s.outcomes) plain k.keys_alone (λ v at. free v u (ap (other_holder u) (sym at) ∙ none))
-  where
-    free : (v : ℕ) (u : Option ℕ) → other_holder u (Some v) ≡ None → v ≡ unit_or_next u s.outcomes
-    free v None h = cc
-    free v (Some w) h = elim (cases_Bool (eqb v w)) [
-      | inl own ↦ eqb-true v w own
-      | inr other ↦ let found : Some v ≡ None = rw other at h in cc
-    ]
+-- what it uses is no value
+pub used_plain : (op : Op) → is_user (resource_of op) ≡ false
+used_plain (DeleteGeneric f p) = refl
+used_plain (Write f k d) = refl
+used_plain (Rewrite f k d) = refl
+used_plain (Delete f k) = refl
+used_plain (ReadUpdate f k) = refl
+used_plain (TsWrite q d) = refl
+used_plain (TsRewrite q n d) = refl
+used_plain (TsDelete q) = refl
+used_plain (TdWrite q d) = refl
+used_plain (TdRead q) = refl
+used_plain (TdDelete q) = refl
+
+-- READ UPDATE uses its record
+read_uses : (op : Op) → is_read op ≡ true → record_of (file_of op) (key_of op) ≡ resource_of op
+read_uses (ReadUpdate f k) h = refl
+read_uses (DeleteGeneric f p) h = absurd (false≢true h)
+read_uses (Write f k d) h = absurd (false≢true h)
+read_uses (Rewrite f k d) h = absurd (false≢true h)
+read_uses (Delete f k) h = absurd (false≢true h)
+read_uses (TsWrite q d) h = absurd (false≢true h)
+read_uses (TsRewrite q n d) h = absurd (false≢true h)
+read_uses (TsDelete q) h = absurd (false≢true h)
+read_uses (TdWrite q d) h = absurd (false≢true h)
+read_uses (TdRead q) h = absurd (false≢true h)
+read_uses (TdDelete q) h = absurd (false≢true h)
 
 -- ---- A command
 
@@ -142,15 +138,15 @@ read_less true entries reads counts true e c =
 module _ (s : UnitsState) (t : Table) (u : Option ℕ) (op : Op) (a : Answer) (i : IsSound s) (k : IsTableOf s t)
     (acts : may_act s u ≡ true) (file : is_file_op op ≡ true) (free : awaited s u op ≡ None)
     (ready : is_ready_op s u op ≡ true) (short : length (key_of op) ≤ 255) where
-  -- the unit that acts, and its command's record
+  -- the unit that acts, and what its command uses
   abbrev acting : ℕ
   acting = unit_or_next u s.outcomes
 
   abbrev asked : Resource
-  asked = record_of (file_of op) (key_of op)
+  asked = resource_of op
 
   free_record : IsFreeFor t asked acting
-  free_record = table_free s t i k u asked refl (sym (table_holder s t i k u asked refl) ∙ (sym (awaited-file s u op file) ∙ free))
+  free_record = table_free s t i k u asked (sym (table_holder s t i k u asked) ∙ (sym (awaited-file s u op file) ∙ free))
 
   live_if : (n : ℕ) (b : Bool) → ((acting == n) && b) ≡ true → is_open (outcome_of s.outcomes n) ≡ true
   live_if n b own = subst (λ m. is_open (outcome_of s.outcomes m) ≡ true) (eqb-true acting n (and_parts (eqb acting n) b own).0) (acting_open s u acts)
@@ -212,7 +208,7 @@ module _ (s : UnitsState) (t : Table) (u : Option ℕ) (op : Op) (a : Answer) (i
   module _ (normal : is_normal a.condition ≡ true) where
     -- one on a recoverable file
     recoverable_of : file_recoverable s.opening (file_of op) ≡ true → IsTableOf (entered s u op a) (taken t asked acting)
-    recoverable_of rec = table_taken s (entered s u op a) t k once_after keys_after refl acting (file_of op) (key_of op) free_record (λ r n.
+    recoverable_of rec = table_taken s (entered s u op a) t k once_after keys_after refl acting asked (used_plain op) free_record (λ r n.
         entered_sum s u op a n (is_one r)
         ∙ (λ j. is_open (outcome_of s.outcomes n)
         && (((in_entries s.opening n (is_one r) s.trace || by_entry-file s u op a n (is_one r) normal file rec j)
@@ -231,7 +227,7 @@ module _ (s : UnitsState) (t : Table) (u : Option ℕ) (op : Op) (a : Answer) (i
           is_local (Write f l d) h local = local
           is_local (Rewrite f l d) h local = local
           is_local (Delete f l) h local = local
-          is_local (DeleteGeneric f p) h local = absurd (false≢true h)
+          is_local (DeleteGeneric f p) h local = local
           is_local (ReadUpdate f l) h local = local
           is_local (TsWrite q d) h local = absurd (false≢true h)
           is_local (TsRewrite q n d) h local = absurd (false≢true h)
@@ -242,11 +238,12 @@ module _ (s : UnitsState) (t : Table) (u : Option ℕ) (op : Op) (a : Answer) (i
 
       -- READ UPDATE in another file
       read_of : is_read op ≡ true → IsTableOf (entered s u op a) (taken t asked acting)
-      read_of reads = table_taken s (entered s u op a) t k once_after keys_after refl acting (file_of op) (key_of op) free_record (λ r n.
+      read_of reads = table_taken s (entered s u op a) t k once_after keys_after refl acting asked (used_plain op) free_record (λ r n.
           entered_sum s u op a n (is_one r)
           ∙ (λ j. is_open (outcome_of s.outcomes n)
           && (((in_entries s.opening n (is_one r) s.trace || by_entry-none s u op a n (is_one r) unheld j)
-          || (ap (in_reads s.opening n (is_one r)) (reads_then normal) ∙ any_opened-read s.opening n r acting op reads local s.reads) j)
+          || (ap (in_reads s.opening n (is_one r)) (reads_then normal) ∙ any_opened-read s.opening n r acting op reads local s.reads
+          ∙ ap (λ q. ((acting == n) && is_one r q) || in_reads s.opening n (is_one r) s.reads) (read_uses op reads)) j)
           || in_counts s.opening n (is_one r) s.counts))
           ∙ read_more (is_open (outcome_of s.outcomes n)) (in_entries s.opening n (is_one r) s.trace)
           (in_reads s.opening n (is_one r) s.reads) (in_counts s.opening n (is_one r) s.counts)
@@ -260,22 +257,32 @@ module _ (s : UnitsState) (t : Table) (u : Option ℕ) (op : Op) (a : Answer) (i
             ap (in_reads s.opening n (is_one r)) (reads_then normal)
             ∙ any_opened-none s.opening n r acting op others (filter (λ x. not (covers acting op x)) s.reads)
 
-        -- one that covers the update read of its record
-        covering_of : list_any (covers acting op) s.reads ≡ true → IsTableOf (entered s u op a) (given_back t asked acting)
-        covering_of some = table_given s (entered s u op a) t k once_after keys_after refl acting (file_of op) (key_of op) (λ r n.
-            entered_sum s u op a n (is_one r)
-            ∙ (λ j. is_open (outcome_of s.outcomes n)
-            && (((ap (λ b. in_entries s.opening n (is_one r) s.trace || b) (by_entry-none s u op a n (is_one r) unheld) ∙ or-false (in_entries s.opening n (is_one r) s.trace)) j
-            || (in_reads_then r n ∙ any_ended s.opening n r acting (file_of op) (key_of op) local (covers acting op) s.reads
-            (OnEach-any (λ x. covers acting op x ≡ true → (is_read_of acting (file_of op) x && is_same x.key (key_of op)) ≡ true)
-            (covers-record acting op file) s.reads) (covers-all acting op file s.reads some)) j)
-            || in_counts s.opening n (is_one r) s.counts))
-            ∙ read_less (is_open (outcome_of s.outcomes n)) (in_entries s.opening n (is_one r) s.trace)
-            (in_reads s.opening n (is_one r) s.reads) (in_counts s.opening n (is_one r) s.counts)
-            ((acting == n) && is_one r asked)
-            (λ own. entries_apart s.opening n r (file_of op) (key_of op) (and_parts (acting == n) (is_one r asked) own).1 local s.trace)
-            (λ own. counts_apart s.opening n r (file_of op) (key_of op) (and_parts (acting == n) (is_one r asked) own).1 s.counts)
-            ∙ ap (λ b. b && not ((acting == n) && is_one r asked)) (sym (held_sum s n (is_one r))))
+        -- one that covers an update read
+        module _ (some : list_any (covers acting op) s.reads ≡ true) where
+          abbrev read_key : Bytes
+          read_key = covered_key acting op file s.reads k.once some
+
+          abbrev read_record : Resource
+          read_record = record_of (file_of op) read_key
+
+          covering_of : IsTableOf (entered s u op a) (given_back t read_record acting)
+          covering_of = table_given s (entered s u op a) t k once_after keys_after refl acting (file_of op) read_key (λ r n.
+              entered_sum s u op a n (is_one r)
+              ∙ (λ j. is_open (outcome_of s.outcomes n)
+              && (((ap (λ b. in_entries s.opening n (is_one r) s.trace || b) (by_entry-none s u op a n (is_one r) unheld) ∙ or-false (in_entries s.opening n (is_one r) s.trace)) j
+              || (in_reads_then r n ∙ any_ended s.opening n r acting (file_of op) read_key local (covers acting op) s.reads
+              (covered_is acting op file s.reads k.once some) (covered_all acting op file s.reads k.once some)) j)
+              || in_counts s.opening n (is_one r) s.counts))
+              ∙ read_less (is_open (outcome_of s.outcomes n)) (in_entries s.opening n (is_one r) s.trace)
+              (in_reads s.opening n (is_one r) s.reads) (in_counts s.opening n (is_one r) s.counts)
+              ((acting == n) && is_one r read_record)
+              (λ own. entries_apart s.opening n r (file_of op) read_key (and_parts (acting == n) (is_one r read_record) own).1 local s.trace)
+              (λ own. counts_apart s.opening n r (file_of op) read_key (and_parts (acting == n) (is_one r read_record) own).1 s.counts)
+              ∙ ap (λ b. b && not ((acting == n) && is_one r read_record)) (sym (held_sum s n (is_one r))))
+
+          -- the table gives that record back
+          given_of_read : table_given_back false acting (file_of op) (read_at s.reads acting (file_of op)) t ≡ given_back t read_record acting
+          given_of_read = ap (λ o. table_given_back false acting (file_of op) o t) (covered_at acting op file s.reads k.once some)
 
         -- one that covers none
         plain_of : list_any (covers acting op) s.reads ≡ false → IsTableOf (entered s u op a) t
@@ -292,15 +299,14 @@ module _ (s : UnitsState) (t : Table) (u : Option ℕ) (op : Op) (a : Answer) (i
   chosen normal rec reads some =
       if not normal then t
       else if rec || reads then taken t asked acting
-      else if some then given_back t asked acting
-      else t
+      else table_given_back false acting (file_of op) (if some then read_at s.reads acting (file_of op) else None) t
 
   at_choice : (normal rec reads some : Bool) → is_normal a.condition ≡ normal → file_recoverable s.opening (file_of op) ≡ rec →
       is_read op ≡ reads → list_any (covers acting op) s.reads ≡ some → IsTableOf (entered s u op a) (chosen normal rec reads some)
   at_choice false rec reads some p q e f = refused_of p
   at_choice true true reads some p q e f = recoverable_of p q
   at_choice true false true some p q e f = read_of p q e
-  at_choice true false false true p q e f = covering_of p q e f
+  at_choice true false false true p q e f = subst (IsTableOf (entered s u op a)) (sym (given_of_read p q e f)) (covering_of p q e f)
   at_choice true false false false p q e f = plain_of p q e f
 
   -- a command that is executed

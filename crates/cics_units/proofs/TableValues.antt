@@ -30,7 +30,7 @@ use Rattle.cics_history.proofs.States.{acting_open}
 use Rattle.cics_history.proofs.Outcomes.{outcome_of-with}
 use Rattle.cics_units.proofs.HeldReads.{any_if_one}
 use Rattle.cics_units.proofs.HeldSums.{in_entries, in_reads, in_counts, held_sum}
-use Rattle.cics_units.proofs.TableInPlace.{table_holder, table_free}
+use Rattle.cics_units.proofs.HeldOver.{table_holder, table_free}
 use Rattle.cics_units.proofs.Unprefixed.{in_entries-apart, in_reads-apart, in_counts-other, not_value}
 
 -- how a value and its holding are counted
@@ -261,7 +261,6 @@ table_counted s outcomes counts t next k same counted rises others live = record
   in_order = rises;
   counts = counted;
   once = k.once;
-  keys_alone = λ f p. ap unit_in (others (FilePrefix f p) refl) ∙ k.keys_alone f p;
   keys = k.keys;
 }
   where
@@ -304,7 +303,7 @@ pub table_enqueued_of : (s : UnitsState) (t : Table) (u : Option ℕ) (v : Bytes
 table_enqueued_of s t u v unit i k acts takes =
     table_counted s (outcomes_with u s.outcomes) (counted s.counts unit v) t (taken t (value_of v) unit) k
     (outcome_of-with u s.outcomes)
-    (ap (λ cs. counted cs unit v) k.counts ∙ sym (counts_in-taken t v unit k.in_order (subst (IsFreeFor t (value_of v)) (sym taker.1) (table_free s t i k u (value_of v) refl (sym (table_holder s t i k u (value_of v) refl) ∙ taker.0)))))
+    (ap (λ cs. counted cs unit v) k.counts ∙ sym (counts_in-taken t v unit k.in_order (subst (IsFreeFor t (value_of v)) (sym taker.1) (table_free s t i k u (value_of v) (sym (table_holder s t i k u (value_of v)) ∙ taker.0)))))
     (is_in_order-taken t (value_of v) unit k.in_order)
     (λ r other. held_at-with_holder t (value_of v) unit (raised_count (value_of v) (held_at (value_of v) t)) r
     ∙ ap (λ b. if b then Some (record { unit = unit; count = raised_count (value_of v) (held_at (value_of v) t) }) else held_at r t) (not_value r v other))

@@ -1,19 +1,18 @@
 -- While no unit holds a prefix of keys, what overlaps is one resource.
-use Rattle.std.proofs.Common.{◌≡◌, ℕ, Bool, true, false, ◌&&◌, ◌||◌, not, List, [], ◌∷◌, refl, ap, sym, ◌∙◌}
+use Rattle.std.proofs.Common.{◌≡◌, ℕ, Bool, true, false, ◌&&◌, not, List, [], ◌∷◌, refl, ◌∙◌}
 use Rattle.std.specs.Prelude.{if◌then◌else◌, ◌==◌}
 use Rattle.std.specs.List.{list_any}
-use Rattle.std.proofs.lemmas.Bool.{true≢false, and_right, or_from, or_parts}
+use Rattle.std.proofs.lemmas.Bool.{true≢false, and_right, or_from}
 use Rattle.std.proofs.lemmas.List.Folds.{list_any-append}
 use Rattle.arrayvec.specs.ArrayVec.{ArrayVec}
 use Rattle.cics_names.specs.Keyed.{Bytes}
-use Rattle.cics_enqueue.specs.Resources.{Table, bytes_of, is_one, overlaps, is_prefix, is_user}
-use Rattle.cics_enqueue.specs.ResourceLaws.{is_one-self, overlaps-plain}
+use Rattle.cics_enqueue.specs.Resources.{bytes_of, is_one, is_user}
 use Rattle.cics_enqueue.specs.declared.resources.Resource.{Resource}
 use Rattle.cics_enqueue.specs.declared.resources.Resource.TheVariants.{FileKey, TsQueue, TdRead as ReadingEnd, TdWrite as WritingEnd, User, FilePrefix}
 use Rattle.cics_history.specs.Openings.{OpeningState, file_recoverable, queue_logical, has_prefix_in}
 use Rattle.cics_history.specs.Store.{is_normal, is_recoverable}
-use Rattle.cics_history.specs.Holding.{UnitsState, UpdateRead, EnqCount, uses_of, held_by}
-use Rattle.cics_units.specs.TableInPlace.{record_of, value_of, is_holder, IsTableOf}
+use Rattle.cics_history.specs.Holding.{UpdateRead, EnqCount, uses_of}
+use Rattle.cics_units.specs.TableInPlace.{record_of, value_of}
 use Rattle.cics_history.specs.declared.ops.Op.{Op}
 use Rattle.cics_history.specs.declared.ops.Op.TheVariants.{Write, Rewrite, Delete, DeleteGeneric, ReadUpdate, TsWrite, TsRewrite, TsDelete, TdWrite, TdRead, TdDelete}
 use Rattle.cics_history.specs.declared.ops.Entry.{Entry}
@@ -77,22 +76,3 @@ in_counts-other o n r other [] = refl
 in_counts-other o n r other (c ∷ cs) =
     or_from _ _ (any_if_one (is_one r) (c.unit == n) (value_of c.value) ∙ and_right (c.unit == n) (is_one r (value_of c.value)) (not_value r c.value other))
     (in_counts-other o n r other cs)
-
--- while no unit holds a prefix, what a unit holds of what overlaps another resource is that resource
-pub same_overlaps : (s : UnitsState) (t : Table) → IsTableOf s t → (r : Resource) → is_prefix r ≡ false → (n : ℕ) →
-    list_any (overlaps r) (held_by s n) ≡ list_any (is_one r) (held_by s n)
-same_overlaps s t k r plain n = each (held_by s n) (λ f p. k.holders (FilePrefix f p) n ∙ ap (is_holder n) (k.keys_alone f p))
-  where
-    one : (q : Resource) → ((f : Bytes) (p : ArrayVec ℕ) → is_one (FilePrefix f p) q ≡ false) → overlaps r q ≡ is_one r q
-    one (FilePrefix f p) none = absurd (true≢false (sym (is_one-self (FilePrefix f p)) ∙ none f p))
-    one (FileKey f k) none = overlaps-plain r (FileKey f k) plain refl
-    one (TsQueue q) none = overlaps-plain r (TsQueue q) plain refl
-    one (ReadingEnd q) none = overlaps-plain r (ReadingEnd q) plain refl
-    one (WritingEnd q) none = overlaps-plain r (WritingEnd q) plain refl
-    one (User v) none = overlaps-plain r (User v) plain refl
-
-    each : (qs : List Resource) → ((f : Bytes) (p : ArrayVec ℕ) → list_any (is_one (FilePrefix f p)) qs ≡ false) →
-        list_any (overlaps r) qs ≡ list_any (is_one r) qs
-    each [] none = refl
-    each (q ∷ qs) none = λ i. one q (λ f p. (or_parts (is_one (FilePrefix f p) q) (list_any (is_one (FilePrefix f p)) qs) (none f p)).0) i
-        || each qs (λ f p. (or_parts (is_one (FilePrefix f p) q) (list_any (is_one (FilePrefix f p)) qs) (none f p)).1) i

@@ -14,3 +14,5 @@ pub mod OpenReads
 pub mod Replaying
 pub mod KeptUnits
 pub mod SerialKept
+pub mod StoreMatching
+pub mod StoreInPlace

@@ -5,6 +5,7 @@ use Rattle.std.specs.Map.{keys_of, values_of}
 use Rattle.std.specs.List.Sorted.{IsStrictlySortedBy}
 use Rattle.std.specs.Ordering.{nat_cmp}
 use Rattle.cics_names.specs.Keyed.{Bytes, Map, bytes_cmp, is_same}
+use Rattle.cics_ksds.specs.Prefixes.{has_prefix}
 use Rattle.cics_history.specs.Holding.{UpdateRead}
 
 -- the update reads of a unit, by file
@@ -25,3 +26,8 @@ pub record AreRising (rows : List (ℕ × BTreeMap Bytes Bytes)) : Type 0 where
 abbrev pub is_read_key : Option Bytes → Bytes → Bool
 is_read_key None key = false
 is_read_key (Some read) key = is_same read key
+
+-- an update read is there, and its key begins with this prefix
+abbrev pub is_read_under : Option Bytes → Bytes → Bool
+is_read_under None prefix = false
+is_read_under (Some read) prefix = has_prefix prefix read

@@ -1,19 +1,20 @@
 -- Recovery: the files as they stand with the images that open units keep, and what an executed command on a file makes
 -- of them.
-use Rattle.std.specs.Prelude.{◌≡◌, ℕ, ◌<◌, ◌≤◌, Bool, true, false, IsTrue, if◌then◌else◌, length, Option, Some, None, List, ◌∷◌}
-use Rattle.cics_names.specs.Keyed.{Bytes, Map, value_at}
-use Rattle.cics_images.specs.Cells.{Cell, Kept, is_other, is_unnamed}
+use Rattle.std.specs.Prelude.{◌≡◌, ℕ, ◌<◌, ◌≤◌, Bool, true, false, not, ◌&&◌, IsTrue, if◌then◌else◌, length, Option, Some, None, List, [], ◌∷◌, ◌++◌}
+use Rattle.cics_names.specs.Keyed.{Bytes, Map, value_at, is_same}
+use Rattle.cics_images.specs.Cells.{Cell, Kept, is_other, is_unnamed, AreReadyInTurn}
+use Rattle.cics_images.specs.NamedValues.{split}
 use Rattle.cics_ksds.specs.Files.{FileValue, fits_file}
 use Rattle.cics_enqueue.specs.Resources.{Table, taken}
 use Rattle.cics_ksds.specs.Undo.{ImageValue}
+use Rattle.cics_ksds.specs.Prefixes.{has_prefix, under}
 use Rattle.cics_history.specs.Store.{apply, is_normal}
-use Rattle.cics_history.specs.Cells.{Key, content}
+use Rattle.cics_history.specs.Cells.{content}
 use Rattle.cics_history.specs.Holding.{UpdateRead}
-use Rattle.cics_history.specs.Undo.{changes}
+use Rattle.cics_history.specs.Undo.{images_by}
 use Rattle.cics_units.specs.RegionFiles.{IsThere, key_in}
-use Rattle.cics_units.specs.FilesImages.{cell_of, cell_of_image, files_hold, FilesKeep}
-use Rattle.cics_units.specs.FilesChanges.{IsFilesImage}
-use Rattle.cics_units.specs.Matching.{store_of_files}
+use Rattle.cics_units.specs.FilesImages.{cell_of, cell_of_image, files_hold, files_undone, IsReadyFor, FilesKeep}
+use Rattle.cics_units.specs.Matching.{store_of_files, AreKept}
 use Rattle.cics_units.specs.UnitImages.{kept_by, AreOthersKept}
 use Rattle.cics_history.specs.Records.{file_of, key_of}
 use Rattle.cics_units.specs.TableInPlace.{value_of, table_changed}
@@ -55,7 +56,7 @@ abbrev pub IsFitOp : Map FileValue → Op → Type 0
 IsFitOp files (Write f k r) = IsRecordOf (value_at f files) k r
 IsFitOp files (Rewrite f k r) = IsRecordOf (value_at f files) k r
 IsFitOp files (Delete f k) = IsThere (value_at f files)
-IsFitOp files (DeleteGeneric f p) = ⊥
+IsFitOp files (DeleteGeneric f p) = IsThere (value_at f files)
 IsFitOp files (ReadUpdate f k) = IsThere (value_at f files)
 IsFitOp files (TsWrite q d) = ⊥
 IsFitOp files (TsRewrite q n d) = ⊥
@@ -69,33 +70,58 @@ abbrev pub with_newest : Bytes → Option ImageValue → List FilesImage → Lis
 with_newest f None is = is
 with_newest f (Some i) is = record { name = f; image = i } ∷ is
 
--- a unit keeps an image of the change of a key as its newest
-pub record HasNewest (old new : UndoableValue) (unit : ℕ) (f k : Bytes) : Type 0 where
-  pub image : FilesImage
-  pub undoes : IsFilesImage old.files new.files (cell_of f k) image
-  pub newest : kept_by new.images unit ≡ image ∷ kept_by old.images unit
+-- the images with more of a file, stored one after another
+abbrev pub with_stored : Bytes → List ImageValue → List FilesImage → List FilesImage
+with_stored f [] is = is
+with_stored f (i ∷ more) is = with_stored f more (record { name = f; image = i } ∷ is)
+
+-- how many records of a file a command changes at most
+abbrev pub most_in : Bytes → Option FileValue → ℕ
+most_in p None = 0
+most_in p (Some f) = length (under p f.records)
+
+-- how many images a command gives at most
+abbrev pub most_images : Map FileValue → Op → ℕ
+most_images files (DeleteGeneric f p) = most_in p (value_at f files)
+most_images files op = 1
+
+-- a key of a file, under a prefix
+abbrev pub is_below_prefix : Bytes → Bytes → Option (Bytes × Cell) → Bool
+is_below_prefix f p None = false
+is_below_prefix f p (Some e) = is_same f e.0 && has_prefix p e.1
+
+-- a command leaves a cell: DELETE GENERIC one that is no key under its prefix, any other one that is not its key
+abbrev pub leaves : Op → Cell → Bool
+leaves (DeleteGeneric f p) c = not (is_below_prefix f p (split c))
+leaves op c = is_other (cell_of (file_of op) (key_of op)) c
+
+-- a unit keeps the images of a command's changes as its newest, and with them its list is ready as it was before
+pub record HasImages (old new : UndoableValue) (unit : ℕ) (op : Op) : Type 0 where
+  pub images : List FilesImage
+  pub made : AreKept (images_by (store_of_files old.files) op (content (store_of_files old.files))) images
+  pub newest : kept_by new.images unit ≡ images ++ kept_by old.images unit
+  pub ready : AreReadyInTurn IsReadyFor files_undone old.files (kept_by old.images unit) →
+      AreReadyInTurn IsReadyFor files_undone new.files (kept_by new.images unit)
 
 -- a unit keeps what it kept
 abbrev pub KeepsImages : UndoableValue → UndoableValue → ℕ → Type 0
 KeepsImages old new unit = kept_by new.images unit ≡ kept_by old.images unit
 
--- a change of a recoverable file gives its unit an image; in another file it gives none; what changes nothing gives none
-abbrev pub AreImagesAfter : UndoableValue → UndoableValue → ℕ → Bytes → Bytes → Bool → Bool → Type 0
-AreImagesAfter old new unit f k false changed = KeepsImages old new unit
-AreImagesAfter old new unit f k true true = HasNewest old new unit f k
-AreImagesAfter old new unit f k true false = (old.files ≡ new.files) × KeepsImages old new unit
+-- the changes of a recoverable file give their unit images; in another file they give none
+abbrev pub AreImagesAfter : UndoableValue → UndoableValue → ℕ → Op → Bool → Type 0
+AreImagesAfter old new unit op false = KeepsImages old new unit
+AreImagesAfter old new unit op true = HasImages old new unit op
 
 -- at a cell that none of these images is of, something is held back only where it was before
 abbrev pub IsHeldAsBefore : Map FileValue → Map FileValue → List FilesImage → Type 0
 IsHeldAsBefore old new images = (c : Cell) → is_unnamed cell_of_image images c ≡ true → files_hold new c ≡ true → files_hold old c ≡ true
 
--- the files hold what the command leaves, the other keys what they held, and the images are those of the change
+-- the files hold what the command gives, the keys that it leaves what they held, and the images are those of the changes
 pub record AreChanged (old new : UndoableValue) (unit : ℕ) (op : Op) : Type 0 where
   pub store : store_of_files new.files ≡ (apply (store_of_files old.files) op).store
-  pub others : FilesKeep (is_other (cell_of (file_of op) (key_of op))) old.files new.files
+  pub others : FilesKeep (leaves op) old.files new.files
   pub apart : AreOthersKept old.images new.images unit
-  pub images : AreImagesAfter old new unit (file_of op) (key_of op) (is_recoverable_in (value_at (file_of op) old.files))
-      (changes op (content (store_of_files old.files) (Key (file_of op) (key_of op))))
+  pub images : AreImagesAfter old new unit op (is_recoverable_in (value_at (file_of op) old.files))
   -- a key has an empty place only where it had one, or where the unit keeps an image of it
   pub held : IsHeldAsBefore old.files new.files (kept_by new.images unit)
 

@@ -2,6 +2,7 @@
 use Rattle.std.specs.Prelude.{◌≡◌, Bool, true, IsTrue, T, All, Option, Some, None, List, [], map, fold}
 use Rattle.cics_names.specs.Keyed.{Bytes, Map, with_value, is_rising}
 use Rattle.cics_ksds.specs.Files.{FileValue, IsContent, key_of, fits_file, records_of, written, rewritten, deleted}
+use Rattle.cics_ksds.specs.Prefixes.{without_prefix}
 use Rattle.cics_history.specs.Openings.{FileOpening, is_key}
 
 -- a record can be written to a file that is there and that it fits
@@ -37,6 +38,11 @@ rewritten_in files name r (Some f) = with_value name (rewritten f r) files
 abbrev pub deleted_in : Map FileValue → Bytes → Bytes → Bool → Option FileValue → Map FileValue
 deleted_in files name key keep None = files
 deleted_in files name key keep (Some f) = with_value name (deleted keep f key) files
+
+-- the records under a prefix are deleted in one of the files, which keeps an empty place for each where that is asked for
+abbrev pub deleted_under : Map FileValue → Bytes → Bytes → Bool → Option FileValue → Map FileValue
+deleted_under files name prefix keep None = files
+deleted_under files name prefix keep (Some f) = with_value name (without_prefix keep f prefix) files
 
 -- the listing of files: each with its name, whether it is recoverable, and its records in key order
 abbrev pub files_listed : Map FileValue → List (Bytes × Bool × List Bytes)

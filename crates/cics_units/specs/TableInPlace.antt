@@ -3,21 +3,25 @@ use Rattle.std.specs.Prelude.{◌≡◌, ℕ, ◌==◌, ◌≤◌, Bool, true, f
 use Rattle.std.specs.List.{list_any}
 use Rattle.cics_names.specs.Keyed.{Bytes}
 use Rattle.cics_names.specs.declared.conditions.Condition.{Condition}
-use Rattle.arrayvec.specs.ArrayVec.{ArrayVec}
-use Rattle.cics_enqueue.specs.Resources.{Table, Held, bytes_of, is_one, is_other, is_user, is_in_order, holder_of, count_of, taken, given_back}
+use Rattle.cics_enqueue.specs.Resources.{Table, Held, bytes_of, is_one, is_user, is_in_order, holder_of, count_of, taken, given_back}
 use Rattle.cics_enqueue.specs.declared.resources.Resource.{Resource}
 use Rattle.cics_enqueue.specs.declared.resources.Resource.TheVariants.{FileKey, FilePrefix, User}
 use Rattle.cics_history.specs.Openings.{OpeningState, file_recoverable}
 use Rattle.cics_history.specs.Store.{is_normal}
 use Rattle.cics_history.specs.Holding.{UnitsState, UpdateRead, EnqCount, held_by}
-use Rattle.cics_history.specs.Execution.{is_read_of, covers}
+use Rattle.cics_history.specs.Execution.{is_read_of, read_at, covers}
 use Rattle.cics_history.specs.Records.{file_of, key_of}
 use Rattle.cics_history.specs.declared.ops.Op.{Op}
-use Rattle.cics_history.specs.declared.ops.Op.TheVariants.{Write, Rewrite, Delete, DeleteGeneric, ReadUpdate, TsWrite, TsRewrite, TsDelete, TdWrite, TdRead, TdDelete}
+use Rattle.cics_history.specs.declared.ops.Op.TheVariants.{DeleteGeneric, ReadUpdate}
 
 -- a key of a file as a resource
 abbrev pub record_of : Bytes → Bytes → Resource
 record_of f k = FileKey f (bytes_of k)
+
+-- what a command on a file uses: its record, or all under its prefix
+abbrev pub resource_of : Op → Resource
+resource_of (DeleteGeneric f p) = FilePrefix f (bytes_of p)
+resource_of op = record_of (file_of op) (key_of op)
 
 -- a value as a resource
 abbrev pub value_of : Bytes → Resource
@@ -34,11 +38,6 @@ is_read _ = false
 abbrev pub is_holder : ℕ → Option ℕ → Bool
 is_holder u None = false
 is_holder u (Some v) = v == u
-
--- the holder, where it is another unit than the one that asks
-abbrev pub other_holder : Option ℕ → Option ℕ → Option ℕ
-other_holder asking None = None
-other_holder asking (Some v) = if is_other asking v then Some v else None
 
 -- a value that is held is counted
 abbrev pub counted_before : Resource → Held → List EnqCount → List EnqCount
@@ -64,30 +63,31 @@ pub record IsTableOf (s : UnitsState) (table : Table) : Type 0 where
   pub in_order : T (is_in_order table)
   pub counts : s.counts ≡ counts_in table
   pub once : AreOnce s.reads
-  -- no prefix of keys is held: the keys alone are
-  pub keys_alone : (f : Bytes) (p : ArrayVec ℕ) → holder_of (FilePrefix f p) table ≡ None
   -- a key of a file has at most 255 bytes
   pub keys : All (λ r. length r.key ≤ 255) s.reads
 
 -- ---- What each call makes of the table
 
--- a command that is answered NORMAL takes its record, where the file is recoverable or the record is read for update; in
--- another file a command that covers the update read gives its record back
-abbrev pub table_changed : Bool → ℕ → Op → List UpdateRead → Table → Table
-table_changed recoverable u op reads t =
-    if recoverable || is_read op then taken t (record_of (file_of op) (key_of op)) u
-    else if list_any (covers u op) reads then given_back t (record_of (file_of op) (key_of op)) u
-    else t
-
--- an executed command changes the table where it is answered NORMAL
-abbrev pub table_executed : OpeningState → ℕ → Op → Condition → List UpdateRead → Table → Table
-table_executed o u op c reads t = if not (is_normal c) then t else table_changed (file_recoverable o (file_of op)) u op reads t
+-- the key of the update read that a command covers, if it covers one
+abbrev pub covered_read : ℕ → Op → List UpdateRead → Option Bytes
+covered_read u op reads = if list_any (covers u op) reads then read_at reads u (file_of op) else None
 
 -- UNLOCK gives the record of an update read back, where the file isn't recoverable
 abbrev pub table_given_back : Bool → ℕ → Bytes → Option Bytes → Table → Table
 table_given_back recoverable u f None t = t
 table_given_back recoverable u f (Some k) t = if recoverable then t else given_back t (record_of f k) u
 
--- the same, by the opening
+-- a command that is answered NORMAL takes what it uses, where the file is recoverable or the record is read for update; in
+-- another file it gives the record of the update read back that it covers
+abbrev pub table_changed : Bool → ℕ → Op → List UpdateRead → Table → Table
+table_changed recoverable u op reads t =
+    if recoverable || is_read op then taken t (resource_of op) u
+    else table_given_back false u (file_of op) (covered_read u op reads) t
+
+-- an executed command changes the table where it is answered NORMAL
+abbrev pub table_executed : OpeningState → ℕ → Op → Condition → List UpdateRead → Table → Table
+table_executed o u op c reads t = if not (is_normal c) then t else table_changed (file_recoverable o (file_of op)) u op reads t
+
+-- what UNLOCK makes of it, by the opening
 abbrev pub table_unlocked : OpeningState → ℕ → Bytes → Option Bytes → Table → Table
 table_unlocked o u f k t = table_given_back (file_recoverable o f) u f k t

@@ -4,7 +4,7 @@ ghost use Rattle.std.specs.Prelude.{◌≡◌, ◌==◌, ◌&&◌, not, filter, 
 ghost use Rattle.std.specs.Option.{option_copied};
 ghost use Rattle.cics_names.specs.Keyed.{is_same};
 ghost use Rattle.cics_history.specs.Execution.{is_read_of, read_at, with_read};
-ghost use Rattle.cics_units.specs.OpenReads.{is_read_key};
+ghost use Rattle.cics_units.specs.OpenReads.{is_read_key, is_read_under};
 
 use cics_enqueue::UnitId;
 use cics_names::{Name8, NoMemory, Record};
@@ -76,8 +76,8 @@ impl OpenReads {
         Ok(())
     }
 
-    // Whether a unit has an update read of a file, and it is of this key.
-    fn is_of_key(&self, unit: UnitId, file: &Name8, key: &[u8]) -> bool
+    /// Whether a unit has an update read of a file, and it is of this key.
+    pub(crate) fn is_of_key(&self, unit: UnitId, file: &Name8, key: &[u8]) -> bool
         ensures { result ≡ is_read_key (read_at self.now unit file.now) key.now }
     {
         match self.key(unit, file) {
@@ -86,20 +86,14 @@ impl OpenReads {
         }
     }
 
-    /// Ends a unit's update read of a file if it is of this key, and tells whether it was.
-    ///
-    /// This takes no memory.
-    pub(crate) fn cover(&mut self, unit: UnitId, file: &Name8, key: &[u8]) -> bool
-        ensures reads { self.new ≡ filter
-            (λ r. not (is_read_of unit file.now r && is_same r.key key.now)) self.old }
-        ensures covered { result ≡ is_read_key (read_at self.old unit file.now) key.now }
+    /// Whether a unit has an update read of a file, and its key begins with this prefix.
+    pub(crate) fn is_under(&self, unit: UnitId, file: &Name8, prefix: &[u8]) -> bool
+        ensures { result ≡ is_read_under (read_at self.now unit file.now) prefix.now }
     {
-        let _rows = &self.rows;
-        let is_covered = self.is_of_key(unit, file, key);
-        if is_covered {
-            self.close(unit, file);
+        match self.key(unit, file) {
+            Some(read) => read.bytes().starts_with(prefix),
+            None => false,
         }
-        is_covered
     }
 
     /// Ends a unit's update read of a file, and answers the key that it was of, or `None` where there was none.

@@ -3,7 +3,7 @@
 
 ghost use Rattle.std.specs.Prelude.{◌≡◌, ◌==◌, ◌<◌, ◌≤◌, ℕ, Bool, if◌then◌else◌, true, false, not};
 ghost use Rattle.std.specs.Prelude.{[], None, is_none, length, filter, fold, List, T, IsTrue, IfOk};
-ghost use Rattle.std.specs.Prelude.{IfErr, IfSome, OnOk, OnErr};
+ghost use Rattle.std.specs.Prelude.{IfErr, IfSome, OnOk, OnErr, All};
 ghost use Rattle.std.specs.List.{list_any};
 ghost use Rattle.std.specs.Option.{option_copied};
 ghost use Rattle.cics_names.specs.Keyed.{value_at};
@@ -12,6 +12,7 @@ ghost use Rattle.cics_images.specs.Cells.{AreReadyInTurn, LeadBack, images_of, i
 ghost use Rattle.cics_images.specs.Cells.{all_swept};
 ghost use Rattle.cics_ksds.specs.Undo.{Leads};
 ghost use Rattle.cics_enqueue.specs.Resources.{IsFreeFor, is_full, is_in_order, holder_of, taken};
+ghost use Rattle.cics_enqueue.specs.Resources.{holder_over};
 ghost use Rattle.cics_enqueue.specs.Resources.{given_back, released};
 ghost use Rattle.cics_history.specs.Execution.{covers, reads_after, read_at, with_read, is_read_of};
 ghost use Rattle.cics_units.specs.FilesImages.{cell_of_image, files_content, IsReadyFor};
@@ -19,19 +20,20 @@ ghost use Rattle.cics_units.specs.FilesImages.{files_undone, files_swept, files_
 ghost use Rattle.cics_units.specs.FilesImages.{definitions_of};
 ghost use Rattle.cics_units.specs.UnitImages.{kept_by, room_of, AreOthersKept, AreHeldForImages};
 ghost use Rattle.cics_history.specs.Records.{is_file_op, file_of, key_of};
-ghost use Rattle.cics_units.specs.TableInPlace.{is_read, record_of};
-ghost use Rattle.cics_units.specs.TableInPlace.{value_of, other_holder, AreOnce, table_changed};
+ghost use Rattle.cics_units.specs.TableInPlace.{is_read, resource_of, covered_read};
+ghost use Rattle.cics_units.specs.TableInPlace.{value_of, AreOnce, table_changed};
 ghost use Rattle.cics_units.specs.TableInPlace.{table_given_back};
 ghost use Rattle.cics_units.specs.Parts.{IsFitOp, is_recoverable_in, AreChanged, AreExecuted};
+ghost use Rattle.cics_units.specs.Parts.{most_images};
 ghost use Rattle.cics_units.specs.Parts.{AreEnqueued, ArePartsKept};
 ghost use Rattle.cics_history.specs.Store.{apply};
 ghost use Rattle.cics_units.specs.Matching.{store_of_files};
 
 use crate::files::Files;
 use crate::open_reads::OpenReads;
-use cics_history::Op;
 use crate::undoable_files::UndoableFiles;
 use cics_enqueue::{Enqueues, Resource, TakeFault, UnitId};
+use cics_history::Op;
 use cics_names::{Condition, Name8, NoMemory, Record};
 use std::alloc::Global;
 use std::marker::Model;
@@ -52,17 +54,31 @@ impl Model for Parts {
     ghost view = { λ p. record { stores = p.files; table = p.enqueues; reads = p.reads } };
 }
 
-// Takes a record for a unit, unless the unit holds it already, and tells whether it was free.
-fn hold(enqueues: &mut Enqueues, file: Name8, key: &[u8], unit: UnitId) -> Result<bool, NoMemory>
-    requires most { length key.now ≤ 255 }
-    requires free { IsFreeFor enqueues.old (record_of file key.now) unit }
+/// What a command on a file uses: its record, or all under its prefix.
+pub(crate) fn resource_of(op: &Op) -> Resource
+    requires file { is_file_op op.now ≡ true }
+    requires most { length (key_of op.now) ≤ 255 }
+    ensures { result ≡ resource_of op.now }
+{
+    match (op, op.record()) {
+        (Op::DeleteGeneric { file, prefix }, _) => Resource::prefix(*file, prefix.bytes()),
+        (_, Some((file, key))) => Resource::record(*file, key.bytes()),
+        (_, None) => unreachable!(),
+    }
+}
+
+// Takes what a command uses for a unit, unless the unit holds it already, and tells whether it was free.
+fn hold(enqueues: &mut Enqueues, op: &Op, unit: UnitId) -> Result<bool, NoMemory>
+    requires file { is_file_op op.now ≡ true }
+    requires most { length (key_of op.now) ≤ 255 }
+    requires free { IsFreeFor enqueues.old (resource_of op.now) unit }
     requires in_order { T (is_in_order enqueues.old) }
-    ensures taken { OnOk result (enqueues.new ≡ taken enqueues.old (record_of file key.now) unit) }
+    ensures taken { OnOk result (enqueues.new ≡ taken enqueues.old (resource_of op.now) unit) }
     ensures was_free { IfOk result (λ was_free. was_free
-        ≡ is_none (holder_of (record_of file key.now) enqueues.old)) }
+        ≡ is_none (holder_of (resource_of op.now) enqueues.old)) }
     ensures err { OnErr result (enqueues.new ≡ enqueues.old) }
 {
-    let resource = Resource::record(file, key);
+    let resource = resource_of(op);
     if enqueues.holder(&resource).is_some() {
         return Ok(false);
     }
@@ -72,15 +88,15 @@ fn hold(enqueues: &mut Enqueues, file: Name8, key: &[u8], unit: UnitId) -> Resul
     }
 }
 
-// Gives a record back that was taken for a command which then found no memory.
-fn let_go(enqueues: &mut Enqueues, file: Name8, key: &[u8], unit: UnitId, was_free: bool)
-    requires most { length key.now ≤ 255 }
+// Gives back what was taken for a command which then found no memory.
+fn let_go(enqueues: &mut Enqueues, op: &Op, unit: UnitId, was_free: bool)
+    requires file { is_file_op op.now ≡ true }
+    requires most { length (key_of op.now) ≤ 255 }
     ensures { enqueues.new
-        ≡ (if was_free then given_back enqueues.old
-        (record_of file key.now) unit else enqueues.old) }
+        ≡ (if was_free then given_back enqueues.old (resource_of op.now) unit else enqueues.old) }
 {
     if was_free {
-        enqueues.give_back(&Resource::record(file, key), unit);
+        enqueues.give_back(&resource_of(op), unit);
     }
 }
 
@@ -111,128 +127,134 @@ impl Parts {
         self.reads.key(unit, file)
     }
 
-    /// The unit that holds a resource, if it is another than the one that asks.
-    pub(crate) fn other_holder(&self, asking: Option<UnitId>, resource: &Resource) -> Option<UnitId>
-        ensures { result ≡ other_holder asking (holder_of resource.now self.now.table) }
+    /// The unit, other than the one that asks, that holds the least of what overlaps a resource.
+    pub(crate) fn holder_over(&self, asking: Option<UnitId>, resource: &Resource) -> Option<UnitId>
+        ensures { result ≡ holder_over resource.now asking self.now.table }
     {
-        let holder = self.enqueues.holder(resource)?;
-        if asking == Some(holder) {
-            None
-        } else {
-            Some(holder)
-        }
+        self.enqueues.holder_over(resource, asking)
     }
 
-    // Ends the update read that a command covers, and tells whether there was one.
-    fn cover(&mut self, unit: UnitId, op: &Op) -> bool
-        requires once { AreOnce self.old.reads }
+    // Whether a command covers an update read of its unit.
+    fn covers(&self, unit: UnitId, op: &Op) -> bool
+        requires once { AreOnce self.now.reads }
         requires file { is_file_op op.now ≡ true }
-        ensures covered { result ≡ list_any (covers unit op.now) self.old.reads }
-        ensures rest { self.new ≡ record self.old
-            { reads = filter (λ r. not (covers unit op.now r)) self.old.reads } }
+        ensures { result ≡ list_any (covers unit op.now) self.now.reads }
     {
         match op {
-            Op::Rewrite { file, key, .. } => self.reads.cover(unit, file, key.bytes()),
-            Op::Delete { file, key } => self.reads.cover(unit, file, key.bytes()),
+            Op::Rewrite { file, key, .. } => self.reads.is_of_key(unit, file, key.bytes()),
+            Op::Delete { file, key } => self.reads.is_of_key(unit, file, key.bytes()),
+            Op::DeleteGeneric { file, prefix } => self.reads.is_under(unit, file, prefix.bytes()),
             _ => false,
         }
     }
 
-    // READ UPDATE: the unit holds the record, and has read it for update.
-    fn read_for_update(&mut self, unit: UnitId, file: Name8, key: &Record) -> Result<(), NoMemory>
-        requires most { length key.now ≤ 255 }
-        requires free { IsFreeFor self.old.table (record_of file key.now) unit }
-        requires in_order { T (is_in_order self.old.table) }
-        requires none_open { read_at self.old.reads unit file ≡ None }
-        ensures parts { OnOk result (self.new ≡ record self.old {
-          table = taken self.old.table (record_of file key.now) unit;
-          reads = with_read (record { unit = unit; file = file; key = key.now }) self.old.reads;
-        }) }
-        ensures err { OnErr result (self.new ≡ self.old) }
+    // Ends the update read that a command covers, and answers its key if there was one.
+    fn cover(&mut self, unit: UnitId, file: &Name8, op: &Op) -> Option<Record>
+        requires once { AreOnce self.old.reads }
+        requires named { file_of op.now ≡ file.now }
+        requires on_file { is_file_op op.now ≡ true }
+        ensures key { result ≡ covered_read unit op.now self.old.reads }
+        ensures rest { self.new ≡ record self.old
+            { reads = filter (λ r. not (covers unit op.now r)) self.old.reads } }
     {
-        let copy = key.copy()?;
-        let was_free = hold(&mut self.enqueues, file, key.bytes(), unit)?;
-        match self.reads.open(unit, file, copy) {
-            Ok(()) => Ok(()),
-            Err(refused) => {
-                let_go(&mut self.enqueues, file, key.bytes(), unit, was_free);
-                Err(refused)
-            }
+        if !self.covers(unit, op) {
+            return None;
         }
+        self.reads.close(unit, file)
     }
 
-    // A change of a recoverable file: the unit holds the record until it ends.
-    fn change_held(
+    // READ UPDATE: the unit holds the record, and has read it for update.
+    fn read_for_update(
         &mut self,
         unit: UnitId,
         file: Name8,
         key: &Record,
         op: &Op,
     ) -> Result<(), NoMemory>
-        requires named { (file_of op.now ≡ file) × (key_of op.now ≡ key.now) }
-        requires on_record { is_file_op op.now ≡ true }
+        requires on_file { is_file_op op.now ≡ true }
+        requires most { length (key_of op.now) ≤ 255 }
+        requires free { IsFreeFor self.old.table (resource_of op.now) unit }
+        requires in_order { T (is_in_order self.old.table) }
+        requires none_open { read_at self.old.reads unit file ≡ None }
+        ensures parts { OnOk result (self.new ≡ record self.old {
+          table = taken self.old.table (resource_of op.now) unit;
+          reads = with_read (record { unit = unit; file = file; key = key.now }) self.old.reads;
+        }) }
+        ensures err { OnErr result (self.new ≡ self.old) }
+    {
+        let copy = key.copy()?;
+        let was_free = hold(&mut self.enqueues, op, unit)?;
+        match self.reads.open(unit, file, copy) {
+            Ok(()) => Ok(()),
+            Err(refused) => {
+                let_go(&mut self.enqueues, op, unit, was_free);
+                Err(refused)
+            }
+        }
+    }
+
+    // A change of a recoverable file: the unit holds what the command uses until it ends.
+    fn change_held(&mut self, unit: UnitId, file: &Name8, op: &Op) -> Result<(), NoMemory>
+        requires named { file_of op.now ≡ file.now }
+        requires on_file { is_file_op op.now ≡ true }
         requires fit { IsFitOp self.old.stores.files op.now }
         requires begun { unit < length self.old.stores.images }
-        requires room { 0 < room_of self.old.stores.images unit }
-        requires most { length key.now ≤ 255 }
-        requires free { IsFreeFor self.old.table (record_of file key.now) unit }
+        requires room { most_images self.old.stores.files op.now ≤ room_of self.old.stores.images unit }
+        requires most { length (key_of op.now) ≤ 255 }
+        requires free { IsFreeFor self.old.table (resource_of op.now) unit }
         requires in_order { T (is_in_order self.old.table) }
         requires once { AreOnce self.old.reads }
         ensures changed { OnOk result (AreChanged self.old.stores self.new.stores unit op.now) }
-        ensures table { OnOk result (self.new.table ≡ taken self.old.table (record_of file key.now) unit) }
+        ensures table { OnOk result (self.new.table ≡ taken self.old.table (resource_of op.now) unit) }
         ensures reads { OnOk result (self.new.reads ≡ filter (λ r. not (covers unit op.now r)) self.old.reads) }
         ensures err { OnErr result (self.new ≡ self.old) }
     {
-        let was_free = hold(&mut self.enqueues, file, key.bytes(), unit)?;
+        let was_free = hold(&mut self.enqueues, op, unit)?;
         match self.files.change(unit, op) {
             Ok(()) => {
-                self.cover(unit, op);
+                drop(self.cover(unit, file, op));
                 Ok(())
             }
             Err(refused) => {
-                let_go(&mut self.enqueues, file, key.bytes(), unit, was_free);
+                let_go(&mut self.enqueues, op, unit, was_free);
                 Err(refused)
             }
         }
     }
 
     // A change of a file that isn't recoverable: it gives the record of the update read back that it covers.
-    fn change_plain(
-        &mut self,
-        unit: UnitId,
-        file: Name8,
-        key: &Record,
-        op: &Op,
-    ) -> Result<(), NoMemory>
-        requires on_record { is_file_op op.now ≡ true }
+    fn change_plain(&mut self, unit: UnitId, file: &Name8, op: &Op) -> Result<(), NoMemory>
+        requires named { file_of op.now ≡ file.now }
+        requires on_file { is_file_op op.now ≡ true }
         requires fit { IsFitOp self.old.stores.files op.now }
         requires begun { unit < length self.old.stores.images }
-        requires room { 0 < room_of self.old.stores.images unit }
-        requires most { length key.now ≤ 255 }
+        requires room { most_images self.old.stores.files op.now ≤ room_of self.old.stores.images unit }
+        requires short { All (λ r. length r.key ≤ 255) self.old.reads }
         requires once { AreOnce self.old.reads }
         ensures changed { OnOk result (AreChanged self.old.stores self.new.stores unit op.now) }
         ensures table { OnOk result (self.new.table
-            ≡ (if list_any (covers unit op.now) self.old.reads then given_back self.old.table
-            (record_of file key.now) unit else self.old.table)) }
+            ≡ table_given_back false unit file.now (covered_read unit op.now self.old.reads)
+            self.old.table) }
         ensures reads { OnOk result (self.new.reads ≡ filter (λ r. not (covers unit op.now r)) self.old.reads) }
         ensures err { OnErr result (self.new ≡ self.old) }
     {
         self.files.change(unit, op)?;
-        if self.cover(unit, op) {
+        if let Some(key) = self.cover(unit, file, op) {
             self.enqueues
-                .give_back(&Resource::record(file, key.bytes()), unit);
+                .give_back(&Resource::record(*file, key.bytes()), unit);
         }
         Ok(())
     }
 
     // Executes a command on a file that is to be answered NORMAL.
     fn change(&mut self, unit: UnitId, op: &Op) -> Result<(), NoMemory>
-        requires on_record { is_file_op op.now ≡ true }
+        requires on_file { is_file_op op.now ≡ true }
         requires fit { IsFitOp self.old.stores.files op.now }
         requires begun { unit < length self.old.stores.images }
-        requires room { 0 < room_of self.old.stores.images unit }
+        requires room { most_images self.old.stores.files op.now ≤ room_of self.old.stores.images unit }
         requires most { length (key_of op.now) ≤ 255 }
-        requires free { IsFreeFor self.old.table (record_of (file_of op.now) (key_of op.now)) unit }
+        requires short { All (λ r. length r.key ≤ 255) self.old.reads }
+        requires free { IsFreeFor self.old.table (resource_of op.now) unit }
         requires in_order { T (is_in_order self.old.table) }
         requires once { AreOnce self.old.reads }
         requires none_open { is_read op.now ≡ true → read_at self.old.reads unit (file_of op.now) ≡ None }
@@ -248,12 +270,12 @@ impl Parts {
             unreachable!();
         };
         if let Op::ReadUpdate { .. } = op {
-            return self.read_for_update(unit, *file, key);
+            return self.read_for_update(unit, *file, key, op);
         }
         if self.files.is_recoverable(file) {
-            self.change_held(unit, *file, key, op)
+            self.change_held(unit, file, op)
         } else {
-            self.change_plain(unit, *file, key, op)
+            self.change_plain(unit, file, op)
         }
     }
 
@@ -270,7 +292,8 @@ impl Parts {
         requires file { is_file_op op.now ≡ true }
         requires begun { unit ≤ length self.old.stores.images }
         requires most { length (key_of op.now) ≤ 255 }
-        requires free { IsFreeFor self.old.table (record_of (file_of op.now) (key_of op.now)) unit }
+        requires short { All (λ r. length r.key ≤ 255) self.old.reads }
+        requires free { IsFreeFor self.old.table (resource_of op.now) unit }
         requires in_order { T (is_in_order self.old.table) }
         requires once { AreOnce self.old.reads }
         requires none_open { is_read op.now ≡ true → read_at self.old.reads unit (file_of op.now) ≡ None }
@@ -278,7 +301,7 @@ impl Parts {
         ensures executed { OnOk result (AreExecuted self.old self.new unit op.now condition) }
         ensures err { OnErr result (ArePartsKept self.old self.new) }
     {
-        self.files.make_room(unit)?;
+        self.files.make_room(unit, self.files.most_images(op))?;
         if condition == Condition::Normal {
             self.change(unit, op)?;
         }
@@ -299,7 +322,7 @@ impl Parts {
             is_full (value_of value.now) self.old.table ≡ true) }
         ensures err { OnErr result (ArePartsKept self.old self.new) }
     {
-        self.files.make_room(unit)?;
+        self.files.make_room(unit, 0)?;
         self.enqueues.take(Resource::value(value), unit)
     }
 

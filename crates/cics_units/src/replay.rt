@@ -17,8 +17,8 @@ ghost use Rattle.cics_history.specs.Store.{apply, initial_store, is_recoverable}
 use crate::files::Files;
 use crate::listings::Listing;
 use crate::opening::Opening;
-use cics_history::{Entry, Op, UnitState};
 use cics_enqueue::UnitId;
+use cics_history::{Entry, Op, UnitState};
 use cics_names::{Name8, NoMemory};
 use store::PlainStore;
 

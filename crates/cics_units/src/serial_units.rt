@@ -12,9 +12,9 @@ ghost use Rattle.cics_history.specs.declared.ops.Op.{Op as OpValue};
 ghost use Rattle.cics_history.specs.declared.ops.UnitState.TheVariants.{Committed, BackedOut};
 
 use crate::opening::Opening;
-use cics_history::{Done, Enqueued, Op, UnitState};
 use crate::units::Units;
 use cics_enqueue::UnitId;
+use cics_history::{Done, Enqueued, Op, UnitState};
 use cics_names::{Name8, NoMemory};
 use std::marker::Model;
 

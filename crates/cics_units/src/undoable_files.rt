@@ -14,17 +14,20 @@ ghost use Rattle.cics_units.specs.FilesImages.{definitions_of};
 ghost use Rattle.cics_units.specs.Matching.{store_of_files};
 ghost use Rattle.cics_units.specs.UnitImages.{kept_by, room_of, AreOthersKept, AreHeldForImages};
 ghost use Rattle.cics_units.specs.Parts.{IsFitOp, IsRecordOf, is_recoverable_in, with_newest};
-ghost use Rattle.cics_units.specs.Parts.{AreChanged};
+ghost use Rattle.cics_units.specs.Parts.{AreChanged, most_in, most_images, with_stored};
+ghost use Rattle.cics_ksds.specs.Prefixes.{under};
+ghost use Rattle.cics_ksds.specs.Files.{IsContent};
+ghost use Rattle.cics_history.specs.Store.{counted_answer};
 ghost use Rattle.cics_units.specs.RegionFiles.{IsThere};
 ghost use Rattle.cics_names.specs.Keyed.{value_at, is_rising};
-ghost use Rattle.cics_history.specs.declared.ops.Op.TheVariants.{Write, Rewrite, Delete};
+ghost use Rattle.cics_history.specs.declared.ops.Op.TheVariants.{Write, Rewrite, Delete, DeleteGeneric};
 
 use crate::files::{Files, FilesImage};
-use cics_history::{Answer, Op};
 use crate::unit_images::UnitImages;
 use cics_enqueue::UnitId;
+use cics_history::{Answer, Op};
 use cics_ksds::FileImage;
-use cics_names::{Condition, Name8, NoMemory, Record};
+use cics_names::{Condition, Items, Name8, NoMemory, Record};
 use std::alloc::Global;
 use std::marker::Model;
 
@@ -126,6 +129,34 @@ impl UndoableFiles {
         })
     }
 
+    // How many records of a file that is there have keys that begin with a prefix.
+    fn number_under(&self, name: &Name8, prefix: &Record) -> u64
+        requires there { IsThere (value_at name.now self.now.files) }
+        ensures { result ≡ most_in prefix.now (value_at name.now self.now.files) }
+    {
+        match self.files.get(name) {
+            Some(file) => file.count_prefix(prefix.bytes()),
+            None => unreachable!(),
+        }
+    }
+
+    // What DELETE GENERIC is answered: the number of records under its prefix, and NOTFND where there
+    // is none.
+    fn answer_to_generic(&self, name: &Name8, prefix: &Record) -> Answer
+        requires there { IsThere (value_at name.now self.now.files) }
+        ensures { IfSome (value_at name.now self.now.files)
+            (λ f. result ≡ counted_answer (under prefix.now f.records)) }
+    {
+        match self.number_under(name, prefix) {
+            0 => only(Condition::Notfnd),
+            number => Answer {
+                condition: Condition::Normal,
+                content: None,
+                number: Some(number),
+            },
+        }
+    }
+
     /// What a command on a file would be answered now. It takes memory for a record that is read.
     pub(crate) fn answer(&self, op: &Op) -> Result<Answer, NoMemory>
         requires fit { IsFitOp self.now.files op.now }
@@ -135,21 +166,33 @@ impl UndoableFiles {
             Op::Write { file, key, .. } => Ok(self.answer_to_write(file, key)),
             Op::Rewrite { file, key, .. } => Ok(self.answer_to_change(file, key)),
             Op::Delete { file, key } => Ok(self.answer_to_change(file, key)),
+            Op::DeleteGeneric { file, prefix } => Ok(self.answer_to_generic(file, prefix)),
             Op::ReadUpdate { file, key } => self.answer_to_read(file, key),
             _ => unreachable!(),
         }
     }
 
-    /// Makes room for one more image of a unit, which may be one that has yet to begin.
-    pub(crate) fn make_room(&mut self, unit: UnitId) -> Result<(), NoMemory>
+    /// How many images a command on a file gives at most.
+    pub(crate) fn most_images(&self, op: &Op) -> usize
+        requires fit { IsFitOp self.now.files op.now }
+        ensures { result ≡ most_images self.now.files op.now }
+    {
+        match op {
+            Op::DeleteGeneric { file, prefix } => self.number_under(file, prefix) as usize,
+            _ => 1,
+        }
+    }
+
+    /// Makes room for so many more images of a unit, which may be one that has yet to begin.
+    pub(crate) fn make_room(&mut self, unit: UnitId, count: usize) -> Result<(), NoMemory>
         requires begun { unit ≤ length self.old.images }
         ensures files { self.new.files ≡ self.old.files }
         ensures kept { (w : ℕ) → kept_by self.new.images w ≡ kept_by self.old.images w }
         ensures longer { length self.old.images ≤ length self.new.images }
         ensures begun { OnOk result (unit < length self.new.images) }
-        ensures room { OnOk result (0 < room_of self.new.images unit) }
+        ensures room { OnOk result (count ≤ room_of self.new.images unit) }
     {
-        self.images.make_room(unit, 1)
+        self.images.make_room(unit, count)
     }
 
     /// Whether the file of a name is recoverable. The names of all files rise.
@@ -157,6 +200,8 @@ impl UndoableFiles {
         requires there { IsThere (value_at name.now self.now.files) }
         ensures recoverable { result ≡ is_recoverable_in (value_at name.now self.now.files) }
         ensures in_order { T (is_rising self.now.files) }
+        ensures content { IfSome (value_at name.now self.now.files)
+            (λ f. IsContent f.definition f.records) }
     {
         match self.files.get(name) {
             Some(file) => file.definition().recoverable,
@@ -173,6 +218,20 @@ impl UndoableFiles {
         ensures apart { AreOthersKept self.old.images self.new.images unit }
     {
         if let Some(image) = image {
+            self.images.store(unit, FilesImage { name: file, image });
+        }
+    }
+
+    // Gives a unit the images of changes of a file, the last one as its newest.
+    fn keep_all(&mut self, unit: UnitId, file: Name8, images: Items<FileImage>)
+        requires begun { unit < length self.old.images }
+        requires room { length images ≤ room_of self.old.images unit }
+        ensures files { self.new.files ≡ self.old.files }
+        ensures kept { kept_by self.new.images unit
+            ≡ with_stored file images (kept_by self.old.images unit) }
+        ensures apart { AreOthersKept self.old.images self.new.images unit }
+    {
+        for image in images.into_vec() {
             self.images.store(unit, FilesImage { name: file, image });
         }
     }
@@ -233,12 +292,28 @@ impl UndoableFiles {
         Ok(())
     }
 
+    // DELETE GENERIC in place.
+    fn delete_generic(&mut self, unit: UnitId, name: Name8, prefix: &Record) -> Result<(), NoMemory>
+        requires there { IsThere (value_at name self.old.files) }
+        requires begun { unit < length self.old.images }
+        requires room { most_in prefix.now (value_at name self.old.files)
+            ≤ room_of self.old.images unit }
+        ensures changed { OnOk result
+            (AreChanged self.old self.new unit (DeleteGeneric name prefix.now)) }
+        ensures err { OnErr result (self.new ≡ self.old) }
+    {
+        let keep = self.is_recoverable(&name);
+        let removed = self.files.delete_prefix(&name, prefix.bytes(), keep)?;
+        self.keep_all(unit, name, removed.images);
+        Ok(())
+    }
+
     /// Executes a command on a file where the file stands: the unit keeps an image of what it changes
     /// in a recoverable file. Where memory is refused nothing has changed.
     pub(crate) fn change(&mut self, unit: UnitId, op: &Op) -> Result<(), NoMemory>
         requires fit { IsFitOp self.old.files op.now }
         requires begun { unit < length self.old.images }
-        requires room { 0 < room_of self.old.images unit }
+        requires room { most_images self.old.files op.now ≤ room_of self.old.images unit }
         ensures changed { OnOk result (AreChanged self.old self.new unit op.now) }
         ensures err { OnErr result (self.new ≡ self.old) }
     {
@@ -246,6 +321,7 @@ impl UndoableFiles {
             Op::Write { file, key, from } => self.write(unit, *file, key, from),
             Op::Rewrite { file, key, from } => self.rewrite(unit, *file, key, from),
             Op::Delete { file, key } => self.delete(unit, *file, key),
+            Op::DeleteGeneric { file, prefix } => self.delete_generic(unit, *file, prefix),
             Op::ReadUpdate { .. } => Ok(()),
             _ => unreachable!(),
         }

@@ -5,7 +5,6 @@ ghost use Rattle.std.specs.Prelude.{vec_capacity, IsTrue, Option, Some, None, op
 ghost use Rattle.std.specs.Prelude.{IfErr, IfSome, OnOk, OnErr};
 ghost use Rattle.std.specs.Option.{option_copied};
 ghost use Rattle.cics_names.specs.Keyed.{value_at};
-ghost use Rattle.cics_enqueue.specs.Resources.{is_prefix};
 ghost use Rattle.cics_history.specs.Openings.{is_key};
 ghost use Rattle.cics_history.specs.History.{outcome_of};
 ghost use Rattle.cics_history.specs.Holding.{held_table, first_holder, awaited};
@@ -15,16 +14,16 @@ ghost use Rattle.cics_history.specs.Execution.{execution, after_execution, enque
 ghost use Rattle.cics_history.specs.Execution.{after_dequeue, after_unlock, read_at, after_end};
 ghost use Rattle.cics_history.specs.Headline.{IsHeadline, LeavesNoTrace, beginning};
 ghost use Rattle.cics_units.specs.Listings.{listing_of};
-ghost use Rattle.cics_history.specs.Records.{is_file_op, file_of, key_of};
-ghost use Rattle.cics_units.specs.TableInPlace.{record_of};
+ghost use Rattle.cics_history.specs.Records.{is_file_op, key_of};
+ghost use Rattle.cics_units.specs.TableInPlace.{resource_of};
 ghost use Rattle.cics_history.specs.declared.ops.Op.{Op as OpValue};
 ghost use Rattle.cics_history.specs.declared.ops.UnitState.TheVariants.{Committed, BackedOut};
 
 use crate::listings::Listing;
 use crate::opening::Opening;
-use cics_history::{Done, Enqueued, Entry, Op, UnitState};
-use crate::parts::Parts;
+use crate::parts::{Parts, resource_of};
 use cics_enqueue::{Resource, TakeFault, UnitId};
+use cics_history::{Done, Enqueued, Entry, Op, UnitState};
 use cics_ksds::File;
 use cics_names::{Items, Name8, NoMemory, Record};
 use std::alloc::Global;
@@ -114,22 +113,19 @@ impl Units {
         })
     }
 
-    /// The unit that holds a resource, if it is another than the one that asks; `asking` is None for
-    /// a task without a unit.
+    /// The unit, other than the one that asks, that holds the least of what overlaps a resource, in byte
+    /// order; `asking` is None for a task without a unit.
     ///
-    /// The resource is no prefix of keys.
-    ///
-    /// - `awaits`: so it is the unit that a command on that record of a file has to wait for.
+    /// - `awaits`: so it is the unit that a command on a file has to wait for that uses that resource.
     pub fn holder(&self, asking: Option<UnitId>, resource: &Resource) -> Option<UnitId>
-        requires key { is_prefix resource.now ≡ false }
         ensures holder { result ≡ first_holder (held_table self.now.state) asking resource.now }
         ensures is_open { IfSome result (IsOpenUnit self.now.state) }
         ensures awaits { (op : OpValue) → is_file_op op ≡ true →
-            resource.now ≡ record_of (file_of op) (key_of op) →
+            resource.now ≡ resource_of op →
             result ≡ awaited self.now.state asking op }
     {
         let _trace = &self.trace;
-        self.parts.other_holder(asking, resource)
+        self.parts.holder_over(asking, resource)
     }
 
     /// Executes a command on a file for a unit, or for the next one, which begins with it, or answers
@@ -138,7 +134,8 @@ impl Units {
     /// An executed command is entered in the trace with its answer. The unit has to be open, the
     /// file defined, a record that is written has to fit it under the command's key, REWRITE has to
     /// be of the record that the unit has read for update, READ UPDATE needs that the unit has none
-    /// open in the file, and a key has at most 255 bytes. Where memory is refused nothing changes.
+    /// open in the file, and a key or a prefix has at most 255 bytes. Where memory is refused nothing
+    /// changes.
     pub fn execute(&mut self, unit: Option<UnitId>, op: &Op) -> Result<Done, NoMemory>
         requires is_open { IsOpenOrNone self.old.state unit }
         requires file { IsTrue (is_file_op op.now) }
@@ -150,11 +147,8 @@ impl Units {
         ensures headline { IsHeadline self.new }
         ensures err { OnErr result (self.new ≡ self.old) }
     {
-        let Some((file, key)) = op.record() else {
-            unreachable!();
-        };
-        let resource = Resource::record(*file, key.bytes());
-        if let Some(holder) = self.parts.other_holder(unit, &resource) {
+        let resource = resource_of(op);
+        if let Some(holder) = self.parts.holder_over(unit, &resource) {
             return Ok(Done::MustWait(holder));
         }
         let acting = unit_or_next(unit, self.outcomes.as_slice());
@@ -191,7 +185,7 @@ impl Units {
         let asking = unit;
         let begins = unit;
         let resource = Resource::value(value);
-        if let Some(holder) = self.parts.other_holder(asking, &resource) {
+        if let Some(holder) = self.parts.holder_over(asking, &resource) {
             return Ok(Enqueued::MustWait(holder));
         }
         let acting = unit_or_next(unit, self.outcomes.as_slice());

@@ -6,13 +6,14 @@ ghost use Rattle.cics_images.specs.Cells.{is_other};
 ghost use Rattle.cics_ksds.specs.Files.{key_of, write_condition, change_condition};
 ghost use Rattle.cics_ksds.specs.Undo.{written_image, rewritten_image, deleted_image};
 ghost use Rattle.cics_units.specs.RegionFiles.{IsFitFor, IsThere, key_in, written_in, rewritten_in};
-ghost use Rattle.cics_units.specs.RegionFiles.{deleted_in};
+ghost use Rattle.cics_units.specs.RegionFiles.{deleted_in, deleted_under};
+ghost use Rattle.cics_ksds.specs.Prefixes.{prefix_images};
 ghost use Rattle.cics_units.specs.FilesImages.{cell_of, FilesKeep};
 ghost use Rattle.cics_units.specs.FilesChanges.{IsFilesImage};
 
 use crate::named::Named;
 use cics_images::Changed;
-use cics_ksds::{File, FileImage};
+use cics_ksds::{File, FileImage, Removed};
 use cics_names::{Name8, NoMemory, Record};
 
 impl Named<File> {
@@ -85,6 +86,26 @@ impl Named<File> {
     {
         match self.rows.get_mut(name) {
             Some(file) => file.delete(key, keep),
+            None => unreachable!(),
+        }
+    }
+
+    /// Deletes every record of the file of a name whose key begins with a prefix: DELETE with GENERIC.
+    pub fn delete_prefix(
+        &mut self,
+        name: &Name8,
+        prefix: &[u8],
+        keep: bool,
+    ) -> Result<Removed, NoMemory>
+        requires { IsThere (value_at name.now self.old) }
+        ensures images { IfOk result (λ removed. IfSome (value_at name.now self.old)
+            (λ f. removed.images ≡ prefix_images keep f prefix.now)) }
+        ensures files { OnOk result (self.new
+            ≡ deleted_under self.old name.now prefix.now keep (value_at name.now self.old)) }
+        ensures err { OnErr result (self.new ≡ self.old) }
+    {
+        match self.rows.get_mut(name) {
+            Some(file) => file.delete_prefix(prefix, keep),
             None => unreachable!(),
         }
     }

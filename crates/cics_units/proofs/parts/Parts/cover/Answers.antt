@@ -1,28 +1,19 @@
-use Rattle.std.proofs.Common.{◌≡◌, ◌∙◌, sym, ap, subst}
-use Rattle.std.specs.List.{list_any}
-use Rattle.cics_history.specs.Execution.{covers, read_at}
-use Rattle.cics_units.specs.OpenReads.{is_read_key}
-use Rattle.cics_units.specs.TableInPlace.{AreOnce}
-use Rattle.cics_history.specs.declared.ops.Op.TheVariants.{Rewrite, Delete}
-use Rattle.cics_units.proofs.PartChanges.{covered-read_at, uncovered_any, uncovered_rest}
+use Rattle.std.proofs.Common.{◌∙◌, sym, not, filter}
+use Rattle.cics_history.specs.Execution.{covers, is_read_of}
+use Rattle.cics_units.proofs.HeldReads.{filter_none}
+use Rattle.cics_units.proofs.PartChanges.{covered_rest}
 use Rattle.cics_units.proofs.parts.Parts.cover.Goals as goal
 
-pub returns-in-Rewrite-clause-covered : goal.returns-in-Rewrite-clause-covered
-returns-in-Rewrite-clause-covered c = rw c.in-Rewrite.is
-    (subst (λ p. c.cover.result ≡ list_any (covers c.args.unit (Rewrite c.in-Rewrite.file c.in-Rewrite.key c.in-Rewrite.from)) p.reads) c.self.view_is
-    (c.cover.ensures.covered ∙ ap (is_read_key (read_at c.self.inside.reads c.args.unit c.in-Rewrite.file)) c.bytes.ensures
-    ∙ sym (covered-read_at c.args.unit c.in-Rewrite.file c.in-Rewrite.key c.self.inside.reads (subst (λ p. AreOnce p.reads) (sym c.self.view_is) c.requires.once))))
+pub returns-then-not-covers-clause-rest : goal.returns-then-not-covers-clause-rest
+returns-then-not-covers-clause-rest c =
+    λ i. record c.args.self.now { reads = sym (filter_none (covers c.args.unit c.args.op.now) c.args.self.now.reads
+    (sym c.covers.ensures ∙ c.if-not-covers.true)) i }
 
-pub returns-in-Delete-clause-covered : goal.returns-in-Delete-clause-covered
-returns-in-Delete-clause-covered c = rw c.in-Delete.is
-    (subst (λ p. c.cover-in-Delete.result ≡ list_any (covers c.args.unit (Delete c.in-Delete.file c.in-Delete.key)) p.reads) c.self.view_is
-    (c.cover-in-Delete.ensures.covered ∙ ap (is_read_key (read_at c.self.inside.reads c.args.unit c.in-Delete.file)) c.bytes-in-Delete.ensures
-    ∙ sym (covered-read_at c.args.unit c.in-Delete.file c.in-Delete.key c.self.inside.reads (subst (λ p. AreOnce p.reads) (sym c.self.view_is) c.requires.once))))
-
-pub returns-in_default : goal.returns-in_default
-returns-in_default c =
-    let op = c.args.op.now in
-    record {
-      covered = sym (uncovered_any c.args.unit op c.args.self.now.reads (λ f k r is. c.in_default.not-Rewrite f k r is) (λ f k is. c.in_default.not-Delete f k is) c.requires.file);
-      rest = λ i. record c.args.self.now { reads = sym (uncovered_rest c.args.unit op c.args.self.now.reads (λ f k r is. c.in_default.not-Rewrite f k r is) (λ f k is. c.in_default.not-Delete f k is) c.requires.file) i };
-    }
+pub returns-clause-rest : goal.returns-clause-rest
+returns-clause-rest c =
+    (λ i. record { stores = c.self.inside.files; table = c.self.inside.enqueues; reads = c.close.ensures.reads i })
+    ∙ (λ i. record (c.self.view_is i) { reads = filter (λ r. not (is_read_of c.args.unit (sym c.requires.named i) r)) (c.self.view_is i).reads })
+    ∙ (λ i. record c.args.self.now {
+      reads = covered_rest c.args.unit c.args.op.now c.requires.on_file c.args.self.now.reads c.requires.once
+          (sym c.covers.ensures ∙ c.if-not-covers.false) i;
+    })

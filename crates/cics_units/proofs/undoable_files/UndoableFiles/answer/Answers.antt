@@ -2,6 +2,7 @@ use Rattle.std.proofs.Common.{◌∙◌, sym, subst}
 use Rattle.cics_units.specs.Parts.{IsFitOp}
 use Rattle.cics_units.proofs.Changing.{IfOk-more}
 use Rattle.cics_units.proofs.FileChanges.{write_answer, rewrite_answer, delete_answer, read_answer, of_file, record_there}
+use Rattle.cics_units.proofs.FileChanges.{generic_answer}
 use Rattle.cics_units.proofs.undoable_files.UndoableFiles.answer.Goals as goal
 
 pub returns-in-Write : goal.returns-in-Write
@@ -24,3 +25,9 @@ returns-in-ReadUpdate c = rw c.in-ReadUpdate.is (
     IfOk-more c.answer_to_read.result _ _ (λ a told.
     of_file c.args.self.now.files c.in-ReadUpdate.file _ (subst (IsFitOp c.args.self.now.files) c.in-ReadUpdate.is c.requires.fit) told
     (λ f there is. is ∙ sym (read_answer c.args.self.now.files c.in-ReadUpdate.file f there c.in-ReadUpdate.key))) c.answer_to_read.ensures)
+
+pub returns-in-DeleteGeneric : goal.returns-in-DeleteGeneric
+returns-in-DeleteGeneric c = rw c.in-DeleteGeneric.is (
+    of_file c.args.self.now.files c.in-DeleteGeneric.file _ (subst (IsFitOp c.args.self.now.files) c.in-DeleteGeneric.is c.requires.fit)
+    c.answer_to_generic.ensures
+    (λ f there is. is ∙ sym (generic_answer c.args.self.now.files c.in-DeleteGeneric.file f there c.in-DeleteGeneric.prefix)))

@@ -1,18 +1,18 @@
 use Rattle.std.proofs.Common.{◌≡◌, ◌∙◌, sym, ap, subst, refl, true, None}
-use Rattle.cics_enqueue.specs.Resources.{holder_of, is_full, IsFreeFor}
+use Rattle.cics_enqueue.specs.Resources.{holder_over, is_full, IsFreeFor}
 use Rattle.cics_history.specs.Execution.{IsOpenOrNone, unit_or_next, outcomes_with, enqueue, after_enqueued, after_enqueue}
 use Rattle.cics_history.specs.Events.{may_act}
 use Rattle.cics_history.specs.Headline.{IsHeadline}
 use Rattle.cics_units.specs.KeptUnits.{state_shown, AreKept}
 use Rattle.cics_units.specs.Matching.{store_of_files}
 use Rattle.cics_units.specs.Parts.{AreEnqueued}
-use Rattle.cics_units.specs.TableInPlace.{value_of, other_holder}
+use Rattle.cics_units.specs.TableInPlace.{value_of}
 use Rattle.cics_history.specs.declared.ops.Enqueued.TheVariants.{Taken}
 use Rattle.cics_units.proofs.KeptUnits.{kept_headline}
-use Rattle.cics_units.proofs.ShownUnits.{acts_of, refused_kept, holder_open}
+use Rattle.cics_units.proofs.ShownUnits.{acts_of, refused_kept}
 use Rattle.cics_history.specs.Execution.{IsOpenUnit}
 use Rattle.cics_units.proofs.Enqueuing.{enqueue-waits, enqueue-takes, enqueue-full, enqueued_shown, enqueued_kept, refused_shown}
-use Rattle.cics_units.proofs.TableInPlace.{table_free}
+use Rattle.cics_units.proofs.HeldOver.{holder_open, table_free}
 use Rattle.cics_units.proofs.units.Units.enq.Goals as goal
 
 pub returns-in-Some-clause-done : goal.returns-in-Some-clause-done
@@ -21,7 +21,7 @@ returns-in-Some-clause-done c =
     let v = c.args.value.now in
     let s = state_shown u.opening u.trace.items u.outcomes.items u.parts in
     sym (enqueue-waits s u.parts.stores u.parts.table c.self.invariant c.args.unit v c.in-Some.holder
-    (ap (λ r. other_holder c.args.unit (holder_of r u.parts.table)) (sym c.value-resource.ensures) ∙ sym c.other_holder.ensures ∙ c.in-Some.is))
+    (ap (λ r. holder_over r c.args.unit u.parts.table) (sym c.value-resource.ensures) ∙ sym c.holder_over.ensures ∙ c.in-Some.is))
     ∙ ap (λ w. enqueue w.state c.args.unit v) c.self.view_is
 
 pub returns-in-Some-clause-state : goal.returns-in-Some-clause-state
@@ -31,7 +31,7 @@ returns-in-Some-clause-state c =
     let s = state_shown u.opening u.trace.items u.outcomes.items u.parts in
     subst (λ w. w.state ≡ after_enqueue w.state c.args.unit v) c.self.view_is
     (sym (ap (after_enqueued s c.args.unit v) (enqueue-waits s u.parts.stores u.parts.table c.self.invariant c.args.unit v c.in-Some.holder
-    (ap (λ r. other_holder c.args.unit (holder_of r u.parts.table)) (sym c.value-resource.ensures) ∙ sym c.other_holder.ensures ∙ c.in-Some.is))))
+    (ap (λ r. holder_over r c.args.unit u.parts.table) (sym c.value-resource.ensures) ∙ sym c.holder_over.ensures ∙ c.in-Some.is))))
 
 pub returns-in-Some-clause-headline : goal.returns-in-Some-clause-headline
 returns-in-Some-clause-headline c =
@@ -49,7 +49,7 @@ returns-in-Err-Full-clause-done c =
     let u = c.self.inside in
     let v = c.args.value.now in
     let s = state_shown u.opening u.trace.items u.outcomes.items u.parts in
-    let none : other_holder c.args.unit (holder_of (value_of v) u.parts.table) ≡ None = ap (λ r. other_holder c.args.unit (holder_of r u.parts.table)) (sym c.value-resource.ensures) ∙ sym c.other_holder.ensures ∙ c.in_default.is in
+    let none : holder_over (value_of v) c.args.unit u.parts.table ≡ None = ap (λ r. holder_over r c.args.unit u.parts.table) (sym c.value-resource.ensures) ∙ sym c.holder_over.ensures ∙ c.in_default.is in
     let full : is_full (value_of v) u.parts.table ≡ true = c.in-Err-Full.ensures.full c.in-Err-Full.field-0-is in
     sym (enqueue-full s u.parts.stores u.parts.table c.self.invariant c.args.unit v none full) ∙ ap (λ w. enqueue w.state c.args.unit v) c.self.view_is
 
@@ -58,7 +58,7 @@ returns-in-Err-Full-clause-state c =
     let u = c.self.inside in
     let v = c.args.value.now in
     let s = state_shown u.opening u.trace.items u.outcomes.items u.parts in
-    let none : other_holder c.args.unit (holder_of (value_of v) u.parts.table) ≡ None = ap (λ r. other_holder c.args.unit (holder_of r u.parts.table)) (sym c.value-resource.ensures) ∙ sym c.other_holder.ensures ∙ c.in_default.is in
+    let none : holder_over (value_of v) c.args.unit u.parts.table ≡ None = ap (λ r. holder_over r c.args.unit u.parts.table) (sym c.value-resource.ensures) ∙ sym c.holder_over.ensures ∙ c.in_default.is in
     let full : is_full (value_of v) u.parts.table ≡ true = c.in-Err-Full.ensures.full c.in-Err-Full.field-0-is in
     refused_shown u.opening u.trace.items u.outcomes.items u.parts c.enq.new.self c.self.invariant c.in-Err-Full.ensures.err c.reserve.new.self.items c.reserve.ensures.items
     ∙ sym (ap (after_enqueued s c.args.unit v) (enqueue-full s u.parts.stores u.parts.table c.self.invariant c.args.unit v none full))
@@ -81,7 +81,7 @@ invariant_of-self-2 c =
     let u = c.self.inside in
     let v = c.args.value.now in
     let s = state_shown u.opening u.trace.items u.outcomes.items u.parts in
-    let none : other_holder c.args.unit (holder_of (value_of v) u.parts.table) ≡ None = ap (λ r. other_holder c.args.unit (holder_of r u.parts.table)) (sym c.value-resource.ensures) ∙ sym c.other_holder.ensures ∙ c.in_default.is in
+    let none : holder_over (value_of v) c.args.unit u.parts.table ≡ None = ap (λ r. holder_over r c.args.unit u.parts.table) (sym c.value-resource.ensures) ∙ sym c.holder_over.ensures ∙ c.in_default.is in
     let acts : may_act s c.args.unit ≡ true = acts_of s c.args.unit (subst (λ w. IsOpenOrNone w.state c.args.unit) (sym c.self.view_is) c.requires.is_open) in
     let acting : c.unit_or_next-acting.result ≡ unit_or_next c.args.unit u.outcomes.items = c.unit_or_next-acting.ensures ∙ ap (unit_or_next c.args.unit) c.as_slice.ensures.value in
     let done : AreEnqueued u.parts c.enq.new.self (unit_or_next c.args.unit u.outcomes.items) v = subst (λ n. AreEnqueued u.parts c.enq.new.self n v) acting c.in-Ok.ensures.enqueued in
@@ -95,7 +95,7 @@ returns-clause-done c =
     let u = c.self.inside in
     let v = c.args.value.now in
     let s = state_shown u.opening u.trace.items u.outcomes.items u.parts in
-    let none : other_holder c.args.unit (holder_of (value_of v) u.parts.table) ≡ None = ap (λ r. other_holder c.args.unit (holder_of r u.parts.table)) (sym c.value-resource.ensures) ∙ sym c.other_holder.ensures ∙ c.in_default.is in
+    let none : holder_over (value_of v) c.args.unit u.parts.table ≡ None = ap (λ r. holder_over r c.args.unit u.parts.table) (sym c.value-resource.ensures) ∙ sym c.holder_over.ensures ∙ c.in_default.is in
     let acting : c.unit_or_next-acting.result ≡ unit_or_next c.args.unit u.outcomes.items = c.unit_or_next-acting.ensures ∙ ap (unit_or_next c.args.unit) c.as_slice.ensures.value in
     ap Taken acting
     ∙ sym (enqueue-takes s u.parts.stores u.parts.table c.self.invariant c.args.unit v none c.in-Ok.ensures.room)
@@ -106,7 +106,7 @@ returns-clause-state c =
     let u = c.self.inside in
     let v = c.args.value.now in
     let s = state_shown u.opening u.trace.items u.outcomes.items u.parts in
-    let none : other_holder c.args.unit (holder_of (value_of v) u.parts.table) ≡ None = ap (λ r. other_holder c.args.unit (holder_of r u.parts.table)) (sym c.value-resource.ensures) ∙ sym c.other_holder.ensures ∙ c.in_default.is in
+    let none : holder_over (value_of v) c.args.unit u.parts.table ≡ None = ap (λ r. holder_over r c.args.unit u.parts.table) (sym c.value-resource.ensures) ∙ sym c.holder_over.ensures ∙ c.in_default.is in
     let acts : may_act s c.args.unit ≡ true = acts_of s c.args.unit (subst (λ w. IsOpenOrNone w.state c.args.unit) (sym c.self.view_is) c.requires.is_open) in
     let acting : c.unit_or_next-acting.result ≡ unit_or_next c.args.unit u.outcomes.items = c.unit_or_next-acting.ensures ∙ ap (unit_or_next c.args.unit) c.as_slice.ensures.value in
     let done : AreEnqueued u.parts c.enq.new.self (unit_or_next c.args.unit u.outcomes.items) v = subst (λ n. AreEnqueued u.parts c.enq.new.self n v) acting c.in-Ok.ensures.enqueued in
@@ -121,7 +121,7 @@ returns-clause-headline c =
     let u = c.self.inside in
     let v = c.args.value.now in
     let s = state_shown u.opening u.trace.items u.outcomes.items u.parts in
-    let none : other_holder c.args.unit (holder_of (value_of v) u.parts.table) ≡ None = ap (λ r. other_holder c.args.unit (holder_of r u.parts.table)) (sym c.value-resource.ensures) ∙ sym c.other_holder.ensures ∙ c.in_default.is in
+    let none : holder_over (value_of v) c.args.unit u.parts.table ≡ None = ap (λ r. holder_over r c.args.unit u.parts.table) (sym c.value-resource.ensures) ∙ sym c.holder_over.ensures ∙ c.in_default.is in
     let acts : may_act s c.args.unit ≡ true = acts_of s c.args.unit (subst (λ w. IsOpenOrNone w.state c.args.unit) (sym c.self.view_is) c.requires.is_open) in
     let acting : c.unit_or_next-acting.result ≡ unit_or_next c.args.unit u.outcomes.items = c.unit_or_next-acting.ensures ∙ ap (unit_or_next c.args.unit) c.as_slice.ensures.value in
     let done : AreEnqueued u.parts c.enq.new.self (unit_or_next c.args.unit u.outcomes.items) v = subst (λ n. AreEnqueued u.parts c.enq.new.self n v) acting c.in-Ok.ensures.enqueued in
@@ -136,7 +136,7 @@ returns-in-Some-clause-holder_open c =
     let u = c.self.inside in
     let s = state_shown u.opening u.trace.items u.outcomes.items u.parts in
     subst (λ w. IsOpenUnit w.state c.in-Some.holder) c.self.view_is
-    (holder_open s u.parts.table c.self.invariant.sound c.self.invariant.table c.args.unit c.value-resource.result c.in-Some.holder (sym c.other_holder.ensures ∙ c.in-Some.is))
+    (holder_open s u.parts.table c.self.invariant.sound c.self.invariant.table c.args.unit c.value-resource.result c.in-Some.holder (sym c.holder_over.ensures ∙ c.in-Some.is))
 
 -- no other unit holds the value, and none holds a prefix
 pub enq-requires-clause-free : goal.enq-requires-clause-free
@@ -145,5 +145,5 @@ enq-requires-clause-free c =
     let v = c.args.value.now in
     let s = state_shown u.opening u.trace.items u.outcomes.items u.parts in
     subst (IsFreeFor u.parts.table (value_of v)) (sym (c.unit_or_next-acting.ensures ∙ ap (unit_or_next c.args.unit) c.as_slice.ensures.value))
-    (table_free s u.parts.table c.self.invariant.sound c.self.invariant.table c.args.unit (value_of v) refl
-    (ap (λ r. other_holder c.args.unit (holder_of r u.parts.table)) (sym c.value-resource.ensures) ∙ sym c.other_holder.ensures ∙ c.in_default.is))
+    (table_free s u.parts.table c.self.invariant.sound c.self.invariant.table c.args.unit (value_of v)
+    (ap (λ r. holder_over r c.args.unit u.parts.table) (sym c.value-resource.ensures) ∙ sym c.holder_over.ensures ∙ c.in_default.is))

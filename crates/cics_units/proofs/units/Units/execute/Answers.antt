@@ -1,48 +1,48 @@
-use Rattle.std.proofs.Common.{◌≡◌, ◌∙◌, refl, sym, ap, subst, true, None, [], ◌∷◌, ◌++◌}
-use Rattle.cics_enqueue.specs.Resources.{holder_of, IsFreeFor}
+use Rattle.std.proofs.Common.{◌≡◌, ◌∙◌, sym, ap, subst, true, None, [], ◌∷◌, ◌++◌}
+use Rattle.cics_enqueue.specs.Resources.{holder_over, IsFreeFor}
 use Rattle.cics_history.specs.Execution.{execution, after_execution, unit_or_next, read_at, outcomes_with, IsOpenUnit, IsOpenOrNone, is_ready_op}
 use Rattle.cics_history.specs.Headline.{IsHeadline}
 use Rattle.cics_units.specs.KeptUnits.{state_shown, AreKept}
 use Rattle.cics_units.specs.Matching.{store_of_files}
-use Rattle.cics_history.specs.Records.{file_of, key_of}
-use Rattle.cics_units.specs.TableInPlace.{record_of, other_holder}
+use Rattle.cics_history.specs.Records.{file_of}
+use Rattle.cics_units.specs.TableInPlace.{resource_of}
 use Rattle.cics_units.specs.Parts.{IsFitOp, AreExecuted}
 use Rattle.cics_history.specs.Store.{apply}
 use Rattle.cics_history.specs.Events.{may_act}
 use Rattle.cics_history.specs.declared.ops.Done.TheVariants.{Answered}
 use Rattle.cics_units.proofs.KeptUnits.{kept_headline, ready_fits}
-use Rattle.cics_units.proofs.ShownUnits.{holder_open, acts_of, none_open_of, refused_kept, waits, waits_unchanged, parts_state, parts_kept, answered}
-use Rattle.cics_units.proofs.TableInPlace.{table_free}
+use Rattle.cics_units.proofs.ShownUnits.{acts_of, none_open_of, refused_kept, waits, waits_unchanged, parts_state, parts_kept, answered}
+use Rattle.cics_units.proofs.HeldOver.{holder_open, table_free}
 use Rattle.cics_units.proofs.units.Units.execute.Goals as goal
 
-pub returns-in-Some-other_holder-clause-done : goal.returns-in-Some-other_holder-clause-done
-returns-in-Some-other_holder-clause-done c =
+pub returns-in-Some-clause-done : goal.returns-in-Some-clause-done
+returns-in-Some-clause-done c =
     let u = c.self.inside in
     let op = c.args.op.now in
-    let asked : c.record-resource.result ≡ record_of (file_of op) (key_of op) = c.record-resource.ensures ∙ (λ i. record_of (c.in-Some.ensures.file i) ((c.bytes.ensures ∙ c.in-Some.ensures.key) i)) in
-    waits u.opening u.trace.items u.outcomes.items u.parts u.parts c.self.invariant c.args.unit op c.requires.file c.in-Some-other_holder.holder
-    (ap (λ r. other_holder c.args.unit (holder_of r u.parts.table)) (sym asked) ∙ sym c.other_holder.ensures ∙ c.in-Some-other_holder.is)
+    let asked : c.resource_of-resource.result ≡ resource_of op = c.resource_of-resource.ensures in
+    waits u.opening u.trace.items u.outcomes.items u.parts u.parts c.self.invariant c.args.unit op c.requires.file c.in-Some.holder
+    (ap (λ r. holder_over r c.args.unit u.parts.table) (sym asked) ∙ sym c.holder_over.ensures ∙ c.in-Some.is)
     ∙ ap (λ v. execution v.state c.args.unit op) c.self.view_is
 
-pub returns-in-Some-other_holder-clause-holder_open : goal.returns-in-Some-other_holder-clause-holder_open
-returns-in-Some-other_holder-clause-holder_open c =
+pub returns-in-Some-clause-holder_open : goal.returns-in-Some-clause-holder_open
+returns-in-Some-clause-holder_open c =
     let u = c.self.inside in
     let s = state_shown u.opening u.trace.items u.outcomes.items u.parts in
-    subst (λ v. IsOpenUnit v.state c.in-Some-other_holder.holder) c.self.view_is
-    (holder_open s u.parts.table c.self.invariant.sound c.self.invariant.table c.args.unit c.record-resource.result c.in-Some-other_holder.holder (sym c.other_holder.ensures ∙ c.in-Some-other_holder.is))
+    subst (λ v. IsOpenUnit v.state c.in-Some.holder) c.self.view_is
+    (holder_open s u.parts.table c.self.invariant.sound c.self.invariant.table c.args.unit c.resource_of-resource.result c.in-Some.holder (sym c.holder_over.ensures ∙ c.in-Some.is))
 
-pub returns-in-Some-other_holder-clause-state : goal.returns-in-Some-other_holder-clause-state
-returns-in-Some-other_holder-clause-state c =
+pub returns-in-Some-clause-state : goal.returns-in-Some-clause-state
+returns-in-Some-clause-state c =
     let u = c.self.inside in
     let op = c.args.op.now in
-    let asked : c.record-resource.result ≡ record_of (file_of op) (key_of op) = c.record-resource.ensures ∙ (λ i. record_of (c.in-Some.ensures.file i) ((c.bytes.ensures ∙ c.in-Some.ensures.key) i)) in
+    let asked : c.resource_of-resource.result ≡ resource_of op = c.resource_of-resource.ensures in
     subst (λ v. v.state ≡ after_execution v.state c.args.unit op) c.self.view_is
-    (waits_unchanged u.opening u.trace.items u.outcomes.items u.parts u.parts c.self.invariant c.args.unit op c.requires.file c.in-Some-other_holder.holder
-    (ap (λ r. other_holder c.args.unit (holder_of r u.parts.table)) (sym asked) ∙ sym c.other_holder.ensures ∙ c.in-Some-other_holder.is))
+    (waits_unchanged u.opening u.trace.items u.outcomes.items u.parts u.parts c.self.invariant c.args.unit op c.requires.file c.in-Some.holder
+    (ap (λ r. holder_over r c.args.unit u.parts.table) (sym asked) ∙ sym c.holder_over.ensures ∙ c.in-Some.is))
 
-pub returns-in-Some-other_holder-clause-headline :
-    goal.returns-in-Some-other_holder-clause-headline
-returns-in-Some-other_holder-clause-headline c =
+pub returns-in-Some-clause-headline :
+    goal.returns-in-Some-clause-headline
+returns-in-Some-clause-headline c =
     let u = c.self.inside in
     subst IsHeadline c.self.view_is (kept_headline (state_shown u.opening u.trace.items u.outcomes.items u.parts) u.parts.stores u.parts.table c.self.invariant)
 
@@ -120,8 +120,8 @@ invariant_of-self-2 c =
     let op = c.args.op.now in
     let s = state_shown u.opening u.trace.items u.outcomes.items u.parts in
     let ready : is_ready_op s c.args.unit op ≡ true = subst (λ v. is_ready_op v.state c.args.unit op ≡ true) (sym c.self.view_is) c.requires.ready in
-    let asked : c.record-resource.result ≡ record_of (file_of op) (key_of op) = c.record-resource.ensures ∙ (λ i. record_of (c.in-Some.ensures.file i) ((c.bytes.ensures ∙ c.in-Some.ensures.key) i)) in
-    let none : other_holder c.args.unit (holder_of (record_of (file_of op) (key_of op)) u.parts.table) ≡ None = ap (λ r. other_holder c.args.unit (holder_of r u.parts.table)) (sym asked) ∙ sym c.other_holder.ensures ∙ c.in_default-other_holder.is in
+    let asked : c.resource_of-resource.result ≡ resource_of op = c.resource_of-resource.ensures in
+    let none : holder_over (resource_of op) c.args.unit u.parts.table ≡ None = ap (λ r. holder_over r c.args.unit u.parts.table) (sym asked) ∙ sym c.holder_over.ensures ∙ c.in_default.is in
     let acts : may_act s c.args.unit ≡ true = acts_of s c.args.unit (subst (λ v. IsOpenOrNone v.state c.args.unit) (sym c.self.view_is) c.requires.is_open) in
     let acting : c.unit_or_next-acting.result ≡ unit_or_next c.args.unit u.outcomes.items = c.unit_or_next-acting.ensures ∙ ap (unit_or_next c.args.unit) c.as_slice.ensures.value in
     let right : c.in_ok-answer.answer ≡ (apply (store_of_files u.parts.stores.files) op).answer = c.in_ok-answer.ensures ∙ ap (λ st. (apply (store_of_files st.files) op).answer) c.files.ensures in
@@ -139,8 +139,8 @@ returns-clause-done c =
     let op = c.args.op.now in
     let s = state_shown u.opening u.trace.items u.outcomes.items u.parts in
     let ready : is_ready_op s c.args.unit op ≡ true = subst (λ v. is_ready_op v.state c.args.unit op ≡ true) (sym c.self.view_is) c.requires.ready in
-    let asked : c.record-resource.result ≡ record_of (file_of op) (key_of op) = c.record-resource.ensures ∙ (λ i. record_of (c.in-Some.ensures.file i) ((c.bytes.ensures ∙ c.in-Some.ensures.key) i)) in
-    let none : other_holder c.args.unit (holder_of (record_of (file_of op) (key_of op)) u.parts.table) ≡ None = ap (λ r. other_holder c.args.unit (holder_of r u.parts.table)) (sym asked) ∙ sym c.other_holder.ensures ∙ c.in_default-other_holder.is in
+    let asked : c.resource_of-resource.result ≡ resource_of op = c.resource_of-resource.ensures in
+    let none : holder_over (resource_of op) c.args.unit u.parts.table ≡ None = ap (λ r. holder_over r c.args.unit u.parts.table) (sym asked) ∙ sym c.holder_over.ensures ∙ c.in_default.is in
     let acts : may_act s c.args.unit ≡ true = acts_of s c.args.unit (subst (λ v. IsOpenOrNone v.state c.args.unit) (sym c.self.view_is) c.requires.is_open) in
     let acting : c.unit_or_next-acting.result ≡ unit_or_next c.args.unit u.outcomes.items = c.unit_or_next-acting.ensures ∙ ap (unit_or_next c.args.unit) c.as_slice.ensures.value in
     let right : c.in_ok-answer.answer ≡ (apply (store_of_files u.parts.stores.files) op).answer = c.in_ok-answer.ensures ∙ ap (λ st. (apply (store_of_files st.files) op).answer) c.files.ensures in
@@ -153,8 +153,8 @@ returns-clause-state c =
     let op = c.args.op.now in
     let s = state_shown u.opening u.trace.items u.outcomes.items u.parts in
     let ready : is_ready_op s c.args.unit op ≡ true = subst (λ v. is_ready_op v.state c.args.unit op ≡ true) (sym c.self.view_is) c.requires.ready in
-    let asked : c.record-resource.result ≡ record_of (file_of op) (key_of op) = c.record-resource.ensures ∙ (λ i. record_of (c.in-Some.ensures.file i) ((c.bytes.ensures ∙ c.in-Some.ensures.key) i)) in
-    let none : other_holder c.args.unit (holder_of (record_of (file_of op) (key_of op)) u.parts.table) ≡ None = ap (λ r. other_holder c.args.unit (holder_of r u.parts.table)) (sym asked) ∙ sym c.other_holder.ensures ∙ c.in_default-other_holder.is in
+    let asked : c.resource_of-resource.result ≡ resource_of op = c.resource_of-resource.ensures in
+    let none : holder_over (resource_of op) c.args.unit u.parts.table ≡ None = ap (λ r. holder_over r c.args.unit u.parts.table) (sym asked) ∙ sym c.holder_over.ensures ∙ c.in_default.is in
     let acts : may_act s c.args.unit ≡ true = acts_of s c.args.unit (subst (λ v. IsOpenOrNone v.state c.args.unit) (sym c.self.view_is) c.requires.is_open) in
     let acting : c.unit_or_next-acting.result ≡ unit_or_next c.args.unit u.outcomes.items = c.unit_or_next-acting.ensures ∙ ap (unit_or_next c.args.unit) c.as_slice.ensures.value in
     let right : c.in_ok-answer.answer ≡ (apply (store_of_files u.parts.stores.files) op).answer = c.in_ok-answer.ensures ∙ ap (λ st. (apply (store_of_files st.files) op).answer) c.files.ensures in
@@ -170,8 +170,8 @@ returns-clause-headline c =
     let op = c.args.op.now in
     let s = state_shown u.opening u.trace.items u.outcomes.items u.parts in
     let ready : is_ready_op s c.args.unit op ≡ true = subst (λ v. is_ready_op v.state c.args.unit op ≡ true) (sym c.self.view_is) c.requires.ready in
-    let asked : c.record-resource.result ≡ record_of (file_of op) (key_of op) = c.record-resource.ensures ∙ (λ i. record_of (c.in-Some.ensures.file i) ((c.bytes.ensures ∙ c.in-Some.ensures.key) i)) in
-    let none : other_holder c.args.unit (holder_of (record_of (file_of op) (key_of op)) u.parts.table) ≡ None = ap (λ r. other_holder c.args.unit (holder_of r u.parts.table)) (sym asked) ∙ sym c.other_holder.ensures ∙ c.in_default-other_holder.is in
+    let asked : c.resource_of-resource.result ≡ resource_of op = c.resource_of-resource.ensures in
+    let none : holder_over (resource_of op) c.args.unit u.parts.table ≡ None = ap (λ r. holder_over r c.args.unit u.parts.table) (sym asked) ∙ sym c.holder_over.ensures ∙ c.in_default.is in
     let acts : may_act s c.args.unit ≡ true = acts_of s c.args.unit (subst (λ v. IsOpenOrNone v.state c.args.unit) (sym c.self.view_is) c.requires.is_open) in
     let acting : c.unit_or_next-acting.result ≡ unit_or_next c.args.unit u.outcomes.items = c.unit_or_next-acting.ensures ∙ ap (unit_or_next c.args.unit) c.as_slice.ensures.value in
     let right : c.in_ok-answer.answer ≡ (apply (store_of_files u.parts.stores.files) op).answer = c.in_ok-answer.ensures ∙ ap (λ st. (apply (store_of_files st.files) op).answer) c.files.ensures in
@@ -190,7 +190,11 @@ execute-requires-clause-free c =
     let u = c.self.inside in
     let op = c.args.op.now in
     let s = state_shown u.opening u.trace.items u.outcomes.items u.parts in
-    let asked : c.record-resource.result ≡ record_of (file_of op) (key_of op) = c.record-resource.ensures ∙ (λ i. record_of (c.in-Some.ensures.file i) ((c.bytes.ensures ∙ c.in-Some.ensures.key) i)) in
-    subst (IsFreeFor u.parts.table (record_of (file_of op) (key_of op))) (sym (c.unit_or_next-acting.ensures ∙ ap (unit_or_next c.args.unit) c.as_slice.ensures.value))
-    (table_free s u.parts.table c.self.invariant.sound c.self.invariant.table c.args.unit (record_of (file_of op) (key_of op)) refl
-    (ap (λ r. other_holder c.args.unit (holder_of r u.parts.table)) (sym asked) ∙ sym c.other_holder.ensures ∙ c.in_default-other_holder.is))
+    let asked : c.resource_of-resource.result ≡ resource_of op = c.resource_of-resource.ensures in
+    subst (IsFreeFor u.parts.table (resource_of op)) (sym (c.unit_or_next-acting.ensures ∙ ap (unit_or_next c.args.unit) c.as_slice.ensures.value))
+    (table_free s u.parts.table c.self.invariant.sound c.self.invariant.table c.args.unit (resource_of op)
+    (ap (λ r. holder_over r c.args.unit u.parts.table) (sym asked) ∙ sym c.holder_over.ensures ∙ c.in_default.is))
+
+-- the keys that were read for update are short
+pub execute-requires-clause-short : goal.execute-requires-clause-short
+execute-requires-clause-short c = c.self.invariant.table.keys

@@ -1,0 +1,118 @@
+-- Recovery: files, temporary storage and transient data as one value, and the before images that the program keeps of it.
+-- Those of keys and of temporary storage queues stand for changes of cells of the store, those of transient data for marks
+-- at the ends of LOGICAL queues.
+use Rattle.std.specs.Prelude.{◌≡◌, Bool, Some, None, List, [], ◌∷◌, map}
+use Rattle.cics_names.specs.Keyed.{Bytes, Map}
+use Rattle.cics_images.specs.Cells.{Content as Shown}
+use Rattle.cics_images.specs.Cells as images
+use Rattle.cics_images.specs.NamedValues.{cell_of as value_cell, named_content, named_cell, IsNamedReady, named_undone, named_swept, NamedKeep}
+use Rattle.cics_images.specs.StoreCells.{file_cell, temp_cell, trans_cell, image_cell, image_leads, stores_content, IsStoresReady, stores_undone, stores_swept, StoresKeep}
+use Rattle.cics_images.specs.declared.named.NamedImage.{NamedImage}
+use Rattle.cics_images.specs.declared.stores.Stores.{Stores}
+use Rattle.cics_images.specs.declared.stores.StoreImage.{StoreImage}
+use Rattle.cics_images.specs.declared.stores.StoreImage.TheVariants.{File, TempStorage, TransData}
+use Rattle.cics_ksds.specs.Files.{FileValue}
+use Rattle.cics_ksds.specs.Undo.{Leads as FileLeads}
+use Rattle.cics_tempstor.specs.declared.images.TsImage.{TsImage}
+use Rattle.cics_tempstor.specs.declared.queue_rows.Row.{Row}
+use Rattle.cics_tempstor.specs.Queues.{queues_of, ts_swept}
+use Rattle.cics_tempstor.specs.Undo.{content_at as queue_content, name_of_image, Leads as QueueLeads, IsReadyImage as IsQueueReady, undone as rows_undone, KeepsQueues}
+use Rattle.cics_transdata.specs.declared.images.TdImage.{TdImage}
+use Rattle.cics_transdata.specs.Trans.{TransState, queue_of}
+use Rattle.cics_transdata.specs.Undo.{reading_end, writing_end, end_of, content_at as end_content, Leads as EndLeads, IsReadyImage as IsEndReady, undone as queue_undone, KeepsEnds}
+use Rattle.cics_history.specs.Store.{Store}
+use Rattle.cics_history.specs.Cells.{Cell, Key, Ts, Td, Content, End, Reading, Writing}
+use Rattle.cics_history.specs.Undo.{Image}
+use Rattle.cics_history.specs.MarkImages.{MarkImage, queue_of as queue_of_mark}
+use Rattle.cics_history.specs.Carried.{Carries}
+use Rattle.cics_units.specs.FilesImages.{FilesImage, cell_of_image, files_content, files_swept, IsReadyFor, files_undone, FilesKeep}
+
+-- the files by name, the rows of temporary storage and the transient data queues by name
+abbrev pub StoreValue : Type 0
+StoreValue = Stores (Map FileValue) (Map Row) (Map TransState)
+
+-- an image of a change of one of the transient data queues
+abbrev pub QueuesImage : Type 0
+QueuesImage = NamedImage TdImage
+
+-- an image of a change of any of the three
+abbrev pub AnyImage : Type 0
+AnyImage = StoreImage FilesImage TsImage QueuesImage
+
+-- what the three show of each file and queue
+abbrev pub shown_store : StoreValue → Store
+shown_store s = record {
+  files = map (λ e. (e.0, e.1.records)) s.files;
+  ts = queues_of s.temp_storage;
+  td = map (λ e. (e.0, queue_of e.1)) s.trans_data;
+}
+
+-- what is shown of the content of a cell: its records, or none where there is no record
+abbrev pub shown : Content → Shown
+shown None = None
+shown (Some []) = None
+shown (Some (r ∷ rs)) = Some (r ∷ rs)
+
+-- an end of a transient data queue, among the cells of a queue
+abbrev pub end_cell : End → images.Cell
+end_cell Reading = reading_end
+end_cell Writing = writing_end
+
+-- an end of a transient data queue, among the cells of the three
+abbrev pub bytes_of_end : Bytes → End → images.Cell
+bytes_of_end q end = trans_cell (value_cell q (end_cell end))
+
+-- a cell of the store among the cells of the three; a transient data queue as a whole is none that an image is of
+abbrev pub bytes_of : Cell → images.Cell
+bytes_of (Key f k) = file_cell (value_cell f k)
+bytes_of (Ts q) = temp_cell q
+bytes_of (Td q) = trans_cell (value_cell q [])
+
+-- the cell that an image is of
+abbrev pub cell_of_any : AnyImage → images.Cell
+cell_of_any i = image_cell cell_of_image name_of_image (λ i. named_cell end_of i) i
+
+-- an image leads from what its cell has now back to what it had before
+abbrev pub AnyLeads : AnyImage → Shown → Shown → Type 0
+AnyLeads i after before = image_leads (λ i. FileLeads i.image) QueueLeads (λ i. EndLeads i.image) i after before
+
+-- what a cell of the three contains
+abbrev pub any_content : StoreValue → images.Cell → Shown
+any_content s c = stores_content files_content queue_content (λ s c. named_content end_content s c) s c
+
+-- an image is ready for the three
+abbrev pub IsAnyReady : StoreValue → AnyImage → Type 0
+IsAnyReady s i = IsStoresReady IsReadyFor IsQueueReady (λ s i. IsNamedReady IsEndReady s i) s i
+
+-- the three after an image is undone
+abbrev pub any_undone : StoreValue → AnyImage → StoreValue
+any_undone s i = stores_undone files_undone rows_undone (λ s i. named_undone queue_undone s i) s i
+
+-- the three after a cell is swept; of transient data nothing is held back
+abbrev pub any_swept : StoreValue → images.Cell → StoreValue
+any_swept s c = stores_swept files_swept ts_swept (λ s c. named_swept (λ q c. q) s c) s c
+
+-- at the cells that pass, the second three have what the first have, and what an undo there needs
+abbrev pub AnyKeep : (images.Cell → Bool) → StoreValue → StoreValue → Type 0
+AnyKeep p s n = StoresKeep FilesKeep KeepsQueues (λ p s n. NamedKeep KeepsEnds p s n) p s n
+
+-- the image that is kept undoes the change of its cell
+pub record IsKept (change : Image) (image : AnyImage) : Type 0 where
+  pub cell : cell_of_any image ≡ bytes_of change.cell
+  pub leads : AnyLeads image (shown change.made) (shown change.before)
+
+-- the image of a queue that is kept undoes the marks
+pub record IsMarkKept (mark : MarkImage) (image : QueuesImage) : Type 0 where
+  pub queue : image.name ≡ queue_of_mark mark
+  pub carries : Carries image.image mark
+
+-- the images that are kept, newest first: each of a key or a temporary storage queue for the next change, each of a
+-- transient data queue for the next mark
+abbrev pub AreKept : List Image → List MarkImage → List AnyImage → Type 0
+AreKept cs ms [] = (cs ≡ []) × (ms ≡ [])
+AreKept [] ms (File i ∷ is) = ⊥
+AreKept (c ∷ cs) ms (File i ∷ is) = IsKept c (File i) × AreKept cs ms is
+AreKept [] ms (TempStorage i ∷ is) = ⊥
+AreKept (c ∷ cs) ms (TempStorage i ∷ is) = IsKept c (TempStorage i) × AreKept cs ms is
+AreKept cs [] (TransData i ∷ is) = ⊥
+AreKept cs (m ∷ ms) (TransData i ∷ is) = IsMarkKept m i × AreKept cs ms is
