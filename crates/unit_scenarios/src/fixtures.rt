@@ -72,6 +72,14 @@ pub(crate) fn delete(alloc: Global, file: Name8, key: &[u8]) -> Result<Op, NoMem
     })
 }
 
+/// A DELETE GENERIC of the records whose keys begin with a prefix.
+pub(crate) fn delete_generic(alloc: Global, file: Name8, prefix: &[u8]) -> Result<Op, NoMemory> {
+    Ok(Op::DeleteGeneric {
+        file,
+        prefix: Record::from_slice(alloc, prefix)?,
+    })
+}
+
 /// A READ UPDATE of the record of a key.
 pub(crate) fn read_update(alloc: Global, file: Name8, key: &[u8]) -> Result<Op, NoMemory> {
     Ok(Op::ReadUpdate {

@@ -94,7 +94,7 @@ fn is_ready(units: &Units, unit: Option<UnitId>, op: &Op) -> bool
         Op::Rewrite { file, key, from } => {
             is_fit(units, file, key, from) && has_read_key(units, unit, file, key)
         }
-        Op::Delete { file, .. } => is_defined(units, file),
+        Op::Delete { file, .. } | Op::DeleteGeneric { file, .. } => is_defined(units, file),
         Op::ReadUpdate { file, .. } => {
             is_defined(units, file) && has_read(units, unit, file).is_none()
         }

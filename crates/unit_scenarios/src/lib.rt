@@ -9,6 +9,8 @@ mod enqueues;
 #[cfg(test)]
 mod fixtures;
 #[cfg(test)]
+mod generic;
+#[cfg(test)]
 mod guarded_calls;
 #[cfg(test)]
 mod looks;

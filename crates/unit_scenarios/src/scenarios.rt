@@ -6,7 +6,9 @@
 //! - `9 times 0 enq A = taken 0`: a call that is made so often, with the same answer each time.
 //! - `? file ACCT = k1 one|k2 two`: a look at the units, and what they show (`looks`).
 
-use crate::fixtures::{KEYED, delete, is_same_listing, opened, read_update, rewrite, write};
+use crate::fixtures::{
+    KEYED, delete, delete_generic, is_same_listing, opened, read_update, rewrite, write,
+};
 use crate::guarded_calls::{Told, deq, end, enq, execute, unlock};
 use crate::looks::shows;
 use cics_enqueue::UnitId;
@@ -61,7 +63,8 @@ fn key_of(from: &[u8]) -> &[u8] {
     }
 }
 
-/// The command on a file of a word, if it is one: a record's key is the 2 bytes with which it begins.
+/// The command on a file of a word, if it is one: a record's key is the 2 bytes with which it begins,
+/// and `clear` is DELETE GENERIC.
 pub(crate) fn command(
     alloc: Global,
     word: &str,
@@ -72,6 +75,7 @@ pub(crate) fn command(
         "write" => Some(write(alloc, file, key_of(record), record)?),
         "rewrite" => Some(rewrite(alloc, file, key_of(record), record)?),
         "delete" => Some(delete(alloc, file, record)?),
+        "clear" => Some(delete_generic(alloc, file, record)?),
         "read" => Some(read_update(alloc, file, record)?),
         _ => None,
     })
