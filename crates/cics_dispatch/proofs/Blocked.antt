@@ -13,10 +13,10 @@ use Rattle.cics_enqueue.specs.declared.resources.Resource.TheVariants.{User}
 use Rattle.cics_history.specs.Holding.{UnitsState, uses_of, held_by, held_table, first_holder, first_some, holder_among, writer_awaited, awaited}
 use Rattle.cics_history.specs.Execution.{IsOpenUnit}
 use Rattle.cics_history.specs.Events.{is_live}
-use Rattle.cics_history.specs.Records.{file_of, key_of}
+use Rattle.cics_history.specs.Records.{is_file_op, file_of, key_of}
 use Rattle.cics_units.specs.TableInPlace.{record_of}
 use Rattle.cics_history.specs.declared.ops.Op.{Op}
-use Rattle.cics_history.specs.declared.ops.Op.TheVariants.{Write, Rewrite, Delete, ReadUpdate}
+use Rattle.cics_history.specs.declared.ops.Op.TheVariants.{Write, Rewrite, Delete, DeleteGeneric, ReadUpdate}
 use Rattle.cics_history.proofs.Waiting.{none_first, none_either, in_table}
 use Rattle.cics_history.proofs.Holders.{any_only}
 use Rattle.cics_history.proofs.States.{holder_holds}
@@ -31,15 +31,9 @@ use Rattle.cics_names.specs.declared.commands.Verb.TheVariants.{Enq}
 use Rattle.cics_dispatch.specs.KeptTasks.{HasPassed}
 use Rattle.cics_dispatch.proofs.OtherUnits.{begun}
 use Rattle.cics_dispatch.proofs.RegionSteps.{place}
-use Rattle.cics_dispatch.proofs.Ready.{is_file_op, is_file_op_of}
+use Rattle.cics_dispatch.proofs.Ready.{is_file_op_of}
 
 -- ---- A unit that is found holds what was asked for
-
--- what a command asks for is no prefix of keys
-pub resource_plain : (verb : Verb) (o : Option Op) (r : Resource) → Some r ≡ resource_for verb o → is_prefix r ≡ false
-resource_plain verb (Some op) r is = let same : r ≡ record_of (file_of op) (key_of op) = cc in ap is_prefix same
-resource_plain (Enq value n nosuspend) None r is = let same : r ≡ User (bytes_of (take n value)) = cc in ap is_prefix same
-resource_plain _ None r is = cc
 
 -- one of two
 either_some : {X : Type 0} (x y : Option X) (h : X) → first_some x y ≡ Some h → (x ≡ Some h) ⊎ (y ≡ Some h)
@@ -60,6 +54,7 @@ no_writer : (s : UnitsState) (u : Option ℕ) (o : Op) → is_file_op o ≡ true
 no_writer s u (Write f k d) is = refl
 no_writer s u (Rewrite f k d) is = refl
 no_writer s u (Delete f k) is = refl
+no_writer s u (DeleteGeneric f p) is = refl
 no_writer s u (ReadUpdate f k) is = refl
 no_writer s u o is = absurd (false≢true is)
 

@@ -10,6 +10,7 @@ use Rattle.cics_names.specs.declared.conditions.Condition.TheVariants.{Invreq, L
 use Rattle.cics_ksds.specs.Files.{key_of as key_in, fits_file}
 use Rattle.cics_ksds.specs.declared.definition.FileDef.{FileDef}
 use Rattle.cics_history.specs.Openings.{FileOpening, is_key}
+use Rattle.cics_history.specs.Records.{is_file_op, key_of}
 use Rattle.cics_history.specs.Execution.{is_fit_for, is_ready_op}
 use Rattle.cics_history.specs.declared.ops.Op.{Op}
 use Rattle.cics_history.specs.declared.ops.Op.TheVariants as op
@@ -21,28 +22,6 @@ use Rattle.cics_dispatch.specs.Steps.{op_of}
 use Rattle.cics_names.specs.Commands.{file_named, asks_no_queue}
 use Rattle.cics_names.specs.declared.commands.Verb.{Verb}
 use Rattle.cics_names.specs.declared.commands.Verb.TheVariants.{Read, Write, Rewrite, Delete}
-
--- a command on one record of a file
-abbrev pub is_file_op : Op → Bool
-is_file_op (op.Write f k r) = true
-is_file_op (op.Rewrite f k r) = true
-is_file_op (op.Delete f k) = true
-is_file_op (op.DeleteGeneric f p) = false
-is_file_op (op.ReadUpdate f k) = true
-is_file_op (op.TsWrite q d) = false
-is_file_op (op.TsRewrite q n d) = false
-is_file_op (op.TsDelete q) = false
-is_file_op (op.TdWrite q d) = false
-is_file_op (op.TdRead q) = false
-is_file_op (op.TdDelete q) = false
-
--- the key that such a command names
-abbrev pub key_of : Op → Bytes
-key_of (op.Write f k r) = k
-key_of (op.Rewrite f k r) = k
-key_of (op.Delete f k) = k
-key_of (op.ReadUpdate f k) = k
-key_of _ = []
 
 -- ---- Checks that have passed
 
