@@ -71,9 +71,9 @@ module _ (s : UnitsState) (m n : StoreValue) (images after_images : List (Kept A
       let before = place.queues q l in
       let to = queue_backed_out (used s.trace v (Td q) Reading) (used s.trace v (Td q) Writing) (place.marks.queues q) in
       let unmarks = HasEnds-unmarks (used s.trace v (Td q) Reading) (used s.trace v (Td q) Writing) (place.marks.images v) q (place.marks.queues q)
-          (place.ends.images q l v open_before) in
+      (place.ends.images q l v open_before) in
       let then = undone_marks q (place.changes v) (place.marks.images v) (kept_by images v) (place.kept v) m before.0 before.1
-          (place.marks.queues q) to before.2 unmarks in
+      (place.marks.queues q) to before.2 unmarks in
       (then.0, queue_then q ∙ then.1, subst (λ k. HasMarks k then.0) (sym (marks_undone-at (place.marks.images v) q place.marks.queues to unmarks)) then.2)
 
   -- what the images lead a cell back to is what stands there, where the cell is there in both or in neither
@@ -96,13 +96,13 @@ module _ (s : UnitsState) (m n : StoreValue) (images after_images : List (Kept A
     | inl r ↦
         let to = store_of (after_end s v BackedOut) in
         let leads : Leads (place.changes v) x (standing x) (content to x) = leads_back s
-            (record { cells = standing; images = place.changes }) v x place.place live plain r in
+        (record { cells = standing; images = place.changes }) v x place.place live plain r in
         undone-at (place.changes v) x standing _ leads
         ∙ led_to x before now to (replay-there x (initial_store s.opening) (kept s.opening s.trace (slice_set s.outcomes v BackedOut)) ∙ sym (replay-there x
-            (initial_store s.opening) (kept s.opening s.trace s.outcomes)) ∙ ap is_some (sym (place.place.in_place x plain)) ∙ there) leads
+        (initial_store s.opening) (kept s.opening s.trace s.outcomes)) ∙ ap is_some (sym (place.place.in_place x plain)) ∙ there) leads
     | inr r ↦
         let leads : Leads (place.changes v) x (standing x) (standing x) = Leads-none (place.changes v) x _ _ (place.place.named x v (and_left _
-            (used s.trace v x Writing) r)) refl in
+        (used s.trace v x Writing) r)) refl in
         undone-at (place.changes v) x standing _ leads ∙ led_to x before now (shown_store m) there leads
   ]
 
@@ -113,16 +113,16 @@ module _ (s : UnitsState) (m n : StoreValue) (images after_images : List (Kept A
   undone_to (Td q) plain =
       let not_logical = not_so (queue_logical s.opening q) plain in
       let leads : Leads (place.changes v) (Td q) (standing (Td q)) (standing (Td q)) = Leads-none (place.changes v) (Td q) _ _ (place.place.named (Td q) v
-          (and_left _ (used s.trace v (Td q) Writing) not_logical)) refl in
+      (and_left _ (used s.trace v (Td q) Writing) not_logical)) refl in
       undone-at (place.changes v) (Td q) standing _ leads ∙ shown_td m q
       ∙ ap (option_map queue_of) (sym (undone_elsewhere q (place.changes v) (place.marks.images v) (kept_by images v) (place.kept v)
-          (place.ends.bare q not_logical v) m) ∙ sym (queue_then q)) ∙ sym (shown_td n q)
+      (place.ends.bare q not_logical v) m) ∙ sym (queue_then q)) ∙ sym (shown_td n q)
 
   -- the images are undone, and all is as without the unit
   pub backed_out_in_place : AreInPlace (after_end s v BackedOut) n after_images
   backed_out_in_place = ended_in_place s m n images after_images v BackedOut place gone apart
       (λ w other on. ready_where (is_unnamed cell_of_any (kept_by images v)) m n (kept_by images w) keeps
-          (others_unnamed s m images sound place v w other open_before on) (place.ready w))
+      (others_unnamed s m images sound place v w other open_before on) (place.ready w))
       (marks_undone place.marks.queues (place.marks.images v))
       (place_by (after_end s v BackedOut) (undone standing (place.changes v)) (content (shown_store n)) (without_images place.changes v) undone_to
       (back_out-IsPlaceOf s (record { cells = standing; images = place.changes }) v place.place live))

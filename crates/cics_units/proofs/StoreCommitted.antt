@@ -108,13 +108,12 @@ module _ (s : UnitsState) (m mid n : StoreValue) (images after_images : List (Ke
   marks_then q l =
       let queue = place.queues q l in
       let reads = used s.trace v (Td q) Reading in
-      let writes = used s.trace v (Td q) Writing in
-      (
+      let writes = used s.trace v (Td q) Writing in (
         ends_committed (holds_end s v q Reading) (holds_end s v q Writing) queue.0,
         settled q ∙ ap (committed_at s v q) (queue_mid q ∙ queue.1),
         subst (λ (b : Bool). HasMarks (queues_committed s place.marks.queues v q) (ends_committed (b && reads) (b && writes) queue.0)) (sym l)
-        (committed_marks reads writes (place.marks.queues q) queue.0 queue.2
-        (λ r. room_left writes (place.marks.queues q) (λ w. room q l r w) (place.ends.queues q l).within)),
+            (committed_marks reads writes (place.marks.queues q) queue.0 queue.2
+            (λ r. room_left writes (place.marks.queues q) (λ w. room q l r w) (place.ends.queues q l).within)),
       )
 
   -- each plain cell holds what it held
@@ -129,14 +128,14 @@ module _ (s : UnitsState) (m mid n : StoreValue) (images after_images : List (Ke
       ∙ ap (λ x. content (shown_store (record mid { temp_storage = x })) (Ts q)) (sym same_rows)
   same_plain (Td q) plain =
       shown_td m q ∙ ap (option_map queue_of) (sym (queue_mid q) ∙ sym (stays s v q (not_so (queue_logical s.opening q) plain) (value_at q mid.trans_data))
-          ∙ sym (settled q)) ∙ sym (shown_td n q)
+      ∙ sym (settled q)) ∙ sym (shown_td n q)
 
   -- COMMIT: the images are given up, and the ends settled
   pub committed_in_place : AreInPlace (after_end s v Committed) n after_images
   committed_in_place = ended_in_place s m n images after_images v Committed place gone apart
       (λ w other on. ready_where (is_free s v) mid n (kept_by images w) free_kept (others_free s m images sound place v w other open_before on)
       (ready_where (is_unnamed cell_of_any (kept_by images v)) m mid (kept_by images w) keeps
-          (others_unnamed s m images sound place v w other open_before on) (place.ready w)))
+      (others_unnamed s m images sound place v w other open_before on) (place.ready w)))
       (queues_committed s place.marks.queues v)
       (place_by (after_end s v Committed) (content (shown_store m)) (content (shown_store n)) (without_images place.changes v) same_plain
       (commit-IsPlaceOf s (record { cells = content (shown_store m); images = place.changes }) v place.place live))

@@ -117,8 +117,8 @@ module _ (s : UnitsState) (m n : StoreValue) (images after_images : List (Kept A
   place_then =
       subst (λ c. IsPlaceOf (after_execution s u op) (record { cells = c; images = changes_then })) all_moved
       (subst (λ b. IsPlaceOf (after_execution s u op) (if b then put s.opening
-          (record { cells = before; images = place.changes }) unit op made else record { cells = before; images = place.changes })) (ap
-          (is_plain s.opening) on ∙ plain)
+      (record { cells = before; images = place.changes }) unit op made else record { cells = before; images = place.changes })) (ap
+      (is_plain s.opening) on ∙ plain)
       (execution-IsPlaceOf s (record { cells = before; images = place.changes }) u op made sound place.place acts free (image_of-AreImages op before one)))
 
   -- no queue is marked, and no unit gets an image of a mark
@@ -196,27 +196,44 @@ module _ (s : UnitsState) (m n : StoreValue) (images after_images : List (Kept A
       marks = marks_then;
       place = place_then;
       ends = execution-AreMarksOf s place.marks u op sound place.ends acts free;
-      queues = λ q l. let queue = place.queues q (subst (λ o. queue_logical o q ≡ true) opening_then l) in (queue.0, queues_stay q ∙ queue.1, subst
-          (λ k. HasMarks k queue.0) (sym (same_queues q)) queue.2);
+      queues = λ q l. let queue = place.queues q (subst (λ o. queue_logical o q ≡ true) opening_then l) in (
+        queue.0,
+        queues_stay q ∙ queue.1,
+        subst
+            (λ k. HasMarks k queue.0) (sym (same_queues q)) queue.2,
+      );
       kept = λ w. subst (λ l. AreKept (changes_then w) l (kept_by after_images w)) (sym (same_images w))
-          (elim (same_or_not w) [ inl same ↦ subst (λ y. AreKept (changes_then y) (place.marks.images y) (kept_by after_images y))
-              (sym same) kept | inr n ↦ others_kept w n ]);
-      ready = λ w. elim (same_or_not w) [ inl same ↦ subst (λ y. AreReady n (kept_by after_images y)) (sym same) ready | inr other ↦ subst (AreReady n) (sym
-          (apart w other)) (apart_ready w other) ];
+          (elim (same_or_not w) [
+            | inl same ↦ subst (λ y. AreKept (changes_then y) (place.marks.images y) (kept_by after_images y))
+                (sym same) kept
+            | inr n ↦ others_kept w n
+          ]);
+      ready = λ w. elim (same_or_not w) [
+        | inl same ↦ subst (λ y. AreReady n (kept_by after_images y)) (sym same) ready
+        | inr other ↦ subst (AreReady n) (sym
+            (apart w other)) (apart_ready w other)
+      ];
       over = over_now;
     }
 
     -- the change of something recoverable gave an image, which the unit keeps as its newest
     pub executed_kept : is_recoverable s.opening op ≡ true → changes op (before (cell_of_op op)) ≡ true →
         shown (before x) ≡ any_content m (bytes_of x) → shown (content (shown_store n) x) ≡ any_content n (bytes_of x) → (i : AnyImage) → IsAnyImage m n
-            (bytes_of x) i →
+        (bytes_of x) i →
         kept_by after_images unit ≡ i ∷ kept_by images unit → AreInPlace (after_execution s u op) n after_images
     executed_kept rec changed was now i image newest = in_place_by
         (subst (AreKept (changes_then unit) (place.marks.images unit)) (sym newest)
-        (rw (eq-eqb unit unit refl, rec, changed) (kept_more (record { cell = cell_of_op op; before = before (cell_of_op op); made = (effect op (before
-            (cell_of_op op))).cell }) (place.changes unit) (place.marks.images unit) i (kept_by images unit) own (place.kept unit))))
-        (subst (AreReady n) (sym newest) (image.ready, ready_where (λ c. true) m (any_undone n i) (kept_by images unit) image.back (all_of
-            (kept_by images unit)) (place.ready unit)))
+        (rw (eq-eqb unit unit refl, rec, changed) (kept_more (record {
+          cell = cell_of_op op;
+          before = before (cell_of_op op);
+          made = (effect op (before
+              (cell_of_op op))).cell;
+        }) (place.changes unit) (place.marks.images unit) i (kept_by images unit) own (place.kept unit))))
+        (subst (AreReady n) (sym newest) (
+          image.ready,
+          ready_where (λ c. true) m (any_undone n i) (kept_by images unit) image.back (all_of
+              (kept_by images unit)) (place.ready unit),
+        ))
       where
         made_here : content (shown_store n) (cell_of_op op) ≡ (effect op (before (cell_of_op op))).cell
         made_here = sym (moved (cell_of_op op)) ∙ rw (touches-self op) refl
@@ -247,6 +264,6 @@ module _ (s : UnitsState) (m n : StoreValue) (images after_images : List (Kept A
         (after_execution s u op) n after_images
     executed_unchanged still same_store same = in_place_by
         (subst (AreKept (changes_then unit) (place.marks.images unit)) (sym same) (rw still (cond_both (eqb unit unit && is_recoverable s.opening op)
-            (place.changes unit) (place.changes unit) (λ l. AreKept l (place.marks.images unit) (kept_by images unit)) (λ t. place.kept unit)
-            (λ t. place.kept unit))))
+        (place.changes unit) (place.changes unit) (λ l. AreKept l (place.marks.images unit) (kept_by images unit)) (λ t. place.kept unit)
+        (λ t. place.kept unit))))
         (subst (AreReady n) (sym same) (subst (λ y. AreReady y (kept_by images unit)) same_store (place.ready unit)))

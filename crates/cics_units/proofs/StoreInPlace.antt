@@ -68,7 +68,7 @@ shown_key m f k = ap (λ o. shown (record_in k o)) (value_at_each (λ x. x.recor
 pub shown_ts : (m : StoreValue) → T (is_rising m.temp_storage) → (q : Bytes) → shown (content (shown_store m) (Ts q)) ≡ any_content m (bytes_of (Ts q))
 shown_ts m rising q =
     ap (λ o. shown (Some (unwrap_or {T = Queue} o []))) (ap (value_at q) (queues_of-shown m.temp_storage)
-        ∙ value_at-shown queue_shown q m.temp_storage rising)
+    ∙ value_at-shown queue_shown q m.temp_storage rising)
     ∙ by (value_at q m.temp_storage)
   where
     items_shown : (items : Queue) → shown (Some (unwrap_or {T = Queue} (cond (is_there items) (Some items) None) [])) ≡ content_of items
@@ -153,7 +153,7 @@ module _ (s : UnitsState) (m : StoreValue) (images : List (Kept AnyImage)) (soun
       (place.kept w)
       (λ x t. unnamed_kept (place.changes v) (place.marks.images v) (kept_by images v) (place.kept v) x
       (false_from_ne_true (names x (place.changes v)) (λ y. other (one_at w v x Writing also on (named_used w x t).0 (named_used w x t).1
-          (named_used v x y).1))))
+      (named_used v x y).1))))
       (λ q end t. unmarked_kept (place.changes v) (place.marks.images v) (kept_by images v) (place.kept v) q end
       (false_from_ne_true (list_any (is_of_end q end) (place.marks.images v))
       (λ y. other (one_at w v (Td q) end also on (marked_used w also q end t).0 (marked_used w also q end t).1 (marked_used v on q end y).1))))
@@ -164,7 +164,7 @@ module _ (s : UnitsState) (m : StoreValue) (images : List (Kept AnyImage)) (soun
   others_free v w other on also = each_passes (is_free s v) (place.changes w) (place.marks.images w) (kept_by images w) (place.kept w) (λ x t. plain_free x)
       (λ q end t. ap (is_free_split s v) (split_cell q (end_cell end)) ∙ end_free q end ∙ ap not (false_from_ne_true (holds_end s v q end)
       (λ y. other (one_at w v (Td q) end also on (marked_used w also q end t).0 (marked_used w also q end t).1 (and_parts (queue_logical s.opening q)
-          (used s.trace v (Td q) end) y).1))))
+      (used s.trace v (Td q) end) y).1))))
     where
       plain_free : (x : Cell) → is_free s v (bytes_of x) ≡ true
       plain_free (Key f k) = refl
@@ -239,8 +239,12 @@ unmarked_has settled t none shows =
     let back : [] ≡ drop (length t.placed - t.written) t.placed = sym (ap (λ k. drop k t.placed) all ∙ drop-length t.placed) in
     record {
       logical = none.logical;
-      within = record { read = omega (arith, none.read); written = omega (arith, none.written); unmarked = λ plain. absurd (true≢false (sym none.logical
-          ∙ plain)) };
+      within = record {
+        read = omega (arith, none.read);
+        written = omega (arith, none.written);
+        unmarked = λ plain. absurd (true≢false (sym none.logical
+            ∙ plain));
+      };
       marks = λ i. record { settled = front i; fresh = back i; taken = sym none.read i };
     }
 
@@ -250,13 +254,17 @@ opened_marks : (o : OpeningState) (m : StoreValue) → shown_store m ≡ initial
     (q : Bytes) → queue_logical o q ≡ true → (t : TransState) × (value_at q m.trans_data ≡ Some t) × HasMarks ((marks_opened o).queues q) t
 opened_marks o m same loaded q l =
     by (value_at q m.trans_data) refl (sym (shown_td m q) ∙ ap (λ t. content t (Td q)) same ∙ shows_of (beginning o) (marks_opened o)
-        (beginning-AreMarksOf o) q l)
+    (beginning-AreMarksOf o) q l)
   where
     by : (p : Option TransState) → value_at q m.trans_data ≡ p → option_map queue_of p ≡ Some (shown_marks ((marks_opened o).queues q)) →
         (t : TransState) × (value_at q m.trans_data ≡ Some t) × HasMarks ((marks_opened o).queues q) t
     by None is shows = absurd (false≢true (ap is_some shows))
-    by (Some t) is shows = (t, is, unmarked_has ((marks_opened o).queues q).settled t (loaded q t l is) (ap (λ (p : Option
-        (List Bytes)). unwrap_or p []) shows))
+    by (Some t) is shows = (
+      t,
+      is,
+      unmarked_has ((marks_opened o).queues q).settled t (loaded q t l is) (ap (λ (p : Option
+          (List Bytes)). unwrap_or p []) shows),
+    )
 
 -- at the beginning nothing was changed, and no queue is marked
 pub beginning_in_place : (o : OpeningState) (m : StoreValue) → shown_store m ≡ initial_store o →

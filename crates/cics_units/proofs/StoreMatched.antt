@@ -149,15 +149,16 @@ rest_from (Some e) = e.1
 same_ends : (q r : Bytes) (e d : images.Cell) → trans_cell (value_cell q e) ≡ trans_cell (value_cell r d) → (q ≡ r) × (e ≡ d)
 unfolding name_from rest_from
 same_ends q r e d same =
-    let behind : value_cell q e ≡ value_cell r d = cc in
-    (ap name_from (sym (split_cell q e)) ∙ ap (λ c. name_from (split c)) behind ∙ ap name_from (split_cell r d),
-    ap rest_from (sym (split_cell q e)) ∙ ap (λ c. rest_from (split c)) behind ∙ ap rest_from (split_cell r d))
+    let behind : value_cell q e ≡ value_cell r d = cc in (
+      ap name_from (sym (split_cell q e)) ∙ ap (λ c. name_from (split c)) behind ∙ ap name_from (split_cell r d),
+      ap rest_from (sym (split_cell q e)) ∙ ap (λ c. rest_from (split c)) behind ∙ ap rest_from (split_cell r d),
+    )
 
 -- one end of a name is another exactly where the names are one
 named_end : (q r : Bytes) (end : End) → bytes_eq (bytes_of_end q end) (bytes_of_end r end) ≡ is_same q r
 named_end q r end = one_test (bytes_eq (bytes_of_end q end) (bytes_of_end r end)) (is_same q r)
     (λ t. subst (λ x. is_same q x ≡ true) (same_ends q r (end_cell end) (end_cell end) (told_equal (bytes_of_end q end) (bytes_of_end r end) t)).0
-        (is_same-self q))
+    (is_same-self q))
     (λ t. same_bytes-eq (bytes_of_end q end) (bytes_of_end r end) (ap (λ x. bytes_of_end x end) (is_same-eq q r t)))
 
 -- the two ends are two
@@ -255,17 +256,17 @@ unnamed_by b named marked plain ends [] ms (File i ∷ is) kept n k = absurd kep
 unnamed_by b named marked plain ends (c ∷ cs) ms (File i ∷ is) kept n k =
     let parts = or_parts (named c) (list_any named cs) n in
     and_from _ _ (ap not (bytes_eq-turned b (cell_of_any (File i)) ∙ plain c (File i) kept.0 ∙ parts.0))
-        (unnamed_by b named marked plain ends cs ms is kept.1 parts.1 k)
+    (unnamed_by b named marked plain ends cs ms is kept.1 parts.1 k)
 unnamed_by b named marked plain ends [] ms (TempStorage i ∷ is) kept n k = absurd kept
 unnamed_by b named marked plain ends (c ∷ cs) ms (TempStorage i ∷ is) kept n k =
     let parts = or_parts (named c) (list_any named cs) n in
     and_from _ _ (ap not (bytes_eq-turned b (cell_of_any (TempStorage i)) ∙ plain c (TempStorage i) kept.0 ∙ parts.0))
-        (unnamed_by b named marked plain ends cs ms is kept.1 parts.1 k)
+    (unnamed_by b named marked plain ends cs ms is kept.1 parts.1 k)
 unnamed_by b named marked plain ends cs [] (TransData i ∷ is) kept n k = absurd kept
 unnamed_by b named marked plain ends cs (m ∷ ms) (TransData i ∷ is) kept n k =
     let parts = or_parts (marked m) (list_any marked ms) k in
     and_from _ _ (ap not (bytes_eq-turned b (cell_of_any (TransData i)) ∙ ends m i kept.0 ∙ parts.0))
-        (unnamed_by b named marked plain ends cs ms is kept.1 n parts.1)
+    (unnamed_by b named marked plain ends cs ms is kept.1 n parts.1)
 
 -- what never passes passes for none
 never : {X : Type 0} (xs : List X) → list_any (λ x. false) xs ≡ false

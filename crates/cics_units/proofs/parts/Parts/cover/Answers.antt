@@ -6,8 +6,10 @@ use Rattle.cics_units.proofs.parts.Parts.cover.Goals as goal
 
 pub returns-then-not-covers-clause-rest : goal.returns-then-not-covers-clause-rest
 returns-then-not-covers-clause-rest c =
-    λ i. record c.args.self.now { reads = sym (filter_none (covers c.args.unit c.args.op.now) c.args.self.now.reads
-    (sym c.covers.ensures ∙ c.if-not-covers.true)) i }
+    λ i. record c.args.self.now {
+      reads = sym (filter_none (covers c.args.unit c.args.op.now) c.args.self.now.reads
+          (sym c.covers.ensures ∙ c.if-not-covers.true)) i;
+    }
 
 pub returns-clause-rest : goal.returns-clause-rest
 returns-clause-rest c =
