@@ -189,8 +189,8 @@ pub fn calls_keep_the_order()
 ///
 /// - `one`: after every run, two units that hold resources which overlap are one unit.
 /// - `ends`: so at most one open unit holds an end of a recoverable cell.
-/// - `found`: whoever holds a resource that is no prefix of keys, and isn't the unit that asks, is
-///   the holder that is found.
+/// - `found`: whoever holds what overlaps a resource that is no prefix of keys, and isn't the unit
+///   that asks, is the holder that is found.
 /// - `holds`: for any resource, the holder that is found is another unit than the one that asks,
 ///   and holds something that overlaps it.
 /// - `least`: what is found is held by another unit and overlaps the resource, and nothing of which
@@ -218,8 +218,8 @@ pub fn each_resource_has_one_holder()
 {}
 
 /// A unit holds an end of a LOGICAL queue exactly where it is open and has used that end, and no
-/// unit holds an end of another queue. So whoever walks what a unit holds, or the table of all that
-/// is held, knows at which ends the unit is to be committed or backed out.
+/// unit holds an end of another queue. So what a unit holds, and the table of all that is held, tell
+/// at which ends a commit of the unit has to commit.
 ///
 /// - `held`: so it is of what a unit holds.
 /// - `table`: so it is of the table, which names units that have begun.

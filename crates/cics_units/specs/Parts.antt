@@ -75,7 +75,7 @@ abbrev pub with_stored : Bytes → List ImageValue → List FilesImage → List 
 with_stored f [] is = is
 with_stored f (i ∷ more) is = with_stored f more (record { name = f; image = i } ∷ is)
 
--- how many records of a file a command changes at most
+-- how many records of a file have keys that begin with a prefix
 abbrev pub most_in : Bytes → Option FileValue → ℕ
 most_in p None = 0
 most_in p (Some f) = length (under p f.records)

@@ -27,7 +27,7 @@ resource_of op = record_of (file_of op) (key_of op)
 abbrev pub value_of : Bytes → Resource
 value_of v = User (bytes_of v)
 
--- READ UPDATE holds its record in any file, the other commands only in a recoverable one
+-- a command is READ UPDATE, which holds its record in any file; the others do only in a recoverable one
 abbrev pub is_read : Op → Bool
 is_read (ReadUpdate f k) = true
 is_read _ = false
@@ -72,13 +72,13 @@ pub record IsTableOf (s : UnitsState) (table : Table) : Type 0 where
 abbrev pub covered_read : ℕ → Op → List UpdateRead → Option Bytes
 covered_read u op reads = if list_any (covers u op) reads then read_at reads u (file_of op) else None
 
--- UNLOCK gives the record of an update read back, where the file isn't recoverable
+-- UNLOCK gives back the record of an update read, where the file isn't recoverable; so does a command that covers the read
 abbrev pub table_given_back : Bool → ℕ → Bytes → Option Bytes → Table → Table
 table_given_back recoverable u f None t = t
 table_given_back recoverable u f (Some k) t = if recoverable then t else given_back t (record_of f k) u
 
 -- a command that is answered NORMAL takes what it uses, where the file is recoverable or the record is read for update; in
--- another file it gives the record of the update read back that it covers
+-- another file it gives back the record of the update read that it covers
 abbrev pub table_changed : Bool → ℕ → Op → List UpdateRead → Table → Table
 table_changed recoverable u op reads t =
     if recoverable || is_read op then taken t (resource_of op) u

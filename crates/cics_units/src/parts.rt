@@ -222,7 +222,7 @@ impl Parts {
         }
     }
 
-    // A change of a file that isn't recoverable: it gives the record of the update read back that it covers.
+    // A change of a file that isn't recoverable: it gives back the record of the update read that it covers.
     fn change_plain(&mut self, unit: UnitId, file: &Name8, op: &Op) -> Result<(), NoMemory>
         requires named { file_of op.now ≡ file.now }
         requires on_file { is_file_op op.now ≡ true }

@@ -32,8 +32,8 @@ use std::marker::Model;
 /// The units of work of a region, with its files.
 ///
 /// Contracts see the state of the units, which is what was opened, the executed commands in their
-/// order, the outcome of each unit and the open update reads, and beside it the store, which is read
-/// off the files themselves. After every call the store is what replaying the executed commands gives,
+/// order, the outcome of each unit, the open update reads and the counts of ENQ, and beside it the
+/// store, which is read off the files themselves. After every call the store is what replaying the executed commands gives,
 /// without all that units which were backed out executed on recoverable files, and each command of the
 /// replay has the answer that it was given (`headline`).
 #[derive(Drop)]

@@ -118,8 +118,8 @@ fn it_is_undone_among_other_changes(rt: HostRuntime) -> Result<(), Fail> {
     Ok(())
 }
 
-/// In an unrecoverable file it holds nothing and stays; the update read that it covers ends, and its
-/// record is free. Another unit's update read it waits for.
+/// In an unrecoverable file it holds nothing, and what it deleted stays deleted after a backout; the
+/// update read that it covers ends, and its record is free. It waits for another unit's update read.
 const UNRECOVERABLE: &str = "\
 - read LOG k1 = NORMAL 0
 - clear LOG k = waits 0
