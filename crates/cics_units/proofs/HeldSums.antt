@@ -116,6 +116,20 @@ module _ (o : OpeningState) (n : ℕ) (r : Resource) (f k : Bytes) (same : is_on
 
 -- ---- One entry more
 
+-- a command on a file acts on something recoverable just where its file is
+pub recoverable_op : (o : OpeningState) (op : Op) → is_file_op op ≡ true → is_recoverable o op ≡ file_recoverable o (file_of op)
+recoverable_op o (Write f k r) file = refl
+recoverable_op o (Rewrite f k r) file = refl
+recoverable_op o (Delete f k) file = refl
+recoverable_op o (DeleteGeneric f p) file = refl
+recoverable_op o (ReadUpdate f k) file = refl
+recoverable_op o (TsWrite q d) file = absurd (false≢true file)
+recoverable_op o (TsRewrite q n d) file = absurd (false≢true file)
+recoverable_op o (TsDelete q) file = absurd (false≢true file)
+recoverable_op o (TdWrite q d) file = absurd (false≢true file)
+recoverable_op o (TdRead q) file = absurd (false≢true file)
+recoverable_op o (TdDelete q) file = absurd (false≢true file)
+
 module _ (s : UnitsState) (u : Option ℕ) (op : Op) (a : Answer) (n : ℕ) (p : Resource → Bool) where
   -- the entry of the command
   abbrev pub entry_of : Entry
@@ -148,7 +162,7 @@ module _ (s : UnitsState) (u : Option ℕ) (op : Op) (a : Answer) (n : ℕ) (p :
   pub by_entry-file : is_normal a.condition ≡ true → is_file_op op ≡ true → file_recoverable s.opening (file_of op) ≡ true →
       by_entry ≡ ((unit_or_next u s.outcomes == n) && p (resource_of op))
   by_entry-file normal file rec =
-      (λ i. list_any p (if (unit_or_next u s.outcomes == n) && (normal i && (recovers op file ∙ rec) i) then uses op file i else []))
+      (λ i. list_any p (if (unit_or_next u s.outcomes == n) && (normal i && (recoverable_op s.opening op file ∙ rec) i) then uses op file i else []))
       ∙ any_if_one p ((unit_or_next u s.outcomes == n) && true) (resource_of op)
       ∙ ap (λ b. b && p (resource_of op)) (and-true (unit_or_next u s.outcomes == n))
     where
@@ -164,16 +178,3 @@ module _ (s : UnitsState) (u : Option ℕ) (op : Op) (a : Answer) (n : ℕ) (p :
       uses (TdWrite q d) h = absurd (false≢true h)
       uses (TdRead q) h = absurd (false≢true h)
       uses (TdDelete q) h = absurd (false≢true h)
-
-      recovers : (op : Op) → is_file_op op ≡ true → is_recoverable s.opening op ≡ file_recoverable s.opening (file_of op)
-      recovers (Write f k d) h = refl
-      recovers (Rewrite f k d) h = refl
-      recovers (Delete f k) h = refl
-      recovers (DeleteGeneric f q) h = refl
-      recovers (ReadUpdate f k) h = refl
-      recovers (TsWrite q d) h = absurd (false≢true h)
-      recovers (TsRewrite q m d) h = absurd (false≢true h)
-      recovers (TsDelete q) h = absurd (false≢true h)
-      recovers (TdWrite q d) h = absurd (false≢true h)
-      recovers (TdRead q) h = absurd (false≢true h)
-      recovers (TdDelete q) h = absurd (false≢true h)

@@ -47,6 +47,7 @@ use Rattle.cics_units.proofs.Opened.{with_value-each}
 use Rattle.cics_history.proofs.Stores.{same_store, apply-canonical, replay-canonical, initial-canonical, file_canonical, value_at_each}
 use Rattle.cics_history.proofs.States.{beginning-IsSound, execution-IsSound, unlock-IsSound, end-IsSound, agrees_of}
 use Rattle.cics_units.proofs.FileChanges.{kept_definitions}
+use Rattle.cics_units.proofs.HeldSums.{recoverable_op}
 use Rattle.cics_units.proofs.FilesInPlace.{executed_kept, executed_plain, same_cells, committed_in_place, backed_out_in_place, beginning_in_place}
 use Rattle.cics_units.proofs.TableInPlace.{table_begins, table_executed_of, table_unlocked_of, table_ended_of}
 
@@ -223,19 +224,6 @@ module _ (o : OpeningState) (m : Map FileValue) (in_order : IsOpeningInOrder o) 
       mapped (Some y) = refl
 
 -- ---- A command on a file
-recoverable_op : (o : OpeningState) (op : Op) → is_file_op op ≡ true → is_recoverable o op ≡ file_recoverable o (file_of op)
-recoverable_op o (Write f k r) file = refl
-recoverable_op o (Rewrite f k r) file = refl
-recoverable_op o (Delete f k) file = refl
-recoverable_op o (DeleteGeneric f p) file = refl
-recoverable_op o (ReadUpdate f k) file = refl
-recoverable_op o (TsWrite q d) file = absurd (false≢true file)
-recoverable_op o (TsRewrite q n d) file = absurd (false≢true file)
-recoverable_op o (TsDelete q) file = absurd (false≢true file)
-recoverable_op o (TdWrite q d) file = absurd (false≢true file)
-recoverable_op o (TdRead q) file = absurd (false≢true file)
-recoverable_op o (TdDelete q) file = absurd (false≢true file)
-
 -- no command on a file moves a NEXT place
 pub next_none : (t : Store) (op : Op) (c : Condition) → is_file_op op ≡ true → next_after t op c [] ≡ []
 next_none t (Write f k r) c file = refl

@@ -32,7 +32,7 @@ use Rattle.cics_history.proofs.Outcomes.{outcome_of-set}
 use Rattle.cics_units.proofs.HeldReads.{any_kept, filter_none, none_read, read_keys, by_read, by_read-is, by_read-recoverable, any_ended, covered_key, covered_at, covered_is, covered_all, AreOnce-opened, All-opened, AreOnce-dropped, any_opened-recoverable, any_opened-read, any_opened-none}
 use Rattle.cics_units.proofs.TableChanges.{table_same, table_taken, table_given, table_released}
 use Rattle.cics_units.proofs.HeldOver.{table_holder, table_free}
-use Rattle.cics_units.proofs.HeldSums.{in_entries, in_reads, in_counts, held_sum, entries_apart, counts_apart, entered_sum, by_entry-none, by_entry-file}
+use Rattle.cics_units.proofs.HeldSums.{in_entries, in_reads, in_counts, held_sum, entries_apart, counts_apart, entered_sum, by_entry-none, by_entry-file, recoverable_op}
 
 -- ---- At the beginning
 
@@ -221,20 +221,7 @@ module _ (s : UnitsState) (t : Table) (u : Option ℕ) (op : Op) (a : Answer) (i
 
     module _ (local : file_recoverable s.opening (file_of op) ≡ false) where
       unheld : (is_normal a.condition && is_recoverable s.opening op) ≡ false
-      unheld = and_right (is_normal a.condition) (is_recoverable s.opening op) (is_local op file local)
-        where
-          is_local : (op : Op) → is_file_op op ≡ true → file_recoverable s.opening (file_of op) ≡ false → is_recoverable s.opening op ≡ false
-          is_local (Write f l d) h local = local
-          is_local (Rewrite f l d) h local = local
-          is_local (Delete f l) h local = local
-          is_local (DeleteGeneric f p) h local = local
-          is_local (ReadUpdate f l) h local = local
-          is_local (TsWrite q d) h local = absurd (false≢true h)
-          is_local (TsRewrite q n d) h local = absurd (false≢true h)
-          is_local (TsDelete q) h local = absurd (false≢true h)
-          is_local (TdWrite q d) h local = absurd (false≢true h)
-          is_local (TdRead q) h local = absurd (false≢true h)
-          is_local (TdDelete q) h local = absurd (false≢true h)
+      unheld = and_right (is_normal a.condition) (is_recoverable s.opening op) (recoverable_op s.opening op file ∙ local)
 
       -- READ UPDATE in another file
       read_of : is_read op ≡ true → IsTableOf (entered s u op a) (taken t asked acting)
