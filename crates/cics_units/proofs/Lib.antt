@@ -33,3 +33,19 @@ pub mod StoreInPlace
 pub mod StoreCommitted
 pub mod StoreBackedOut
 pub mod StoreExecuted
+pub mod StoreExecution
+pub mod TransChanges
+pub mod StoreQueueExecuted
+pub mod TempChanges
+pub mod StoreTempExecuted
+pub mod Recoveries
+pub mod QueuesChanged
+pub mod QueueClauses
+pub mod StorePlaces
+pub mod QueuesHeld
+pub mod StoreCalls
+pub mod StoreEnds
+pub mod StoreSettled
+pub mod StoreEnded
+pub mod EndsFirst
+mod EndExamples

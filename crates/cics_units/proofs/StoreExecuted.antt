@@ -50,7 +50,7 @@ no_mark (TdRead q) none queues = absurd (true≢false (sym (same_cell-refl (Td q
 no_mark (TdDelete q) none queues = absurd (true≢false (sym (same_cell-refl (Td q)) ∙ none q))
 
 -- every image is of some cell
-all_of : (is : List AnyImage) → AreOf cell_of_any (λ c. true) is
+pub all_of : (is : List AnyImage) → AreOf cell_of_any (λ c. true) is
 all_of [] = tt
 all_of (i ∷ is) = (refl, all_of is)
 

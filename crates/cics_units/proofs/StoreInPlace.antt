@@ -123,7 +123,7 @@ module _ (s : UnitsState) (m : StoreValue) (images : List (Kept AnyImage)) (soun
   named_used u x t = and_parts _ _ (true_from_ne_false (recovers s.opening x && used s.trace u x Writing) (λ n. true≢false (sym t ∙ place.place.named x u n)))
 
   -- an end of a queue that a mark is of
-  marked_used : (u : ℕ) → is_open (outcome_of s.outcomes u) ≡ true → (q : Bytes) (end : End) → list_any (is_of_end q end) (place.marks.images u) ≡ true →
+  pub marked_used : (u : ℕ) → is_open (outcome_of s.outcomes u) ≡ true → (q : Bytes) (end : End) → list_any (is_of_end q end) (place.marks.images u) ≡ true →
       (queue_logical s.opening q ≡ true) × (used s.trace u (Td q) end ≡ true)
   marked_used u on q end t = elim (cases_Bool (queue_logical s.opening q)) [
     | inl l ↦ (l, true_from_ne_false (used s.trace u (Td q) end) (λ n. true≢false (sym t ∙ none end l n)))

@@ -16,3 +16,6 @@ pub mod KeptUnits
 pub mod SerialKept
 pub mod StoreMatching
 pub mod StoreInPlace
+pub mod QueueChanges
+pub mod StorePlaces
+pub mod StoreEnds

@@ -1,12 +1,12 @@
 -- Recovery: files, temporary storage and transient data as one value, and the before images that the program keeps of it.
 -- Those of keys and of temporary storage queues stand for changes of cells of the store, those of transient data for marks
 -- at the ends of LOGICAL queues.
-use Rattle.std.specs.Prelude.{◌≡◌, Bool, Some, None, List, [], ◌∷◌, map}
+use Rattle.std.specs.Prelude.{◌≡◌, Bool, false, Some, None, List, [], ◌∷◌, map}
 use Rattle.cics_names.specs.Keyed.{Bytes, Map}
 use Rattle.cics_images.specs.Cells.{Content as Shown}
 use Rattle.cics_images.specs.Cells as images
-use Rattle.cics_images.specs.NamedValues.{cell_of as value_cell, named_content, named_cell, IsNamedReady, named_undone, named_swept, NamedKeep}
-use Rattle.cics_images.specs.StoreCells.{file_cell, temp_cell, trans_cell, image_cell, image_leads, stores_content, IsStoresReady, stores_undone, stores_swept, StoresKeep}
+use Rattle.cics_images.specs.NamedValues.{cell_of as value_cell, named_content, named_cell, named_holds, IsNamedReady, named_undone, named_swept, NamedKeep}
+use Rattle.cics_images.specs.StoreCells.{file_cell, temp_cell, trans_cell, image_cell, image_leads, stores_content, IsStoresReady, stores_undone, stores_swept, stores_hold, StoresKeep}
 use Rattle.cics_images.specs.declared.named.NamedImage.{NamedImage}
 use Rattle.cics_images.specs.declared.stores.Stores.{Stores}
 use Rattle.cics_images.specs.declared.stores.StoreImage.{StoreImage}
@@ -16,7 +16,7 @@ use Rattle.cics_ksds.specs.Undo.{Leads as FileLeads}
 use Rattle.cics_tempstor.specs.declared.images.TsImage.{TsImage}
 use Rattle.cics_tempstor.specs.declared.queue_rows.Row.{Row}
 use Rattle.cics_tempstor.specs.Queues.{queues_of, ts_swept}
-use Rattle.cics_tempstor.specs.Undo.{content_at as queue_content, name_of_image, Leads as QueueLeads, IsReadyImage as IsQueueReady, undone as rows_undone, KeepsQueues}
+use Rattle.cics_tempstor.specs.Undo.{content_at as queue_content, name_of_image, Leads as QueueLeads, IsReadyImage as IsQueueReady, undone as rows_undone, holds_row, KeepsQueues}
 use Rattle.cics_transdata.specs.declared.images.TdImage.{TdImage}
 use Rattle.cics_transdata.specs.Trans.{TransState, queue_of}
 use Rattle.cics_transdata.specs.Undo.{reading_end, writing_end, end_of, content_at as end_content, Leads as EndLeads, IsReadyImage as IsEndReady, undone as queue_undone, KeepsEnds}
@@ -25,7 +25,7 @@ use Rattle.cics_history.specs.Cells.{Cell, Key, Ts, Td, Content, End, Reading, W
 use Rattle.cics_history.specs.Undo.{Image}
 use Rattle.cics_history.specs.MarkImages.{MarkImage, queue_of as queue_of_mark}
 use Rattle.cics_history.specs.Carried.{Carries}
-use Rattle.cics_units.specs.FilesImages.{FilesImage, cell_of_image, files_content, files_swept, IsReadyFor, files_undone, FilesKeep}
+use Rattle.cics_units.specs.FilesImages.{FilesImage, cell_of_image, files_content, files_hold, files_swept, IsReadyFor, files_undone, FilesKeep}
 
 -- the files by name, the rows of temporary storage and the transient data queues by name
 abbrev pub StoreValue : Type 0
@@ -91,6 +91,10 @@ any_undone s i = stores_undone files_undone rows_undone (λ s i. named_undone qu
 -- the three after a cell is swept; of transient data nothing is held back
 abbrev pub any_swept : StoreValue → images.Cell → StoreValue
 any_swept s c = stores_swept files_swept ts_swept (λ s c. named_swept (λ q c. q) s c) s c
+
+-- whether something is held back at a cell: an empty place, an empty row; of transient data nothing is
+abbrev pub any_holds : StoreValue → images.Cell → Bool
+any_holds s c = stores_hold files_hold holds_row (λ s c. named_holds (λ q c. false) s c) s c
 
 -- at the cells that pass, the second three have what the first have, and what an undo there needs
 abbrev pub AnyKeep : (images.Cell → Bool) → StoreValue → StoreValue → Type 0

@@ -1,0 +1,105 @@
+-- ENQ, DEQ, UNLOCK and READQ TS keep files, temporary storage, transient data and the images in place.
+use Rattle.std.proofs.Common.{◌≡◌, ℕ, true, false, T, Option, Some, List, [], refl, ap, sym, ◌∙◌}
+use Rattle.cics_names.specs.Keyed.{Bytes, value_at, is_rising}
+use Rattle.cics_images.specs.Cells.{Kept}
+use Rattle.cics_images.specs.NamedLaws as named
+use Rattle.cics_images.specs.StoreCells.{with_temp_storage}
+use Rattle.cics_tempstor.specs.declared.queue_rows.Row.{Row}
+use Rattle.cics_tempstor.specs.Shown.{queue_at-queues_of}
+use Rattle.cics_tempstor.specs.Undo.{KeepsQueues}
+use Rattle.cics_transdata.specs.Trans.{TransState}
+use Rattle.cics_transdata.specs.Undo.{KeepsEnds}
+use Rattle.cics_transdata.specs.UndoLaws as queue
+use Rattle.cics_history.specs.Openings.{queue_logical}
+use Rattle.cics_history.specs.History.{is_open}
+use Rattle.cics_history.specs.Holding.{UnitsState}
+use Rattle.cics_history.specs.Execution.{after_enqueue, after_dequeue, after_unlock, after_ts_reading}
+use Rattle.cics_history.specs.Cells.{Cell, Key, Ts, Td, content}
+use Rattle.cics_history.proofs.Places.{enqueue-IsPlaceOf, dequeue-IsPlaceOf, unlock-IsPlaceOf, ts_reading-IsPlaceOf}
+use Rattle.cics_history.proofs.InPlace.{enqueue-AreMarksOf, dequeue-AreMarksOf, unlock-AreMarksOf, ts_reading-AreMarksOf}
+use Rattle.cics_history.proofs.SameHistory.{enqueue-same, ts_reading-same}
+use Rattle.cics_units.specs.FilesImagesLaws as files
+use Rattle.cics_units.specs.UnitImages.{kept_by}
+use Rattle.cics_units.specs.StoreMatching.{StoreValue, AnyImage, shown_store, AnyKeep}
+use Rattle.cics_units.specs.StoreInPlace.{HasMarks, AreInPlace}
+use Rattle.cics_units.proofs.StoreInPlace.{ready_where, place_by}
+use Rattle.cics_units.proofs.StoreExecuted.{all_of}
+
+module _ (s : UnitsState) (m : StoreValue) (images : List (Kept AnyImage)) (place : AreInPlace s m images) where
+  -- ENQ changes no cell, no mark and no image
+  pub enqueued_in_place : (u : Option ℕ) (v : Bytes) → AreInPlace (after_enqueue s u v) m images
+  enqueued_in_place u v = record {
+    changes = place.changes;
+    marks = place.marks;
+    place = enqueue-IsPlaceOf s (record { cells = content (shown_store m); images = place.changes }) u v place.place;
+    ends = enqueue-AreMarksOf s place.marks u v place.ends;
+    queues = enqueue-same
+        (λ o es out. (q : Bytes) → queue_logical o q ≡ true → (t : TransState) × (value_at q m.trans_data ≡ Some t) × HasMarks (place.marks.queues q) t) s
+        place.queues u v;
+    kept = place.kept;
+    ready = place.ready;
+    over = enqueue-same (λ o es out. (w : ℕ) → is_open (out w) ≡ false → kept_by images w ≡ []) s place.over u v;
+  }
+
+  -- nor does DEQ
+  pub dequeued_in_place : (u : ℕ) (v : Bytes) → AreInPlace (after_dequeue s u v) m images
+  dequeued_in_place u v = record {
+    changes = place.changes;
+    marks = place.marks;
+    place = dequeue-IsPlaceOf s (record { cells = content (shown_store m); images = place.changes }) u v place.place;
+    ends = dequeue-AreMarksOf s place.marks u v place.ends;
+    queues = place.queues;
+    kept = place.kept;
+    ready = place.ready;
+    over = place.over;
+  }
+
+  -- nor UNLOCK
+  pub unlocked_in_place : (u : ℕ) (f : Bytes) → AreInPlace (after_unlock s u f) m images
+  unlocked_in_place u f = record {
+    changes = place.changes;
+    marks = place.marks;
+    place = unlock-IsPlaceOf s (record { cells = content (shown_store m); images = place.changes }) u f place.place;
+    ends = unlock-AreMarksOf s place.marks u f place.ends;
+    queues = place.queues;
+    kept = place.kept;
+    ready = place.ready;
+    over = place.over;
+  }
+
+  -- READQ TS changes a NEXT place alone
+  module _ (new : List (Bytes × Row)) (kept : KeepsQueues (λ q. true) m.temp_storage new)
+      (rising_before : T (is_rising m.temp_storage)) (rising_after : T (is_rising new)) where
+    -- the three after it
+    abbrev n : StoreValue
+    n = with_temp_storage m new
+
+    -- each cell holds what it held
+    same_cells : (x : Cell) → content (shown_store m) x ≡ content (shown_store n) x
+    same_cells (Key f k) = refl
+    same_cells (Ts q) =
+        ap Some (queue_at-queues_of q m.temp_storage rising_before ∙ sym (kept.queues q refl) ∙ sym (queue_at-queues_of q new rising_after))
+    same_cells (Td q) = refl
+
+    -- and nothing that an undo needs is gone
+    all_kept : AnyKeep (λ c. true) m n
+    all_kept = record {
+      files = files.keeps_itself (λ c. true) m.files;
+      temp_storage = kept;
+      trans_data = named.keeps_itself KeepsEnds queue.keeps_itself (λ c. true) m.trans_data;
+    }
+
+    pub read_in_place : (q : Bytes) (item : ℕ) → AreInPlace (after_ts_reading s q item) n images
+    read_in_place q item = record {
+      changes = place.changes;
+      marks = place.marks;
+      place = place_by (after_ts_reading s q item) (content (shown_store m)) (content (shown_store n)) place.changes (λ x plain. same_cells x)
+          (ts_reading-IsPlaceOf s (record { cells = content (shown_store m); images = place.changes }) q item place.place);
+      ends = ts_reading-AreMarksOf s place.marks q item place.ends;
+      queues = ts_reading-same
+          (λ o es out. (q : Bytes) → queue_logical o q ≡ true → (t : TransState) × (value_at q n.trans_data ≡ Some t) × HasMarks (place.marks.queues q) t) s
+          place.queues q item;
+      kept = place.kept;
+      ready = λ w. ready_where (λ c. true) m n (kept_by images w) all_kept (all_of (kept_by images w)) (place.ready w);
+      over = ts_reading-same (λ o es out. (w : ℕ) → is_open (out w) ≡ false → kept_by images w ≡ []) s place.over q item;
+    }

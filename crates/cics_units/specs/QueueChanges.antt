@@ -1,0 +1,209 @@
+-- Recovery: what a command on a queue makes of it where it stands: the queue after it, its image, and what the unit that
+-- executes it keeps from then on.
+use Rattle.std.specs.Prelude.{◌≡◌, ℕ, Bool, true, false, not, if◌then◌else◌, MatchBool, T, Option, Some, None, option_map, IfSome, IfNone, List, [], ◌∷◌}
+use Rattle.std.specs.Str.{bytes_eq}
+use Rattle.cics_names.specs.Keyed.{Bytes, Map, value_at, with_value, is_same, is_rising}
+use Rattle.cics_names.specs.declared.conditions.Condition.TheVariants.{Normal}
+use Rattle.cics_images.specs.Cells.{Kept, is_other, is_unnamed}
+use Rattle.cics_images.specs.Cells as images
+use Rattle.cics_images.specs.NamedValues.{split, named_fixed}
+use Rattle.cics_images.specs.StoreCells.{by_part, with_temp_storage, with_trans_data}
+use Rattle.cics_images.specs.declared.stores.StoreImage.TheVariants.{TempStorage, TransData}
+use Rattle.cics_tempstor.specs.declared.images.TsImage.{TsImage}
+use Rattle.cics_tempstor.specs.declared.queue_rows.Row.{Row}
+use Rattle.cics_tempstor.specs.Queues.{queue_at, write_condition, write_number, item_condition, rewrite_number, delete_condition, ts_written, ts_rewritten, ts_deleted}
+use Rattle.cics_tempstor.specs.Undo.{KeepsQueues, IsTsImage}
+use Rattle.cics_tempstor.specs.Undo as ts
+use Rattle.cics_transdata.specs.declared.images.TdImage.{TdImage}
+use Rattle.cics_transdata.specs.Trans.{TransState, IsMarked, first_of, read_condition, trans_written, trans_read, trans_deleted}
+use Rattle.cics_transdata.specs.Undo.{reading_end, writing_end, KeepsEnds, IsTransImage}
+use Rattle.cics_transdata.specs.Undo as td
+use Rattle.cics_history.specs.Openings.{OpeningState}
+use Rattle.cics_history.specs.Store.{apply, only, numbered, with_content, is_recoverable}
+use Rattle.cics_history.specs.Holding.{UnitsState}
+use Rattle.cics_history.specs.Execution.{unit_or_next, after_execution}
+use Rattle.cics_history.specs.declared.ops.Answer.{Answer}
+use Rattle.cics_history.specs.declared.ops.Op.{Op}
+use Rattle.cics_history.specs.declared.ops.Op.TheVariants.{TsWrite, TsRewrite, TsDelete, TdWrite, TdRead, TdDelete}
+use Rattle.cics_history.specs.Cells.{End, Reading, Writing}
+use Rattle.cics_units.specs.UnitImages.{kept_by, AreOthersKept}
+use Rattle.cics_units.specs.StoreMatching.{StoreValue, AnyImage, shown_store, end_cell, cell_of_any, any_holds}
+use Rattle.cics_units.specs.StoreInPlace.{AreInPlace, holds_end}
+
+-- ---- which queue a command is on
+-- a command on a transient data queue
+abbrev pub is_trans : Op → Bool
+is_trans (TdWrite q d) = true
+is_trans (TdRead q) = true
+is_trans (TdDelete q) = true
+is_trans _ = false
+
+-- a command on a temporary storage queue
+abbrev pub is_temp : Op → Bool
+is_temp (TsWrite q d) = true
+is_temp (TsRewrite q n d) = true
+is_temp (TsDelete q) = true
+is_temp _ = false
+
+-- the queue that a command is on
+abbrev pub queue_of : Op → Bytes
+queue_of (TsWrite q d) = q
+queue_of (TsRewrite q n d) = q
+queue_of (TsDelete q) = q
+queue_of (TdWrite q d) = q
+queue_of (TdRead q) = q
+queue_of (TdDelete q) = q
+queue_of _ = []
+
+-- ---- transient data: `own` says that the unit holds the writing end, and so may read the records that it wrote
+-- the queue after a command
+abbrev pub trans_after : Op → Bool → TransState → TransState
+trans_after (TdWrite q d) own t = trans_written t d
+trans_after (TdRead q) own t = trans_read t own
+trans_after (TdDelete q) own t = trans_deleted t
+trans_after _ own t = t
+
+-- the image that the command gives
+abbrev pub trans_image : Op → Bool → TransState → Option TdImage
+trans_image (TdWrite q d) own t = td.written_image t
+trans_image (TdRead q) own t = td.read_image t own
+trans_image (TdDelete q) own t = td.deleted_image t
+trans_image _ own t = None
+
+-- what it answers
+abbrev pub trans_answer : Op → Bool → TransState → Answer
+trans_answer (TdRead q) own t = with_content (read_condition (first_of t own)) (first_of t own)
+trans_answer _ own t = only Normal
+
+-- the end whose marks it changes
+abbrev pub end_of : Op → End
+end_of (TdWrite q d) = Writing
+end_of _ = Reading
+
+-- a write leaves the reading end as it is, a read the writing end where it may take no record that its own unit wrote
+abbrev pub leaves_end : Op → Bool → End → Bool
+leaves_end (TdWrite q d) own Reading = true
+leaves_end (TdRead q) own Writing = not own
+leaves_end _ own end = false
+
+-- a cell of the queue that isn't an end which the command changes
+abbrev pub is_left_end : Op → Bool → images.Cell → Bool
+is_left_end op own c =
+    if bytes_eq c reading_end then leaves_end op own Reading
+    else if bytes_eq c writing_end then leaves_end op own Writing else true
+
+-- the same of a cell of transient data
+abbrev pub is_left_split : Op → Bool → Option (Bytes × images.Cell) → Bool
+is_left_split op own None = true
+is_left_split op own (Some e) = if is_same e.0 (queue_of op) then is_left_end op own e.1 else true
+
+-- a cell of the three that isn't an end which the command changes
+abbrev pub is_left : Op → Bool → images.Cell → Bool
+is_left op own c = by_part true (λ c. true) (λ c. true) (λ c. is_left_split op own (split c)) c
+
+-- a command has changed a transient data queue and given an image: the queue is what the command leaves, the image undoes the
+-- change, and the ends that the command leaves have what they had; without an image both ends have
+pub record IsTransChange (op : Op) (own : Bool) (old new : TransState) (image : Option TdImage) : Type 0 where
+  -- which each queue keeps by itself
+  pub marked : IsMarked old
+  pub value : new ≡ trans_after op own old
+  pub given : image ≡ trans_image op own old
+  pub undoable : IfSome image (IsTransImage old new (end_cell (end_of op)))
+  pub others : KeepsEnds (is_left_end op own) old new
+  pub without_image : IfNone image (KeepsEnds (λ _. true) old new)
+
+-- ---- temporary storage: `keep` says that the queue is recoverable, and so a change gives an image
+-- the rows after a command
+abbrev pub rows_after : Op → Bool → Map Row → Map Row
+rows_after (TsWrite q d) keep rows = ts_written rows q d
+rows_after (TsRewrite q n d) keep rows = ts_rewritten rows q n d
+rows_after (TsDelete q) keep rows = ts_deleted keep rows q
+rows_after _ keep rows = rows
+
+-- the image that the command gives
+abbrev pub rows_image : Op → Bool → Map Row → Option TsImage
+rows_image (TsWrite q d) keep rows = ts.written_image keep q (queue_at q rows)
+rows_image (TsRewrite q n d) keep rows = ts.rewritten_image keep q (queue_at q rows) n
+rows_image (TsDelete q) keep rows = ts.deleted_image keep q (queue_at q rows)
+rows_image _ keep rows = None
+
+-- what it answers
+abbrev pub rows_answer : Op → Map Row → Answer
+rows_answer (TsWrite q d) rows = numbered (write_condition (queue_at q rows)) (write_number (queue_at q rows))
+rows_answer (TsRewrite q n d) rows = numbered (item_condition (queue_at q rows) n) (rewrite_number (queue_at q rows) n)
+rows_answer (TsDelete q) rows = only (delete_condition (queue_at q rows))
+rows_answer _ rows = only Normal
+
+-- a command has changed temporary storage and given an image: the rows are what the command leaves, the image undoes the
+-- change, and every other queue is as it was
+pub record IsTempChange (op : Op) (keep : Bool) (old new : Map Row) (image : Option TsImage) : Type 0 where
+  pub rising : T (is_rising old)
+  pub value : new ≡ rows_after op keep old
+  pub given : image ≡ rows_image op keep old
+  pub undoable : IfSome image (IsTsImage old new (queue_of op))
+  pub others : KeepsQueues (is_other (queue_of op)) old new
+
+-- ---- the store and the images of the units
+-- the images with one more as the newest, if there is one
+abbrev pub with_image : Option AnyImage → List AnyImage → List AnyImage
+with_image None is = is
+with_image (Some i) is = i ∷ is
+
+-- an image of a transient data queue, among those of the three
+abbrev pub in_queue : Bytes → TdImage → AnyImage
+in_queue q i = TransData (record { name = q; image = i })
+
+-- files and queues as they stand, and the images of each unit by its number
+pub record KeptStore : Type 0 where
+  pub store : StoreValue
+  pub images : List (Kept AnyImage)
+
+-- a unit has executed a command on a transient data queue, with this answer: the queue is changed where it stands, the unit
+-- keeps the image, and every other unit keeps what it kept
+pub record IsTransExecuted (old new : KeptStore) (unit : ℕ) (op : Op) (own : Bool) (answer : Answer) : Type 0 where
+  pub before : TransState
+  pub after : TransState
+  pub image : Option TdImage
+  pub rising : T (is_rising old.store.trans_data)
+  pub there : value_at (queue_of op) old.store.trans_data ≡ Some before
+  pub change : IsTransChange op own before after image
+  pub answered : answer ≡ trans_answer op own before
+  pub store : new.store ≡ with_trans_data old.store (with_value (queue_of op) after old.store.trans_data)
+  pub newest : kept_by new.images unit ≡ with_image (option_map (in_queue (queue_of op)) image) (kept_by old.images unit)
+  pub apart : AreOthersKept old.images new.images unit
+
+-- the same of a command on a temporary storage queue
+pub record IsTempExecuted (old new : KeptStore) (unit : ℕ) (op : Op) (keep : Bool) (answer : Answer) : Type 0 where
+  pub after : Map Row
+  pub image : Option TsImage
+  pub change : IsTempChange op keep old.store.temp_storage after image
+  pub answered : answer ≡ rows_answer op old.store.temp_storage
+  pub store : new.store ≡ with_temp_storage old.store after
+  pub newest : kept_by new.images unit ≡ with_image (option_map TempStorage image) (kept_by old.images unit)
+  pub apart : AreOthersKept old.images new.images unit
+
+-- a unit has executed a command on a queue, with this answer and with what it was told
+abbrev pub AreQueuesChanged : KeptStore → KeptStore → ℕ → Op → Bool → Answer → Type 0
+AreQueuesChanged old new unit op told answer =
+    MatchBool (is_trans op) (IsTransExecuted old new unit op told answer) (IsTempExecuted old new unit op told answer)
+
+-- what a command is told: of a transient data queue, whether its unit holds the writing end, of a temporary storage queue,
+-- whether it is recoverable
+abbrev pub told_of : UnitsState → ℕ → Op → Bool
+told_of s unit op = if is_trans op then holds_end s unit (queue_of op) Writing else is_recoverable s.opening op
+
+-- ---- the kinds of recovery
+-- each transient data queue that is defined stands there with its recovery, and no other queue does
+abbrev pub HaveRecoveries : OpeningState → StoreValue → Type 0
+HaveRecoveries o store = (q : Bytes) → named_fixed (λ t. t.kind) store.trans_data q ≡ named_fixed (λ e. e.recovery) o.queues q
+
+-- what an executed command on a queue leaves: all is in place, each queue has its recovery, the store is what the history gives
+-- and the answer too, the files stay, and more is held back only where the unit keeps an image
+pub record IsQueueExecuted (s : UnitsState) (old new : KeptStore) (u : Option ℕ) (op : Op) (answer : Answer) : Type 0 where
+  pub place : AreInPlace (after_execution s u op) new.store new.images
+  pub recoveries : HaveRecoveries (after_execution s u op).opening new.store
+  pub store : shown_store new.store ≡ (apply (shown_store old.store) op).store
+  pub files : new.store.files ≡ old.store.files
+  pub held : (c : images.Cell) → is_unnamed cell_of_any (kept_by new.images (unit_or_next u s.outcomes)) c ≡ true → any_holds new.store c ≡ true →
+      any_holds old.store c ≡ true
+  pub answered : answer ≡ (apply (shown_store old.store) op).answer

@@ -1,0 +1,12 @@
+-- Temporary storage: the NEXT places of the queues as they stand are those of the units.
+use Rattle.std.specs.Prelude.{◌≡◌}
+use Rattle.cics_names.specs.Keyed.{Map}
+use Rattle.cics_tempstor.specs.declared.queue_rows.Row.{Row}
+use Rattle.cics_tempstor.specs.Queues.{places_of}
+use Rattle.cics_tempstor.specs.Places.{AreInOrder}
+use Rattle.cics_history.specs.Holding.{UnitsState}
+
+-- the rows are in order, and their NEXT places are those that the history gives
+pub record HavePlaces (s : UnitsState) (rows : Map Row) : Type 0 where
+  pub in_order : AreInOrder rows
+  pub places : places_of rows ≡ s.next
