@@ -12,9 +12,10 @@ use Rattle.cics_enqueue.specs.Resources.{is_one}
 use Rattle.cics_enqueue.specs.ResourceLaws.{is_one-eq}
 use Rattle.cics_enqueue.specs.declared.resources.Resource.{Resource}
 use Rattle.cics_history.specs.Openings.{OpeningState, file_recoverable}
-use Rattle.cics_history.specs.Holding.{UpdateRead, held_by_read}
+use Rattle.cics_history.specs.Store.{is_recoverable}
+use Rattle.cics_history.specs.Holding.{UpdateRead, uses_of, held_by_read}
 use Rattle.cics_history.specs.Execution.{is_read_of, read_at, is_read_before, with_read, covers, opened}
-use Rattle.cics_history.specs.Records.{is_file_op, file_of, key_of}
+use Rattle.cics_history.specs.Records.{file_of, key_of}
 use Rattle.cics_units.specs.TableInPlace.{record_of, is_read, AreOnce}
 use Rattle.cics_history.specs.declared.ops.Op.{Op}
 use Rattle.cics_history.specs.declared.ops.Op.TheVariants.{Write, Rewrite, Delete, DeleteGeneric, ReadUpdate, TsWrite, TsRewrite, TsDelete, TdWrite, TdRead, TdDelete}
@@ -249,22 +250,45 @@ covers_key (Delete f k) l = is_same l k
 covers_key (DeleteGeneric f p) l = has_prefix p l
 covers_key _ l = false
 
-pub covers-key : (v : ℕ) (op : Op) → is_file_op op ≡ true → (x : UpdateRead) → covers v op x ≡ (is_read_of v (file_of op) x && covers_key op x.key)
-covers-key v (Rewrite f k r) file x = refl
-covers-key v (Delete f k) file x = refl
-covers-key v (DeleteGeneric f p) file x = refl
-covers-key v (Write f k r) file x = sym (and-false (is_read_of v f x))
-covers-key v (ReadUpdate f k) file x = sym (and-false (is_read_of v f x))
-covers-key v (TsWrite q d) file x = absurd (false≢true file)
-covers-key v (TsRewrite q n d) file x = absurd (false≢true file)
-covers-key v (TsDelete q) file x = absurd (false≢true file)
-covers-key v (TdWrite q d) file x = absurd (false≢true file)
-covers-key v (TdRead q) file x = absurd (false≢true file)
-covers-key v (TdDelete q) file x = absurd (false≢true file)
+pub covers-key : (v : ℕ) (op : Op) (x : UpdateRead) → covers v op x ≡ (is_read_of v (file_of op) x && covers_key op x.key)
+covers-key v (Rewrite f k r) x = refl
+covers-key v (Delete f k) x = refl
+covers-key v (DeleteGeneric f p) x = refl
+covers-key v (Write f k r) x = sym (and-false (is_read_of v f x))
+covers-key v (ReadUpdate f k) x = sym (and-false (is_read_of v f x))
+covers-key v (TsWrite q d) x = sym (and-false (is_read_of v [] x))
+covers-key v (TsRewrite q n d) x = sym (and-false (is_read_of v [] x))
+covers-key v (TsDelete q) x = sym (and-false (is_read_of v [] x))
+covers-key v (TdWrite q d) x = sym (and-false (is_read_of v [] x))
+covers-key v (TdRead q) x = sym (and-false (is_read_of v [] x))
+covers-key v (TdDelete q) x = sym (and-false (is_read_of v [] x))
 
 -- what it covers is its unit's read of its file
-pub covers-own : (v : ℕ) (op : Op) → is_file_op op ≡ true → (x : UpdateRead) → covers v op x ≡ true → is_read_of v (file_of op) x ≡ true
-covers-own v op file x h = (and_parts (is_read_of v (file_of op) x) (covers_key op x.key) (sym (covers-key v op file x) ∙ h)).0
+pub covers-own : (v : ℕ) (op : Op) (x : UpdateRead) → covers v op x ≡ true → is_read_of v (file_of op) x ≡ true
+covers-own v op x h = (and_parts (is_read_of v (file_of op) x) (covers_key op x.key) (sym (covers-key v op x) ∙ h)).0
+
+-- a command that covers a read acts on a file, and on something recoverable just where that file is
+covers-recoverable : (o : OpeningState) (v : ℕ) (op : Op) (x : UpdateRead) → covers v op x ≡ true → is_recoverable o op ≡ file_recoverable o (file_of op)
+covers-recoverable o v (Rewrite f k r) x h = refl
+covers-recoverable o v (Delete f k) x h = refl
+covers-recoverable o v (DeleteGeneric f p) x h = refl
+covers-recoverable o v (Write f k r) x h = absurd (false≢true h)
+covers-recoverable o v (ReadUpdate f k) x h = absurd (false≢true h)
+covers-recoverable o v (TsWrite q d) x h = absurd (false≢true h)
+covers-recoverable o v (TsRewrite q n d) x h = absurd (false≢true h)
+covers-recoverable o v (TsDelete q) x h = absurd (false≢true h)
+covers-recoverable o v (TdWrite q d) x h = absurd (false≢true h)
+covers-recoverable o v (TdRead q) x h = absurd (false≢true h)
+covers-recoverable o v (TdDelete q) x h = absurd (false≢true h)
+
+-- the same where it covers any
+pub covering-recoverable : (o : OpeningState) (v : ℕ) (op : Op) (xs : List UpdateRead) → list_any (covers v op) xs ≡ true →
+    is_recoverable o op ≡ file_recoverable o (file_of op)
+covering-recoverable o v op [] some = absurd (false≢true some)
+covering-recoverable o v op (x ∷ xs) some = elim (or_cases (covers v op x) (list_any (covers v op) xs) some) [
+  | inl here ↦ covers-recoverable o v op x here
+  | inr later ↦ covering-recoverable o v op xs later
+]
 
 -- where a unit has one read of a file at most, one that passes a test is the one that is found
 pub read_found : (test : Bytes → Bool) (xs : List UpdateRead) (v : ℕ) (f : Bytes) → AreOnce xs →
@@ -288,9 +312,9 @@ read_found test (x ∷ xs) v f once h =
     ]
 
 -- the reads that a command covers are the unit's read of its file, where it covers any
-module _ (v : ℕ) (op : Op) (file : is_file_op op ≡ true) (xs : List UpdateRead) (once : AreOnce xs) (some : list_any (covers v op) xs ≡ true) where
+module _ (v : ℕ) (op : Op) (xs : List UpdateRead) (once : AreOnce xs) (some : list_any (covers v op) xs ≡ true) where
   abbrev covered_found : (k : Bytes) × (read_at xs v (file_of op) ≡ Some k) × (covers_key op k ≡ true)
-  covered_found = read_found (covers_key op) xs v (file_of op) once (ap (λ p. list_any p xs) (λ i x. sym (covers-key v op file x) i) ∙ some)
+  covered_found = read_found (covers_key op) xs v (file_of op) once (ap (λ p. list_any p xs) (λ i x. sym (covers-key v op x) i) ∙ some)
 
   abbrev pub covered_key : Bytes
   covered_key = covered_found.0
@@ -302,13 +326,13 @@ module _ (v : ℕ) (op : Op) (file : is_file_op op ≡ true) (xs : List UpdateRe
   pub covered_is : OnEach (λ x. covers v op x ≡ true → (is_read_of v (file_of op) x && is_same x.key covered_key) ≡ true) xs
   covered_is = OnEach-map (λ x. is_read_of v (file_of op) x ≡ true → (is_read_of v (file_of op) x && is_same x.key covered_key) ≡ true)
       (λ x. covers v op x ≡ true → (is_read_of v (file_of op) x && is_same x.key covered_key) ≡ true)
-      (λ x h c. h (covers-own v op file x c)) xs (read_keys xs v (file_of op) covered_key once covered_at)
+      (λ x h c. h (covers-own v op x c)) xs (read_keys xs v (file_of op) covered_key once covered_at)
 
   -- and each read of that key is covered
   pub covered_all : (x : UpdateRead) → (is_read_of v (file_of op) x && is_same x.key covered_key) ≡ true → covers v op x ≡ true
   covered_all x h =
       let parts = and_parts (is_read_of v (file_of op) x) (is_same x.key covered_key) h in
-      covers-key v op file x ∙ and_from _ _ parts.0 (subst (λ l. covers_key op l ≡ true) (sym (is_same-eq x.key covered_key parts.1)) covered_found.2)
+      covers-key v op x ∙ and_from _ _ parts.0 (subst (λ l. covers_key op l ≡ true) (sym (is_same-eq x.key covered_key parts.1)) covered_found.2)
 
 -- the update reads of each unit and file stay one
 pub AreOnce-opened : (v : ℕ) (op : Op) (xs : List UpdateRead) →
@@ -335,13 +359,14 @@ AreOnce-dropped ends xs once = AreOnce-filter (λ x. not (ends x)) xs once
 -- ---- What they hold after a command
 
 module _ (o : OpeningState) (n : ℕ) (r : Resource) (v : ℕ) where
-  -- in a recoverable file the same
-  pub any_opened-recoverable : (op : Op) → is_file_op op ≡ true → file_recoverable o (file_of op) ≡ true → (xs : List UpdateRead) →
+  -- in a recoverable file the same, and by a command on a queue
+  pub any_opened-recoverable : (op : Op) → is_recoverable o op ≡ true → (xs : List UpdateRead) →
       list_any (by_read o n r) (opened v op (filter (λ x. not (covers v op x)) xs)) ≡ list_any (by_read o n r) xs
-  any_opened-recoverable op file rec xs = opens op rec (any_kept (by_read o n r) (covers v op) xs (λ x c.
-      by_read-recoverable o n r (file_of op) rec x (and_parts (eqb x.unit v) (is_same x.file (file_of op)) (covers-own v op file x c)).1))
+  any_opened-recoverable op rec xs = opens op rec (any_kept (by_read o n r) (covers v op) xs (λ x c.
+      by_read-recoverable o n r (file_of op) (sym (covers-recoverable o v op x c) ∙ rec) x
+      (and_parts (eqb x.unit v) (is_same x.file (file_of op)) (covers-own v op x c)).1))
     where
-      opens : (op : Op) → file_recoverable o (file_of op) ≡ true →
+      opens : (op : Op) → is_recoverable o op ≡ true →
           list_any (by_read o n r) (filter (λ x. not (covers v op x)) xs) ≡ list_any (by_read o n r) xs →
           list_any (by_read o n r) (opened v op (filter (λ x. not (covers v op x)) xs)) ≡ list_any (by_read o n r) xs
       opens (ReadUpdate f k) rec same =
@@ -352,13 +377,14 @@ module _ (o : OpeningState) (n : ℕ) (r : Resource) (v : ℕ) where
       opens op rec same = same
 
   -- in another file READ UPDATE holds its record more
-  pub any_opened-read : (op : Op) → is_read op ≡ true → file_recoverable o (file_of op) ≡ false → (xs : List UpdateRead) →
+  pub any_opened-read : (op : Op) → is_read op ≡ true → is_recoverable o op ≡ false → (xs : List UpdateRead) →
       list_any (by_read o n r) (opened v op (filter (λ x. not (covers v op x)) xs))
-      ≡ (((v == n) && is_one r (record_of (file_of op) (key_of op))) || list_any (by_read o n r) xs)
+      ≡ (((v == n) && list_any (is_one r) (uses_of o op)) || list_any (by_read o n r) xs)
   any_opened-read (ReadUpdate f k) reads local xs =
       any_with_read_more (by_read o n r) (record { unit = v; file = f; key = k }) (filter (λ x. not (covers v (ReadUpdate f k) x)) xs)
-      ∙ (λ i. by_read-local o n r v f k local (record { unit = v; file = f; key = k })
-      (and_from _ _ (and_from _ _ (eq-eqb v v refl) (is_same-self f)) (is_same-self k)) i
+      ∙ (λ i. (by_read-local o n r v f k local (record { unit = v; file = f; key = k })
+      (and_from _ _ (and_from _ _ (eq-eqb v v refl) (is_same-self f)) (is_same-self k))
+      ∙ ap (λ b. (v == n) && b) (sym (or-false (is_one r (record_of f k))))) i
       || any_kept (by_read o n r) (covers v (ReadUpdate f k)) xs (λ x c. absurd (false≢true c)) i)
   any_opened-read (DeleteGeneric f p) reads local xs = absurd (false≢true reads)
   any_opened-read (Write f k d) reads local xs = absurd (false≢true reads)

@@ -2,7 +2,7 @@
 use Rattle.std.proofs.Common.{◌≡◌, ℕ, Bool, true, false, ◌&&◌, ◌||◌, Option, List, [], ◌∷◌, ◌++◌, refl, ap, sym, subst, ◌∙◌, eqb, inl, inr}
 use Rattle.std.specs.Prelude.{if◌then◌else◌, ◌==◌, flat_map}
 use Rattle.std.specs.List.{list_any}
-use Rattle.std.proofs.Math.Bool.{or-false, and-true}
+use Rattle.std.proofs.Math.Bool.{or-false}
 use Rattle.std.proofs.lemmas.Bool.{true≢false, false≢true, and_parts, and_right, or_from, or_cases, false_from_ne_true}
 use Rattle.std.proofs.lemmas.List.Folds.{list_any-append}
 use Rattle.cics_names.specs.Keyed.{Bytes, is_same}
@@ -17,7 +17,7 @@ use Rattle.cics_history.specs.History.{outcome_of, is_open}
 use Rattle.cics_history.specs.Holding.{UnitsState, UpdateRead, EnqCount, uses_of, held_by_entry, held_by_read, held_by_count, held_by}
 use Rattle.cics_history.specs.Execution.{unit_or_next, reads_after, entered}
 use Rattle.cics_history.specs.Records.{is_file_op, file_of}
-use Rattle.cics_units.specs.TableInPlace.{record_of, resource_of}
+use Rattle.cics_units.specs.TableInPlace.{record_of}
 use Rattle.cics_history.specs.declared.ops.Op.{Op}
 use Rattle.cics_history.specs.declared.ops.Op.TheVariants.{Write, Rewrite, Delete, DeleteGeneric, ReadUpdate, TsWrite, TsRewrite, TsDelete, TdWrite, TdRead, TdDelete}
 use Rattle.cics_history.specs.declared.ops.Answer.{Answer}
@@ -158,23 +158,13 @@ module _ (s : UnitsState) (u : Option ℕ) (op : Op) (a : Answer) (n : ℕ) (p :
   pub by_entry-none : (is_normal a.condition && is_recoverable s.opening op) ≡ false → by_entry ≡ false
   by_entry-none none = ap (λ b. list_any p (if b then uses_of s.opening op else [])) (and_right (unit_or_next u s.outcomes == n) _ none)
 
-  -- a command on a recoverable file holds what it uses of it
-  pub by_entry-file : is_normal a.condition ≡ true → is_file_op op ≡ true → file_recoverable s.opening (file_of op) ≡ true →
-      by_entry ≡ ((unit_or_next u s.outcomes == n) && p (resource_of op))
-  by_entry-file normal file rec =
-      (λ i. list_any p (if (unit_or_next u s.outcomes == n) && (normal i && (recoverable_op s.opening op file ∙ rec) i) then uses op file i else []))
-      ∙ any_if_one p ((unit_or_next u s.outcomes == n) && true) (resource_of op)
-      ∙ ap (λ b. b && p (resource_of op)) (and-true (unit_or_next u s.outcomes == n))
+  -- a command on something recoverable holds what it uses of it
+  pub by_entry-held : is_normal a.condition ≡ true → is_recoverable s.opening op ≡ true →
+      by_entry ≡ ((unit_or_next u s.outcomes == n) && list_any p (uses_of s.opening op))
+  by_entry-held normal rec =
+      (λ i. list_any p (if (unit_or_next u s.outcomes == n) && (normal i && rec i) then uses_of s.opening op else []))
+      ∙ any_if_all (unit_or_next u s.outcomes == n)
     where
-      uses : (op : Op) → is_file_op op ≡ true → uses_of s.opening op ≡ resource_of op ∷ []
-      uses (Write f k d) h = refl
-      uses (Rewrite f k d) h = refl
-      uses (Delete f k) h = refl
-      uses (DeleteGeneric f q) h = refl
-      uses (ReadUpdate f k) h = refl
-      uses (TsWrite q d) h = absurd (false≢true h)
-      uses (TsRewrite q m d) h = absurd (false≢true h)
-      uses (TsDelete q) h = absurd (false≢true h)
-      uses (TdWrite q d) h = absurd (false≢true h)
-      uses (TdRead q) h = absurd (false≢true h)
-      uses (TdDelete q) h = absurd (false≢true h)
+      any_if_all : (b : Bool) → list_any p (if b && true then uses_of s.opening op else []) ≡ (b && list_any p (uses_of s.opening op))
+      any_if_all true = refl
+      any_if_all false = refl

@@ -18,6 +18,7 @@ pub mod HeldSums
 mod Unprefixed
 pub mod TableChanges
 pub mod HeldOver
+pub mod UsesInTable
 pub mod TableInPlace
 pub mod Plain
 pub mod PlainOpening
@@ -30,6 +31,7 @@ pub mod StoreMatched
 mod StoreExamples
 pub mod StoreQueues
 pub mod StoreInPlace
+pub mod Awaiting
 pub mod StoreCommitted
 pub mod StoreBackedOut
 pub mod StoreExecuted

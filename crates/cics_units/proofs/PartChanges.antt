@@ -1,5 +1,5 @@
 -- What the table of enqueues and the update reads are after a change of the parts.
-use Rattle.std.specs.Prelude.{◌≡◌, ℕ, ◌+◌, Bool, true, false, not, cond, ◌&&◌, ◌||◌, if◌then◌else◌, T, Option, Some, None, is_some, is_none, option_map, filter, List, [], ◌∷◌, refl}
+use Rattle.std.specs.Prelude.{◌≡◌, ℕ, ◌+◌, Bool, true, false, not, cond, ◌&&◌, ◌||◌, if◌then◌else◌, T, Option, Some, None, is_some, option_map, filter, List, [], ◌∷◌, refl}
 use Rattle.std.proofs.Common.{sym, ap, ◌∙◌, subst, eqb, inl, inr}
 use Rattle.std.specs.List.{list_any}
 use Rattle.std.specs.declared.cmp.Ordering.TheVariants.{Less, Equal, Greater}
@@ -18,7 +18,7 @@ use Rattle.cics_history.specs.Holding.{UpdateRead}
 use Rattle.cics_history.specs.Execution.{is_read_of, read_at, covers}
 use Rattle.cics_ksds.specs.Prefixes.{has_prefix}
 use Rattle.cics_units.specs.OpenReads.{is_read_key, is_read_under}
-use Rattle.cics_history.specs.Records.{is_file_op, file_of}
+use Rattle.cics_history.specs.Records.{file_of}
 use Rattle.cics_units.specs.TableInPlace.{AreOnce, covered_read}
 use Rattle.cics_history.specs.declared.ops.Op.{Op}
 use Rattle.cics_history.specs.declared.ops.Op.TheVariants.{Write, Rewrite, Delete, DeleteGeneric, ReadUpdate, TsWrite, TsRewrite, TsDelete, TdWrite, TdRead, TdDelete}
@@ -104,48 +104,42 @@ held_own t r u free some = by (holder_of r t) refl some
     by None at is = absurd (false≢true is)
     by (Some v) at is = at ∙ ap Some (free_own t r u free v at)
 
--- what was taken for a command that then found no memory is given back, where nobody held it before
-pub let_go-taken : (t : Table) (r : Resource) (u : ℕ) (was_free : Bool) → T (is_in_order t) → is_user r ≡ false → IsFreeFor t r u →
-    was_free ≡ is_none (holder_of r t) → (if was_free then given_back (taken t r u) r u else taken t r u) ≡ t
-let_go-taken t r u true rises plain free none = given_back-taken t r u rises (nothing (held_at r t) (sym none))
+-- what nobody held is free again once it is taken and given back
+pub taken-let_go : (t : Table) (r : Resource) (u : ℕ) → T (is_in_order t) → is_some (holder_of r t) ≡ false → given_back (taken t r u) r u ≡ t
+taken-let_go t r u rises none = given_back-taken t r u rises (nothing (held_at r t) none)
   where
-    nothing : (o : Option Held) → is_none (option_map (λ h. h.unit) o) ≡ true → o ≡ None
+    nothing : (o : Option Held) → is_some (option_map (λ h. h.unit) o) ≡ false → o ≡ None
     nothing None e = refl
-    nothing (Some h) e = absurd (false≢true e)
-let_go-taken t r u false rises plain free some = taken-held t r u rises (held_own t r u free (someone (holder_of r t) (sym some))) plain
-  where
-    someone : (o : Option ℕ) → is_none o ≡ false → is_some o ≡ true
-    someone None e = absurd (true≢false e)
-    someone (Some v) e = refl
+    nothing (Some h) e = absurd (true≢false e)
 
--- a command on a file that is no REWRITE, no DELETE and no DELETE GENERIC covers no read
+-- a command that is no REWRITE, no DELETE and no DELETE GENERIC covers no read
 module _ (u : ℕ) where
   covers-false : (op : Op) → ((f k r : Bytes) → op ≡ Rewrite f k r → ⊥) → ((f k : Bytes) → op ≡ Delete f k → ⊥) →
-      ((f p : Bytes) → op ≡ DeleteGeneric f p → ⊥) → is_file_op op ≡ true → (r : UpdateRead) → covers u op r ≡ false
-  covers-false (Write f k x) no_rewrite no_delete no_generic file r = refl
-  covers-false (Rewrite f k x) no_rewrite no_delete no_generic file r = absurd (no_rewrite f k x refl)
-  covers-false (Delete f k) no_rewrite no_delete no_generic file r = absurd (no_delete f k refl)
-  covers-false (DeleteGeneric f p) no_rewrite no_delete no_generic file r = absurd (no_generic f p refl)
-  covers-false (ReadUpdate f k) no_rewrite no_delete no_generic file r = refl
-  covers-false (TsWrite q d) no_rewrite no_delete no_generic file r = refl
-  covers-false (TsRewrite q n d) no_rewrite no_delete no_generic file r = refl
-  covers-false (TsDelete q) no_rewrite no_delete no_generic file r = refl
-  covers-false (TdWrite q d) no_rewrite no_delete no_generic file r = refl
-  covers-false (TdRead q) no_rewrite no_delete no_generic file r = refl
-  covers-false (TdDelete q) no_rewrite no_delete no_generic file r = refl
+      ((f p : Bytes) → op ≡ DeleteGeneric f p → ⊥) → (r : UpdateRead) → covers u op r ≡ false
+  covers-false (Write f k x) no_rewrite no_delete no_generic r = refl
+  covers-false (Rewrite f k x) no_rewrite no_delete no_generic r = absurd (no_rewrite f k x refl)
+  covers-false (Delete f k) no_rewrite no_delete no_generic r = absurd (no_delete f k refl)
+  covers-false (DeleteGeneric f p) no_rewrite no_delete no_generic r = absurd (no_generic f p refl)
+  covers-false (ReadUpdate f k) no_rewrite no_delete no_generic r = refl
+  covers-false (TsWrite q d) no_rewrite no_delete no_generic r = refl
+  covers-false (TsRewrite q n d) no_rewrite no_delete no_generic r = refl
+  covers-false (TsDelete q) no_rewrite no_delete no_generic r = refl
+  covers-false (TdWrite q d) no_rewrite no_delete no_generic r = refl
+  covers-false (TdRead q) no_rewrite no_delete no_generic r = refl
+  covers-false (TdDelete q) no_rewrite no_delete no_generic r = refl
 
   pub uncovered_any : (op : Op) (reads : List UpdateRead) → ((f k r : Bytes) → op ≡ Rewrite f k r → ⊥) → ((f k : Bytes) → op ≡ Delete f k → ⊥) →
-      ((f p : Bytes) → op ≡ DeleteGeneric f p → ⊥) → is_file_op op ≡ true → list_any (covers u op) reads ≡ false
-  uncovered_any op reads no_rewrite no_delete no_generic file =
-      ap (λ p. list_any p reads) (λ i r. covers-false op no_rewrite no_delete no_generic file r i) ∙ any_never reads
+      ((f p : Bytes) → op ≡ DeleteGeneric f p → ⊥) → list_any (covers u op) reads ≡ false
+  uncovered_any op reads no_rewrite no_delete no_generic =
+      ap (λ p. list_any p reads) (λ i r. covers-false op no_rewrite no_delete no_generic r i) ∙ any_never reads
 
 -- where a command covers a read, the reads of its unit in its file are those that it covers
-module _ (u : ℕ) (op : Op) (file : is_file_op op ≡ true) where
+module _ (u : ℕ) (op : Op) where
   same_test : (x : UpdateRead) → (is_read_of u (file_of op) x ≡ true → covers u op x ≡ true) → is_read_of u (file_of op) x ≡ covers u op x
   same_test x all =
       elim (cases_Bool (is_read_of u (file_of op) x)) [
         | inl own ↦ own ∙ sym (all own)
-        | inr other ↦ other ∙ sym (false_from_ne_true _ (λ c. true≢false (sym (covers-own u op file x c) ∙ other)))
+        | inr other ↦ other ∙ sym (false_from_ne_true _ (λ c. true≢false (sym (covers-own u op x c) ∙ other)))
       ]
 
   same_rest : (xs : List UpdateRead) → OnEach (λ x. is_read_of u (file_of op) x ≡ true → covers u op x ≡ true) xs →
@@ -156,10 +150,10 @@ module _ (u : ℕ) (op : Op) (file : is_file_op op ≡ true) where
   pub covered_rest : (reads : List UpdateRead) → AreOnce reads → list_any (covers u op) reads ≡ true →
       filter (λ x. not (is_read_of u (file_of op) x)) reads ≡ filter (λ x. not (covers u op x)) reads
   covered_rest reads once some =
-      let key = covered_key u op file reads once some in
+      let key = covered_key u op reads once some in
       same_rest reads (OnEach-map (λ x. is_read_of u (file_of op) x ≡ true → (is_read_of u (file_of op) x && is_same x.key key) ≡ true)
-      (λ x. is_read_of u (file_of op) x ≡ true → covers u op x ≡ true) (λ x h own. covered_all u op file reads once some x (h own))
-      reads (read_keys reads u (file_of op) key once (covered_at u op file reads once some)))
+      (λ x. is_read_of u (file_of op) x ≡ true → covers u op x ≡ true) (λ x h own. covered_all u op reads once some x (h own))
+      reads (read_keys reads u (file_of op) key once (covered_at u op reads once some)))
 
 -- the key of the read that a command covers is the one that its unit has read in the file
 pub covered_some : (u : ℕ) (op : Op) (reads : List UpdateRead) (k : Bytes) → covered_read u op reads ≡ Some k → read_at reads u (file_of op) ≡ Some k

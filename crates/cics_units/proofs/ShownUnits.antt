@@ -19,10 +19,10 @@ use Rattle.cics_names.specs.Keyed.{Bytes, Map, value_at}
 use Rattle.cics_names.specs.declared.conditions.Condition.{Condition}
 use Rattle.cics_names.specs.declared.conditions.Condition.TheVariants.{Normal}
 use Rattle.cics_ksds.specs.Files.{FileValue}
-use Rattle.cics_enqueue.specs.Resources.{Table, holder_over, released}
+use Rattle.cics_enqueue.specs.Resources.{Table, released}
 use Rattle.cics_enqueue.specs.declared.resources.Resource.{Resource}
 use Rattle.cics_history.specs.Openings.{OpeningState, file_recoverable}
-use Rattle.cics_history.specs.Store.{Store, apply, apply_write, apply_rewrite, apply_delete, apply_delete_generic, counted_answer, is_normal}
+use Rattle.cics_history.specs.Store.{Store, apply, apply_write, apply_rewrite, apply_delete, apply_delete_generic, counted_answer, is_normal, is_recoverable}
 use Rattle.cics_history.specs.Holding.{UnitsState, UpdateRead, store_of, awaited}
 use Rattle.cics_history.specs.Execution.{execution, done_of, state_of, has_read, IsOpenUnit, IsOpenOrNone, unit_or_next, outcomes_with, reads_after, is_read_of, read_at, entered, after_execution, after_unlock, after_end, is_ready_op}
 use Rattle.cics_history.specs.Headline.{beginning}
@@ -32,7 +32,8 @@ use Rattle.cics_history.specs.Undo.{changes, images_under, images_by}
 use Rattle.cics_units.specs.FilesImagesLaws as files
 use Rattle.cics_units.specs.Matching.{store_of_files, AreKept as KeptChanges}
 use Rattle.cics_history.specs.Records.{is_file_op, file_of, key_of}
-use Rattle.cics_units.specs.TableInPlace.{is_read, resource_of, counts_in, table_changed, table_executed, table_given_back}
+use Rattle.cics_units.specs.Uses.{uses_if, holder_over_all}
+use Rattle.cics_units.specs.TableInPlace.{is_read, counts_in, table_changed, table_executed, table_given_back}
 use Rattle.cics_units.specs.Parts.{UndoableValue, PartsValue, AreExecuted, ArePartsKept, is_recoverable_in, AreImagesAfter, AreChanged, leaves}
 use Rattle.cics_units.specs.KeptUnits.{state_shown, AreKept}
 use Rattle.cics_history.specs.declared.ops.Op.{Op}
@@ -45,9 +46,9 @@ use Rattle.std.proofs.lemmas.Bool.{true≢false, false_from_ne_true}
 use Rattle.cics_ksds.proofs.UnderPrefix.{prefix_itself}
 use Rattle.cics_history.proofs.Generic.{normal-generic}
 use Rattle.cics_history.proofs.Joining.{apply-answer, read_only}
-use Rattle.cics_units.proofs.HeldOver.{table_holder}
+use Rattle.cics_units.proofs.HeldSums.{recoverable_op}
 use Rattle.cics_units.proofs.MadeImages.{images_by-one}
-use Rattle.cics_units.proofs.TableInPlace.{awaited-file}
+use Rattle.cics_units.proofs.UsesInTable.{awaited-uses_file}
 use Rattle.cics_units.proofs.KeptUnits.{kept_roomier, recoverable_alike, store_is, is_entered, next_none, kept_executed, kept_unlocked}
 
 -- a unit that is open has begun and not ended
@@ -282,20 +283,23 @@ module _ (o : OpeningState) (trace : List Entry) (outcomes : List UnitState) (p 
       (rw (entries_same, outs_same) (kept_roomier state_before p.stores p.table is new.stores same.stores.files same.stores.kept same.stores.longer)))
 
   module _ (u : Option ℕ) (op : Op) (file : is_file_op op ≡ true) where
-    abbrev asked : Resource
-    asked = resource_of op
+    abbrev pub asked : List Resource
+    asked = uses_if (is_recoverable_in (value_at (file_of op) p.stores.files)) op
 
-    -- a command waits for the other unit that the table has as the holder of its record
-    pub awaited_is : awaited state_before u op ≡ holder_over asked u p.table
-    awaited_is = awaited-file state_before u op file ∙ table_holder state_before p.table is.sound is.table u asked
+    -- a command waits for the other unit that the table has in the way of what it uses
+    awaited_is : awaited state_before u op ≡ holder_over_all asked u p.table
+    awaited_is =
+        awaited-uses_file state_before p.table is.sound is.table u op file
+        ∙ ap (λ b. holder_over_all (uses_if b op) u p.table)
+        (recoverable_op o op file ∙ sym (recoverable_alike state_before p.stores p.table is (file_of op)))
 
-    pub waits : (h : ℕ) → holder_over asked u p.table ≡ Some h → MustWait h ≡ execution state_before u op
+    pub waits : (h : ℕ) → holder_over_all asked u p.table ≡ Some h → MustWait h ≡ execution state_before u op
     waits h held = sym (ap (done_of state_before u op) (awaited_is ∙ held))
 
-    pub waits_unchanged : (h : ℕ) → holder_over asked u p.table ≡ Some h → state_before ≡ after_execution state_before u op
+    pub waits_unchanged : (h : ℕ) → holder_over_all asked u p.table ≡ Some h → state_before ≡ after_execution state_before u op
     waits_unchanged h held = sym (ap (state_of state_before u op) (awaited_is ∙ held))
 
-    module _ (acts : may_act state_before u ≡ true) (none : holder_over asked u p.table ≡ None) (ready : is_ready_op state_before u op ≡ true) (short : length (key_of op) ≤ 255)
+    module _ (acts : may_act state_before u ≡ true) (none : holder_over_all asked u p.table ≡ None) (ready : is_ready_op state_before u op ≡ true) (short : length (key_of op) ≤ 255)
         (answer : Answer) (right : answer ≡ (apply (store_of_files p.stores.files) op).answer) (done : AreExecuted p new (unit_or_next u outcomes) op answer.condition) where
       free : awaited state_before u op ≡ None
       free = awaited_is ∙ none
@@ -311,8 +315,9 @@ module _ (o : OpeningState) (trace : List Entry) (outcomes : List UnitState) (p 
         where
           by : (b : Bool) →
               (if b then table_changed (is_recoverable_in (value_at (file_of op) p.stores.files)) (unit_or_next u outcomes) op p.reads p.table else p.table)
-              ≡ (if not b then p.table else table_changed (file_recoverable o (file_of op)) (unit_or_next u outcomes) op p.reads p.table)
-          by true = ap (λ r. table_changed r (unit_or_next u outcomes) op p.reads p.table) (recoverable_alike state_before p.stores p.table is (file_of op))
+              ≡ (if not b then p.table else table_changed (is_recoverable o op) (unit_or_next u outcomes) op p.reads p.table)
+          by true = ap (λ r. table_changed r (unit_or_next u outcomes) op p.reads p.table)
+              (recoverable_alike state_before p.stores p.table is (file_of op) ∙ sym (recoverable_op o op file))
           by false = refl
 
       right_then : answer ≡ (apply (store_of_files done.roomy.files) op).answer

@@ -1,19 +1,20 @@
 -- What the table of enqueues becomes where a unit holds a record more, a record less, or nothing any more.
 use Rattle.std.proofs.Common.{◌≡◌, ℕ, ◌≤◌, Bool, true, false, cond, ◌&&◌, ◌||◌, not, Option, Some, None, List, [], ◌∷◌, ◌-◌, length, refl, ap, sym, ◌∙◌, eqb, ltb}
-use Rattle.std.specs.Prelude.{if◌then◌else◌, ◌==◌, All, filter}
+use Rattle.std.specs.Prelude.{if◌then◌else◌, ◌==◌, T, nat_le, All, filter}
 use Rattle.std.specs.List.{list_any}
 use Rattle.std.specs.FinMap as map_by
 use Rattle.std.specs.declared.cmp.Ordering.TheVariants.{Less, Equal, Greater}
 use Rattle.std.specs.FinMap.Entries.{by_order}
 use Rattle.std.proofs.Math.Bool.{or-false, and-true, and-false}
-use Rattle.std.proofs.lemmas.Bool.{true≢false, eq-eqb, eqb-true}
+use Rattle.std.proofs.lemmas.Bool.{true≢false, eq-eqb, eqb-true, or_parts}
 use Rattle.cics_names.specs.Keyed.{Bytes}
-use Rattle.cics_enqueue.specs.Resources.{Table, Held, is_one, resource_cmp, held_at, holder_of, is_user, IsFreeFor, with_holder, freed, taken, given_back, given_back_of, raised_count, released}
+use Rattle.cics_enqueue.specs.Resources.{Table, Held, is_one, resource_cmp, held_at, holder_of, count_of, is_user, is_in_order, IsFreeFor, with_holder, freed, taken, given_back, given_back_of, raised_count, released}
 use Rattle.cics_enqueue.specs.ResourceLaws.{free_own, is_one-eq, same_resources}
 use Rattle.cics_enqueue.proofs.TableLaws.{holder_without, holder_of-taken, holder_of-given_back, holder_of-released, once-taken, once-given_back, once-released, is_in_order-taken, is_in_order-given_back, is_in_order-released}
 use Rattle.cics_enqueue.specs.declared.resources.Resource.{Resource}
 use Rattle.cics_enqueue.specs.declared.resources.Resource.TheVariants.{FileKey, TsQueue, TdRead as ReadingEnd, TdWrite as WritingEnd, User, FilePrefix}
 use Rattle.cics_history.specs.Holding.{UnitsState, EnqCount, held_by}
+use Rattle.cics_units.specs.Uses.{taken_all, AreFreeFor}
 use Rattle.cics_units.specs.TableInPlace.{record_of, is_holder, counted_before, counts_in, AreOnce, IsTableOf}
 
 -- ---- The counts of values
@@ -105,6 +106,71 @@ without_is n v (Some w) =
     apart true false h = refl
     apart false b h = refl
 
+-- what a unit takes, where it is free, is held by that unit too
+is_holder-taken : (t : Table) (q : Resource) (v : ℕ) → IsFreeFor t q v → (r : Resource) (n : ℕ) →
+    is_holder n (holder_of r (taken t q v)) ≡ (is_holder n (holder_of r t) || ((v == n) && is_one r q))
+is_holder-taken t q v free r n =
+    ap (is_holder n) (holder_of-taken t q v r)
+    ∙ elim (is_one r q) as (λ b. is_one r q ≡ b →
+    is_holder n (if b then Some v else holder_of r t) ≡ (is_holder n (holder_of r t) || ((v == n) && b))) [
+      | true ↦ λ one. sym (own (holder_of r t) (λ w at. free_own t q v free w (ap (λ x. holder_of x t) (sym (is_one-eq r q one)) ∙ at)))
+      | false ↦ λ other. sym (ap (λ b. is_holder n (holder_of r t) || b) (and-false (v == n)) ∙ or-false (is_holder n (holder_of r t)))
+    ] refl
+  where
+    either : (b : Bool) → (b || (b && true)) ≡ b
+    either true = refl
+    either false = refl
+
+    own : (h : Option ℕ) → ((w : ℕ) → h ≡ Some w → w ≡ v) → (is_holder n h || ((v == n) && true)) ≡ (v == n)
+    own None only = and-true (v == n)
+    own (Some w) only = ap (λ z. (z == n) || ((v == n) && true)) (only w refl) ∙ either (v == n)
+
+-- what a unit takes stands in no way of its own
+pub free-taken : (t : Table) (q x : Resource) (v : ℕ) → IsFreeFor t x v → IsFreeFor (taken t q v) x v
+free-taken t q x v free = λ r w meets at.
+    elim (is_one r q) as (λ b. (if b then Some v else holder_of r t) ≡ Some w → w ≡ v) [
+      | true ↦ λ is. same is
+      | false ↦ λ is. free r w meets is
+    ] (sym (holder_of-taken t q v r) ∙ at)
+  where
+    same : {w : ℕ} → Some v ≡ Some w → w ≡ v
+    same e = cc
+
+free-taken_all : (t : Table) (q : Resource) (v : ℕ) (qs : List Resource) → AreFreeFor t qs v → AreFreeFor (taken t q v) qs v
+free-taken_all t q v [] free = tt
+free-taken_all t q v (x ∷ xs) free = (free-taken t q x v free.0, free-taken_all t q v xs free.1)
+
+-- what a unit takes one after another
+is_holder-taken_all : (t : Table) (v : ℕ) (qs : List Resource) → AreFreeFor t qs v → (r : Resource) (n : ℕ) →
+    is_holder n (holder_of r (taken_all t v qs)) ≡ (is_holder n (holder_of r t) || ((v == n) && list_any (is_one r) qs))
+is_holder-taken_all t v [] free r n =
+    sym (ap (λ b. is_holder n (holder_of r t) || b) (and-false (v == n)) ∙ or-false (is_holder n (holder_of r t)))
+is_holder-taken_all t v (q ∷ qs) free r n =
+    is_holder-taken_all (taken t q v) v qs (free-taken_all t q v qs free.1) r n
+    ∙ ap (λ b. b || ((v == n) && list_any (is_one r) qs)) (is_holder-taken t q v free.0 r n)
+    ∙ both (is_holder n (holder_of r t)) (v == n) (is_one r q) (list_any (is_one r) qs)
+  where
+    both : (a b c d : Bool) → ((a || (b && c)) || (b && d)) ≡ (a || (b && (c || d)))
+    both true b c d = refl
+    both false true c d = refl
+    both false false c d = refl
+
+once-taken_all : (t : Table) (v : ℕ) (qs : List Resource) (r : Resource) → is_user r ≡ false →
+    nat_le (count_of r t) 1 ≡ true → nat_le (count_of r (taken_all t v qs)) 1 ≡ true
+once-taken_all t v [] r other single = single
+once-taken_all t v (q ∷ qs) r other single = once-taken_all (taken t q v) v qs r other (once-taken t q v r other single)
+
+is_in_order-taken_all : (t : Table) (v : ℕ) (qs : List Resource) → T (is_in_order t) → T (is_in_order (taken_all t v qs))
+is_in_order-taken_all t v [] rises = rises
+is_in_order-taken_all t v (q ∷ qs) rises = is_in_order-taken_all (taken t q v) v qs (is_in_order-taken t q v rises)
+
+counts_in-taken_all : (t : Table) (v : ℕ) (qs : List Resource) → list_any is_user qs ≡ false → counts_in (taken_all t v qs) ≡ counts_in t
+counts_in-taken_all t v [] plain = refl
+counts_in-taken_all t v (q ∷ qs) plain =
+    let each = or_parts (is_user q) (list_any is_user qs) plain in
+    counts_in-taken_all (taken t q v) v qs each.1
+    ∙ counts_in-put q each.0 (record { unit = v; count = raised_count q (held_at q t) }) t
+
 module _ (s next : UnitsState) (t : Table) (k : IsTableOf s t) (once : AreOnce next.reads)
     (keys : All (λ r. length r.key ≤ 255) next.reads) where
   -- where the units hold the same, the table stays
@@ -120,34 +186,21 @@ module _ (s next : UnitsState) (t : Table) (k : IsTableOf s t) (once : AreOnce n
     keys = keys;
   }
 
-  -- where a unit holds more what is free and no value, it takes it
-  pub table_taken : next.counts ≡ s.counts → (v : ℕ) (q : Resource) → is_user q ≡ false → IsFreeFor t q v →
+  -- where a unit holds more what is free and no value, it takes that
+  pub table_taken : next.counts ≡ s.counts → (v : ℕ) (qs : List Resource) → list_any is_user qs ≡ false → AreFreeFor t qs v →
       ((r : Resource) (n : ℕ) → list_any (is_one r) (held_by next n)
-      ≡ (list_any (is_one r) (held_by s n) || ((v == n) && is_one r q))) →
-      IsTableOf next (taken t q v)
-  table_taken counts v q plain free held = record {
+      ≡ (list_any (is_one r) (held_by s n) || ((v == n) && list_any (is_one r) qs))) →
+      IsTableOf next (taken_all t v qs)
+  table_taken counts v qs plain free held = record {
     holders = λ r n. held r n
-        ∙ ap (λ b. b || ((v == n) && is_one r q)) (k.holders r n)
-        ∙ elim (is_one r q) as (λ b. is_one r q ≡ b →
-        (is_holder n (holder_of r t) || ((v == n) && b)) ≡ is_holder n (if b then Some v else holder_of r t)) [
-          | true ↦ λ one. own n (holder_of r t) (λ w at. free_own t q v free w (ap (λ x. holder_of x t) (sym (is_one-eq r q one)) ∙ at))
-          | false ↦ λ other. ap (λ b. is_holder n (holder_of r t) || b) (and-false (v == n)) ∙ or-false (is_holder n (holder_of r t))
-        ] refl
-        ∙ sym (ap (is_holder n) (holder_of-taken t q v r));
-    single = λ r other. once-taken t q v r other (k.single r other);
-    in_order = is_in_order-taken t q v k.in_order;
-    counts = counts ∙ k.counts ∙ sym (counts_in-put q plain (record { unit = v; count = raised_count q (held_at q t) }) t);
+        ∙ ap (λ b. b || ((v == n) && list_any (is_one r) qs)) (k.holders r n)
+        ∙ sym (is_holder-taken_all t v qs free r n);
+    single = λ r other. once-taken_all t v qs r other (k.single r other);
+    in_order = is_in_order-taken_all t v qs k.in_order;
+    counts = counts ∙ k.counts ∙ sym (counts_in-taken_all t v qs plain);
     once = once;
     keys = keys;
   }
-    where
-      either : (b : Bool) → (b || (b && true)) ≡ b
-      either true = refl
-      either false = refl
-
-      own : (n : ℕ) (h : Option ℕ) → ((w : ℕ) → h ≡ Some w → w ≡ v) → (is_holder n h || ((v == n) && true)) ≡ (v == n)
-      own n None only = and-true (v == n)
-      own n (Some w) only = ap (λ z. (z == n) || ((v == n) && true)) (only w refl) ∙ either (v == n)
 
   -- where a unit holds a record less, it gives it back
   pub table_given : next.counts ≡ s.counts → (v : ℕ) (f l : Bytes) →

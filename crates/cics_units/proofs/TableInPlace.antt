@@ -1,5 +1,5 @@
 -- The table of enqueues and the open update reads tell who holds what, as the history does.
-use Rattle.std.proofs.Common.{◌≡◌, ◌≢◌, ℕ, ◌≤◌, Bool, true, false, ◌&&◌, ◌||◌, not, Option, Some, None, is_some, [], ◌∷◌, length, refl, ap, sym, subst, ◌∙◌, eqb, ltb, inl, inr, arith}
+use Rattle.std.proofs.Common.{◌≡◌, ◌≢◌, ℕ, ◌≤◌, Bool, true, false, ◌&&◌, ◌||◌, not, Option, Some, None, is_some, List, [], ◌∷◌, length, refl, ap, sym, subst, ◌∙◌, eqb, ltb, inl, inr, arith}
 use Rattle.std.specs.Prelude.{if◌then◌else◌, ◌==◌, All, filter, slice_set}
 use Rattle.std.specs.List.{list_any}
 use Rattle.std.proofs.Math.Bool.{or-false, and-true, and-false}
@@ -8,18 +8,19 @@ use Rattle.std.proofs.lemmas.Option.{unwrap_or-slice_get}
 use Rattle.std.proofs.lemmas.List.{get_or-set_same}
 use Rattle.std.proofs.lemmas.List.Elements.{All-nil, All-filter}
 use Rattle.cics_names.specs.Keyed.{Bytes, is_same}
-use Rattle.cics_enqueue.specs.Resources.{Table, bytes_of, is_one, is_user, IsFreeFor, taken, given_back, released}
+use Rattle.cics_enqueue.specs.Resources.{Table, bytes_of, is_one, is_user, given_back, released}
 use Rattle.cics_enqueue.specs.declared.resources.Resource.{Resource}
 use Rattle.cics_enqueue.specs.declared.resources.Resource.TheVariants.{User}
 use Rattle.cics_history.specs.Openings.{OpeningState, file_recoverable}
-use Rattle.cics_history.specs.Store.{is_normal, is_recoverable}
+use Rattle.cics_history.specs.Store.{apply, is_normal, is_recoverable}
 use Rattle.cics_history.specs.History.{outcome_of, is_open}
-use Rattle.cics_history.specs.Holding.{UnitsState, UpdateRead, EnqCount, held_by, held_by_count, held_table, first_holder, first_some, awaited}
-use Rattle.cics_history.specs.Execution.{unit_or_next, is_read_of, read_at, covers, opened, reads_after, entered, after_unlock, after_end, is_ready_op}
+use Rattle.cics_history.specs.Holding.{UnitsState, UpdateRead, EnqCount, store_of, uses_of, held_by, held_by_count, held_table, first_holder, first_some, awaited}
+use Rattle.cics_history.specs.Execution.{unit_or_next, is_read_of, read_at, covers, opened, reads_after, entered, state_of, after_execution, after_unlock, after_end, is_ready_op}
 use Rattle.cics_history.specs.Headline.{beginning}
 use Rattle.cics_history.specs.Events.{is_live, may_act}
 use Rattle.cics_history.specs.Isolation.{IsSound}
 use Rattle.cics_history.specs.Records.{is_file_op, file_of, key_of}
+use Rattle.cics_units.specs.Uses.{uses_if, taken_all, AreFreeFor}
 use Rattle.cics_units.specs.TableInPlace.{record_of, resource_of, is_read, AreOnce, IsTableOf, table_given_back, table_executed, table_unlocked}
 use Rattle.cics_history.specs.declared.ops.Op.{Op}
 use Rattle.cics_history.specs.declared.ops.Op.TheVariants.{Write, Rewrite, Delete, DeleteGeneric, ReadUpdate, TsWrite, TsRewrite, TsDelete, TdWrite, TdRead, TdDelete}
@@ -29,10 +30,10 @@ use Rattle.cics_history.specs.declared.ops.UnitState.TheVariants.{Open}
 use Rattle.cics_history.proofs.Waiting.{any_more}
 use Rattle.cics_history.proofs.States.{acting_open}
 use Rattle.cics_history.proofs.Outcomes.{outcome_of-set}
-use Rattle.cics_units.proofs.HeldReads.{any_kept, filter_none, none_read, read_keys, by_read, by_read-is, by_read-recoverable, any_ended, covered_key, covered_at, covered_is, covered_all, AreOnce-opened, All-opened, AreOnce-dropped, any_opened-recoverable, any_opened-read, any_opened-none}
+use Rattle.cics_units.proofs.HeldReads.{any_kept, filter_none, none_read, read_keys, by_read, by_read-is, by_read-recoverable, any_ended, covering-recoverable, covered_key, covered_at, covered_is, covered_all, AreOnce-opened, All-opened, AreOnce-dropped, any_opened-recoverable, any_opened-read, any_opened-none}
 use Rattle.cics_units.proofs.TableChanges.{table_same, table_taken, table_given, table_released}
-use Rattle.cics_units.proofs.HeldOver.{table_holder, table_free}
-use Rattle.cics_units.proofs.HeldSums.{in_entries, in_reads, in_counts, held_sum, entries_apart, counts_apart, entered_sum, by_entry-none, by_entry-file, recoverable_op}
+use Rattle.cics_units.proofs.UsesInTable.{uses_alike, uses_plain, uses_free}
+use Rattle.cics_units.proofs.HeldSums.{in_entries, in_reads, in_counts, held_sum, entries_apart, counts_apart, entered_sum, by_entry-none, by_entry-held}
 
 -- ---- At the beginning
 
@@ -71,34 +72,6 @@ awaited-file s u op = by_file op
     by_file (TdRead q) h = absurd (false≢true h)
     by_file (TdDelete q) h = absurd (false≢true h)
 
--- what it uses is no value
-pub used_plain : (op : Op) → is_user (resource_of op) ≡ false
-used_plain (DeleteGeneric f p) = refl
-used_plain (Write f k d) = refl
-used_plain (Rewrite f k d) = refl
-used_plain (Delete f k) = refl
-used_plain (ReadUpdate f k) = refl
-used_plain (TsWrite q d) = refl
-used_plain (TsRewrite q n d) = refl
-used_plain (TsDelete q) = refl
-used_plain (TdWrite q d) = refl
-used_plain (TdRead q) = refl
-used_plain (TdDelete q) = refl
-
--- READ UPDATE uses its record
-read_uses : (op : Op) → is_read op ≡ true → record_of (file_of op) (key_of op) ≡ resource_of op
-read_uses (ReadUpdate f k) h = refl
-read_uses (DeleteGeneric f p) h = absurd (false≢true h)
-read_uses (Write f k d) h = absurd (false≢true h)
-read_uses (Rewrite f k d) h = absurd (false≢true h)
-read_uses (Delete f k) h = absurd (false≢true h)
-read_uses (TsWrite q d) h = absurd (false≢true h)
-read_uses (TsRewrite q n d) h = absurd (false≢true h)
-read_uses (TsDelete q) h = absurd (false≢true h)
-read_uses (TdWrite q d) h = absurd (false≢true h)
-read_uses (TdRead q) h = absurd (false≢true h)
-read_uses (TdDelete q) h = absurd (false≢true h)
-
 -- ---- A command
 
 -- what a unit holds more, and the sum of what it held
@@ -136,17 +109,20 @@ read_less true entries reads counts true e c =
     ∙ (λ i. (e refl i || false) || c refl i) ∙ sym (and-false ((entries || reads) || counts))
 
 module _ (s : UnitsState) (t : Table) (u : Option ℕ) (op : Op) (a : Answer) (i : IsSound s) (k : IsTableOf s t)
-    (acts : may_act s u ≡ true) (file : is_file_op op ≡ true) (free : awaited s u op ≡ None)
+    (acts : may_act s u ≡ true) (free : awaited s u op ≡ None)
     (ready : is_ready_op s u op ≡ true) (short : length (key_of op) ≤ 255) where
   -- the unit that acts, and what its command uses
   abbrev acting : ℕ
   acting = unit_or_next u s.outcomes
 
-  abbrev asked : Resource
-  asked = resource_of op
+  abbrev asked : List Resource
+  asked = uses_of s.opening op
 
-  free_record : IsFreeFor t asked acting
-  free_record = table_free s t i k u asked (sym (table_holder s t i k u asked) ∙ (sym (awaited-file s u op file) ∙ free))
+  free_for_it : AreFreeFor t asked acting
+  free_for_it = uses_free s t i k u op free
+
+  plain : list_any is_user asked ≡ false
+  plain = ap (list_any is_user) (sym (uses_alike s.opening op)) ∙ uses_plain (is_recoverable s.opening op) op
 
   live_if : (n : ℕ) (b : Bool) → ((acting == n) && b) ≡ true → is_open (outcome_of s.outcomes n) ≡ true
   live_if n b own = subst (λ m. is_open (outcome_of s.outcomes m) ≡ true) (eqb-true acting n (and_parts (eqb acting n) b own).0) (acting_open s u acts)
@@ -206,36 +182,35 @@ module _ (s : UnitsState) (t : Table) (u : Option ℕ) (op : Op) (a : Answer) (i
       ∙ sym (held_sum s n (is_one r)))
 
   module _ (normal : is_normal a.condition ≡ true) where
-    -- one on a recoverable file
-    recoverable_of : file_recoverable s.opening (file_of op) ≡ true → IsTableOf (entered s u op a) (taken t asked acting)
-    recoverable_of rec = table_taken s (entered s u op a) t k once_after keys_after refl acting asked (used_plain op) free_record (λ r n.
+    -- one on a recoverable file or queue
+    recoverable_of : is_recoverable s.opening op ≡ true → IsTableOf (entered s u op a) (taken_all t acting asked)
+    recoverable_of rec = table_taken s (entered s u op a) t k once_after keys_after refl acting asked plain free_for_it (λ r n.
         entered_sum s u op a n (is_one r)
         ∙ (λ j. is_open (outcome_of s.outcomes n)
-        && (((in_entries s.opening n (is_one r) s.trace || by_entry-file s u op a n (is_one r) normal file rec j)
-        || (ap (in_reads s.opening n (is_one r)) (reads_then normal) ∙ any_opened-recoverable s.opening n r acting op file rec s.reads) j)
+        && (((in_entries s.opening n (is_one r) s.trace || by_entry-held s u op a n (is_one r) normal rec j)
+        || (ap (in_reads s.opening n (is_one r)) (reads_then normal) ∙ any_opened-recoverable s.opening n r acting op rec s.reads) j)
         || in_counts s.opening n (is_one r) s.counts))
         ∙ held_more (is_open (outcome_of s.outcomes n)) (in_entries s.opening n (is_one r) s.trace)
         (in_reads s.opening n (is_one r) s.reads) (in_counts s.opening n (is_one r) s.counts)
-        ((acting == n) && is_one r asked) (live_if n (is_one r asked))
-        ∙ ap (λ b. b || ((acting == n) && is_one r asked)) (sym (held_sum s n (is_one r))))
+        ((acting == n) && list_any (is_one r) asked) (live_if n (list_any (is_one r) asked))
+        ∙ ap (λ b. b || ((acting == n) && list_any (is_one r) asked)) (sym (held_sum s n (is_one r))))
 
-    module _ (local : file_recoverable s.opening (file_of op) ≡ false) where
+    module _ (local : is_recoverable s.opening op ≡ false) where
       unheld : (is_normal a.condition && is_recoverable s.opening op) ≡ false
-      unheld = and_right (is_normal a.condition) (is_recoverable s.opening op) (recoverable_op s.opening op file ∙ local)
+      unheld = and_right (is_normal a.condition) (is_recoverable s.opening op) local
 
       -- READ UPDATE in another file
-      read_of : is_read op ≡ true → IsTableOf (entered s u op a) (taken t asked acting)
-      read_of reads = table_taken s (entered s u op a) t k once_after keys_after refl acting asked (used_plain op) free_record (λ r n.
+      read_of : is_read op ≡ true → IsTableOf (entered s u op a) (taken_all t acting asked)
+      read_of reads = table_taken s (entered s u op a) t k once_after keys_after refl acting asked plain free_for_it (λ r n.
           entered_sum s u op a n (is_one r)
           ∙ (λ j. is_open (outcome_of s.outcomes n)
           && (((in_entries s.opening n (is_one r) s.trace || by_entry-none s u op a n (is_one r) unheld j)
-          || (ap (in_reads s.opening n (is_one r)) (reads_then normal) ∙ any_opened-read s.opening n r acting op reads local s.reads
-          ∙ ap (λ q. ((acting == n) && is_one r q) || in_reads s.opening n (is_one r) s.reads) (read_uses op reads)) j)
+          || (ap (in_reads s.opening n (is_one r)) (reads_then normal) ∙ any_opened-read s.opening n r acting op reads local s.reads) j)
           || in_counts s.opening n (is_one r) s.counts))
           ∙ read_more (is_open (outcome_of s.outcomes n)) (in_entries s.opening n (is_one r) s.trace)
           (in_reads s.opening n (is_one r) s.reads) (in_counts s.opening n (is_one r) s.counts)
-          ((acting == n) && is_one r asked) (live_if n (is_one r asked))
-          ∙ ap (λ b. b || ((acting == n) && is_one r asked)) (sym (held_sum s n (is_one r))))
+          ((acting == n) && list_any (is_one r) asked) (live_if n (list_any (is_one r) asked))
+          ∙ ap (λ b. b || ((acting == n) && list_any (is_one r) asked)) (sym (held_sum s n (is_one r))))
 
       module _ (others : is_read op ≡ false) where
         in_reads_then : (r : Resource) (n : ℕ) → in_reads s.opening n (is_one r) (reads_after acting op a.condition s.reads)
@@ -246,8 +221,11 @@ module _ (s : UnitsState) (t : Table) (u : Option ℕ) (op : Op) (a : Answer) (i
 
         -- one that covers an update read
         module _ (some : list_any (covers acting op) s.reads ≡ true) where
+          local_file : file_recoverable s.opening (file_of op) ≡ false
+          local_file = sym (covering-recoverable s.opening acting op s.reads some) ∙ local
+
           abbrev read_key : Bytes
-          read_key = covered_key acting op file s.reads k.once some
+          read_key = covered_key acting op s.reads k.once some
 
           abbrev read_record : Resource
           read_record = record_of (file_of op) read_key
@@ -257,19 +235,19 @@ module _ (s : UnitsState) (t : Table) (u : Option ℕ) (op : Op) (a : Answer) (i
               entered_sum s u op a n (is_one r)
               ∙ (λ j. is_open (outcome_of s.outcomes n)
               && (((ap (λ b. in_entries s.opening n (is_one r) s.trace || b) (by_entry-none s u op a n (is_one r) unheld) ∙ or-false (in_entries s.opening n (is_one r) s.trace)) j
-              || (in_reads_then r n ∙ any_ended s.opening n r acting (file_of op) read_key local (covers acting op) s.reads
-              (covered_is acting op file s.reads k.once some) (covered_all acting op file s.reads k.once some)) j)
+              || (in_reads_then r n ∙ any_ended s.opening n r acting (file_of op) read_key local_file (covers acting op) s.reads
+              (covered_is acting op s.reads k.once some) (covered_all acting op s.reads k.once some)) j)
               || in_counts s.opening n (is_one r) s.counts))
               ∙ read_less (is_open (outcome_of s.outcomes n)) (in_entries s.opening n (is_one r) s.trace)
               (in_reads s.opening n (is_one r) s.reads) (in_counts s.opening n (is_one r) s.counts)
               ((acting == n) && is_one r read_record)
-              (λ own. entries_apart s.opening n r (file_of op) read_key (and_parts (acting == n) (is_one r read_record) own).1 local s.trace)
+              (λ own. entries_apart s.opening n r (file_of op) read_key (and_parts (acting == n) (is_one r read_record) own).1 local_file s.trace)
               (λ own. counts_apart s.opening n r (file_of op) read_key (and_parts (acting == n) (is_one r read_record) own).1 s.counts)
               ∙ ap (λ b. b && not ((acting == n) && is_one r read_record)) (sym (held_sum s n (is_one r))))
 
           -- the table gives that record back
           given_of_read : table_given_back false acting (file_of op) (read_at s.reads acting (file_of op)) t ≡ given_back t read_record acting
-          given_of_read = ap (λ o. table_given_back false acting (file_of op) o t) (covered_at acting op file s.reads k.once some)
+          given_of_read = ap (λ o. table_given_back false acting (file_of op) o t) (covered_at acting op s.reads k.once some)
 
         -- one that covers none
         plain_of : list_any (covers acting op) s.reads ≡ false → IsTableOf (entered s u op a) t
@@ -285,28 +263,51 @@ module _ (s : UnitsState) (t : Table) (u : Option ℕ) (op : Op) (a : Answer) (i
   abbrev chosen : Bool → Bool → Bool → Bool → Table
   chosen normal rec reads some =
       if not normal then t
-      else if rec || reads then taken t asked acting
+      else if rec || reads then taken_all t acting (uses_if rec op)
       else table_given_back false acting (file_of op) (if some then read_at s.reads acting (file_of op) else None) t
 
-  at_choice : (normal rec reads some : Bool) → is_normal a.condition ≡ normal → file_recoverable s.opening (file_of op) ≡ rec →
+  -- what the command takes is what it uses
+  takes_asked : (rec : Bool) → is_recoverable s.opening op ≡ rec → asked ≡ uses_if rec op
+  takes_asked rec q = sym (uses_alike s.opening op) ∙ ap (λ b. uses_if b op) q
+
+  at_choice : (normal rec reads some : Bool) → is_normal a.condition ≡ normal → is_recoverable s.opening op ≡ rec →
       is_read op ≡ reads → list_any (covers acting op) s.reads ≡ some → IsTableOf (entered s u op a) (chosen normal rec reads some)
   at_choice false rec reads some p q e f = refused_of p
-  at_choice true true reads some p q e f = recoverable_of p q
-  at_choice true false true some p q e f = read_of p q e
+  at_choice true true reads some p q e f =
+      subst (λ rs. IsTableOf (entered s u op a) (taken_all t acting rs)) (takes_asked true q) (recoverable_of p q)
+  at_choice true false true some p q e f =
+      subst (λ rs. IsTableOf (entered s u op a) (taken_all t acting rs)) (takes_asked false q) (read_of p q e)
   at_choice true false false true p q e f = subst (IsTableOf (entered s u op a)) (sym (given_of_read p q e f)) (covering_of p q e f)
   at_choice true false false false p q e f = plain_of p q e f
 
   -- a command that is executed
   executed_table : IsTableOf (entered s u op a) (table_executed s.opening acting op a.condition s.reads t)
   executed_table =
-      at_choice (is_normal a.condition) (file_recoverable s.opening (file_of op)) (is_read op)
+      at_choice (is_normal a.condition) (is_recoverable s.opening op) (is_read op)
       (list_any (covers acting op) s.reads) refl refl refl refl
+
+-- a command of a unit that need not wait makes of the table what it takes and gives back
+pub table_entered : (s : UnitsState) (t : Table) (u : Option ℕ) (op : Op) (a : Answer) → IsSound s → IsTableOf s t →
+    may_act s u ≡ true → awaited s u op ≡ None → is_ready_op s u op ≡ true →
+    length (key_of op) ≤ 255 →
+    IsTableOf (entered s u op a) (table_executed s.opening (unit_or_next u s.outcomes) op a.condition s.reads t)
+table_entered s t u op a i k acts free ready short = executed_table s t u op a i k acts free ready short
+
+-- the same of the units after it
+pub table_after : (s : UnitsState) (t : Table) (u : Option ℕ) (op : Op) → IsSound s → IsTableOf s t →
+    may_act s u ≡ true → awaited s u op ≡ None → is_ready_op s u op ≡ true →
+    length (key_of op) ≤ 255 →
+    IsTableOf (after_execution s u op)
+    (table_executed s.opening (unit_or_next u s.outcomes) op (apply (store_of s) op).answer.condition s.reads t)
+table_after s t u op i k acts free ready short =
+    subst (λ h. IsTableOf (state_of s u op h) (table_executed s.opening (unit_or_next u s.outcomes) op (apply (store_of s) op).answer.condition s.reads t))
+    (sym free) (table_entered s t u op (apply (store_of s) op).answer i k acts free ready short)
 
 pub table_executed_of : (s : UnitsState) (t : Table) (u : Option ℕ) (op : Op) (a : Answer) → IsSound s → IsTableOf s t →
     may_act s u ≡ true → is_file_op op ≡ true → awaited s u op ≡ None → is_ready_op s u op ≡ true →
     length (key_of op) ≤ 255 →
     IsTableOf (entered s u op a) (table_executed s.opening (unit_or_next u s.outcomes) op a.condition s.reads t)
-table_executed_of s t u op a i k acts file free ready short = executed_table s t u op a i k acts file free ready short
+table_executed_of s t u op a i k acts file free ready short = table_entered s t u op a i k acts free ready short
 
 -- ---- UNLOCK
 

@@ -8,7 +8,9 @@ pub mod Matching
 pub mod FilesInPlace
 pub mod UnitImages
 pub mod UnitImagesLaws
+pub mod Uses
 pub mod TableInPlace
+pub mod Awaiting
 pub mod Parts
 pub mod OpenReads
 pub mod Replaying

@@ -3,14 +3,15 @@ use Rattle.std.specs.Prelude.{◌≡◌, ℕ, ◌==◌, ◌≤◌, Bool, true, f
 use Rattle.std.specs.List.{list_any}
 use Rattle.cics_names.specs.Keyed.{Bytes}
 use Rattle.cics_names.specs.declared.conditions.Condition.{Condition}
-use Rattle.cics_enqueue.specs.Resources.{Table, Held, bytes_of, is_one, is_user, is_in_order, holder_of, count_of, taken, given_back}
+use Rattle.cics_enqueue.specs.Resources.{Table, Held, bytes_of, is_one, is_user, is_in_order, holder_of, count_of, given_back}
 use Rattle.cics_enqueue.specs.declared.resources.Resource.{Resource}
 use Rattle.cics_enqueue.specs.declared.resources.Resource.TheVariants.{FileKey, FilePrefix, User}
 use Rattle.cics_history.specs.Openings.{OpeningState, file_recoverable}
-use Rattle.cics_history.specs.Store.{is_normal}
+use Rattle.cics_history.specs.Store.{is_normal, is_recoverable}
 use Rattle.cics_history.specs.Holding.{UnitsState, UpdateRead, EnqCount, held_by}
 use Rattle.cics_history.specs.Execution.{is_read_of, read_at, covers}
 use Rattle.cics_history.specs.Records.{file_of, key_of}
+use Rattle.cics_units.specs.Uses.{uses_if, taken_all}
 use Rattle.cics_history.specs.declared.ops.Op.{Op}
 use Rattle.cics_history.specs.declared.ops.Op.TheVariants.{DeleteGeneric, ReadUpdate}
 
@@ -77,16 +78,25 @@ abbrev pub table_given_back : Bool → ℕ → Bytes → Option Bytes → Table 
 table_given_back recoverable u f None t = t
 table_given_back recoverable u f (Some k) t = if recoverable then t else given_back t (record_of f k) u
 
--- a command that is answered NORMAL takes what it uses, where the file is recoverable or the record is read for update; in
--- another file it gives back the record of the update read that it covers
+-- what a command that is answered NORMAL takes: what it uses, where its file or queue is recoverable or a record is read for
+-- update, else nothing
+abbrev pub takes_if : Bool → Op → List Resource
+takes_if recoverable op = if recoverable || is_read op then uses_if recoverable op else []
+
+-- the same, by the opening
+abbrev pub takes_of : OpeningState → Op → List Resource
+takes_of o op = takes_if (is_recoverable o op) op
+
+-- a command that is answered NORMAL takes what it takes, where its file or queue is recoverable or the record is read for
+-- update; in another file it gives back the record of the update read that it covers
 abbrev pub table_changed : Bool → ℕ → Op → List UpdateRead → Table → Table
 table_changed recoverable u op reads t =
-    if recoverable || is_read op then taken t (resource_of op) u
+    if recoverable || is_read op then taken_all t u (uses_if recoverable op)
     else table_given_back false u (file_of op) (covered_read u op reads) t
 
 -- an executed command changes the table where it is answered NORMAL
 abbrev pub table_executed : OpeningState → ℕ → Op → Condition → List UpdateRead → Table → Table
-table_executed o u op c reads t = if not (is_normal c) then t else table_changed (file_recoverable o (file_of op)) u op reads t
+table_executed o u op c reads t = if not (is_normal c) then t else table_changed (is_recoverable o op) u op reads t
 
 -- what UNLOCK makes of it, by the opening
 abbrev pub table_unlocked : OpeningState → ℕ → Bytes → Option Bytes → Table → Table

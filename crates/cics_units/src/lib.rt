@@ -12,6 +12,7 @@ mod serial_units;
 mod undoable_files;
 mod unit_images;
 mod units;
+mod uses;
 
 pub use cics_history::{Answer, Done, Enqueued, Entry, Op, UnitState};
 pub use files::{Files, FilesImage};

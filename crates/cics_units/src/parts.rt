@@ -2,7 +2,7 @@
 //! update reads.
 
 ghost use Rattle.std.specs.Prelude.{◌≡◌, ◌==◌, ◌<◌, ◌≤◌, ℕ, Bool, if◌then◌else◌, true, false, not};
-ghost use Rattle.std.specs.Prelude.{[], None, is_none, length, filter, fold, List, T, IsTrue, IfOk};
+ghost use Rattle.std.specs.Prelude.{[], None, length, filter, fold, List, T, IsTrue, IfOk};
 ghost use Rattle.std.specs.Prelude.{IfErr, IfSome, OnOk, OnErr, All};
 ghost use Rattle.std.specs.List.{list_any};
 ghost use Rattle.std.specs.Option.{option_copied};
@@ -11,7 +11,7 @@ ghost use Rattle.cics_names.specs.declared.conditions.Condition.TheVariants.{Nor
 ghost use Rattle.cics_images.specs.Cells.{AreReadyInTurn, LeadBack, images_of, is_unnamed};
 ghost use Rattle.cics_images.specs.Cells.{all_swept};
 ghost use Rattle.cics_ksds.specs.Undo.{Leads};
-ghost use Rattle.cics_enqueue.specs.Resources.{IsFreeFor, is_full, is_in_order, holder_of, taken};
+ghost use Rattle.cics_enqueue.specs.Resources.{IsFreeFor, is_full, is_in_order, is_user};
 ghost use Rattle.cics_enqueue.specs.Resources.{holder_over};
 ghost use Rattle.cics_enqueue.specs.Resources.{given_back, released};
 ghost use Rattle.cics_history.specs.Execution.{covers, reads_after, read_at, with_read, is_read_of};
@@ -20,7 +20,8 @@ ghost use Rattle.cics_units.specs.FilesImages.{files_undone, files_swept, files_
 ghost use Rattle.cics_units.specs.FilesImages.{definitions_of};
 ghost use Rattle.cics_units.specs.UnitImages.{kept_by, room_of, AreOthersKept, AreHeldForImages};
 ghost use Rattle.cics_history.specs.Records.{is_file_op, file_of, key_of};
-ghost use Rattle.cics_units.specs.TableInPlace.{is_read, resource_of, covered_read};
+ghost use Rattle.cics_units.specs.Uses.{uses_if, listed, taken_all, AreFreeFor, holder_over_all};
+ghost use Rattle.cics_units.specs.TableInPlace.{is_read, covered_read};
 ghost use Rattle.cics_units.specs.TableInPlace.{value_of, AreOnce, table_changed};
 ghost use Rattle.cics_units.specs.TableInPlace.{table_given_back};
 ghost use Rattle.cics_units.specs.Parts.{IsFitOp, is_recoverable_in, AreChanged, AreExecuted};
@@ -32,6 +33,7 @@ ghost use Rattle.cics_units.specs.Matching.{store_of_files};
 use crate::files::Files;
 use crate::open_reads::OpenReads;
 use crate::undoable_files::UndoableFiles;
+use crate::uses::{Uses, hold_all, holder_over_all, let_go_all, uses_of};
 use cics_enqueue::{Enqueues, Resource, TakeFault, UnitId};
 use cics_history::Op;
 use cics_names::{Condition, Name8, NoMemory, Record};
@@ -52,52 +54,6 @@ impl Model for Parts {
     ghost Value = { PartsValue };
 
     ghost view = { λ p. record { stores = p.files; table = p.enqueues; reads = p.reads } };
-}
-
-/// What a command on a file uses: its record, or all under its prefix.
-pub(crate) fn resource_of(op: &Op) -> Resource
-    requires file { is_file_op op.now ≡ true }
-    requires most { length (key_of op.now) ≤ 255 }
-    ensures { result ≡ resource_of op.now }
-{
-    match (op, op.record()) {
-        (Op::DeleteGeneric { file, prefix }, _) => Resource::prefix(*file, prefix.bytes()),
-        (_, Some((file, key))) => Resource::record(*file, key.bytes()),
-        (_, None) => unreachable!(),
-    }
-}
-
-// Takes what a command uses for a unit, unless the unit holds it already, and tells whether it was free.
-fn hold(enqueues: &mut Enqueues, op: &Op, unit: UnitId) -> Result<bool, NoMemory>
-    requires file { is_file_op op.now ≡ true }
-    requires most { length (key_of op.now) ≤ 255 }
-    requires free { IsFreeFor enqueues.old (resource_of op.now) unit }
-    requires in_order { T (is_in_order enqueues.old) }
-    ensures taken { OnOk result (enqueues.new ≡ taken enqueues.old (resource_of op.now) unit) }
-    ensures was_free { IfOk result (λ was_free. was_free
-        ≡ is_none (holder_of (resource_of op.now) enqueues.old)) }
-    ensures err { OnErr result (enqueues.new ≡ enqueues.old) }
-{
-    let resource = resource_of(op);
-    if enqueues.holder(&resource).is_some() {
-        return Ok(false);
-    }
-    match enqueues.take(resource, unit) {
-        Ok(()) => Ok(true),
-        Err(_) => Err(NoMemory),
-    }
-}
-
-// Gives back what was taken for a command which then found no memory.
-fn let_go(enqueues: &mut Enqueues, op: &Op, unit: UnitId, was_free: bool)
-    requires file { is_file_op op.now ≡ true }
-    requires most { length (key_of op.now) ≤ 255 }
-    ensures { enqueues.new
-        ≡ (if was_free then given_back enqueues.old (resource_of op.now) unit else enqueues.old) }
-{
-    if was_free {
-        enqueues.give_back(&resource_of(op), unit);
-    }
 }
 
 impl Parts {
@@ -132,6 +88,27 @@ impl Parts {
         ensures { result ≡ holder_over resource.now asking self.now.table }
     {
         self.enqueues.holder_over(resource, asking)
+    }
+
+    /// What a command on a file uses.
+    pub(crate) fn uses_of(&self, op: &Op) -> Uses
+        requires file { is_file_op op.now ≡ true }
+        requires fit { IsFitOp self.now.stores.files op.now }
+        requires most { length (key_of op.now) ≤ 255 }
+        ensures { listed result
+            ≡ uses_if (is_recoverable_in (value_at (file_of op.now) self.now.stores.files)) op.now }
+    {
+        let Some((file, _)) = op.record() else {
+            unreachable!();
+        };
+        uses_of(op, self.files.is_recoverable(file))
+    }
+
+    /// The unit, other than the one that asks, that is in the way of what a command uses.
+    pub(crate) fn holder_over_all(&self, asking: Option<UnitId>, uses: &Uses) -> Option<UnitId>
+        ensures { result ≡ holder_over_all (listed uses.now) asking self.now.table }
+    {
+        holder_over_all(&self.enqueues, uses, asking)
     }
 
     // Whether a command covers an update read of its unit.
@@ -169,54 +146,59 @@ impl Parts {
         unit: UnitId,
         file: Name8,
         key: &Record,
-        op: &Op,
+        uses: &Uses,
     ) -> Result<(), NoMemory>
-        requires on_file { is_file_op op.now ≡ true }
-        requires most { length (key_of op.now) ≤ 255 }
-        requires free { IsFreeFor self.old.table (resource_of op.now) unit }
+        requires plain { list_any is_user (listed uses.now) ≡ false }
+        requires free { AreFreeFor self.old.table (listed uses.now) unit }
         requires in_order { T (is_in_order self.old.table) }
         requires none_open { read_at self.old.reads unit file ≡ None }
         ensures parts { OnOk result (self.new ≡ record self.old {
-          table = taken self.old.table (resource_of op.now) unit;
+          table = taken_all self.old.table unit (listed uses.now);
           reads = with_read (record { unit = unit; file = file; key = key.now }) self.old.reads;
         }) }
         ensures err { OnErr result (self.new ≡ self.old) }
     {
         let copy = key.copy()?;
-        let was_free = hold(&mut self.enqueues, op, unit)?;
+        let were_free = hold_all(&mut self.enqueues, uses, unit)?;
         match self.reads.open(unit, file, copy) {
             Ok(()) => Ok(()),
             Err(refused) => {
-                let_go(&mut self.enqueues, op, unit, was_free);
+                let_go_all(&mut self.enqueues, uses, unit, were_free);
                 Err(refused)
             }
         }
     }
 
     // A change of a recoverable file: the unit holds what the command uses until it ends.
-    fn change_held(&mut self, unit: UnitId, file: &Name8, op: &Op) -> Result<(), NoMemory>
+    fn change_held(
+        &mut self,
+        unit: UnitId,
+        file: &Name8,
+        op: &Op,
+        uses: &Uses,
+    ) -> Result<(), NoMemory>
         requires named { file_of op.now ≡ file.now }
         requires on_file { is_file_op op.now ≡ true }
         requires fit { IsFitOp self.old.stores.files op.now }
         requires begun { unit < length self.old.stores.images }
         requires room { most_images self.old.stores.files op.now ≤ room_of self.old.stores.images unit }
-        requires most { length (key_of op.now) ≤ 255 }
-        requires free { IsFreeFor self.old.table (resource_of op.now) unit }
+        requires plain { list_any is_user (listed uses.now) ≡ false }
+        requires free { AreFreeFor self.old.table (listed uses.now) unit }
         requires in_order { T (is_in_order self.old.table) }
         requires once { AreOnce self.old.reads }
         ensures changed { OnOk result (AreChanged self.old.stores self.new.stores unit op.now) }
-        ensures table { OnOk result (self.new.table ≡ taken self.old.table (resource_of op.now) unit) }
+        ensures table { OnOk result (self.new.table ≡ taken_all self.old.table unit (listed uses.now)) }
         ensures reads { OnOk result (self.new.reads ≡ filter (λ r. not (covers unit op.now r)) self.old.reads) }
         ensures err { OnErr result (self.new ≡ self.old) }
     {
-        let was_free = hold(&mut self.enqueues, op, unit)?;
+        let were_free = hold_all(&mut self.enqueues, uses, unit)?;
         match self.files.change(unit, op) {
             Ok(()) => {
                 drop(self.cover(unit, file, op));
                 Ok(())
             }
             Err(refused) => {
-                let_go(&mut self.enqueues, op, unit, was_free);
+                let_go_all(&mut self.enqueues, uses, unit, were_free);
                 Err(refused)
             }
         }
@@ -246,15 +228,16 @@ impl Parts {
         Ok(())
     }
 
-    // Executes a command on a file that is to be answered NORMAL.
-    fn change(&mut self, unit: UnitId, op: &Op) -> Result<(), NoMemory>
+    // Executes a command on a file that is to be answered NORMAL, and uses these resources.
+    fn change(&mut self, unit: UnitId, op: &Op, uses: &Uses) -> Result<(), NoMemory>
         requires on_file { is_file_op op.now ≡ true }
         requires fit { IsFitOp self.old.stores.files op.now }
         requires begun { unit < length self.old.stores.images }
         requires room { most_images self.old.stores.files op.now ≤ room_of self.old.stores.images unit }
-        requires most { length (key_of op.now) ≤ 255 }
         requires short { All (λ r. length r.key ≤ 255) self.old.reads }
-        requires free { IsFreeFor self.old.table (resource_of op.now) unit }
+        requires used { listed uses.now
+            ≡ uses_if (is_recoverable_in (value_at (file_of op.now) self.old.stores.files)) op.now }
+        requires free { AreFreeFor self.old.table (listed uses.now) unit }
         requires in_order { T (is_in_order self.old.table) }
         requires once { AreOnce self.old.reads }
         requires none_open { is_read op.now ≡ true → read_at self.old.reads unit (file_of op.now) ≡ None }
@@ -270,30 +253,32 @@ impl Parts {
             unreachable!();
         };
         if let Op::ReadUpdate { .. } = op {
-            return self.read_for_update(unit, *file, key, op);
+            return self.read_for_update(unit, *file, key, uses);
         }
         if self.files.is_recoverable(file) {
-            self.change_held(unit, file, op)
+            self.change_held(unit, file, op, uses)
         } else {
             self.change_plain(unit, file, op)
         }
     }
 
     /// Executes a command on a file for a unit that needn't wait, and may be the next one to begin; the
-    /// condition is the one that the command is answered. Where memory is refused nothing has
-    /// changed.
+    /// command uses these resources, and the condition is the one that it is answered. Where memory is
+    /// refused nothing has changed.
     pub(crate) fn execute(
         &mut self,
         unit: UnitId,
         op: &Op,
+        uses: &Uses,
         condition: Condition,
     ) -> Result<(), NoMemory>
         requires fit { IsFitOp self.old.stores.files op.now }
         requires file { is_file_op op.now ≡ true }
         requires begun { unit ≤ length self.old.stores.images }
-        requires most { length (key_of op.now) ≤ 255 }
         requires short { All (λ r. length r.key ≤ 255) self.old.reads }
-        requires free { IsFreeFor self.old.table (resource_of op.now) unit }
+        requires used { listed uses.now
+            ≡ uses_if (is_recoverable_in (value_at (file_of op.now) self.old.stores.files)) op.now }
+        requires free { AreFreeFor self.old.table (listed uses.now) unit }
         requires in_order { T (is_in_order self.old.table) }
         requires once { AreOnce self.old.reads }
         requires none_open { is_read op.now ≡ true → read_at self.old.reads unit (file_of op.now) ≡ None }
@@ -303,7 +288,7 @@ impl Parts {
     {
         self.files.make_room(unit, self.files.most_images(op))?;
         if condition == Condition::Normal {
-            self.change(unit, op)?;
+            self.change(unit, op, uses)?;
         }
         Ok(())
     }

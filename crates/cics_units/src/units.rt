@@ -21,7 +21,7 @@ ghost use Rattle.cics_history.specs.declared.ops.UnitState.TheVariants.{Committe
 
 use crate::listings::Listing;
 use crate::opening::Opening;
-use crate::parts::{Parts, resource_of};
+use crate::parts::Parts;
 use cics_enqueue::{Resource, TakeFault, UnitId};
 use cics_history::{Done, Enqueued, Entry, Op, UnitState};
 use cics_ksds::File;
@@ -147,8 +147,8 @@ impl Units {
         ensures headline { IsHeadline self.new }
         ensures err { OnErr result (self.new ≡ self.old) }
     {
-        let resource = resource_of(op);
-        if let Some(holder) = self.parts.holder_over(unit, &resource) {
+        let uses = self.parts.uses_of(op);
+        if let Some(holder) = self.parts.holder_over_all(unit, &uses) {
             return Ok(Done::MustWait(holder));
         }
         let acting = unit_or_next(unit, self.outcomes.as_slice());
@@ -160,7 +160,7 @@ impl Units {
         };
         self.trace.reserve(1)?;
         self.outcomes.reserve(1)?;
-        self.parts.execute(acting, op, answer.condition)?;
+        self.parts.execute(acting, op, &uses, answer.condition)?;
         enter(&mut self.trace, &mut self.outcomes, unit, entry);
         Ok(Done::Answered(acting, answer))
     }

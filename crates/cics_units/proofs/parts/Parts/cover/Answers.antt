@@ -16,6 +16,6 @@ returns-clause-rest c =
     (λ i. record { stores = c.self.inside.files; table = c.self.inside.enqueues; reads = c.close.ensures.reads i })
     ∙ (λ i. record (c.self.view_is i) { reads = filter (λ r. not (is_read_of c.args.unit (sym c.requires.named i) r)) (c.self.view_is i).reads })
     ∙ (λ i. record c.args.self.now {
-      reads = covered_rest c.args.unit c.args.op.now c.requires.on_file c.args.self.now.reads c.requires.once
+      reads = covered_rest c.args.unit c.args.op.now c.args.self.now.reads c.requires.once
           (sym c.covers.ensures ∙ c.if-not-covers.false) i;
     })

@@ -34,4 +34,4 @@ pub returns-in_default : goal.returns-in_default
 returns-in_default c =
     sym (uncovered_any c.args.unit c.args.op.now c.args.self.now.reads (λ f k r is. c.in_default.not-Rewrite f k r is)
     (λ f k is. c.in_default.not-Delete f k is)
-    (λ f p is. c.in_default.not-DeleteGeneric f p is) c.requires.file)
+    (λ f p is. c.in_default.not-DeleteGeneric f p is))

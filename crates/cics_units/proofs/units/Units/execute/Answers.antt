@@ -1,27 +1,25 @@
 use Rattle.std.proofs.Common.{◌≡◌, ◌∙◌, sym, ap, subst, true, None, [], ◌∷◌, ◌++◌}
-use Rattle.cics_enqueue.specs.Resources.{holder_over, IsFreeFor}
 use Rattle.cics_history.specs.Execution.{execution, after_execution, unit_or_next, read_at, outcomes_with, IsOpenUnit, IsOpenOrNone, is_ready_op}
 use Rattle.cics_history.specs.Headline.{IsHeadline}
 use Rattle.cics_units.specs.KeptUnits.{state_shown, AreKept}
 use Rattle.cics_units.specs.Matching.{store_of_files}
 use Rattle.cics_history.specs.Records.{file_of}
-use Rattle.cics_units.specs.TableInPlace.{resource_of}
+use Rattle.cics_units.specs.Uses.{listed, AreFreeFor, holder_over_all}
 use Rattle.cics_units.specs.Parts.{IsFitOp, AreExecuted}
 use Rattle.cics_history.specs.Store.{apply}
 use Rattle.cics_history.specs.Events.{may_act}
 use Rattle.cics_history.specs.declared.ops.Done.TheVariants.{Answered}
 use Rattle.cics_units.proofs.KeptUnits.{kept_headline, ready_fits}
-use Rattle.cics_units.proofs.ShownUnits.{acts_of, none_open_of, refused_kept, waits, waits_unchanged, parts_state, parts_kept, answered}
-use Rattle.cics_units.proofs.HeldOver.{holder_open, table_free}
+use Rattle.cics_units.proofs.ShownUnits.{acts_of, none_open_of, refused_kept, asked, waits, waits_unchanged, parts_state, parts_kept, answered}
+use Rattle.cics_units.proofs.UsesInTable.{holder_open_all, table_free_all}
 use Rattle.cics_units.proofs.units.Units.execute.Goals as goal
 
 pub returns-in-Some-clause-done : goal.returns-in-Some-clause-done
 returns-in-Some-clause-done c =
     let u = c.self.inside in
     let op = c.args.op.now in
-    let asked : c.resource_of-resource.result ≡ resource_of op = c.resource_of-resource.ensures in
     waits u.opening u.trace.items u.outcomes.items u.parts u.parts c.self.invariant c.args.unit op c.requires.file c.in-Some.holder
-    (ap (λ r. holder_over r c.args.unit u.parts.table) (sym asked) ∙ sym c.holder_over.ensures ∙ c.in-Some.is)
+    (ap (λ rs. holder_over_all rs c.args.unit u.parts.table) (sym c.uses_of-uses.ensures) ∙ sym c.holder_over_all.ensures ∙ c.in-Some.is)
     ∙ ap (λ v. execution v.state c.args.unit op) c.self.view_is
 
 pub returns-in-Some-clause-holder_open : goal.returns-in-Some-clause-holder_open
@@ -29,16 +27,15 @@ returns-in-Some-clause-holder_open c =
     let u = c.self.inside in
     let s = state_shown u.opening u.trace.items u.outcomes.items u.parts in
     subst (λ v. IsOpenUnit v.state c.in-Some.holder) c.self.view_is
-    (holder_open s u.parts.table c.self.invariant.sound c.self.invariant.table c.args.unit c.resource_of-resource.result c.in-Some.holder (sym c.holder_over.ensures ∙ c.in-Some.is))
+    (holder_open_all s u.parts.table c.self.invariant.sound c.self.invariant.table c.args.unit (listed c.uses_of-uses.result) c.in-Some.holder (sym c.holder_over_all.ensures ∙ c.in-Some.is))
 
 pub returns-in-Some-clause-state : goal.returns-in-Some-clause-state
 returns-in-Some-clause-state c =
     let u = c.self.inside in
     let op = c.args.op.now in
-    let asked : c.resource_of-resource.result ≡ resource_of op = c.resource_of-resource.ensures in
     subst (λ v. v.state ≡ after_execution v.state c.args.unit op) c.self.view_is
     (waits_unchanged u.opening u.trace.items u.outcomes.items u.parts u.parts c.self.invariant c.args.unit op c.requires.file c.in-Some.holder
-    (ap (λ r. holder_over r c.args.unit u.parts.table) (sym asked) ∙ sym c.holder_over.ensures ∙ c.in-Some.is))
+    (ap (λ rs. holder_over_all rs c.args.unit u.parts.table) (sym c.uses_of-uses.ensures) ∙ sym c.holder_over_all.ensures ∙ c.in-Some.is))
 
 pub returns-in-Some-clause-headline :
     goal.returns-in-Some-clause-headline
@@ -84,6 +81,14 @@ returns-in_err-reserve-2-clause-headline c =
     (subst (λ entries. IsHeadline (record { state = state_shown u.opening entries u.outcomes.items u.parts; store = store_of_files u.parts.stores.files })) (sym c.reserve.ensures.items)
     (kept_headline (state_shown u.opening u.trace.items u.outcomes.items u.parts) u.parts.stores u.parts.table c.self.invariant))
 
+pub uses_of-uses-requires-clause-fit : goal.uses_of-uses-requires-clause-fit
+uses_of-uses-requires-clause-fit c =
+    let u = c.self.inside in
+    let op = c.args.op.now in
+    let s = state_shown u.opening u.trace.items u.outcomes.items u.parts in
+    let ready : is_ready_op s c.args.unit op ≡ true = subst (λ v. is_ready_op v.state c.args.unit op ≡ true) (sym c.self.view_is) c.requires.ready in
+    ready_fits s u.parts.stores u.parts.table c.self.invariant c.args.unit op c.requires.file ready
+
 pub execute-requires-clause-fit : goal.execute-requires-clause-fit
 execute-requires-clause-fit c =
     let u = c.self.inside in
@@ -120,8 +125,7 @@ invariant_of-self-2 c =
     let op = c.args.op.now in
     let s = state_shown u.opening u.trace.items u.outcomes.items u.parts in
     let ready : is_ready_op s c.args.unit op ≡ true = subst (λ v. is_ready_op v.state c.args.unit op ≡ true) (sym c.self.view_is) c.requires.ready in
-    let asked : c.resource_of-resource.result ≡ resource_of op = c.resource_of-resource.ensures in
-    let none : holder_over (resource_of op) c.args.unit u.parts.table ≡ None = ap (λ r. holder_over r c.args.unit u.parts.table) (sym asked) ∙ sym c.holder_over.ensures ∙ c.in_default.is in
+    let none : holder_over_all (asked u.opening u.trace.items u.outcomes.items u.parts u.parts c.self.invariant c.args.unit op c.requires.file) c.args.unit u.parts.table ≡ None = ap (λ rs. holder_over_all rs c.args.unit u.parts.table) (sym c.uses_of-uses.ensures) ∙ sym c.holder_over_all.ensures ∙ c.in_default.is in
     let acts : may_act s c.args.unit ≡ true = acts_of s c.args.unit (subst (λ v. IsOpenOrNone v.state c.args.unit) (sym c.self.view_is) c.requires.is_open) in
     let acting : c.unit_or_next-acting.result ≡ unit_or_next c.args.unit u.outcomes.items = c.unit_or_next-acting.ensures ∙ ap (unit_or_next c.args.unit) c.as_slice.ensures.value in
     let right : c.in_ok-answer.answer ≡ (apply (store_of_files u.parts.stores.files) op).answer = c.in_ok-answer.ensures ∙ ap (λ st. (apply (store_of_files st.files) op).answer) c.files.ensures in
@@ -139,8 +143,7 @@ returns-clause-done c =
     let op = c.args.op.now in
     let s = state_shown u.opening u.trace.items u.outcomes.items u.parts in
     let ready : is_ready_op s c.args.unit op ≡ true = subst (λ v. is_ready_op v.state c.args.unit op ≡ true) (sym c.self.view_is) c.requires.ready in
-    let asked : c.resource_of-resource.result ≡ resource_of op = c.resource_of-resource.ensures in
-    let none : holder_over (resource_of op) c.args.unit u.parts.table ≡ None = ap (λ r. holder_over r c.args.unit u.parts.table) (sym asked) ∙ sym c.holder_over.ensures ∙ c.in_default.is in
+    let none : holder_over_all (asked u.opening u.trace.items u.outcomes.items u.parts u.parts c.self.invariant c.args.unit op c.requires.file) c.args.unit u.parts.table ≡ None = ap (λ rs. holder_over_all rs c.args.unit u.parts.table) (sym c.uses_of-uses.ensures) ∙ sym c.holder_over_all.ensures ∙ c.in_default.is in
     let acts : may_act s c.args.unit ≡ true = acts_of s c.args.unit (subst (λ v. IsOpenOrNone v.state c.args.unit) (sym c.self.view_is) c.requires.is_open) in
     let acting : c.unit_or_next-acting.result ≡ unit_or_next c.args.unit u.outcomes.items = c.unit_or_next-acting.ensures ∙ ap (unit_or_next c.args.unit) c.as_slice.ensures.value in
     let right : c.in_ok-answer.answer ≡ (apply (store_of_files u.parts.stores.files) op).answer = c.in_ok-answer.ensures ∙ ap (λ st. (apply (store_of_files st.files) op).answer) c.files.ensures in
@@ -153,8 +156,7 @@ returns-clause-state c =
     let op = c.args.op.now in
     let s = state_shown u.opening u.trace.items u.outcomes.items u.parts in
     let ready : is_ready_op s c.args.unit op ≡ true = subst (λ v. is_ready_op v.state c.args.unit op ≡ true) (sym c.self.view_is) c.requires.ready in
-    let asked : c.resource_of-resource.result ≡ resource_of op = c.resource_of-resource.ensures in
-    let none : holder_over (resource_of op) c.args.unit u.parts.table ≡ None = ap (λ r. holder_over r c.args.unit u.parts.table) (sym asked) ∙ sym c.holder_over.ensures ∙ c.in_default.is in
+    let none : holder_over_all (asked u.opening u.trace.items u.outcomes.items u.parts u.parts c.self.invariant c.args.unit op c.requires.file) c.args.unit u.parts.table ≡ None = ap (λ rs. holder_over_all rs c.args.unit u.parts.table) (sym c.uses_of-uses.ensures) ∙ sym c.holder_over_all.ensures ∙ c.in_default.is in
     let acts : may_act s c.args.unit ≡ true = acts_of s c.args.unit (subst (λ v. IsOpenOrNone v.state c.args.unit) (sym c.self.view_is) c.requires.is_open) in
     let acting : c.unit_or_next-acting.result ≡ unit_or_next c.args.unit u.outcomes.items = c.unit_or_next-acting.ensures ∙ ap (unit_or_next c.args.unit) c.as_slice.ensures.value in
     let right : c.in_ok-answer.answer ≡ (apply (store_of_files u.parts.stores.files) op).answer = c.in_ok-answer.ensures ∙ ap (λ st. (apply (store_of_files st.files) op).answer) c.files.ensures in
@@ -170,8 +172,7 @@ returns-clause-headline c =
     let op = c.args.op.now in
     let s = state_shown u.opening u.trace.items u.outcomes.items u.parts in
     let ready : is_ready_op s c.args.unit op ≡ true = subst (λ v. is_ready_op v.state c.args.unit op ≡ true) (sym c.self.view_is) c.requires.ready in
-    let asked : c.resource_of-resource.result ≡ resource_of op = c.resource_of-resource.ensures in
-    let none : holder_over (resource_of op) c.args.unit u.parts.table ≡ None = ap (λ r. holder_over r c.args.unit u.parts.table) (sym asked) ∙ sym c.holder_over.ensures ∙ c.in_default.is in
+    let none : holder_over_all (asked u.opening u.trace.items u.outcomes.items u.parts u.parts c.self.invariant c.args.unit op c.requires.file) c.args.unit u.parts.table ≡ None = ap (λ rs. holder_over_all rs c.args.unit u.parts.table) (sym c.uses_of-uses.ensures) ∙ sym c.holder_over_all.ensures ∙ c.in_default.is in
     let acts : may_act s c.args.unit ≡ true = acts_of s c.args.unit (subst (λ v. IsOpenOrNone v.state c.args.unit) (sym c.self.view_is) c.requires.is_open) in
     let acting : c.unit_or_next-acting.result ≡ unit_or_next c.args.unit u.outcomes.items = c.unit_or_next-acting.ensures ∙ ap (unit_or_next c.args.unit) c.as_slice.ensures.value in
     let right : c.in_ok-answer.answer ≡ (apply (store_of_files u.parts.stores.files) op).answer = c.in_ok-answer.ensures ∙ ap (λ st. (apply (store_of_files st.files) op).answer) c.files.ensures in
@@ -184,16 +185,14 @@ returns-clause-headline c =
     (subst (λ o. AreKept (state_shown u.opening (u.trace.items ++ record { unit = unit_or_next c.args.unit u.outcomes.items; op = op; answer = c.in_ok-answer.answer } ∷ []) o c.execute.new.self) c.execute.new.self.stores c.execute.new.self.table) (sym outcomes)
     (parts_kept u.opening u.trace.items u.outcomes.items u.parts c.execute.new.self c.self.invariant c.args.unit op c.requires.file acts none ready c.requires.key c.in_ok-answer.answer right done)))
 
--- no other unit holds the record, and none holds a prefix
+-- no other unit is in the way of what the command uses
 pub execute-requires-clause-free : goal.execute-requires-clause-free
 execute-requires-clause-free c =
     let u = c.self.inside in
-    let op = c.args.op.now in
     let s = state_shown u.opening u.trace.items u.outcomes.items u.parts in
-    let asked : c.resource_of-resource.result ≡ resource_of op = c.resource_of-resource.ensures in
-    subst (IsFreeFor u.parts.table (resource_of op)) (sym (c.unit_or_next-acting.ensures ∙ ap (unit_or_next c.args.unit) c.as_slice.ensures.value))
-    (table_free s u.parts.table c.self.invariant.sound c.self.invariant.table c.args.unit (resource_of op)
-    (ap (λ r. holder_over r c.args.unit u.parts.table) (sym asked) ∙ sym c.holder_over.ensures ∙ c.in_default.is))
+    subst (AreFreeFor u.parts.table (listed c.uses_of-uses.result)) (sym (c.unit_or_next-acting.ensures ∙ ap (unit_or_next c.args.unit) c.as_slice.ensures.value))
+    (table_free_all s u.parts.table c.self.invariant.sound c.self.invariant.table c.args.unit (listed c.uses_of-uses.result)
+    (sym c.holder_over_all.ensures ∙ c.in_default.is))
 
 -- the keys that were read for update are short
 pub execute-requires-clause-short : goal.execute-requires-clause-short

@@ -1,8 +1,10 @@
 use Rattle.std.proofs.Common.{◌∙◌, sym, ap, subst}
 use Rattle.cics_history.specs.Holding.{held_table, first_holder, awaited}
 use Rattle.cics_enqueue.specs.Resources.{holder_over}
-use Rattle.cics_units.proofs.ShownUnits.{awaited_is, if_open}
+use Rattle.cics_units.proofs.ShownUnits.{if_open}
+use Rattle.cics_units.proofs.TableInPlace.{awaited-file}
 use Rattle.cics_history.specs.Execution.{IsOpenUnit}
+use Rattle.cics_units.specs.TableInPlace.{resource_of}
 use Rattle.cics_units.specs.KeptUnits.{state_shown}
 use Rattle.cics_units.proofs.HeldOver.{holder_open, table_holder}
 use Rattle.cics_units.proofs.units.Units.holder.Goals as goal
@@ -19,7 +21,7 @@ returns-clause-awaits c = λ op file named.
     let u = c.self.inside in
     let s = state_shown u.opening u.trace.items u.outcomes.items u.parts in
     c.holder_over.ensures ∙ ap (λ r. holder_over r c.args.asking u.parts.table) named
-    ∙ sym (awaited_is u.opening u.trace.items u.outcomes.items u.parts u.parts c.self.invariant c.args.asking op file)
+    ∙ sym (awaited-file s c.args.asking op file ∙ table_holder s u.parts.table c.self.invariant.sound c.self.invariant.table c.args.asking (resource_of op))
     ∙ ap (λ v. awaited v.state c.args.asking op) c.self.view_is
 
 pub returns-clause-is_open : goal.returns-clause-is_open

@@ -1,0 +1,138 @@
+-- What a command uses, and who in the table is in its way.
+use Rattle.std.proofs.Common.{◌≡◌, ℕ, Bool, true, false, ◌||◌, Option, Some, None, List, [], ◌∷◌, refl, ap, sym, ◌∙◌}
+use Rattle.std.specs.Prelude.{if◌then◌else◌}
+use Rattle.std.specs.List.{list_any}
+use Rattle.std.proofs.lemmas.Bool.{false≢true}
+use Rattle.cics_names.specs.declared.conditions.Condition.{Condition}
+use Rattle.cics_enqueue.specs.Resources.{Table, is_user, holder_over}
+use Rattle.cics_enqueue.specs.declared.resources.Resource.{Resource}
+use Rattle.cics_history.specs.Openings.{OpeningState}
+use Rattle.cics_history.specs.Store.{is_normal, is_recoverable}
+use Rattle.cics_history.specs.Holding.{UnitsState, UpdateRead, held_table, first_some, holder_among, uses_of, awaited, writer_awaited}
+use Rattle.cics_history.specs.Isolation.{IsSound}
+use Rattle.cics_history.specs.Records.{is_file_op}
+use Rattle.cics_history.specs.Execution.{unit_or_next, IsOpenUnit}
+use Rattle.cics_history.specs.declared.ops.Op.{Op}
+use Rattle.cics_history.specs.declared.ops.Op.TheVariants.{Write, Rewrite, Delete, DeleteGeneric, ReadUpdate, TsWrite, TsRewrite, TsDelete, TdWrite, TdRead, TdDelete}
+use Rattle.cics_units.specs.TableInPlace.{is_read, IsTableOf, takes_of, table_executed}
+use Rattle.cics_units.specs.Uses.{uses_if, taken_all, AreFreeFor, holder_over_all}
+use Rattle.cics_units.proofs.HeldOver.{table_holder, table_free, holder_open}
+
+-- ---- What a command uses
+
+-- what it uses by whether its file or queue is recoverable is what it uses by the opening
+pub uses_alike : (o : OpeningState) (op : Op) → uses_if (is_recoverable o op) op ≡ uses_of o op
+uses_alike o (Write f k r) = refl
+uses_alike o (Rewrite f k r) = refl
+uses_alike o (Delete f k) = refl
+uses_alike o (DeleteGeneric f p) = refl
+uses_alike o (ReadUpdate f k) = refl
+uses_alike o (TsWrite q d) = refl
+uses_alike o (TsRewrite q n d) = refl
+uses_alike o (TsDelete q) = refl
+uses_alike o (TdWrite q d) = refl
+uses_alike o (TdRead q) = refl
+uses_alike o (TdDelete q) = refl
+
+-- what a command takes is what it uses by the opening, or nothing
+pub takes_alike : (o : OpeningState) (op : Op) → takes_of o op ≡ (if is_recoverable o op || is_read op then uses_of o op else [])
+takes_alike o op = ap (λ rs. if is_recoverable o op || is_read op then rs else []) (uses_alike o op)
+
+-- a command answered NORMAL leaves the table with what it takes, where that is anything
+pub table_takes : (o : OpeningState) (u : ℕ) (op : Op) (c : Condition) (reads : List UpdateRead) (t : Table) → is_normal c ≡ true →
+    (is_recoverable o op || is_read op) ≡ true → table_executed o u op c reads t ≡ taken_all t u (takes_of o op)
+table_takes o u op c reads t normal takes = rw (normal, takes) refl
+
+-- no command uses a value
+pub uses_plain : (recoverable : Bool) (op : Op) → list_any is_user (uses_if recoverable op) ≡ false
+uses_plain b (Write f k r) = refl
+uses_plain b (Rewrite f k r) = refl
+uses_plain b (Delete f k) = refl
+uses_plain b (DeleteGeneric f p) = refl
+uses_plain b (ReadUpdate f k) = refl
+uses_plain true (TsWrite q d) = refl
+uses_plain false (TsWrite q d) = refl
+uses_plain true (TsRewrite q n d) = refl
+uses_plain false (TsRewrite q n d) = refl
+uses_plain true (TsDelete q) = refl
+uses_plain false (TsDelete q) = refl
+uses_plain true (TdWrite q d) = refl
+uses_plain false (TdWrite q d) = refl
+uses_plain true (TdRead q) = refl
+uses_plain false (TdRead q) = refl
+uses_plain true (TdDelete q) = refl
+uses_plain false (TdDelete q) = refl
+
+-- ---- Who is in its way
+
+-- where the first of two isn't there, neither of them is
+pub first_none : (a b : Option ℕ) → first_some a b ≡ None → (a ≡ None) × (b ≡ None)
+first_none None b none = (refl, none)
+first_none (Some v) b none = let wrong : Some v ≡ None = none in absurd (some_none wrong)
+  where
+    some_none : Some v ≡ None → ⊥
+    some_none e = cc
+
+-- the first of two of which the second isn't there
+first_alone : (h : Option ℕ) → first_some h None ≡ h
+first_alone None = refl
+first_alone (Some v) = refl
+
+-- of two the first that is there is one of them
+first_either : (P : ℕ → Type 0) (a b : Option ℕ) (h : ℕ) → first_some a b ≡ Some h → (a ≡ Some h → P h) → (b ≡ Some h → P h) → P h
+first_either P None b h is one other = other is
+first_either P (Some v) b h is one other = one is
+
+module _ (s : UnitsState) (t : Table) (i : IsSound s) (k : IsTableOf s t) where
+  -- the unit that is found in the history is the one that is found in the table, over each of what is used
+  pub table_holder_all : (asking : Option ℕ) (rs : List Resource) → holder_among (held_table s) asking rs ≡ holder_over_all rs asking t
+  table_holder_all asking [] = refl
+  table_holder_all asking (r ∷ rs) = λ j. first_some (table_holder s t i k asking r j) (table_holder_all asking rs j)
+
+  -- where none is found all of it is free for the unit that acts
+  pub table_free_all : (u : Option ℕ) (rs : List Resource) → holder_over_all rs u t ≡ None → AreFreeFor t rs (unit_or_next u s.outcomes)
+  table_free_all u [] none = tt
+  table_free_all u (r ∷ rs) none =
+      let both = first_none (holder_over r u t) (holder_over_all rs u t) none in
+      (table_free s t i k u r both.0, table_free_all u rs both.1)
+
+  -- the unit that is found is open
+  pub holder_open_all : (asking : Option ℕ) (rs : List Resource) (h : ℕ) → holder_over_all rs asking t ≡ Some h → IsOpenUnit s h
+  holder_open_all asking [] h found = let wrong : None ≡ Some h = found in absurd (none_some wrong)
+    where
+      none_some : None ≡ Some h → ⊥
+      none_some e = cc
+  holder_open_all asking (r ∷ rs) h found =
+      first_either (IsOpenUnit s) (holder_over r asking t) (holder_over_all rs asking t) h found
+      (holder_open s t i k asking r h) (holder_open_all asking rs h)
+
+  -- a command waits for the first unit in the way of what it uses, else for the writer of what it would read
+  pub awaited-uses : (u : Option ℕ) (op : Op) →
+      awaited s u op ≡ first_some (holder_over_all (uses_of s.opening op) u t) (writer_awaited s u op)
+  awaited-uses u op = λ j. first_some (table_holder_all u (uses_of s.opening op) j) (writer_awaited s u op)
+
+  -- a command on a file waits for no writer
+  pub awaited-uses_file : (u : Option ℕ) (op : Op) → is_file_op op ≡ true →
+      awaited s u op ≡ holder_over_all (uses_if (is_recoverable s.opening op) op) u t
+  awaited-uses_file u op file =
+      awaited-uses u op ∙ ap (first_some (holder_over_all (uses_of s.opening op) u t)) (no_writer op file)
+      ∙ first_alone (holder_over_all (uses_of s.opening op) u t)
+      ∙ ap (λ rs. holder_over_all rs u t) (sym (uses_alike s.opening op))
+    where
+      no_writer : (op : Op) → is_file_op op ≡ true → writer_awaited s u op ≡ None
+      no_writer (TdRead q) file = absurd (false≢true file)
+      no_writer (Write f k r) file = refl
+      no_writer (Rewrite f k r) file = refl
+      no_writer (Delete f k) file = refl
+      no_writer (DeleteGeneric f p) file = refl
+      no_writer (ReadUpdate f k) file = refl
+      no_writer (TsWrite q d) file = refl
+      no_writer (TsRewrite q n d) file = refl
+      no_writer (TsDelete q) file = refl
+      no_writer (TdWrite q d) file = refl
+      no_writer (TdDelete q) file = refl
+
+  -- where it awaits none, all that it uses is free for the unit that acts
+  pub uses_free : (u : Option ℕ) (op : Op) → awaited s u op ≡ None → AreFreeFor t (uses_of s.opening op) (unit_or_next u s.outcomes)
+  uses_free u op none = table_free_all u (uses_of s.opening op)
+      (first_none (holder_over_all (uses_of s.opening op) u t) (writer_awaited s u op) (sym (awaited-uses u op) ∙ none)).0

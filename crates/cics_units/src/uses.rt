@@ -1,0 +1,215 @@
+//! What a command uses, and how its unit takes it: all of it, or nothing where memory is refused.
+
+ghost use Rattle.std.specs.Prelude.{◌≡◌, ◌≤◌, false, Some, length, T, IfOk, OnOk, OnErr};
+ghost use Rattle.std.specs.List.{list_any};
+ghost use Rattle.cics_enqueue.specs.Resources.{IsFreeFor, is_in_order, is_user, taken};
+ghost use Rattle.cics_history.specs.Holding.{named_if};
+ghost use Rattle.cics_history.specs.Records.{key_of};
+ghost use Rattle.cics_units.specs.Uses.{uses_if, listed, taken_all, AreFreeFor, holder_over_all};
+ghost use Rattle.cics_units.specs.Uses.{given_back_if, let_go};
+ghost use Rattle.cics_units.specs.Awaiting.{writer_of};
+
+use cics_enqueue::{Enqueues, Resource, UnitId};
+use cics_history::Op;
+use cics_names::{Name4, NoMemory};
+use cics_transdata::TransQueue;
+
+/// What a command uses: two resources at most, the reading end of a queue before its writing end.
+#[derive(Drop)]
+pub(crate) enum Uses {
+    /// Nothing that is held.
+    Nothing,
+    /// One resource.
+    One(Resource),
+    /// Two resources.
+    Two(Resource, Resource),
+}
+
+/// Which of two resources were free before a unit took them; what it holds already it doesn't take.
+#[derive(Clone, Copy)]
+pub(crate) struct WereFree {
+    first: bool,
+    second: bool,
+}
+
+// A resource where it is recoverable, else nothing.
+fn if_recoverable(recoverable: bool, resource: Resource) -> Uses
+    ensures { listed result ≡ named_if recoverable resource }
+{
+    if recoverable {
+        Uses::One(resource)
+    } else {
+        Uses::Nothing
+    }
+}
+
+/// What a command uses, by whether its file or queue is recoverable: the record of a file, there or
+/// not, or all under a prefix; of a recoverable temporary storage queue the name, and of a LOGICAL
+/// queue the reading end for a read, the writing end for a write, both for a delete.
+pub(crate) fn uses_of(op: &Op, recoverable: bool) -> Uses
+    requires most { length (key_of op.now) ≤ 255 }
+    ensures { listed result ≡ uses_if recoverable op.now }
+{
+    match op {
+        Op::Write { file, key, .. } => Uses::One(Resource::record(*file, key.bytes())),
+        Op::Rewrite { file, key, .. } => Uses::One(Resource::record(*file, key.bytes())),
+        Op::Delete { file, key } => Uses::One(Resource::record(*file, key.bytes())),
+        Op::DeleteGeneric { file, prefix } => Uses::One(Resource::prefix(*file, prefix.bytes())),
+        Op::ReadUpdate { file, key } => Uses::One(Resource::record(*file, key.bytes())),
+        Op::TsWrite { queue, .. } => if_recoverable(recoverable, Resource::TsQueue(*queue)),
+        Op::TsRewrite { queue, .. } => if_recoverable(recoverable, Resource::TsQueue(*queue)),
+        Op::TsDelete { queue } => if_recoverable(recoverable, Resource::TsQueue(*queue)),
+        Op::TdWrite { queue, .. } => if_recoverable(recoverable, Resource::TdWrite(*queue)),
+        Op::TdRead { queue } => if_recoverable(recoverable, Resource::TdRead(*queue)),
+        Op::TdDelete { queue } => {
+            if recoverable {
+                Uses::Two(Resource::TdRead(*queue), Resource::TdWrite(*queue))
+            } else {
+                Uses::Nothing
+            }
+        }
+    }
+}
+
+// A copy of a resource.
+fn copy_of(resource: &Resource) -> Resource
+    ensures { result ≡ resource.now }
+{
+    match resource {
+        Resource::FileKey(file, key) => Resource::record(*file, key.as_slice()),
+        Resource::TsQueue(queue) => Resource::TsQueue(*queue),
+        Resource::TdRead(queue) => Resource::TdRead(*queue),
+        Resource::TdWrite(queue) => Resource::TdWrite(*queue),
+        Resource::User(value) => Resource::value(value.as_slice()),
+        Resource::FilePrefix(file, prefix) => Resource::prefix(*file, prefix.as_slice()),
+    }
+}
+
+// Takes a resource for a unit, unless the unit holds it already, and tells whether it was free.
+fn hold(enqueues: &mut Enqueues, resource: &Resource, unit: UnitId) -> Result<bool, NoMemory>
+    requires plain { is_user resource.now ≡ false }
+    requires free { IsFreeFor enqueues.old resource.now unit }
+    requires in_order { T (is_in_order enqueues.old) }
+    ensures taken { OnOk result (enqueues.new ≡ taken enqueues.old resource.now unit) }
+    ensures undone { IfOk result (λ was_free.
+        given_back_if was_free enqueues.new resource.now unit ≡ enqueues.old) }
+    ensures err { OnErr result (enqueues.new ≡ enqueues.old) }
+{
+    if enqueues.holder(resource).is_some() {
+        return Ok(false);
+    }
+    match enqueues.take(copy_of(resource), unit) {
+        Ok(()) => Ok(true),
+        Err(_) => Err(NoMemory),
+    }
+}
+
+// Gives a resource back that was free before its unit took it.
+fn let_go(enqueues: &mut Enqueues, resource: &Resource, unit: UnitId, was_free: bool)
+    ensures { enqueues.new ≡ given_back_if was_free enqueues.old resource.now unit }
+{
+    if was_free {
+        enqueues.give_back(resource, unit);
+    }
+}
+
+/// Takes what a command uses for a unit, but for what the unit holds already, and tells what was free
+/// before. No other unit may hold what overlaps any of it. NoMemory where memory is refused: then
+/// nothing has changed.
+pub(crate) fn hold_all(
+    enqueues: &mut Enqueues,
+    uses: &Uses,
+    unit: UnitId,
+) -> Result<WereFree, NoMemory>
+    requires plain { list_any is_user (listed uses.now) ≡ false }
+    requires free { AreFreeFor enqueues.old (listed uses.now) unit }
+    requires in_order { T (is_in_order enqueues.old) }
+    ensures taken { OnOk result (enqueues.new ≡ taken_all enqueues.old unit (listed uses.now)) }
+    ensures undone { IfOk result (λ were_free.
+        let_go enqueues.new uses.now were_free unit ≡ enqueues.old) }
+    ensures err { OnErr result (enqueues.new ≡ enqueues.old) }
+{
+    match uses {
+        Uses::Nothing => Ok(WereFree {
+            first: false,
+            second: false,
+        }),
+        Uses::One(resource) => {
+            let first = hold(enqueues, resource, unit)?;
+            Ok(WereFree {
+                first,
+                second: false,
+            })
+        }
+        Uses::Two(one, other) => {
+            let first = hold(enqueues, one, unit)?;
+            match hold(enqueues, other, unit) {
+                Ok(second) => Ok(WereFree { first, second }),
+                Err(refused) => {
+                    let_go(enqueues, one, unit, first);
+                    Err(refused)
+                }
+            }
+        }
+    }
+}
+
+/// Gives back what a unit took of what a command uses, and leaves it what it held before. It takes no
+/// memory.
+pub(crate) fn let_go_all(enqueues: &mut Enqueues, uses: &Uses, unit: UnitId, were_free: WereFree)
+    ensures { enqueues.new ≡ let_go enqueues.old uses.now were_free unit }
+{
+    match uses {
+        Uses::Nothing => {}
+        Uses::One(resource) => let_go(enqueues, resource, unit, were_free.first),
+        Uses::Two(one, other) => {
+            let_go(enqueues, other, unit, were_free.second);
+            let_go(enqueues, one, unit, were_free.first);
+        }
+    }
+}
+
+/// The unit, other than the one that asks, that holds the least of what overlaps the first of the
+/// resources that is in its way, or None where all of them are free for the one that asks.
+pub(crate) fn holder_over_all(
+    enqueues: &Enqueues,
+    uses: &Uses,
+    asking: Option<UnitId>,
+) -> Option<UnitId>
+    ensures { result ≡ holder_over_all (listed uses.now) asking enqueues.now }
+{
+    // A copy for each call that the unit is handed to.
+    let again = asking;
+    match uses {
+        Uses::Nothing => None,
+        Uses::One(resource) => enqueues.holder_over(resource, asking),
+        Uses::Two(one, other) => match enqueues.holder_over(one, asking) {
+            Some(holder) => Some(holder),
+            None => enqueues.holder_over(other, again),
+        },
+    }
+}
+
+/// The unit, other than the one that asks, for which a READQ TD of the acting unit waits once no unit
+/// is in the way of its reading end: the one at the writing end of a LOGICAL queue in which there is
+/// no record that the acting unit may read. A unit that holds the writing end itself may read what it
+/// wrote.
+pub(crate) fn writer_of(
+    enqueues: &Enqueues,
+    queue: &TransQueue,
+    name: Name4,
+    asking: Option<UnitId>,
+    acting: UnitId,
+) -> Option<UnitId>
+    ensures { result ≡ writer_of enqueues.now (Some queue.now) name asking acting }
+{
+    let end = Resource::TdWrite(name);
+    let past_fresh = match enqueues.holder(&end) {
+        Some(holder) => holder == acting,
+        None => false,
+    };
+    if !queue.recovery().is_logical() || queue.first(past_fresh).is_some() {
+        return None;
+    }
+    enqueues.holder_over(&end, asking)
+}
