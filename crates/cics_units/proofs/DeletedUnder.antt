@@ -1,4 +1,4 @@
--- What DELETE GENERIC makes of the files and of the images of its unit.
+-- What DELETE GENERIC makes of the files, and the images that it gives.
 use Rattle.std.proofs.Common.{◌≡◌, ℕ, Bool, true, false, ◌&&◌, ◌||◌, not, T, Some, List, [], ◌∷◌, ◌++◌, refl, ap, sym, subst, ◌∙◌, inl, inr, ◌⊎◌}
 use Rattle.std.specs.Prelude.{if◌then◌else◌, map, unwrap_or}
 use Rattle.std.proofs.lemmas.Bool.{true≢false, and_parts, or_right, false_from_ne_true}
@@ -7,6 +7,7 @@ use Rattle.cics_names.specs.Keyed.{Bytes, Map, value_at, has_key, with_value, is
 use Rattle.cics_names.specs.KeyedLaws.{is_same-self, is_same-eq, value_at-with_value_same, value_at-with_value_other}
 use Rattle.cics_names.specs.RisingLaws.{rising-with_value, same_maps, is_key_in-with_key, is_key_in-without_key}
 use Rattle.cics_images.specs.Cells.{is_other, is_unnamed}
+use Rattle.cics_images.specs.StoreCells.{file_cell, with_files}
 use Rattle.cics_images.specs.NamedLaws.{split_cell, same_or_other}
 use Rattle.cics_ksds.specs.Files.{FileValue, IsContent, key_of, emptied, dropped, deleted}
 use Rattle.cics_ksds.specs.Undo.{ImageValue, key_of_image, KeepsKeys}
@@ -23,20 +24,11 @@ use Rattle.cics_units.specs.FilesImages.{FilesImage, cell_of, cell_of_image, fil
 use Rattle.cics_units.specs.FilesImagesLaws as files
 use Rattle.cics_units.specs.FilesImagesLaws.{same_bytes-eq}
 use Rattle.cics_units.specs.FilesChanges.{image_among, held_among}
-use Rattle.cics_units.specs.Matching.{store_of_files, AreKept}
-use Rattle.cics_units.specs.UnitImages.{kept_by, AreOthersKept}
-use Rattle.cics_units.specs.Parts.{UndoableValue, is_recoverable_in, with_stored, leaves, is_below_prefix, AreImagesAfter, AreChanged}
-use Rattle.cics_units.proofs.MadeImages.{AreReady, ready_with}
+use Rattle.cics_units.specs.StoreMatching.{StoreValue, shown_store, AreKept}
+use Rattle.cics_units.specs.Parts.{is_recoverable_in, with_stored, leaves, is_below_prefix, of_files}
+use Rattle.cics_units.proofs.MadeImages.{AreMadeInTurn}
+use Rattle.cics_units.proofs.FilesChanged.{AreFileImagesAfter, AreFilesChanged}
 use Rattle.cics_units.proofs.FileChanges.{records_there, cell_there, kept_store, changed_store}
-
--- ---- Images stored one after another
-
-with_stored-front : (name : Bytes) (more : List ImageValue) (is : List FilesImage) → with_stored name more is ≡ with_stored name more [] ++ is
-with_stored-front name [] is = refl
-with_stored-front name (i ∷ more) is =
-    with_stored-front name more (record { name = name; image = i } ∷ is)
-    ∙ sym (append_assoc (with_stored name more []) (record { name = name; image = i } ∷ []) is)
-    ∙ ap (λ l. l ++ is) (sym (with_stored-front name more (record { name = name; image = i } ∷ [])))
 
 -- a file that takes the place of another takes that of what took it before
 twice : (name : Bytes) (g h : FileValue) (m : Map FileValue) → T (is_rising m) → with_value name h (with_value name g m) ≡ with_value name h m
@@ -49,22 +41,22 @@ twice name g h m rising =
           ∙ sym (value_at-with_value_other q name h m apart)
     ])
 
--- the images of changes made one after another are ready, the last the first
-ready_along : (name : Bytes) (images : List ImageValue) (f g : FileValue) (m : Map FileValue) → T (is_rising m) → value_at name m ≡ Some f →
-    AreFileImages f g images → (is : List FilesImage) → AreReady m is → AreReady (with_value name g m) (with_stored name images is)
-ready_along name [] f g m rising there same is ready =
-    subst (λ x. AreReady (with_value name x m) is) (sym same) (subst (λ x. AreReady x is) (sym (with_value-same name f m rising there)) ready)
-ready_along name (i ∷ more) f g m rising there chain is ready =
+-- the images of changes made one after another lead back in turn, the last the first
+made_along : (name : Bytes) (images : List ImageValue) (f g : FileValue) (start m : Map FileValue) → T (is_rising m) → value_at name m ≡ Some f →
+    AreFileImages f g images → (is : List FilesImage) → AreMadeInTurn start m is → AreMadeInTurn start (with_value name g m) (with_stored name images is)
+made_along name [] f g start m rising there same is made =
+    subst (λ x. AreMadeInTurn start (with_value name x m) is) (sym same) (subst (λ x. AreMadeInTurn start x is) (sym (with_value-same name f m rising there)) made)
+made_along name (i ∷ more) f g start m rising there chain is made =
     let mid = chain.0 in
     let next = with_value name mid m in
     let image : FilesImage = record { name = name; image = i } in
-    subst (λ x. AreReady x (with_stored name more (image ∷ is))) (twice name mid g m rising)
-    (ready_along name more mid g next (rising-with_value name mid m rising) (value_at-with_value_same name mid m) chain.2 (image ∷ is)
-    (ready_with m next (cell_of name (key_of_image i)) image is (image_among name f mid m there (key_of_image i) i chain.1) ready))
+    subst (λ x. AreMadeInTurn start x (with_stored name more (image ∷ is))) (twice name mid g m rising)
+    (made_along name more mid g start next (rising-with_value name mid m rising) (value_at-with_value_same name mid m) chain.2 (image ∷ is)
+    (m, image_among name f mid m there (key_of_image i) i chain.1, made))
 
-module _ (m : Map FileValue) (name p : Bytes) (f : FileValue) (there : value_at name m ≡ Some f) where
+module _ (s : StoreValue) (name p : Bytes) (f : FileValue) (there : value_at name s.files ≡ Some f) where
   abbrev cells : Cells
-  cells = content (store_of_files m)
+  cells = content (shown_store s)
 
   abbrev op : Op
   op = DeleteGeneric name p
@@ -73,27 +65,27 @@ module _ (m : Map FileValue) (name p : Bytes) (f : FileValue) (there : value_at 
   image_of_entry e = record { name = name; image = removed_entry f.definition e }
 
   -- the image of an entry stands for the change of its key
-  entry_kept : (e : Bytes × Bytes) → value_at e.0 f.records ≡ Some e.1 → key_of f.definition e.1 ≡ e.0 → (cs : List Image) (is : List FilesImage) → AreKept cs is →
-      AreKept (image_at op (Key name e.0) (cells (Key name e.0)) ++ cs) (image_of_entry e ∷ is)
+  entry_kept : (e : Bytes × Bytes) → value_at e.0 f.records ≡ Some e.1 → key_of f.definition e.1 ≡ e.0 → (cs : List Image) (is : List FilesImage) → AreKept cs [] (of_files is) →
+      AreKept (image_at op (Key name e.0) (cells (Key name e.0)) ++ cs) [] (of_files (image_of_entry e ∷ is))
   entry_kept e at own cs is kept =
-      subst (λ c. AreKept (image_at op (Key name e.0) c ++ cs) (image_of_entry e ∷ is)) (sym (cell_there m name f there e.0 ∙ ap (λ o. Some (listed o)) at))
-      (record { cell = ap (Key name) (sym own); leads = (refl, refl) }, kept)
+      subst (λ c. AreKept (image_at op (Key name e.0) c ++ cs) [] (of_files (image_of_entry e ∷ is))) (sym (cell_there s name f there e.0 ∙ ap (λ o. Some (listed o)) at))
+      (record { cell = ap (λ k. file_cell (cell_of name k)) own; leads = (refl, refl) }, kept)
 
   -- and those of entries for the changes of theirs
-  entries_kept : (es : Map Bytes) → AreThere f es → (cs : List Image) (is : List FilesImage) → AreKept cs is →
-      AreKept (images_under op name cells es ++ cs) (with_stored name (map (removed_entry f.definition) es) is)
+  entries_kept : (es : Map Bytes) → AreThere f es → (cs : List Image) (is : List FilesImage) → AreKept cs [] (of_files is) →
+      AreKept (images_under op name cells es ++ cs) [] (of_files (with_stored name (map (removed_entry f.definition) es) is))
   entries_kept [] entries cs is kept = kept
   entries_kept (e ∷ es) entries cs is kept =
-      subst (λ l. AreKept l (with_stored name (map (removed_entry f.definition) es) (image_of_entry e ∷ is)))
+      subst (λ l. AreKept l [] (of_files (with_stored name (map (removed_entry f.definition) es) (image_of_entry e ∷ is))))
       (sym (append_assoc (images_under op name cells es) (image_at op (Key name e.0) (cells (Key name e.0))) cs))
       (entries_kept es entries.3 (image_at op (Key name e.0) (cells (Key name e.0)) ++ cs) (image_of_entry e ∷ is) (entry_kept e entries.0 entries.1 cs is kept))
 
   -- those of the command stand for its changes
-  all_kept : IsContent f.definition f.records → AreKept (images_by (store_of_files m) op cells) (with_stored name (prefix_images true f p) [])
+  all_kept : IsContent f.definition f.records → AreKept (images_by (shown_store s) op cells) [] (of_files (with_stored name (prefix_images true f p) []))
   all_kept content_is =
-      subst (λ l. AreKept l (with_stored name (prefix_images true f p) []))
-      (append-nil (images_under op name cells (under p f.records)) ∙ ap (λ o. images_under op name cells (under p (unwrap_or o []))) (sym (records_there m name f there)))
-      (entries_kept (under p f.records) (under_there f p content_is) [] [] tt)
+      subst (λ l. AreKept l [] (of_files (with_stored name (prefix_images true f p) [])))
+      (append-nil (images_under op name cells (under p f.records)) ∙ ap (λ o. images_under op name cells (under p (unwrap_or o []))) (sym (records_there s name f there)))
+      (entries_kept (under p f.records) (under_there f p content_is) [] [] (refl, refl))
 
 -- ---- What is held back
 
@@ -145,69 +137,66 @@ unnamed_apart name f (e ∷ es) entries is k h = λ i. here i || unnamed_apart n
 
 -- ---- The command
 
-module _ (old new : UndoableValue) (unit : ℕ) (name : Bytes) (f : FileValue) (there : value_at name old.files ≡ Some f) (rising : T (is_rising old.files))
+module _ (s : StoreValue) (name : Bytes) (f : FileValue) (there : value_at name s.files ≡ Some f) (rising : T (is_rising s.files))
     (content_is : IsContent f.definition f.records) (p : Bytes) (images : List ImageValue) where
   abbrev after : FileValue
   after = without_prefix f.definition.recoverable f p
 
-  store_then : store_of_files (with_value name after old.files) ≡ (apply (store_of_files old.files) (DeleteGeneric name p)).store
-  store_then =
+  shown_then : shown_store (with_files s (with_value name after s.files)) ≡ (apply (shown_store s) (DeleteGeneric name p)).store
+  shown_then =
       by (under p f.records) refl
-      ∙ sym (ap (λ o. (apply_delete_generic (store_of_files old.files) name p o).store) (records_there old.files name f there))
+      ∙ sym (ap (λ o. (apply_delete_generic (shown_store s) name p o).store) (records_there s name f there))
     where
-      by : (es : Map Bytes) → under p f.records ≡ es → store_of_files (with_value name after old.files)
-          ≡ (answered (store_of_files old.files) (counted_answer es) (with_file (store_of_files old.files) name (outside p f.records))).store
+      by : (es : Map Bytes) → under p f.records ≡ es → shown_store (with_files s (with_value name after s.files))
+          ≡ (answered (shown_store s) (counted_answer es) (with_file (shown_store s) name (outside p f.records))).store
       by [] none =
-          ap (λ es. store_of_files (with_value name (all_deleted f.definition.recoverable f (map (λ e. e.0) es)) old.files)) none
-          ∙ kept_store old.files name f there rising
+          ap (λ es. shown_store (with_files s (with_value name (all_deleted f.definition.recoverable f (map (λ e. e.0) es)) s.files))) none
+          ∙ kept_store s name f there rising
       by (e ∷ es) some =
-          changed_store old.files name f there rising after
-          ∙ ap (with_file (store_of_files old.files) name) (without_prefix_records f.definition.recoverable f p content_is)
+          changed_store s name f there rising after
+          ∙ ap (with_file (shown_store s) name) (without_prefix_records f.definition.recoverable f p content_is)
 
   -- of its own file it leaves the keys that are not under the prefix
   left_here : (k : List ℕ) → leaves (DeleteGeneric name p) (cell_of name k) ≡ not (has_prefix p k)
   left_here k = ap (λ e. not (is_below_prefix name p e)) (split_cell name k) ∙ ap (λ b. not (b && has_prefix p k)) (is_same-self name)
 
-  others_then : FilesKeep (leaves (DeleteGeneric name p)) old.files (with_value name after old.files)
+  others_then : FilesKeep (leaves (DeleteGeneric name p)) s.files (with_value name after s.files)
   others_then = λ q. elim (same_or_other q name) [
-    | inl same ↦ subst (λ x. KeepsIn (λ c. leaves (DeleteGeneric name p) (cell_of x c)) (value_at x old.files) (value_at x (with_value name after old.files))) (sym same)
-        (subst (λ o. KeepsIn (λ c. leaves (DeleteGeneric name p) (cell_of name c)) o (value_at name (with_value name after old.files))) (sym there)
-        (subst (KeepsIn (λ c. leaves (DeleteGeneric name p) (cell_of name c)) (Some f)) (sym (value_at-with_value_same name after old.files))
+    | inl same ↦ subst (λ x. KeepsIn (λ c. leaves (DeleteGeneric name p) (cell_of x c)) (value_at x s.files) (value_at x (with_value name after s.files))) (sym same)
+        (subst (λ o. KeepsIn (λ c. leaves (DeleteGeneric name p) (cell_of name c)) o (value_at name (with_value name after s.files))) (sym there)
+        (subst (KeepsIn (λ c. leaves (DeleteGeneric name p) (cell_of name c)) (Some f)) (sym (value_at-with_value_same name after s.files))
         (subst (λ t. KeepsKeys t f after) (λ i c. sym (left_here c) i) (prefix_keeps f.definition.recoverable f p))))
-    | inr apart ↦ subst (KeepsIn (λ c. leaves (DeleteGeneric name p) (cell_of q c)) (value_at q old.files)) (sym (value_at-with_value_other q name after old.files apart))
-        (files.keeps_itself (leaves (DeleteGeneric name p)) old.files q)
+    | inr apart ↦ subst (KeepsIn (λ c. leaves (DeleteGeneric name p) (cell_of q c)) (value_at q s.files)) (sym (value_at-with_value_other q name after s.files apart))
+        (files.keeps_itself (leaves (DeleteGeneric name p)) s.files q)
   ]
 
-  module _ (apart : AreOthersKept old.images new.images unit) (kept : kept_by new.images unit ≡ with_stored name images (kept_by old.images unit))
-      (files_then : new.files ≡ with_value name after old.files) (given : images ≡ prefix_images f.definition.recoverable f p) where
-    images_then : (b : Bool) → f.definition.recoverable ≡ b → AreImagesAfter old new unit (DeleteGeneric name p) b
-    images_then false plain = kept ∙ ap (λ is. with_stored name is (kept_by old.images unit)) (given ∙ ap (λ b. prefix_images b f p) plain)
-    images_then true rec =
-        let is : images ≡ prefix_images true f p = given ∙ ap (λ b. prefix_images b f p) rec in
-        record {
-          images = with_stored name (prefix_images true f p) [];
-          made = all_kept old.files name p f there content_is;
-          newest = kept ∙ ap (λ l. with_stored name l (kept_by old.images unit)) is ∙ with_stored-front name (prefix_images true f p) (kept_by old.images unit);
-          ready = λ r. subst (AreReady new.files) (sym kept)
-              (subst (λ n. AreReady n (with_stored name images (kept_by old.images unit))) (sym files_then)
-              (subst (λ b. AreReady (with_value name (without_prefix b f p) old.files) (with_stored name images (kept_by old.images unit))) (sym rec)
-              (subst (λ l. AreReady (with_value name (without_prefix true f p) old.files) (with_stored name l (kept_by old.images unit))) (sym is)
-              (ready_along name (prefix_images true f p) f (without_prefix true f p) old.files rising there (prefix_made f p content_is) (kept_by old.images unit) r))));
-        }
+  module _ (n : Map FileValue) (files_then : n ≡ with_value name after s.files) (given : images ≡ prefix_images f.definition.recoverable f p) where
+    -- the images, where they are asked for
+    asked : (b : Bool) → f.definition.recoverable ≡ b → images ≡ prefix_images b f p
+    asked b is = given ∙ ap (λ b. prefix_images b f p) is
 
-    held_then : (k : Bytes) → is_unnamed cell_of_image (kept_by new.images unit) (cell_of name k) ≡ true → is_key_in k after.empties ≡ true → is_key_in k f.empties ≡ true
+    images_then : (b : Bool) → f.definition.recoverable ≡ b → AreFileImagesAfter s n (DeleteGeneric name p) (with_stored name images []) b
+    images_then false plain = ap (λ is. with_stored name is []) (asked false plain)
+    images_then true rec = record {
+      made = subst (λ l. AreKept (images_by (shown_store s) (DeleteGeneric name p) (content (shown_store s))) [] (of_files (with_stored name l []))) (sym (asked true rec))
+          (all_kept s name p f there content_is);
+      in_turn = subst (λ m. AreMadeInTurn s.files m (with_stored name images [])) (sym files_then)
+          (subst (λ l. AreMadeInTurn s.files (with_value name after s.files) (with_stored name l [])) (sym (asked true rec))
+          (subst (λ b. AreMadeInTurn s.files (with_value name (without_prefix b f p) s.files) (with_stored name (prefix_images true f p) [])) (sym rec)
+          (made_along name (prefix_images true f p) f (without_prefix true f p) s.files s.files rising there (prefix_made f p content_is) [] refl)));
+    }
+
+    held_then : (k : Bytes) → is_unnamed cell_of_image (with_stored name images []) (cell_of name k) ≡ true → is_key_in k after.empties ≡ true → is_key_in k f.empties ≡ true
     held_then k unnamed has = elim (held_more f.definition.recoverable (keys_under p f.records) f k has) [
       | inl before ↦ before
-      | inr more ↦ absurd (true≢false (sym more.1 ∙ unnamed_apart name f (under p f.records) (under_there f p content_is) (kept_by old.images unit) k
-          (ap (λ l. is_unnamed cell_of_image (with_stored name l (kept_by old.images unit)) (cell_of name k)) (sym (given ∙ ap (λ b. prefix_images b f p) more.0))
-          ∙ ap (λ l. is_unnamed cell_of_image l (cell_of name k)) (sym kept) ∙ unnamed)))
+      | inr more ↦ absurd (true≢false (sym more.1 ∙ unnamed_apart name f (under p f.records) (under_there f p content_is) [] k
+          (ap (λ l. is_unnamed cell_of_image (with_stored name l []) (cell_of name k)) (sym (asked true more.0)) ∙ unnamed)))
     ]
 
-    pub generic_changed : AreChanged old new unit (DeleteGeneric name p)
+    pub generic_changed : AreFilesChanged s n (DeleteGeneric name p) (with_stored name images [])
     generic_changed = record {
-      store = ap store_of_files files_then ∙ store_then;
-      others = subst (FilesKeep (leaves (DeleteGeneric name p)) old.files) (sym files_then) others_then;
-      apart = apart;
-      images = images_then (is_recoverable_in (value_at name old.files)) (sym (ap is_recoverable_in there));
-      held = λ c unnamed has. held_among name f after old.files there (is_unnamed cell_of_image (kept_by new.images unit)) held_then c unnamed (sym (ap (λ m. files_hold m c) files_then) ∙ has);
+      shown = ap (λ m. shown_store (with_files s m)) files_then ∙ shown_then;
+      others = subst (FilesKeep (leaves (DeleteGeneric name p)) s.files) (sym files_then) others_then;
+      images = images_then (is_recoverable_in (value_at name s.files)) (sym (ap is_recoverable_in there));
+      held = λ c unnamed has. held_among name f after s.files there (is_unnamed cell_of_image (with_stored name images [])) held_then c unnamed (sym (ap (λ m. files_hold m c) files_then) ∙ has);
     }

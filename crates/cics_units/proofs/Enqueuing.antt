@@ -6,19 +6,21 @@ use Rattle.std.proofs.lemmas.Bool.{cases_Bool, eq-eqb, and_from, and_right}
 use Rattle.cics_names.specs.Keyed.{Bytes, is_same}
 use Rattle.cics_names.specs.RisingLaws.{is_same-turned}
 use Rattle.cics_enqueue.specs.ResourceLaws.{free_own}
+use Rattle.cics_tempstor.specs.Queues.{places_of}
 use Rattle.cics_enqueue.specs.Resources.{Table, Held, resource_cmp, most_count, held_at, holder_over, count_in, count_of, is_full, IsFreeFor, taken, given_back}
 use Rattle.cics_enqueue.proofs.TableLaws.{unit_in}
 use Rattle.cics_enqueue.specs.declared.resources.Resource.{Resource}
 use Rattle.cics_enqueue.specs.declared.resources.Resource.TheVariants.{FileKey, TsQueue, TdRead as ReadingEnd, TdWrite as WritingEnd, User, FilePrefix}
 use Rattle.cics_history.specs.Openings.{OpeningState}
-use Rattle.cics_history.specs.History.{is_open}
+use Rattle.cics_history.specs.History.{outcome_of, is_open}
 use Rattle.cics_history.specs.Holding.{UnitsState, EnqCount, value_holder}
 use Rattle.cics_history.specs.Execution.{unit_or_next, outcomes_with, count_at, enq_of, enqueue, after_enqueued, after_enqueue, after_dequeue}
 use Rattle.cics_history.specs.Events.{may_act}
 use Rattle.cics_history.specs.Isolation.{IsSound}
 use Rattle.cics_history.specs.Cells.{content}
 use Rattle.cics_history.specs.Undo.{IsUndoable}
-use Rattle.cics_units.specs.Matching.{store_of_files}
+use Rattle.cics_history.specs.Ends.{AreMarked}
+use Rattle.cics_units.specs.StoreMatching.{StoreValue, shown_store}
 use Rattle.cics_units.specs.TableInPlace.{value_of, counted_before, counts_in}
 use Rattle.cics_units.specs.Parts.{UndoableValue, PartsValue, AreRoomier, AreEnqueued, ArePartsKept}
 use Rattle.cics_units.specs.KeptUnits.{state_shown, AreKept}
@@ -99,42 +101,62 @@ module _ (s : UnitsState) (st : UndoableValue) (t : Table) (is : AreKept s st t)
 
 module _ (s : UnitsState) (st new : UndoableValue) (t : Table) (is : AreKept s st t) (u : Option ℕ) (v : Bytes) (acts : may_act s u ≡ true)
     (takes : enqueue s u v ≡ Taken (unit_or_next u s.outcomes)) (room : AreRoomier st new) (begun : unit_or_next u s.outcomes < length new.images) where
+  -- ENQ changes neither the store nor what holds of it
   pub kept_enqueued : AreKept (after_enqueued s u v (Taken (unit_or_next u s.outcomes))) new (taken t (value_of v) (unit_or_next u s.outcomes))
   kept_enqueued =
-      let roomier = kept_roomier s st t is new room.files room.kept room.longer in
+      let roomier = kept_roomier s st t is new room.store room.kept room.longer in
       record {
         in_order = is.in_order;
         lawful_keys = is.lawful_keys;
-        files_alone = is.files_alone;
         sound = subst (λ e. IsSound (after_enqueued s u v e)) takes (enqueue-IsSound s u v is.sound acts);
         canonical = roomier.canonical;
         place = record {
           changes = roomier.place.changes;
-          place = subst (λ out. IsUndoable s.opening s.trace out (record { cells = content (store_of_files new.files); images = roomier.place.changes })) (λ i n. sym (outcome_of-with u s.outcomes n) i) roomier.place.place;
+          marks = roomier.place.marks;
+          place = subst (λ out. IsUndoable s.opening s.trace out (record { cells = content (shown_store new.store); images = roomier.place.changes })) same_outcomes roomier.place.place;
+          ends = subst (λ out. AreMarked s.opening s.trace out roomier.place.marks) same_outcomes roomier.place.ends;
+          queues = roomier.place.queues;
           kept = roomier.place.kept;
           ready = roomier.place.ready;
           over = λ w shut. roomier.place.over w (ap is_open (sym (outcome_of-with u s.outcomes w)) ∙ shut);
         };
-        definitions = roomier.definitions;
+        defined = roomier.defined;
+        rows = roomier.rows;
+        places = roomier.places;
         table = table_enqueued_of s t u v (unit_or_next u s.outcomes) is.sound is.table acts takes;
-        held = roomier_held st new is.held room.files room.kept;
+        held = roomier_held st new is.held room.store room.kept;
         begun = begun_by u begun;
       }
     where
+      -- a unit that begins is open, as one that hasn't begun
+      same_outcomes : outcome_of s.outcomes ≡ outcome_of (outcomes_with u s.outcomes)
+      same_outcomes = λ i n. sym (outcome_of-with u s.outcomes n) i
+
       begun_by : (u : Option ℕ) → unit_or_next u s.outcomes < length new.images → length (outcomes_with u s.outcomes) ≤ length new.images
       begun_by None begun = omega (arith, length-append s.outcomes (Open ∷ []), begun)
       begun_by (Some w) begun = omega (arith, is.begun, room.longer)
 
 module _ (s : UnitsState) (st : UndoableValue) (t : Table) (is : AreKept s st t) (u : ℕ) (v : Bytes) where
+  -- nor does DEQ
   pub kept_dequeued : AreKept (after_dequeue s u v) st (given_back t (value_of v) u)
   kept_dequeued = record {
     in_order = is.in_order;
     lawful_keys = is.lawful_keys;
-    files_alone = is.files_alone;
     sound = dequeue-IsSound s u v is.sound;
     canonical = is.canonical;
-    place = record { changes = is.place.changes; place = is.place.place; kept = is.place.kept; ready = is.place.ready; over = is.place.over };
-    definitions = is.definitions;
+    place = record {
+      changes = is.place.changes;
+      marks = is.place.marks;
+      place = is.place.place;
+      ends = is.place.ends;
+      queues = is.place.queues;
+      kept = is.place.kept;
+      ready = is.place.ready;
+      over = is.place.over;
+    };
+    defined = is.defined;
+    rows = is.rows;
+    places = is.places;
     table = table_dequeued_of s t u v is.table;
     held = is.held;
     begun = is.begun;
@@ -158,6 +180,7 @@ module _ (o : OpeningState) (trace : List Entry) (outcomes : List UnitState) (p 
       outcomes = outcomes_with u outcomes;
       reads = done.reads i;
       counts = (ap counts_in done.table ∙ sym kept_then.table.counts) i;
+      next = sym kept_then.places i;
     }
 
     pub enqueued_shown : state_shown o trace (outcomes_with u outcomes) new ≡ after_enqueue before u v
@@ -169,7 +192,12 @@ module _ (o : OpeningState) (trace : List Entry) (outcomes : List UnitState) (p 
 
   -- a refused call shows what was there
   pub refused_shown : ArePartsKept p new → (outs : List UnitState) → outs ≡ outcomes → state_shown o trace outs new ≡ before
-  refused_shown same outs outs_same = λ i. record before { outcomes = outs_same i; reads = same.reads i; counts = counts_in (same.table i) }
+  refused_shown same outs outs_same = λ i. record before {
+    outcomes = outs_same i;
+    reads = same.reads i;
+    counts = counts_in (same.table i);
+    next = ap (λ (m : StoreValue). places_of m.temp_storage) same.stores.store i;
+  }
 
   -- DEQ
   module _ (u : ℕ) (v : Bytes) (done : new ≡ record p { table = given_back p.table (value_of v) u }) where

@@ -1,10 +1,11 @@
--- What an executed command on a file makes of the files and of the images of its unit.
-use Rattle.std.specs.Prelude.{◌≡◌, ℕ, Bool, true, false, if◌then◌else◌, T, Option, Some, None, is_some, option_map, IfSome, List, [], ◌∷◌, refl}
+-- What an executed command on a file makes of the files, and the image that it gives.
+use Rattle.std.specs.Prelude.{◌≡◌, ℕ, Bool, true, false, if◌then◌else◌, T, Option, Some, None, is_some, option_map, IfSome, List, refl}
 use Rattle.std.proofs.Common.{sym, ap, ◌∙◌, subst}
 use Rattle.std.proofs.lemmas.Bool.{true≢false, false≢true}
 use Rattle.cics_names.specs.Keyed.{Bytes, Map, value_at, has_key, with_value, without, is_rising}
 use Rattle.cics_names.specs.declared.conditions.Condition.TheVariants.{Normal, Duprec, Notfnd}
 use Rattle.cics_images.specs.Cells.{is_other, is_unnamed}
+use Rattle.cics_images.specs.StoreCells.{with_files}
 use Rattle.cics_ksds.specs.Files.{FileValue, key_of, written, rewritten, deleted, filled, emptied, dropped, write_condition, change_condition}
 use Rattle.cics_ksds.specs.Prefixes.{under}
 use Rattle.cics_ksds.specs.Undo.{ImageValue, written_image, rewritten_image, deleted_image}
@@ -14,81 +15,81 @@ use Rattle.cics_history.specs.Undo.{changes}
 use Rattle.cics_history.specs.declared.ops.Op.{Op}
 use Rattle.cics_history.specs.declared.ops.Op.TheVariants.{Write, Rewrite, Delete, DeleteGeneric, ReadUpdate}
 use Rattle.cics_units.specs.RegionFiles.{IsThere}
-use Rattle.cics_units.specs.FilesImages.{FilesImage, cell_of, cell_of_image, files_hold, FilesKeep, KeepsIn, definitions_of}
+use Rattle.cics_units.specs.FilesImages.{cell_of, cell_of_image, files_hold, FilesKeep, KeepsIn, definitions_of}
 use Rattle.cics_units.proofs.HeldPlaces.{written_held, rewritten_held, deleted_held}
 use Rattle.cics_units.specs.FilesChanges.{IsFilesImage, held_among}
-use Rattle.cics_units.specs.Matching.{store_of_files}
-use Rattle.cics_units.specs.UnitImages.{kept_by, AreOthersKept}
-use Rattle.cics_units.specs.Parts.{UndoableValue, is_recoverable_in, IsRecordOf, with_newest, KeepsImages, AreImagesAfter, AreChanged}
+use Rattle.cics_units.specs.StoreMatching.{StoreValue, shown_store}
+use Rattle.cics_units.specs.Parts.{is_recoverable_in, IsRecordOf, image_if}
 use Rattle.cics_history.proofs.Entries.{with_value-same}
 use Rattle.cics_units.proofs.MadeImages.{with_image, without_image}
+use Rattle.cics_units.proofs.FilesChanged.{HasFileImages, AreFileImagesAfter, AreFilesChanged}
 use Rattle.cics_units.proofs.Opened.{with_value-each}
 use Rattle.cics_history.proofs.Stores.{value_at_each}
 
 -- what one of the files has of a record's key, and what a command on it is answered
-module _ (m : Map FileValue) (name : Bytes) (f : FileValue) (there : value_at name m ≡ Some f) where
-  pub records_there : value_at name (store_of_files m).files ≡ Some f.records
-  records_there = value_at_each (λ x. x.records) name m ∙ ap (option_map (λ x. x.records)) there
+module _ (s : StoreValue) (name : Bytes) (f : FileValue) (there : value_at name s.files ≡ Some f) where
+  pub records_there : value_at name (shown_store s).files ≡ Some f.records
+  records_there = value_at_each (λ x. x.records) name s.files ∙ ap (option_map (λ x. x.records)) there
 
-  pub cell_there : (k : Bytes) → content (store_of_files m) (Key name k) ≡ Some (listed (value_at k f.records))
+  pub cell_there : (k : Bytes) → content (shown_store s) (Key name k) ≡ Some (listed (value_at k f.records))
   cell_there k = ap (record_in k) records_there
 
-  pub write_answer : (k r : Bytes) → (apply (store_of_files m) (Write name k r)).answer ≡ only (write_condition f.records k)
-  write_answer k r = ap (λ o. (apply_write (store_of_files m) name k r o).answer) records_there
+  pub write_answer : (k r : Bytes) → (apply (shown_store s) (Write name k r)).answer ≡ only (write_condition f.records k)
+  write_answer k r = ap (λ o. (apply_write (shown_store s) name k r o).answer) records_there
 
-  pub rewrite_answer : (k r : Bytes) → (apply (store_of_files m) (Rewrite name k r)).answer ≡ only (change_condition f.records k)
-  rewrite_answer k r = ap (λ o. (apply_rewrite (store_of_files m) name k r o).answer) records_there
+  pub rewrite_answer : (k r : Bytes) → (apply (shown_store s) (Rewrite name k r)).answer ≡ only (change_condition f.records k)
+  rewrite_answer k r = ap (λ o. (apply_rewrite (shown_store s) name k r o).answer) records_there
 
-  pub delete_answer : (k : Bytes) → (apply (store_of_files m) (Delete name k)).answer ≡ only (change_condition f.records k)
-  delete_answer k = ap (λ o. (apply_delete (store_of_files m) name k o).answer) records_there
+  pub delete_answer : (k : Bytes) → (apply (shown_store s) (Delete name k)).answer ≡ only (change_condition f.records k)
+  delete_answer k = ap (λ o. (apply_delete (shown_store s) name k o).answer) records_there
 
-  pub generic_answer : (p : Bytes) → (apply (store_of_files m) (DeleteGeneric name p)).answer ≡ counted_answer (under p f.records)
-  generic_answer p = ap (λ o. (apply_delete_generic (store_of_files m) name p o).answer) records_there
+  pub generic_answer : (p : Bytes) → (apply (shown_store s) (DeleteGeneric name p)).answer ≡ counted_answer (under p f.records)
+  generic_answer p = ap (λ o. (apply_delete_generic (shown_store s) name p o).answer) records_there
 
-  pub read_answer : (k : Bytes) → (apply (store_of_files m) (ReadUpdate name k)).answer ≡ with_content (found_condition (value_at k f.records)) (value_at k f.records)
-  read_answer k = ap (λ o. (apply_read (store_of_files m) k o).answer) records_there
+  pub read_answer : (k : Bytes) → (apply (shown_store s) (ReadUpdate name k)).answer ≡ with_content (found_condition (value_at k f.records)) (value_at k f.records)
+  read_answer k = ap (λ o. (apply_read (shown_store s) k o).answer) records_there
 
-  module _ (rising : T (is_rising m)) where
-    pub kept_store : store_of_files (with_value name f m) ≡ store_of_files m
-    kept_store = ap store_of_files (with_value-same name f m rising there)
+  module _ (rising : T (is_rising s.files)) where
+    pub kept_store : shown_store (with_files s (with_value name f s.files)) ≡ shown_store s
+    kept_store = ap (λ m. shown_store (with_files s m)) (with_value-same name f s.files rising there)
 
-    pub changed_store : (g : FileValue) → store_of_files (with_value name g m) ≡ with_file (store_of_files m) name g.records
-    changed_store g = λ i. record { files = with_value-each (λ x. x.records) name g m i; ts = []; td = [] }
+    pub changed_store : (g : FileValue) → shown_store (with_files s (with_value name g s.files)) ≡ with_file (shown_store s) name g.records
+    changed_store g = λ i. record { files = with_value-each (λ x. x.records) name g s.files i; ts = (shown_store s).ts; td = (shown_store s).td }
 
-    pub write_store : (r : Bytes) → store_of_files (with_value name (written f r) m) ≡ (apply (store_of_files m) (Write name (key_of f.definition r) r)).store
+    pub write_store : (r : Bytes) → shown_store (with_files s (with_value name (written f r) s.files)) ≡ (apply (shown_store s) (Write name (key_of f.definition r) r)).store
     write_store r =
         let k = key_of f.definition r in
-        let s = store_of_files m in
-        elim (has_key k f.records) as (λ b. store_of_files (with_value name (if b then f else filled f k r) m)
-        ≡ (answered s (only (if b then Duprec else Normal)) (with_file s name (if b then f.records else with_value k r f.records))).store) [
+        let t = shown_store s in
+        elim (has_key k f.records) as (λ b. shown_store (with_files s (with_value name (if b then f else filled f k r) s.files))
+        ≡ (answered t (only (if b then Duprec else Normal)) (with_file t name (if b then f.records else with_value k r f.records))).store) [
           | true ↦ kept_store
           | false ↦ changed_store (filled f k r)
         ]
-        ∙ sym (ap (λ o. (apply_write s name k r o).store) records_there)
+        ∙ sym (ap (λ o. (apply_write t name k r o).store) records_there)
 
-    pub rewrite_store : (r : Bytes) → store_of_files (with_value name (rewritten f r) m) ≡ (apply (store_of_files m) (Rewrite name (key_of f.definition r) r)).store
+    pub rewrite_store : (r : Bytes) → shown_store (with_files s (with_value name (rewritten f r) s.files)) ≡ (apply (shown_store s) (Rewrite name (key_of f.definition r) r)).store
     rewrite_store r =
         let k = key_of f.definition r in
-        let s = store_of_files m in
-        elim (has_key k f.records) as (λ b. store_of_files (with_value name (if b then filled f k r else f) m)
-        ≡ (answered s (only (if b then Normal else Notfnd)) (with_file s name (if b then with_value k r f.records else f.records))).store) [
+        let t = shown_store s in
+        elim (has_key k f.records) as (λ b. shown_store (with_files s (with_value name (if b then filled f k r else f) s.files))
+        ≡ (answered t (only (if b then Normal else Notfnd)) (with_file t name (if b then with_value k r f.records else f.records))).store) [
           | true ↦ changed_store (filled f k r)
           | false ↦ kept_store
         ]
-        ∙ sym (ap (λ o. (apply_rewrite s name k r o).store) records_there)
+        ∙ sym (ap (λ o. (apply_rewrite t name k r o).store) records_there)
 
-    pub delete_store : (keep : Bool) (k : Bytes) → store_of_files (with_value name (deleted keep f k) m) ≡ (apply (store_of_files m) (Delete name k)).store
+    pub delete_store : (keep : Bool) (k : Bytes) → shown_store (with_files s (with_value name (deleted keep f k) s.files)) ≡ (apply (shown_store s) (Delete name k)).store
     delete_store keep k =
-        let s = store_of_files m in
-        elim (has_key k f.records) as (λ b. store_of_files (with_value name (if b then if keep then emptied f k else dropped f k else f) m)
-        ≡ (answered s (only (if b then Normal else Notfnd)) (with_file s name (without k f.records))).store) [
-          | true ↦ elim keep as (λ b. store_of_files (with_value name (if b then emptied f k else dropped f k) m) ≡ with_file s name (without k f.records)) [
+        let t = shown_store s in
+        elim (has_key k f.records) as (λ b. shown_store (with_files s (with_value name (if b then if keep then emptied f k else dropped f k else f) s.files))
+        ≡ (answered t (only (if b then Normal else Notfnd)) (with_file t name (without k f.records))).store) [
+          | true ↦ elim keep as (λ b. shown_store (with_files s (with_value name (if b then emptied f k else dropped f k) s.files)) ≡ with_file t name (without k f.records)) [
             | true ↦ changed_store (emptied f k)
             | false ↦ changed_store (dropped f k)
           ]
           | false ↦ kept_store
         ]
-        ∙ sym (ap (λ o. (apply_delete s name k o).store) records_there)
+        ∙ sym (ap (λ o. (apply_delete t name k o).store) records_there)
 
 -- what leaves the other cells leaves the definitions
 pub kept_definitions : (p : List ℕ → Bool) (m n : Map FileValue) → FilesKeep p m n → definitions_of n ≡ definitions_of m
@@ -100,48 +101,40 @@ kept_definitions p m n kept = λ i q. by (λ key. p (cell_of q key)) (value_at q
     by p (Some f) None k = absurd k
     by p (Some f) (Some g) k = ap Some k.same_file
 
--- a unit keeps an image of the change of a key as its newest
-pub record HasNewest (old new : UndoableValue) (unit : ℕ) (f k : Bytes) : Type 0 where
-  pub image : FilesImage
-  pub undoes : IsFilesImage old.files new.files (cell_of f k) image
-  pub newest : kept_by new.images unit ≡ image ∷ kept_by old.images unit
+-- what a change of one key of a file gives: an image of it where the file is recoverable and the key changes, and none
+-- where the file is not recoverable, or where nothing changes
+abbrev pub IsKeyImage : Map FileValue → Map FileValue → Bytes → Bytes → Option ImageValue → Bool → Bool → Type 0
+IsKeyImage m n f k image false changed = image ≡ None
+IsKeyImage m n f k image true true = (i : ImageValue) × (image ≡ Some i) × IsFilesImage m n (cell_of f k) (record { name = f; image = i })
+IsKeyImage m n f k image true false = (image ≡ None) × (m ≡ n)
 
--- a change of one key of a recoverable file gives its unit an image; in another file it gives none; what changes nothing
--- gives none
-abbrev pub AreKeyImages : UndoableValue → UndoableValue → ℕ → Bytes → Bytes → Bool → Bool → Type 0
-AreKeyImages old new unit f k false changed = KeepsImages old new unit
-AreKeyImages old new unit f k true true = HasNewest old new unit f k
-AreKeyImages old new unit f k true false = (old.files ≡ new.files) × KeepsImages old new unit
+-- it is the image of the command
+module _ (s : StoreValue) (n : Map FileValue) (op : Op) (one : is_generic op ≡ false) (f k : Bytes) (on : cell_of_op op ≡ Key f k)
+    (store : shown_store (with_files s n) ≡ (apply (shown_store s) op).store) (image : Option ImageValue) where
+  images_from : (rec changed : Bool) → changes op (content (shown_store s) (Key f k)) ≡ changed →
+      IsKeyImage s.files n f k image rec changed → AreFileImagesAfter s n op (image_if f image) rec
+  images_from false changed e none = ap (image_if f) none
+  images_from true true e (i, is, undoes) = subst (λ o. HasFileImages s n op (image_if f o)) (sym is) (record {
+    made = with_image s op one n store f k on (ap (λ x. changes op (content (shown_store s) x)) on ∙ e) (record { name = f; image = i }) undoes;
+    in_turn = (s.files, subst (λ c. IsFilesImage s.files n c (record { name = f; image = i })) (sym undoes.named) undoes, refl);
+  })
+  images_from true false e same = subst (λ o. HasFileImages s n op (image_if f o)) (sym same.0) (record {
+    made = without_image s op one (ap (λ x. changes op (content (shown_store s) x)) on ∙ e);
+    in_turn = same.1;
+  })
 
--- they are the images of the command
-module _ (old new : UndoableValue) (unit : ℕ) (op : Op) (one : is_generic op ≡ false) (f k : Bytes) (on : cell_of_op op ≡ Key f k)
-    (store : store_of_files new.files ≡ (apply (store_of_files old.files) op).store) where
-  images_from : (rec changed : Bool) → changes op (content (store_of_files old.files) (Key f k)) ≡ changed →
-      AreKeyImages old new unit f k rec changed → AreImagesAfter old new unit op rec
-  images_from false changed e images = images
-  images_from true true e images = with_image old new unit op one store f k on (ap (λ x. changes op (content (store_of_files old.files) x)) on ∙ e) images.image images.undoes images.newest
-  images_from true false e images = without_image old new unit op one (ap (λ x. changes op (content (store_of_files old.files) x)) on ∙ e) images.0 images.1
+-- there is an image just where it is asked for
+module _ (m n : Map FileValue) (name key : Bytes) (image : Option ImageValue)
+    (undoes : IfSome image (λ i. IsFilesImage m n (cell_of name key) (record { name = name; image = i }))) where
+  some_image : (o : Option ImageValue) → image ≡ o → is_some o ≡ true → IsKeyImage m n name key image true true
+  some_image None is some = absurd (false≢true some)
+  some_image (Some i) is some = (i, is, subst (λ o. IfSome o (λ i. IsFilesImage m n (cell_of name key) (record { name = name; image = i }))) is undoes)
 
--- a change's image, where there is one, is kept as the newest of the unit; and there is one just where it is asked for
-module _ (old new : UndoableValue) (unit : ℕ) (name key : Bytes) (image : Option ImageValue)
-    (kept : kept_by new.images unit ≡ with_newest name image (kept_by old.images unit))
-    (undoes : IfSome image (λ i. IsFilesImage old.files new.files (cell_of name key) (record { name = name; image = i }))) where
-  none_kept : image ≡ None → kept_by new.images unit ≡ kept_by old.images unit
-  none_kept none = kept ∙ ap (λ o. with_newest name o (kept_by old.images unit)) none
-
-  newest_kept : (o : Option ImageValue) → image ≡ o → is_some o ≡ true → HasNewest old new unit name key
-  newest_kept None is some = absurd (false≢true some)
-  newest_kept (Some i) is some = record {
-    image = record { name = name; image = i };
-    undoes = subst (λ o. IfSome o (λ i. IsFilesImage old.files new.files (cell_of name key) (record { name = name; image = i }))) is undoes;
-    newest = kept ∙ ap (λ o. with_newest name o (kept_by old.images unit)) is;
-  }
-
-  pub images_after : (recoverable changed : Bool) → (recoverable ≡ false → image ≡ None) → (changed ≡ false → (image ≡ None) × (old.files ≡ new.files)) →
-      (recoverable ≡ true → changed ≡ true → is_some image ≡ true) → AreKeyImages old new unit name key recoverable changed
-  images_after false changed plain still asked = none_kept (plain refl)
-  images_after true true plain still asked = newest_kept image refl (asked refl refl)
-  images_after true false plain still asked = ((still refl).1, none_kept (still refl).0)
+  pub image_after : (recoverable changed : Bool) → (recoverable ≡ false → image ≡ None) → (changed ≡ false → (image ≡ None) × (m ≡ n)) →
+      (recoverable ≡ true → changed ≡ true → is_some image ≡ true) → IsKeyImage m n name key image recoverable changed
+  image_after false changed plain still asked = plain refl
+  image_after true true plain still asked = some_image image refl (asked refl refl)
+  image_after true false plain still asked = still refl
 
 -- the images of WRITE, REWRITE and DELETE, by what the key has
 module _ (name : Bytes) (m : Map FileValue) (f : FileValue) (there : value_at name m ≡ Some f) (rising : T (is_rising m)) where
@@ -188,73 +181,66 @@ module _ (name : Bytes) (m : Map FileValue) (f : FileValue) (there : value_at na
   delete_asked k (Some x) at changed = rw at refl
 
 -- ---- A command on a file that is there has changed the files
-module _ (old new : UndoableValue) (unit : ℕ) (name : Bytes) (f : FileValue) (there : value_at name old.files ≡ Some f) (rising : T (is_rising old.files))
-    (apart : AreOthersKept old.images new.images unit) (image : Option ImageValue) (kept : kept_by new.images unit ≡ with_newest name image (kept_by old.images unit)) where
+module _ (s : StoreValue) (name : Bytes) (f : FileValue) (there : value_at name s.files ≡ Some f) (rising : T (is_rising s.files))
+    (n : Map FileValue) (image : Option ImageValue) where
   -- what is said of the file is said of the files
-  images_of_change : (op : Op) (k : Bytes) → AreKeyImages old new unit name k f.definition.recoverable (changes op (Some (listed (value_at k f.records)))) →
-      AreKeyImages old new unit name k (is_recoverable_in (value_at name old.files)) (changes op (content (store_of_files old.files) (Key name k)))
-  images_of_change op k after =
-      subst (λ b. AreKeyImages old new unit name k b (changes op (content (store_of_files old.files) (Key name k)))) (sym (ap is_recoverable_in there))
-      (subst (λ c. AreKeyImages old new unit name k f.definition.recoverable (changes op c)) (sym (cell_there old.files name f there k)) after)
+  image_of_change : (op : Op) (k : Bytes) → IsKeyImage s.files n name k image f.definition.recoverable (changes op (Some (listed (value_at k f.records)))) →
+      IsKeyImage s.files n name k image (is_recoverable_in (value_at name s.files)) (changes op (content (shown_store s) (Key name k)))
+  image_of_change op k after =
+      subst (λ b. IsKeyImage s.files n name k image b (changes op (content (shown_store s) (Key name k)))) (sym (ap is_recoverable_in there))
+      (subst (λ c. IsKeyImage s.files n name k image f.definition.recoverable (changes op c)) (sym (cell_there s name f there k)) after)
 
-  -- an image that isn't kept is none
-  asked_of : (Bool → Option ImageValue) → Type 0
-  asked_of given = image ≡ given f.definition.recoverable
-
-  pub write_changed : (r : Bytes) → new.files ≡ with_value name (written f r) old.files → image ≡ written_image f.definition.recoverable f r →
-      IfSome image (λ i. IsFilesImage old.files new.files (cell_of name (key_of f.definition r)) (record { name = name; image = i })) →
-      FilesKeep (is_other (cell_of name (key_of f.definition r))) old.files new.files → AreChanged old new unit (Write name (key_of f.definition r) r)
+  pub write_changed : (r : Bytes) → n ≡ with_value name (written f r) s.files → image ≡ written_image f.definition.recoverable f r →
+      IfSome image (λ i. IsFilesImage s.files n (cell_of name (key_of f.definition r)) (record { name = name; image = i })) →
+      FilesKeep (is_other (cell_of name (key_of f.definition r))) s.files n → AreFilesChanged s n (Write name (key_of f.definition r) r) (image_if name image)
   write_changed r files is undoes others =
       let k = key_of f.definition r in
-      let store : store_of_files new.files ≡ (apply (store_of_files old.files) (Write name k r)).store = ap store_of_files files ∙ write_store old.files name f there rising r in
+      let shown : shown_store (with_files s n) ≡ (apply (shown_store s) (Write name k r)).store = ap (λ m. shown_store (with_files s m)) files ∙ write_store s name f there rising r in
       record {
-        store = store;
+        shown = shown;
         others = others;
-        apart = apart;
-        images = images_from old new unit (Write name k r) refl name k refl store _ _ refl (images_of_change (Write name k r) k (images_after old new unit name k image kept undoes f.definition.recoverable (changes (Write name k r) (Some (listed (value_at k f.records))))
-            (λ plain. is ∙ ap (λ b. written_image b f r) plain ∙ write_plain name old.files f there rising r (value_at k f.records) refl)
-            (λ still. let w = write_still name old.files f there rising f.definition.recoverable r (value_at k f.records) refl still in (is ∙ w.0, w.1 ∙ sym files))
-            (λ rec changed. ap is_some (is ∙ ap (λ b. written_image b f r) rec) ∙ write_asked name old.files f there rising r (value_at k f.records) refl changed)));
-        held = λ c unnamed has. held_among name f (written f r) old.files there (λ c. true) (λ q pass. written_held f q r) c refl (sym (ap (λ m. files_hold m c) files) ∙ has);
+        images = images_from s n (Write name k r) refl name k refl shown image _ _ refl (image_of_change (Write name k r) k (image_after s.files n name k image undoes f.definition.recoverable (changes (Write name k r) (Some (listed (value_at k f.records))))
+            (λ plain. is ∙ ap (λ b. written_image b f r) plain ∙ write_plain name s.files f there rising r (value_at k f.records) refl)
+            (λ still. let w = write_still name s.files f there rising f.definition.recoverable r (value_at k f.records) refl still in (is ∙ w.0, w.1 ∙ sym files))
+            (λ rec changed. ap is_some (is ∙ ap (λ b. written_image b f r) rec) ∙ write_asked name s.files f there rising r (value_at k f.records) refl changed)));
+        held = λ c unnamed has. held_among name f (written f r) s.files there (λ c. true) (λ q pass. written_held f q r) c refl (sym (ap (λ m. files_hold m c) files) ∙ has);
       }
 
-  pub rewrite_changed : (r : Bytes) → new.files ≡ with_value name (rewritten f r) old.files → image ≡ rewritten_image f.definition.recoverable f r →
-      IfSome image (λ i. IsFilesImage old.files new.files (cell_of name (key_of f.definition r)) (record { name = name; image = i })) →
-      FilesKeep (is_other (cell_of name (key_of f.definition r))) old.files new.files → AreChanged old new unit (Rewrite name (key_of f.definition r) r)
+  pub rewrite_changed : (r : Bytes) → n ≡ with_value name (rewritten f r) s.files → image ≡ rewritten_image f.definition.recoverable f r →
+      IfSome image (λ i. IsFilesImage s.files n (cell_of name (key_of f.definition r)) (record { name = name; image = i })) →
+      FilesKeep (is_other (cell_of name (key_of f.definition r))) s.files n → AreFilesChanged s n (Rewrite name (key_of f.definition r) r) (image_if name image)
   rewrite_changed r files is undoes others =
       let k = key_of f.definition r in
-      let store : store_of_files new.files ≡ (apply (store_of_files old.files) (Rewrite name k r)).store = ap store_of_files files ∙ rewrite_store old.files name f there rising r in
+      let shown : shown_store (with_files s n) ≡ (apply (shown_store s) (Rewrite name k r)).store = ap (λ m. shown_store (with_files s m)) files ∙ rewrite_store s name f there rising r in
       record {
-        store = store;
+        shown = shown;
         others = others;
-        apart = apart;
-        images = images_from old new unit (Rewrite name k r) refl name k refl store _ _ refl (images_of_change (Rewrite name k r) k (images_after old new unit name k image kept undoes f.definition.recoverable (changes (Rewrite name k r) (Some (listed (value_at k f.records))))
+        images = images_from s n (Rewrite name k r) refl name k refl shown image _ _ refl (image_of_change (Rewrite name k r) k (image_after s.files n name k image undoes f.definition.recoverable (changes (Rewrite name k r) (Some (listed (value_at k f.records))))
             (λ plain. is ∙ ap (λ b. rewritten_image b f r) plain)
-            (λ still. let w = rewrite_still name old.files f there rising f.definition.recoverable r (value_at k f.records) refl still in (is ∙ w.0, w.1 ∙ sym files))
-            (λ rec changed. ap is_some (is ∙ ap (λ b. rewritten_image b f r) rec) ∙ rewrite_asked name old.files f there rising r (value_at k f.records) refl changed)));
-        held = λ c unnamed has. held_among name f (rewritten f r) old.files there (λ c. true) (λ q pass. rewritten_held f q r) c refl (sym (ap (λ m. files_hold m c) files) ∙ has);
+            (λ still. let w = rewrite_still name s.files f there rising f.definition.recoverable r (value_at k f.records) refl still in (is ∙ w.0, w.1 ∙ sym files))
+            (λ rec changed. ap is_some (is ∙ ap (λ b. rewritten_image b f r) rec) ∙ rewrite_asked name s.files f there rising r (value_at k f.records) refl changed)));
+        held = λ c unnamed has. held_among name f (rewritten f r) s.files there (λ c. true) (λ q pass. rewritten_held f q r) c refl (sym (ap (λ m. files_hold m c) files) ∙ has);
       }
 
-  each_named : (k : Bytes) (o : Option ImageValue) → IfSome o (λ i. IsFilesImage old.files new.files (cell_of name k) (record { name = name; image = i })) →
+  each_named : (k : Bytes) (o : Option ImageValue) → IfSome o (λ i. IsFilesImage s.files n (cell_of name k) (record { name = name; image = i })) →
       IfSome o (λ i. cell_of_image (record { name = name; image = i }) ≡ cell_of name k)
   each_named k None undoes = tt
   each_named k (Some i) undoes = undoes.named
 
-  pub delete_changed : (k : Bytes) → new.files ≡ with_value name (deleted f.definition.recoverable f k) old.files → image ≡ deleted_image f.definition.recoverable f k →
-      IfSome image (λ i. IsFilesImage old.files new.files (cell_of name k) (record { name = name; image = i })) →
-      FilesKeep (is_other (cell_of name k)) old.files new.files → AreChanged old new unit (Delete name k)
+  pub delete_changed : (k : Bytes) → n ≡ with_value name (deleted f.definition.recoverable f k) s.files → image ≡ deleted_image f.definition.recoverable f k →
+      IfSome image (λ i. IsFilesImage s.files n (cell_of name k) (record { name = name; image = i })) →
+      FilesKeep (is_other (cell_of name k)) s.files n → AreFilesChanged s n (Delete name k) (image_if name image)
   delete_changed k files is undoes others =
-      let store : store_of_files new.files ≡ (apply (store_of_files old.files) (Delete name k)).store = ap store_of_files files ∙ delete_store old.files name f there rising f.definition.recoverable k in
+      let shown : shown_store (with_files s n) ≡ (apply (shown_store s) (Delete name k)).store = ap (λ m. shown_store (with_files s m)) files ∙ delete_store s name f there rising f.definition.recoverable k in
       record {
-        store = store;
+        shown = shown;
         others = others;
-        apart = apart;
-        images = images_from old new unit (Delete name k) refl name k refl store _ _ refl (images_of_change (Delete name k) k (images_after old new unit name k image kept undoes f.definition.recoverable (changes (Delete name k) (Some (listed (value_at k f.records))))
+        images = images_from s n (Delete name k) refl name k refl shown image _ _ refl (image_of_change (Delete name k) k (image_after s.files n name k image undoes f.definition.recoverable (changes (Delete name k) (Some (listed (value_at k f.records))))
             (λ plain. is ∙ ap (λ b. deleted_image b f k) plain)
-            (λ still. let w = delete_still name old.files f there rising f.definition.recoverable k (value_at k f.records) refl still in (is ∙ w.0, w.1 ∙ sym files))
-            (λ rec changed. ap is_some (is ∙ ap (λ b. deleted_image b f k) rec) ∙ delete_asked name old.files f there rising k (value_at k f.records) refl changed)));
-        held = λ c unnamed has. held_among name f (deleted f.definition.recoverable f k) old.files there (is_unnamed cell_of_image (kept_by new.images unit))
-            (λ q pass. deleted_held name f k q (kept_by old.images unit) f.definition.recoverable image is (each_named k image undoes) (sym (ap (λ is. is_unnamed cell_of_image is (cell_of name q)) kept) ∙ pass))
+            (λ still. let w = delete_still name s.files f there rising f.definition.recoverable k (value_at k f.records) refl still in (is ∙ w.0, w.1 ∙ sym files))
+            (λ rec changed. ap is_some (is ∙ ap (λ b. deleted_image b f k) rec) ∙ delete_asked name s.files f there rising k (value_at k f.records) refl changed)));
+        held = λ c unnamed has. held_among name f (deleted f.definition.recoverable f k) s.files there (is_unnamed cell_of_image (image_if name image))
+            (λ q pass. deleted_held name f k q f.definition.recoverable image is (each_named k image undoes) pass)
             c unnamed (sym (ap (λ m. files_hold m c) files) ∙ has);
       }
 

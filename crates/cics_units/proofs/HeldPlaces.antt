@@ -1,5 +1,5 @@
 -- The empty places of files, through a command: an empty place more is that of an image that the unit keeps.
-use Rattle.std.specs.Prelude.{◌≡◌, Bool, true, false, not, ◌&&◌, ◌||◌, if◌then◌else◌, Option, Some, None, is_some, option_map, IfSome, List, ◌∷◌, refl}
+use Rattle.std.specs.Prelude.{◌≡◌, Bool, true, false, not, ◌&&◌, ◌||◌, if◌then◌else◌, Option, Some, None, is_some, option_map, IfSome, [], ◌∷◌, refl}
 use Rattle.std.proofs.Common.{sym, ap, ◌∙◌}
 use Rattle.std.proofs.lemmas.Bool.{true≢false}
 use Rattle.cics_names.specs.Keyed.{Bytes, is_same, value_at, has_key, is_key_in}
@@ -11,7 +11,7 @@ use Rattle.cics_ksds.specs.Undo.{ImageValue, deleted_image}
 use Rattle.cics_units.specs.FilesImages.{FilesImage, cell_of, cell_of_image}
 use Rattle.cics_units.specs.FilesImagesLaws.{same_bytes-eq}
 use Rattle.cics_ksds.specs.declared.images.Before.TheVariants.{Removed}
-use Rattle.cics_units.specs.Parts.{with_newest}
+use Rattle.cics_units.specs.Parts.{image_if}
 
 first : (a b : Bool) → (a && b) ≡ true → a ≡ true
 first true b h = refl
@@ -41,14 +41,14 @@ module _ (f : FileValue) (k : Bytes) where
       by false has = has
 
 -- a delete holds the place of its own key back, for its image
-module _ (name : Bytes) (f : FileValue) (key k : Bytes) (images : List FilesImage) where
-  own_named : (i : FilesImage) → cell_of_image i ≡ cell_of name key → is_unnamed cell_of_image (i ∷ images) (cell_of name k) ≡ true → k ≡ key → is_key_in k f.empties ≡ true
+module _ (name : Bytes) (f : FileValue) (key k : Bytes) where
+  own_named : (i : FilesImage) → cell_of_image i ≡ cell_of name key → is_unnamed cell_of_image (i ∷ []) (cell_of name k) ≡ true → k ≡ key → is_key_in k f.empties ≡ true
   own_named i named unnamed same =
       let none : is_other (cell_of_image i) (cell_of name k) ≡ false = ap not (same_bytes-eq (cell_of name k) (cell_of_image i) (ap (cell_of name) same ∙ sym named)) in
-      absurd (true≢false (sym (first (is_other (cell_of_image i) (cell_of name k)) (is_unnamed cell_of_image images (cell_of name k)) unnamed) ∙ none))
+      absurd (true≢false (sym (first (is_other (cell_of_image i) (cell_of name k)) true unnamed) ∙ none))
 
   step : (keep : Bool) (o : Option Bytes) (image : Option ImageValue) → image ≡ (if keep then option_map (λ old. record { definition = f.definition; before = Removed old }) o else None) →
-      IfSome image (λ i. cell_of_image (record { name = name; image = i }) ≡ cell_of name key) → is_unnamed cell_of_image (with_newest name image images) (cell_of name k) ≡ true →
+      IfSome image (λ i. cell_of_image (record { name = name; image = i }) ≡ cell_of name key) → is_unnamed cell_of_image (image_if name image) (cell_of name k) ≡ true →
       is_key_in k (if is_some o then if keep then emptied f key else dropped f key else f).empties ≡ true → is_key_in k f.empties ≡ true
   step keep None image is named unnamed has = has
   step false (Some r) image is named unnamed has = second (not (is_same k key)) (is_key_in k f.empties) (sym (is_key_in-without_key k key f.empties) ∙ has)
@@ -60,6 +60,6 @@ module _ (name : Bytes) (f : FileValue) (key k : Bytes) (images : List FilesImag
       by false apart has = has
 
   pub deleted_held : (keep : Bool) (image : Option ImageValue) → image ≡ deleted_image keep f key →
-      IfSome image (λ i. cell_of_image (record { name = name; image = i }) ≡ cell_of name key) → is_unnamed cell_of_image (with_newest name image images) (cell_of name k) ≡ true →
+      IfSome image (λ i. cell_of_image (record { name = name; image = i }) ≡ cell_of name key) → is_unnamed cell_of_image (image_if name image) (cell_of name k) ≡ true →
       is_key_in k (deleted keep f key).empties ≡ true → is_key_in k f.empties ≡ true
   deleted_held keep image = step keep (value_at key f.records) image

@@ -2,15 +2,16 @@ mod Rows
 pub mod Opened
 mod OpeningRows
 mod SerialKept
-pub mod Matched
 pub mod Changing
 pub mod MadeImages
 mod DeletedUnder
-pub mod FilesInPlace
 pub mod Refilled
+pub mod FilesChanged
+mod Unpadded
 mod FileChanges
 mod StoredImages
 mod PartChanges
+pub mod RefusedCommands
 pub mod OpenReads
 pub mod HeldPlaces
 pub mod HeldReads
@@ -23,6 +24,7 @@ pub mod TableInPlace
 pub mod Plain
 pub mod PlainOpening
 pub mod PlainTrace
+pub mod OpeningStore
 pub mod TableValues
 mod KeptUnits
 mod ShownUnits
@@ -46,6 +48,7 @@ pub mod QueueClauses
 pub mod StorePlaces
 pub mod QueuesHeld
 pub mod StoreCalls
+pub mod FileCommands
 pub mod StoreEnds
 pub mod StoreSettled
 pub mod StoreEnded

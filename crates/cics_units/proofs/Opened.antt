@@ -1,5 +1,5 @@
 -- The files of an opening: each has loaded records alone, and they are the files that a region begins with.
-use Rattle.std.specs.Prelude.{◌≡◌, Bool, true, false, not, cond, if◌then◌else◌, ◌&&◌, T, IsTrue, IfSome, All, Option, Some, None, is_some, option_map, option_copied, [], ◌∷◌, map, refl}
+use Rattle.std.specs.Prelude.{◌≡◌, ◌+◌, Bool, true, false, not, cond, if◌then◌else◌, ◌&&◌, T, IsTrue, IfSome, All, Option, Some, None, is_some, option_map, option_copied, List, [], ◌∷◌, ◌++◌, length, map, refl}
 use Rattle.std.proofs.Common.{Bor, sym, ap, ◌∙◌, subst}
 use Rattle.std.proofs.lemmas.List.Elements.{All-cons, All-nil, All-head, All-tail}
 use Rattle.std.proofs.lemmas.Map.Entries.{All-lookup}
@@ -8,16 +8,22 @@ use Rattle.std.specs.declared.cmp.Ordering.TheVariants.{Less, Equal, Greater}
 use Rattle.std.specs.Ordering.{is_lt}
 use Rattle.std.specs.FinMap.Entries.{by_order, below_all}
 use Rattle.cics_names.specs.Keyed.{Bytes, Map, bytes_cmp, is_same, value_at, has_key, with_value, is_rising, without_key}
-use Rattle.cics_names.specs.KeyedLaws.{same_bytes}
+use Rattle.std.specs.Cmp.{tied_itself}
+use Rattle.std.specs.Cmp.Lexicographic.{nat_list_cmp_total}
+use Rattle.cics_names.specs.KeyedLaws.{same_bytes, value_at-with_value_same}
 use Rattle.cics_names.specs.RisingLaws.{rising-with_value}
 use Rattle.cics_ksds.specs.Files.{FileValue, key_of, fits_file, written, filled}
 use Rattle.cics_ksds.specs.declared.definition.FileDef.{FileDef}
-use Rattle.cics_history.specs.Openings.{OpeningState, FileOpening, with_record, loaded_file, is_record_size, is_key, is_in_order, HasLawfulKeys, IsOpeningInOrder}
-use Rattle.cics_units.specs.Faults.{file_fault, load_fault}
+use Rattle.cics_images.specs.NamedValues.{changed_at, changed_where}
+use Rattle.cics_transdata.specs.declared.queues.Recovery.{Recovery}
+use Rattle.cics_transdata.specs.Trans.{TransState, is_logical, holding, trans_written, writer_committed}
+use Rattle.cics_history.specs.Openings.{OpeningState, FileOpening, QueueOpening, with_record, with_queue, with_td_record, loaded_file, is_record_size, is_key, is_in_order, file_recoverable, queue_logical, HasLawfulKeys, IsOpeningInOrder}
+use Rattle.cics_units.specs.Faults.{file_fault, load_fault, load_td_fault}
 use Rattle.cics_units.specs.declared.opening.DefineFault.{DefineFault}
 use Rattle.cics_units.specs.declared.opening.DefineFault.TheVariants.{Duplicate, BadKey, BadLength, NotThere}
-use Rattle.cics_units.specs.Replaying.{files_alone}
+use Rattle.cics_units.specs.Opened.{opened_with}
 use Rattle.cics_units.specs.RegionFiles.{opening_of, openings_of, opened_files, IsLoaded, AreLoaded}
+use Rattle.cics_units.specs.RegionQueues.{loaded_with, queue_opening, queue_openings, opened_queue, opened_queues, IsLoadedQueue, AreLoadedQueues}
 use Rattle.cics_history.proofs.Entries.{lookup-value_at}
 
 -- ---- maps by name, each value seen in another way
@@ -104,8 +110,8 @@ module _ (m : Map FileValue) (are : AreLoaded m) where
     loaded = All-with_value (λ e. IsLoaded e.1) name (written f r) m (IsLoaded-written f r fits (All-value_at IsLoaded name m f are.loaded there)) are.loaded;
   }
 
-  pub HasLawfulKeys-with : HasLawfulKeys (files_alone m)
-  HasLawfulKeys-with name file found = by (value_at name m) refl (sym (value_at-each opening_of name m) ∙ found)
+  pub HasLawfulKeys-with : (ps : List Bytes) (qs : Map TransState) → HasLawfulKeys (opened_with m ps qs)
+  HasLawfulKeys-with ps qs name file found = by (value_at name m) refl (sym (value_at-each opening_of name m) ∙ found)
     where
       by : (o : Option FileValue) → value_at name m ≡ o → option_map opening_of o ≡ Some file → is_key file.definition ≡ true
       by None at is = absurd (none_some is)
@@ -114,11 +120,11 @@ module _ (m : Map FileValue) (are : AreLoaded m) where
           none_some e = cc
       by (Some f) at is = let same : opening_of f ≡ file = cc in ap (λ x. is_key x.definition) (sym same) ∙ (All-value_at IsLoaded name m f are.loaded at).lawful
 
-  pub IsOpeningInOrder-with : IsOpeningInOrder (files_alone m)
-  IsOpeningInOrder-with = record {
+  pub IsOpeningInOrder-with : (ps : List Bytes) (qs : Map TransState) → T (is_rising qs) → IsOpeningInOrder (opened_with m ps qs)
+  IsOpeningInOrder-with ps qs rising_queues = record {
     files = rising-each opening_of m ∙ is_true (is_rising m) are.rising;
     records = λ f. ap (λ o. is_in_order (option_map (λ e. e.records) o)) (value_at-each opening_of f m) ∙ in_order (value_at f m) (λ x. All-value_at IsLoaded f m x are.loaded);
-    queues = refl;
+    queues = rising-each queue_opening qs ∙ is_true (is_rising qs) rising_queues;
   }
     where
       is_true : (b : Bool) → T b → b ≡ true
@@ -139,9 +145,9 @@ opened_files-openings_of (e ∷ m) all =
 abbrev define_fault : Bool → Bool → Bool → Option DefineFault
 define_fault there sized keyed = if there then Some Duplicate else if not sized then Some BadLength else if not keyed then Some BadKey else None
 
-pub file_fault-tested : (m : Map FileValue) (o : OpeningState) (name : Bytes) (d : FileDef) (there sized keyed : Bool) → files_alone m ≡ o →
+pub file_fault-tested : (m : Map FileValue) (ps : List Bytes) (qs : Map TransState) (o : OpeningState) (name : Bytes) (d : FileDef) (there sized keyed : Bool) → opened_with m ps qs ≡ o →
     there ≡ has_key name m → sized ≡ is_record_size d.record_size → keyed ≡ is_key d → define_fault there sized keyed ≡ file_fault o name d
-file_fault-tested m o name d there sized keyed is t s k =
+file_fault-tested m ps qs o name d there sized keyed is t s k =
     ap (λ b. define_fault b sized keyed) (t ∙ sym (has_key-each opening_of name m))
     ∙ ap (λ b. define_fault (has_key name (openings_of m)) b keyed) s
     ∙ ap (λ b. define_fault (has_key name (openings_of m)) (is_record_size d.record_size) b) k
@@ -150,7 +156,7 @@ file_fault-tested m o name d there sized keyed is t s k =
 abbrev record_fault : Bool → Bool → Option DefineFault
 record_fault fits there = if not fits then Some BadLength else if there then Some Duplicate else None
 
-module _ (m : Map FileValue) (o : OpeningState) (name r : Bytes) (is : files_alone m ≡ o) where
+module _ (m : Map FileValue) (ps : List Bytes) (qs : Map TransState) (o : OpeningState) (name r : Bytes) (is : opened_with m ps qs ≡ o) where
   pub load_fault-absent : value_at name m ≡ None → load_fault (value_at name o.files) r ≡ Some NotThere
   load_fault-absent absent =
       ap (λ p. load_fault (value_at name p.files) r) (sym is) ∙ ap (λ f. load_fault f r) (value_at-each opening_of name m ∙ ap (option_map opening_of) absent)
@@ -179,9 +185,145 @@ with_record-found : (o : OpeningState) (name r : Bytes) (f : FileOpening) → va
 with_record-found o name r f found = rw found refl
 
 -- a record that is written to a file is loaded into it, where its key is new
-pub files_alone-written : (m : Map FileValue) (name r : Bytes) (f : FileValue) → value_at name m ≡ Some f → has_key (key_of f.definition r) f.records ≡ false →
-    files_alone (with_value name (written f r) m) ≡ with_record (files_alone m) name r
-files_alone-written m name r f found new =
-    ap (λ b. files_alone (with_value name (if b then f else filled f (key_of f.definition r) r) m)) new
-    ∙ ap (λ files. record { files = files; prefixes = []; queues = [] }) (with_value-each opening_of name (filled f (key_of f.definition r) r) m)
-    ∙ sym (with_record-found (files_alone m) name r (opening_of f) (value_at-each opening_of name m ∙ ap (option_map opening_of) found))
+pub opened_with-written : (m : Map FileValue) (ps : List Bytes) (qs : Map TransState) (name r : Bytes) (f : FileValue) → value_at name m ≡ Some f →
+    has_key (key_of f.definition r) f.records ≡ false → opened_with (with_value name (written f r) m) ps qs ≡ with_record (opened_with m ps qs) name r
+opened_with-written m ps qs name r f found new =
+    ap (λ b. opened_with (with_value name (if b then f else filled f (key_of f.definition r) r) m) ps qs) new
+    ∙ ap (λ files. record { files = files; prefixes = ps; queues = queue_openings qs }) (with_value-each opening_of name (filled f (key_of f.definition r) r) m)
+    ∙ sym (with_record-found (opened_with m ps qs) name r (opening_of f) (value_at-each opening_of name m ∙ ap (option_map opening_of) found))
+
+-- ---- one value of a map changed twice
+module _ {X : Type 0} (k : Bytes) (x y : X) where
+  self : bytes_cmp k k ≡ Equal
+  self = tied_itself nat_list_cmp_total k
+
+  -- of two values that are put under a name the last one stands
+  pub with_value-over : (m : Map X) → with_value k x (with_value k y m) ≡ with_value k x m
+  with_value-over [] = ap (λ o. by_order o ((k, x) ∷ (k, y) ∷ []) ((k, x) ∷ []) ((k, y) ∷ with_value k x [])) self
+  with_value-over (e ∷ m) =
+      elim (bytes_cmp k e.0) as (λ o. bytes_cmp k e.0 ≡ o → with_value k x (by_order o ((k, y) ∷ e ∷ m) ((e.0, y) ∷ m) (e ∷ with_value k y m)) ≡ by_order o ((k, x) ∷ e ∷ m) ((e.0, x) ∷ m) (e ∷ with_value k x m)) [
+        | Less ↦ λ is. ap (λ o. by_order o ((k, x) ∷ (k, y) ∷ e ∷ m) ((k, x) ∷ e ∷ m) ((k, y) ∷ with_value k x (e ∷ m))) self
+        | Equal ↦ λ is. ap (λ o. by_order o ((k, x) ∷ (e.0, y) ∷ m) ((e.0, x) ∷ m) ((e.0, y) ∷ with_value k x m)) is
+        | Greater ↦ λ is. ap (λ o. by_order o ((k, x) ∷ e ∷ with_value k y m) ((e.0, x) ∷ with_value k y m) (e ∷ with_value k x (with_value k y m))) is ∙ ap (λ r. e ∷ r) (with_value-over m)
+      ] refl
+
+-- two changes of the value of a name are one change
+pub changed_twice : {X : Type 0} (f g : X → X) (k : Bytes) (m : Map X) → changed_at f k (changed_at g k m) ≡ changed_at (λ x. f (g x)) k m
+changed_twice {X} f g k m = by (value_at k m) refl
+  where
+    by : (o : Option X) → value_at k m ≡ o → changed_at f k (changed_where g k o m) ≡ changed_where (λ x. f (g x)) k o m
+    by None is = ap (λ o. changed_where f k o m) is
+    by (Some x) is = ap (λ o. changed_where f k o (with_value k (g x) m)) (value_at-with_value_same k (g x) m) ∙ with_value-over k (f (g x)) (g x) m
+
+-- ---- the transient data queues of an opening
+-- a record that is written and whose writer commits is one more without a mark
+pub loaded_with-committed : (d : Bytes) (m : Map TransState) (name : Bytes) →
+    changed_at writer_committed name (changed_at (λ q. trans_written q d) name m) ≡ changed_at (λ q. loaded_with q d) name m
+loaded_with-committed d m name = changed_twice writer_committed (λ q. trans_written q d) name m ∙ ap (λ step. changed_at step name m) (λ i q. same q i)
+  where
+    same : (q : TransState) → writer_committed (trans_written q d) ≡ loaded_with q d
+    same q = elim (is_logical q.kind) as (λ b. writer_committed (if b then record { kind = q.kind; placed = q.placed ++ d ∷ []; read = q.read; written = q.written + 1 } else record { kind = q.kind; placed = q.placed ++ d ∷ []; read = q.read; written = q.written }) ≡ loaded_with q d) [
+      | true ↦ refl
+      | false ↦ refl
+    ]
+
+-- a queue that has loaded records alone is the one that its opening gives
+opened_queue-again : (q : TransState) → IsLoadedQueue q → opened_queue (queue_opening q) ≡ q
+opened_queue-again q is = λ i. record { kind = q.kind; placed = q.placed; read = sym is.read i; written = sym is.written i }
+
+pub opened_queues-queue_openings : (qs : Map TransState) → All (λ e. IsLoadedQueue e.1) qs → opened_queues (queue_openings qs) ≡ qs
+opened_queues-queue_openings [] all = refl
+opened_queues-queue_openings (e ∷ qs) all =
+    ap (λ q. (e.0, q) ∷ opened_queues (queue_openings qs)) (opened_queue-again e.1 (All-head (λ e. IsLoadedQueue e.1) e qs all))
+    ∙ ap (λ r. e ∷ r) (opened_queues-queue_openings qs (All-tail (λ e. IsLoadedQueue e.1) e qs all))
+
+module _ (qs : Map TransState) (are : AreLoadedQueues qs) where
+  -- so they are with one more that has loaded records alone
+  pub AreLoadedQueues-with : (name : Bytes) (q : TransState) → IsLoadedQueue q → AreLoadedQueues (with_value name q qs)
+  AreLoadedQueues-with name q is = record {
+    rising = rising-with_value name q qs are.rising;
+    loaded = All-with_value (λ e. IsLoadedQueue e.1) name q qs is are.loaded;
+  }
+
+  -- and where a record is loaded into one of them
+  pub AreLoadedQueues-loaded : (name d : Bytes) → AreLoadedQueues (changed_at (λ q. loaded_with q d) name qs)
+  AreLoadedQueues-loaded name d = by (value_at name qs) refl
+    where
+      by : (o : Option TransState) → value_at name qs ≡ o → AreLoadedQueues (changed_where (λ q. loaded_with q d) name o qs)
+      by None is = are
+      by (Some q) is = AreLoadedQueues-with name (loaded_with q d) (record { read = (All-value_at IsLoadedQueue name qs q are.loaded is).read; written = refl })
+
+module _ (m : Map FileValue) (ps : List Bytes) (qs : Map TransState) where
+  -- a queue that is defined
+  pub opened_with-queue : (name : Bytes) (recovery : Recovery) → opened_with m ps (with_value name (holding recovery []) qs) ≡ with_queue (opened_with m ps qs) name recovery
+  opened_with-queue name recovery = ap (λ queues. record { files = openings_of m; prefixes = ps; queues = queues }) (with_value-each queue_opening name (holding recovery []) qs)
+
+  with_td_record-found : (o : OpeningState) (name r : Bytes) (q : QueueOpening) → value_at name o.queues ≡ Some q →
+      with_td_record o name r ≡ record { files = o.files; prefixes = o.prefixes; queues = with_value name (record { recovery = q.recovery; records = q.records ++ r ∷ [] }) o.queues }
+  with_td_record-found o name r q found = rw found refl
+
+  with_td_record-absent : (o : OpeningState) (name r : Bytes) → value_at name o.queues ≡ None → with_td_record o name r ≡ o
+  with_td_record-absent o name r absent = rw absent refl
+
+  -- a record that is loaded into a queue
+  pub opened_with-loaded : (name d : Bytes) → opened_with m ps (changed_at (λ q. loaded_with q d) name qs) ≡ with_td_record (opened_with m ps qs) name d
+  opened_with-loaded name d = by (value_at name qs) refl
+    where
+      seen : (o : Option TransState) → value_at name qs ≡ o → value_at name (queue_openings qs) ≡ option_map queue_opening o
+      seen o is = value_at-each queue_opening name qs ∙ ap (option_map queue_opening) is
+
+      by : (o : Option TransState) → value_at name qs ≡ o → opened_with m ps (changed_where (λ q. loaded_with q d) name o qs) ≡ with_td_record (opened_with m ps qs) name d
+      by None is = sym (with_td_record-absent (opened_with m ps qs) name d (seen None is))
+      by (Some q) is = ap (λ queues. record { files = openings_of m; prefixes = ps; queues = queues }) (with_value-each queue_opening name (loaded_with q d) qs)
+          ∙ sym (with_td_record-found (opened_with m ps qs) name d (queue_opening q) (seen (Some q) is))
+
+  module _ (o : OpeningState) (is : opened_with m ps qs ≡ o) where
+    -- whether a queue is defined already
+    pub defined_already : (name : Bytes) → has_key name qs ≡ has_key name o.queues
+    defined_already name = sym (has_key-each queue_opening name qs) ∙ ap (λ p. has_key name p.queues) is
+
+    -- the fault of a record to be loaded, by what was tested
+    pub load_td_fault-tested : (name r : Bytes) (there sized : Bool) → there ≡ has_key name qs → sized ≡ is_record_size (length r) →
+        (if there then (if sized then None else Some BadLength) else Some NotThere) ≡ load_td_fault (value_at name o.queues) r
+    load_td_fault-tested name r there sized t s = ap (λ b. if b then (if sized then None else Some BadLength) else Some NotThere) (t ∙ defined_already name)
+        ∙ ap (λ b. if has_key name o.queues then (if b then None else Some BadLength) else Some NotThere) s
+        ∙ by (value_at name o.queues)
+      where
+        by : (q : Option QueueOpening) → (if is_some q then (if is_record_size (length r) then None else Some BadLength) else Some NotThere) ≡ load_td_fault q r
+        by None = refl
+        by (Some q) = refl
+
+-- ---- what is recoverable
+recoverable_of : (o : OpeningState) (name : Bytes) (f : FileOpening) → value_at name o.files ≡ Some f → f.definition.recoverable ≡ file_recoverable o name
+recoverable_of o name f found = rw found refl
+
+unrecoverable : (o : OpeningState) (name : Bytes) → value_at name o.files ≡ None → false ≡ file_recoverable o name
+unrecoverable o name found = rw found refl
+
+logical_of : (o : OpeningState) (name : Bytes) (q : QueueOpening) → value_at name o.queues ≡ Some q → is_logical q.recovery ≡ queue_logical o name
+logical_of o name q found = rw found refl
+
+unlogical : (o : OpeningState) (name : Bytes) → value_at name o.queues ≡ None → false ≡ queue_logical o name
+unlogical o name found = rw found refl
+
+module _ (m : Map FileValue) (ps : List Bytes) (qs : Map TransState) (o : OpeningState) (is : opened_with m ps qs ≡ o) (name : Bytes) where
+  file_seen : (f : Option FileValue) → f ≡ value_at name m → value_at name o.files ≡ option_map opening_of f
+  file_seen f there = ap (λ p. value_at name p.files) (sym is) ∙ value_at-each opening_of name m ∙ ap (option_map opening_of) (sym there)
+
+  -- what an opening has of a queue's name
+  pub queue_seen : (q : Option TransState) → q ≡ value_at name qs → value_at name o.queues ≡ option_map queue_opening q
+  queue_seen q there = ap (λ p. value_at name p.queues) (sym is) ∙ value_at-each queue_opening name qs ∙ ap (option_map queue_opening) (sym there)
+
+  -- a file is recoverable where its definition says so, and one that isn't there is not
+  pub recoverable_there : (f : FileValue) → Some f ≡ value_at name m → f.definition.recoverable ≡ file_recoverable o name
+  recoverable_there f there = recoverable_of o name (opening_of f) (file_seen (Some f) there)
+
+  pub recoverable_nowhere : None ≡ value_at name m → false ≡ file_recoverable o name
+  recoverable_nowhere gone = unrecoverable o name (file_seen None gone)
+
+  -- a queue is recoverable where it is LOGICAL, and one that isn't there is not
+  pub logical_there : (q : TransState) → Some q ≡ value_at name qs → is_logical q.kind ≡ queue_logical o name
+  logical_there q there = logical_of o name (queue_opening q) (queue_seen (Some q) there)
+
+  pub logical_nowhere : None ≡ value_at name qs → false ≡ queue_logical o name
+  logical_nowhere gone = unlogical o name (queue_seen None gone)

@@ -1,44 +1,26 @@
--- An opening that defines files alone: what is recoverable, and what a plain replay begins with.
-use Rattle.std.specs.Prelude.{◌≡◌, ℕ, ◌<◌, ◌≤◌, length, take, IsTrue, T, All, false, Some, None, option_map, List, [], ◌∷◌, fold, refl}
+-- What a plain replay begins with: the files and queues of an opening, each with what was loaded into it.
+use Rattle.std.specs.Prelude.{◌≡◌, ℕ, ◌<◌, ◌≤◌, length, take, IsTrue, T, All, true, List, [], ◌∷◌, fold, refl}
 use Rattle.std.proofs.Common.{sym, ap, ◌∙◌, subst, get_or}
 use Rattle.std.proofs.lemmas.List.{take_all}
 use Rattle.std.proofs.lemmas.List.Elements.{All-head, All-tail, All-same, All-map, All-weaker, All-get_or}
-use Rattle.cics_names.specs.Keyed.{Bytes, Map, value_at, with_value, is_rising}
-use Rattle.cics_ksds.specs.Files.{FileValue, IsContent, key_of, fits_file, records_of}
+use Rattle.cics_names.specs.Keyed.{Bytes, Map, with_value, is_rising}
+use Rattle.cics_ksds.specs.Files.{IsContent, key_of, fits_file, records_of}
 use Rattle.cics_ksds.specs.declared.definition.FileDef.{FileDef}
-use Rattle.cics_history.specs.Openings.{OpeningState, FileOpening, file_recoverable}
-use Rattle.cics_units.specs.RegionFiles.{opening_of, refilled}
-use Rattle.cics_units.specs.Replaying.{files_alone}
-use Rattle.cics_history.specs.Store.{Store, initial_store}
-use Rattle.cics_units.proofs.Opened.{each, value_at-each, rising-each}
+use Rattle.cics_units.specs.RegionFiles.{refilled}
+use Rattle.cics_units.proofs.Opened.{each, rising-each}
 use Rattle.cics_units.proofs.Refilled.{refilled-rising}
 
-there : (o : OpeningState) (name : Bytes) (f : FileOpening) → value_at name o.files ≡ Some f → f.definition.recoverable ≡ file_recoverable o name
-there o name f found = rw found refl
+-- ---- the files and queues that a replay begins with
+pub each_each : {X Y Z : Type 0} (v : X → Y) (w : Y → Z) (m : Map X) → each w (each v m) ≡ each (λ x. w (v x)) m
+each_each v w [] = refl
+each_each v w (e ∷ m) = ap (λ r. (e.0, w (v e.1)) ∷ r) (each_each v w m)
 
-nowhere : (o : OpeningState) (name : Bytes) → value_at name o.files ≡ None → false ≡ file_recoverable o name
-nowhere o name found = rw found refl
-
-pub recoverable_there : (files : Map FileValue) (name : Bytes) (f : FileValue) → value_at name files ≡ Some f → f.definition.recoverable ≡ file_recoverable (files_alone files) name
-recoverable_there files name f found = there (files_alone files) name (opening_of f) (value_at-each opening_of name files ∙ ap (option_map opening_of) found)
-
-pub recoverable_nowhere : (files : Map FileValue) (name : Bytes) → value_at name files ≡ None → false ≡ file_recoverable (files_alone files) name
-recoverable_nowhere files name found = nowhere (files_alone files) name (value_at-each opening_of name files ∙ ap (option_map opening_of) found)
-
--- ---- the files that a replay begins with
-each_records : (files : Map FileValue) → each (λ f. f.records) files ≡ (initial_store (files_alone files)).files
-each_records [] = refl
-each_records (e ∷ es) = ap (λ r. (e.0, e.1.records) ∷ r) (each_records es)
-
--- the files that were passed, with their records and no queue
-abbrev pub passed : Map FileValue → Store
-passed files = record { files = refilled (each (λ f. f.records) files); ts = []; td = [] }
-
-pub begins_with : (files : Map FileValue) → T (is_rising files) → (all : Map FileValue) → all ≡ files → passed all ≡ initial_store (files_alone files)
-begins_with files rising all are =
-    ap passed are
-    ∙ ap (λ m. record { files = m; ts = []; td = [] })
-    (refilled-rising (each (λ f. f.records) files) (subst T (sym (rising-each (λ f. f.records) files)) rising) ∙ each_records files)
+-- all that was passed, put into an empty map one after the other, is what an opening has loaded
+pub begins_with : {X Y Z : Type 0} (v : X → Y) (w : Y → Z) (m : Map X) → is_rising m ≡ true → (all : Map Y) → all ≡ each v m →
+    refilled (each w all) ≡ each (λ x. w (v x)) m
+begins_with v w m rising all are =
+    ap (λ n. refilled (each w n)) are ∙ ap refilled (each_each v w m)
+    ∙ refilled-rising (each (λ x. w (v x)) m) (subst T (sym (rising-each (λ x. w (v x)) m ∙ rising)) tt)
 
 -- ---- the records of one file
 abbrev IsKeyed : FileDef → Bytes × Bytes → Type 0

@@ -7,34 +7,32 @@ use Rattle.std.proofs.lemmas.List.Elements.{All-head, All-tail}
 use Rattle.cics_names.specs.Keyed.{is_same, is_rising}
 use Rattle.cics_names.specs.KeyedLaws.{is_same-self, is_same-eq}
 use Rattle.cics_ksds.specs.Files.{records_of}
+use Rattle.cics_transdata.specs.Trans.{TransState, queue_of}
+use Rattle.cics_transdata.specs.declared.queues.Recovery.{Recovery}
 use Rattle.cics_units.specs.RegionFiles.{files_listed}
+use Rattle.cics_units.specs.Listings.{recovery_in}
 use Rattle.cics_history.proofs.Entries.{first, second, value_at-below}
 use Rattle.std.specs.List.{list_any}
-use Rattle.std.specs.Prelude.{is_some, unwrap_or}
-use Rattle.cics_ksds.specs.Prefixes.{under}
+use Rattle.std.specs.Prelude.{is_some}
 use Rattle.std.proofs.Common.{inl, inr, eqb}
 use Rattle.cics_names.specs.Keyed.{has_key}
 use Rattle.std.proofs.lemmas.Bool.{cases_Bool, and_parts, or_left, or_right, false≢true, and_from, lt-ltb}
 use Rattle.cics_names.specs.Keyed.{Bytes, Map, value_at}
-use Rattle.cics_names.specs.declared.conditions.Condition.{Condition}
-use Rattle.cics_names.specs.declared.conditions.Condition.TheVariants.{Normal}
 use Rattle.cics_ksds.specs.Files.{FileValue}
+use Rattle.cics_tempstor.specs.Queues.{places_of}
 use Rattle.cics_enqueue.specs.Resources.{Table, released}
 use Rattle.cics_enqueue.specs.declared.resources.Resource.{Resource}
 use Rattle.cics_history.specs.Openings.{OpeningState, file_recoverable}
-use Rattle.cics_history.specs.Store.{Store, apply, apply_write, apply_rewrite, apply_delete, apply_delete_generic, counted_answer, is_normal, is_recoverable}
+use Rattle.cics_history.specs.Store.{apply, is_normal, is_recoverable}
 use Rattle.cics_history.specs.Holding.{UnitsState, UpdateRead, store_of, awaited}
 use Rattle.cics_history.specs.Execution.{execution, done_of, state_of, has_read, IsOpenUnit, IsOpenOrNone, unit_or_next, outcomes_with, reads_after, is_read_of, read_at, entered, after_execution, after_unlock, after_end, is_ready_op}
 use Rattle.cics_history.specs.Headline.{beginning}
-use Rattle.cics_history.specs.Cells.{content, is_generic, cell_of as cell_of_op, effect}
 use Rattle.cics_history.specs.Events.{is_live, may_act}
-use Rattle.cics_history.specs.Undo.{changes, images_under, images_by}
-use Rattle.cics_units.specs.FilesImagesLaws as files
-use Rattle.cics_units.specs.Matching.{store_of_files, AreKept as KeptChanges}
+use Rattle.cics_units.specs.StoreMatching.{StoreValue, shown_store}
 use Rattle.cics_history.specs.Records.{is_file_op, file_of, key_of}
 use Rattle.cics_units.specs.Uses.{uses_if, holder_over_all}
 use Rattle.cics_units.specs.TableInPlace.{is_read, counts_in, table_changed, table_executed, table_given_back}
-use Rattle.cics_units.specs.Parts.{UndoableValue, PartsValue, AreExecuted, ArePartsKept, is_recoverable_in, AreImagesAfter, AreChanged, leaves}
+use Rattle.cics_units.specs.Parts.{UndoableValue, PartsValue, AreExecuted, ArePartsKept, is_recoverable_in, AreChanged}
 use Rattle.cics_units.specs.KeptUnits.{state_shown, AreKept}
 use Rattle.cics_history.specs.declared.ops.Op.{Op}
 use Rattle.cics_history.specs.declared.ops.Op.TheVariants.{Write, Rewrite, Delete, DeleteGeneric, ReadUpdate, TsWrite, TsRewrite, TsDelete, TdWrite, TdRead, TdDelete}
@@ -42,14 +40,9 @@ use Rattle.cics_history.specs.declared.ops.Answer.{Answer}
 use Rattle.cics_history.specs.declared.ops.Done.TheVariants.{Answered, MustWait}
 use Rattle.cics_history.specs.declared.ops.Entry.{Entry}
 use Rattle.cics_history.specs.declared.ops.UnitState.{UnitState}
-use Rattle.std.proofs.lemmas.Bool.{true≢false, false_from_ne_true}
-use Rattle.cics_ksds.proofs.UnderPrefix.{prefix_itself}
-use Rattle.cics_history.proofs.Generic.{normal-generic}
-use Rattle.cics_history.proofs.Joining.{apply-answer, read_only}
 use Rattle.cics_units.proofs.HeldSums.{recoverable_op}
-use Rattle.cics_units.proofs.MadeImages.{images_by-one}
 use Rattle.cics_units.proofs.UsesInTable.{awaited-uses_file}
-use Rattle.cics_units.proofs.KeptUnits.{kept_roomier, recoverable_alike, store_is, is_entered, next_none, kept_executed, kept_unlocked}
+use Rattle.cics_units.proofs.KeptUnits.{kept_roomier, recoverable_alike, store_is, is_entered, kept_executed, kept_unlocked}
 
 -- a unit that is open has begun and not ended
 pub live_of : (s : UnitsState) (u : ℕ) → IsOpenUnit s u → is_live s u ≡ true
@@ -67,7 +60,7 @@ module _ (o : OpeningState) (trace : List Entry) (outcomes : List UnitState) (p 
 
   -- ---- UNLOCK
   module _ (u : ℕ) (f : Bytes) (live : is_live before u ≡ true) (stores : new.stores ≡ p.stores)
-      (table : new.table ≡ table_given_back (is_recoverable_in (value_at f p.stores.files)) u f (read_at p.reads u f) p.table)
+      (table : new.table ≡ table_given_back (is_recoverable_in (value_at f p.stores.store.files)) u f (read_at p.reads u f) p.table)
       (reads : new.reads ≡ filter (λ r. not (is_read_of u f r)) p.reads) where
     table_then : new.table ≡ table_given_back (file_recoverable o f) u f (read_at p.reads u f) p.table
     table_then = table ∙ ap (λ b. table_given_back b u f (read_at p.reads u f) p.table) (recoverable_alike before p.stores p.table is f)
@@ -76,6 +69,7 @@ module _ (o : OpeningState) (trace : List Entry) (outcomes : List UnitState) (p 
     unlocked_state = λ i. record before {
       reads = reads i;
       counts = (ap counts_in table_then ∙ sym (kept_unlocked before p.stores p.table is u f live).table.counts) i;
+      next = ap (λ (st : UndoableValue). places_of st.store.temp_storage) stores i;
     }
 
     pub unlocked_kept : AreKept (state_shown o trace outcomes new) new.stores new.table
@@ -91,6 +85,7 @@ module _ (o : OpeningState) (trace : List Entry) (outcomes : List UnitState) (p 
       outcomes = slice_set outcomes u outcome;
       reads = reads i;
       counts = (ap counts_in table ∙ sym kept.table.counts) i;
+      next = sym kept.places i;
     }
 
     pub ended_kept : AreKept (state_shown o trace (slice_set outcomes u outcome) new) new.stores new.table
@@ -100,7 +95,7 @@ module _ (o : OpeningState) (trace : List Entry) (outcomes : List UnitState) (p 
   module _ (u : Option ℕ) (op : Op) (acts : may_act before u ≡ true) (file : is_file_op op ≡ true) (free : awaited before u op ≡ None)
       (ready : is_ready_op before u op ≡ true) (short : length (key_of op) ≤ 255)
       (changed : AreChanged p.stores new.stores (unit_or_next u outcomes) op) (room : unit_or_next u outcomes < length p.stores.images)
-      (answer : Answer) (right : answer ≡ (apply (store_of_files p.stores.files) op).answer)
+      (answer : Answer) (right : answer ≡ (apply (shown_store p.stores.store) op).answer)
       (table : new.table ≡ table_executed o (unit_or_next u outcomes) op answer.condition p.reads p.table)
       (reads : new.reads ≡ reads_after (unit_or_next u outcomes) op answer.condition p.reads) where
     told : answer ≡ (apply (store_of before) op).answer
@@ -117,7 +112,7 @@ module _ (o : OpeningState) (trace : List Entry) (outcomes : List UnitState) (p 
     entered_state = λ i. record (entered before u op answer) {
       reads = reads i;
       counts = (ap counts_in table ∙ sym kept_then.table.counts) i;
-      next = sym (next_none (store_of before) op answer.condition file) i;
+      next = sym kept_then.places i;
     }
 
     pub executed_state : state_shown o (trace ++ entry ∷ []) (outcomes_with u outcomes) new ≡ after_execution before u op
@@ -125,109 +120,6 @@ module _ (o : OpeningState) (trace : List Entry) (outcomes : List UnitState) (p 
 
     pub executed_shown : AreKept (state_shown o (trace ++ entry ∷ []) (outcomes_with u outcomes) new) new.stores new.table
     executed_shown = subst (λ s. AreKept s new.stores new.table) (sym entered_state) (subst (AreKept (entered before u op answer) new.stores) (sym table) kept_then)
-
--- ---- A command that isn't answered NORMAL changes nothing
-refused_store : (s : Store) (op : Op) → is_file_op op ≡ true → is_normal (apply s op).answer.condition ≡ false → (apply s op).store ≡ s
-refused_store s (Write f k r) file h = by (value_at f s.files) h
-  where
-    by : (m : Option (Map Bytes)) → is_normal (apply_write s f k r m).answer.condition ≡ false → (apply_write s f k r m).store ≡ s
-    by None h = refl
-    by (Some m) h = rw h refl
-refused_store s (Rewrite f k r) file h = by (value_at f s.files) h
-  where
-    by : (m : Option (Map Bytes)) → is_normal (apply_rewrite s f k r m).answer.condition ≡ false → (apply_rewrite s f k r m).store ≡ s
-    by None h = refl
-    by (Some m) h = rw h refl
-refused_store s (Delete f k) file h = by (value_at f s.files) h
-  where
-    by : (m : Option (Map Bytes)) → is_normal (apply_delete s f k m).answer.condition ≡ false → (apply_delete s f k m).store ≡ s
-    by None h = refl
-    by (Some m) h = rw h refl
-refused_store s (DeleteGeneric f p) file h = by (value_at f s.files) h
-  where
-    by : (m : Option (Map Bytes)) → is_normal (apply_delete_generic s f p m).answer.condition ≡ false → (apply_delete_generic s f p m).store ≡ s
-    by None h = refl
-    by (Some m) h = rw h refl
-refused_store s (ReadUpdate f k) file h = read_only s f k
-refused_store s (TsWrite q d) file h = absurd (false≢true file)
-refused_store s (TsRewrite q n d) file h = absurd (false≢true file)
-refused_store s (TsDelete q) file h = absurd (false≢true file)
-refused_store s (TdWrite q d) file h = absurd (false≢true file)
-refused_store s (TdRead q) file h = absurd (false≢true file)
-refused_store s (TdDelete q) file h = absurd (false≢true file)
-
--- where a delete by prefix is refused there is no record under the prefix
-none_under : (p : Bytes) (m : Map Bytes) → is_normal (counted_answer (under p m)).condition ≡ false → under p m ≡ []
-none_under p m h = by (under p m) h
-  where
-    by : (es : Map Bytes) → is_normal (counted_answer es).condition ≡ false → es ≡ []
-    by [] h = refl
-    by (e ∷ es) h = absurd (true≢false h)
-
-changes_none : (s : Store) (op : Op) → is_normal (apply s op).answer.condition ≡ false → changes op (content s (cell_of_op op)) ≡ false
-changes_none s (ReadUpdate f k) h = refl
-changes_none s (DeleteGeneric f p) h =
-    false_from_ne_true _ (λ t. true≢false (sym (normal-generic s f p (value_at f s.files) p (prefix_itself p) t) ∙ h))
-changes_none s (Write f k r) h = ap (λ a. is_normal a.condition) (sym (apply-answer s (Write f k r) refl)) ∙ h
-changes_none s (Rewrite f k r) h = ap (λ a. is_normal a.condition) (sym (apply-answer s (Rewrite f k r) refl)) ∙ h
-changes_none s (Delete f k) h = ap (λ a. is_normal a.condition) (sym (apply-answer s (Delete f k) refl)) ∙ h
-changes_none s (TsWrite q d) h = ap (λ a. is_normal a.condition) (sym (apply-answer s (TsWrite q d) refl)) ∙ h
-changes_none s (TsRewrite q n d) h = ap (λ a. is_normal a.condition) (sym (apply-answer s (TsRewrite q n d) refl)) ∙ h
-changes_none s (TsDelete q) h = ap (λ a. is_normal a.condition) (sym (apply-answer s (TsDelete q) refl)) ∙ h
-changes_none s (TdWrite q d) h = ap (λ a. is_normal a.condition) (sym (apply-answer s (TdWrite q d) refl)) ∙ h
-changes_none s (TdRead q) h = ap (λ a. is_normal a.condition) (sym (apply-answer s (TdRead q) refl)) ∙ h
-changes_none s (TdDelete q) h = ap (λ a. is_normal a.condition) (sym (apply-answer s (TdDelete q) refl)) ∙ h
-
-one_refused : (s : Store) (op : Op) → is_generic op ≡ false → is_normal (apply s op).answer.condition ≡ false → images_by s op (content s) ≡ []
-one_refused s op one h = images_by-one s op (content s) one ∙ ap (λ b. if b then record { cell = cell_of_op op; before = content s (cell_of_op op); made = (effect op (content s (cell_of_op op))).cell } ∷ [] else []) (changes_none s op h)
-
--- a command that is refused gives no image
-refused_images : (s : Store) (op : Op) → is_file_op op ≡ true → is_normal (apply s op).answer.condition ≡ false → images_by s op (content s) ≡ []
-refused_images s (DeleteGeneric f p) file h = ap (λ es. images_under (DeleteGeneric f p) f (content s) es) (by (value_at f s.files) h)
-  where
-    by : (m : Option (Map Bytes)) → is_normal (apply_delete_generic s f p m).answer.condition ≡ false → under p (unwrap_or m []) ≡ []
-    by None h = refl
-    by (Some m) h = none_under p m h
-refused_images s (Write f k r) file h = one_refused s (Write f k r) refl h
-refused_images s (Rewrite f k r) file h = one_refused s (Rewrite f k r) refl h
-refused_images s (Delete f k) file h = one_refused s (Delete f k) refl h
-refused_images s (ReadUpdate f k) file h = one_refused s (ReadUpdate f k) refl h
-refused_images s (TsWrite q d) file h = absurd (false≢true file)
-refused_images s (TsRewrite q n d) file h = absurd (false≢true file)
-refused_images s (TsDelete q) file h = absurd (false≢true file)
-refused_images s (TdWrite q d) file h = absurd (false≢true file)
-refused_images s (TdRead q) file h = absurd (false≢true file)
-refused_images s (TdDelete q) file h = absurd (false≢true file)
-
-pub refused_changed : (st : UndoableValue) (unit : ℕ) (op : Op) → is_file_op op ≡ true → is_normal (apply (store_of_files st.files) op).answer.condition ≡ false → AreChanged st st unit op
-refused_changed st unit op file h = record {
-  store = sym (refused_store (store_of_files st.files) op file h);
-  others = files.keeps_itself (leaves op) st.files;
-  apart = record { count = refl; rows = λ w apart. refl };
-  images = none_after (is_recoverable_in (value_at (file_of op) st.files));
-  held = λ c unnamed has. has;
-}
-  where
-    none_after : (b : Bool) → AreImagesAfter st st unit op b
-    none_after true = record {
-      images = [];
-      made = subst (λ l. KeptChanges l []) (sym (refused_images (store_of_files st.files) op file h)) tt;
-      newest = refl;
-      ready = λ r. r;
-    }
-    none_after false = refl
-
--- NORMAL is the one condition of a command that did what it asks for
-pub condition_normal : (c : Condition) → is_normal c ≡ true → c ≡ Normal
-condition_normal Normal e = refl
-condition_normal _ e = absurd (false≢true e)
-
--- what the table and the reads are after a command, by whether it was answered NORMAL
-pub table_refused : (o : OpeningState) (unit : ℕ) (op : Op) (c : Condition) (reads : List UpdateRead) (t : Table) → is_normal c ≡ false → t ≡ table_executed o unit op c reads t
-table_refused o unit op c reads t h = rw h refl
-
-pub reads_refused : (unit : ℕ) (op : Op) (c : Condition) (reads : List UpdateRead) → is_normal c ≡ false → reads ≡ reads_after unit op c reads
-reads_refused unit op c reads h = rw h refl
 
 -- the key of an update read is as short as those of all
 pub read_short : (reads : List UpdateRead) (u : ℕ) (f : Bytes) → All (λ r. length r.key ≤ 255) reads → IfSome (read_at reads u f) (λ k. length k ≤ 255)
@@ -243,31 +135,43 @@ copied_short None o is short = tt
 copied_short (Some k) o is short = subst (λ x. IfSome x (λ b. length b ≤ 255)) (sym is) short
 
 -- ---- Listings
-module _ (o : OpeningState) where
-  abbrev listed_file : Bytes × FileValue → Bytes × Bool × List Bytes
-  listed_file e = (e.0, e.1.definition.recoverable, records_of e.1.records)
-
-  nothing_there : {x : FileValue} → None ≡ Some x → ⊥
+-- what each entry of a map by name shows of itself is what is told by its name
+module _ {X Y A B : Type 0} (look : X → A) (told : Bytes → A) (shown : X → Y) (rest : Y → B) where
+  nothing_there : {x : X} → None ≡ Some x → ⊥
   nothing_there e = cc
 
-  pub files_alike : (m : Map FileValue) → T (is_rising m) → ((f : Bytes) (x : FileValue) → value_at f m ≡ Some x → x.definition.recoverable ≡ file_recoverable o f) →
-      files_listed m ≡ map (λ e. (e.0, file_recoverable o e.0, records_of e.1)) (store_of_files m).files
-  files_alike [] rises alike = refl
-  files_alike (e ∷ m) rises alike = λ i.
-      (e.0, alike e.0 e.1 (rw (is_same-self e.0) refl) i, records_of e.1.records)
-      ∷ files_alike m (second _ _ rises) (λ f x at. alike f x (later f x at)) i
+  listed_alike : (m : Map X) → T (is_rising m) → ((k : Bytes) (x : X) → value_at k m ≡ Some x → look x ≡ told k) →
+      map {B = Bytes × A × B} (λ e. (e.0, look e.1, rest (shown e.1))) m ≡ map (λ e. (e.0, told e.0, rest e.1)) (map {B = Bytes × Y} (λ e. (e.0, shown e.1)) m)
+  listed_alike [] rises alike = refl
+  listed_alike (e ∷ m) rises alike = λ i.
+      (e.0, alike e.0 e.1 (rw (is_same-self e.0) refl) i, rest (shown e.1))
+      ∷ listed_alike m (second _ _ rises) (λ k x at. alike k x (later k x at)) i
     where
-      later : (f : Bytes) (x : FileValue) → value_at f m ≡ Some x → value_at f (e ∷ m) ≡ Some x
-      later f x at = elim (is_same f e.0) as (λ b. is_same f e.0 ≡ b → (if b then Some e.1 else value_at f m) ≡ Some x) [
-        | true ↦ λ same. absurd (nothing_there (sym (value_at-below e.0 m (first _ _ rises)) ∙ ap (λ g. value_at g m) (sym (is_same-eq f e.0 same)) ∙ at))
+      later : (k : Bytes) (x : X) → value_at k m ≡ Some x → value_at k (e ∷ m) ≡ Some x
+      later k x at = elim (is_same k e.0) as (λ b. is_same k e.0 ≡ b → (if b then Some e.1 else value_at k m) ≡ Some x) [
+        | true ↦ λ same. absurd (nothing_there (sym (value_at-below e.0 m (first _ _ rises)) ∙ ap (λ g. value_at g m) (sym (is_same-eq k e.0 same)) ∙ at))
         | false ↦ λ other. at
       ] refl
 
+module _ (o : OpeningState) where
+  -- the files are listed as the opening defines them
+  pub files_alike : (m : Map FileValue) → T (is_rising m) → ((f : Bytes) (x : FileValue) → value_at f m ≡ Some x → x.definition.recoverable ≡ file_recoverable o f) →
+      files_listed m ≡ map (λ e. (e.0, file_recoverable o e.0, records_of e.1)) (map {B = Bytes × Map Bytes} (λ e. (e.0, e.1.records)) m)
+  files_alike = listed_alike (λ (x : FileValue). x.definition.recoverable) (file_recoverable o) (λ x. x.records) records_of
+
+  -- and so are the transient data queues
+  pub queues_alike : (m : Map TransState) → T (is_rising m) → ((q : Bytes) (t : TransState) → value_at q m ≡ Some t → t.kind ≡ recovery_in (value_at q o.queues)) →
+      map {B = Bytes × Recovery × List Bytes} (λ e. (e.0, e.1.kind, queue_of e.1)) m
+      ≡ map (λ e. (e.0, recovery_in (value_at e.0 o.queues), e.1)) (map {B = Bytes × List Bytes} (λ e. (e.0, queue_of e.1)) m)
+  queues_alike = listed_alike (λ (t : TransState). t.kind) (λ q. recovery_in (value_at q o.queues)) queue_of (λ l. l)
+
 -- ---- The beginning
-pub begun_shown : (o : OpeningState) (trace : List Entry) (outcomes : List UnitState) (p : PartsValue) (m : Map FileValue) →
-    p ≡ record { stores = record { files = m; images = [] }; table = []; reads = [] } → trace ≡ [] → outcomes ≡ [] →
-    AreKept (beginning o) (record { files = m; images = [] }) [] → AreKept (state_shown o trace outcomes p) p.stores p.table
-begun_shown o trace outcomes p m parts no_entry no_unit kept = rw (parts, no_entry, no_unit) kept
+-- what has just begun shows the beginning
+pub begun_shown : (o : OpeningState) (trace : List Entry) (outcomes : List UnitState) (p : PartsValue) (m : StoreValue) →
+    p ≡ record { stores = record { store = m; images = [] }; table = []; reads = [] } → trace ≡ [] → outcomes ≡ [] →
+    AreKept (beginning o) (record { store = m; images = [] }) [] → AreKept (state_shown o trace outcomes p) p.stores p.table
+begun_shown o trace outcomes p m parts no_entry no_unit kept = rw (parts, no_entry, no_unit) (subst (λ next. AreKept (record (beginning o) { next = next })
+    (record { store = m; images = [] }) []) kept.places kept)
 
 -- ---- Calls of the parts
 module _ (o : OpeningState) (trace : List Entry) (outcomes : List UnitState) (p new : PartsValue)
@@ -275,16 +179,21 @@ module _ (o : OpeningState) (trace : List Entry) (outcomes : List UnitState) (p 
   abbrev state_before : UnitsState
   state_before = state_shown o trace outcomes p
 
+  -- units with these commands, outcomes, reads, counts and NEXT places
+  abbrev shows : List Entry → List UnitState → List UpdateRead → Table → Map ℕ → UnitsState
+  shows entries outs reads t next = record { opening = o; trace = entries; outcomes = outs; reads = reads; counts = counts_in t; next = next }
+
   -- after a refused call all is as it was, but for more room
   pub refused_kept : ArePartsKept p new → (entries : List Entry) (outs : List UnitState) → entries ≡ trace → outs ≡ outcomes → AreKept (state_shown o entries outs new) new.stores new.table
   refused_kept same entries outs entries_same outs_same =
-      subst (λ t. AreKept (record { opening = o; trace = entries; outcomes = outs; reads = new.reads; counts = counts_in t; next = [] }) new.stores t) (sym same.table)
-      (subst (λ r. AreKept (record { opening = o; trace = entries; outcomes = outs; reads = r; counts = counts_in p.table; next = [] }) new.stores p.table) (sym same.reads)
-      (rw (entries_same, outs_same) (kept_roomier state_before p.stores p.table is new.stores same.stores.files same.stores.kept same.stores.longer)))
+      subst (λ t. AreKept (shows entries outs new.reads t (places_of new.stores.store.temp_storage)) new.stores t) (sym same.table)
+      (subst (λ r. AreKept (shows entries outs r p.table (places_of new.stores.store.temp_storage)) new.stores p.table) (sym same.reads)
+      (subst (λ (m : StoreValue). AreKept (shows entries outs p.reads p.table (places_of m.temp_storage)) new.stores p.table) (sym same.stores.store)
+      (rw (entries_same, outs_same) (kept_roomier state_before p.stores p.table is new.stores same.stores.store same.stores.kept same.stores.longer))))
 
   module _ (u : Option ℕ) (op : Op) (file : is_file_op op ≡ true) where
     abbrev pub asked : List Resource
-    asked = uses_if (is_recoverable_in (value_at (file_of op) p.stores.files)) op
+    asked = uses_if (is_recoverable_in (value_at (file_of op) p.stores.store.files)) op
 
     -- a command waits for the other unit that the table has in the way of what it uses
     awaited_is : awaited state_before u op ≡ holder_over_all asked u p.table
@@ -300,31 +209,36 @@ module _ (o : OpeningState) (trace : List Entry) (outcomes : List UnitState) (p 
     waits_unchanged h held = sym (ap (state_of state_before u op) (awaited_is ∙ held))
 
     module _ (acts : may_act state_before u ≡ true) (none : holder_over_all asked u p.table ≡ None) (ready : is_ready_op state_before u op ≡ true) (short : length (key_of op) ≤ 255)
-        (answer : Answer) (right : answer ≡ (apply (store_of_files p.stores.files) op).answer) (done : AreExecuted p new (unit_or_next u outcomes) op answer.condition) where
+        (answer : Answer) (right : answer ≡ (apply (shown_store p.stores.store) op).answer) (done : AreExecuted p new (unit_or_next u outcomes) op answer.condition) where
       free : awaited state_before u op ≡ None
       free = awaited_is ∙ none
 
       abbrev roomy_parts : PartsValue
       roomy_parts = record { stores = done.roomy; table = p.table; reads = p.reads }
 
-      roomy_kept : AreKept state_before done.roomy p.table
-      roomy_kept = kept_roomier state_before p.stores p.table is done.roomy done.room.files done.room.kept done.room.longer
+      -- room changes no NEXT place
+      roomy_state : state_shown o trace outcomes roomy_parts ≡ state_before
+      roomy_state = λ i. record state_before { next = ap (λ (m : StoreValue). places_of m.temp_storage) done.room.store i }
+
+      roomy_kept : AreKept (state_shown o trace outcomes roomy_parts) done.roomy p.table
+      roomy_kept = subst (λ s. AreKept s done.roomy p.table) (sym roomy_state) (kept_roomier state_before p.stores p.table is done.roomy done.room.store done.room.kept done.room.longer)
 
       table_is : new.table ≡ table_executed o (unit_or_next u outcomes) op answer.condition p.reads p.table
       table_is = done.table ∙ by (is_normal answer.condition)
         where
           by : (b : Bool) →
-              (if b then table_changed (is_recoverable_in (value_at (file_of op) p.stores.files)) (unit_or_next u outcomes) op p.reads p.table else p.table)
+              (if b then table_changed (is_recoverable_in (value_at (file_of op) p.stores.store.files)) (unit_or_next u outcomes) op p.reads p.table else p.table)
               ≡ (if not b then p.table else table_changed (is_recoverable o op) (unit_or_next u outcomes) op p.reads p.table)
           by true = ap (λ r. table_changed r (unit_or_next u outcomes) op p.reads p.table)
               (recoverable_alike state_before p.stores p.table is (file_of op) ∙ sym (recoverable_op o op file))
           by false = refl
 
-      right_then : answer ≡ (apply (store_of_files done.roomy.files) op).answer
-      right_then = right ∙ ap (λ m. (apply (store_of_files m) op).answer) (sym done.room.files)
+      right_then : answer ≡ (apply (shown_store done.roomy.store) op).answer
+      right_then = right ∙ ap (λ m. (apply (shown_store m) op).answer) (sym done.room.store)
 
       pub parts_state : state_shown o (trace ++ record { unit = unit_or_next u outcomes; op = op; answer = answer } ∷ []) (outcomes_with u outcomes) new ≡ after_execution state_before u op
       parts_state = executed_state o trace outcomes roomy_parts new roomy_kept u op acts file free ready short done.changed done.begun answer right_then table_is done.reads
+          ∙ ap (λ s. after_execution s u op) roomy_state
 
       pub parts_kept : AreKept (state_shown o (trace ++ record { unit = unit_or_next u outcomes; op = op; answer = answer } ∷ []) (outcomes_with u outcomes) new) new.stores new.table
       parts_kept = executed_shown o trace outcomes roomy_parts new roomy_kept u op acts file free ready short done.changed done.begun answer right_then table_is done.reads

@@ -1,10 +1,10 @@
--- An executed command on a key or on a temporary storage queue keeps files, temporary storage, transient data and the
+-- An executed command on a file or on a temporary storage queue keeps files, temporary storage, transient data and the
 -- images in place.
-use Rattle.std.proofs.Common.{◌≡◌, ◌≢◌, ℕ, Bool, true, false, ◌&&◌, Option, None, List, [], ◌∷◌, ◌++◌, refl, ap, sym, subst, ◌∙◌, eqb, inl, inr, ◌⊎◌}
+use Rattle.std.proofs.Common.{◌≡◌, ◌≢◌, ℕ, Bool, true, false, ◌&&◌, not, Option, None, List, [], ◌∷◌, ◌++◌, refl, ap, sym, subst, ◌∙◌, eqb, inl, inr, ◌⊎◌}
 use Rattle.std.specs.Prelude.{if◌then◌else◌}
-use Rattle.std.proofs.lemmas.Bool.{true≢false, cases_Bool, cond_both, eqb-true, eqb-false, eq-eqb, and_parts, and_left, false_from_ne_true}
+use Rattle.std.proofs.lemmas.Bool.{true≢false, cases_Bool, eqb-true, eqb-false, eq-eqb, and_parts, and_left, false_from_ne_true, true_from_ne_false}
 use Rattle.cics_names.specs.Keyed.{Bytes, value_at}
-use Rattle.cics_images.specs.Cells.{Kept, is_other, AreOf}
+use Rattle.cics_images.specs.Cells.{Kept, Cell as ImageCell, is_other, AreOf}
 use Rattle.cics_images.specs.Turns.{IsImageOf}
 use Rattle.cics_images.specs.declared.stores.StoreImage.TheVariants.{File, TempStorage, TransData}
 use Rattle.cics_history.specs.Openings.{queue_logical}
@@ -12,12 +12,13 @@ use Rattle.cics_history.specs.Store.{apply, is_recoverable}
 use Rattle.cics_history.specs.History.{outcome_of, is_open}
 use Rattle.cics_history.specs.Holding.{UnitsState, awaited}
 use Rattle.cics_history.specs.Execution.{unit_or_next, outcomes_with, state_of, after_execution}
+use Rattle.cics_history.specs.Records.{is_file_op}
 use Rattle.cics_history.specs.declared.ops.Op.{Op}
 use Rattle.cics_history.specs.declared.ops.Op.TheVariants.{Write, Rewrite, Delete, DeleteGeneric, ReadUpdate, TsWrite, TsRewrite, TsDelete, TdWrite, TdRead, TdDelete}
-use Rattle.cics_history.specs.Cells.{Cell, Td, content, is_generic, cell_of as cell_of_op, same_cell, touches, effect, Writing, uses, recovers}
+use Rattle.cics_history.specs.Cells.{Cell, Td, content, is_generic, cell_of as cell_of_op, same_cell, touches, effect, End, Writing, uses, recovers, IsOrdered}
 use Rattle.cics_history.specs.Events.{may_act}
 use Rattle.cics_history.specs.Isolation.{used, IsSound}
-use Rattle.cics_history.specs.Undo.{Image, Cells, names, is_plain, changes, image_of, IsPlaceOf, after, put}
+use Rattle.cics_history.specs.Undo.{Image, Cells, names, is_plain, changes, image_of, images_by, AreImages, IsPlaceOf, after, put}
 use Rattle.cics_history.specs.Marks.{Queues, queues_executed}
 use Rattle.cics_history.specs.MarkImages.{MarkImage, mark_images}
 use Rattle.cics_history.specs.Ends.{Marks, marks_executed}
@@ -27,16 +28,19 @@ use Rattle.cics_history.proofs.States.{acting_open}
 use Rattle.cics_history.proofs.Outcomes.{outcome_of-with}
 use Rattle.cics_history.proofs.Waiting.{MayRun_from}
 use Rattle.cics_history.proofs.Places.{execution-IsPlaceOf, image_of-AreImages}
+use Rattle.cics_history.proofs.PrefixImages.{images_by-AreImages}
 use Rattle.cics_history.proofs.InPlace.{execution-AreMarksOf}
-use Rattle.cics_units.specs.FilesImagesLaws.{same_bytes-eq}
+use Rattle.cics_units.specs.FilesImagesLaws.{same_bytes-eq, bytes_eq-turned}
 use Rattle.cics_units.specs.UnitImages.{kept_by}
-use Rattle.cics_units.specs.StoreMatching.{StoreValue, AnyImage, shown_store, shown, bytes_of, cell_of_any, AnyLeads, any_content, IsAnyReady, any_undone, AnyKeep, IsKept, AreKept}
+use Rattle.cics_units.specs.StoreMatching.{StoreValue, AnyImage, shown_store, shown, bytes_of, bytes_of_end, cell_of_any, AnyLeads, any_content, IsAnyReady, any_undone, AnyKeep, IsKept, AreKept}
 use Rattle.cics_units.specs.StoreInPlace.{AreInPlace, HasMarks}
-use Rattle.cics_units.proofs.StoreMatched.{queue_apart, kept_elsewhere}
+use Rattle.cics_units.specs.Parts.{leaves_any}
+use Rattle.cics_units.proofs.StoreMatched.{queue_apart, plain_apart, each_passes}
 use Rattle.cics_units.proofs.StoreInPlace.{AreReady, ready_where}
+use Rattle.cics_units.proofs.FileCommands.{key_op, writes_op, no_queue_op, same_from, acted_on}
 
--- a command on a key or on a temporary storage queue marks nothing
-no_mark : (op : Op) → ((q : Bytes) → same_cell (cell_of_op op) (Td q) ≡ false) → (queues : Queues) → mark_images op queues ≡ []
+-- a command that acts on no transient data queue marks nothing
+no_mark : (op : Op) → ((q : Bytes) → touches op (Td q) ≡ false) → (queues : Queues) → mark_images op queues ≡ []
 no_mark (Write f k r) none queues = refl
 no_mark (Rewrite f k r) none queues = refl
 no_mark (Delete f k) none queues = refl
@@ -62,15 +66,29 @@ kept_more c cs ms (TempStorage i) is kept rest = (kept, rest)
 kept_more c cs ms (TransData i) is kept rest =
     absurd (true≢false (sym (same_bytes-eq (cell_of_any (TransData i)) (bytes_of c.cell) kept.cell) ∙ queue_apart i c.cell))
 
+-- two lists of images for two lists of changes and of marks are one for both
+pub kept_joined : (cs : List Image) (ms : List MarkImage) (is : List AnyImage) → AreKept cs ms is → (ds : List Image) (ns : List MarkImage) (js : List AnyImage) →
+    AreKept ds ns js → AreKept (cs ++ ds) (ms ++ ns) (is ++ js)
+kept_joined cs ms [] kept ds ns js more = subst (λ l. AreKept (l ++ ds) (ms ++ ns) js) (sym kept.0) (subst (λ l. AreKept ds (l ++ ns) js) (sym kept.1) more)
+kept_joined [] ms (File i ∷ is) kept ds ns js more = absurd kept
+kept_joined (c ∷ cs) ms (File i ∷ is) kept ds ns js more = (kept.0, kept_joined cs ms is kept.1 ds ns js more)
+kept_joined [] ms (TempStorage i ∷ is) kept ds ns js more = absurd kept
+kept_joined (c ∷ cs) ms (TempStorage i ∷ is) kept ds ns js more = (kept.0, kept_joined cs ms is kept.1 ds ns js more)
+kept_joined cs [] (TransData i ∷ is) kept ds ns js more = absurd kept
+kept_joined cs (m ∷ ms) (TransData i ∷ is) kept ds ns js more = (kept.0, kept_joined cs ms is kept.1 ds ns js more)
+
 -- an image of a change of a cell of the three
 abbrev pub IsAnyImage : StoreValue → StoreValue → List ℕ → AnyImage → Type 0
 IsAnyImage old new c image = IsImageOf any_content cell_of_any AnyLeads IsAnyReady any_undone AnyKeep old new c image
 
-module _ (s : UnitsState) (m n : StoreValue) (images after_images : List (Kept AnyImage)) (u : Option ℕ) (op : Op) (x : Cell)
+-- ---- A command that acts on plain cells alone, and leaves the cells that pass
+module _ (s : UnitsState) (m n : StoreValue) (images after_images : List (Kept AnyImage)) (u : Option ℕ) (op : Op)
+    (leaving : ImageCell → Bool) (made : List Image)
     (sound : IsSound s) (place : AreInPlace s m images) (acts : may_act s u ≡ true) (free : awaited s u op ≡ None)
-    (on : cell_of_op op ≡ x) (one : is_generic op ≡ false) (writes : uses op Writing ≡ true)
-    (plain : is_plain s.opening x ≡ true) (no_queue : (q : Bytes) → same_cell x (Td q) ≡ false)
-    (store : shown_store n ≡ (apply (shown_store m) op).store) (others : AnyKeep (is_other (bytes_of x)) m n)
+    (gives : AreImages op (content (shown_store m)) made) (writes : uses op Writing ≡ true)
+    (plain : is_plain s.opening (cell_of_op op) ≡ true) (no_queue : (q : Bytes) → touches op (Td q) ≡ false)
+    (acted : (x : Cell) → leaving (bytes_of x) ≡ false → touches op x ≡ true) (ends_left : (q : Bytes) (end : End) → leaving (bytes_of_end q end) ≡ true)
+    (store : shown_store n ≡ (apply (shown_store m) op).store) (others : AnyKeep leaving m n)
     (queues_stay : (q : Bytes) → value_at q n.trans_data ≡ value_at q m.trans_data) where
   -- the unit that executes it
   abbrev unit : ℕ
@@ -80,10 +98,6 @@ module _ (s : UnitsState) (m n : StoreValue) (images after_images : List (Kept A
   abbrev before : Cells
   before = content (shown_store m)
 
-  -- the image of the command's change
-  abbrev made : List Image
-  made = image_of op (before (cell_of_op op))
-
   -- the changes of the open units from then on
   abbrev changes_then : ℕ → List Image
   changes_then w = if eqb w unit && is_recoverable s.opening op then made ++ place.changes w else place.changes w
@@ -91,10 +105,6 @@ module _ (s : UnitsState) (m n : StoreValue) (images after_images : List (Kept A
   -- the marks from then on
   abbrev marks_then : Marks
   marks_then = marks_executed s place.marks u op
-
-  -- the command acts on the cell
-  touched : touches op x ≡ true
-  touched = touches-named op one x ∙ ap (λ y. same_cell y x) on ∙ same_cell-refl x
 
   -- its unit is open
   live : is_open (outcome_of s.outcomes unit) ≡ true
@@ -117,45 +127,45 @@ module _ (s : UnitsState) (m n : StoreValue) (images after_images : List (Kept A
   place_then =
       subst (λ c. IsPlaceOf (after_execution s u op) (record { cells = c; images = changes_then })) all_moved
       (subst (λ b. IsPlaceOf (after_execution s u op) (if b then put s.opening
-      (record { cells = before; images = place.changes }) unit op made else record { cells = before; images = place.changes })) (ap
-      (is_plain s.opening) on ∙ plain)
-      (execution-IsPlaceOf s (record { cells = before; images = place.changes }) u op made sound place.place acts free (image_of-AreImages op before one)))
+      (record { cells = before; images = place.changes }) unit op made else record { cells = before; images = place.changes })) plain
+      (execution-IsPlaceOf s (record { cells = before; images = place.changes }) u op made sound place.place acts free gives))
 
   -- no queue is marked, and no unit gets an image of a mark
   same_queues : (q : Bytes) → marks_then.queues q ≡ place.marks.queues q
   same_queues q = by (is_recoverable s.opening op)
     where
       by : (b : Bool) → (if b then queues_executed place.marks.queues op else place.marks.queues) q ≡ place.marks.queues q
-      by true = rw (touches-named op one (Td q) ∙ ap (λ y. same_cell y (Td q)) on ∙ no_queue q) refl
+      by true = rw (no_queue q) refl
       by false = refl
 
   -- nor has a unit one image of a mark more
   same_images : (w : ℕ) → marks_then.images w ≡ place.marks.images w
-  same_images w = ap (λ l. if eqb w unit && is_recoverable s.opening op then l ++ place.marks.images w else place.marks.images w) (no_mark op (λ q. ap
-      (λ y. same_cell y (Td q)) on ∙ no_queue q) place.marks.queues)
+  same_images w = ap (λ l. if eqb w unit && is_recoverable s.opening op then l ++ place.marks.images w else place.marks.images w)
+      (no_mark op no_queue place.marks.queues)
       ∙ by (eqb w unit && is_recoverable s.opening op)
     where
       by : (b : Bool) → (if b then place.marks.images w else place.marks.images w) ≡ place.marks.images w
       by true = refl
       by false = refl
 
-  -- no other open unit keeps an image of the cell
-  unnamed : (w : ℕ) → w ≢ unit → names x (place.changes w) ≡ false ⊎ (is_open (outcome_of s.outcomes w) ≡ false)
-  unnamed w apart = elim (cases_Bool (is_open (outcome_of s.outcomes w))) [
-    | inr shut ↦ inr shut
-    | inl opened ↦ inl (place.place.named x w (false_from_ne_true _ (λ t.
-        let both = and_parts (recovers s.opening x) (used s.trace w x Writing) t in
-        elim (may.writing (touches-recovers s.opening op x touched ∙ both.0) writes x touched w both.1) [
-          | inl same ↦ apart same
-          | inr shut ↦ true≢false (sym opened ∙ shut)
-        ])))
-  ]
+  -- another open unit keeps no image of a cell that the command acts on
+  unnamed : (w : ℕ) → w ≢ unit → is_open (outcome_of s.outcomes w) ≡ true → (x : Cell) → touches op x ≡ true → names x (place.changes w) ≡ false
+  unnamed w apart opened x touched = place.place.named x w (false_from_ne_true _ (λ t.
+      let both = and_parts (recovers s.opening x) (used s.trace w x Writing) t in
+      elim (may.writing (touches-recovers s.opening op x touched ∙ both.0) writes x touched w both.1) [
+        | inl same ↦ apart same
+        | inr shut ↦ true≢false (sym opened ∙ shut)
+      ]))
+
+  -- where a unit keeps no image of such a cell, all that it keeps are of cells that the command leaves
+  left_of : (w : ℕ) → ((x : Cell) → touches op x ≡ true → names x (place.changes w) ≡ false) → AreOf cell_of_any leaving (kept_by images w)
+  left_of w none = each_passes leaving (place.changes w) (place.marks.images w) (kept_by images w) (place.kept w)
+      (λ x named. true_from_ne_false (leaving (bytes_of x)) (λ gone. true≢false (sym named ∙ none x (acted x gone)))) (λ q end t. ends_left q end)
 
   -- the images of every other unit are ready still
   apart_ready : (w : ℕ) → w ≢ unit → AreReady n (kept_by images w)
-  apart_ready w apart = elim (unnamed w apart) [
-    | inl none ↦ ready_where (is_other (bytes_of x)) m n (kept_by images w) others (kept_elsewhere (place.changes w) (place.marks.images w)
-        (kept_by images w) (place.kept w) x none) (place.ready w)
+  apart_ready w apart = elim (cases_Bool (is_open (outcome_of s.outcomes w))) [
+    | inl opened ↦ ready_where leaving m n (kept_by images w) others (left_of w (unnamed w apart opened)) (place.ready w)
     | inr shut ↦ subst (AreReady n) (sym (place.over w shut)) tt
   ]
 
@@ -216,54 +226,126 @@ module _ (s : UnitsState) (m n : StoreValue) (images after_images : List (Kept A
       over = over_now;
     }
 
-    -- the change of something recoverable gave an image, which the unit keeps as its newest
-    pub executed_kept : is_recoverable s.opening op ≡ true → changes op (before (cell_of_op op)) ≡ true →
-        shown (before x) ≡ any_content m (bytes_of x) → shown (content (shown_store n) x) ≡ any_content n (bytes_of x) → (i : AnyImage) → IsAnyImage m n
-        (bytes_of x) i →
-        kept_by after_images unit ≡ i ∷ kept_by images unit → AreInPlace (after_execution s u op) n after_images
-    executed_kept rec changed was now i image newest = in_place_by
+    -- the changes of something recoverable gave images, which the unit keeps as its newest
+    pub executed_with : is_recoverable s.opening op ≡ true → (is : List AnyImage) → AreKept made [] is → kept_by after_images unit ≡ is ++ kept_by images unit →
+        (AreReady m (kept_by images unit) → AreReady n (kept_by after_images unit)) → AreInPlace (after_execution s u op) n after_images
+    executed_with rec is stand newest ready = in_place_by
         (subst (AreKept (changes_then unit) (place.marks.images unit)) (sym newest)
-        (rw (eq-eqb unit unit refl, rec, changed) (kept_more (record {
-          cell = cell_of_op op;
-          before = before (cell_of_op op);
-          made = (effect op (before
-              (cell_of_op op))).cell;
-        }) (place.changes unit) (place.marks.images unit) i (kept_by images unit) own (place.kept unit))))
-        (subst (AreReady n) (sym newest) (
-          image.ready,
-          ready_where (λ c. true) m (any_undone n i) (kept_by images unit) image.back (all_of
-              (kept_by images unit)) (place.ready unit),
-        ))
-      where
-        made_here : content (shown_store n) (cell_of_op op) ≡ (effect op (before (cell_of_op op))).cell
-        made_here = sym (moved (cell_of_op op)) ∙ rw (touches-self op) refl
-
-        stands_for : IsKept (record { cell = x; before = before x; made = content (shown_store n) x }) i
-        stands_for = record {
-          cell = image.named;
-          leads = subst (λ a. AnyLeads i a (shown (before x))) (sym now) (subst (AnyLeads i (any_content n (bytes_of x))) (sym was) image.leads_back);
-        }
-
-        own : IsKept (record { cell = cell_of_op op; before = before (cell_of_op op); made = (effect op (before (cell_of_op op))).cell }) i
-        own = subst (λ c. IsKept (record { cell = cell_of_op op; before = before (cell_of_op op); made = c }) i) made_here
-            (subst (λ y. IsKept (record { cell = y; before = before y; made = content (shown_store n) y }) i) (sym on) stands_for)
+        (rw (eq-eqb unit unit refl, rec) (kept_joined made [] is stand (place.changes unit) (place.marks.images unit) (kept_by images unit) (place.kept unit))))
+        (ready (place.ready unit))
 
     -- it isn't recoverable, and the unit's images are as they were
-    pub executed_plain : is_recoverable s.opening op ≡ false → kept_by after_images unit ≡ kept_by images unit → AreInPlace
-        (after_execution s u op) n after_images
-    executed_plain rec same = in_place_by
+    pub executed_without : is_recoverable s.opening op ≡ false → kept_by after_images unit ≡ kept_by images unit → AreInPlace (after_execution s u op) n after_images
+    executed_without rec same = in_place_by
         (subst (AreKept (changes_then unit) (place.marks.images unit)) (sym same) (rw (eq-eqb unit unit refl, rec) (place.kept unit)))
-        (subst (AreReady n) (sym same) (ready_where (is_other (bytes_of x)) m n (kept_by images unit) others
-        (kept_elsewhere (place.changes unit) (place.marks.images unit) (kept_by images unit) (place.kept unit) x none) (place.ready unit)))
+        (subst (AreReady n) (sym same) (ready_where leaving m n (kept_by images unit) others (left_of unit none) (place.ready unit)))
       where
-        none : names x (place.changes unit) ≡ false
-        none = place.place.named x unit (and_left (recovers s.opening x) (used s.trace unit x Writing) (sym (touches-recovers s.opening op x touched) ∙ rec))
+        none : (x : Cell) → touches op x ≡ true → names x (place.changes unit) ≡ false
+        none x touched = place.place.named x unit (and_left (recovers s.opening x) (used s.trace unit x Writing) (sym (touches-recovers s.opening op x touched) ∙ rec))
 
-    -- nothing was changed, and the unit's images are as they were
-    pub executed_unchanged : changes op (before (cell_of_op op)) ≡ false → m ≡ n → kept_by after_images unit ≡ kept_by images unit → AreInPlace
-        (after_execution s u op) n after_images
-    executed_unchanged still same_store same = in_place_by
-        (subst (AreKept (changes_then unit) (place.marks.images unit)) (sym same) (rw still (cond_both (eqb unit unit && is_recoverable s.opening op)
-        (place.changes unit) (place.changes unit) (λ l. AreKept l (place.marks.images unit) (kept_by images unit)) (λ t. place.kept unit)
-        (λ t. place.kept unit))))
-        (subst (AreReady n) (sym same) (subst (λ y. AreReady y (kept_by images unit)) same_store (place.ready unit)))
+-- ---- A command on a file is executed
+module _ (s : UnitsState) (m n : StoreValue) (images after_images : List (Kept AnyImage)) (u : Option ℕ) (op : Op)
+    (sound : IsSound s) (place : AreInPlace s m images) (acts : may_act s u ≡ true) (free : awaited s u op ≡ None)
+    (file : is_file_op op ≡ true) (ordered : IsOrdered (shown_store m))
+    (store : shown_store n ≡ (apply (shown_store m) op).store) (others : AnyKeep (leaves_any op) m n) (same_queues : n.trans_data ≡ m.trans_data)
+    (apart : (w : ℕ) → w ≢ unit_or_next u s.outcomes → kept_by after_images w ≡ kept_by images w) where
+  -- the images of its changes
+  abbrev file_images : List Image
+  file_images = images_by (shown_store m) op (content (shown_store m))
+
+  -- they are what it changes
+  file_gives : AreImages op (content (shown_store m)) file_images
+  file_gives = images_by-AreImages (shown_store m) op (content (shown_store m)) ordered (λ g k. refl)
+
+  -- a key is plain
+  file_plain : is_plain s.opening (cell_of_op op) ≡ true
+  file_plain = ap (is_plain s.opening) (key_op op file)
+
+  -- the changes of a recoverable file gave images, which the unit keeps as its newest
+  pub file_executed_kept : is_recoverable s.opening op ≡ true → (is : List AnyImage) → AreKept file_images [] is →
+      kept_by after_images (unit_or_next u s.outcomes) ≡ is ++ kept_by images (unit_or_next u s.outcomes) →
+      (AreReady m (kept_by images (unit_or_next u s.outcomes)) → AreReady n (kept_by after_images (unit_or_next u s.outcomes))) →
+      AreInPlace (after_execution s u op) n after_images
+  file_executed_kept = executed_with s m n images after_images u op (leaves_any op) file_images sound place acts free file_gives (writes_op op file) file_plain
+      (no_queue_op op file) (acted_on op file) (λ q end. refl) store others (λ q. ap (value_at q) same_queues) apart
+
+  -- the file is not recoverable, and the unit's images are as they were
+  pub file_executed_plain : is_recoverable s.opening op ≡ false → kept_by after_images (unit_or_next u s.outcomes) ≡ kept_by images (unit_or_next u s.outcomes) →
+      AreInPlace (after_execution s u op) n after_images
+  file_executed_plain = executed_without s m n images after_images u op (leaves_any op) file_images sound place acts free file_gives (writes_op op file) file_plain
+      (no_queue_op op file) (acted_on op file) (λ q end. refl) store others (λ q. ap (value_at q) same_queues) apart
+
+-- ---- A command on one plain cell is executed
+module _ (s : UnitsState) (m n : StoreValue) (images after_images : List (Kept AnyImage)) (u : Option ℕ) (op : Op) (x : Cell)
+    (sound : IsSound s) (place : AreInPlace s m images) (acts : may_act s u ≡ true) (free : awaited s u op ≡ None)
+    (on : cell_of_op op ≡ x) (one : is_generic op ≡ false) (writes : uses op Writing ≡ true)
+    (plain : is_plain s.opening x ≡ true) (no_queue : (q : Bytes) → same_cell x (Td q) ≡ false)
+    (store : shown_store n ≡ (apply (shown_store m) op).store) (others : AnyKeep (is_other (bytes_of x)) m n)
+    (queues_stay : (q : Bytes) → value_at q n.trans_data ≡ value_at q m.trans_data)
+    (apart : (w : ℕ) → w ≢ unit_or_next u s.outcomes → kept_by after_images w ≡ kept_by images w) where
+  -- what the cell held before
+  abbrev held : Cells
+  held = content (shown_store m)
+
+  -- the image of the command's change
+  abbrev change : List Image
+  change = image_of op (held (cell_of_op op))
+
+  -- a command on one cell acts on that cell
+  touched_alike : (y : Cell) → touches op y ≡ same_cell x y
+  touched_alike y = touches-named op one y ∙ ap (λ z. same_cell z y) on
+
+  -- another cell is left
+  one_left : (y : Cell) → is_other (bytes_of x) (bytes_of y) ≡ false → touches op y ≡ true
+  one_left y h = touched_alike y ∙ ap (same_cell x) (same_from x y h) ∙ same_cell-refl x
+
+  -- and so is an end of a queue
+  end_left : (q : Bytes) (end : End) → is_other (bytes_of x) (bytes_of_end q end) ≡ true
+  end_left q end = ap not (bytes_eq-turned (bytes_of_end q end) (bytes_of x) ∙ plain_apart x q end)
+
+  -- the change of something recoverable gave an image, which the unit keeps as its newest
+  pub executed_kept : is_recoverable s.opening op ≡ true → changes op (held (cell_of_op op)) ≡ true →
+      shown (held x) ≡ any_content m (bytes_of x) → shown (content (shown_store n) x) ≡ any_content n (bytes_of x) → (i : AnyImage) → IsAnyImage m n
+      (bytes_of x) i →
+      kept_by after_images (unit_or_next u s.outcomes) ≡ i ∷ kept_by images (unit_or_next u s.outcomes) → AreInPlace (after_execution s u op) n after_images
+  executed_kept rec changed was now i image newest = executed_with s m n images after_images u op (is_other (bytes_of x)) change sound place acts free
+      (image_of-AreImages op held one) writes (ap (is_plain s.opening) on ∙ plain) (λ q. touched_alike (Td q) ∙ no_queue q) one_left end_left store others
+      queues_stay apart rec (i ∷ [])
+      (rw changed (kept_more (record { cell = cell_of_op op; before = held (cell_of_op op); made = (effect op (held (cell_of_op op))).cell }) [] [] i [] own (refl, refl)))
+      newest
+      (λ ready. subst (AreReady n) (sym newest) (
+        image.ready,
+        ready_where (λ c. true) m (any_undone n i) (kept_by images (unit_or_next u s.outcomes)) image.back
+            (all_of (kept_by images (unit_or_next u s.outcomes))) ready,
+      ))
+    where
+      made_here : content (shown_store n) (cell_of_op op) ≡ (effect op (held (cell_of_op op))).cell
+      made_here = ap (λ t. content t (cell_of_op op)) store ∙ apply-content (shown_store m) op (cell_of_op op) ∙ rw (touches-self op) refl
+
+      stands_for : IsKept (record { cell = x; before = held x; made = content (shown_store n) x }) i
+      stands_for = record {
+        cell = image.named;
+        leads = subst (λ a. AnyLeads i a (shown (held x))) (sym now) (subst (AnyLeads i (any_content n (bytes_of x))) (sym was) image.leads_back);
+      }
+
+      own : IsKept (record { cell = cell_of_op op; before = held (cell_of_op op); made = (effect op (held (cell_of_op op))).cell }) i
+      own = subst (λ c. IsKept (record { cell = cell_of_op op; before = held (cell_of_op op); made = c }) i) made_here
+          (subst (λ y. IsKept (record { cell = y; before = held y; made = content (shown_store n) y }) i) (sym on) stands_for)
+
+  -- it isn't recoverable, and the unit's images are as they were
+  pub executed_plain : is_recoverable s.opening op ≡ false → kept_by after_images (unit_or_next u s.outcomes) ≡ kept_by images (unit_or_next u s.outcomes) → AreInPlace
+      (after_execution s u op) n after_images
+  executed_plain = executed_without s m n images after_images u op (is_other (bytes_of x)) change sound place acts free
+      (image_of-AreImages op held one) writes (ap (is_plain s.opening) on ∙ plain) (λ q. touched_alike (Td q) ∙ no_queue q) one_left end_left store others
+      queues_stay apart
+
+  -- nothing was changed, and the unit's images are as they were
+  pub executed_unchanged : changes op (held (cell_of_op op)) ≡ false → m ≡ n → kept_by after_images (unit_or_next u s.outcomes) ≡ kept_by images (unit_or_next u s.outcomes) → AreInPlace
+      (after_execution s u op) n after_images
+  executed_unchanged still same_store same = elim (cases_Bool (is_recoverable s.opening op)) [
+    | inl rec ↦ executed_with s m n images after_images u op (is_other (bytes_of x)) change sound place acts free
+        (image_of-AreImages op held one) writes (ap (is_plain s.opening) on ∙ plain) (λ q. touched_alike (Td q) ∙ no_queue q) one_left end_left store others
+        queues_stay apart rec [] (rw still (refl, refl)) same
+        (λ ready. subst (AreReady n) (sym same) (subst (λ y. AreReady y (kept_by images (unit_or_next u s.outcomes))) same_store ready))
+    | inr rec ↦ executed_plain rec same
+  ]

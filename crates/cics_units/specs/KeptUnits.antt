@@ -2,36 +2,58 @@
 use Rattle.std.specs.Prelude.{◌≡◌, ◌≤◌, option_map, length, List, []}
 use Rattle.cics_names.specs.Keyed.{Bytes, value_at}
 use Rattle.cics_enqueue.specs.Resources.{Table}
-use Rattle.cics_history.specs.Openings.{OpeningState, IsOpeningInOrder, HasLawfulKeys, HasFilesAlone}
+use Rattle.cics_tempstor.specs.Queues.{places_of}
+use Rattle.cics_tempstor.specs.Places.{AreInOrder}
+use Rattle.cics_history.specs.Openings.{OpeningState, IsOpeningInOrder, HasLawfulKeys}
 use Rattle.cics_history.specs.Holding.{UnitsState}
 use Rattle.cics_history.specs.Cells.{IsCanonical}
 use Rattle.cics_history.specs.Isolation.{IsSound}
-use Rattle.cics_units.specs.FilesImages.{cell_of_image, files_hold, definitions_of}
+use Rattle.cics_units.specs.RegionFiles.{opened_files}
+use Rattle.cics_units.specs.RegionQueues.{opened_queues}
+use Rattle.cics_units.specs.FilesImages.{definitions_of}
 use Rattle.cics_units.specs.UnitImages.{AreHeldForImages}
-use Rattle.cics_units.specs.FilesInPlace.{AreInPlace}
-use Rattle.cics_units.specs.Matching.{store_of_files}
+use Rattle.cics_units.specs.StoreInPlace.{AreInPlace}
+use Rattle.cics_units.specs.StoreMatching.{StoreValue, shown_store, any_holds, cell_of_any}
 use Rattle.cics_units.specs.TableInPlace.{counts_in, IsTableOf}
 use Rattle.cics_units.specs.Parts.{UndoableValue, PartsValue}
 use Rattle.cics_history.specs.declared.ops.Entry.{Entry}
 use Rattle.cics_history.specs.declared.ops.UnitState.{UnitState}
 
--- the state of the units, as their parts show it: no temporary storage queue is there, so no NEXT place
+-- the state of the units, as their parts show it: a NEXT place that isn't 0 is that of a queue that is there
 abbrev pub state_shown : OpeningState → List Entry → List UnitState → PartsValue → UnitsState
-state_shown opening trace outcomes parts =
-    record { opening = opening; trace = trace; outcomes = outcomes; reads = parts.reads; counts = counts_in parts.table; next = [] }
+state_shown opening trace outcomes parts = record {
+  opening = opening;
+  trace = trace;
+  outcomes = outcomes;
+  reads = parts.reads;
+  counts = counts_in parts.table;
+  next = places_of parts.stores.store.temp_storage;
+}
 
--- the opening is in order and defines files alone; the open units are kept apart; the files are those of the opening and
--- hold, with the images of the open units, what the history gives; and the table has what the units hold
+-- the store that a region begins with: its files and queues as they were loaded, and no temporary storage queue
+abbrev pub opened_store : OpeningState → StoreValue
+opened_store o = record { files = opened_files o.files; temp_storage = []; trans_data = opened_queues o.queues }
+
+-- what was defined stands there as it was defined: each file with its definition, each transient data queue with its
+-- recovery
+pub record AreAsDefined (o : OpeningState) (store : StoreValue) : Type 0 where
+  pub files : (f : Bytes) → definitions_of store.files f ≡ option_map (λ file. file.definition) (value_at f o.files)
+  pub queues : (q : Bytes) → option_map (λ t. t.kind) (value_at q store.trans_data) ≡ option_map (λ queue. queue.recovery) (value_at q o.queues)
+
+-- the opening is in order; the open units are kept apart; the files and queues are those of the opening and hold, with the
+-- images of the open units, what the history gives; and the table has what the units hold
 pub record AreKept (s : UnitsState) (stores : UndoableValue) (t : Table) : Type 0 where
   pub in_order : IsOpeningInOrder s.opening
   pub lawful_keys : HasLawfulKeys s.opening
-  pub files_alone : HasFilesAlone s.opening
   pub sound : IsSound s
-  pub canonical : IsCanonical (store_of_files stores.files)
-  pub place : AreInPlace s stores.files stores.images
-  pub definitions : (f : Bytes) → definitions_of stores.files f ≡ option_map (λ file. file.definition) (value_at f s.opening.files)
+  pub canonical : IsCanonical (shown_store stores.store)
+  pub place : AreInPlace s stores.store stores.images
+  pub defined : AreAsDefined s.opening stores.store
+  -- the rows of temporary storage are in order, and have the NEXT places
+  pub rows : AreInOrder stores.store.temp_storage
+  pub places : s.next ≡ places_of stores.store.temp_storage
   pub table : IsTableOf s t
-  -- each empty place belongs to an image that an open unit keeps
-  pub held : AreHeldForImages files_hold cell_of_image stores.files stores.images
+  -- whatever is held back belongs to an image that an open unit keeps
+  pub held : AreHeldForImages any_holds cell_of_any stores.store stores.images
   -- each unit has a list of images
   pub begun : length s.outcomes ≤ length stores.images

@@ -1,11 +1,10 @@
 pub mod Faults
 pub mod Listings
 pub mod RegionFiles
+pub mod RegionQueues
 pub mod FilesImages
 pub mod FilesImagesLaws
 pub mod FilesChanges
-pub mod Matching
-pub mod FilesInPlace
 pub mod UnitImages
 pub mod UnitImagesLaws
 pub mod Uses
@@ -13,7 +12,7 @@ pub mod TableInPlace
 pub mod Awaiting
 pub mod Parts
 pub mod OpenReads
-pub mod Replaying
+pub mod Opened
 pub mod KeptUnits
 pub mod SerialKept
 pub mod StoreMatching

@@ -1,6 +1,6 @@
 -- Listings: the content of the files and queues, each in the order of the names.
-use Rattle.std.specs.Prelude.{Option, Some, None, map, []}
-use Rattle.cics_names.specs.Keyed.{value_at}
+use Rattle.std.specs.Prelude.{Bool, Option, Some, None, List, [], map}
+use Rattle.cics_names.specs.Keyed.{Bytes, Map, value_at}
 use Rattle.cics_ksds.specs.Files.{records_of}
 use Rattle.cics_transdata.specs.declared.queues.Recovery.{Recovery}
 use Rattle.cics_transdata.specs.declared.queues.Recovery.TheVariants.{Unrecovered}
@@ -13,13 +13,19 @@ abbrev pub recovery_in : Option QueueOpening → Recovery
 recovery_in None = Unrecovered
 recovery_in (Some queue) = queue.recovery
 
+-- the listing of files: each with its name, whether it is recoverable, and its records in key order
+abbrev pub listed_files : OpeningState → Map (Map Bytes) → List (Bytes × Bool × List Bytes)
+listed_files o files = map (λ e. (e.0, file_recoverable o e.0, records_of e.1)) files
+
+-- the listing of temporary storage queues: each with its name, whether it is recoverable, and its items
+abbrev pub listed_ts : OpeningState → Map (List Bytes) → List (Bytes × Bool × List Bytes)
+listed_ts o ts = map (λ e. (e.0, has_prefix_in o.prefixes e.0, e.1)) ts
+
+-- the listing of transient data queues: each with its name, its recovery, and its records
+abbrev pub listed_td : OpeningState → Map (List Bytes) → List (Bytes × Recovery × List Bytes)
+listed_td o td = map (λ e. (e.0, recovery_in (value_at e.0 o.queues), e.1)) td
+
 -- the listing of a store: each defined file with its records in key order, each temporary storage queue that is there
 -- with its items, each defined transient data queue with its records, and no task
 abbrev pub listing_of : OpeningState → Store → Listing
-listing_of o s =
-    record {
-      files = map (λ e. (e.0, file_recoverable o e.0, records_of e.1)) s.files;
-      ts = map (λ e. (e.0, has_prefix_in o.prefixes e.0, e.1)) s.ts;
-      td = map (λ e. (e.0, recovery_in (value_at e.0 o.queues), e.1)) s.td;
-      tasks = [];
-    }
+listing_of o s = record { files = listed_files o s.files; ts = listed_ts o s.ts; td = listed_td o s.td; tasks = [] }

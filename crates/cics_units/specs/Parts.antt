@@ -1,9 +1,11 @@
--- Recovery: the files as they stand with the images that open units keep, and what an executed command on a file makes
--- of them.
-use Rattle.std.specs.Prelude.{◌≡◌, ℕ, ◌<◌, ◌≤◌, Bool, true, false, not, ◌&&◌, IsTrue, if◌then◌else◌, length, Option, Some, None, List, [], ◌∷◌, ◌++◌}
+-- Recovery: the files and queues as they stand with the images that open units keep, and what an executed command on a
+-- file makes of them.
+use Rattle.std.specs.Prelude.{◌≡◌, ℕ, ◌<◌, ◌≤◌, Bool, true, false, not, ◌&&◌, IsTrue, if◌then◌else◌, length, Option, Some, None, List, [], ◌∷◌, ◌++◌, map}
 use Rattle.cics_names.specs.Keyed.{Bytes, Map, value_at, is_same}
 use Rattle.cics_images.specs.Cells.{Cell, Kept, is_other, is_unnamed, AreReadyInTurn}
 use Rattle.cics_images.specs.NamedValues.{split}
+use Rattle.cics_images.specs.StoreCells.{by_part}
+use Rattle.cics_images.specs.declared.stores.StoreImage.TheVariants.{File}
 use Rattle.cics_ksds.specs.Files.{FileValue, fits_file}
 use Rattle.cics_enqueue.specs.Resources.{Table, taken}
 use Rattle.cics_ksds.specs.Undo.{ImageValue}
@@ -13,8 +15,9 @@ use Rattle.cics_history.specs.Cells.{content}
 use Rattle.cics_history.specs.Holding.{UpdateRead}
 use Rattle.cics_history.specs.Undo.{images_by}
 use Rattle.cics_units.specs.RegionFiles.{IsThere, key_in}
-use Rattle.cics_units.specs.FilesImages.{cell_of, cell_of_image, files_hold, files_undone, IsReadyFor, FilesKeep}
-use Rattle.cics_units.specs.Matching.{store_of_files, AreKept}
+use Rattle.cics_units.specs.FilesImages.{cell_of}
+use Rattle.cics_units.specs.StoreMatching.{StoreValue, AnyImage, shown_store, cell_of_any, IsAnyReady, any_undone, any_holds, AnyKeep, AreKept}
+use Rattle.cics_units.specs.StoreEnds.{ends_settled}
 use Rattle.cics_units.specs.UnitImages.{kept_by, AreOthersKept}
 use Rattle.cics_history.specs.Records.{file_of, key_of}
 use Rattle.cics_units.specs.TableInPlace.{value_of, table_changed}
@@ -24,22 +27,26 @@ use Rattle.cics_history.specs.declared.ops.Op.{Op}
 use Rattle.cics_history.specs.declared.ops.Op.TheVariants.{Write, Rewrite, Delete, DeleteGeneric, ReadUpdate, TsWrite, TsRewrite, TsDelete, TdWrite, TdRead, TdDelete}
 use Rattle.cics_units.specs.FilesImages.{FilesImage}
 
--- the files as they stand, and the images of each unit by its number
+-- the files and queues as they stand, and the images of each unit by its number
 pub record UndoableValue : Type 0 where
-  pub files : Map FileValue
-  pub images : List (Kept FilesImage)
+  pub store : StoreValue
+  pub images : List (Kept AnyImage)
 
--- files and images, who holds what, and the open update reads
+-- the store and the images, who holds what, and the open update reads
 pub record PartsValue : Type 0 where
   pub stores : UndoableValue
   pub table : Table
   pub reads : List UpdateRead
 
--- the files with room for more images: they hold what they held, and each unit keeps what it kept
+-- the store with room for more images: it holds what it held, and each unit keeps what it kept
 pub record AreRoomier (old new : UndoableValue) : Type 0 where
-  pub files : new.files ≡ old.files
+  pub store : new.store ≡ old.store
   pub kept : (w : ℕ) → kept_by new.images w ≡ kept_by old.images w
   pub longer : length old.images ≤ length new.images
+
+-- the store once the ends are settled that images of a unit are of
+abbrev pub settled_by : UndoableValue → ℕ → StoreValue
+settled_by s unit = ends_settled s.store (kept_by s.images unit)
 
 -- a file is recoverable where its definition says so
 abbrev pub is_recoverable_in : Option FileValue → Bool
@@ -65,12 +72,12 @@ IsFitOp files (TdWrite q d) = ⊥
 IsFitOp files (TdRead q) = ⊥
 IsFitOp files (TdDelete q) = ⊥
 
--- the images with one of a file as the newest, if there is one
-abbrev pub with_newest : Bytes → Option ImageValue → List FilesImage → List FilesImage
-with_newest f None is = is
-with_newest f (Some i) is = record { name = f; image = i } ∷ is
+-- the image of a change of a file, if there is one
+abbrev pub image_if : Bytes → Option ImageValue → List FilesImage
+image_if f None = []
+image_if f (Some i) = record { name = f; image = i } ∷ []
 
--- the images with more of a file, stored one after another
+-- the images with more of a file, stored one after another, newest first
 abbrev pub with_stored : Bytes → List ImageValue → List FilesImage → List FilesImage
 with_stored f [] is = is
 with_stored f (i ∷ more) is = with_stored f more (record { name = f; image = i } ∷ is)
@@ -90,18 +97,26 @@ abbrev pub is_below_prefix : Bytes → Bytes → Option (Bytes × Cell) → Bool
 is_below_prefix f p None = false
 is_below_prefix f p (Some e) = is_same f e.0 && has_prefix p e.1
 
--- a command leaves a cell: DELETE GENERIC one that is no key under its prefix, any other one that is not its key
+-- a command leaves a cell of the files: DELETE GENERIC one that is no key under its prefix, any other one that is not its key
 abbrev pub leaves : Op → Cell → Bool
 leaves (DeleteGeneric f p) c = not (is_below_prefix f p (split c))
 leaves op c = is_other (cell_of (file_of op) (key_of op)) c
 
+-- a command on a file leaves a cell of the three: any cell of a queue, and of the files what it leaves there
+abbrev pub leaves_any : Op → Cell → Bool
+leaves_any op c = by_part true (leaves op) (λ q. true) (λ q. true) c
+
+-- images of files among those of the three
+abbrev pub of_files : List FilesImage → List AnyImage
+of_files is = map File is
+
 -- a unit keeps the images of a command's changes as its newest, and with them its list is ready as it was before
 pub record HasImages (old new : UndoableValue) (unit : ℕ) (op : Op) : Type 0 where
   pub images : List FilesImage
-  pub made : AreKept (images_by (store_of_files old.files) op (content (store_of_files old.files))) images
-  pub newest : kept_by new.images unit ≡ images ++ kept_by old.images unit
-  pub ready : AreReadyInTurn IsReadyFor files_undone old.files (kept_by old.images unit) →
-      AreReadyInTurn IsReadyFor files_undone new.files (kept_by new.images unit)
+  pub made : AreKept (images_by (shown_store old.store) op (content (shown_store old.store))) [] (of_files images)
+  pub newest : kept_by new.images unit ≡ of_files images ++ kept_by old.images unit
+  pub ready : AreReadyInTurn IsAnyReady any_undone old.store (kept_by old.images unit) →
+      AreReadyInTurn IsAnyReady any_undone new.store (kept_by new.images unit)
 
 -- a unit keeps what it kept
 abbrev pub KeepsImages : UndoableValue → UndoableValue → ℕ → Type 0
@@ -113,26 +128,29 @@ AreImagesAfter old new unit op false = KeepsImages old new unit
 AreImagesAfter old new unit op true = HasImages old new unit op
 
 -- at a cell that none of these images is of, something is held back only where it was before
-abbrev pub IsHeldAsBefore : Map FileValue → Map FileValue → List FilesImage → Type 0
-IsHeldAsBefore old new images = (c : Cell) → is_unnamed cell_of_image images c ≡ true → files_hold new c ≡ true → files_hold old c ≡ true
+abbrev pub IsHeldAsBefore : StoreValue → StoreValue → List AnyImage → Type 0
+IsHeldAsBefore old new images = (c : Cell) → is_unnamed cell_of_any images c ≡ true → any_holds new c ≡ true → any_holds old c ≡ true
 
--- the files hold what the command gives, the keys that it leaves what they held, and the images are those of the changes
+-- after a command on a file the store is what the command gives; the keys that it leaves hold what they held, and so do the
+-- queues; and the images are those of the changes
 pub record AreChanged (old new : UndoableValue) (unit : ℕ) (op : Op) : Type 0 where
-  pub store : store_of_files new.files ≡ (apply (store_of_files old.files) op).store
-  pub others : FilesKeep (leaves op) old.files new.files
+  pub shown : shown_store new.store ≡ (apply (shown_store old.store) op).store
+  pub others : AnyKeep (leaves_any op) old.store new.store
+  pub temp_storage : new.store.temp_storage ≡ old.store.temp_storage
+  pub trans_data : new.store.trans_data ≡ old.store.trans_data
   pub apart : AreOthersKept old.images new.images unit
-  pub images : AreImagesAfter old new unit op (is_recoverable_in (value_at (file_of op) old.files))
+  pub images : AreImagesAfter old new unit op (is_recoverable_in (value_at (file_of op) old.store.files))
   -- a key has an empty place only where it had one, or where the unit keeps an image of it
-  pub held : IsHeldAsBefore old.files new.files (kept_by new.images unit)
+  pub held : IsHeldAsBefore old.store new.store (kept_by new.images unit)
 
--- a unit has executed a command that is answered with this condition: the files, the table and the reads are those that it
+-- a unit has executed a command that is answered with this condition: the store, the table and the reads are those that it
 -- leaves
 pub record AreExecuted (old new : PartsValue) (unit : ℕ) (op : Op) (c : Condition) : Type 0 where
   pub roomy : UndoableValue
   pub room : AreRoomier old.stores roomy
   pub begun : unit < length roomy.images
   pub changed : AreChanged roomy new.stores unit op
-  pub table : new.table ≡ (if is_normal c then table_changed (is_recoverable_in (value_at (file_of op) old.stores.files)) unit op old.reads old.table else old.table)
+  pub table : new.table ≡ (if is_normal c then table_changed (is_recoverable_in (value_at (file_of op) old.stores.store.files)) unit op old.reads old.table else old.table)
   pub reads : new.reads ≡ reads_after unit op c old.reads
 
 -- a unit has taken a value, and has its list of images
@@ -142,7 +160,7 @@ pub record AreEnqueued (old new : PartsValue) (unit : ℕ) (value : Bytes) : Typ
   pub table : new.table ≡ taken old.table (value_of value) unit
   pub reads : new.reads ≡ old.reads
 
--- a refused call leaves the files, the table and the reads, and may leave more room
+-- a refused call leaves the store, the table and the reads, and may leave more room
 pub record ArePartsKept (old new : PartsValue) : Type 0 where
   pub stores : AreRoomier old.stores new.stores
   pub table : new.table ≡ old.table

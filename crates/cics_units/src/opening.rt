@@ -1,13 +1,19 @@
 //! What a region opens with.
 
 ghost use Rattle.std.specs.Prelude.{◌≡◌, OnOk, OnErr};
+ghost use Rattle.std.specs.Prelude.{IsSome};
 ghost use Rattle.cics_names.specs.Keyed.{value_at};
+ghost use Rattle.cics_images.specs.NamedValues.{changed_at};
 ghost use Rattle.cics_history.specs.Openings.{is_record_size, is_key};
 ghost use Rattle.cics_units.specs.RegionFiles.{IsFitFor, written_in};
+ghost use Rattle.cics_units.specs.RegionQueues.{loaded_with};
 
 use crate::files::Files;
+use crate::prefixes::{has_prefix_in, is_defined};
+use crate::queues::Queues;
 use cics_ksds::{File, FileDef};
-use cics_names::{Name8, NoMemory, Record};
+use cics_names::{Items, Name4, Name8, NoMemory, Record};
+use cics_transdata::{Recovery, TransQueue};
 use std::alloc::Global;
 use std::marker::Model;
 
@@ -66,35 +72,56 @@ fn write_loaded(files: &mut Files, name: &Name8, content: Record) -> Result<(), 
     Ok(())
 }
 
+/// Adds a record that is loaded to the queue of a name, as the last one: it has no mark, and no unit of
+/// work ever undoes it.
+fn add_loaded(queues: &mut Queues, name: &Name4, content: Record) -> Result<(), NoMemory>
+    requires { IsSome (value_at name.now queues.old) }
+    ensures queues { OnOk result (queues.new
+        ≡ changed_at (λ q. loaded_with q content) name.now queues.old) }
+    ensures err { OnErr result (queues.new ≡ queues.old) }
+{
+    queues.write(name, content)?;
+    queues.commit_writer(name);
+    Ok(())
+}
+
 /// The definitions that a region opens with, and the records that were loaded into them.
 ///
-/// Contracts see the files by name, each with its definition and its records by key.
+/// Contracts see the files by name, each with its definition and its records by key, the prefixes of the
+/// recoverable temporary storage queues in the order in which they were defined, and the transient data
+/// queues by name, each with its recovery and its records.
 #[derive(Drop)]
 pub struct Opening {
     files: Files,
+    prefixes: Items<Name8>,
+    queues: Queues,
     alloc: Global,
 }
 
 impl Model for Opening {
-    ghost use Rattle.std.specs.Prelude.{[]};
     ghost use Rattle.cics_history.specs.Openings.{OpeningState};
-    ghost use Rattle.cics_units.specs.RegionFiles.{openings_of, AreLoaded};
+    ghost use Rattle.cics_units.specs.RegionFiles.{AreLoaded};
+    ghost use Rattle.cics_units.specs.RegionQueues.{AreLoadedQueues};
+    ghost use Rattle.cics_units.specs.Opened.{opened_with};
 
     ghost Value = { OpeningState };
 
-    ghost view = { λ o. record { files = openings_of o.files; prefixes = []; queues = [] } };
+    ghost view = { λ o. opened_with o.files o.prefixes o.queues };
 
-    ghost invariant = { λ o. AreLoaded o.files };
+    ghost invariant = { λ o. AreLoaded o.files × AreLoadedQueues o.queues };
 }
 
 impl Opening {
-    ghost use Rattle.cics_history.specs.Openings.{nothing_defined, with_file};
-    ghost use Rattle.cics_units.specs.Faults.{file_fault, load_fault};
-    ghost use Rattle.cics_history.specs.Openings.{with_record, HasLawfulKeys, HasFilesAlone};
-    ghost use Rattle.cics_history.specs.Openings.{IsOpeningInOrder};
-    ghost use Rattle.cics_units.specs.Faults.{IsRefused};
+    ghost use Rattle.cics_names.specs.Keyed.{has_key, is_key_in};
+    ghost use Rattle.cics_history.specs.Openings.{nothing_defined, with_file, with_record};
+    ghost use Rattle.cics_history.specs.Openings.{with_prefix, with_queue, with_td_record};
+    ghost use Rattle.cics_history.specs.Openings.{HasLawfulKeys, IsOpeningInOrder};
+    ghost use Rattle.cics_history.specs.Openings.{file_recoverable, has_prefix_in, queue_logical};
+    ghost use Rattle.cics_units.specs.Faults.{IsRefused, file_fault, load_fault};
+    ghost use Rattle.cics_units.specs.Faults.{fault_if, load_td_fault};
     ghost use Rattle.cics_units.specs.RegionFiles.{opened_files, AreLoaded};
-    ghost use Rattle.cics_units.specs.Replaying.{files_alone};
+    ghost use Rattle.cics_units.specs.RegionQueues.{opened_queues};
+    ghost use Rattle.cics_units.specs.Listings.{recovery_in};
 
     /// An opening that defines nothing. `alloc` gives the memory for all that is defined and loaded.
     pub fn new(alloc: Global) -> Opening
@@ -102,6 +129,8 @@ impl Opening {
     {
         Opening {
             files: Files::new(alloc),
+            prefixes: Items::new(alloc),
+            queues: Queues::new(alloc),
             alloc,
         }
     }
@@ -153,6 +182,60 @@ impl Opening {
         Ok(())
     }
 
+    /// Defines a prefix: the temporary storage queues whose names begin with it, the blanks that fill it
+    /// up apart, are recoverable.
+    ///
+    /// It is refused, and nothing changes, where the prefix is defined already (`Duplicate`), and else
+    /// where memory is refused (`NoMemory`).
+    pub fn define_ts_prefix(&mut self, prefix: Name8) -> Result<(), DefineFault>
+        ensures fault { IsRefused result (fault_if (is_key_in prefix self.old.prefixes)) }
+        ensures ok { OnOk result (self.new ≡ with_prefix self.old prefix) }
+        ensures err { OnErr result (self.new ≡ self.old) }
+    {
+        if is_defined(self.prefixes.as_slice(), &prefix) {
+            return Err(DefineFault::Duplicate);
+        }
+        self.prefixes.push(prefix)?;
+        Ok(())
+    }
+
+    /// Defines a transient data queue, without a record.
+    ///
+    /// It is refused, and nothing changes, where a queue of the name is defined already (`Duplicate`),
+    /// and else where memory is refused (`NoMemory`).
+    pub fn define_td(&mut self, name: Name4, recovery: Recovery) -> Result<(), DefineFault>
+        ensures fault { IsRefused result (fault_if (has_key name self.old.queues)) }
+        ensures ok { OnOk result (self.new ≡ with_queue self.old name recovery) }
+        ensures err { OnErr result (self.new ≡ self.old) }
+    {
+        if self.queues.contains(&name) {
+            return Err(DefineFault::Duplicate);
+        }
+        self.queues
+            .insert(name, TransQueue::new(self.alloc, recovery))?;
+        Ok(())
+    }
+
+    /// Loads a record into a transient data queue, as the last one.
+    ///
+    /// It is refused, and nothing changes, by the first of these that stands: no queue of the name is
+    /// defined (`NotThere`), the record isn't 1 to 32,767 bytes long (`BadLength`), memory is refused
+    /// (`NoMemory`).
+    pub fn load_td(&mut self, name: Name4, content: Record) -> Result<(), DefineFault>
+        ensures fault { IsRefused result (load_td_fault (value_at name self.old.queues) content) }
+        ensures ok { OnOk result (self.new ≡ with_td_record self.old name content) }
+        ensures err { OnErr result (self.new ≡ self.old) }
+    {
+        if !self.queues.contains(&name) {
+            return Err(DefineFault::NotThere);
+        }
+        if !is_record_size(content.bytes().len() as u64) {
+            return Err(DefineFault::BadLength);
+        }
+        add_loaded(&mut self.queues, &name, content)?;
+        Ok(())
+    }
+
     /// The files that are defined, with what was loaded into each.
     ///
     /// Their names rise, and so do the keys of each; each key is one that a definition may have.
@@ -160,18 +243,60 @@ impl Opening {
         ensures files { result.now ≡ opened_files self.now.files }
         ensures in_order { IsOpeningInOrder self.now }
         ensures lawful_keys { HasLawfulKeys self.now }
-        ensures files_alone { HasFilesAlone self.now }
     {
         &self.files
     }
 
-    /// The files with what was loaded into each: all that is defined, since no prefix and no transient
-    /// data queue is.
-    pub(crate) fn defined(&self) -> &Files
-        ensures all { self.now ≡ files_alone result.now }
-        ensures loaded { AreLoaded result.now }
+    /// The prefixes that are defined, in the order of their definitions.
+    pub fn prefixes(&self) -> &[Name8]
+        ensures { result.now ≡ self.now.prefixes }
     {
-        &self.files
+        self.prefixes.as_slice()
+    }
+
+    /// The transient data queues that are defined, with what was loaded into each; no record is marked.
+    pub(crate) fn queues(&self) -> &Queues
+        ensures { result.now ≡ opened_queues self.now.queues }
+    {
+        &self.queues
+    }
+
+    /// Whether a file is defined as recoverable.
+    pub(crate) fn is_recoverable_file(&self, name: &Name8) -> bool
+        ensures { result ≡ file_recoverable self.now name.now }
+    {
+        match self.files.get(name) {
+            Some(file) => file.definition().recoverable,
+            None => false,
+        }
+    }
+
+    /// Whether a temporary storage queue is recoverable: its name begins with a prefix that is defined.
+    pub(crate) fn is_recoverable_ts(&self, name: &Name8) -> bool
+        ensures { result ≡ has_prefix_in self.now.prefixes name.now }
+    {
+        has_prefix_in(self.prefixes.as_slice(), name)
+    }
+
+    /// Whether a transient data queue is defined as LOGICAL: it is recoverable.
+    pub(crate) fn is_logical_td(&self, name: &Name4) -> bool
+        ensures { result ≡ queue_logical self.now name.now }
+    {
+        match self.queues.get(name) {
+            Some(queue) => queue.recovery().is_logical(),
+            None => false,
+        }
+    }
+
+    /// The recovery of a transient data queue, and `Recovery::Unrecovered` where none of the name is
+    /// defined.
+    pub(crate) fn td_recovery(&self, name: &Name4) -> Recovery
+        ensures { result ≡ recovery_in (value_at name.now self.now.queues) }
+    {
+        match self.queues.get(name) {
+            Some(queue) => queue.recovery(),
+            None => Recovery::Unrecovered,
+        }
     }
 
     /// The files that are defined, with what was loaded into each.

@@ -1,5 +1,5 @@
-//! All that units change where it stands: the files with their images, who holds what, and the open
-//! update reads.
+//! All that units change where it stands: the files and queues with their images, who holds what, and the
+//! open update reads.
 
 ghost use Rattle.std.specs.Prelude.{◌≡◌, ◌==◌, ◌<◌, ◌≤◌, ℕ, Bool, if◌then◌else◌, true, false, not};
 ghost use Rattle.std.specs.Prelude.{[], None, length, filter, fold, List, T, IsTrue, IfOk};
@@ -10,14 +10,14 @@ ghost use Rattle.cics_names.specs.Keyed.{value_at};
 ghost use Rattle.cics_names.specs.declared.conditions.Condition.TheVariants.{Normal};
 ghost use Rattle.cics_images.specs.Cells.{AreReadyInTurn, LeadBack, images_of, is_unnamed};
 ghost use Rattle.cics_images.specs.Cells.{all_swept};
-ghost use Rattle.cics_ksds.specs.Undo.{Leads};
 ghost use Rattle.cics_enqueue.specs.Resources.{IsFreeFor, is_full, is_in_order, is_user};
 ghost use Rattle.cics_enqueue.specs.Resources.{holder_over};
 ghost use Rattle.cics_enqueue.specs.Resources.{given_back, released};
 ghost use Rattle.cics_history.specs.Execution.{covers, reads_after, read_at, with_read, is_read_of};
-ghost use Rattle.cics_units.specs.FilesImages.{cell_of_image, files_content, IsReadyFor};
-ghost use Rattle.cics_units.specs.FilesImages.{files_undone, files_swept, files_hold, FilesKeep};
-ghost use Rattle.cics_units.specs.FilesImages.{definitions_of};
+ghost use Rattle.cics_units.specs.StoreMatching.{shown_store, cell_of_any, any_content, AnyLeads};
+ghost use Rattle.cics_units.specs.StoreMatching.{IsAnyReady, any_undone, any_swept, any_holds};
+ghost use Rattle.cics_units.specs.StoreMatching.{AnyKeep};
+ghost use Rattle.cics_units.specs.StoreEnds.{any_fixed};
 ghost use Rattle.cics_units.specs.UnitImages.{kept_by, room_of, AreOthersKept, AreHeldForImages};
 ghost use Rattle.cics_history.specs.Records.{is_file_op, file_of, key_of};
 ghost use Rattle.cics_units.specs.Uses.{uses_if, listed, taken_all, AreFreeFor, holder_over_all};
@@ -25,14 +25,12 @@ ghost use Rattle.cics_units.specs.TableInPlace.{is_read, covered_read};
 ghost use Rattle.cics_units.specs.TableInPlace.{value_of, AreOnce, table_changed};
 ghost use Rattle.cics_units.specs.TableInPlace.{table_given_back};
 ghost use Rattle.cics_units.specs.Parts.{IsFitOp, is_recoverable_in, AreChanged, AreExecuted};
-ghost use Rattle.cics_units.specs.Parts.{most_images};
+ghost use Rattle.cics_units.specs.Parts.{most_images, settled_by};
 ghost use Rattle.cics_units.specs.Parts.{AreEnqueued, ArePartsKept};
 ghost use Rattle.cics_history.specs.Store.{apply};
-ghost use Rattle.cics_units.specs.Matching.{store_of_files};
 
-use crate::files::Files;
 use crate::open_reads::OpenReads;
-use crate::undoable_files::UndoableFiles;
+use crate::undoable_store::{Store, UndoableStore};
 use crate::uses::{Uses, hold_all, holder_over_all, let_go_all, uses_of};
 use cics_enqueue::{Enqueues, Resource, TakeFault, UnitId};
 use cics_history::Op;
@@ -40,10 +38,11 @@ use cics_names::{Condition, Name8, NoMemory, Record};
 use std::alloc::Global;
 use std::marker::Model;
 
-/// The files as they stand with the images of the open units, the enqueues, and the open update reads.
+/// The files and queues as they stand with the images of the open units, the enqueues, and the open
+/// update reads.
 #[derive(Drop)]
 pub(crate) struct Parts {
-    files: UndoableFiles,
+    stores: UndoableStore,
     enqueues: Enqueues,
     reads: OpenReads,
 }
@@ -53,27 +52,27 @@ impl Model for Parts {
 
     ghost Value = { PartsValue };
 
-    ghost view = { λ p. record { stores = p.files; table = p.enqueues; reads = p.reads } };
+    ghost view = { λ p. record { stores = p.stores; table = p.enqueues; reads = p.reads } };
 }
 
 impl Parts {
-    /// These files, and no unit that holds or has read anything.
-    pub(crate) fn new(alloc: Global, files: Files) -> Parts
+    /// These files and queues, and no unit that holds or has read anything.
+    pub(crate) fn new(alloc: Global, store: Store) -> Parts
         ensures { result ≡ record
-            { stores = record { files = files; images = [] }; table = []; reads = [] } }
+            { stores = record { store = store; images = [] }; table = []; reads = [] } }
     {
         Parts {
-            files: UndoableFiles::new(alloc, files),
+            stores: UndoableStore::new(alloc, store),
             enqueues: Enqueues::new(alloc),
             reads: OpenReads::new(alloc),
         }
     }
 
-    /// The files as they stand, with the images of the open units.
-    pub(crate) fn files(&self) -> &UndoableFiles
+    /// The files and queues as they stand, with the images of the open units.
+    pub(crate) fn stores(&self) -> &UndoableStore
         ensures { result.now ≡ self.now.stores }
     {
-        &self.files
+        &self.stores
     }
 
     /// The key that a unit has read for update in a file.
@@ -93,15 +92,15 @@ impl Parts {
     /// What a command on a file uses.
     pub(crate) fn uses_of(&self, op: &Op) -> Uses
         requires file { is_file_op op.now ≡ true }
-        requires fit { IsFitOp self.now.stores.files op.now }
+        requires fit { IsFitOp self.now.stores.store.files op.now }
         requires most { length (key_of op.now) ≤ 255 }
         ensures { listed result
-            ≡ uses_if (is_recoverable_in (value_at (file_of op.now) self.now.stores.files)) op.now }
+            ≡ uses_if (is_recoverable_in (value_at (file_of op.now) self.now.stores.store.files)) op.now }
     {
         let Some((file, _)) = op.record() else {
             unreachable!();
         };
-        uses_of(op, self.files.is_recoverable(file))
+        uses_of(op, self.stores.is_recoverable(file))
     }
 
     /// The unit, other than the one that asks, that is in the way of what a command uses.
@@ -179,9 +178,9 @@ impl Parts {
     ) -> Result<(), NoMemory>
         requires named { file_of op.now ≡ file.now }
         requires on_file { is_file_op op.now ≡ true }
-        requires fit { IsFitOp self.old.stores.files op.now }
+        requires fit { IsFitOp self.old.stores.store.files op.now }
         requires begun { unit < length self.old.stores.images }
-        requires room { most_images self.old.stores.files op.now ≤ room_of self.old.stores.images unit }
+        requires room { most_images self.old.stores.store.files op.now ≤ room_of self.old.stores.images unit }
         requires plain { list_any is_user (listed uses.now) ≡ false }
         requires free { AreFreeFor self.old.table (listed uses.now) unit }
         requires in_order { T (is_in_order self.old.table) }
@@ -192,7 +191,7 @@ impl Parts {
         ensures err { OnErr result (self.new ≡ self.old) }
     {
         let were_free = hold_all(&mut self.enqueues, uses, unit)?;
-        match self.files.change(unit, op) {
+        match self.stores.change(unit, op) {
             Ok(()) => {
                 drop(self.cover(unit, file, op));
                 Ok(())
@@ -208,9 +207,9 @@ impl Parts {
     fn change_plain(&mut self, unit: UnitId, file: &Name8, op: &Op) -> Result<(), NoMemory>
         requires named { file_of op.now ≡ file.now }
         requires on_file { is_file_op op.now ≡ true }
-        requires fit { IsFitOp self.old.stores.files op.now }
+        requires fit { IsFitOp self.old.stores.store.files op.now }
         requires begun { unit < length self.old.stores.images }
-        requires room { most_images self.old.stores.files op.now ≤ room_of self.old.stores.images unit }
+        requires room { most_images self.old.stores.store.files op.now ≤ room_of self.old.stores.images unit }
         requires short { All (λ r. length r.key ≤ 255) self.old.reads }
         requires once { AreOnce self.old.reads }
         ensures changed { OnOk result (AreChanged self.old.stores self.new.stores unit op.now) }
@@ -220,7 +219,7 @@ impl Parts {
         ensures reads { OnOk result (self.new.reads ≡ filter (λ r. not (covers unit op.now r)) self.old.reads) }
         ensures err { OnErr result (self.new ≡ self.old) }
     {
-        self.files.change(unit, op)?;
+        self.stores.change(unit, op)?;
         if let Some(key) = self.cover(unit, file, op) {
             self.enqueues
                 .give_back(&Resource::record(*file, key.bytes()), unit);
@@ -231,12 +230,12 @@ impl Parts {
     // Executes a command on a file that is to be answered NORMAL, and uses these resources.
     fn change(&mut self, unit: UnitId, op: &Op, uses: &Uses) -> Result<(), NoMemory>
         requires on_file { is_file_op op.now ≡ true }
-        requires fit { IsFitOp self.old.stores.files op.now }
+        requires fit { IsFitOp self.old.stores.store.files op.now }
         requires begun { unit < length self.old.stores.images }
-        requires room { most_images self.old.stores.files op.now ≤ room_of self.old.stores.images unit }
+        requires room { most_images self.old.stores.store.files op.now ≤ room_of self.old.stores.images unit }
         requires short { All (λ r. length r.key ≤ 255) self.old.reads }
         requires used { listed uses.now
-            ≡ uses_if (is_recoverable_in (value_at (file_of op.now) self.old.stores.files)) op.now }
+            ≡ uses_if (is_recoverable_in (value_at (file_of op.now) self.old.stores.store.files)) op.now }
         requires free { AreFreeFor self.old.table (listed uses.now) unit }
         requires in_order { T (is_in_order self.old.table) }
         requires once { AreOnce self.old.reads }
@@ -244,7 +243,7 @@ impl Parts {
         ensures changed { OnOk result (AreChanged self.old.stores self.new.stores unit op.now) }
         ensures table { OnOk result (self.new.table
             ≡ table_changed
-            (is_recoverable_in (value_at (file_of op.now) self.old.stores.files)) unit op.now
+            (is_recoverable_in (value_at (file_of op.now) self.old.stores.store.files)) unit op.now
             self.old.reads self.old.table) }
         ensures reads { OnOk result (self.new.reads ≡ reads_after unit op.now Normal self.old.reads) }
         ensures err { OnErr result (self.new ≡ self.old) }
@@ -255,7 +254,7 @@ impl Parts {
         if let Op::ReadUpdate { .. } = op {
             return self.read_for_update(unit, *file, key, uses);
         }
-        if self.files.is_recoverable(file) {
+        if self.stores.is_recoverable(file) {
             self.change_held(unit, file, op, uses)
         } else {
             self.change_plain(unit, file, op)
@@ -272,21 +271,21 @@ impl Parts {
         uses: &Uses,
         condition: Condition,
     ) -> Result<(), NoMemory>
-        requires fit { IsFitOp self.old.stores.files op.now }
+        requires fit { IsFitOp self.old.stores.store.files op.now }
         requires file { is_file_op op.now ≡ true }
         requires begun { unit ≤ length self.old.stores.images }
         requires short { All (λ r. length r.key ≤ 255) self.old.reads }
         requires used { listed uses.now
-            ≡ uses_if (is_recoverable_in (value_at (file_of op.now) self.old.stores.files)) op.now }
+            ≡ uses_if (is_recoverable_in (value_at (file_of op.now) self.old.stores.store.files)) op.now }
         requires free { AreFreeFor self.old.table (listed uses.now) unit }
         requires in_order { T (is_in_order self.old.table) }
         requires once { AreOnce self.old.reads }
         requires none_open { is_read op.now ≡ true → read_at self.old.reads unit (file_of op.now) ≡ None }
-        requires answered { condition ≡ (apply (store_of_files self.old.stores.files) op.now).answer.condition }
+        requires answered { condition ≡ (apply (shown_store self.old.stores.store) op.now).answer.condition }
         ensures executed { OnOk result (AreExecuted self.old self.new unit op.now condition) }
         ensures err { OnErr result (ArePartsKept self.old self.new) }
     {
-        self.files.make_room(unit, self.files.most_images(op))?;
+        self.stores.make_room(unit, self.stores.most_images(op))?;
         if condition == Condition::Normal {
             self.change(unit, op, uses)?;
         }
@@ -307,7 +306,7 @@ impl Parts {
             is_full (value_of value.now) self.old.table ≡ true) }
         ensures err { OnErr result (ArePartsKept self.old self.new) }
     {
-        self.files.make_room(unit, 0)?;
+        self.stores.make_room(unit, 0)?;
         self.enqueues.take(Resource::value(value), unit)
     }
 
@@ -328,14 +327,14 @@ impl Parts {
         ensures stores { self.new.stores ≡ self.old.stores }
         ensures table { self.new.table
             ≡ table_given_back
-            (is_recoverable_in (value_at file.now self.old.stores.files)) unit file.now
+            (is_recoverable_in (value_at file.now self.old.stores.store.files)) unit file.now
             (read_at self.old.reads unit file.now) self.old.table }
         ensures reads { self.new.reads ≡ filter (λ r. not (is_read_of unit file.now r)) self.old.reads }
     {
         let Some(key) = self.reads.close(unit, file) else {
             return;
         };
-        let recoverable = match self.files.files().get(file) {
+        let recoverable = match self.stores.store().files.get(file) {
             Some(file) => file.definition().recoverable,
             None => false,
         };
@@ -349,52 +348,51 @@ impl Parts {
     /// memory.
     pub(crate) fn back_out(&mut self, unit: UnitId)
         requires begun { unit < length self.old.stores.images }
-        requires ready { AreReadyInTurn IsReadyFor files_undone self.old.stores.files
+        requires ready { AreReadyInTurn IsAnyReady any_undone self.old.stores.store
             (kept_by self.old.stores.images unit) }
         ensures none { kept_by self.new.stores.images unit ≡ [] }
         ensures others { AreOthersKept self.old.stores.images self.new.stores.images unit }
         ensures led_back { (c : List ℕ) →
-            LeadBack (λ i. Leads i.image)
-            (images_of cell_of_image c (kept_by self.old.stores.images unit))
-            (files_content self.old.stores.files c) (files_content self.new.stores.files c) }
-        ensures cells { FilesKeep (is_unnamed cell_of_image (kept_by self.old.stores.images unit))
-            self.old.stores.files self.new.stores.files }
-        ensures definitions { definitions_of self.new.stores.files ≡ definitions_of self.old.stores.files }
-        ensures held { AreHeldForImages files_hold cell_of_image self.old.stores.files self.old.stores.images
-            → AreHeldForImages files_hold cell_of_image self.new.stores.files
-            self.new.stores.images }
-        ensures whole { self.new.stores.files
-            ≡ all_swept files_swept cell_of_image
-            (fold files_undone self.old.stores.files (kept_by self.old.stores.images unit))
+            LeadBack AnyLeads (images_of cell_of_any c (kept_by self.old.stores.images unit))
+            (any_content self.old.stores.store c) (any_content self.new.stores.store c) }
+        ensures cells { AnyKeep (is_unnamed cell_of_any (kept_by self.old.stores.images unit))
+            self.old.stores.store self.new.stores.store }
+        ensures fixed { any_fixed self.new.stores.store ≡ any_fixed self.old.stores.store }
+        ensures held { AreHeldForImages any_holds cell_of_any self.old.stores.store self.old.stores.images
+            → AreHeldForImages any_holds cell_of_any self.new.stores.store self.new.stores.images }
+        ensures whole { self.new.stores.store
+            ≡ all_swept any_swept cell_of_any
+            (fold any_undone self.old.stores.store (kept_by self.old.stores.images unit))
             (kept_by self.old.stores.images unit) }
         ensures table { self.new.table ≡ released self.old.table unit }
         ensures reads { self.new.reads ≡ filter (λ r. not (r.unit == unit)) self.old.reads }
     {
-        self.files.back_out(unit);
+        self.stores.back_out(unit);
         self.enqueues.release_all(unit);
         self.reads.end(unit);
     }
 
-    /// Commits a unit: its images are given up, and it holds nothing more. It takes no memory.
+    /// Commits a unit: the ends of LOGICAL queues that it has changed are settled, its images are given up,
+    /// and it holds nothing more. It takes no memory.
     pub(crate) fn commit(&mut self, unit: UnitId)
         requires begun { unit < length self.old.stores.images }
         ensures none { kept_by self.new.stores.images unit ≡ [] }
         ensures others { AreOthersKept self.old.stores.images self.new.stores.images unit }
         ensures contents { (c : List ℕ) →
-            files_content self.new.stores.files c ≡ files_content self.old.stores.files c }
-        ensures cells { FilesKeep (is_unnamed cell_of_image (kept_by self.old.stores.images unit))
-            self.old.stores.files self.new.stores.files }
-        ensures definitions { definitions_of self.new.stores.files ≡ definitions_of self.old.stores.files }
-        ensures held { AreHeldForImages files_hold cell_of_image self.old.stores.files self.old.stores.images
-            → AreHeldForImages files_hold cell_of_image self.new.stores.files
-            self.new.stores.images }
-        ensures whole { self.new.stores.files
-            ≡ all_swept files_swept cell_of_image self.old.stores.files
+            any_content self.new.stores.store c ≡ any_content (settled_by self.old.stores unit) c }
+        ensures cells { AnyKeep (is_unnamed cell_of_any (kept_by self.old.stores.images unit))
+            (settled_by self.old.stores unit) self.new.stores.store }
+        ensures fixed { any_fixed self.new.stores.store ≡ any_fixed (settled_by self.old.stores unit) }
+        ensures held { AreHeldForImages any_holds cell_of_any (settled_by self.old.stores unit)
+            self.old.stores.images
+            → AreHeldForImages any_holds cell_of_any self.new.stores.store self.new.stores.images }
+        ensures whole { self.new.stores.store
+            ≡ all_swept any_swept cell_of_any (settled_by self.old.stores unit)
             (kept_by self.old.stores.images unit) }
         ensures table { self.new.table ≡ released self.old.table unit }
         ensures reads { self.new.reads ≡ filter (λ r. not (r.unit == unit)) self.old.reads }
     {
-        self.files.commit(unit);
+        self.stores.commit(unit);
         self.enqueues.release_all(unit);
         self.reads.end(unit);
     }

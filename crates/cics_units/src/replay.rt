@@ -3,51 +3,39 @@
 //!
 //! It keeps no before image and backs nothing out, and knows of no unit of work but how it ended.
 
+mod queues;
 mod records;
 mod store;
 
 ghost use Rattle.std.specs.Prelude.{◌≡◌, if◌then◌else◌, IfOk, OnOk};
 ghost use Rattle.cics_history.specs.History.{outcome_of, is_backed_out, is_kept, kept, replay};
 ghost use Rattle.cics_units.specs.Listings.{listing_of};
-ghost use Rattle.cics_history.specs.Openings.{file_recoverable};
-ghost use Rattle.cics_units.specs.RegionFiles.{AreLoaded};
-ghost use Rattle.cics_units.specs.Replaying.{files_alone};
 ghost use Rattle.cics_history.specs.Store.{apply, initial_store, is_recoverable};
 
-use crate::files::Files;
 use crate::listings::Listing;
 use crate::opening::Opening;
 use cics_enqueue::UnitId;
 use cics_history::{Entry, Op, UnitState};
-use cics_names::{Name8, NoMemory};
+use cics_names::NoMemory;
+use std::alloc::Global;
 use store::PlainStore;
 
-/// Whether a file is defined as recoverable.
-fn file_is_recoverable(files: &Files, name: &Name8) -> bool
-    ensures { result ≡ file_recoverable (files_alone files.now) name.now }
-{
-    match files.get(name) {
-        Some(file) => file.definition().recoverable,
-        None => false,
-    }
-}
-
-/// Whether a command acts on a recoverable file. No queue is recoverable.
-fn acts_on_recoverable(files: &Files, op: &Op) -> bool
-    ensures { result ≡ is_recoverable (files_alone files.now) op.now }
+/// Whether a command acts on a recoverable file or queue.
+fn acts_on_recoverable(opening: &Opening, op: &Op) -> bool
+    ensures { result ≡ is_recoverable opening.now op.now }
 {
     match op {
-        Op::Write { file, .. } => file_is_recoverable(files, file),
-        Op::Rewrite { file, .. } => file_is_recoverable(files, file),
-        Op::Delete { file, .. } => file_is_recoverable(files, file),
-        Op::DeleteGeneric { file, .. } => file_is_recoverable(files, file),
-        Op::ReadUpdate { file, .. } => file_is_recoverable(files, file),
-        Op::TsWrite { .. } => false,
-        Op::TsRewrite { .. } => false,
-        Op::TsDelete { .. } => false,
-        Op::TdWrite { .. } => false,
-        Op::TdRead { .. } => false,
-        Op::TdDelete { .. } => false,
+        Op::Write { file, .. } => opening.is_recoverable_file(file),
+        Op::Rewrite { file, .. } => opening.is_recoverable_file(file),
+        Op::Delete { file, .. } => opening.is_recoverable_file(file),
+        Op::DeleteGeneric { file, .. } => opening.is_recoverable_file(file),
+        Op::ReadUpdate { file, .. } => opening.is_recoverable_file(file),
+        Op::TsWrite { queue, .. } => opening.is_recoverable_ts(queue),
+        Op::TsRewrite { queue, .. } => opening.is_recoverable_ts(queue),
+        Op::TsDelete { queue } => opening.is_recoverable_ts(queue),
+        Op::TdWrite { queue, .. } => opening.is_logical_td(queue),
+        Op::TdRead { queue } => opening.is_logical_td(queue),
+        Op::TdDelete { queue } => opening.is_logical_td(queue),
     }
 }
 
@@ -64,46 +52,50 @@ fn was_backed_out(outcomes: &[UnitState], unit: UnitId) -> bool
 }
 
 /// Whether what an entry did stands.
-fn entry_is_kept(files: &Files, outcomes: &[UnitState], entry: &Entry) -> bool
-    ensures { result ≡ is_kept (files_alone files.now) outcomes.now entry.now }
+fn entry_is_kept(opening: &Opening, outcomes: &[UnitState], entry: &Entry) -> bool
+    ensures { result ≡ is_kept opening.now outcomes.now entry.now }
 {
-    !(acts_on_recoverable(files, &entry.op) && was_backed_out(outcomes, entry.unit))
+    !(acts_on_recoverable(opening, &entry.op) && was_backed_out(outcomes, entry.unit))
 }
 
 /// Applies an entry, where what it did stands.
 fn replay_entry(
     store: &mut PlainStore,
-    files: &Files,
+    opening: &Opening,
     outcomes: &[UnitState],
     entry: &Entry,
 ) -> Result<(), NoMemory>
-    ensures { OnOk result (store.new ≡ (if is_kept (files_alone files.now) outcomes.now entry.now
+    ensures { OnOk result (store.new ≡ (if is_kept opening.now outcomes.now entry.now
         then (apply store.old entry.now.op).store
         else store.old)) }
 {
-    if !entry_is_kept(files, outcomes, entry) {
+    if !entry_is_kept(opening, outcomes, entry) {
         return Ok(());
     }
     store.apply(&entry.op)
 }
 
 /// What the files and queues hold at the end of a history.
-fn replayed(files: &Files, trace: &[Entry], outcomes: &[UnitState]) -> Result<PlainStore, NoMemory>
-    requires { AreLoaded files.now }
+fn replayed(
+    alloc: Global,
+    opening: &Opening,
+    trace: &[Entry],
+    outcomes: &[UnitState],
+) -> Result<PlainStore, NoMemory>
     ensures { IfOk result (λ store. store
-        ≡ replay (initial_store (files_alone files.now)) (kept (files_alone files.now) trace.now outcomes.now)) }
+        ≡ replay (initial_store opening.now) (kept opening.now trace.now outcomes.now)) }
 {
-    let mut store = PlainStore::loaded(files)?;
+    let mut store = PlainStore::loaded(alloc, opening)?;
     for entry in trace {
-        replay_entry(&mut store, files, outcomes, entry)?;
+        replay_entry(&mut store, opening, outcomes, entry)?;
     }
     Ok(store)
 }
 
-/// The listing of a history by its plain replay: the files with what was loaded, changed by each
-/// entry that is kept, in the order of the entries. It has no tasks.
+/// The listing of a history by its plain replay: the files and queues with what was loaded, changed by
+/// each entry that is kept, in the order of the entries. It has no tasks.
 ///
-/// An entry is kept unless it acts on a recoverable file and its unit of work is backed out.
+/// An entry is kept unless it acts on a recoverable file or queue and its unit of work is backed out.
 /// `trace` has the entries in the order in which the commands were executed; any entries may stand
 /// in it, also those that no region would execute, and each has the effect that its command has
 /// where it stands, whatever answer is noted beside it. `outcomes` has how each unit ended, the
@@ -112,9 +104,10 @@ fn replayed(files: &Files, trace: &[Entry], outcomes: &[UnitState]) -> Result<Pl
 /// This goes by no before image and no table of a region, so its listing can be held against that
 /// of the region which wrote the history. It takes time in proportion to the records that were
 /// loaded and the entries, each with the logarithm of the records in its file; a delete by prefix
-/// looks at each record of its file. `NoMemory` where memory is refused, for the copies of all
-/// records.
+/// looks at each record of its file. `alloc` gives the memory for the copies of all records;
+/// `NoMemory` where it is refused.
 pub fn plain_replay(
+    alloc: Global,
     opening: &Opening,
     trace: &[Entry],
     outcomes: &[UnitState],
@@ -122,6 +115,5 @@ pub fn plain_replay(
     ensures { IfOk result (λ listing. listing
         ≡ listing_of opening.now (replay (initial_store opening.now) (kept opening.now trace.now outcomes.now))) }
 {
-    let files = opening.defined();
-    replayed(files, trace, outcomes)?.into_listing(files)
+    replayed(alloc, opening, trace, outcomes)?.into_listing(opening)
 }

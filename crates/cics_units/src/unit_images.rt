@@ -1,7 +1,7 @@
 //! The before images of each unit of work, by the unit's number.
 
 ghost use Rattle.std.specs.Prelude.{◌≡◌, ◌≢◌, ◌+◌, ◌<◌, ◌≤◌, ◌&&◌, ℕ, [], ◌∷◌, length, slice_get};
-ghost use Rattle.std.specs.Prelude.{OnOk, fold};
+ghost use Rattle.std.specs.Prelude.{OnOk, fold, reverse};
 ghost use Rattle.cics_images.specs.Cells.{Cell, AreReadyInTurn, LeadBack, images_of, is_unnamed};
 ghost use Rattle.cics_images.specs.Cells.{all_swept};
 ghost use Rattle.cics_units.specs.UnitImages.{kept_by, room_of, AreOthersKept, AreHeldForImages};
@@ -68,6 +68,15 @@ impl<M: Undoable> UnitImages<M> {
     {
         let at = unit.number() as usize;
         self.rows[at].store(image);
+    }
+
+    /// The images of a unit, in the order in which they were made, the oldest first.
+    pub(crate) fn images(&self, unit: UnitId) -> &[M::Image]
+        requires begun { unit < length self.now }
+        ensures { result.now ≡ reverse (kept_by self.now unit) }
+    {
+        let at = unit.number() as usize;
+        self.rows[at].oldest_first()
     }
 
     // Takes the images of a unit, which keeps none from then on.

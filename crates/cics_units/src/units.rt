@@ -24,8 +24,10 @@ use crate::opening::Opening;
 use crate::parts::Parts;
 use cics_enqueue::{Resource, TakeFault, UnitId};
 use cics_history::{Done, Enqueued, Entry, Op, UnitState};
+use cics_images::Stores;
 use cics_ksds::File;
-use cics_names::{Items, Name8, NoMemory, Record};
+use cics_names::{Name8, NoMemory, Record};
+use cics_tempstor::TempStore;
 use std::alloc::Global;
 use std::marker::Model;
 
@@ -47,14 +49,14 @@ pub struct Units {
 
 impl Model for Units {
     ghost use Rattle.cics_history.specs.Execution.{UnitsValue};
-    ghost use Rattle.cics_units.specs.Matching.{store_of_files};
+    ghost use Rattle.cics_units.specs.StoreMatching.{shown_store};
     ghost use Rattle.cics_units.specs.KeptUnits.{state_shown, AreKept};
 
     ghost Value = { UnitsValue };
 
     ghost view = { λ u. record {
       state = state_shown u.opening u.trace.items u.outcomes.items u.parts;
-      store = store_of_files u.parts.stores.files;
+      store = shown_store u.parts.stores.store;
     } };
 
     ghost invariant = { λ u.
@@ -104,9 +106,17 @@ impl Units {
         let Ok(files) = opening.files().copy() else {
             return Err(opening);
         };
+        let Ok(trans_data) = opening.queues().copy() else {
+            return Err(opening);
+        };
+        let store = Stores {
+            files,
+            temp_storage: TempStore::new(alloc),
+            trans_data,
+        };
         Ok(Units {
             opening,
-            parts: Parts::new(alloc, files),
+            parts: Parts::new(alloc, store),
             trace: Vec::new(alloc),
             outcomes: Vec::new(alloc),
             alloc,
@@ -152,7 +162,7 @@ impl Units {
             return Ok(Done::MustWait(holder));
         }
         let acting = unit_or_next(unit, self.outcomes.as_slice());
-        let answer = self.parts.files().answer(op)?;
+        let answer = self.parts.stores().answer(op)?;
         let entry = Entry {
             unit: acting,
             op: op.copy()?,
@@ -269,7 +279,7 @@ impl Units {
         ensures lawful { IfSome result (λ f. is_key f.now.definition ≡ true) }
     {
         let _trace = &self.trace;
-        self.parts.files().files().get(name)
+        self.parts.stores().store().files.get(name)
     }
 
     /// What the units started with.
@@ -301,17 +311,12 @@ impl Units {
         self.outcomes.as_slice()
     }
 
-    /// What stands in the files, the changes of open units included, and no task. It takes memory
-    /// for a copy of each record.
+    /// What stands in the files and queues, the changes of open units included, and no task. It takes
+    /// memory for a copy of each record.
     pub fn listing(&self) -> Result<Listing, NoMemory>
         ensures { IfOk result (λ listing. listing ≡ listing_of self.now.state.opening self.now.store) }
     {
         let _trace = &self.trace;
-        Ok(Listing {
-            files: self.parts.files().files().listing()?,
-            ts: Items::new(self.alloc),
-            td: Items::new(self.alloc),
-            tasks: Items::new(self.alloc),
-        })
+        Listing::of_store(self.alloc, &self.opening, self.parts.stores().store())
     }
 }

@@ -4,18 +4,17 @@ ghost use Rattle.std.specs.Prelude.{◌≡◌, [], ◌∷◌, IfOk, OnOk};
 ghost use Rattle.cics_names.specs.Keyed.{value_at, with_value};
 ghost use Rattle.cics_tempstor.specs.Queues.{has_item};
 ghost use Rattle.cics_units.specs.Listings.{listing_of};
-ghost use Rattle.cics_units.specs.RegionFiles.{AreLoaded};
-ghost use Rattle.cics_units.specs.Replaying.{files_alone};
 ghost use Rattle.cics_history.specs.Store.{initial_store, apply, apply_write, apply_rewrite};
 ghost use Rattle.cics_history.specs.Store.{apply_delete, apply_delete_generic, apply_ts_write};
 ghost use Rattle.cics_history.specs.Store.{apply_ts_rewrite, apply_ts_delete, ts_queue, with_ts};
+ghost use Rattle.cics_history.specs.Store.{apply_td_write, apply_td_read, apply_td_delete};
 
-use super::file_is_recoverable;
+use super::queues::PlainQueue;
 use super::records::PlainRecords;
-use crate::files::Files;
 use crate::listings::Listing;
+use crate::opening::Opening;
 use cics_history::Op;
-use cics_names::{Items, Name8, NoMemory, Record};
+use cics_names::{Items, Name4, Name8, NoMemory, Record};
 use std::alloc::Global;
 use std::collections::BTreeMap;
 use std::marker::Model;
@@ -23,24 +22,31 @@ use std::marker::Model;
 /// The most items that a temporary storage queue can have.
 const MOST_ITEMS: usize = 32_767;
 
-/// The files that are defined, and the temporary storage queues that are there.
+/// The files that are defined, the temporary storage queues that are there, and the transient data queues
+/// that are defined.
 #[derive(Drop)]
 pub(crate) struct PlainStore {
     files: BTreeMap<Name8, PlainRecords>,
-    queues: BTreeMap<Name8, Items<Record>>,
+    temp_storage: BTreeMap<Name8, Items<Record>>,
+    trans_data: BTreeMap<Name4, PlainQueue>,
     alloc: Global,
 }
 
 impl Model for PlainStore {
-    ghost use Rattle.std.specs.Prelude.{[], T};
+    ghost use Rattle.std.specs.Prelude.{T};
     ghost use Rattle.cics_names.specs.Keyed.{is_rising};
     ghost use Rattle.cics_history.specs.Store.{Store};
 
     ghost Value = { Store };
 
-    ghost view = { λ s. record { files = s.files.entries; ts = s.queues.entries; td = [] } };
+    ghost view = { λ s. record {
+      files = s.files.entries;
+      ts = s.temp_storage.entries;
+      td = s.trans_data.entries;
+    } };
 
-    ghost invariant = { λ s. T (is_rising s.files.entries) × T (is_rising s.queues.entries) };
+    ghost invariant = { λ s. T (is_rising s.files.entries) × T (is_rising s.temp_storage.entries)
+        × T (is_rising s.trans_data.entries) };
 }
 
 /// Whether a temporary storage queue has the item of a number, the first item being 1.
@@ -57,7 +63,8 @@ impl PlainStore {
     {
         PlainStore {
             files: BTreeMap::new(alloc),
-            queues: BTreeMap::new(alloc),
+            temp_storage: BTreeMap::new(alloc),
+            trans_data: BTreeMap::new(alloc),
             alloc,
         }
     }
@@ -76,15 +83,30 @@ impl PlainStore {
         Ok(())
     }
 
-    /// The files with the records that were loaded, and no queue.
-    pub(crate) fn loaded(files: &Files) -> Result<PlainStore, NoMemory>
-        requires { AreLoaded files.now }
-        ensures { IfOk result (λ store. store ≡ initial_store (files_alone files.now)) }
+    /// Puts the records of a transient data queue under its name.
+    fn define_td(&mut self, name: Name4, queue: PlainQueue) -> Result<(), NoMemory>
+        ensures { OnOk result (self.new
+            ≡ record {
+              files = self.old.files;
+              ts = self.old.ts;
+              td = with_value name queue self.old.td;
+            }) }
     {
-        let alloc = files.allocator();
+        self.trans_data.insert(name, queue)?;
+        Ok(())
+    }
+
+    /// The files and transient data queues with the records that were loaded, and no temporary storage
+    /// queue.
+    pub(crate) fn loaded(alloc: Global, opening: &Opening) -> Result<PlainStore, NoMemory>
+        ensures { IfOk result (λ store. store ≡ initial_store opening.now) }
+    {
         let mut store = PlainStore::new(alloc);
-        for (name, file) in files.iter() {
+        for (name, file) in opening.files().iter() {
             store.define(*name, PlainRecords::loaded(alloc, file)?)?;
+        }
+        for (name, queue) in opening.queues().iter() {
+            store.define_td(*name, PlainQueue::loaded(queue)?)?;
         }
         Ok(store)
     }
@@ -139,7 +161,7 @@ impl PlainStore {
     {
         let mut items = Items::new(self.alloc);
         items.push(item)?;
-        self.queues.insert(*queue, items)?;
+        self.temp_storage.insert(*queue, items)?;
         Ok(())
     }
 
@@ -150,7 +172,7 @@ impl PlainStore {
             (ts_queue self.old queue.now)).store) }
     {
         let item = from.copy()?;
-        let Some(items) = self.queues.get_mut(queue) else {
+        let Some(items) = self.temp_storage.get_mut(queue) else {
             return self.ts_make(queue, item);
         };
         if items.len() >= MOST_ITEMS {
@@ -165,7 +187,7 @@ impl PlainStore {
             ≡ (apply_ts_rewrite self.old queue.now item from.now (ts_queue self.old queue.now)).store) }
     {
         let content = from.copy()?;
-        let Some(items) = self.queues.get_mut(queue) else {
+        let Some(items) = self.temp_storage.get_mut(queue) else {
             return Ok(());
         };
         if !has_item(items, item) {
@@ -179,20 +201,51 @@ impl PlainStore {
     fn ts_delete(&mut self, queue: &Name8)
         ensures { self.new ≡ (apply_ts_delete self.old queue.now (ts_queue self.old queue.now)).store }
     {
-        let Some(items) = self.queues.get(queue) else {
+        let Some(items) = self.temp_storage.get(queue) else {
             return;
         };
         if items.is_empty() {
             return;
         }
-        self.queues.remove(queue);
+        self.temp_storage.remove(queue);
+    }
+
+    /// WRITEQ TD: the record is the last one of a queue that is defined.
+    fn td_write(&mut self, queue: &Name4, from: &Record) -> Result<(), NoMemory>
+        ensures { OnOk result (self.new
+            ≡ (apply_td_write self.old queue.now from.now (value_at queue.now self.old.td)).store) }
+    {
+        let Some(records) = self.trans_data.get_mut(queue) else {
+            return Ok(());
+        };
+        records.write(from)
+    }
+
+    /// READQ TD: the first record goes, where there is one.
+    fn td_read(&mut self, queue: &Name4)
+        ensures { self.new ≡ (apply_td_read self.old queue.now (value_at queue.now self.old.td)).store }
+    {
+        let Some(records) = self.trans_data.get_mut(queue) else {
+            return;
+        };
+        records.read();
+    }
+
+    /// DELETEQ TD: all records go.
+    fn td_delete(&mut self, queue: &Name4)
+        ensures { self.new ≡ (apply_td_delete self.old queue.now (value_at queue.now self.old.td)).store }
+    {
+        let Some(records) = self.trans_data.get_mut(queue) else {
+            return;
+        };
+        records.delete();
     }
 
     /// What a command leaves, which is nothing new where it isn't answered NORMAL.
     pub(crate) fn apply(&mut self, op: &Op) -> Result<(), NoMemory>
         ensures { OnOk result (self.new ≡ (apply self.old op.now).store) }
     {
-        let _queues = &self.queues;
+        let _queues = &self.temp_storage;
         match op {
             Op::Write { file, key, from } => self.write(file, key, from),
             Op::Rewrite { file, key, from } => self.rewrite(file, key, from),
@@ -211,31 +264,44 @@ impl PlainStore {
                 self.ts_delete(queue);
                 Ok(())
             }
-            // No transient data queue is defined: QIDERR.
-            Op::TdWrite { .. } => Ok(()),
-            Op::TdRead { .. } => Ok(()),
-            Op::TdDelete { .. } => Ok(()),
+            Op::TdWrite { queue, from } => self.td_write(queue, from),
+            Op::TdRead { queue } => {
+                self.td_read(queue);
+                Ok(())
+            }
+            Op::TdDelete { queue } => {
+                self.td_delete(queue);
+                Ok(())
+            }
         }
     }
 
-    /// What stands in the files and queues. `files` says which of the files are recoverable.
-    pub(crate) fn into_listing(self, files: &Files) -> Result<Listing, NoMemory>
-        ensures { IfOk result (λ listing. listing ≡ listing_of (files_alone files.now) self) }
+    /// What stands in the files and queues. `opening` says what of it is recoverable.
+    pub(crate) fn into_listing(self, opening: &Opening) -> Result<Listing, NoMemory>
+        ensures { IfOk result (λ listing. listing ≡ listing_of opening.now self) }
     {
         let alloc = self.alloc;
-        let mut listed = Items::new(alloc);
+        let mut files = Items::new(alloc);
         for (name, records) in self.files {
-            let recoverable = file_is_recoverable(files, &name);
-            listed.push((name, recoverable, records.into_contents(alloc)?))?;
+            let recoverable = opening.is_recoverable_file(&name);
+            files.push((name, recoverable, records.into_contents(alloc)?))?;
         }
-        let mut queues = Items::new(alloc);
-        for (name, items) in self.queues {
-            queues.push((name, false, items))?;
+        let mut ts = Items::new(alloc);
+        for (name, items) in self.temp_storage {
+            ts.push((name, opening.is_recoverable_ts(&name), items))?;
+        }
+        let mut td = Items::new(alloc);
+        for (name, records) in self.trans_data {
+            td.push((
+                name,
+                opening.td_recovery(&name),
+                records.into_contents(alloc)?,
+            ))?;
         }
         Ok(Listing {
-            files: listed,
-            ts: queues,
-            td: Items::new(alloc),
+            files,
+            ts,
+            td,
             tasks: Items::new(alloc),
         })
     }

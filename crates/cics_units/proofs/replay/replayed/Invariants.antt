@@ -1,9 +1,8 @@
 use Rattle.std.proofs.Common.{◌≡◌, take}
 use Rattle.cics_history.specs.History.{kept, replay}
-use Rattle.cics_units.specs.Replaying.{files_alone}
 use Rattle.cics_history.specs.Store.{initial_store}
 use Rattle.cics_units.proofs.replay.replayed.Given as goal
 
 -- the entries that were passed are replayed
 abbrev pub invariant-loop-entry : goal.invariant-loop-entry
-invariant-loop-entry l = l.store ≡ replay (initial_store (files_alone l.files)) (kept (files_alone l.files) (take l.entry-index l.trace) l.outcomes)
+invariant-loop-entry l = l.store ≡ replay (initial_store l.opening) (kept l.opening (take l.entry-index l.trace) l.outcomes)

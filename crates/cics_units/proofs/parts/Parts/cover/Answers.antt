@@ -13,7 +13,7 @@ returns-then-not-covers-clause-rest c =
 
 pub returns-clause-rest : goal.returns-clause-rest
 returns-clause-rest c =
-    (λ i. record { stores = c.self.inside.files; table = c.self.inside.enqueues; reads = c.close.ensures.reads i })
+    (λ i. record { stores = c.self.inside.stores; table = c.self.inside.enqueues; reads = c.close.ensures.reads i })
     ∙ (λ i. record (c.self.view_is i) { reads = filter (λ r. not (is_read_of c.args.unit (sym c.requires.named i) r)) (c.self.view_is i).reads })
     ∙ (λ i. record c.args.self.now {
       reads = covered_rest c.args.unit c.args.op.now c.args.self.now.reads c.requires.once

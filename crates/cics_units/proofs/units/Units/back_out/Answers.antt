@@ -5,7 +5,7 @@ use Rattle.std.proofs.Common.{◌≡◌, true}
 use Rattle.cics_enqueue.specs.Resources.{released}
 use Rattle.cics_history.specs.Events.{is_live}
 use Rattle.cics_history.specs.Headline.{LeavesNoTrace}
-use Rattle.cics_units.specs.Matching.{store_of_files}
+use Rattle.cics_units.specs.StoreMatching.{shown_store}
 use Rattle.cics_history.proofs.Alone.{leaves_no_trace}
 use Rattle.cics_units.specs.KeptUnits.{state_shown}
 use Rattle.cics_history.specs.declared.ops.UnitState.TheVariants.{BackedOut}
@@ -21,7 +21,7 @@ invariant_of-self c =
     (live_of (state_shown u.opening u.trace.items u.outcomes.items u.parts) c.args.unit (subst (λ v. IsOpenUnit v.state c.args.unit) (sym c.self.view_is) c.requires.is_open))
     BackedOut c.back_out.ensures.table c.back_out.ensures.reads (kept_backed_out (state_shown u.opening u.trace.items u.outcomes.items u.parts) u.parts.stores c.back_out.new.self.stores u.parts.table c.self.invariant c.args.unit
     (live_of (state_shown u.opening u.trace.items u.outcomes.items u.parts) c.args.unit (subst (λ v. IsOpenUnit v.state c.args.unit) (sym c.self.view_is) c.requires.is_open))
-    c.back_out.ensures.cells c.back_out.ensures.definitions c.back_out.ensures.none c.back_out.ensures.others c.back_out.ensures.held c.back_out.ensures.led_back c.back_out.ensures.whole))
+    c.back_out.ensures.none c.back_out.ensures.others c.back_out.ensures.led_back c.back_out.ensures.cells c.back_out.ensures.fixed c.back_out.ensures.held c.back_out.ensures.whole))
 
 pub returns-clause-state : goal.returns-clause-state
 returns-clause-state c =
@@ -31,7 +31,7 @@ returns-clause-state c =
     (live_of (state_shown u.opening u.trace.items u.outcomes.items u.parts) c.args.unit (subst (λ v. IsOpenUnit v.state c.args.unit) (sym c.self.view_is) c.requires.is_open))
     BackedOut c.back_out.ensures.table c.back_out.ensures.reads (kept_backed_out (state_shown u.opening u.trace.items u.outcomes.items u.parts) u.parts.stores c.back_out.new.self.stores u.parts.table c.self.invariant c.args.unit
     (live_of (state_shown u.opening u.trace.items u.outcomes.items u.parts) c.args.unit (subst (λ v. IsOpenUnit v.state c.args.unit) (sym c.self.view_is) c.requires.is_open))
-    c.back_out.ensures.cells c.back_out.ensures.definitions c.back_out.ensures.none c.back_out.ensures.others c.back_out.ensures.held c.back_out.ensures.led_back c.back_out.ensures.whole)
+    c.back_out.ensures.none c.back_out.ensures.others c.back_out.ensures.led_back c.back_out.ensures.cells c.back_out.ensures.fixed c.back_out.ensures.held c.back_out.ensures.whole)
     ∙ ap (λ v. after_end v.state c.args.unit BackedOut) c.self.view_is)
 
 pub returns-clause-headline : goal.returns-clause-headline
@@ -43,7 +43,7 @@ returns-clause-headline c =
     (live_of (state_shown u.opening u.trace.items u.outcomes.items u.parts) c.args.unit (subst (λ v. IsOpenUnit v.state c.args.unit) (sym c.self.view_is) c.requires.is_open))
     BackedOut c.back_out.ensures.table c.back_out.ensures.reads (kept_backed_out (state_shown u.opening u.trace.items u.outcomes.items u.parts) u.parts.stores c.back_out.new.self.stores u.parts.table c.self.invariant c.args.unit
     (live_of (state_shown u.opening u.trace.items u.outcomes.items u.parts) c.args.unit (subst (λ v. IsOpenUnit v.state c.args.unit) (sym c.self.view_is) c.requires.is_open))
-    c.back_out.ensures.cells c.back_out.ensures.definitions c.back_out.ensures.none c.back_out.ensures.others c.back_out.ensures.held c.back_out.ensures.led_back c.back_out.ensures.whole)))
+    c.back_out.ensures.none c.back_out.ensures.others c.back_out.ensures.led_back c.back_out.ensures.cells c.back_out.ensures.fixed c.back_out.ensures.held c.back_out.ensures.whole)))
 
 pub returns-clause-alone : goal.returns-clause-alone
 returns-clause-alone c =
@@ -51,7 +51,7 @@ returns-clause-alone c =
     let old = state_shown u.opening u.trace.items u.outcomes.items u.parts in
     let live : is_live old c.args.unit ≡ true = live_of old c.args.unit (subst (λ v. IsOpenUnit v.state c.args.unit) (sym c.self.view_is) c.requires.is_open) in
     let kept = kept_backed_out old u.parts.stores c.back_out.new.self.stores u.parts.table c.self.invariant c.args.unit live
-    c.back_out.ensures.cells c.back_out.ensures.definitions c.back_out.ensures.none c.back_out.ensures.others c.back_out.ensures.held c.back_out.ensures.led_back c.back_out.ensures.whole in
-    rw c.number.ensures (subst (λ v. LeavesNoTrace v (record { state = after_end old c.args.unit BackedOut; store = store_of_files c.back_out.new.self.stores.files }) c.args.unit) c.self.view_is
-    (leaves_no_trace (record { state = old; store = store_of_files u.parts.stores.files }) c.args.unit (store_of_files c.back_out.new.self.stores.files) c.self.invariant.in_order live
+    c.back_out.ensures.none c.back_out.ensures.others c.back_out.ensures.led_back c.back_out.ensures.cells c.back_out.ensures.fixed c.back_out.ensures.held c.back_out.ensures.whole in
+    rw c.number.ensures (subst (λ v. LeavesNoTrace v (record { state = after_end old c.args.unit BackedOut; store = shown_store c.back_out.new.self.stores.store }) c.args.unit) c.self.view_is
+    (leaves_no_trace (record { state = old; store = shown_store u.parts.stores.store }) c.args.unit (shown_store c.back_out.new.self.stores.store) c.self.invariant.in_order live
     (store_is (after_end old c.args.unit BackedOut) c.back_out.new.self.stores (released u.parts.table c.args.unit) kept)))

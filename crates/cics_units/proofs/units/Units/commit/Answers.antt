@@ -15,7 +15,7 @@ invariant_of-self c =
     (live_of (state_shown u.opening u.trace.items u.outcomes.items u.parts) c.args.unit (subst (λ v. IsOpenUnit v.state c.args.unit) (sym c.self.view_is) c.requires.is_open))
     Committed c.commit.ensures.table c.commit.ensures.reads (kept_committed (state_shown u.opening u.trace.items u.outcomes.items u.parts) u.parts.stores c.commit.new.self.stores u.parts.table c.self.invariant c.args.unit
     (live_of (state_shown u.opening u.trace.items u.outcomes.items u.parts) c.args.unit (subst (λ v. IsOpenUnit v.state c.args.unit) (sym c.self.view_is) c.requires.is_open))
-    c.commit.ensures.cells c.commit.ensures.definitions c.commit.ensures.none c.commit.ensures.others c.commit.ensures.held c.commit.ensures.contents c.commit.ensures.whole))
+    c.commit.ensures.none c.commit.ensures.others c.commit.ensures.contents c.commit.ensures.cells c.commit.ensures.fixed c.commit.ensures.held c.commit.ensures.whole))
 
 pub returns-clause-state : goal.returns-clause-state
 returns-clause-state c =
@@ -25,7 +25,7 @@ returns-clause-state c =
     (live_of (state_shown u.opening u.trace.items u.outcomes.items u.parts) c.args.unit (subst (λ v. IsOpenUnit v.state c.args.unit) (sym c.self.view_is) c.requires.is_open))
     Committed c.commit.ensures.table c.commit.ensures.reads (kept_committed (state_shown u.opening u.trace.items u.outcomes.items u.parts) u.parts.stores c.commit.new.self.stores u.parts.table c.self.invariant c.args.unit
     (live_of (state_shown u.opening u.trace.items u.outcomes.items u.parts) c.args.unit (subst (λ v. IsOpenUnit v.state c.args.unit) (sym c.self.view_is) c.requires.is_open))
-    c.commit.ensures.cells c.commit.ensures.definitions c.commit.ensures.none c.commit.ensures.others c.commit.ensures.held c.commit.ensures.contents c.commit.ensures.whole)
+    c.commit.ensures.none c.commit.ensures.others c.commit.ensures.contents c.commit.ensures.cells c.commit.ensures.fixed c.commit.ensures.held c.commit.ensures.whole)
     ∙ ap (λ v. after_end v.state c.args.unit Committed) c.self.view_is)
 
 pub returns-clause-headline : goal.returns-clause-headline
@@ -37,12 +37,12 @@ returns-clause-headline c =
     (live_of (state_shown u.opening u.trace.items u.outcomes.items u.parts) c.args.unit (subst (λ v. IsOpenUnit v.state c.args.unit) (sym c.self.view_is) c.requires.is_open))
     Committed c.commit.ensures.table c.commit.ensures.reads (kept_committed (state_shown u.opening u.trace.items u.outcomes.items u.parts) u.parts.stores c.commit.new.self.stores u.parts.table c.self.invariant c.args.unit
     (live_of (state_shown u.opening u.trace.items u.outcomes.items u.parts) c.args.unit (subst (λ v. IsOpenUnit v.state c.args.unit) (sym c.self.view_is) c.requires.is_open))
-    c.commit.ensures.cells c.commit.ensures.definitions c.commit.ensures.none c.commit.ensures.others c.commit.ensures.held c.commit.ensures.contents c.commit.ensures.whole)))
+    c.commit.ensures.none c.commit.ensures.others c.commit.ensures.contents c.commit.ensures.cells c.commit.ensures.fixed c.commit.ensures.held c.commit.ensures.whole)))
 
 pub returns-clause-store : goal.returns-clause-store
 returns-clause-store c =
     let u = c.self.inside in
     committed_store (state_shown u.opening u.trace.items u.outcomes.items u.parts) u.parts.stores c.commit.new.self.stores u.parts.table c.self.invariant c.args.unit
     (live_of (state_shown u.opening u.trace.items u.outcomes.items u.parts) c.args.unit (subst (λ v. IsOpenUnit v.state c.args.unit) (sym c.self.view_is) c.requires.is_open))
-    c.commit.ensures.cells c.commit.ensures.definitions c.commit.ensures.none c.commit.ensures.others c.commit.ensures.held c.commit.ensures.contents c.commit.ensures.whole
+    c.commit.ensures.none c.commit.ensures.others c.commit.ensures.contents c.commit.ensures.cells c.commit.ensures.fixed c.commit.ensures.held c.commit.ensures.whole
     ∙ ap (λ v. v.store) c.self.view_is

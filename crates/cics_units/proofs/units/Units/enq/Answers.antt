@@ -4,7 +4,7 @@ use Rattle.cics_history.specs.Execution.{IsOpenOrNone, unit_or_next, outcomes_wi
 use Rattle.cics_history.specs.Events.{may_act}
 use Rattle.cics_history.specs.Headline.{IsHeadline}
 use Rattle.cics_units.specs.KeptUnits.{state_shown, AreKept}
-use Rattle.cics_units.specs.Matching.{store_of_files}
+use Rattle.cics_units.specs.StoreMatching.{shown_store}
 use Rattle.cics_units.specs.Parts.{AreEnqueued}
 use Rattle.cics_units.specs.TableInPlace.{value_of}
 use Rattle.cics_history.specs.declared.ops.Enqueued.TheVariants.{Taken}
@@ -41,7 +41,7 @@ returns-in-Some-clause-headline c =
 pub returns-in_err-reserve-clause-headline : goal.returns-in_err-reserve-clause-headline
 returns-in_err-reserve-clause-headline c =
     let u = c.self.inside in
-    subst (λ outs. IsHeadline (record { state = state_shown u.opening u.trace.items outs u.parts; store = store_of_files u.parts.stores.files })) (sym c.reserve.ensures.items)
+    subst (λ outs. IsHeadline (record { state = state_shown u.opening u.trace.items outs u.parts; store = shown_store u.parts.stores.store })) (sym c.reserve.ensures.items)
     (kept_headline (state_shown u.opening u.trace.items u.outcomes.items u.parts) u.parts.stores u.parts.table c.self.invariant)
 
 pub returns-in-Err-Full-clause-done : goal.returns-in-Err-Full-clause-done

@@ -2,7 +2,7 @@ use Rattle.std.proofs.Common.{◌≡◌, ◌∙◌, sym, ap, subst, true, None, 
 use Rattle.cics_history.specs.Execution.{execution, after_execution, unit_or_next, read_at, outcomes_with, IsOpenUnit, IsOpenOrNone, is_ready_op}
 use Rattle.cics_history.specs.Headline.{IsHeadline}
 use Rattle.cics_units.specs.KeptUnits.{state_shown, AreKept}
-use Rattle.cics_units.specs.Matching.{store_of_files}
+use Rattle.cics_units.specs.StoreMatching.{shown_store}
 use Rattle.cics_history.specs.Records.{file_of}
 use Rattle.cics_units.specs.Uses.{listed, AreFreeFor, holder_over_all}
 use Rattle.cics_units.specs.Parts.{IsFitOp, AreExecuted}
@@ -49,7 +49,7 @@ answer-requires c =
     let op = c.args.op.now in
     let s = state_shown u.opening u.trace.items u.outcomes.items u.parts in
     record {
-      fit = subst (λ st. IsFitOp st.files op) (sym c.files.ensures) (ready_fits s u.parts.stores u.parts.table c.self.invariant c.args.unit op c.requires.file
+      fit = subst (λ st. IsFitOp st.store.files op) (sym c.stores.ensures) (ready_fits s u.parts.stores u.parts.table c.self.invariant c.args.unit op c.requires.file
           (subst (λ v. is_ready_op v.state c.args.unit op ≡ true) (sym c.self.view_is) c.requires.ready));
     }
 
@@ -71,14 +71,14 @@ returns-in_err-copy-2-clause-headline c =
 pub returns-in_err-reserve-clause-headline : goal.returns-in_err-reserve-clause-headline
 returns-in_err-reserve-clause-headline c =
     let u = c.self.inside in
-    subst (λ entries. IsHeadline (record { state = state_shown u.opening entries u.outcomes.items u.parts; store = store_of_files u.parts.stores.files })) (sym c.reserve.ensures.items)
+    subst (λ entries. IsHeadline (record { state = state_shown u.opening entries u.outcomes.items u.parts; store = shown_store u.parts.stores.store })) (sym c.reserve.ensures.items)
     (kept_headline (state_shown u.opening u.trace.items u.outcomes.items u.parts) u.parts.stores u.parts.table c.self.invariant)
 
 pub returns-in_err-reserve-2-clause-headline : goal.returns-in_err-reserve-2-clause-headline
 returns-in_err-reserve-2-clause-headline c =
     let u = c.self.inside in
-    subst (λ outs. IsHeadline (record { state = state_shown u.opening c.reserve.new.self.items outs u.parts; store = store_of_files u.parts.stores.files })) (sym c.reserve-2.ensures.items)
-    (subst (λ entries. IsHeadline (record { state = state_shown u.opening entries u.outcomes.items u.parts; store = store_of_files u.parts.stores.files })) (sym c.reserve.ensures.items)
+    subst (λ outs. IsHeadline (record { state = state_shown u.opening c.reserve.new.self.items outs u.parts; store = shown_store u.parts.stores.store })) (sym c.reserve-2.ensures.items)
+    (subst (λ entries. IsHeadline (record { state = state_shown u.opening entries u.outcomes.items u.parts; store = shown_store u.parts.stores.store })) (sym c.reserve.ensures.items)
     (kept_headline (state_shown u.opening u.trace.items u.outcomes.items u.parts) u.parts.stores u.parts.table c.self.invariant))
 
 pub uses_of-uses-requires-clause-fit : goal.uses_of-uses-requires-clause-fit
@@ -128,7 +128,7 @@ invariant_of-self-2 c =
     let none : holder_over_all (asked u.opening u.trace.items u.outcomes.items u.parts u.parts c.self.invariant c.args.unit op c.requires.file) c.args.unit u.parts.table ≡ None = ap (λ rs. holder_over_all rs c.args.unit u.parts.table) (sym c.uses_of-uses.ensures) ∙ sym c.holder_over_all.ensures ∙ c.in_default.is in
     let acts : may_act s c.args.unit ≡ true = acts_of s c.args.unit (subst (λ v. IsOpenOrNone v.state c.args.unit) (sym c.self.view_is) c.requires.is_open) in
     let acting : c.unit_or_next-acting.result ≡ unit_or_next c.args.unit u.outcomes.items = c.unit_or_next-acting.ensures ∙ ap (unit_or_next c.args.unit) c.as_slice.ensures.value in
-    let right : c.in_ok-answer.answer ≡ (apply (store_of_files u.parts.stores.files) op).answer = c.in_ok-answer.ensures ∙ ap (λ st. (apply (store_of_files st.files) op).answer) c.files.ensures in
+    let right : c.in_ok-answer.answer ≡ (apply (shown_store u.parts.stores.store) op).answer = c.in_ok-answer.ensures ∙ ap (λ st. (apply (shown_store st.store) op).answer) c.stores.ensures in
     let done : AreExecuted u.parts c.execute.new.self (unit_or_next c.args.unit u.outcomes.items) op c.in_ok-answer.answer.condition = subst (λ n. AreExecuted u.parts c.execute.new.self n op c.in_ok-answer.answer.condition) acting c.in_ok-execute.ensures.executed in
     let trace : c.enter.new.trace.items ≡ u.trace.items ++ record { unit = unit_or_next c.args.unit u.outcomes.items; op = op; answer = c.in_ok-answer.answer } ∷ [] =
     c.enter.ensures.trace ∙ (λ i. c.reserve.ensures.items i ++ record { unit = acting i; op = c.in_ok-copy.ensures i; answer = c.in_ok-copy-2.ensures i } ∷ []) in
@@ -146,7 +146,7 @@ returns-clause-done c =
     let none : holder_over_all (asked u.opening u.trace.items u.outcomes.items u.parts u.parts c.self.invariant c.args.unit op c.requires.file) c.args.unit u.parts.table ≡ None = ap (λ rs. holder_over_all rs c.args.unit u.parts.table) (sym c.uses_of-uses.ensures) ∙ sym c.holder_over_all.ensures ∙ c.in_default.is in
     let acts : may_act s c.args.unit ≡ true = acts_of s c.args.unit (subst (λ v. IsOpenOrNone v.state c.args.unit) (sym c.self.view_is) c.requires.is_open) in
     let acting : c.unit_or_next-acting.result ≡ unit_or_next c.args.unit u.outcomes.items = c.unit_or_next-acting.ensures ∙ ap (unit_or_next c.args.unit) c.as_slice.ensures.value in
-    let right : c.in_ok-answer.answer ≡ (apply (store_of_files u.parts.stores.files) op).answer = c.in_ok-answer.ensures ∙ ap (λ st. (apply (store_of_files st.files) op).answer) c.files.ensures in
+    let right : c.in_ok-answer.answer ≡ (apply (shown_store u.parts.stores.store) op).answer = c.in_ok-answer.ensures ∙ ap (λ st. (apply (shown_store st.store) op).answer) c.stores.ensures in
     let done : AreExecuted u.parts c.execute.new.self (unit_or_next c.args.unit u.outcomes.items) op c.in_ok-answer.answer.condition = subst (λ n. AreExecuted u.parts c.execute.new.self n op c.in_ok-answer.answer.condition) acting c.in_ok-execute.ensures.executed in
     (λ i. Answered (acting i) c.in_ok-answer.answer) ∙ answered u.opening u.trace.items u.outcomes.items u.parts c.execute.new.self c.self.invariant c.args.unit op c.requires.file acts none ready c.requires.key c.in_ok-answer.answer right done ∙ ap (λ v. execution v.state c.args.unit op) c.self.view_is
 
@@ -159,7 +159,7 @@ returns-clause-state c =
     let none : holder_over_all (asked u.opening u.trace.items u.outcomes.items u.parts u.parts c.self.invariant c.args.unit op c.requires.file) c.args.unit u.parts.table ≡ None = ap (λ rs. holder_over_all rs c.args.unit u.parts.table) (sym c.uses_of-uses.ensures) ∙ sym c.holder_over_all.ensures ∙ c.in_default.is in
     let acts : may_act s c.args.unit ≡ true = acts_of s c.args.unit (subst (λ v. IsOpenOrNone v.state c.args.unit) (sym c.self.view_is) c.requires.is_open) in
     let acting : c.unit_or_next-acting.result ≡ unit_or_next c.args.unit u.outcomes.items = c.unit_or_next-acting.ensures ∙ ap (unit_or_next c.args.unit) c.as_slice.ensures.value in
-    let right : c.in_ok-answer.answer ≡ (apply (store_of_files u.parts.stores.files) op).answer = c.in_ok-answer.ensures ∙ ap (λ st. (apply (store_of_files st.files) op).answer) c.files.ensures in
+    let right : c.in_ok-answer.answer ≡ (apply (shown_store u.parts.stores.store) op).answer = c.in_ok-answer.ensures ∙ ap (λ st. (apply (shown_store st.store) op).answer) c.stores.ensures in
     let done : AreExecuted u.parts c.execute.new.self (unit_or_next c.args.unit u.outcomes.items) op c.in_ok-answer.answer.condition = subst (λ n. AreExecuted u.parts c.execute.new.self n op c.in_ok-answer.answer.condition) acting c.in_ok-execute.ensures.executed in
     let trace : c.enter.new.trace.items ≡ u.trace.items ++ record { unit = unit_or_next c.args.unit u.outcomes.items; op = op; answer = c.in_ok-answer.answer } ∷ [] =
     c.enter.ensures.trace ∙ (λ i. c.reserve.ensures.items i ++ record { unit = acting i; op = c.in_ok-copy.ensures i; answer = c.in_ok-copy-2.ensures i } ∷ []) in
@@ -175,7 +175,7 @@ returns-clause-headline c =
     let none : holder_over_all (asked u.opening u.trace.items u.outcomes.items u.parts u.parts c.self.invariant c.args.unit op c.requires.file) c.args.unit u.parts.table ≡ None = ap (λ rs. holder_over_all rs c.args.unit u.parts.table) (sym c.uses_of-uses.ensures) ∙ sym c.holder_over_all.ensures ∙ c.in_default.is in
     let acts : may_act s c.args.unit ≡ true = acts_of s c.args.unit (subst (λ v. IsOpenOrNone v.state c.args.unit) (sym c.self.view_is) c.requires.is_open) in
     let acting : c.unit_or_next-acting.result ≡ unit_or_next c.args.unit u.outcomes.items = c.unit_or_next-acting.ensures ∙ ap (unit_or_next c.args.unit) c.as_slice.ensures.value in
-    let right : c.in_ok-answer.answer ≡ (apply (store_of_files u.parts.stores.files) op).answer = c.in_ok-answer.ensures ∙ ap (λ st. (apply (store_of_files st.files) op).answer) c.files.ensures in
+    let right : c.in_ok-answer.answer ≡ (apply (shown_store u.parts.stores.store) op).answer = c.in_ok-answer.ensures ∙ ap (λ st. (apply (shown_store st.store) op).answer) c.stores.ensures in
     let done : AreExecuted u.parts c.execute.new.self (unit_or_next c.args.unit u.outcomes.items) op c.in_ok-answer.answer.condition = subst (λ n. AreExecuted u.parts c.execute.new.self n op c.in_ok-answer.answer.condition) acting c.in_ok-execute.ensures.executed in
     let trace : c.enter.new.trace.items ≡ u.trace.items ++ record { unit = unit_or_next c.args.unit u.outcomes.items; op = op; answer = c.in_ok-answer.answer } ∷ [] =
     c.enter.ensures.trace ∙ (λ i. c.reserve.ensures.items i ++ record { unit = acting i; op = c.in_ok-copy.ensures i; answer = c.in_ok-copy-2.ensures i } ∷ []) in

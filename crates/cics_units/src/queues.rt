@@ -1,0 +1,230 @@
+//! The transient data queues of a region by name.
+
+mod changes;
+
+ghost use Rattle.std.specs.Prelude.{◌≡◌, ◌<◌, ◌^◌, [], length, T, IfOk, OnOk, OnErr, None};
+ghost use Rattle.std.specs.Option.{option_copied};
+ghost use Rattle.std.specs.Map.Iter.{ShowsInOrder, deref_pair};
+ghost use Rattle.cics_names.specs.Keyed.{has_key, value_at, with_value, is_rising};
+ghost use Rattle.cics_units.specs.RegionFiles.{refilled};
+ghost use Rattle.cics_units.specs.RegionQueues.{queues_listed};
+
+use cics_images::Undoable;
+use cics_names::{Items, Name4, NoMemory, Record};
+use cics_transdata::{Recovery, TdImage, TransQueue};
+use std::alloc::Global;
+use std::collections::BTreeMap;
+use std::collections::btree_map::Iter;
+use std::marker::Model;
+
+/// The transient data queues of a region, each under its name, in the order of the names' bytes.
+///
+/// Contracts see them as a map from the names to the queues, itself in that order. A look-up costs
+/// the logarithm of the number of queues.
+#[derive(Drop)]
+pub(crate) struct Queues {
+    rows: BTreeMap<Name4, TransQueue>,
+    alloc: Global,
+}
+
+impl Model for Queues {
+    ghost use Rattle.std.specs.Prelude.{T};
+    ghost use Rattle.cics_names.specs.Keyed.{Map, is_rising};
+    ghost use Rattle.cics_transdata.specs.Trans.{TransState};
+
+    ghost Value = { Map TransState };
+
+    ghost view = { λ q. q.rows.entries };
+
+    ghost invariant = { λ q. T (is_rising q.rows.entries) };
+}
+
+/// The before image of one change of one queue: the queue's name, and what undoes the change of its end.
+#[derive(Drop)]
+pub(crate) struct QueueImage {
+    /// The name of the queue.
+    pub(crate) name: Name4,
+    /// What undoes its change.
+    pub(crate) image: TdImage,
+}
+
+/// Contracts see it as the image of a value by name.
+impl Model for QueueImage {
+    ghost use Rattle.cics_images.specs.declared.named.NamedImage.{NamedImage};
+    ghost use Rattle.cics_transdata.specs.declared.images.TdImage.{TdImage};
+
+    ghost Value = { NamedImage TdImage };
+
+    ghost view = { λ i. record { name = i.name; image = i.image } };
+}
+
+impl Queues {
+    /// No queues yet. `alloc` gives the memory for what is put in.
+    pub(crate) fn new(alloc: Global) -> Queues
+        ensures { result ≡ [] }
+    {
+        Queues {
+            rows: BTreeMap::new(alloc),
+            alloc,
+        }
+    }
+
+    /// Whether there is a queue of a name.
+    pub(crate) fn contains(&self, name: &Name4) -> bool
+        ensures { result ≡ has_key name.now self.now }
+    {
+        self.rows.contains_key(name)
+    }
+
+    /// The allocator that gives the queues their places.
+    pub(crate) fn allocator(&self) -> Global {
+        self.alloc
+    }
+
+    /// The queue of a name, or `None` where there is none. The names of all queues rise.
+    pub(crate) fn get(&self, name: &Name4) -> Option<&TransQueue>
+        ensures value { option_copied result ≡ value_at name.now self.now }
+        ensures in_order { T (is_rising self.now) }
+    {
+        self.rows.get(name)
+    }
+
+    /// Puts a queue under a name, and answers the queue that stood there.
+    ///
+    /// Where memory is refused all queues stay as they were, and the one that was handed in goes. Only a
+    /// new name takes memory.
+    pub(crate) fn insert(
+        &mut self,
+        name: Name4,
+        queue: TransQueue,
+    ) -> Result<Option<TransQueue>, NoMemory>
+        ensures old { IfOk result (λ old. old ≡ value_at name self.old) }
+        ensures queues { OnOk result (self.new ≡ with_value name queue self.old) }
+        ensures new_name { OnErr result (value_at name self.old ≡ None) }
+        ensures err { OnErr result (self.new ≡ self.old) }
+    {
+        Ok(self.rows.insert(name, queue)?)
+    }
+
+    /// The queues with their names, in the order of the names.
+    pub(crate) fn iter(&self) -> Iter<'_, Name4, TransQueue>
+        ensures rest { result ≡ self.now }
+        ensures runs { ShowsInOrder (deref_pair {K = Name4} {X = TransQueue}) }
+        ensures fits { length self.now < 2 ^ 63 }
+    {
+        self.rows.iter()
+    }
+
+    /// Each queue with its name, its recovery and copies of its records, the first first, the queues in
+    /// the order of their names. Records that are marked as read aren't among them.
+    ///
+    /// An `Err` comes only where memory is refused.
+    pub(crate) fn listing(&self) -> Result<Items<(Name4, Recovery, Items<Record>)>, NoMemory>
+        ensures { IfOk result (λ queues. queues ≡ queues_listed self.now) }
+    {
+        let mut queues = Items::new(self.alloc);
+        for (name, queue) in &self.rows {
+            queues.push((*name, queue.recovery(), queue.listing()?))?;
+        }
+        Ok(queues)
+    }
+
+    // The queues one after the other, each put among those before it.
+    fn refill(&self) -> Result<Queues, NoMemory>
+        ensures { IfOk result (λ queues. queues ≡ refilled self.now) }
+    {
+        let mut queues = Queues::new(self.alloc);
+        for (name, original) in &self.rows {
+            queues.insert(*name, original.copy()?)?;
+        }
+        Ok(queues)
+    }
+
+    /// Queues of their own with the same names, recoveries, records and marks. It takes memory for each
+    /// record, and an `Err` comes only where memory is refused.
+    pub(crate) fn copy(&self) -> Result<Queues, NoMemory>
+        ensures { IfOk result (λ queues. queues ≡ self.now) }
+    {
+        let _rows = &self.rows;
+        self.refill()
+    }
+}
+
+/// A cell is a name with an end of the queue that has it, and an image a name with an image of that queue.
+impl Undoable for Queues {
+    ghost use Rattle.std.specs.Prelude.{Option, false, refl};
+    ghost use Rattle.cics_names.specs.Keyed.{Bytes};
+    ghost use Rattle.cics_images.specs.NamedValues.{named_content, named_cell, IsNamedReady};
+    ghost use Rattle.cics_images.specs.NamedValues.{named_undone, named_holds, named_swept};
+    ghost use Rattle.cics_images.specs.NamedValues.{NamedKeep, named_fixed};
+    ghost use Rattle.cics_images.specs.NamedLaws as laws;
+    ghost use Rattle.cics_transdata.specs.declared.queues.Recovery.{Recovery};
+    ghost use Rattle.cics_transdata.specs.Undo.{content_at as end_content, end_of, Leads as EndLeads};
+    ghost use Rattle.cics_transdata.specs.Undo.{IsReadyImage as IsEndReady, undone as queue_undone};
+    ghost use Rattle.cics_transdata.specs.Undo.{KeepsEnds};
+    ghost use Rattle.cics_transdata.specs.UndoLaws as ends;
+
+    type Image = QueueImage;
+
+    ghost content = { named_content end_content };
+
+    ghost cell = { named_cell end_of };
+
+    ghost leads = { λ i. EndLeads i.image };
+
+    ghost IsReady = { IsNamedReady IsEndReady };
+
+    ghost undone = { named_undone queue_undone };
+
+    ghost holds_back = { named_holds (λ q c. false) };
+
+    ghost swept = { named_swept (λ q c. q) };
+
+    ghost Keeps = { NamedKeep KeepsEnds };
+
+    ghost Fixed = { Bytes → Option Recovery };
+
+    ghost fixed = { named_fixed (λ q. q.kind) };
+
+    ghost determined = { λ i. ends.determined i.image };
+
+    ghost undone_leads = { laws.undone_leads end_content end_of EndLeads IsEndReady queue_undone ends.undone_leads };
+
+    ghost undone_keeps = { laws.undone_keeps KeepsEnds ends.keeps_itself ends.keeps_fewer end_of IsEndReady queue_undone ends.undone_keeps };
+
+    ghost undone_fixed = { laws.undone_fixed (λ q. q.kind) queue_undone ends.undone_fixed };
+
+    ghost undone_holds = { laws.undone_holds (λ q c. false) end_of queue_undone (λ q i c other. refl) };
+
+    ghost swept_content = { laws.swept_content end_content (λ q c. q) (λ q s c. refl) };
+
+    ghost swept_keeps = { laws.swept_keeps KeepsEnds ends.keeps_itself ends.keeps_fewer (λ q c. q) (λ q s. ends.keeps_itself _ q) };
+
+    ghost swept_fixed = { laws.swept_fixed (λ q. q.kind) (λ q c. q) (λ q s. refl) };
+
+    ghost swept_holds = { laws.swept_holds (λ q c. false) (λ q c. q) (λ q s c. refl) };
+
+    ghost keeps_content = { laws.keeps_content KeepsEnds end_content ends.keeps_content };
+
+    ghost keeps_ready = { laws.keeps_ready KeepsEnds end_of IsEndReady ends.keeps_ready };
+
+    ghost keeps_undone = { laws.keeps_undone KeepsEnds end_of IsEndReady ends.keeps_ready queue_undone ends.keeps_undone };
+
+    ghost keeps_itself = { laws.keeps_itself KeepsEnds ends.keeps_itself };
+
+    ghost keeps_fewer = { laws.keeps_fewer KeepsEnds ends.keeps_fewer };
+
+    ghost keeps_on = { laws.keeps_on KeepsEnds ends.keeps_on };
+
+    fn undo(&mut self, image: &mut QueueImage) {
+        match self.rows.get_mut(&image.name) {
+            Some(queue) => queue.undo(&mut image.image),
+            None => unreachable!(),
+        }
+    }
+
+    // Nothing is held back for an undo.
+    fn settle(&mut self, _image: QueueImage) {
+        let _rows = &self.rows;
+    }
+}
