@@ -137,6 +137,7 @@ impl TempStore {
         ensures undoable { IfOk result (λ answer.
             IfSome answer.image (IsTsImage self.old self.new name)) }
         ensures others { KeepsQueues (is_other name) self.old self.new }
+        ensures rising { T (is_rising self.old) }
         ensures err { OnErr result (self.new ≡ self.old) }
     {
         if let Some(row) = self.queues.get_mut(&name) {
@@ -161,6 +162,7 @@ impl TempStore {
             ≡ rewritten_image keep name.now (queue_at name.now self.old) number }
         ensures undoable { IfSome result.image (IsTsImage self.old self.new name.now) }
         ensures others { KeepsQueues (is_other name.now) self.old self.new }
+        ensures rising { T (is_rising self.old) }
     {
         let Some(row) = self.queues.get_mut(name) else {
             return not_written(Condition::Qiderr);
@@ -179,6 +181,7 @@ impl TempStore {
         ensures image { result.image ≡ deleted_image keep name.now (queue_at name.now self.old) }
         ensures undoable { IfSome result.image (IsTsImage self.old self.new name.now) }
         ensures others { KeepsQueues (is_other name.now) self.old self.new }
+        ensures rising { T (is_rising self.old) }
     {
         if keep {
             return self.take(name);
@@ -277,6 +280,7 @@ impl TempStore {
         ensures condition { result.condition ≡ delete_condition (queue_at name.now self.old) }
         ensures value { self.new ≡ ts_deleted true self.old name.now }
         ensures image { result.image ≡ deleted_image true name.now (queue_at name.now self.old) }
+        ensures rising { T (is_rising self.old) }
     {
         let alloc = self.alloc;
         let Some(row) = self.queues.get_mut(name) else {

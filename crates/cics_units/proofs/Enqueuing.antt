@@ -20,9 +20,9 @@ use Rattle.cics_history.specs.Isolation.{IsSound}
 use Rattle.cics_history.specs.Cells.{content}
 use Rattle.cics_history.specs.Undo.{IsUndoable}
 use Rattle.cics_history.specs.Ends.{AreMarked}
-use Rattle.cics_units.specs.StoreMatching.{StoreValue, shown_store}
+use Rattle.cics_units.specs.StoreMatching.{StoreValue, UndoableValue, shown_store}
 use Rattle.cics_units.specs.TableInPlace.{value_of, counted_before, counts_in}
-use Rattle.cics_units.specs.Parts.{UndoableValue, PartsValue, AreRoomier, AreEnqueued, ArePartsKept}
+use Rattle.cics_units.specs.Parts.{PartsValue, AreRoomier, AreEnqueued, ArePartsKept}
 use Rattle.cics_units.specs.KeptUnits.{state_shown, AreKept}
 use Rattle.cics_history.specs.declared.ops.Entry.{Entry}
 use Rattle.cics_history.specs.declared.ops.UnitState.{UnitState}

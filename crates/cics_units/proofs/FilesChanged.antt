@@ -12,9 +12,9 @@ use Rattle.cics_history.specs.Undo.{images_by}
 use Rattle.cics_history.specs.Records.{file_of}
 use Rattle.cics_history.specs.declared.ops.Op.{Op}
 use Rattle.cics_units.specs.FilesImages.{FilesImage, cell_of_image, files_hold, FilesKeep}
-use Rattle.cics_units.specs.StoreMatching.{StoreValue, AnyImage, shown_store, cell_of_any, any_holds, AnyKeep, AreKept}
+use Rattle.cics_units.specs.StoreMatching.{StoreValue, UndoableValue, AnyImage, shown_store, cell_of_any, any_holds, AnyKeep, AreKept}
 use Rattle.cics_units.specs.UnitImages.{kept_by, AreOthersKept}
-use Rattle.cics_units.specs.Parts.{UndoableValue, is_recoverable_in, leaves, leaves_any, of_files, AreImagesAfter, AreChanged}
+use Rattle.cics_units.specs.Parts.{is_recoverable_in, leaves, leaves_any, of_files, AreImagesAfter, AreChanged}
 use Rattle.cics_units.proofs.StoreInPlace.{AreReady}
 use Rattle.cics_units.proofs.MadeImages.{AreMadeInTurn, files_kept, ready_in_turn}
 

@@ -1,7 +1,7 @@
 -- Each call keeps the units: what their state says, what the files, the queues and the images hold, and what the table tells.
-use Rattle.std.proofs.Common.{◌≡◌, ◌≢◌, ℕ, ◌<◌, ◌≤◌, Bool, true, false, Option, Some, None, List, [], ◌∷◌, ◌++◌, length, length-append, zero, suc, refl, ap, sym, subst, ◌∙◌, arith}
-use Rattle.std.specs.Prelude.{◌&&◌, is_some, map, option_map, unwrap_or, IsTrue, fold}
-use Rattle.std.proofs.lemmas.Bool.{false≢true, true≢false, and_parts}
+use Rattle.std.proofs.Common.{◌≡◌, ◌≢◌, ℕ, ◌<◌, ◌≤◌, Bool, true, false, Option, Some, None, List, [], ◌∷◌, ◌++◌, length, length-append, zero, suc, refl, ap, sym, subst, ◌∙◌, inl, inr, ◌⊎◌, arith}
+use Rattle.std.specs.Prelude.{◌&&◌, if◌then◌else◌, MatchBool, is_some, IsSome, map, option_map, unwrap_or, IsTrue, fold}
+use Rattle.std.proofs.lemmas.Bool.{cases_Bool, false≢true, true≢false, and_parts}
 use Rattle.std.proofs.lemmas.List.{length-set}
 use Rattle.cics_names.specs.Keyed.{Bytes, Map, value_at, has_key, is_same, is_key_in}
 use Rattle.cics_names.specs.KeyedLaws.{is_same-eq}
@@ -13,14 +13,15 @@ use Rattle.cics_ksds.specs.Files.{FileValue, key_of as file_key_of, fits_file}
 use Rattle.cics_enqueue.specs.Resources.{Table, released}
 use Rattle.cics_tempstor.specs.Queues.{places_of}
 use Rattle.cics_tempstor.specs.Places.{AreInOrder}
-use Rattle.cics_transdata.specs.Trans.{TransState, queue_of}
+use Rattle.cics_transdata.specs.Trans.{TransState, is_logical, queue_of}
+use Rattle.cics_images.specs.declared.stores.StoreImage.TheVariants.{TempStorage}
 use Rattle.cics_history.specs.Openings.{OpeningState, FileOpening, QueueOpening, is_key, file_recoverable, queue_logical, HasLawfulKeys, IsOpeningInOrder}
 use Rattle.cics_history.specs.Store.{Store, apply, is_recoverable, initial_store}
 use Rattle.cics_history.specs.History.{is_open, kept}
 use Rattle.cics_history.specs.Holding.{UnitsState, store_of, awaited}
 use Rattle.cics_history.specs.Execution.{unit_or_next, outcomes_with, next_after, entered, state_of, after_execution, after_unlock, after_end, read_at, is_fit_for, is_ready_op}
 use Rattle.cics_history.specs.Headline.{IsHeadline, beginning}
-use Rattle.cics_history.specs.Cells.{IsCanonical}
+use Rattle.cics_history.specs.Cells.{IsCanonical, Writing}
 use Rattle.cics_history.specs.Events.{may_act, is_live}
 use Rattle.cics_history.specs.Isolation.{IsSound}
 use Rattle.cics_history.specs.Records.{is_file_op, file_of, key_of}
@@ -31,25 +32,30 @@ use Rattle.cics_history.specs.declared.ops.UnitState.{UnitState}
 use Rattle.cics_history.specs.declared.ops.UnitState.TheVariants.{Open, Committed, BackedOut}
 use Rattle.cics_units.specs.RegionFiles.{IsThere, opened_files, file_of as file_of_opening}
 use Rattle.cics_units.specs.Listings.{recovery_in}
-use Rattle.cics_units.specs.FilesImages.{files_hold}
-use Rattle.cics_units.specs.StoreMatching.{StoreValue, AnyImage, shown_store, cell_of_any, AnyLeads, any_content, IsAnyReady, any_undone, any_swept, any_holds, AnyKeep, AreKept as KeptChanges}
+use Rattle.cics_units.specs.FilesImages.{files_hold, definitions_of}
+use Rattle.cics_units.specs.StoreMatching.{StoreValue, UndoableValue, AnyImage, shown_store, cell_of_any, AnyLeads, any_content, IsAnyReady, any_undone, any_swept, any_holds, AnyKeep, AreKept as KeptChanges}
 use Rattle.cics_units.specs.StoreInPlace.{IsUnmarked, AreInPlace}
 use Rattle.cics_units.specs.StoreEnds.{any_fixed, ends_settled, IsEnded}
 use Rattle.cics_units.specs.UnitImages.{kept_none, kept_by, AreOthersKept, AreHeldForImages}
 use Rattle.cics_units.specs.UnitImagesLaws.{held_after_change}
 use Rattle.cics_units.specs.TableInPlace.{table_executed, table_unlocked}
-use Rattle.cics_units.specs.Parts.{UndoableValue, is_recoverable_in, IsRecordOf, IsFitOp, AreImagesAfter, AreChanged, leaves_any, of_files}
+use Rattle.cics_units.specs.Parts.{is_recoverable_in, IsRecordOf, IsFitOp, AreImagesAfter, AreChanged, leaves_any, of_files, told_in}
+use Rattle.cics_units.specs.QueueChanges.{is_trans, is_temp, queue_of as queue_on, in_queue, with_image, IsTransExecuted, IsTempExecuted, AreQueuesChanged, IsQueueExecuted, told_of, HaveRecoveries}
+use Rattle.cics_units.specs.StorePlaces.{HavePlaces}
+use Rattle.cics_units.specs.Awaiting.{is_logical_in}
 use Rattle.cics_units.specs.RegionQueues.{opened_queue, opened_queues}
 use Rattle.cics_units.specs.KeptUnits.{AreKept, AreAsDefined, opened_store}
 use Rattle.cics_history.proofs.Stores.{same_store, apply-canonical, replay-canonical, initial-canonical, value_at_each}
-use Rattle.cics_history.proofs.States.{beginning-IsSound, execution-IsSound, unlock-IsSound, end-IsSound, agrees_of}
+use Rattle.cics_history.proofs.States.{beginning-IsSound, execution-IsSound, unlock-IsSound, end-IsSound, agrees_of, acting_open}
 use Rattle.cics_units.proofs.FileChanges.{kept_definitions}
 use Rattle.cics_units.proofs.HeldSums.{recoverable_op}
 use Rattle.cics_units.proofs.StoreInPlace.{shows_history, beginning_in_place}
 use Rattle.cics_units.proofs.StoreExecuted.{file_executed_kept, file_executed_plain}
+use Rattle.cics_units.proofs.QueuesChanged.{queues_changed, places_changed}
+use Rattle.cics_units.proofs.QueueClauses.{end_by_table}
 use Rattle.cics_units.proofs.StoreEnded.{backed_out_ended}
 use Rattle.cics_units.proofs.EndsFirst.{ends_first_ended, ends_first_shows}
-use Rattle.cics_units.proofs.TableInPlace.{table_begins, table_executed_of, table_unlocked_of, table_ended_of}
+use Rattle.cics_units.proofs.TableInPlace.{table_begins, table_entered, table_unlocked_of, table_ended_of}
 
 -- nothing is not something
 none_some : {A : Type 0} {x : A} → None ≡ Some x → ⊥
@@ -143,6 +149,17 @@ module _ (s : UnitsState) (st : UndoableValue) (t : Table) (is : AreKept s st t)
       by None e = absurd (none_some (sym e))
       by (Some y) e = cc
 
+  -- it is LOGICAL just where it is defined so
+  pub logical_alike : (q : Bytes) → queue_logical s.opening q ≡ is_logical_in (value_at q st.store.trans_data)
+  logical_alike q = by (value_at q s.opening.queues) refl (value_at q st.store.trans_data) (is.defined.queues q)
+    where
+      by : (b : Option QueueOpening) → value_at q s.opening.queues ≡ b → (a : Option TransState) →
+          option_map (λ t. t.kind) a ≡ option_map (λ queue. queue.recovery) b → queue_logical s.opening q ≡ is_logical_in a
+      by None e None same = rw e refl
+      by None e (Some x) same = absurd (none_some (sym same))
+      by (Some y) e None same = absurd (none_some same)
+      by (Some y) e (Some x) same = let kind : x.kind ≡ y.recovery = cc in sym (ap is_logical kind ∙ sym (rw e refl))
+
   -- a file that is defined is there
   defined_there : (f : Bytes) → has_key f s.opening.files ≡ true → IsThere (value_at f st.store.files)
   defined_there f has = by (value_at f st.store.files) (value_at f s.opening.files) (same_definition f) has
@@ -165,19 +182,28 @@ module _ (s : UnitsState) (st : UndoableValue) (t : Table) (is : AreKept s st t)
           let both = and_parts (fits_file y.definition r) (is_same (file_key_of y.definition r) k) fits in
           subst (λ z. IsTrue (fits_file z r) × (file_key_of z r ≡ k)) (sym d) (both.0, is_same-eq (file_key_of y.definition r) k both.1)
 
-  -- a command that is ready can be executed on the files
-  pub ready_fits : (u : Option ℕ) (op : Op) → is_file_op op ≡ true → is_ready_op s u op ≡ true → IsFitOp st.store.files op
-  ready_fits u (Write f k r) file ready = record_of_defined f k r ready
-  ready_fits u (Rewrite f k r) file ready = record_of_defined f k r (and_parts (is_fit_for (value_at f s.opening.files) k r) _ ready).0
-  ready_fits u (Delete f k) file ready = defined_there f ready
-  ready_fits u (DeleteGeneric f p) file ready = defined_there f ready
-  ready_fits u (ReadUpdate f k) file ready = defined_there f (and_parts (has_key f s.opening.files) _ ready).0
-  ready_fits u (TsWrite q d) file ready = absurd (false≢true file)
-  ready_fits u (TsRewrite q n d) file ready = absurd (false≢true file)
-  ready_fits u (TsDelete q) file ready = absurd (false≢true file)
-  ready_fits u (TdWrite q d) file ready = absurd (false≢true file)
-  ready_fits u (TdRead q) file ready = absurd (false≢true file)
-  ready_fits u (TdDelete q) file ready = absurd (false≢true file)
+  -- a queue that is defined is there
+  defined_queue : (q : Bytes) → has_key q s.opening.queues ≡ true → IsSome (value_at q st.store.trans_data)
+  defined_queue q has = by (value_at q st.store.trans_data) (value_at q s.opening.queues) (is.defined.queues q) has
+    where
+      by : (a : Option TransState) (b : Option QueueOpening) → option_map (λ t. t.kind) a ≡ option_map (λ queue. queue.recovery) b → is_some b ≡ true → IsSome a
+      by None None e has = absurd (false≢true has)
+      by None (Some y) e has = absurd (none_some e)
+      by (Some x) b e has = refl
+
+  -- a command that is ready can be executed on the files and queues
+  pub ready_fits : (u : Option ℕ) (op : Op) → is_ready_op s u op ≡ true → IsFitOp st.store op
+  ready_fits u (Write f k r) ready = record_of_defined f k r ready
+  ready_fits u (Rewrite f k r) ready = record_of_defined f k r (and_parts (is_fit_for (value_at f s.opening.files) k r) _ ready).0
+  ready_fits u (Delete f k) ready = defined_there f ready
+  ready_fits u (DeleteGeneric f p) ready = defined_there f ready
+  ready_fits u (ReadUpdate f k) ready = defined_there f (and_parts (has_key f s.opening.files) _ ready).0
+  ready_fits u (TsWrite q d) ready = tt
+  ready_fits u (TsRewrite q n d) ready = tt
+  ready_fits u (TsDelete q) ready = tt
+  ready_fits u (TdWrite q d) ready = defined_queue q (and_parts (has_key q s.opening.queues) _ ready).0
+  ready_fits u (TdRead q) ready = defined_queue q ready
+  ready_fits u (TdDelete q) ready = defined_queue q ready
 
   -- a file's key is lawful
   pub lawful_there : (f : Bytes) (x : FileValue) → value_at f st.store.files ≡ Some x → is_key x.definition ≡ true
@@ -285,9 +311,9 @@ module _ (o : OpeningState) (in_order : IsOpeningInOrder o) (lawful_keys : HasLa
   pub kept_begins : (m : StoreValue) → m ≡ opened_store o → AreKept (beginning o) (record { store = m; images = [] }) []
   kept_begins m opened = subst (λ x. AreKept (beginning o) (record { store = x; images = [] }) []) (sym opened) opened_kept
 
--- ---- A command on a file
+-- ---- A command
 -- no command on a file moves a NEXT place
-pub next_kept : (t : Store) (op : Op) (c : Condition) (next : Map ℕ) → is_file_op op ≡ true → next_after t op c next ≡ next
+next_kept : (t : Store) (op : Op) (c : Condition) (next : Map ℕ) → is_file_op op ≡ true → next_after t op c next ≡ next
 next_kept t (Write f k r) c next file = refl
 next_kept t (Rewrite f k r) c next file = refl
 next_kept t (Delete f k) c next file = refl
@@ -300,62 +326,158 @@ next_kept t (TdWrite q d) c next file = absurd (false≢true file)
 next_kept t (TdRead q) c next file = absurd (false≢true file)
 next_kept t (TdDelete q) c next file = absurd (false≢true file)
 
-module _ (s : UnitsState) (st new : UndoableValue) (t : Table) (is : AreKept s st t) (u : Option ℕ) (op : Op) (acts : may_act s u ≡ true) (file : is_file_op op ≡ true)
+-- a command that is on no file is on a queue
+on_queue : (op : Op) → is_file_op op ≡ false → (is_trans op ≡ true) ⊎ (is_temp op ≡ true)
+on_queue (TsWrite q d) other = inr refl
+on_queue (TsRewrite q n d) other = inr refl
+on_queue (TsDelete q) other = inr refl
+on_queue (TdWrite q d) other = inl refl
+on_queue (TdRead q) other = inl refl
+on_queue (TdDelete q) other = inl refl
+on_queue (Write f k r) other = absurd (true≢false other)
+on_queue (Rewrite f k r) other = absurd (true≢false other)
+on_queue (Delete f k) other = absurd (true≢false other)
+on_queue (DeleteGeneric f p) other = absurd (true≢false other)
+on_queue (ReadUpdate f k) other = absurd (true≢false other)
+
+-- with one image more, if there is one, a list names what it named
+image_named : (o : Option AnyImage) (is : List AnyImage) (c : List ℕ) → is_unnamed cell_of_any is c ≡ false → is_unnamed cell_of_any (with_image o is) c ≡ false
+image_named None is c named = named
+image_named (Some i) is c named = either_false (is_other (cell_of_any i) c) (is_unnamed cell_of_any is c) named
+
+module _ (old new : UndoableValue) (unit : ℕ) (op : Op) (told : Bool) (answer : Answer) (done : AreQueuesChanged old new unit op told answer) where
+  -- a command on a queue leaves every other unit what it keeps
+  queue_apart : AreOthersKept old.images new.images unit
+  queue_apart = elim (cases_Bool (is_trans op)) [
+    | inl trans ↦ let made : IsTransExecuted old new unit op told answer = rw trans at done in made.apart
+    | inr temp ↦ let made : IsTempExecuted old new unit op told answer = rw temp at done in made.apart
+  ]
+
+  -- and its unit an image of each cell that it kept one of
+  queue_named : (c : List ℕ) → is_unnamed cell_of_any (kept_by old.images unit) c ≡ false → is_unnamed cell_of_any (kept_by new.images unit) c ≡ false
+  queue_named c named = elim (cases_Bool (is_trans op)) [
+    | inl trans ↦
+        let made : IsTransExecuted old new unit op told answer = rw trans at done in
+        ap (λ is. is_unnamed cell_of_any is c) made.newest ∙ image_named (option_map (in_queue (queue_on op)) made.image) (kept_by old.images unit) c named
+    | inr temp ↦
+        let made : IsTempExecuted old new unit op told answer = rw temp at done in
+        ap (λ is. is_unnamed cell_of_any is c) made.newest ∙ image_named (option_map TempStorage made.image) (kept_by old.images unit) c named
+  ]
+
+module _ (s : UnitsState) (st new : UndoableValue) (t : Table) (is : AreKept s st t) (u : Option ℕ) (op : Op) (acts : may_act s u ≡ true)
     (free : awaited s u op ≡ None) where
   -- what the command answers
-  abbrev pub answer : Answer
+  abbrev answer : Answer
   answer = (apply (store_of s) op).answer
 
   -- it need not wait, and is entered with its answer
   pub is_entered : after_execution s u op ≡ entered s u op answer
   is_entered = ap (state_of s u op) free
 
-  module _ (ready : is_ready_op s u op ≡ true) (short : length (key_of op) ≤ 255)
-      (changed : AreChanged st new (unit_or_next u s.outcomes) op) (room : unit_or_next u s.outcomes < length st.images) where
-    -- every other unit keeps the images that it kept
-    apart : (w : ℕ) → w ≢ unit_or_next u s.outcomes → kept_by new.images w ≡ kept_by st.images w
-    apart w other = ap (λ o. (unwrap_or o kept_none).newest_first) (changed.apart.rows w other)
-
-    -- the command is recoverable where its file is
-    rec : (b : Bool) → is_recoverable_in (value_at (file_of op) st.store.files) ≡ b → is_recoverable s.opening op ≡ b
-    rec b e = recoverable_op s.opening op file ∙ sym (recoverable_alike s st t is (file_of op)) ∙ e
-
-    -- all is in place, with the images of its changes where they are recoverable
-    place_then : (r : Bool) → is_recoverable_in (value_at (file_of op) st.store.files) ≡ r → AreImagesAfter st new (unit_or_next u s.outcomes) op r →
-        AreInPlace (after_execution s u op) new.store new.images
-    place_then false er images =
-        file_executed_plain s st.store new.store st.images new.images u op is.sound is.place acts free file is.canonical.records changed.shown changed.others changed.trans_data apart (rec false er) images
-    place_then true er images =
-        file_executed_kept s st.store new.store st.images new.images u op is.sound is.place acts free file is.canonical.records changed.shown changed.others changed.trans_data apart (rec true er)
-        (of_files images.images) images.made images.newest images.ready
-
-    -- files and queues are as they were defined
-    defined_then : AreAsDefined s.opening new.store
-    defined_then = record {
-      files = λ f. ap (λ d. d f) (kept_definitions (λ c. leaves_any op (file_cell c)) st.store.files new.store.files changed.others.files) ∙ is.defined.files f;
-      queues = λ q. ap (λ queues. option_map (λ t. t.kind) (value_at q queues)) changed.trans_data ∙ is.defined.queues q;
-    }
-
-    -- an executed command on a file keeps all
-    pub kept_executed : AreKept (entered s u op answer) new (table_executed s.opening (unit_or_next u s.outcomes) op answer.condition s.reads t)
-    kept_executed = record {
+  module _ (ready : is_ready_op s u op ≡ true) (short : length (key_of op) ≤ 255) (room : unit_or_next u s.outcomes < length st.images) where
+    -- a command that leaves all in place keeps all
+    kept_left : AreInPlace (after_execution s u op) new.store new.images → shown_store new.store ≡ (apply (shown_store st.store) op).store → AreAsDefined s.opening new.store →
+        HavePlaces (entered s u op answer) new.store.temp_storage → AreOthersKept st.images new.images (unit_or_next u s.outcomes) →
+        ((c : List ℕ) → is_unnamed cell_of_any (kept_by new.images (unit_or_next u s.outcomes)) c ≡ true → any_holds new.store c ≡ true → any_holds st.store c ≡ true) →
+        ((c : List ℕ) → is_unnamed cell_of_any (kept_by st.images (unit_or_next u s.outcomes)) c ≡ false →
+        is_unnamed cell_of_any (kept_by new.images (unit_or_next u s.outcomes)) c ≡ false) →
+        AreKept (entered s u op answer) new (table_executed s.opening (unit_or_next u s.outcomes) op answer.condition s.reads t)
+    kept_left place shown defined places apart held more = record {
       in_order = is.in_order;
       lawful_keys = is.lawful_keys;
       sound = subst IsSound is_entered (execution-IsSound s u op is.sound acts);
-      canonical = subst IsCanonical (sym changed.shown) (apply-canonical (shown_store st.store) op is.canonical);
-      place = subst (λ n. AreInPlace n new.store new.images) is_entered (place_then _ refl changed.images);
-      defined = defined_then;
-      rows = subst AreInOrder (sym changed.temp_storage) is.rows;
-      places = next_kept (store_of s) op answer.condition s.next file ∙ is.places ∙ ap places_of (sym changed.temp_storage);
-      table = table_executed_of s t u op answer is.sound is.table acts file free ready short;
-      held = held_after_change any_holds cell_of_any st.store new.store st.images new.images (unit_or_next u s.outcomes) changed.apart changed.held
-          (more_named st new (unit_or_next u s.outcomes) op _ changed.images) is.held;
+      canonical = subst IsCanonical (sym shown) (apply-canonical (shown_store st.store) op is.canonical);
+      place = subst (λ n. AreInPlace n new.store new.images) is_entered place;
+      defined = defined;
+      rows = places.in_order;
+      places = sym places.places;
+      table = table_entered s t u op answer is.sound is.table acts free ready short;
+      held = held_after_change any_holds cell_of_any st.store new.store st.images new.images (unit_or_next u s.outcomes) apart held more is.held;
       begun = begun_by u room;
     }
       where
         begun_by : (u : Option ℕ) → unit_or_next u s.outcomes < length st.images → length (outcomes_with u s.outcomes) ≤ length new.images
-        begun_by None room = omega (arith, length-append s.outcomes (Open ∷ []), changed.apart.count, room)
-        begun_by (Some v) room = omega (arith, is.begun, changed.apart.count)
+        begun_by None room = omega (arith, length-append s.outcomes (Open ∷ []), apart.count, room)
+        begun_by (Some v) room = omega (arith, is.begun, apart.count)
+
+    -- ---- on a file
+    module _ (file : is_file_op op ≡ true) (changed : AreChanged st new (unit_or_next u s.outcomes) op) where
+      -- every other unit keeps the images that it kept
+      apart : (w : ℕ) → w ≢ unit_or_next u s.outcomes → kept_by new.images w ≡ kept_by st.images w
+      apart w other = ap (λ o. (unwrap_or o kept_none).newest_first) (changed.apart.rows w other)
+
+      -- the command is recoverable where its file is
+      rec : (b : Bool) → is_recoverable_in (value_at (file_of op) st.store.files) ≡ b → is_recoverable s.opening op ≡ b
+      rec b e = recoverable_op s.opening op file ∙ sym (recoverable_alike s st t is (file_of op)) ∙ e
+
+      -- all is in place, with the images of its changes where they are recoverable
+      place_then : (r : Bool) → is_recoverable_in (value_at (file_of op) st.store.files) ≡ r → AreImagesAfter st new (unit_or_next u s.outcomes) op r →
+          AreInPlace (after_execution s u op) new.store new.images
+      place_then false er images =
+          file_executed_plain s st.store new.store st.images new.images u op is.sound is.place acts free file is.canonical.records changed.shown changed.others changed.trans_data apart (rec false er) images
+      place_then true er images =
+          file_executed_kept s st.store new.store st.images new.images u op is.sound is.place acts free file is.canonical.records changed.shown changed.others changed.trans_data apart (rec true er)
+          (of_files images.images) images.made images.newest images.ready
+
+      -- so it keeps all
+      file_kept : AreKept (entered s u op answer) new (table_executed s.opening (unit_or_next u s.outcomes) op answer.condition s.reads t)
+      file_kept = kept_left (place_then _ refl changed.images) changed.shown (record {
+        files = λ f. ap (λ d. d f) (kept_definitions (λ c. leaves_any op (file_cell c)) st.store.files new.store.files changed.others.files) ∙ is.defined.files f;
+        queues = λ q. ap (λ queues. option_map (λ t. t.kind) (value_at q queues)) changed.trans_data ∙ is.defined.queues q;
+      })
+          (record {
+            in_order = subst AreInOrder (sym changed.temp_storage) is.rows;
+            places = ap places_of changed.temp_storage ∙ sym is.places ∙ sym (next_kept (store_of s) op answer.condition s.next file);
+          })
+          changed.apart changed.held (more_named st new (unit_or_next u s.outcomes) op _ changed.images)
+
+    -- ---- on a queue
+    module _ (other : is_file_op op ≡ false) (given : Answer)
+        (changed : AreQueuesChanged st new (unit_or_next u s.outcomes) op (told_in t (unit_or_next u s.outcomes) op (is_recoverable s.opening op)) given) where
+      -- the table tells what the history does
+      told_alike : told_in t (unit_or_next u s.outcomes) op (is_recoverable s.opening op) ≡ told_of s (unit_or_next u s.outcomes) op
+      told_alike = λ i. if is_trans op then end_by_table s t is.table (unit_or_next u s.outcomes) (acting_open s u acts) (queue_on op) Writing i else is_recoverable s.opening op
+
+      told_so : AreQueuesChanged st new (unit_or_next u s.outcomes) op (told_of s (unit_or_next u s.outcomes) op) given
+      told_so = subst (λ told. AreQueuesChanged st new (unit_or_next u s.outcomes) op told given) told_alike changed
+
+      -- so the queue is changed as the history has it
+      queue_done : IsQueueExecuted s st new u op given
+      queue_done = queues_changed s st new u op given is.sound is.place is.defined.queues acts free (on_queue op other) told_so
+
+      queue_places : HavePlaces (after_execution s u op) new.store.temp_storage
+      queue_places = places_changed s st new u op given is.sound is.place is.defined.queues acts free (record { in_order = is.rows; places = sym is.places })
+          (ap (λ (m : Store). m.ts) (sym (store_is s st t is))) told_so
+
+      -- and keeps all
+      queue_kept : AreKept (entered s u op answer) new (table_executed s.opening (unit_or_next u s.outcomes) op answer.condition s.reads t)
+      queue_kept = kept_left queue_done.place queue_done.store (record {
+        files = λ f. ap (λ files. definitions_of files f) queue_done.files ∙ is.defined.files f;
+        queues = subst (λ n. HaveRecoveries n.opening new.store) is_entered queue_done.recoveries;
+      })
+          (subst (λ n. HavePlaces n new.store.temp_storage) is_entered queue_places)
+          (queue_apart st new (unit_or_next u s.outcomes) op _ given changed) queue_done.held (queue_named st new (unit_or_next u s.outcomes) op _ given changed)
+
+    -- ---- on either
+    module _ (given : Answer)
+        (changed : MatchBool (is_file_op op) (AreChanged st new (unit_or_next u s.outcomes) op)
+        (AreQueuesChanged st new (unit_or_next u s.outcomes) op (told_in t (unit_or_next u s.outcomes) op (is_recoverable s.opening op)) given)) where
+      -- an executed command keeps all
+      pub kept_executed : AreKept (entered s u op answer) new (table_executed s.opening (unit_or_next u s.outcomes) op answer.condition s.reads t)
+      kept_executed = elim (cases_Bool (is_file_op op)) [
+        | inl file ↦ file_kept file (rw file at changed)
+        | inr other ↦ queue_kept other given (rw other at changed)
+      ]
+
+      -- and is answered as the history has it, where a command on a file is answered as the files have it
+      pub answered_right : (is_file_op op ≡ true → given ≡ (apply (shown_store st.store) op).answer) → given ≡ answer
+      answered_right of_file = by_store ∙ ap (λ m. (apply m op).answer) (store_is s st t is)
+        where
+          by_store : given ≡ (apply (shown_store st.store) op).answer
+          by_store = elim (cases_Bool (is_file_op op)) [
+            | inl file ↦ of_file file
+            | inr other ↦ (queue_done other given (rw other at changed)).answered
+          ]
 
 -- ---- UNLOCK
 module _ (s : UnitsState) (st : UndoableValue) (t : Table) (is : AreKept s st t) (u : ℕ) (f : Bytes) (live : is_live s u ≡ true) where

@@ -11,6 +11,7 @@ mod Unpadded
 mod FileChanges
 mod StoredImages
 mod PartChanges
+mod QueueParts
 pub mod RefusedCommands
 pub mod OpenReads
 pub mod HeldPlaces
@@ -26,6 +27,7 @@ pub mod PlainOpening
 pub mod PlainTrace
 pub mod OpeningStore
 pub mod TableValues
+pub mod GivenRecords
 mod KeptUnits
 mod ShownUnits
 mod Enqueuing
@@ -48,6 +50,7 @@ pub mod QueueClauses
 pub mod StorePlaces
 pub mod QueuesHeld
 pub mod StoreCalls
+mod TsReadings
 pub mod FileCommands
 pub mod StoreEnds
 pub mod StoreSettled

@@ -19,9 +19,9 @@ use Rattle.cics_history.specs.Cells.{Writing}
 use Rattle.cics_history.specs.Events.{may_act}
 use Rattle.cics_history.specs.Isolation.{IsSound}
 use Rattle.cics_units.specs.UnitImages.{kept_none, kept_by, AreOthersKept}
-use Rattle.cics_units.specs.StoreMatching.{StoreValue, shown_store, cell_of_any, any_holds}
+use Rattle.cics_units.specs.StoreMatching.{StoreValue, UndoableValue, shown_store, cell_of_any, any_holds}
 use Rattle.cics_units.specs.StoreInPlace.{AreInPlace, holds_end}
-use Rattle.cics_units.specs.QueueChanges.{is_trans, is_temp, queue_of, rows_after, with_image, KeptStore, IsTransExecuted, IsTempExecuted, AreQueuesChanged, told_of, HaveRecoveries, IsQueueExecuted}
+use Rattle.cics_units.specs.QueueChanges.{is_trans, is_temp, queue_of, rows_after, with_image, IsTransExecuted, IsTempExecuted, AreQueuesChanged, told_of, HaveRecoveries, IsQueueExecuted}
 use Rattle.cics_units.specs.StorePlaces.{HavePlaces}
 use Rattle.cics_units.proofs.StoreExecution.{opening_stays}
 use Rattle.cics_units.proofs.TransChanges.{trans_answered}
@@ -40,10 +40,10 @@ no_rows (TdDelete q) is rows = refl
 no_rows _ is rows = absurd (false≢true is)
 
 -- a unit that keeps its row keeps its images
-others_kept : (old new : KeptStore) (unit : ℕ) → AreOthersKept old.images new.images unit → (w : ℕ) → w ≢ unit → kept_by new.images w ≡ kept_by old.images w
+others_kept : (old new : UndoableValue) (unit : ℕ) → AreOthersKept old.images new.images unit → (w : ℕ) → w ≢ unit → kept_by new.images w ≡ kept_by old.images w
 others_kept old new unit apart w other = ap (λ o. (unwrap_or o kept_none).newest_first) (apart.rows w other)
 
-module _ (s : UnitsState) (old new : KeptStore) (u : Option ℕ) (op : Op) (answer : Answer) (sound : IsSound s) (place : AreInPlace s old.store old.images)
+module _ (s : UnitsState) (old new : UndoableValue) (u : Option ℕ) (op : Op) (answer : Answer) (sound : IsSound s) (place : AreInPlace s old.store old.images)
     (recoveries : HaveRecoveries s.opening old.store) (acts : may_act s u ≡ true) (free : awaited s u op ≡ None) where
   -- the unit that executes it
   abbrev unit : ℕ

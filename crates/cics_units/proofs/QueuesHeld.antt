@@ -1,6 +1,6 @@
 -- What a command on a queue holds back: an empty row of temporary storage, where its unit keeps an image of the queue, and nothing
 -- of transient data.
-use Rattle.std.specs.Prelude.{◌≡◌, zero, suc, Bool, true, false, not, ◌&&◌, ◌-◌, nat_lt, Option, Some, None, is_some, option_map, length, slice_set, List, [], ◌∷◌, ◌++◌}
+use Rattle.std.specs.Prelude.{◌≡◌, ℕ, zero, suc, Bool, true, false, not, ◌&&◌, ◌-◌, nat_lt, Option, Some, None, is_some, option_map, length, slice_set, List, [], ◌∷◌, ◌++◌}
 use Rattle.std.proofs.Common.{sym, ap, ◌∙◌, subst, refl, inl, inr}
 use Rattle.std.proofs.lemmas.Bool.{cases_Bool, false≢true, and_parts}
 use Rattle.std.specs.Str.{bytes_eq}
@@ -14,7 +14,7 @@ use Rattle.cics_images.specs.StoreCells.{temp_cell, with_temp_storage, with_tran
 use Rattle.cics_images.specs.declared.stores.StoreImage.TheVariants.{TempStorage}
 use Rattle.cics_tempstor.specs.declared.images.TsImage.{TsImage}
 use Rattle.cics_tempstor.specs.declared.queue_rows.Row.{Row}
-use Rattle.cics_tempstor.specs.Queues.{most_items, is_there, has_item, row_at, queue_at, empty_row, place_of}
+use Rattle.cics_tempstor.specs.Queues.{most_items, is_there, has_item, row_at, queue_at, empty_row, place_of, after_read_item}
 use Rattle.cics_tempstor.specs.Undo.{holds_row}
 use Rattle.cics_tempstor.specs.UndoLaws.{queue_at-with_value_same, queue_at-with_value_other, queue_at-without_other, there_more, is_there-set, has_item-there}
 use Rattle.cics_transdata.specs.Trans.{TransState}
@@ -99,6 +99,20 @@ temp_held m op keep is (zero ∷ c) unnamed held = held
 temp_held m op keep is (suc zero ∷ c) unnamed held = rows_held op keep m.temp_storage is c unnamed held
 temp_held m op keep is (suc (suc zero) ∷ c) unnamed held = held
 temp_held m op keep is (suc (suc (suc n)) ∷ c) unnamed held = held
+
+-- READQ TS holds back nothing more
+pub read_held : (m : StoreValue) (q : Bytes) (n : ℕ) (c : images.Cell) → any_holds (with_temp_storage m (after_read_item m.temp_storage q n)) c ≡ true →
+    any_holds m c ≡ true
+read_held m q n [] held = held
+read_held m q n (zero ∷ c) held = held
+read_held m q n (suc zero ∷ c) held = elim (cases_Bool (has_item (queue_at q m.temp_storage) n)) [
+  | inl there ↦
+      let stays = has_item-there (queue_at q m.temp_storage) n there in
+      put_held m.temp_storage q (record { items = queue_at q m.temp_storage; next = n }) stays c (rw there at held)
+  | inr absent ↦ rw absent at held
+]
+read_held m q n (suc (suc zero) ∷ c) held = held
+read_held m q n (suc (suc (suc k)) ∷ c) held = held
 
 -- of transient data nothing is held back
 none_held : (queues : Map TransState) (c : images.Cell) → named_holds (λ (t : TransState) (c : images.Cell). false) queues c ≡ false

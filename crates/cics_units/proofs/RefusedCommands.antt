@@ -18,8 +18,8 @@ use Rattle.cics_ksds.proofs.UnderPrefix.{prefix_itself}
 use Rattle.cics_history.proofs.Generic.{normal-generic}
 use Rattle.cics_history.proofs.Joining.{apply-answer, read_only}
 use Rattle.cics_units.specs.FilesImagesLaws as files
-use Rattle.cics_units.specs.StoreMatching.{shown_store, AreKept}
-use Rattle.cics_units.specs.Parts.{UndoableValue, is_recoverable_in, AreImagesAfter, AreChanged, leaves, leaves_any}
+use Rattle.cics_units.specs.StoreMatching.{UndoableValue, shown_store, AreKept}
+use Rattle.cics_units.specs.Parts.{is_recoverable_in, AreImagesAfter, AreChanged, leaves, leaves_any}
 use Rattle.cics_units.proofs.MadeImages.{images_by-one, files_kept}
 
 -- it leaves the store

@@ -1,6 +1,6 @@
 -- What the units show after each call is what the call makes of their state.
 use Rattle.std.proofs.Common.{◌≡◌, ℕ, ◌<◌, ◌≤◌, Bool, true, false, not, Option, Some, None, List, [], ◌∷◌, ◌++◌, length, refl, ap, sym, subst, ◌∙◌, arith}
-use Rattle.std.specs.Prelude.{if◌then◌else◌, T, map, IfSome, filter, slice_set, ◌==◌, All}
+use Rattle.std.specs.Prelude.{if◌then◌else◌, MatchBool, T, map, IfSome, filter, slice_set, ◌==◌, All}
 use Rattle.std.specs.Option.{option_copied}
 use Rattle.std.proofs.Common.{Bor}
 use Rattle.std.proofs.lemmas.List.Elements.{All-head, All-tail}
@@ -21,18 +21,19 @@ use Rattle.cics_names.specs.Keyed.{Bytes, Map, value_at}
 use Rattle.cics_ksds.specs.Files.{FileValue}
 use Rattle.cics_tempstor.specs.Queues.{places_of}
 use Rattle.cics_enqueue.specs.Resources.{Table, released}
-use Rattle.cics_enqueue.specs.declared.resources.Resource.{Resource}
 use Rattle.cics_history.specs.Openings.{OpeningState, file_recoverable}
 use Rattle.cics_history.specs.Store.{apply, is_normal, is_recoverable}
 use Rattle.cics_history.specs.Holding.{UnitsState, UpdateRead, store_of, awaited}
 use Rattle.cics_history.specs.Execution.{execution, done_of, state_of, has_read, IsOpenUnit, IsOpenOrNone, unit_or_next, outcomes_with, reads_after, is_read_of, read_at, entered, after_execution, after_unlock, after_end, is_ready_op}
 use Rattle.cics_history.specs.Headline.{beginning}
 use Rattle.cics_history.specs.Events.{is_live, may_act}
-use Rattle.cics_units.specs.StoreMatching.{StoreValue, shown_store}
+use Rattle.cics_units.specs.StoreMatching.{StoreValue, UndoableValue, shown_store}
 use Rattle.cics_history.specs.Records.{is_file_op, file_of, key_of}
-use Rattle.cics_units.specs.Uses.{uses_if, holder_over_all}
+use Rattle.cics_units.specs.Uses.{uses_if, AreFreeFor}
+use Rattle.cics_units.specs.Awaiting.{is_writer, unit_in_way}
+use Rattle.cics_units.specs.QueueChanges.{queue_of as queue_on, AreQueuesChanged}
 use Rattle.cics_units.specs.TableInPlace.{is_read, counts_in, table_changed, table_executed, table_given_back}
-use Rattle.cics_units.specs.Parts.{UndoableValue, PartsValue, AreExecuted, ArePartsKept, is_recoverable_in, AreChanged}
+use Rattle.cics_units.specs.Parts.{PartsValue, AreExecuted, ArePartsKept, is_recoverable_in, AreChanged, told_in, given_record}
 use Rattle.cics_units.specs.KeptUnits.{state_shown, AreKept}
 use Rattle.cics_history.specs.declared.ops.Op.{Op}
 use Rattle.cics_history.specs.declared.ops.Op.TheVariants.{Write, Rewrite, Delete, DeleteGeneric, ReadUpdate, TsWrite, TsRewrite, TsDelete, TdWrite, TdRead, TdDelete}
@@ -40,9 +41,10 @@ use Rattle.cics_history.specs.declared.ops.Answer.{Answer}
 use Rattle.cics_history.specs.declared.ops.Done.TheVariants.{Answered, MustWait}
 use Rattle.cics_history.specs.declared.ops.Entry.{Entry}
 use Rattle.cics_history.specs.declared.ops.UnitState.{UnitState}
-use Rattle.cics_units.proofs.HeldSums.{recoverable_op}
-use Rattle.cics_units.proofs.UsesInTable.{awaited-uses_file}
-use Rattle.cics_units.proofs.KeptUnits.{kept_roomier, recoverable_alike, store_is, is_entered, kept_executed, kept_unlocked}
+use Rattle.cics_units.proofs.UsesInTable.{uses_alike, uses_free, awaited_open}
+use Rattle.cics_units.proofs.Awaiting.{awaited-in_place}
+use Rattle.cics_units.proofs.GivenRecords.{content_given}
+use Rattle.cics_units.proofs.KeptUnits.{kept_roomier, recoverable_alike, logical_alike, is_entered, kept_executed, answered_right, kept_unlocked}
 
 -- a unit that is open has begun and not ended
 pub live_of : (s : UnitsState) (u : ℕ) → IsOpenUnit s u → is_live s u ≡ true
@@ -91,22 +93,23 @@ module _ (o : OpeningState) (trace : List Entry) (outcomes : List UnitState) (p 
     pub ended_kept : AreKept (state_shown o trace (slice_set outcomes u outcome) new) new.stores new.table
     ended_kept = subst (λ s. AreKept s new.stores new.table) (sym ended_state) (subst (AreKept (after_end before u outcome) new.stores) (sym table) kept)
 
-  -- ---- A command on a file
-  module _ (u : Option ℕ) (op : Op) (acts : may_act before u ≡ true) (file : is_file_op op ≡ true) (free : awaited before u op ≡ None)
-      (ready : is_ready_op before u op ≡ true) (short : length (key_of op) ≤ 255)
-      (changed : AreChanged p.stores new.stores (unit_or_next u outcomes) op) (room : unit_or_next u outcomes < length p.stores.images)
-      (answer : Answer) (right : answer ≡ (apply (shown_store p.stores.store) op).answer)
+  -- ---- A command
+  module _ (u : Option ℕ) (op : Op) (acts : may_act before u ≡ true) (free : awaited before u op ≡ None) (ready : is_ready_op before u op ≡ true)
+      (short : length (key_of op) ≤ 255) (room : unit_or_next u outcomes < length p.stores.images) (answer : Answer)
+      (changed : MatchBool (is_file_op op) (AreChanged p.stores new.stores (unit_or_next u outcomes) op)
+      (AreQueuesChanged p.stores new.stores (unit_or_next u outcomes) op (told_in p.table (unit_or_next u outcomes) op (is_recoverable o op)) answer))
+      (of_file : is_file_op op ≡ true → answer ≡ (apply (shown_store p.stores.store) op).answer)
       (table : new.table ≡ table_executed o (unit_or_next u outcomes) op answer.condition p.reads p.table)
       (reads : new.reads ≡ reads_after (unit_or_next u outcomes) op answer.condition p.reads) where
-    told : answer ≡ (apply (store_of before) op).answer
-    told = right ∙ ap (λ s. (apply s op).answer) (store_is before p.stores p.table is)
+    pub told : answer ≡ (apply (store_of before) op).answer
+    told = answered_right before p.stores new.stores p.table is u op acts free ready short room answer changed of_file
 
     abbrev entry : Entry
     entry = record { unit = unit_or_next u outcomes; op = op; answer = answer }
 
     kept_then : AreKept (entered before u op answer) new.stores (table_executed o (unit_or_next u outcomes) op answer.condition p.reads p.table)
     kept_then = subst (λ a. AreKept (entered before u op a) new.stores (table_executed o (unit_or_next u outcomes) op a.condition p.reads p.table)) (sym told)
-        (kept_executed before p.stores new.stores p.table is u op acts file free ready short changed room)
+        (kept_executed before p.stores new.stores p.table is u op acts free ready short room answer changed)
 
     entered_state : state_shown o (trace ++ entry ∷ []) (outcomes_with u outcomes) new ≡ entered before u op answer
     entered_state = λ i. record (entered before u op answer) {
@@ -116,7 +119,7 @@ module _ (o : OpeningState) (trace : List Entry) (outcomes : List UnitState) (p 
     }
 
     pub executed_state : state_shown o (trace ++ entry ∷ []) (outcomes_with u outcomes) new ≡ after_execution before u op
-    executed_state = entered_state ∙ ap (entered before u op) told ∙ sym (is_entered before p.stores new.stores p.table is u op acts file free)
+    executed_state = entered_state ∙ ap (entered before u op) told ∙ sym (is_entered before p.stores new.stores p.table is u op acts free)
 
     pub executed_shown : AreKept (state_shown o (trace ++ entry ∷ []) (outcomes_with u outcomes) new) new.stores new.table
     executed_shown = subst (λ s. AreKept s new.stores new.table) (sym entered_state) (subst (AreKept (entered before u op answer) new.stores) (sym table) kept_then)
@@ -191,25 +194,32 @@ module _ (o : OpeningState) (trace : List Entry) (outcomes : List UnitState) (p 
       (subst (λ (m : StoreValue). AreKept (shows entries outs p.reads p.table (places_of m.temp_storage)) new.stores p.table) (sym same.stores.store)
       (rw (entries_same, outs_same) (kept_roomier state_before p.stores p.table is new.stores same.stores.store same.stores.kept same.stores.longer))))
 
-  module _ (u : Option ℕ) (op : Op) (file : is_file_op op ≡ true) where
-    abbrev pub asked : List Resource
-    asked = uses_if (is_recoverable_in (value_at (file_of op) p.stores.store.files)) op
+  module _ (u : Option ℕ) (op : Op) (acts : may_act state_before u ≡ true) where
+    -- the unit in a command's way, as the table and the queues tell
+    abbrev pub in_way : Option ℕ
+    in_way = unit_in_way p.table p.stores.store.trans_data (is_recoverable o op) u (unit_or_next u outcomes) op
 
-    -- a command waits for the other unit that the table has in the way of what it uses
-    awaited_is : awaited state_before u op ≡ holder_over_all asked u p.table
-    awaited_is =
-        awaited-uses_file state_before p.table is.sound is.table u op file
-        ∙ ap (λ b. holder_over_all (uses_if b op) u p.table)
-        (recoverable_op o op file ∙ sym (recoverable_alike state_before p.stores p.table is (file_of op)))
+    -- is the one that it waits for
+    pub awaited_is : awaited state_before u op ≡ in_way
+    awaited_is = awaited-in_place state_before p.table is.sound is.table u acts p.stores.store p.stores.images is.place (logical_alike state_before p.stores p.table is) op
 
-    pub waits : (h : ℕ) → holder_over_all asked u p.table ≡ Some h → MustWait h ≡ execution state_before u op
+    pub waits : (h : ℕ) → in_way ≡ Some h → MustWait h ≡ execution state_before u op
     waits h held = sym (ap (done_of state_before u op) (awaited_is ∙ held))
 
-    pub waits_unchanged : (h : ℕ) → holder_over_all asked u p.table ≡ Some h → state_before ≡ after_execution state_before u op
+    pub waits_unchanged : (h : ℕ) → in_way ≡ Some h → state_before ≡ after_execution state_before u op
     waits_unchanged h held = sym (ap (state_of state_before u op) (awaited_is ∙ held))
 
-    module _ (acts : may_act state_before u ≡ true) (none : holder_over_all asked u p.table ≡ None) (ready : is_ready_op state_before u op ≡ true) (short : length (key_of op) ≤ 255)
-        (answer : Answer) (right : answer ≡ (apply (shown_store p.stores.store) op).answer) (done : AreExecuted p new (unit_or_next u outcomes) op answer.condition) where
+    -- and is open
+    pub waits_open : (h : ℕ) → in_way ≡ Some h → IsOpenUnit state_before h
+    waits_open h held = awaited_open state_before p.table is.sound is.table u op h (awaited_is ∙ held)
+
+    -- where there is none, what it uses is free for the unit that acts
+    pub free_way : in_way ≡ None → AreFreeFor p.table (uses_if (is_recoverable o op) op) (unit_or_next u outcomes)
+    free_way none = subst (λ rs. AreFreeFor p.table rs (unit_or_next u outcomes)) (sym (uses_alike o op))
+        (uses_free state_before p.table is.sound is.table u op (awaited_is ∙ none))
+
+    module _ (none : in_way ≡ None) (ready : is_ready_op state_before u op ≡ true) (short : length (key_of op) ≤ 255)
+        (answer : Answer) (done : AreExecuted p new (unit_or_next u outcomes) op (is_recoverable o op) answer) where
       free : awaited state_before u op ≡ None
       free = awaited_is ∙ none
 
@@ -223,28 +233,45 @@ module _ (o : OpeningState) (trace : List Entry) (outcomes : List UnitState) (p 
       roomy_kept : AreKept (state_shown o trace outcomes roomy_parts) done.roomy p.table
       roomy_kept = subst (λ s. AreKept s done.roomy p.table) (sym roomy_state) (kept_roomier state_before p.stores p.table is done.roomy done.room.store done.room.kept done.room.longer)
 
+      -- so the command may go on where the room is
+      roomy_acts : may_act (state_shown o trace outcomes roomy_parts) u ≡ true
+      roomy_acts = ap (λ s. may_act s u) roomy_state ∙ acts
+
+      roomy_free : awaited (state_shown o trace outcomes roomy_parts) u op ≡ None
+      roomy_free = ap (λ s. awaited s u op) roomy_state ∙ free
+
+      roomy_ready : is_ready_op (state_shown o trace outcomes roomy_parts) u op ≡ true
+      roomy_ready = ap (λ s. is_ready_op s u op) roomy_state ∙ ready
+
       table_is : new.table ≡ table_executed o (unit_or_next u outcomes) op answer.condition p.reads p.table
       table_is = done.table ∙ by (is_normal answer.condition)
         where
           by : (b : Bool) →
-              (if b then table_changed (is_recoverable_in (value_at (file_of op) p.stores.store.files)) (unit_or_next u outcomes) op p.reads p.table else p.table)
+              (if b then table_changed (is_recoverable o op) (unit_or_next u outcomes) op p.reads p.table else p.table)
               ≡ (if not b then p.table else table_changed (is_recoverable o op) (unit_or_next u outcomes) op p.reads p.table)
-          by true = ap (λ r. table_changed r (unit_or_next u outcomes) op p.reads p.table)
-              (recoverable_alike state_before p.stores p.table is (file_of op) ∙ sym (recoverable_op o op file))
+          by true = refl
           by false = refl
 
-      right_then : answer ≡ (apply (shown_store done.roomy.store) op).answer
-      right_then = right ∙ ap (λ m. (apply (shown_store m) op).answer) (sym done.room.store)
+      right_then : is_file_op op ≡ true → answer ≡ (apply (shown_store done.roomy.store) op).answer
+      right_then file = done.answered file ∙ ap (λ m. (apply (shown_store m) op).answer) (sym done.room.store)
+
+      -- the record of the answer is the one that was looked up
+      pub record_given : answer.content ≡ given_record p.stores.store (is_writer p.table (unit_or_next u outcomes) (queue_on op)) op
+      record_given = content_given done.roomy new.stores p.table (unit_or_next u outcomes) op (is_recoverable o op) answer done.changed right_then
+          ∙ ap (λ m. given_record m (is_writer p.table (unit_or_next u outcomes) (queue_on op)) op) done.room.store
 
       pub parts_state : state_shown o (trace ++ record { unit = unit_or_next u outcomes; op = op; answer = answer } ∷ []) (outcomes_with u outcomes) new ≡ after_execution state_before u op
-      parts_state = executed_state o trace outcomes roomy_parts new roomy_kept u op acts file free ready short done.changed done.begun answer right_then table_is done.reads
+      parts_state = executed_state o trace outcomes roomy_parts new roomy_kept u op roomy_acts roomy_free roomy_ready short done.begun answer done.changed right_then table_is done.reads
           ∙ ap (λ s. after_execution s u op) roomy_state
 
       pub parts_kept : AreKept (state_shown o (trace ++ record { unit = unit_or_next u outcomes; op = op; answer = answer } ∷ []) (outcomes_with u outcomes) new) new.stores new.table
-      parts_kept = executed_shown o trace outcomes roomy_parts new roomy_kept u op acts file free ready short done.changed done.begun answer right_then table_is done.reads
+      parts_kept = executed_shown o trace outcomes roomy_parts new roomy_kept u op roomy_acts roomy_free roomy_ready short done.begun answer done.changed right_then table_is done.reads
 
       pub answered : Answered (unit_or_next u outcomes) answer ≡ execution state_before u op
-      answered = ap (Answered (unit_or_next u outcomes)) (right ∙ ap (λ s. (apply s op).answer) (store_is state_before p.stores p.table is)) ∙ sym (ap (done_of state_before u op) free)
+      answered = ap (Answered (unit_or_next u outcomes))
+          (told o trace outcomes roomy_parts new roomy_kept u op roomy_acts roomy_free roomy_ready short done.begun answer done.changed right_then table_is done.reads
+          ∙ ap (λ s. (apply (store_of s) op).answer) roomy_state)
+          ∙ sym (ap (done_of state_before u op) free)
 
 -- READ UPDATE is ready where the unit has no record of the file read for update
 pub none_open_of : (s : UnitsState) (u : Option ℕ) (op : Op) → ((v : ℕ) → list_any (λ r. r.unit == v) s.reads ≡ true → v < length s.outcomes) → is_ready_op s u op ≡ true → is_read op ≡ true → read_at s.reads (unit_or_next u s.outcomes) (file_of op) ≡ None

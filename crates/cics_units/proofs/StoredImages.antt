@@ -5,8 +5,8 @@ use Rattle.cics_names.specs.Keyed.{Bytes}
 use Rattle.cics_images.specs.declared.stores.StoreImage.TheVariants.{File}
 use Rattle.cics_ksds.specs.Undo.{ImageValue}
 use Rattle.cics_units.specs.FilesImages.{FilesImage}
-use Rattle.cics_units.specs.StoreMatching.{AnyImage}
-use Rattle.cics_units.specs.Parts.{UndoableValue, with_stored, of_files}
+use Rattle.cics_units.specs.StoreMatching.{UndoableValue, AnyImage}
+use Rattle.cics_units.specs.Parts.{with_stored, of_files}
 use Rattle.cics_units.specs.UnitImages.{kept_by, room_of, AreOthersKept}
 
 -- what is stored on images lies before them

@@ -303,12 +303,6 @@ table_after s t u op i k acts free ready short =
     subst (λ h. IsTableOf (state_of s u op h) (table_executed s.opening (unit_or_next u s.outcomes) op (apply (store_of s) op).answer.condition s.reads t))
     (sym free) (table_entered s t u op (apply (store_of s) op).answer i k acts free ready short)
 
-pub table_executed_of : (s : UnitsState) (t : Table) (u : Option ℕ) (op : Op) (a : Answer) → IsSound s → IsTableOf s t →
-    may_act s u ≡ true → is_file_op op ≡ true → awaited s u op ≡ None → is_ready_op s u op ≡ true →
-    length (key_of op) ≤ 255 →
-    IsTableOf (entered s u op a) (table_executed s.opening (unit_or_next u s.outcomes) op a.condition s.reads t)
-table_executed_of s t u op a i k acts file free ready short = table_entered s t u op a i k acts free ready short
-
 -- ---- UNLOCK
 
 pub table_unlocked_of : (s : UnitsState) (t : Table) (u : ℕ) (f : Bytes) → IsSound s → IsTableOf s t → is_live s u ≡ true →

@@ -1,16 +1,15 @@
 -- What a command uses, and who in the table is in its way.
-use Rattle.std.proofs.Common.{◌≡◌, ℕ, Bool, true, false, ◌||◌, Option, Some, None, List, [], ◌∷◌, refl, ap, sym, ◌∙◌}
+use Rattle.std.proofs.Common.{◌≡◌, ℕ, Bool, true, false, ◌&&◌, ◌||◌, Option, Some, None, List, [], ◌∷◌, refl, ap, sym, ◌∙◌}
 use Rattle.std.specs.Prelude.{if◌then◌else◌}
 use Rattle.std.specs.List.{list_any}
-use Rattle.std.proofs.lemmas.Bool.{false≢true}
 use Rattle.cics_names.specs.declared.conditions.Condition.{Condition}
 use Rattle.cics_enqueue.specs.Resources.{Table, is_user, holder_over}
 use Rattle.cics_enqueue.specs.declared.resources.Resource.{Resource}
-use Rattle.cics_history.specs.Openings.{OpeningState}
+use Rattle.cics_enqueue.specs.declared.resources.Resource.TheVariants.{TdWrite as WritingEnd}
+use Rattle.cics_history.specs.Openings.{OpeningState, queue_logical}
 use Rattle.cics_history.specs.Store.{is_normal, is_recoverable}
-use Rattle.cics_history.specs.Holding.{UnitsState, UpdateRead, held_table, first_some, holder_among, uses_of, awaited, writer_awaited}
+use Rattle.cics_history.specs.Holding.{UnitsState, UpdateRead, held_table, first_holder, first_some, committed_for, is_nothing, holder_among, uses_of, awaited, writer_awaited}
 use Rattle.cics_history.specs.Isolation.{IsSound}
-use Rattle.cics_history.specs.Records.{is_file_op}
 use Rattle.cics_history.specs.Execution.{unit_or_next, IsOpenUnit}
 use Rattle.cics_history.specs.declared.ops.Op.{Op}
 use Rattle.cics_history.specs.declared.ops.Op.TheVariants.{Write, Rewrite, Delete, DeleteGeneric, ReadUpdate, TsWrite, TsRewrite, TsDelete, TdWrite, TdRead, TdDelete}
@@ -73,11 +72,6 @@ first_none (Some v) b none = let wrong : Some v ≡ None = none in absurd (some_
     some_none : Some v ≡ None → ⊥
     some_none e = cc
 
--- the first of two of which the second isn't there
-first_alone : (h : Option ℕ) → first_some h None ≡ h
-first_alone None = refl
-first_alone (Some v) = refl
-
 -- of two the first that is there is one of them
 first_either : (P : ℕ → Type 0) (a b : Option ℕ) (h : ℕ) → first_some a b ≡ Some h → (a ≡ Some h → P h) → (b ≡ Some h → P h) → P h
 first_either P None b h is one other = other is
@@ -111,26 +105,31 @@ module _ (s : UnitsState) (t : Table) (i : IsSound s) (k : IsTableOf s t) where
       awaited s u op ≡ first_some (holder_over_all (uses_of s.opening op) u t) (writer_awaited s u op)
   awaited-uses u op = λ j. first_some (table_holder_all u (uses_of s.opening op) j) (writer_awaited s u op)
 
-  -- a command on a file waits for no writer
-  pub awaited-uses_file : (u : Option ℕ) (op : Op) → is_file_op op ≡ true →
-      awaited s u op ≡ holder_over_all (uses_if (is_recoverable s.opening op) op) u t
-  awaited-uses_file u op file =
-      awaited-uses u op ∙ ap (first_some (holder_over_all (uses_of s.opening op) u t)) (no_writer op file)
-      ∙ first_alone (holder_over_all (uses_of s.opening op) u t)
-      ∙ ap (λ rs. holder_over_all rs u t) (sym (uses_alike s.opening op))
+  -- the unit that it waits for is open
+  pub awaited_open : (u : Option ℕ) (op : Op) (h : ℕ) → awaited s u op ≡ Some h → IsOpenUnit s h
+  awaited_open u op h found =
+      first_either (IsOpenUnit s) (holder_over_all (uses_of s.opening op) u t) (writer_awaited s u op) h (sym (awaited-uses u op) ∙ found)
+      (holder_open_all u (uses_of s.opening op) h) (writer_open op)
     where
-      no_writer : (op : Op) → is_file_op op ≡ true → writer_awaited s u op ≡ None
-      no_writer (TdRead q) file = absurd (false≢true file)
-      no_writer (Write f k r) file = refl
-      no_writer (Rewrite f k r) file = refl
-      no_writer (Delete f k) file = refl
-      no_writer (DeleteGeneric f p) file = refl
-      no_writer (ReadUpdate f k) file = refl
-      no_writer (TsWrite q d) file = refl
-      no_writer (TsRewrite q n d) file = refl
-      no_writer (TsDelete q) file = refl
-      no_writer (TdWrite q d) file = refl
-      no_writer (TdDelete q) file = refl
+      none_some : None ≡ Some h → ⊥
+      none_some e = cc
+
+      writer_open : (op : Op) → writer_awaited s u op ≡ Some h → IsOpenUnit s h
+      writer_open (TdRead q) found = elim (queue_logical s.opening q && is_nothing (committed_for s u q)) as
+          (λ b. (if b then first_holder (held_table s) u (WritingEnd q) else None) ≡ Some h → IsOpenUnit s h) [
+            | true ↦ λ writes. holder_open s t i k u (WritingEnd q) h (sym (table_holder s t i k u (WritingEnd q)) ∙ writes)
+            | false ↦ λ none. absurd (none_some none)
+          ] found
+      writer_open (Write f k r) none = absurd (none_some none)
+      writer_open (Rewrite f k r) none = absurd (none_some none)
+      writer_open (Delete f k) none = absurd (none_some none)
+      writer_open (DeleteGeneric f p) none = absurd (none_some none)
+      writer_open (ReadUpdate f k) none = absurd (none_some none)
+      writer_open (TsWrite q d) none = absurd (none_some none)
+      writer_open (TsRewrite q n d) none = absurd (none_some none)
+      writer_open (TsDelete q) none = absurd (none_some none)
+      writer_open (TdWrite q d) none = absurd (none_some none)
+      writer_open (TdDelete q) none = absurd (none_some none)
 
   -- where it awaits none, all that it uses is free for the unit that acts
   pub uses_free : (u : Option ℕ) (op : Op) → awaited s u op ≡ None → AreFreeFor t (uses_of s.opening op) (unit_or_next u s.outcomes)

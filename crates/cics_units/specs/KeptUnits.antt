@@ -13,9 +13,9 @@ use Rattle.cics_units.specs.RegionQueues.{opened_queues}
 use Rattle.cics_units.specs.FilesImages.{definitions_of}
 use Rattle.cics_units.specs.UnitImages.{AreHeldForImages}
 use Rattle.cics_units.specs.StoreInPlace.{AreInPlace}
-use Rattle.cics_units.specs.StoreMatching.{StoreValue, shown_store, any_holds, cell_of_any}
+use Rattle.cics_units.specs.StoreMatching.{StoreValue, UndoableValue, shown_store, any_holds, cell_of_any}
 use Rattle.cics_units.specs.TableInPlace.{counts_in, IsTableOf}
-use Rattle.cics_units.specs.Parts.{UndoableValue, PartsValue}
+use Rattle.cics_units.specs.Parts.{PartsValue}
 use Rattle.cics_history.specs.declared.ops.Entry.{Entry}
 use Rattle.cics_history.specs.declared.ops.UnitState.{UnitState}
 

@@ -1,13 +1,14 @@
 -- Recovery: the files and queues as they stand with the images that open units keep, and what an executed command on a
 -- file makes of them.
-use Rattle.std.specs.Prelude.{◌≡◌, ℕ, ◌<◌, ◌≤◌, Bool, true, false, not, ◌&&◌, IsTrue, if◌then◌else◌, length, Option, Some, None, List, [], ◌∷◌, ◌++◌, map}
+use Rattle.std.specs.Prelude.{◌≡◌, ℕ, ◌<◌, ◌≤◌, Bool, true, false, not, ◌&&◌, IsTrue, if◌then◌else◌, MatchBool, length, IsSome, Option, Some, None, List, [], ◌∷◌, ◌++◌, map}
 use Rattle.cics_names.specs.Keyed.{Bytes, Map, value_at, is_same}
-use Rattle.cics_images.specs.Cells.{Cell, Kept, is_other, is_unnamed, AreReadyInTurn}
+use Rattle.cics_images.specs.Cells.{Cell, is_other, is_unnamed, AreReadyInTurn}
 use Rattle.cics_images.specs.NamedValues.{split}
 use Rattle.cics_images.specs.StoreCells.{by_part}
 use Rattle.cics_images.specs.declared.stores.StoreImage.TheVariants.{File}
 use Rattle.cics_ksds.specs.Files.{FileValue, fits_file}
 use Rattle.cics_enqueue.specs.Resources.{Table, taken}
+use Rattle.cics_transdata.specs.Trans.{TransState, first_of}
 use Rattle.cics_ksds.specs.Undo.{ImageValue}
 use Rattle.cics_ksds.specs.Prefixes.{has_prefix, under}
 use Rattle.cics_history.specs.Store.{apply, is_normal}
@@ -16,21 +17,18 @@ use Rattle.cics_history.specs.Holding.{UpdateRead}
 use Rattle.cics_history.specs.Undo.{images_by}
 use Rattle.cics_units.specs.RegionFiles.{IsThere, key_in}
 use Rattle.cics_units.specs.FilesImages.{cell_of}
-use Rattle.cics_units.specs.StoreMatching.{StoreValue, AnyImage, shown_store, cell_of_any, IsAnyReady, any_undone, any_holds, AnyKeep, AreKept}
+use Rattle.cics_units.specs.StoreMatching.{StoreValue, AnyImage, UndoableValue, shown_store, cell_of_any, IsAnyReady, any_undone, any_holds, AnyKeep, AreKept}
 use Rattle.cics_units.specs.StoreEnds.{ends_settled}
+use Rattle.cics_units.specs.QueueChanges.{is_trans, queue_of, AreQueuesChanged}
+use Rattle.cics_units.specs.Awaiting.{is_writer}
 use Rattle.cics_units.specs.UnitImages.{kept_by, AreOthersKept}
-use Rattle.cics_history.specs.Records.{file_of, key_of}
+use Rattle.cics_history.specs.Records.{is_file_op, file_of, key_of}
 use Rattle.cics_units.specs.TableInPlace.{value_of, table_changed}
 use Rattle.cics_history.specs.Execution.{reads_after}
-use Rattle.cics_names.specs.declared.conditions.Condition.{Condition}
+use Rattle.cics_history.specs.declared.ops.Answer.{Answer}
 use Rattle.cics_history.specs.declared.ops.Op.{Op}
 use Rattle.cics_history.specs.declared.ops.Op.TheVariants.{Write, Rewrite, Delete, DeleteGeneric, ReadUpdate, TsWrite, TsRewrite, TsDelete, TdWrite, TdRead, TdDelete}
 use Rattle.cics_units.specs.FilesImages.{FilesImage}
-
--- the files and queues as they stand, and the images of each unit by its number
-pub record UndoableValue : Type 0 where
-  pub store : StoreValue
-  pub images : List (Kept AnyImage)
 
 -- the store and the images, who holds what, and the open update reads
 pub record PartsValue : Type 0 where
@@ -58,19 +56,45 @@ abbrev pub IsRecordOf : Option FileValue → Bytes → Bytes → Type 0
 IsRecordOf None k r = ⊥
 IsRecordOf (Some f) k r = IsTrue (fits_file f.definition r) × (key_in f r ≡ k)
 
--- a command acts on a file that is there, and what it writes fits
-abbrev pub IsFitOp : Map FileValue → Op → Type 0
-IsFitOp files (Write f k r) = IsRecordOf (value_at f files) k r
-IsFitOp files (Rewrite f k r) = IsRecordOf (value_at f files) k r
-IsFitOp files (Delete f k) = IsThere (value_at f files)
-IsFitOp files (DeleteGeneric f p) = IsThere (value_at f files)
-IsFitOp files (ReadUpdate f k) = IsThere (value_at f files)
-IsFitOp files (TsWrite q d) = ⊥
-IsFitOp files (TsRewrite q n d) = ⊥
-IsFitOp files (TsDelete q) = ⊥
-IsFitOp files (TdWrite q d) = ⊥
-IsFitOp files (TdRead q) = ⊥
-IsFitOp files (TdDelete q) = ⊥
+-- a command on a file acts on one that is there, and what it writes fits
+abbrev pub IsFitFileOp : Map FileValue → Op → Type 0
+IsFitFileOp files (Write f k r) = IsRecordOf (value_at f files) k r
+IsFitFileOp files (Rewrite f k r) = IsRecordOf (value_at f files) k r
+IsFitFileOp files (Delete f k) = IsThere (value_at f files)
+IsFitFileOp files (DeleteGeneric f p) = IsThere (value_at f files)
+IsFitFileOp files (ReadUpdate f k) = IsThere (value_at f files)
+IsFitFileOp files (TsWrite q d) = ⊥
+IsFitFileOp files (TsRewrite q n d) = ⊥
+IsFitFileOp files (TsDelete q) = ⊥
+IsFitFileOp files (TdWrite q d) = ⊥
+IsFitFileOp files (TdRead q) = ⊥
+IsFitFileOp files (TdDelete q) = ⊥
+
+-- a command acts on what is there, and what it writes fits
+abbrev pub IsFitOp : StoreValue → Op → Type 0
+IsFitOp s (TsWrite q d) = Unit {0}
+IsFitOp s (TsRewrite q n d) = Unit {0}
+IsFitOp s (TsDelete q) = Unit {0}
+IsFitOp s (TdWrite q d) = IsSome (value_at q s.trans_data)
+IsFitOp s (TdRead q) = IsSome (value_at q s.trans_data)
+IsFitOp s (TdDelete q) = IsSome (value_at q s.trans_data)
+IsFitOp s op = IsFitFileOp s.files op
+
+-- what a command on a queue is told: of a transient data queue, whether its unit holds the writing end, of a temporary
+-- storage queue, whether it is recoverable
+abbrev pub told_in : Table → ℕ → Op → Bool → Bool
+told_in t unit op recoverable = if is_trans op then is_writer t unit (queue_of op) else recoverable
+
+-- the first record that a unit may read, of a queue that is there
+abbrev pub first_in : Option TransState → Bool → Option Bytes
+first_in None own = None
+first_in (Some queue) own = first_of queue own
+
+-- the record that a command is answered with: READ UPDATE's, and READQ TD's, which may be one that the unit wrote itself
+abbrev pub given_record : StoreValue → Bool → Op → Option Bytes
+given_record s own (ReadUpdate f k) = (apply (shown_store s) (ReadUpdate f k)).answer.content
+given_record s own (TdRead q) = first_in (value_at q s.trans_data) own
+given_record s own _ = None
 
 -- the image of a change of a file, if there is one
 abbrev pub image_if : Bytes → Option ImageValue → List FilesImage
@@ -143,15 +167,17 @@ pub record AreChanged (old new : UndoableValue) (unit : ℕ) (op : Op) : Type 0 
   -- a key has an empty place only where it had one, or where the unit keeps an image of it
   pub held : IsHeldAsBefore old.store new.store (kept_by new.images unit)
 
--- a unit has executed a command that is answered with this condition: the store, the table and the reads are those that it
--- leaves
-pub record AreExecuted (old new : PartsValue) (unit : ℕ) (op : Op) (c : Condition) : Type 0 where
+-- a unit has executed a command with this answer: the store, the table and the reads are those that it leaves; of a file the
+-- answer is the one that its records give
+pub record AreExecuted (old new : PartsValue) (unit : ℕ) (op : Op) (recoverable : Bool) (answer : Answer) : Type 0 where
   pub roomy : UndoableValue
   pub room : AreRoomier old.stores roomy
   pub begun : unit < length roomy.images
-  pub changed : AreChanged roomy new.stores unit op
-  pub table : new.table ≡ (if is_normal c then table_changed (is_recoverable_in (value_at (file_of op) old.stores.store.files)) unit op old.reads old.table else old.table)
-  pub reads : new.reads ≡ reads_after unit op c old.reads
+  pub changed : MatchBool (is_file_op op) (AreChanged roomy new.stores unit op)
+      (AreQueuesChanged roomy new.stores unit op (told_in old.table unit op recoverable) answer)
+  pub answered : is_file_op op ≡ true → answer ≡ (apply (shown_store old.stores.store) op).answer
+  pub table : new.table ≡ (if is_normal answer.condition then table_changed recoverable unit op old.reads old.table else old.table)
+  pub reads : new.reads ≡ reads_after unit op answer.condition old.reads
 
 -- a unit has taken a value, and has its list of images
 pub record AreEnqueued (old new : PartsValue) (unit : ℕ) (value : Bytes) : Type 0 where

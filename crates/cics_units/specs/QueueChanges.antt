@@ -4,7 +4,7 @@ use Rattle.std.specs.Prelude.{◌≡◌, ℕ, Bool, true, false, not, if◌then�
 use Rattle.std.specs.Str.{bytes_eq}
 use Rattle.cics_names.specs.Keyed.{Bytes, Map, value_at, with_value, is_same, is_rising}
 use Rattle.cics_names.specs.declared.conditions.Condition.TheVariants.{Normal}
-use Rattle.cics_images.specs.Cells.{Kept, is_other, is_unnamed}
+use Rattle.cics_images.specs.Cells.{is_other, is_unnamed}
 use Rattle.cics_images.specs.Cells as images
 use Rattle.cics_images.specs.NamedValues.{split, named_fixed}
 use Rattle.cics_images.specs.StoreCells.{by_part, with_temp_storage, with_trans_data}
@@ -27,7 +27,8 @@ use Rattle.cics_history.specs.declared.ops.Op.{Op}
 use Rattle.cics_history.specs.declared.ops.Op.TheVariants.{TsWrite, TsRewrite, TsDelete, TdWrite, TdRead, TdDelete}
 use Rattle.cics_history.specs.Cells.{End, Reading, Writing}
 use Rattle.cics_units.specs.UnitImages.{kept_by, AreOthersKept}
-use Rattle.cics_units.specs.StoreMatching.{StoreValue, AnyImage, shown_store, end_cell, cell_of_any, any_holds}
+use Rattle.cics_units.specs.RegionQueues.{queue_image}
+use Rattle.cics_units.specs.StoreMatching.{StoreValue, AnyImage, QueuesImage, UndoableValue, shown_store, end_cell, cell_of_any, any_holds}
 use Rattle.cics_units.specs.StoreInPlace.{AreInPlace, holds_end}
 
 -- ---- which queue a command is on
@@ -112,6 +113,18 @@ pub record IsTransChange (op : Op) (own : Bool) (old new : TransState) (image : 
   pub others : KeepsEnds (is_left_end op own) old new
   pub without_image : IfNone image (KeepsEnds (λ _. true) old new)
 
+-- a command has changed one of the transient data queues and given an image: that queue is changed, and the others are as they
+-- were
+pub record IsOneChanged (op : Op) (own : Bool) (old new : Map TransState) (image : Option QueuesImage) : Type 0 where
+  pub before : TransState
+  pub after : TransState
+  pub taken : Option TdImage
+  pub rising : T (is_rising old)
+  pub there : value_at (queue_of op) old ≡ Some before
+  pub change : IsTransChange op own before after taken
+  pub value : new ≡ with_value (queue_of op) after old
+  pub given : image ≡ option_map (queue_image (queue_of op)) taken
+
 -- ---- temporary storage: `keep` says that the queue is recoverable, and so a change gives an image
 -- the rows after a command
 abbrev pub rows_after : Op → Bool → Map Row → Map Row
@@ -153,14 +166,9 @@ with_image (Some i) is = i ∷ is
 abbrev pub in_queue : Bytes → TdImage → AnyImage
 in_queue q i = TransData (record { name = q; image = i })
 
--- files and queues as they stand, and the images of each unit by its number
-pub record KeptStore : Type 0 where
-  pub store : StoreValue
-  pub images : List (Kept AnyImage)
-
 -- a unit has executed a command on a transient data queue, with this answer: the queue is changed where it stands, the unit
 -- keeps the image, and every other unit keeps what it kept
-pub record IsTransExecuted (old new : KeptStore) (unit : ℕ) (op : Op) (own : Bool) (answer : Answer) : Type 0 where
+pub record IsTransExecuted (old new : UndoableValue) (unit : ℕ) (op : Op) (own : Bool) (answer : Answer) : Type 0 where
   pub before : TransState
   pub after : TransState
   pub image : Option TdImage
@@ -173,7 +181,7 @@ pub record IsTransExecuted (old new : KeptStore) (unit : ℕ) (op : Op) (own : B
   pub apart : AreOthersKept old.images new.images unit
 
 -- the same of a command on a temporary storage queue
-pub record IsTempExecuted (old new : KeptStore) (unit : ℕ) (op : Op) (keep : Bool) (answer : Answer) : Type 0 where
+pub record IsTempExecuted (old new : UndoableValue) (unit : ℕ) (op : Op) (keep : Bool) (answer : Answer) : Type 0 where
   pub after : Map Row
   pub image : Option TsImage
   pub change : IsTempChange op keep old.store.temp_storage after image
@@ -183,7 +191,7 @@ pub record IsTempExecuted (old new : KeptStore) (unit : ℕ) (op : Op) (keep : B
   pub apart : AreOthersKept old.images new.images unit
 
 -- a unit has executed a command on a queue, with this answer and with what it was told
-abbrev pub AreQueuesChanged : KeptStore → KeptStore → ℕ → Op → Bool → Answer → Type 0
+abbrev pub AreQueuesChanged : UndoableValue → UndoableValue → ℕ → Op → Bool → Answer → Type 0
 AreQueuesChanged old new unit op told answer =
     MatchBool (is_trans op) (IsTransExecuted old new unit op told answer) (IsTempExecuted old new unit op told answer)
 
@@ -199,7 +207,7 @@ HaveRecoveries o store = (q : Bytes) → named_fixed (λ t. t.kind) store.trans_
 
 -- what an executed command on a queue leaves: all is in place, each queue has its recovery, the store is what the history gives
 -- and the answer too, the files stay, and more is held back only where the unit keeps an image
-pub record IsQueueExecuted (s : UnitsState) (old new : KeptStore) (u : Option ℕ) (op : Op) (answer : Answer) : Type 0 where
+pub record IsQueueExecuted (s : UnitsState) (old new : UndoableValue) (u : Option ℕ) (op : Op) (answer : Answer) : Type 0 where
   pub place : AreInPlace (after_execution s u op) new.store new.images
   pub recoveries : HaveRecoveries (after_execution s u op).opening new.store
   pub store : shown_store new.store ≡ (apply (shown_store old.store) op).store

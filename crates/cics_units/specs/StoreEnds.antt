@@ -3,7 +3,6 @@
 use Rattle.std.specs.Prelude.{◌≡◌, ℕ, Bool, true, false, ◌&&◌, ◌||◌, if◌then◌else◌, Option, List, [], ◌∷◌, fold}
 use Rattle.cics_names.specs.Keyed.{Bytes, is_same}
 use Rattle.cics_images.specs.Cells.{Kept}
-use Rattle.cics_images.specs.Cells as images
 use Rattle.cics_images.specs.NamedValues.{named_fixed, changed_at}
 use Rattle.cics_images.specs.StoreCells.{stores_fixed, with_trans_data, Three}
 use Rattle.cics_images.specs.declared.stores.StoreImage.TheVariants.{File, TempStorage, TransData}

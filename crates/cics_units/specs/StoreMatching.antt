@@ -3,7 +3,7 @@
 -- at the ends of LOGICAL queues.
 use Rattle.std.specs.Prelude.{◌≡◌, Bool, false, Some, None, List, [], ◌∷◌, map}
 use Rattle.cics_names.specs.Keyed.{Bytes, Map}
-use Rattle.cics_images.specs.Cells.{Content as Shown}
+use Rattle.cics_images.specs.Cells.{Kept, Content as Shown}
 use Rattle.cics_images.specs.Cells as images
 use Rattle.cics_images.specs.NamedValues.{cell_of as value_cell, named_content, named_cell, named_holds, IsNamedReady, named_undone, named_swept, NamedKeep}
 use Rattle.cics_images.specs.StoreCells.{file_cell, temp_cell, trans_cell, image_cell, image_leads, stores_content, IsStoresReady, stores_undone, stores_swept, stores_hold, StoresKeep}
@@ -38,6 +38,11 @@ QueuesImage = NamedImage TdImage
 -- an image of a change of any of the three
 abbrev pub AnyImage : Type 0
 AnyImage = StoreImage FilesImage TsImage QueuesImage
+
+-- the files and queues as they stand, and the images of each unit by its number
+pub record UndoableValue : Type 0 where
+  pub store : StoreValue
+  pub images : List (Kept AnyImage)
 
 -- what the three show of each file and queue
 abbrev pub shown_store : StoreValue → Store

@@ -11,6 +11,7 @@ ghost use Rattle.cics_units.specs.RegionQueues.{loaded_with};
 use crate::files::Files;
 use crate::prefixes::{has_prefix_in, is_defined};
 use crate::queues::Queues;
+use cics_history::Op;
 use cics_ksds::{File, FileDef};
 use cics_names::{Items, Name4, Name8, NoMemory, Record};
 use cics_transdata::{Recovery, TransQueue};
@@ -116,6 +117,7 @@ impl Opening {
     ghost use Rattle.cics_history.specs.Openings.{nothing_defined, with_file, with_record};
     ghost use Rattle.cics_history.specs.Openings.{with_prefix, with_queue, with_td_record};
     ghost use Rattle.cics_history.specs.Openings.{HasLawfulKeys, IsOpeningInOrder};
+    ghost use Rattle.cics_history.specs.Store.{is_recoverable};
     ghost use Rattle.cics_history.specs.Openings.{file_recoverable, has_prefix_in, queue_logical};
     ghost use Rattle.cics_units.specs.Faults.{IsRefused, file_fault, load_fault};
     ghost use Rattle.cics_units.specs.Faults.{fault_if, load_td_fault};
@@ -285,6 +287,25 @@ impl Opening {
         match self.queues.get(name) {
             Some(queue) => queue.recovery().is_logical(),
             None => false,
+        }
+    }
+
+    /// Whether a command acts on a recoverable file or queue.
+    pub(crate) fn is_recoverable(&self, op: &Op) -> bool
+        ensures { result ≡ is_recoverable self.now op.now }
+    {
+        match op {
+            Op::Write { file, .. } => self.is_recoverable_file(file),
+            Op::Rewrite { file, .. } => self.is_recoverable_file(file),
+            Op::Delete { file, .. } => self.is_recoverable_file(file),
+            Op::DeleteGeneric { file, .. } => self.is_recoverable_file(file),
+            Op::ReadUpdate { file, .. } => self.is_recoverable_file(file),
+            Op::TsWrite { queue, .. } => self.is_recoverable_ts(queue),
+            Op::TsRewrite { queue, .. } => self.is_recoverable_ts(queue),
+            Op::TsDelete { queue } => self.is_recoverable_ts(queue),
+            Op::TdWrite { queue, .. } => self.is_logical_td(queue),
+            Op::TdRead { queue } => self.is_logical_td(queue),
+            Op::TdDelete { queue } => self.is_logical_td(queue),
         }
     }
 

@@ -14,27 +14,34 @@ ghost use Rattle.cics_enqueue.specs.Resources.{IsFreeFor, is_full, is_in_order, 
 ghost use Rattle.cics_enqueue.specs.Resources.{holder_over};
 ghost use Rattle.cics_enqueue.specs.Resources.{given_back, released};
 ghost use Rattle.cics_history.specs.Execution.{covers, reads_after, read_at, with_read, is_read_of};
-ghost use Rattle.cics_units.specs.StoreMatching.{shown_store, cell_of_any, any_content, AnyLeads};
+ghost use Rattle.cics_units.specs.StoreMatching.{cell_of_any, any_content, AnyLeads};
 ghost use Rattle.cics_units.specs.StoreMatching.{IsAnyReady, any_undone, any_swept, any_holds};
 ghost use Rattle.cics_units.specs.StoreMatching.{AnyKeep};
 ghost use Rattle.cics_units.specs.StoreEnds.{any_fixed};
 ghost use Rattle.cics_units.specs.UnitImages.{kept_by, room_of, AreOthersKept, AreHeldForImages};
 ghost use Rattle.cics_history.specs.Records.{is_file_op, file_of, key_of};
-ghost use Rattle.cics_units.specs.Uses.{uses_if, listed, taken_all, AreFreeFor, holder_over_all};
+ghost use Rattle.cics_units.specs.Uses.{uses_if, listed, taken_all, AreFreeFor};
 ghost use Rattle.cics_units.specs.TableInPlace.{is_read, covered_read};
 ghost use Rattle.cics_units.specs.TableInPlace.{value_of, AreOnce, table_changed};
 ghost use Rattle.cics_units.specs.TableInPlace.{table_given_back};
-ghost use Rattle.cics_units.specs.Parts.{IsFitOp, is_recoverable_in, AreChanged, AreExecuted};
+ghost use Rattle.cics_units.specs.Parts.{IsFitFileOp, is_recoverable_in, AreChanged, AreExecuted};
+ghost use Rattle.cics_units.specs.Parts.{IsFitOp, told_in, first_in, given_record};
+ghost use Rattle.cics_units.specs.QueueChanges.{queue_of};
+ghost use Rattle.cics_units.specs.Awaiting.{is_writer, unit_in_way};
+ghost use Rattle.cics_units.specs.StorePlaces.{number_asked};
+ghost use Rattle.cics_images.specs.StoreCells.{with_temp_storage};
+ghost use Rattle.cics_tempstor.specs.Queues.{read_item, after_read_item};
+ghost use Rattle.cics_tempstor.specs.Undo.{KeepsQueues};
 ghost use Rattle.cics_units.specs.Parts.{most_images, settled_by};
 ghost use Rattle.cics_units.specs.Parts.{AreEnqueued, ArePartsKept};
-ghost use Rattle.cics_history.specs.Store.{apply};
 
 use crate::open_reads::OpenReads;
 use crate::undoable_store::{Store, UndoableStore};
-use crate::uses::{Uses, hold_all, holder_over_all, let_go_all, uses_of};
+use crate::uses::{Uses, hold_all, holder_over_all, let_go_all, writer_of};
 use cics_enqueue::{Enqueues, Resource, TakeFault, UnitId};
-use cics_history::Op;
-use cics_names::{Condition, Name8, NoMemory, Record};
+use cics_history::{Answer, Op};
+use cics_names::{Condition, Name4, Name8, NoMemory, Record};
+use cics_tempstor::TsRead;
 use std::alloc::Global;
 use std::marker::Model;
 
@@ -87,27 +94,6 @@ impl Parts {
         ensures { result ≡ holder_over resource.now asking self.now.table }
     {
         self.enqueues.holder_over(resource, asking)
-    }
-
-    /// What a command on a file uses.
-    pub(crate) fn uses_of(&self, op: &Op) -> Uses
-        requires file { is_file_op op.now ≡ true }
-        requires fit { IsFitOp self.now.stores.store.files op.now }
-        requires most { length (key_of op.now) ≤ 255 }
-        ensures { listed result
-            ≡ uses_if (is_recoverable_in (value_at (file_of op.now) self.now.stores.store.files)) op.now }
-    {
-        let Some((file, _)) = op.record() else {
-            unreachable!();
-        };
-        uses_of(op, self.stores.is_recoverable(file))
-    }
-
-    /// The unit, other than the one that asks, that is in the way of what a command uses.
-    pub(crate) fn holder_over_all(&self, asking: Option<UnitId>, uses: &Uses) -> Option<UnitId>
-        ensures { result ≡ holder_over_all (listed uses.now) asking self.now.table }
-    {
-        holder_over_all(&self.enqueues, uses, asking)
     }
 
     // Whether a command covers an update read of its unit.
@@ -178,7 +164,7 @@ impl Parts {
     ) -> Result<(), NoMemory>
         requires named { file_of op.now ≡ file.now }
         requires on_file { is_file_op op.now ≡ true }
-        requires fit { IsFitOp self.old.stores.store.files op.now }
+        requires fit { IsFitFileOp self.old.stores.store.files op.now }
         requires begun { unit < length self.old.stores.images }
         requires room { most_images self.old.stores.store.files op.now ≤ room_of self.old.stores.images unit }
         requires plain { list_any is_user (listed uses.now) ≡ false }
@@ -207,7 +193,7 @@ impl Parts {
     fn change_plain(&mut self, unit: UnitId, file: &Name8, op: &Op) -> Result<(), NoMemory>
         requires named { file_of op.now ≡ file.now }
         requires on_file { is_file_op op.now ≡ true }
-        requires fit { IsFitOp self.old.stores.store.files op.now }
+        requires fit { IsFitFileOp self.old.stores.store.files op.now }
         requires begun { unit < length self.old.stores.images }
         requires room { most_images self.old.stores.store.files op.now ≤ room_of self.old.stores.images unit }
         requires short { All (λ r. length r.key ≤ 255) self.old.reads }
@@ -230,7 +216,7 @@ impl Parts {
     // Executes a command on a file that is to be answered NORMAL, and uses these resources.
     fn change(&mut self, unit: UnitId, op: &Op, uses: &Uses) -> Result<(), NoMemory>
         requires on_file { is_file_op op.now ≡ true }
-        requires fit { IsFitOp self.old.stores.store.files op.now }
+        requires fit { IsFitFileOp self.old.stores.store.files op.now }
         requires begun { unit < length self.old.stores.images }
         requires room { most_images self.old.stores.store.files op.now ≤ room_of self.old.stores.images unit }
         requires short { All (λ r. length r.key ≤ 255) self.old.reads }
@@ -261,18 +247,60 @@ impl Parts {
         }
     }
 
-    /// Executes a command on a file for a unit that needn't wait, and may be the next one to begin; the
-    /// command uses these resources, and the condition is the one that it is answered. Where memory is
-    /// refused nothing has changed.
-    pub(crate) fn execute(
-        &mut self,
-        unit: UnitId,
-        op: &Op,
-        uses: &Uses,
-        condition: Condition,
-    ) -> Result<(), NoMemory>
-        requires fit { IsFitOp self.old.stores.store.files op.now }
+    // Whether a unit holds the writing end of a transient data queue, and so may read what it wrote.
+    fn is_writer(&self, unit: UnitId, queue: Name4) -> bool
+        ensures { result ≡ is_writer self.now.table unit queue }
+    {
+        match self.enqueues.holder(&Resource::TdWrite(queue)) {
+            Some(holder) => holder == unit,
+            None => false,
+        }
+    }
+
+    // What a command on a queue is told: of a transient data queue, whether its unit holds the writing
+    // end, of a temporary storage queue, whether it is recoverable.
+    fn told(&self, unit: UnitId, op: &Op, recoverable: bool) -> bool
+        ensures { result ≡ told_in self.now.table unit op.now recoverable }
+    {
+        match op {
+            Op::TdWrite { queue, .. } => self.is_writer(unit, *queue),
+            Op::TdRead { queue } => self.is_writer(unit, *queue),
+            Op::TdDelete { queue } => self.is_writer(unit, *queue),
+            _ => recoverable,
+        }
+    }
+
+    // The first record of a queue that a unit may read: of what isn't committed only what it wrote itself.
+    fn first_for(&self, unit: UnitId, name: Name4) -> Option<&Record>
+        ensures { option_copied result
+            ≡ first_in (value_at name self.now.stores.store.trans_data) (is_writer self.now.table unit name) }
+    {
+        let queue = self.stores.store().trans_data.get(&name)?;
+        queue.first(self.is_writer(unit, name))
+    }
+
+    /// The record that a command would be answered with now: READ UPDATE's, and READQ TD's, which may be
+    /// one that its unit wrote itself; None where there is none, and for every other command. It takes
+    /// memory for a copy of the record.
+    pub(crate) fn given_record(&self, unit: UnitId, op: &Op) -> Result<Option<Record>, NoMemory>
+        requires fit { IsFitOp self.now.stores.store op.now }
+        ensures { IfOk result (λ given. given
+            ≡ given_record self.now.stores.store (is_writer self.now.table unit (queue_of op.now)) op.now) }
+    {
+        match op {
+            Op::ReadUpdate { .. } => Ok(self.stores.answer(op)?.content),
+            Op::TdRead { queue } => match self.first_for(unit, *queue) {
+                Some(record) => Ok(Some(record.copy()?)),
+                None => Ok(None),
+            },
+            _ => Ok(None),
+        }
+    }
+
+    // Executes a command on a file: the store changes only where it is answered NORMAL.
+    fn execute_on_file(&mut self, unit: UnitId, op: &Op, uses: &Uses) -> Result<Answer, NoMemory>
         requires file { is_file_op op.now ≡ true }
+        requires fit { IsFitFileOp self.old.stores.store.files op.now }
         requires begun { unit ≤ length self.old.stores.images }
         requires short { All (λ r. length r.key ≤ 255) self.old.reads }
         requires used { listed uses.now
@@ -281,15 +309,133 @@ impl Parts {
         requires in_order { T (is_in_order self.old.table) }
         requires once { AreOnce self.old.reads }
         requires none_open { is_read op.now ≡ true → read_at self.old.reads unit (file_of op.now) ≡ None }
-        requires answered { condition ≡ (apply (shown_store self.old.stores.store) op.now).answer.condition }
-        ensures executed { OnOk result (AreExecuted self.old self.new unit op.now condition) }
+        ensures executed { IfOk result (λ answer. AreExecuted self.old self.new unit op.now
+            (is_recoverable_in (value_at (file_of op.now) self.old.stores.store.files)) answer) }
         ensures err { OnErr result (ArePartsKept self.old self.new) }
     {
+        let answer = self.stores.answer(op)?;
         self.stores.make_room(unit, self.stores.most_images(op))?;
-        if condition == Condition::Normal {
-            self.change(unit, op, uses)?;
+        if answer.condition != Condition::Normal {
+            return Ok(answer);
         }
-        Ok(())
+        self.change(unit, op, uses)?;
+        Ok(answer)
+    }
+
+    // Executes a command on a queue: its unit goes on holding what the command uses where it is answered
+    // NORMAL, and a refused command takes nothing.
+    fn execute_on_queue(
+        &mut self,
+        unit: UnitId,
+        op: &Op,
+        uses: &Uses,
+        recoverable: bool,
+    ) -> Result<Answer, NoMemory>
+        requires on_queue { is_file_op op.now ≡ false }
+        requires fit { IsFitOp self.old.stores.store op.now }
+        requires begun { unit ≤ length self.old.stores.images }
+        requires used { listed uses.now ≡ uses_if recoverable op.now }
+        requires free { AreFreeFor self.old.table (listed uses.now) unit }
+        requires in_order { T (is_in_order self.old.table) }
+        ensures executed { IfOk result (λ answer.
+            AreExecuted self.old self.new unit op.now recoverable answer) }
+        ensures err { OnErr result (ArePartsKept self.old self.new) }
+    {
+        self.stores.make_room(unit, 1)?;
+        let told = self.told(unit, op, recoverable);
+        let were_free = hold_all(&mut self.enqueues, uses, unit)?;
+        match self.stores.change_queue(unit, op, told) {
+            Ok(answer) => match answer.condition {
+                Condition::Normal => Ok(answer),
+                _ => {
+                    let_go_all(&mut self.enqueues, uses, unit, were_free);
+                    Ok(answer)
+                }
+            },
+            Err(refused) => {
+                let_go_all(&mut self.enqueues, uses, unit, were_free);
+                Err(refused)
+            }
+        }
+    }
+
+    /// Executes a command for a unit that needn't wait, and may be the next one to begin, and answers it.
+    /// The command uses these resources, and `recoverable` says whether its file or queue is recoverable.
+    /// A file has to be defined, and what is written has to fit it; a transient data queue has to be
+    /// defined. Where memory is refused nothing has changed.
+    pub(crate) fn execute(
+        &mut self,
+        unit: UnitId,
+        op: &Op,
+        uses: &Uses,
+        recoverable: bool,
+    ) -> Result<Answer, NoMemory>
+        requires fit { IsFitOp self.old.stores.store op.now }
+        requires recoverable { is_file_op op.now ≡ true →
+            recoverable ≡ is_recoverable_in (value_at (file_of op.now) self.old.stores.store.files) }
+        requires begun { unit ≤ length self.old.stores.images }
+        requires short { All (λ r. length r.key ≤ 255) self.old.reads }
+        requires used { listed uses.now ≡ uses_if recoverable op.now }
+        requires free { AreFreeFor self.old.table (listed uses.now) unit }
+        requires in_order { T (is_in_order self.old.table) }
+        requires once { AreOnce self.old.reads }
+        requires none_open { is_read op.now ≡ true → read_at self.old.reads unit (file_of op.now) ≡ None }
+        ensures executed { IfOk result (λ answer.
+            AreExecuted self.old self.new unit op.now recoverable answer) }
+        ensures err { OnErr result (ArePartsKept self.old self.new) }
+    {
+        if op.record().is_some() {
+            self.execute_on_file(unit, op, uses)
+        } else {
+            self.execute_on_queue(unit, op, uses, recoverable)
+        }
+    }
+
+    /// The unit that a command of the acting unit has to wait for, if any: another than the one that
+    /// asks that is in the way of what the command uses, else for READQ TD the writer of a LOGICAL
+    /// queue in which there is no record that the acting unit may read.
+    pub(crate) fn awaited(
+        &self,
+        asking: Option<UnitId>,
+        acting: UnitId,
+        op: &Op,
+        uses: &Uses,
+    ) -> Option<UnitId>
+        ensures { (recoverable : Bool) → listed uses.now ≡ uses_if recoverable op.now →
+            result ≡ unit_in_way self.now.table self.now.stores.store.trans_data recoverable asking
+            acting op.now }
+    {
+        // A copy for each call that the unit is handed to.
+        let again = asking;
+        if let Some(holder) = holder_over_all(&self.enqueues, uses, asking) {
+            return Some(holder);
+        }
+        let Op::TdRead { queue: name } = op else {
+            return None;
+        };
+        let queue = self.stores.store().trans_data.get(name)?;
+        writer_of(&self.enqueues, queue, *name, again, acting)
+    }
+
+    /// READQ TS: the item of a number, or the one after the item that was read last, whose number
+    /// becomes the NEXT place of its queue. Where memory is refused nothing has changed.
+    pub(crate) fn read_ts(&mut self, queue: &Name8, item: Option<u64>) -> Result<TsRead, NoMemory>
+        ensures answer { IfOk result (λ read. read
+            ≡ read_item self.old.stores.store.temp_storage queue.now
+            (number_asked self.old.stores.store.temp_storage queue.now item)) }
+        ensures value { OnOk result (self.new ≡ record self.old {
+          stores = record {
+            store = with_temp_storage self.old.stores.store
+                (after_read_item self.old.stores.store.temp_storage queue.now
+                (number_asked self.old.stores.store.temp_storage queue.now item));
+            images = self.old.stores.images;
+          };
+        }) }
+        ensures kept { OnOk result (KeepsQueues (λ _. true) self.old.stores.store.temp_storage
+            self.new.stores.store.temp_storage) }
+        ensures err { OnErr result (self.new ≡ self.old) }
+    {
+        self.stores.read_ts(queue, item)
     }
 
     /// A unit, which may be the next one to begin, takes a value that no other unit holds, once more

@@ -10,34 +10,15 @@ mod store;
 ghost use Rattle.std.specs.Prelude.{◌≡◌, if◌then◌else◌, IfOk, OnOk};
 ghost use Rattle.cics_history.specs.History.{outcome_of, is_backed_out, is_kept, kept, replay};
 ghost use Rattle.cics_units.specs.Listings.{listing_of};
-ghost use Rattle.cics_history.specs.Store.{apply, initial_store, is_recoverable};
+ghost use Rattle.cics_history.specs.Store.{apply, initial_store};
 
 use crate::listings::Listing;
 use crate::opening::Opening;
 use cics_enqueue::UnitId;
-use cics_history::{Entry, Op, UnitState};
+use cics_history::{Entry, UnitState};
 use cics_names::NoMemory;
 use std::alloc::Global;
 use store::PlainStore;
-
-/// Whether a command acts on a recoverable file or queue.
-fn acts_on_recoverable(opening: &Opening, op: &Op) -> bool
-    ensures { result ≡ is_recoverable opening.now op.now }
-{
-    match op {
-        Op::Write { file, .. } => opening.is_recoverable_file(file),
-        Op::Rewrite { file, .. } => opening.is_recoverable_file(file),
-        Op::Delete { file, .. } => opening.is_recoverable_file(file),
-        Op::DeleteGeneric { file, .. } => opening.is_recoverable_file(file),
-        Op::ReadUpdate { file, .. } => opening.is_recoverable_file(file),
-        Op::TsWrite { queue, .. } => opening.is_recoverable_ts(queue),
-        Op::TsRewrite { queue, .. } => opening.is_recoverable_ts(queue),
-        Op::TsDelete { queue } => opening.is_recoverable_ts(queue),
-        Op::TdWrite { queue, .. } => opening.is_logical_td(queue),
-        Op::TdRead { queue } => opening.is_logical_td(queue),
-        Op::TdDelete { queue } => opening.is_logical_td(queue),
-    }
-}
 
 /// Whether a unit of work was backed out; one that hasn't begun wasn't.
 fn was_backed_out(outcomes: &[UnitState], unit: UnitId) -> bool
@@ -55,7 +36,7 @@ fn was_backed_out(outcomes: &[UnitState], unit: UnitId) -> bool
 fn entry_is_kept(opening: &Opening, outcomes: &[UnitState], entry: &Entry) -> bool
     ensures { result ≡ is_kept opening.now outcomes.now entry.now }
 {
-    !(acts_on_recoverable(opening, &entry.op) && was_backed_out(outcomes, entry.unit))
+    !(opening.is_recoverable(&entry.op) && was_backed_out(outcomes, entry.unit))
 }
 
 /// Applies an entry, where what it did stands.

@@ -7,7 +7,7 @@ ghost use Rattle.cics_history.specs.Execution.{is_ready_op, execution, after_exe
 ghost use Rattle.cics_history.specs.Execution.{after_enqueue, after_dequeue, after_unlock, after_end};
 ghost use Rattle.cics_history.specs.Headline.{IsHeadline, LeavesNoTrace, beginning};
 ghost use Rattle.cics_units.specs.SerialKept.{TakeTurns};
-ghost use Rattle.cics_history.specs.Records.{is_file_op, key_of};
+ghost use Rattle.cics_history.specs.Records.{key_of};
 ghost use Rattle.cics_history.specs.declared.ops.Op.{Op as OpValue};
 ghost use Rattle.cics_history.specs.declared.ops.UnitState.TheVariants.{Committed, BackedOut};
 
@@ -89,12 +89,11 @@ impl SerialUnits {
         self.commits.as_slice()
     }
 
-    /// Executes a command on a file for a unit, or for the next one, which begins with it, or answers
+    /// Executes a command for a unit, or for the next one, which begins with it, or answers
     /// the unit to wait for, as `Units::execute` does, with what has to hold there. Where memory is
     /// refused nothing changes.
     pub fn execute(&mut self, unit: Option<UnitId>, op: &Op) -> Result<Done, NoMemory>
         requires is_open { IsOpenOrNone self.old.units.state unit }
-        requires file { IsTrue (is_file_op op.now) }
         requires ready { IsTrue (is_ready_op self.old.units.state unit op.now) }
         requires key { length (key_of op.now) ≤ 255 }
         ensures done { IfOk result (λ done. done ≡ execution self.old.units.state unit op.now) }

@@ -1,6 +1,8 @@
 //! What the files and queues hold as they stand, with the before images that the open units keep.
 
-ghost use Rattle.std.specs.Prelude.{◌≡◌, ◌<◌, ◌≤◌, ◌++◌, ℕ, [], length, fold, List, T, IfOk, IfSome};
+mod queue_commands;
+
+ghost use Rattle.std.specs.Prelude.{◌≡◌, ◌<◌, ◌≤◌, ◌++◌, ℕ, true, [], length, fold, List, T, IfOk, IfSome};
 ghost use Rattle.std.specs.Prelude.{OnOk, OnErr, reverse};
 ghost use Rattle.cics_images.specs.Cells.{AreReadyInTurn, LeadBack, images_of, is_unnamed};
 ghost use Rattle.cics_images.specs.Cells.{all_swept};
@@ -11,10 +13,14 @@ ghost use Rattle.cics_units.specs.StoreMatching.{shown_store, cell_of_any, any_c
 ghost use Rattle.cics_units.specs.StoreMatching.{IsAnyReady, any_undone, any_swept, any_holds};
 ghost use Rattle.cics_units.specs.StoreMatching.{AnyKeep};
 ghost use Rattle.cics_units.specs.UnitImages.{kept_by, room_of, AreOthersKept, AreHeldForImages};
-ghost use Rattle.cics_units.specs.Parts.{IsFitOp, IsRecordOf, is_recoverable_in, image_if};
+ghost use Rattle.cics_units.specs.Parts.{IsFitFileOp, IsRecordOf, is_recoverable_in, image_if};
 ghost use Rattle.cics_units.specs.Parts.{AreChanged, most_in, most_images, with_stored, of_files};
 ghost use Rattle.cics_units.specs.Parts.{settled_by};
 ghost use Rattle.cics_units.specs.StoreEnds.{any_fixed, end_settled, ends_settled};
+ghost use Rattle.cics_units.specs.StorePlaces.{number_asked};
+ghost use Rattle.cics_images.specs.StoreCells.{with_temp_storage};
+ghost use Rattle.cics_tempstor.specs.Queues.{read_item, after_read_item};
+ghost use Rattle.cics_tempstor.specs.Undo.{KeepsQueues};
 ghost use Rattle.cics_history.specs.Cells.{Reading, Writing};
 ghost use Rattle.cics_ksds.specs.Prefixes.{under};
 ghost use Rattle.cics_ksds.specs.Files.{IsContent};
@@ -31,7 +37,7 @@ use cics_history::{Answer, Op};
 use cics_images::{StoreImage, Stores};
 use cics_ksds::FileImage;
 use cics_names::{Condition, Items, Name8, NoMemory, Record};
-use cics_tempstor::{TempStore, TsImage};
+use cics_tempstor::{TempStore, TsImage, TsRead};
 use cics_transdata::TdImage;
 use std::alloc::Global;
 use std::marker::Model;
@@ -50,7 +56,7 @@ pub(crate) struct UndoableStore {
 }
 
 impl Model for UndoableStore {
-    ghost use Rattle.cics_units.specs.Parts.{UndoableValue};
+    ghost use Rattle.cics_units.specs.StoreMatching.{UndoableValue};
 
     ghost Value = { UndoableValue };
 
@@ -205,7 +211,7 @@ impl UndoableStore {
 
     /// What a command on a file would be answered now. It takes memory for a record that is read.
     pub(crate) fn answer(&self, op: &Op) -> Result<Answer, NoMemory>
-        requires fit { IsFitOp self.now.store.files op.now }
+        requires fit { IsFitFileOp self.now.store.files op.now }
         ensures { IfOk result (λ answer. answer ≡ (apply (shown_store self.now.store) op.now).answer) }
     {
         match op {
@@ -220,12 +226,34 @@ impl UndoableStore {
 
     /// How many images a command on a file gives at most.
     pub(crate) fn most_images(&self, op: &Op) -> usize
-        requires fit { IsFitOp self.now.store.files op.now }
+        requires fit { IsFitFileOp self.now.store.files op.now }
         ensures { result ≡ most_images self.now.store.files op.now }
     {
         match op {
             Op::DeleteGeneric { file, prefix } => self.number_under(file, prefix) as usize,
             _ => 1,
+        }
+    }
+
+    /// READQ TS: the item of a number, or the one after the item that was read last. The number of an
+    /// item that is given becomes the NEXT place of its queue; nothing else changes. Where memory for a
+    /// copy of the item is refused nothing has changed.
+    pub(crate) fn read_ts(&mut self, queue: &Name8, item: Option<u64>) -> Result<TsRead, NoMemory>
+        ensures answer { IfOk result (λ read. read
+            ≡ read_item self.old.store.temp_storage queue.now
+            (number_asked self.old.store.temp_storage queue.now item)) }
+        ensures value { OnOk result (self.new ≡ record self.old {
+          store = with_temp_storage self.old.store
+              (after_read_item self.old.store.temp_storage queue.now
+              (number_asked self.old.store.temp_storage queue.now item));
+        }) }
+        ensures kept { OnOk result (KeepsQueues (λ _. true) self.old.store.temp_storage
+            self.new.store.temp_storage) }
+        ensures err { OnErr result (self.new ≡ self.old) }
+    {
+        match item {
+            Some(number) => self.store.temp_storage.read_item(queue, number),
+            None => self.store.temp_storage.read_next(queue),
         }
     }
 
@@ -360,7 +388,7 @@ impl UndoableStore {
     /// Executes a command on a file where the file stands: the unit keeps an image of what it changes
     /// in a recoverable file. Where memory is refused nothing has changed.
     pub(crate) fn change(&mut self, unit: UnitId, op: &Op) -> Result<(), NoMemory>
-        requires fit { IsFitOp self.old.store.files op.now }
+        requires fit { IsFitFileOp self.old.store.files op.now }
         requires begun { unit < length self.old.images }
         requires room { most_images self.old.store.files op.now ≤ room_of self.old.images unit }
         ensures changed { OnOk result (AreChanged self.old self.new unit op.now) }

@@ -7,11 +7,12 @@ ghost use Rattle.std.specs.Option.{option_copied};
 ghost use Rattle.cics_names.specs.Keyed.{value_at};
 ghost use Rattle.cics_history.specs.Openings.{is_key};
 ghost use Rattle.cics_history.specs.History.{outcome_of};
-ghost use Rattle.cics_history.specs.Holding.{held_table, first_holder, awaited};
+ghost use Rattle.cics_history.specs.Holding.{held_table, first_holder, awaited, value_holder};
 ghost use Rattle.cics_history.specs.Execution.{IfMustWait, IfEnqMustWait, unit_or_next};
 ghost use Rattle.cics_history.specs.Execution.{outcomes_with, IsOpenUnit, IsOpenOrNone, is_ready_op};
 ghost use Rattle.cics_history.specs.Execution.{execution, after_execution, enqueue, after_enqueue};
 ghost use Rattle.cics_history.specs.Execution.{after_dequeue, after_unlock, read_at, after_end};
+ghost use Rattle.cics_history.specs.Execution.{place_at, item_asked, ts_reading, after_ts_reading};
 ghost use Rattle.cics_history.specs.Headline.{IsHeadline, LeavesNoTrace, beginning};
 ghost use Rattle.cics_units.specs.Listings.{listing_of};
 ghost use Rattle.cics_history.specs.Records.{is_file_op, key_of};
@@ -22,22 +23,25 @@ ghost use Rattle.cics_history.specs.declared.ops.UnitState.TheVariants.{Committe
 use crate::listings::Listing;
 use crate::opening::Opening;
 use crate::parts::Parts;
+use crate::uses::uses_of;
 use cics_enqueue::{Resource, TakeFault, UnitId};
-use cics_history::{Done, Enqueued, Entry, Op, UnitState};
+use cics_history::{Answer, Done, Enqueued, Entry, Op, UnitState};
 use cics_images::Stores;
 use cics_ksds::File;
-use cics_names::{Name8, NoMemory, Record};
+use cics_names::{Name4, Name8, NoMemory, Record};
 use cics_tempstor::TempStore;
+use cics_transdata::Recovery;
 use std::alloc::Global;
 use std::marker::Model;
 
-/// The units of work of a region, with its files.
+/// The units of work of a region, with its files and queues.
 ///
 /// Contracts see the state of the units, which is what was opened, the executed commands in their
-/// order, the outcome of each unit, the open update reads and the counts of ENQ, and beside it the
-/// store, which is read off the files themselves. After every call the store is what replaying the executed commands gives,
-/// without all that units which were backed out executed on recoverable files, and each command of the
-/// replay has the answer that it was given (`headline`).
+/// order, the outcome of each unit, the open update reads, the counts of ENQ and the NEXT places, and
+/// beside it the store, which is read off the files and queues themselves. After every call the store
+/// is what replaying the executed commands gives, without all that units which were backed out executed
+/// on recoverable files and queues, and each command of the replay has the answer that it was given
+/// (`headline`).
 #[derive(Drop)]
 pub struct Units {
     opening: Opening,
@@ -138,17 +142,33 @@ impl Units {
         self.parts.holder_over(asking, resource)
     }
 
-    /// Executes a command on a file for a unit, or for the next one, which begins with it, or answers
-    /// the unit to wait for; then nothing changes.
+    /// The unit that a command has to wait for, if any: another one that holds what it uses, else for
+    /// READQ TD the writer of the queue, where that has no record that the task may read. `asking` is
+    /// None for a task without a unit, and a key or a prefix has at most 255 bytes. It takes no memory.
+    pub fn awaited(&self, asking: Option<UnitId>, op: &Op) -> Option<UnitId>
+        requires is_open { IsOpenOrNone self.now.state asking }
+        requires key { length (key_of op.now) ≤ 255 }
+        ensures awaited { result ≡ awaited self.now.state asking op.now }
+        ensures is_open { IfSome result (IsOpenUnit self.now.state) }
+    {
+        // A copy for each call that the unit is handed to.
+        let acts = asking;
+        let _trace = &self.trace;
+        let uses = uses_of(op, self.opening.is_recoverable(op));
+        let acting = unit_or_next(acts, self.outcomes.as_slice());
+        self.parts.awaited(asking, acting, op, &uses)
+    }
+
+    /// Executes a command for a unit, or for the next one, which begins with it, or answers the unit to
+    /// wait for; then nothing changes.
     ///
-    /// An executed command is entered in the trace with its answer. The unit has to be open, the
-    /// file defined, a record that is written has to fit it under the command's key, REWRITE has to
-    /// be of the record that the unit has read for update, READ UPDATE needs that the unit has none
-    /// open in the file, and a key or a prefix has at most 255 bytes. Where memory is refused nothing
-    /// changes.
+    /// An executed command is entered in the trace with its answer. The unit has to be open, the file
+    /// or the transient data queue defined, a record that is written to a file has to fit it under the
+    /// command's key, an item or a record of a queue has 1 to 32,767 bytes, REWRITE has to be of the
+    /// record that the unit has read for update, READ UPDATE needs that the unit has none open in the
+    /// file, and a key or a prefix has at most 255 bytes. Where memory is refused nothing changes.
     pub fn execute(&mut self, unit: Option<UnitId>, op: &Op) -> Result<Done, NoMemory>
         requires is_open { IsOpenOrNone self.old.state unit }
-        requires file { IsTrue (is_file_op op.now) }
         requires ready { IsTrue (is_ready_op self.old.state unit op.now) }
         requires key { length (key_of op.now) ≤ 255 }
         ensures done { IfOk result (λ done. done ≡ execution self.old.state unit op.now) }
@@ -157,21 +177,30 @@ impl Units {
         ensures headline { IsHeadline self.new }
         ensures err { OnErr result (self.new ≡ self.old) }
     {
-        let uses = self.parts.uses_of(op);
-        if let Some(holder) = self.parts.holder_over_all(unit, &uses) {
+        // A copy for each call that the unit is handed to.
+        let asking = unit;
+        let begins = unit;
+        let recoverable = self.opening.is_recoverable(op);
+        let uses = uses_of(op, recoverable);
+        let acting = unit_or_next(unit, self.outcomes.as_slice());
+        if let Some(holder) = self.parts.awaited(asking, acting, op, &uses) {
             return Ok(Done::MustWait(holder));
         }
-        let acting = unit_or_next(unit, self.outcomes.as_slice());
-        let answer = self.parts.stores().answer(op)?;
-        let entry = Entry {
-            unit: acting,
-            op: op.copy()?,
-            answer: answer.copy()?,
-        };
+        let content = self.parts.given_record(acting, op)?;
+        let op_copy = op.copy()?;
         self.trace.reserve(1)?;
         self.outcomes.reserve(1)?;
-        self.parts.execute(acting, op, &uses, answer.condition)?;
-        enter(&mut self.trace, &mut self.outcomes, unit, entry);
+        let answer = self.parts.execute(acting, op, &uses, recoverable)?;
+        let entry = Entry {
+            unit: acting,
+            op: op_copy,
+            answer: Answer {
+                condition: answer.condition,
+                content,
+                number: answer.number,
+            },
+        };
+        enter(&mut self.trace, &mut self.outcomes, begins, entry);
         Ok(Done::Answered(acting, answer))
     }
 
@@ -209,6 +238,17 @@ impl Units {
         Ok(Enqueued::Taken(acting))
     }
 
+    /// The unit, other than the one that asks, that holds a value: the one that ENQ has to wait for.
+    /// `asking` is None for a task without a unit, and a value has at most 255 bytes.
+    pub fn value_holder(&self, asking: Option<UnitId>, value: &[u8]) -> Option<UnitId>
+        requires most { length value.now ≤ 255 }
+        ensures holder { result ≡ value_holder self.now.state asking value.now }
+        ensures is_open { IfSome result (IsOpenUnit self.now.state) }
+    {
+        let _trace = &self.trace;
+        self.parts.holder_over(asking, &Resource::value(value))
+    }
+
     /// Dequeues from a value for a unit: DEQ. With as many as it enqueued the value is free.
     ///
     /// A value that the unit doesn't hold stays as it is, another unit's too. It takes no memory.
@@ -241,6 +281,50 @@ impl Units {
         ensures store { self.new.store ≡ self.old.store }
     {
         self.parts.unlock(unit, file);
+    }
+
+    /// READQ TS ITEM, and READQ TS NEXT where `item` is None: the item of a number, or the one after the
+    /// item that any task read last, the changes of open units included. QIDERR where there is no queue,
+    /// ITEMERR where it has no item of the number.
+    ///
+    /// The number of an item that is given becomes the NEXT place of its queue. No unit holds the queue
+    /// for a read. Where memory for a copy of the item is refused nothing changes.
+    pub fn read_ts(&mut self, queue: &Name8, item: Option<u64>) -> Result<Answer, NoMemory>
+        ensures answer { IfOk result (λ answer. answer
+            ≡ ts_reading self.old.state queue.now (item_asked self.old.state queue.now item)) }
+        ensures state { OnOk result (self.new.state
+            ≡ after_ts_reading self.old.state queue.now (item_asked self.old.state queue.now item)) }
+        ensures headline { IsHeadline self.new }
+        ensures store { self.new.store ≡ self.old.store }
+        ensures err { OnErr result (self.new ≡ self.old) }
+    {
+        let read = self.parts.read_ts(queue, item)?;
+        Ok(Answer {
+            condition: read.condition,
+            content: read.content,
+            number: read.number,
+        })
+    }
+
+    /// The NEXT place of a temporary storage queue: the number of the item that any task read last, and
+    /// 0 where none was since the queue was made, and where the queue is absent.
+    pub fn next_place(&self, queue: &Name8) -> u16
+        ensures { result ≡ place_at self.now.state queue.now }
+    {
+        let _trace = &self.trace;
+        self.parts.stores().store().temp_storage.next_place(queue)
+    }
+
+    /// The recovery of a transient data queue; None where no queue of the name is defined.
+    pub fn td_recovery(&self, queue: &Name4) -> Option<Recovery>
+        ensures { result
+            ≡ option_map (λ q. q.recovery) (value_at queue.now self.now.state.opening.queues) }
+    {
+        let _trace = &self.trace;
+        match self.parts.stores().store().trans_data.get(queue) {
+            Some(queue) => Some(queue.recovery()),
+            None => None,
+        }
     }
 
     /// Commits a unit: what it did stays, and it holds nothing more. It takes no memory.

@@ -1,6 +1,6 @@
 //! Changes of one transient data queue of a region, with the images that undo them.
 
-ghost use Rattle.std.specs.Prelude.{◌≡◌, true, false, is_some, IfOk, IfSome, IfNone, IsSome, OnOk, OnErr, option_map};
+ghost use Rattle.std.specs.Prelude.{◌≡◌, Bool, true, false, is_some, IfOk, IfSome, IfNone, IsSome, OnOk, OnErr, option_map};
 ghost use Rattle.cics_names.specs.Keyed.{value_at};
 ghost use Rattle.cics_names.specs.declared.conditions.Condition.{Condition};
 ghost use Rattle.cics_images.specs.Cells.{is_other};
@@ -10,6 +10,8 @@ ghost use Rattle.cics_transdata.specs.Trans.{trans_written, trans_read, trans_de
 ghost use Rattle.cics_transdata.specs.Trans.{reader_committed, writer_committed};
 ghost use Rattle.cics_transdata.specs.Undo.{reading_end, writing_end};
 ghost use Rattle.cics_transdata.specs.Undo.{written_image, read_image, deleted_image};
+ghost use Rattle.cics_history.specs.declared.ops.Op.TheVariants.{TdWrite, TdRead, TdDelete};
+ghost use Rattle.cics_units.specs.QueueChanges.{IsOneChanged};
 ghost use Rattle.cics_units.specs.RegionQueues.{queue_image, QueuesKeep, IsQueuesImage};
 
 use super::{QueueImage, Queues};
@@ -63,6 +65,8 @@ impl Queues {
             (QueuesKeep (is_other (cell_of name.now writing_end)) self.old self.new) }
         ensures without_image { IfOk result (λ changed. IfNone changed.image
             (QueuesKeep (λ _. true) self.old self.new)) }
+        ensures change { IfOk result (λ changed. (own : Bool) →
+            IsOneChanged (TdWrite name.now content) own self.old self.new changed.image) }
         ensures err { OnErr result (self.new ≡ self.old) }
     {
         match self.rows.get_mut(name) {
@@ -94,6 +98,8 @@ impl Queues {
             QueuesKeep (is_other (cell_of name.now reading_end)) self.old self.new)) }
         ensures without_image { IfOk result (λ answer. IfNone answer.changed.image
             (QueuesKeep (λ _. true) self.old self.new)) }
+        ensures change { IfOk result (λ answer.
+            IsOneChanged (TdRead name.now) past_fresh self.old self.new answer.changed.image) }
         ensures err { OnErr result (self.new ≡ self.old) }
         ensures wants { OnErr result (IfSome (value_at name.now self.old)
             (λ q. (is_logical q.kind ≡ true) × IsSome (first_of q past_fresh))) }
@@ -123,6 +129,8 @@ impl Queues {
             (λ q. unread (trans_deleted q) ≡ unread q →
             QueuesKeep (is_other (cell_of name.now reading_end)) self.old self.new) }
         ensures without_image { IfNone result.image (QueuesKeep (λ _. true) self.old self.new) }
+        ensures change { (own : Bool) →
+            IsOneChanged (TdDelete name.now) own self.old self.new result.image }
     {
         match self.rows.get_mut(name) {
             Some(queue) => among(name, queue.delete()),

@@ -1,10 +1,12 @@
 use Rattle.std.proofs.Common.{None, ◌∙◌, ap, subst}
-use Rattle.std.specs.Prelude.{IsSome, option_map}
+use Rattle.std.specs.Prelude.{IsSome, option_map, T}
 use Rattle.cics_transdata.specs.Trans.{TransState, trans_deleted}
 use Rattle.cics_transdata.specs.Undo.{reading_end}
 use Rattle.cics_units.specs.RegionQueues.{queue_image}
 use Rattle.cics_history.proofs.Entries.{value_at-looked_up}
-use Rattle.cics_units.proofs.Changing.{there, stepped, risen, other_ends, end_image, without_image}
+use Rattle.cics_units.proofs.Changing.{there, stepped, risen, other_ends, end_image, without_image, changed}
+use Rattle.cics_names.specs.Keyed.{is_rising}
+use Rattle.cics_units.proofs.QueueClauses.{delete_change}
 use Rattle.cics_units.proofs.queues.Queues.delete.Goals as goal
 
 pub unreachable-requires : goal.unreachable-requires
@@ -38,3 +40,18 @@ pub returns-clause-without_image : goal.returns-clause-without_image
 returns-clause-without_image c = rw (ap (λ r. r.image) c.among.ensures)
     (without_image c.args.name.now c.self.inside.rows.entries c.args.self.now c.in-Some.queue.now c.self.invariant c.in-Some.ensures.value c.self.view_is
     c.delete.new.self _ (c.get_mut.follows.holds c.delete.new.self).0 c.delete.result.image c.delete.ensures.without_image)
+
+pub returns-clause-change : goal.returns-clause-change
+returns-clause-change c =
+    λ own. record {
+      before = c.in-Some.queue.now;
+      after = c.delete.new.self;
+      taken = c.delete.result.image;
+      rising = subst (λ m. T (is_rising m)) c.self.view_is c.self.invariant;
+      there = there c.args.name.now c.self.inside.rows.entries c.args.self.now c.in-Some.queue.now c.self.invariant c.in-Some.ensures.value c.self.view_is;
+      change = delete_change c.in-Some.queue.now c.delete.new.self c.delete.result.image c.delete.ensures.marked c.args.name.now own
+          c.delete.ensures.without_image c.delete.ensures.value c.delete.ensures.image c.delete.ensures.undoable;
+      value = changed c.args.name.now c.self.inside.rows.entries c.args.self.now c.in-Some.queue.now c.self.invariant c.in-Some.ensures.value c.self.view_is
+          c.delete.new.self _ (c.get_mut.follows.holds c.delete.new.self).0;
+      given = ap (λ r. r.image) c.among.ensures;
+    }

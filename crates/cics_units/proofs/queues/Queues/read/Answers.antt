@@ -1,11 +1,13 @@
 use Rattle.std.proofs.Common.{None, ◌∙◌, ap, subst}
-use Rattle.std.specs.Prelude.{IsSome, option_map}
+use Rattle.std.specs.Prelude.{IsSome, option_map, T}
 use Rattle.std.proofs.lemmas.Result.{err_from_is_err_and}
 use Rattle.cics_transdata.specs.Trans.{TransState, trans_read}
 use Rattle.cics_transdata.specs.Undo.{reading_end}
 use Rattle.cics_units.specs.RegionQueues.{queue_image}
 use Rattle.cics_history.proofs.Entries.{value_at-looked_up}
-use Rattle.cics_units.proofs.Changing.{there, stepped, risen, unchanged, other_ends, end_image, without_image}
+use Rattle.cics_units.proofs.Changing.{there, stepped, risen, unchanged, other_ends, end_image, without_image, changed}
+use Rattle.cics_names.specs.Keyed.{is_rising}
+use Rattle.cics_units.proofs.QueueClauses.{read_change}
 use Rattle.cics_units.proofs.queues.Queues.read.Goals as goal
 
 pub invariant_of-self : goal.invariant_of-self
@@ -61,3 +63,19 @@ pub returns-clause-without_image : goal.returns-clause-without_image
 returns-clause-without_image c = rw (ap (λ r. r.image) c.among.ensures)
     (without_image c.args.name.now c.self.inside.rows.entries c.args.self.now c.in-Some.queue.now c.self.invariant c.in-Some.ensures.value c.self.view_is
     c.read.new.self _ (c.get_mut.follows.holds c.read.new.self).0 c.in_ok-answer-in-Some.answer.changed.image c.in_ok-answer-in-Some.ensures.without_image)
+
+pub returns-clause-change : goal.returns-clause-change
+returns-clause-change c =
+    record {
+      before = c.in-Some.queue.now;
+      after = c.read.new.self;
+      taken = c.in_ok-answer-in-Some.answer.changed.image;
+      rising = subst (λ m. T (is_rising m)) c.self.view_is c.self.invariant;
+      there = there c.args.name.now c.self.inside.rows.entries c.args.self.now c.in-Some.queue.now c.self.invariant c.in-Some.ensures.value c.self.view_is;
+      change = read_change c.in-Some.queue.now c.read.new.self c.in_ok-answer-in-Some.answer.changed.image c.in_ok-answer-in-Some.ensures.marked c.args.name.now c.args.past_fresh
+          c.in_ok-answer-in-Some.ensures.without_image c.in_ok-answer-in-Some.ensures.value c.in_ok-answer-in-Some.ensures.image
+          c.in_ok-answer-in-Some.ensures.undoable c.in_ok-answer-in-Some.ensures.fresh c.in_ok-answer-in-Some.ensures.others;
+      value = changed c.args.name.now c.self.inside.rows.entries c.args.self.now c.in-Some.queue.now c.self.invariant c.in-Some.ensures.value c.self.view_is
+          c.read.new.self _ (c.get_mut.follows.holds c.read.new.self).0;
+      given = ap (λ r. r.image) c.among.ensures;
+    }

@@ -5,7 +5,8 @@ use Rattle.cics_images.specs.Cells.{is_other}
 use Rattle.cics_ksds.specs.Undo.{deleted_image}
 use Rattle.cics_units.specs.FilesImages.{cell_of, FilesKeep}
 use Rattle.cics_units.specs.FilesChanges.{IsFilesImage}
-use Rattle.cics_units.specs.Parts.{UndoableValue, AreChanged, is_recoverable_in, image_if}
+use Rattle.cics_units.specs.StoreMatching.{UndoableValue}
+use Rattle.cics_units.specs.Parts.{AreChanged, is_recoverable_in, image_if}
 use Rattle.cics_units.specs.RegionFiles.{IsThere, deleted_in}
 use Rattle.cics_history.specs.declared.ops.Op.TheVariants.{Delete}
 use Rattle.cics_units.proofs.FilesChanged.{store_changed}

@@ -3,7 +3,8 @@ use Rattle.std.specs.Prelude.{IfSome}
 use Rattle.cics_names.specs.Keyed.{value_at, is_rising}
 use Rattle.cics_ksds.specs.Files.{IsContent}
 use Rattle.cics_ksds.specs.Prefixes.{prefix_images}
-use Rattle.cics_units.specs.Parts.{UndoableValue, AreChanged, is_recoverable_in, with_stored}
+use Rattle.cics_units.specs.StoreMatching.{UndoableValue}
+use Rattle.cics_units.specs.Parts.{AreChanged, is_recoverable_in, with_stored}
 use Rattle.cics_units.specs.RegionFiles.{IsThere, deleted_under}
 use Rattle.cics_history.specs.declared.ops.Op.TheVariants.{DeleteGeneric}
 use Rattle.cics_units.proofs.FilesChanged.{store_changed}

@@ -2,7 +2,8 @@ use Rattle.std.proofs.Common.{◌≡◌, ◌∙◌, sym, ap, subst, T}
 use Rattle.cics_names.specs.Keyed.{value_at, is_rising}
 use Rattle.cics_ksds.specs.Files.{key_of}
 use Rattle.cics_ksds.specs.Undo.{written_image}
-use Rattle.cics_units.specs.Parts.{UndoableValue, AreChanged, is_recoverable_in, IsRecordOf, image_if}
+use Rattle.cics_units.specs.StoreMatching.{UndoableValue}
+use Rattle.cics_units.specs.Parts.{AreChanged, is_recoverable_in, IsRecordOf, image_if}
 use Rattle.cics_units.specs.RegionFiles.{written_in}
 use Rattle.cics_history.specs.declared.ops.Op.TheVariants.{Write}
 use Rattle.cics_units.proofs.FilesChanged.{store_changed}

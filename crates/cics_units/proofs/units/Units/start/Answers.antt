@@ -1,4 +1,4 @@
-use Rattle.std.proofs.Common.{◌≡◌, ◌∙◌, []}
+use Rattle.std.proofs.Common.{◌≡◌, ◌∙◌}
 use Rattle.cics_units.specs.KeptUnits.{state_shown, opened_store}
 use Rattle.cics_units.specs.StoreMatching.{StoreValue}
 use Rattle.cics_units.proofs.KeptUnits.{kept_headline, kept_begins}
