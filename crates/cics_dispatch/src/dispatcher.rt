@@ -85,8 +85,8 @@ fn end_unit(units: &mut Units, unit: Option<UnitId>, commits: bool)
 }
 
 impl Dispatcher {
-    /// The region of an opening, without a task, its clock at 0. It takes memory for a copy of the
-    /// files; where that is refused the opening comes back.
+    /// The region of an opening, without a task, its clock at 0. It takes memory for a copy of the files
+    /// and queues; where that is refused the opening comes back.
     pub fn new(opening: Opening) -> Result<Dispatcher, Opening>
         ensures machine { IfOk result (λ region. region.machine ≡ beginning_region opening) }
         ensures headline { IfOk result IsHeadlineRegion }

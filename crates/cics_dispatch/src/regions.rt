@@ -68,8 +68,8 @@ fn is_blocker(blockers: &IndexSet<UnitId>, unit: Option<UnitId>) -> bool
 }
 
 impl Region {
-    /// The region of an opening, without a task, its clock at 0. It takes memory for a copy of the
-    /// files; where that is refused the opening comes back.
+    /// The region of an opening, without a task, its clock at 0. It takes memory for a copy of the files
+    /// and queues; where that is refused the opening comes back.
     pub fn new(opening: Opening) -> Result<Region, Opening>
         ensures machine { IfOk result (λ region. region.machine ≡ beginning_region opening) }
         ensures headline { IfOk result IsHeadlineRegion }
@@ -184,16 +184,17 @@ impl Region {
         expired
     }
 
-    /// The units of work of the region, with the files that they share, their history and its outcomes.
+    /// The units of work of the region, with the files and queues that they share, their history and its
+    /// outcomes.
     pub fn units(&self) -> &Units
         ensures { result.now ≡ record { state = self.now.machine.units; store = self.now.store } }
     {
         self.dispatcher.units()
     }
 
-    /// What stands in the files, the changes of open units included, and what each task that hasn't
-    /// ended does, in the order in which the tasks were attached. This is what a user is shown of the
-    /// region.
+    /// What stands in the files and queues, the changes of open units included, and what each task that
+    /// hasn't ended does, in the order in which the tasks were attached. This is what a user is shown of
+    /// the region.
     ///
     /// It is refused only for want of memory, which it takes for a copy of each record and for the
     /// tasks (`NoMemory`). It changes nothing. Each task costs one look-up of its wait, however many
@@ -204,9 +205,10 @@ impl Region {
         self.dispatcher.listing()
     }
 
-    /// What stands in the files after the history of the region is applied anew, command by command,
-    /// to what was loaded; a command on a recoverable file whose unit was backed out is left out. It
-    /// has no tasks. It goes by no before image, so the files of `listing` can be held against it.
+    /// What stands in the files and queues after the history of the region is applied anew, command by
+    /// command, to what was loaded; a command on a recoverable file or queue whose unit was backed out is
+    /// left out. It has no tasks. It goes by no before image, so the files and queues of `listing` can be
+    /// held against it.
     ///
     /// It is refused only for want of memory, which it takes for a copy of each record (`NoMemory`).
     /// It changes nothing. It takes time in proportion to the records that were loaded and the

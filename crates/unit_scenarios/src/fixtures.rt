@@ -88,15 +88,9 @@ pub(crate) fn read_update(alloc: Global, file: Name8, key: &[u8]) -> Result<Op, 
     })
 }
 
-// Whether two files are listed alike, record by record.
-fn is_same_file(
-    first: &(Name8, bool, Items<Record>),
-    second: &(Name8, bool, Items<Record>),
-) -> bool {
-    let ((name, recoverable, records), (other_name, other_recoverable, others)) = (first, second);
-    *name == *other_name
-        && *recoverable == *other_recoverable
-        && records.len() == others.len()
+// Whether two lists have the same records in the same order.
+fn has_same_records(records: &Items<Record>, others: &Items<Record>) -> bool {
+    records.len() == others.len()
         && records
             .as_slice()
             .iter()
@@ -104,19 +98,22 @@ fn is_same_file(
             .all(|(record, other)| record.bytes() == other.bytes())
 }
 
-/// Whether two listings of files alone are the same, record by record.
+// Whether the same files or queues are listed alike, record by record.
+fn is_listed_alike<N: PartialEq, R: PartialEq>(
+    listed: &Items<(N, R, Items<Record>)>,
+    others: &Items<(N, R, Items<Record>)>,
+) -> bool {
+    listed.len() == others.len()
+        && listed.as_slice().iter().zip(others.as_slice()).all(|(one, other)| {
+            one.0 == other.0 && one.1 == other.1 && has_same_records(&one.2, &other.2)
+        })
+}
+
+/// Whether two listings without tasks are the same, record by record.
 pub(crate) fn is_same_listing(first: &Listing, second: &Listing) -> bool {
-    first.files.len() == second.files.len()
-        && first
-            .files
-            .as_slice()
-            .iter()
-            .zip(second.files.as_slice())
-            .all(|(file, other)| is_same_file(file, other))
-        && first.ts.is_empty()
-        && second.ts.is_empty()
-        && first.td.is_empty()
-        && second.td.is_empty()
+    is_listed_alike(&first.files, &second.files)
+        && is_listed_alike(&first.ts, &second.ts)
+        && is_listed_alike(&first.td, &second.td)
         && first.tasks.is_empty()
         && second.tasks.is_empty()
 }

@@ -17,6 +17,8 @@ mod looks;
 #[cfg(test)]
 mod openings;
 #[cfg(test)]
+mod queue_replays;
+#[cfg(test)]
 mod refusals;
 #[cfg(test)]
 mod replays;

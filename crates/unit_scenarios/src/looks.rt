@@ -12,7 +12,8 @@ use crate::guarded_calls::{holder, outcome};
 use crate::scenarios::cut;
 use cics_enqueue::UnitId;
 use cics_ksds::File;
-use cics_names::{Items, Name8, NoMemory, Record};
+use cics_names::{Items, Name4, Name8, NoMemory, Record};
+use cics_transdata::Recovery;
 use cics_units::{UnitState, Units};
 use std::alloc::Global;
 
@@ -45,6 +46,53 @@ pub(crate) fn is_listed(
             && *listed_recoverable == recoverable
             && joined(alloc, listed_records)?.as_slice() == records.as_bytes(),
     )
+}
+
+/// Whether these temporary storage queues are listed and no others, in this order: a line for each, as
+/// `recoverable PAYROLL one|two` or `plain SCRATCH one`, a stroke between the items.
+pub(crate) fn is_ts_listed(
+    alloc: Global,
+    listed: &Items<(Name8, bool, Items<Record>)>,
+    queues: &str,
+) -> Result<bool, NoMemory> {
+    for (at, queue) in queues.lines().enumerate() {
+        let (word, rest) = cut(queue);
+        let (name, items) = cut(rest);
+        if !is_listed(alloc, listed, at, name, word == "recoverable", items)? {
+            return Ok(false);
+        }
+    }
+    Ok(listed.len() == queues.lines().count())
+}
+
+/// The recovery of a transient data queue by its word, if it is one.
+pub(crate) fn recovery(word: &str) -> Option<Recovery> {
+    match word {
+        "logical" => Some(Recovery::Logical),
+        "physical" => Some(Recovery::Physical),
+        "none" => Some(Recovery::Unrecovered),
+        _ => None,
+    }
+}
+
+/// Whether these transient data queues are listed and no others, in this order: a line for each, with the
+/// word of its recovery, as `logical PAYQ one|two`, a stroke between the records.
+pub(crate) fn is_td_listed(
+    alloc: Global,
+    listed: &Items<(Name4, Recovery, Items<Record>)>,
+    queues: &str,
+) -> Result<bool, NoMemory> {
+    for (line, (name, listed_recovery, records)) in queues.lines().zip(listed.as_slice()) {
+        let (word, rest) = cut(line);
+        let (queue, expected) = cut(rest);
+        if Name4::new(queue.as_bytes()) != Ok(*name)
+            || recovery(word) != Some(*listed_recovery)
+            || joined(alloc, records)?.as_slice() != expected.as_bytes()
+        {
+            return Ok(false);
+        }
+    }
+    Ok(listed.len() == queues.lines().count())
 }
 
 // Whether a text lists the records of a file.

@@ -1,9 +1,9 @@
-//! What an opening accepts and refuses, and what its files show.
+//! What an opening accepts and refuses, and what its files and queues show.
 
-use crate::looks::is_listed;
+use crate::looks::{is_listed, recovery};
 use crate::scenarios::{cut, halves};
 use cics_ksds::{File, FileDef};
-use cics_names::{Name8, NoMemory, Record};
+use cics_names::{Name4, Name8, NoMemory, Record};
 use cics_units::{DefineFault, Files, Opening};
 use std::alloc::Global;
 use std::test::Fail;
@@ -48,14 +48,12 @@ fn is_told(told: Result<(), DefineFault>, text: &str) -> bool {
     }
 }
 
+// What came of a definition or a load; None for a text that is none.
+type Made = Result<Option<Result<(), DefineFault>>, NoMemory>;
+
 // Defines a recoverable file, as `define ACCT 4 2 10`, or another, as `plain LOG 4 2 10`, or loads a
-// record, as `load ACCT xx0001`; None where a text says none of these.
-fn make(
-    opening: &mut Opening,
-    alloc: Global,
-    call: &str,
-) -> Result<Option<Result<(), DefineFault>>, NoMemory> {
-    let (word, rest) = cut(call);
+// record, as `load ACCT xx0001`, or defines a prefix, as `prefix PAY`.
+fn make_with_name8(opening: &mut Opening, alloc: Global, word: &str, rest: &str) -> Made {
     let (name, rest) = cut(rest);
     let Ok(name) = Name8::new(name.as_bytes()) else {
         return Ok(None);
@@ -65,6 +63,7 @@ fn make(
             let record = Record::from_slice(alloc, rest.as_bytes())?;
             return Ok(Some(opening.load_file(name, record)));
         }
+        "prefix" => return Ok(Some(opening.define_ts_prefix(name))),
         "define" => true,
         "plain" => false,
         _ => return Ok(None),
@@ -72,8 +71,44 @@ fn make(
     Ok(definition(rest, recoverable).map(|definition| opening.define_file(name, definition)))
 }
 
+// A record of so many bytes; None where a text is no number.
+fn record_of(alloc: Global, length: &str) -> Result<Option<Record>, NoMemory> {
+    let Ok(length) = length.parse::<usize>() else {
+        return Ok(None);
+    };
+    let bytes = vec![in alloc; b'x'; length]?;
+    Ok(Some(Record::from_slice(alloc, bytes.as_slice())?))
+}
+
+// Defines a transient data queue, as `queue PAYQ logical`, or loads a record, as `put PAYQ one`, or one
+// of so many bytes, as `fill PAYQ 32767`.
+fn make_with_name4(opening: &mut Opening, alloc: Global, word: &str, rest: &str) -> Made {
+    let (name, rest) = cut(rest);
+    let Ok(name) = Name4::new(name.as_bytes()) else {
+        return Ok(None);
+    };
+    let record = match word {
+        "queue" => {
+            return Ok(recovery(rest).map(|recovery| opening.define_td(name, recovery)));
+        }
+        "put" => Some(Record::from_slice(alloc, rest.as_bytes())?),
+        "fill" => record_of(alloc, rest)?,
+        _ => None,
+    };
+    Ok(record.map(|record| opening.load_td(name, record)))
+}
+
+// Makes the definition or the load of a text.
+fn make(opening: &mut Opening, alloc: Global, call: &str) -> Made {
+    let (word, rest) = cut(call);
+    match word {
+        "queue" | "put" | "fill" => make_with_name4(opening, alloc, word, rest),
+        _ => make_with_name8(opening, alloc, word, rest),
+    }
+}
+
 /// The first line that comes out otherwise than it says: a call, and the fault that it has, if any.
-fn first_wrong<'a>(
+pub(crate) fn first_wrong<'a>(
     opening: &mut Opening,
     alloc: Global,
     lines: &'a str,
@@ -127,6 +162,58 @@ load LOG xx = not there
 fn a_record_is_refused_by_its_first_fault(rt: HostRuntime) -> Result<(), Fail> {
     let mut opening = Opening::new(rt.alloc());
     assert_eq!(rt; first_wrong(&mut opening, rt.alloc(), LOADS)?, None);
+    Ok(())
+}
+
+/// A prefix that begins with another, or is the name of a file, is one of its own.
+const PREFIXES: &str = "\
+define PAY 4 2 10
+prefix PAYROLL
+prefix PAY
+prefix PAYROLL = duplicate
+prefix PAY = duplicate
+prefix AUDIT
+";
+
+#[test]
+fn a_prefix_is_defined_once(rt: HostRuntime) -> Result<(), Fail> {
+    let mut opening = Opening::new(rt.alloc());
+    assert_eq!(rt; first_wrong(&mut opening, rt.alloc(), PREFIXES)?, None);
+    let prefixes = [
+        Name8::new(b"PAYROLL")?,
+        Name8::new(b"PAY")?,
+        Name8::new(b"AUDIT")?,
+    ];
+    assert_eq!(rt; opening.prefixes(), prefixes.as_slice());
+    Ok(())
+}
+
+/// A queue of each recovery. That the queue isn't there comes before what is wrong with the record.
+const QUEUES: &str = "\
+define PAYQ 4 2 10
+queue PAYQ logical
+queue PHYQ physical
+queue OUTQ none
+queue PAYQ physical = duplicate
+queue PHYQ physical = duplicate
+queue OUTQ logical = duplicate
+put PAYQ one
+put PAYQ = bad length
+put PAYQ one
+fill PHYQ 0 = bad length
+fill PHYQ 1
+fill PHYQ 32767
+fill OUTQ 32767
+fill PHYQ 32768 = bad length
+put NONE = not there
+fill NONE 32768 = not there
+put NONE one = not there
+";
+
+#[test]
+fn a_queue_and_its_records_are_refused_by_their_first_fault(rt: HostRuntime) -> Result<(), Fail> {
+    let mut opening = Opening::new(rt.alloc());
+    assert_eq!(rt; first_wrong(&mut opening, rt.alloc(), QUEUES)?, None);
     Ok(())
 }
 

@@ -4,7 +4,7 @@
 //! A replay is a text of a line for each command, with the unit that executed it, as in a scenario.
 
 use crate::fixtures::{opened, write};
-use crate::looks::is_listed;
+use crate::looks::{is_listed, is_ts_listed};
 use crate::scenarios::{command, cut, halves};
 use cics_enqueue::UnitId;
 use cics_names::{Condition, Items, Name4, Name8, NoMemory, Record};
@@ -47,13 +47,26 @@ fn clear(alloc: Global, file: Name8, prefix: &str) -> Result<Option<Op>, NoMemor
     Ok(Some(Op::DeleteGeneric { file, prefix }))
 }
 
-// A record for a transient data queue, as `put DEST lost`; None where a text is none.
-fn put(alloc: Global, queue: &str, from: &str) -> Result<Option<Op>, NoMemory> {
+// A command on a transient data queue: WRITEQ of a record as `put DEST lost`, READQ as `get DEST` and
+// DELETEQ as `purge DEST`; None where a text is none.
+fn on_trans_data(
+    alloc: Global,
+    word: &str,
+    queue: &str,
+    from: &str,
+) -> Result<Option<Op>, NoMemory> {
     let Ok(queue) = Name4::new(queue.as_bytes()) else {
         return Ok(None);
     };
-    let from = Record::from_slice(alloc, from.as_bytes())?;
-    Ok(Some(Op::TdWrite { queue, from }))
+    Ok(match word {
+        "put" => Some(Op::TdWrite {
+            queue,
+            from: Record::from_slice(alloc, from.as_bytes())?,
+        }),
+        "get" => Some(Op::TdRead { queue }),
+        "purge" => Some(Op::TdDelete { queue }),
+        _ => None,
+    })
 }
 
 // An item behind the others of a queue, as `append QUEUE one`.
@@ -66,8 +79,8 @@ fn append(alloc: Global, queue: Name8, from: &str) -> Result<Option<Op>, NoMemor
 fn any_command(alloc: Global, text: &str) -> Result<Option<Op>, NoMemory> {
     let (word, rest) = cut(text);
     let (name, rest) = cut(rest);
-    if word == "put" {
-        return put(alloc, name, rest);
+    if let Some(op) = on_trans_data(alloc, word, name, rest)? {
+        return Ok(Some(op));
     }
     let Ok(name) = Name8::new(name.as_bytes()) else {
         return Ok(None);
@@ -82,8 +95,8 @@ fn any_command(alloc: Global, text: &str) -> Result<Option<Op>, NoMemory> {
     }
 }
 
-// The entries of a text; None where a line is none.
-fn entries(alloc: Global, text: &str) -> Result<Option<Vec<Entry>>, NoMemory> {
+/// The entries of a text; None where a line is none.
+pub(crate) fn entries(alloc: Global, text: &str) -> Result<Option<Vec<Entry>>, NoMemory> {
     let mut entries = Vec::new(alloc);
     for line in text.lines() {
         let (unit, text) = cut(line);
@@ -95,8 +108,8 @@ fn entries(alloc: Global, text: &str) -> Result<Option<Vec<Entry>>, NoMemory> {
     Ok(Some(entries))
 }
 
-// How the units of a text ended, one after the other; None where a word says nothing of it.
-fn outcomes(alloc: Global, text: &str) -> Result<Option<Vec<UnitState>>, NoMemory> {
+/// How the units of a text ended, one after the other; None where a word says nothing of it.
+pub(crate) fn outcomes(alloc: Global, text: &str) -> Result<Option<Vec<UnitState>>, NoMemory> {
     let mut outcomes = Vec::new(alloc);
     for word in text.split_whitespace() {
         outcomes.push(match word {
@@ -107,21 +120,6 @@ fn outcomes(alloc: Global, text: &str) -> Result<Option<Vec<UnitState>>, NoMemor
         })?;
     }
     Ok(Some(outcomes))
-}
-
-// Whether these queues are listed and no others, each of a line with its name and its items.
-fn shows_queues(
-    alloc: Global,
-    listed: &Items<(Name8, bool, Items<Record>)>,
-    queues: &str,
-) -> Result<bool, NoMemory> {
-    for (at, queue) in queues.lines().enumerate() {
-        let (name, items) = cut(queue);
-        if !is_listed(alloc, listed, at, name, false, items)? {
-            return Ok(false);
-        }
-    }
-    Ok(listed.len() == queues.lines().count())
 }
 
 // Whether the replay of a text, from one record in each file and with these outcomes, leaves these
@@ -138,12 +136,12 @@ fn leaves(
     let (Some(trace), Some(outcomes)) = (entries(alloc, replay)?, outcomes(alloc, ends)?) else {
         return Ok(false);
     };
-    let listing = plain_replay(&opening, &trace, &outcomes)?;
+    let listing = plain_replay(alloc, &opening, &trace, &outcomes)?;
     Ok(
         listing.files.len() == 2
             && is_listed(alloc, &listing.files, 0, "ACCT", true, accounts)?
             && is_listed(alloc, &listing.files, 1, "LOG", false, log)?
-            && shows_queues(alloc, &listing.ts, queues)?
+            && is_ts_listed(alloc, &listing.ts, queues)?
             && listing.td.is_empty()
             && listing.tasks.is_empty(),
     )
@@ -165,7 +163,7 @@ const TWO_UNITS: &str = "\
 fn leaves_of_two(alloc: Global, line: &str) -> Result<bool, Fail> {
     let (ends, accounts) = halves(line);
     let log = "k1 old|k2 one|k3 zero";
-    leaves(alloc, TWO_UNITS, ends, accounts, log, "QUEUE one")
+    leaves(alloc, TWO_UNITS, ends, accounts, log, "plain QUEUE one")
 }
 
 /// A unit that takes away all records under a prefix, in both files.
@@ -235,6 +233,8 @@ const REFUSED: &str = "\
 7 read ACCT k1
 7 drop QUEUE
 7 put DEST lost
+7 get DEST
+7 purge DEST
 ";
 
 #[test]
@@ -265,8 +265,8 @@ const ITEMS: &str = "\
 #[test]
 fn the_items_of_a_queue_are_numbered_from_one(rt: HostRuntime) -> Result<(), Fail> {
     let before = ITEMS.strip_suffix("0 drop QA\n").unwrap_or("");
-    let queues = "QA a|2|c\nQB x";
+    let queues = "plain QA a|2|c\nplain QB x";
     assert!(rt; leaves(rt.alloc(), before, "", "k1 old", "k1 old", queues)?);
-    assert!(rt; leaves(rt.alloc(), ITEMS, "", "k1 old", "k1 old", "QB x")?);
+    assert!(rt; leaves(rt.alloc(), ITEMS, "", "k1 old", "k1 old", "plain QB x")?);
     Ok(())
 }

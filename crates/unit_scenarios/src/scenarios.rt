@@ -13,17 +13,22 @@ use crate::guarded_calls::{Told, deq, end, enq, execute, unlock};
 use crate::looks::shows;
 use cics_enqueue::UnitId;
 use cics_names::{Name8, NoMemory};
-use cics_units::{Op, Units, plain_replay};
+use cics_units::{Op, Opening, Units, plain_replay};
 use std::alloc::Global;
 use std::test::Fail;
+
+/// Units over what an opening holds.
+pub(crate) fn started_with(opening: Opening) -> Result<Units, Fail> {
+    match Units::start(opening) {
+        Ok(units) => Ok(units),
+        Err(_) => Err(NoMemory.into()),
+    }
+}
 
 /// Units over the recoverable file ACCT and the unrecoverable file LOG, with these records in each, a
 /// stroke between them.
 pub(crate) fn started(alloc: Global, records: &str) -> Result<Units, Fail> {
-    match Units::start(opened(alloc, records)?) {
-        Ok(units) => Ok(units),
-        Err(_) => Err(NoMemory.into()),
-    }
+    started_with(opened(alloc, records)?)
 }
 
 /// The first word of a text, and what comes behind it.
@@ -144,14 +149,16 @@ fn comes_out_each_time(units: &mut Units, alloc: Global, line: &str) -> Result<b
     Ok(true)
 }
 
-/// Whether the files themselves list the same as the plain replay of what was executed.
+/// Whether the files and queues themselves list the same as the plain replay of what was executed.
 pub(crate) fn is_replayed(units: &Units) -> Result<bool, NoMemory> {
-    let replayed = plain_replay(units.opening(), units.trace(), units.outcomes())?;
+    let opening = units.opening();
+    let alloc = opening.files().allocator();
+    let replayed = plain_replay(alloc, opening, units.trace(), units.outcomes())?;
     Ok(is_same_listing(&units.listing()?, &replayed))
 }
 
 /// Makes the calls of a scenario in turn, and answers the first line that comes out otherwise, or
-/// after which the files aren't what the plain replay gives, with its number.
+/// after which the files and queues aren't what the plain replay gives, with its number.
 pub(crate) fn first_wrong_of<'a>(
     units: &mut Units,
     alloc: Global,

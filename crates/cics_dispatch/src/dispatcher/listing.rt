@@ -1,4 +1,4 @@
-//! What a region lists: its files and its tasks, and what replaying its history gives.
+//! What a region lists: its files, queues and tasks, and what replaying its history gives.
 
 ghost use Rattle.std.specs.Prelude.{◌≡◌, IfOk};
 ghost use Rattle.cics_dispatch.specs.Answers.{region_listing, replayed_listing, task_state};
@@ -10,7 +10,8 @@ use cics_names::{Items, Name8, NoMemory};
 use cics_units::{Listing, TaskState, Units, plain_replay};
 
 impl Dispatcher {
-    /// The units of work of the region, with the files that they share, their history and its outcomes.
+    /// The units of work of the region, with the files and queues that they share, their history and its
+    /// outcomes.
     pub fn units(&self) -> &Units
         ensures { result.now ≡ record { state = self.now.machine.units; store = self.now.store } }
     {
@@ -45,9 +46,9 @@ impl Dispatcher {
         Ok(tasks)
     }
 
-    /// What stands in the files, the changes of open units included, and what each task that hasn't
-    /// ended does, in the order in which the tasks were attached. This is what a user is shown of the
-    /// region.
+    /// What stands in the files and queues, the changes of open units included, and what each task that
+    /// hasn't ended does, in the order in which the tasks were attached. This is what a user is shown of
+    /// the region.
     ///
     /// It is refused only for want of memory, which it takes for a copy of each record and for the
     /// tasks (`NoMemory`). It changes nothing. Each task costs one look-up of its wait, however many
@@ -60,9 +61,10 @@ impl Dispatcher {
         Ok(listing)
     }
 
-    /// What stands in the files after the history of the region is applied anew, command by command,
-    /// to what was loaded; a command on a recoverable file whose unit was backed out is left out. It
-    /// has no tasks. It goes by no before image, so the files of `listing` can be held against it.
+    /// What stands in the files and queues after the history of the region is applied anew, command by
+    /// command, to what was loaded; a command on a recoverable file or queue whose unit was backed out is
+    /// left out. It has no tasks. It goes by no before image, so the files and queues of `listing` can be
+    /// held against it.
     ///
     /// It is refused only for want of memory, which it takes for a copy of each record (`NoMemory`).
     /// It changes nothing. It takes time in proportion to the records that were loaded and the
@@ -71,6 +73,7 @@ impl Dispatcher {
         ensures { IfOk result (λ listing. listing ≡ replayed_listing self.now) }
     {
         plain_replay(
+            self.alloc,
             self.units.opening(),
             self.units.trace(),
             self.units.outcomes(),

@@ -5,15 +5,9 @@ use Rattle.cics_dispatch.specs.Machine.{Task, is_waiting, replaced, with_unit}
 use Rattle.cics_dispatch.specs.Checks.{fault_of}
 use Rattle.cics_dispatch.specs.Steps.{op_of, executed, reply_of}
 use Rattle.cics_dispatch.specs.Regions.{region_of}
-use Rattle.cics_dispatch.proofs.Ready.{ready_of, is_file_op_of}
+use Rattle.cics_dispatch.proofs.Ready.{ready_of}
 use Rattle.cics_dispatch.proofs.RegionSteps.{told_of, IfOk-then, OnOk-then, waits_open, waits_step, acted_step, busy_none, waits_machine, waits_kept, acted_kept, owner_free, owner_there, placed_within, one_task}
 use Rattle.cics_dispatch.proofs.dispatcher.Dispatcher.update.Goals as goal
-
-pub execute-requires-clause-file : goal.execute-requires-clause-file
-execute-requires-clause-file c =
-    let u = c.self.inside in
-    let t = c.get.result.now in
-    is_file_op_of (region_of u.units u.tasks u.waits u.clock).machine t c.args.command.verb c.args.op.now (subst (λ v. (s : Task) → slice_get v.machine.tasks c.args.at ≡ Some s → op_of v.machine s c.args.command.verb ≡ Some c.args.op.now) (sym c.self.view_is) c.requires.asked t c.get.ensures) c.requires.no_queue
 
 pub execute-requires-clause-ready : goal.execute-requires-clause-ready
 execute-requires-clause-ready c =

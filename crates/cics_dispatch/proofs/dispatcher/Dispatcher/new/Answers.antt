@@ -1,0 +1,26 @@
+use Rattle.std.specs.Prelude.{◌≡◌, List, []}
+use Rattle.std.proofs.Common.{ap, ◌∙◌}
+use Rattle.cics_history.specs.Openings.{OpeningState}
+use Rattle.cics_history.specs.Execution.{UnitsValue}
+use Rattle.cics_history.specs.Headline.{beginning}
+use Rattle.cics_dispatch.specs.Machine.{Task, Suspended, beginning_region}
+use Rattle.cics_dispatch.specs.Regions.{region_of}
+use Rattle.cics_dispatch.proofs.KeptTasks.{kept_begins}
+use Rattle.cics_dispatch.proofs.OwnedUnits.{owned_begins}
+use Rattle.cics_dispatch.proofs.RegionSteps.{kept_as}
+use Rattle.cics_dispatch.proofs.dispatcher.Dispatcher.new.Goals as goal
+
+-- units that have just begun, without a task or a wait, are the beginning of a region
+begun : (o : OpeningState) (units : UnitsValue) (tasks : List Task) (waiting : List Suspended) → units.state ≡ beginning o →
+    tasks ≡ [] → waiting ≡ [] → (region_of units tasks waiting 0).machine ≡ beginning_region o
+begun o units tasks waiting state none none_waits =
+    ap (λ s. record (beginning_region o) { units = s; tasks = tasks; waiting = waiting }) state
+    ∙ ap (λ ts. record (beginning_region o) { tasks = ts; waiting = waiting }) none
+    ∙ ap (λ ws. record (beginning_region o) { waiting = ws }) none_waits
+
+pub invariant_of-result : goal.invariant_of-result
+invariant_of-result c =
+    let o = c.args.opening in
+    kept_as (region_of c.in_ok-units.units c.new.result c.new-2.result 0) (beginning_region o)
+    (begun o c.in_ok-units.units c.new.result c.new-2.result c.in_ok-units.ensures.state c.new.ensures c.new-2.ensures) (kept_begins o)
+    (owned_begins o) (record { headline = c.in_ok-units.ensures.headline })
