@@ -15,8 +15,7 @@ use std::iter::IntoIterator;
 use std::marker::Model;
 use std::mem;
 
-/// Values of one kind, each under its name, in the order of the names' bytes: the files of a region, its transient
-/// data queues.
+/// Values of one kind, each under its name, in the order of the names' bytes: the files of a region.
 ///
 /// Contracts see them as a map from the names to the values, itself in that order. A look-up costs the logarithm of
 /// the number of values.

@@ -21,11 +21,12 @@ use std::marker::Model;
 /// Why a definition or a record to be loaded was refused.
 #[derive(Clone, Copy, Debug, PartialEq, Eq)]
 pub enum DefineFault {
-    /// The name is defined already, or the key of a record is in the file already.
+    /// The name or the prefix is defined already, or the key of a record is in the file already.
     Duplicate,
     /// The key is not 1 to 255 bytes long, or it ends behind the record size.
     BadKey,
-    /// The record size is not 1 to 32,767 bytes, or a record doesn't fit its file.
+    /// The record size is not 1 to 32,767 bytes, a record doesn't fit its file, or one of a transient
+    /// data queue doesn't have 1 to 32,767 bytes.
     BadLength,
     /// Nothing of the name is defined that could be loaded.
     NotThere,
@@ -44,7 +45,7 @@ impl From<NoMemory> for DefineFault {
     }
 }
 
-/// Whether a file may have records of so many bytes at the most.
+/// Whether a file may have records of so many bytes at the most, and a transient data queue one of so many.
 fn is_record_size(size: u64) -> bool
     ensures { result ≡ is_record_size size }
 {

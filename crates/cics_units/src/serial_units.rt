@@ -22,7 +22,7 @@ use std::marker::Model;
 /// did.
 ///
 /// Contracts see the units as `Units` shows them, and beside them that list. After every call the
-/// units take turns (`turns`): what each unit that committed did to recoverable files, one unit after
+/// units take turns (`turns`): what each unit that committed did to recoverable files and queues, one after
 /// the other in the order of the list, gives what would stand there if the open units were backed out;
 /// with the open ones behind, in any order, it gives what stands there. Each command on a recoverable file that
 /// was answered NORMAL has in its unit's turn the answer that its task was given.
@@ -56,7 +56,7 @@ fn make_room(commits: &mut Vec<UnitId>, outcomes: &[UnitState]) -> Result<(), No
 
 impl SerialUnits {
     /// Starts with what an opening holds: no command is executed, and no unit has begun. It takes
-    /// memory for a copy of the files; where that is refused the opening comes back.
+    /// memory for a copy of the files and queues; where that is refused the opening comes back.
     pub fn start(opening: Opening) -> Result<SerialUnits, Opening>
         ensures state { IfOk result (λ all. all.units.state ≡ beginning opening) }
         ensures commits { IfOk result (λ all. all.commits ≡ []) }
@@ -71,7 +71,7 @@ impl SerialUnits {
         })
     }
 
-    /// The units themselves: who holds what, the files, the trace, the outcomes.
+    /// The units themselves: who holds what, the files and queues, the trace, the outcomes.
     pub fn units(&self) -> &Units
         ensures units { result.now ≡ self.now.units }
         ensures headline { IsHeadline self.now.units }
@@ -123,7 +123,7 @@ impl SerialUnits {
         self.commits.push_reserved(unit);
     }
 
-    /// Backs a unit out: it has no turn, and each recoverable file holds what it would hold if the
+    /// Backs a unit out: it has no turn, and each recoverable file and queue holds what it would hold if the
     /// unit had executed nothing. It takes no memory.
     pub fn back_out(&mut self, unit: UnitId)
         requires is_open { IsOpenUnit self.old.units.state unit }

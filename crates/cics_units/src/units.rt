@@ -100,7 +100,7 @@ fn enter(trace: &mut Vec<Entry>, outcomes: &mut Vec<UnitState>, unit: Option<Uni
 
 impl Units {
     /// Starts with what an opening holds: no command is executed, and no unit has begun. It takes
-    /// memory for a copy of the files; where that is refused the opening comes back.
+    /// memory for a copy of the files and queues; where that is refused the opening comes back.
     pub fn start(opening: Opening) -> Result<Units, Opening>
         ensures state { IfOk result (λ units. units.state ≡ beginning opening) }
         ensures headline { IfOk result IsHeadline }
@@ -338,10 +338,10 @@ impl Units {
         self.outcomes[unit.number() as usize] = UnitState::Committed;
     }
 
-    /// Backs a unit out: each recoverable file holds what it would hold if the unit had executed
+    /// Backs a unit out: each recoverable file and queue holds what it would hold if the unit had executed
     /// nothing, and the unit holds nothing more. It takes no memory.
     ///
-    /// - `alone`: where a unit ran alone from some command on, each recoverable file holds what the
+    /// - `alone`: where a unit ran alone from some command on, each recoverable file and queue holds what the
     ///   commands before that one give.
     pub fn back_out(&mut self, unit: UnitId)
         requires is_open { IsOpenUnit self.old.state unit }
