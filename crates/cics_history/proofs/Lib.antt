@@ -18,6 +18,7 @@ pub mod SameHistory
 pub mod Holders
 pub mod LeastHeld
 pub mod EndsHeld
+pub mod Ready
 pub mod States
 pub mod Stores
 pub mod SerialTurns

@@ -1,6 +1,6 @@
 -- Worked examples of units of work: what commands answer, who waits for whom, and what stands after units have ended,
 -- computed from the definitions.
-use Rattle.std.specs.Prelude.{◌≡◌, true, false, Some, None, List, [], ◌∷◌, refl}
+use Rattle.std.specs.Prelude.{◌≡◌, ℕ, true, false, Some, None, List, [], ◌∷◌, refl}
 use Rattle.cics_names.specs.Keyed.{Bytes}
 use Rattle.cics_names.specs.declared.conditions.Condition.TheVariants.{Normal, Duprec, Notfnd, Qzero, Itemerr, Qiderr}
 use Rattle.cics_ksds.specs.declared.definition.FileDef.{FileDef}
@@ -12,10 +12,11 @@ use Rattle.cics_history.specs.Holding.{UnitsState, store_of, committed_for, held
 use Rattle.cics_history.specs.Execution.{execution, after_execution, after_end, after_unlock, enqueue, after_enqueue, after_dequeue, is_ready_op, place_at, ts_reading, after_ts_reading, item_asked, read_at}
 use Rattle.cics_history.specs.Headline.{beginning}
 use Rattle.cics_history.specs.declared.ops.Op.{Op}
-use Rattle.cics_history.specs.declared.ops.Op.TheVariants.{Write, Rewrite, Delete, ReadUpdate, TsWrite, TsRewrite, TsDelete, TdWrite, TdRead, TdDelete}
+use Rattle.cics_history.specs.declared.ops.Op.TheVariants.{Write, Rewrite, Delete, DeleteGeneric, ReadUpdate, TsWrite, TsRewrite, TsDelete, TdWrite, TdRead, TdDelete}
 use Rattle.cics_history.specs.declared.ops.Done.TheVariants.{Answered, MustWait}
 use Rattle.cics_history.specs.declared.ops.Enqueued.TheVariants.{Taken, MustWait as EnqMustWait, CountFull}
 use Rattle.cics_history.specs.declared.ops.UnitState.TheVariants.{Open, Committed, BackedOut}
+use Rattle.std.proofs.Math.ListN.{replicate}
 use lib.Chars.{codes}
 
 -- ---- what the examples are about: a recoverable and an unrecoverable file of accounts, the recoverable temporary storage
@@ -395,3 +396,15 @@ ready = (refl, refl, refl, refl)
 -- a REWRITE without an update read, a second READ UPDATE, a key that isn't the record's, and a queue that isn't defined
 not_ready : (is_ready_op start None (Rewrite acct k1 (codes "0001b")) ≡ false) × (is_ready_op read_0 (Some 0) (ReadUpdate acct k2) ≡ false) × (is_ready_op start None (Write acct k1 (codes "0002b")) ≡ false) × (is_ready_op start None (TdRead rq) ≡ false)
 not_ready = (refl, refl, refl, refl)
+
+-- a key of 255 bytes may name a record, one of 256 bytes may not, and neither may such a prefix
+abbrev long : ℕ → Bytes
+long n = replicate n 0xF0
+
+short_enough : (is_ready_op start None (Delete acct (long 255)) ≡ true) × (is_ready_op start None (DeleteGeneric acct (long 255)) ≡ true)
+    × (is_ready_op start None (ReadUpdate acct (long 255)) ≡ true)
+short_enough = (refl, refl, refl)
+
+too_long : (is_ready_op start None (Delete acct (long 256)) ≡ false) × (is_ready_op start None (DeleteGeneric acct (long 256)) ≡ false)
+    × (is_ready_op start None (ReadUpdate acct (long 256)) ≡ false)
+too_long = (refl, refl, refl)

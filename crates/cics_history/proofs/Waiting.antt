@@ -336,7 +336,8 @@ used-held s n x end r live h =
     ∙ or_left _ _ (any_flat_map (held_by_entry s.opening n) (covers x end) s.trace
     ∙ any_more _ _ (claims_held s.opening x end n r) s.trace h)))
 
-used_known : (m n : ℕ) (x : Cell) (end : End) (es : List Entry) → Each (λ e. e.unit < m) es →
+-- a unit that used something has begun
+pub used_known : (m n : ℕ) (x : Cell) (end : End) (es : List Entry) → Each (λ e. e.unit < m) es →
     used es n x end ≡ true → n < m
 used_known m n x end [] k h = absurd (false≢true h)
 used_known m n x end (e ∷ es) k h = elim (or_cases (claims x end e && eqb e.unit n) (used es n x end) h) [

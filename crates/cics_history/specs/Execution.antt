@@ -277,17 +277,22 @@ is_fit_for (Some file) k r = fits_file file.definition r && is_same (key_of file
 abbrev pub is_item : Bytes → Bool
 is_item d = is_record_size (length d)
 
--- a command is ready to be executed where its file or queue is defined, its record fits, REWRITE has the key of the open
--- update read, and READ UPDATE finds none open
+-- a key, or a prefix of keys, has at most 255 bytes
+abbrev pub is_short_key : Bytes → Bool
+is_short_key k = nat_le (length k) 255
+
+-- a command is ready to be executed where its file or queue is defined, its record fits, its key or prefix has no more bytes
+-- than a key may have, REWRITE has the key of the open update read, and READ UPDATE finds none open. The key of a record
+-- that fits has the length which its file defines
 abbrev pub is_ready_op : UnitsState → Option ℕ → Op → Bool
 is_ready_op s u (Write f k r) = is_fit_for (value_at f s.opening.files) k r
 is_ready_op s u (Rewrite f k r) = is_fit_for (value_at f s.opening.files) k r && same_key (has_read s u f) k where
   same_key : Option Bytes → Bytes → Bool
   same_key None k = false
   same_key (Some l) k = is_same l k
-is_ready_op s u (Delete f k) = has_key f s.opening.files
-is_ready_op s u (DeleteGeneric f p) = has_key f s.opening.files
-is_ready_op s u (ReadUpdate f k) = has_key f s.opening.files && not (is_some (has_read s u f))
+is_ready_op s u (Delete f k) = has_key f s.opening.files && is_short_key k
+is_ready_op s u (DeleteGeneric f p) = has_key f s.opening.files && is_short_key p
+is_ready_op s u (ReadUpdate f k) = has_key f s.opening.files && is_short_key k && not (is_some (has_read s u f))
 is_ready_op s u (TsWrite q d) = is_item d
 is_ready_op s u (TsRewrite q n d) = is_item d
 is_ready_op s u (TsDelete q) = true

@@ -1,5 +1,6 @@
 -- Recovery and task control (chapters on recovery and on task control): what a unit of work holds, read off the history,
--- and when a command must wait for whom. There is no table of enqueues here: a unit holds what it has used until it ends.
+-- and when a command must wait for whom. No table is kept of it: a unit holds what its commands have used until it ends, the
+-- values of its ENQ until their DEQ, and a record of an unrecoverable file while its update read is open.
 use Rattle.std.specs.Prelude.{ℕ, ◌+◌, ◌==◌, Bool, true, false, not, ◌&&◌, ◌||◌, if◌then◌else◌, Option, Some, None, unwrap_or, option_map, filter, map, flat_map, List, [], ◌∷◌, ◌++◌}
 use Rattle.cics_names.specs.Keyed.{Bytes, Map, value_at}
 use Rattle.cics_enqueue.specs.Resources.{Table, Held, bytes_of, overlaps, is_other, lesser}

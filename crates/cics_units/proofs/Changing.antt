@@ -6,7 +6,7 @@ use Rattle.std.specs.Map.{lookup, set_value}
 use Rattle.std.specs.BTreeMap.{is_at}
 use Rattle.cics_names.specs.Keyed.{Bytes, Map, bytes_cmp, value_at, with_value, is_rising}
 use Rattle.cics_images.specs.Cells.{Cell, is_other}
-use Rattle.cics_images.specs.NamedValues.{cell_of as value_cell, split_swept, changed_at, changed_where, KeepsIn, NamedKeep}
+use Rattle.cics_images.specs.NamedValues.{cell_of as value_cell, changed_at, changed_where, KeepsIn, NamedKeep}
 use Rattle.cics_images.specs.NamedLaws as laws
 use Rattle.cics_images.specs.NamedChanges as named
 use Rattle.cics_ksds.specs.Files.{FileValue}
@@ -18,7 +18,7 @@ use Rattle.cics_transdata.specs.UndoLaws as ends
 use Rattle.cics_units.specs.FilesImages.{cell_of, FilesKeep}
 use Rattle.cics_units.specs.FilesChanges.{IsFilesImage, others_kept, image_among}
 use Rattle.cics_units.specs.RegionQueues.{queue_image, QueuesKeep, IsQueuesImage}
-use Rattle.cics_history.proofs.Entries.{value_at-looked_up, with_value-set, rising-set, unchanged-set, with_value-same}
+use Rattle.cics_history.proofs.Entries.{value_at-looked_up, with_value-set, rising-set, unchanged-set}
 
 -- ---- values of any kind
 module _ {M : Type 0} (name : Bytes) (es values : Map M) (f : M) (rising : T (is_rising es)) (found : Some f ≡ lookup (is_at (bytes_cmp name)) es) (view : es ≡ values) where
@@ -91,15 +91,6 @@ module _ (name : Bytes) (es queues : Map TransState) (f : TransState) (rising : 
   pub without_image : (o : Option TdImage) → IfNone o (KeepsEnds (λ _. true) f g) → IfNone (option_map (queue_image name) o) (QueuesKeep (λ _. true) queues new)
   without_image None keeps = kept name es queues f rising found view g new set KeepsEnds ends.keeps_itself (λ _. true) keeps
   without_image (Some i) keeps = tt
-
--- nothing is held back for queues, so to sweep a cell leaves them as they are
-swept_where : (name : Bytes) (m : Map TransState) (o : Option TransState) → T (is_rising m) → value_at name m ≡ o → changed_where (λ q. q) name o m ≡ m
-swept_where name m None rising is = refl
-swept_where name m (Some q) rising is = with_value-same name q m rising is
-
-pub swept_nothing : (m : Map TransState) (o : Option (Bytes × Cell)) → T (is_rising m) → split_swept (λ q c. q) m o ≡ m
-swept_nothing m None rising = refl
-swept_nothing m (Some e) rising = swept_where e.0 m (value_at e.0 m) rising refl
 
 -- what follows from a fact of the value of a success
 pub IfOk-more : {A E : Type 0} (r : Result A E) (P Q : A → Type 0) → ((a : A) → P a → Q a) → IfOk r P → IfOk r Q

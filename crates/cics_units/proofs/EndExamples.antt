@@ -1,5 +1,8 @@
 -- Worked rows of the definitions of a unit's end over files, temporary storage and transient data.
-use Rattle.std.proofs.Common.{◌≡◌, true, false, List, [], ◌∷◌, refl}
+use Rattle.std.proofs.Common.{◌≡◌, true, false, List, [], ◌∷◌, refl, arith}
+use Rattle.std.proofs.lemmas.Bool.{true≢false, false≢true}
+use Rattle.cics_transdata.specs.Trans.{TransState, IsMarked}
+use Rattle.cics_units.specs.HeldBack.{HoldsNothingBack}
 use Rattle.cics_images.specs.declared.stores.StoreImage.TheVariants.{TempStorage, TransData}
 use Rattle.cics_tempstor.specs.declared.images.Before.TheVariants.{Added}
 use Rattle.cics_transdata.specs.declared.queues.Recovery.TheVariants.{Logical}
@@ -55,6 +58,24 @@ holds_row_back = refl
 holds_no_mark : any_holds few (2 ∷ 1 ∷ 7 ∷ 0 ∷ []) ≡ false
 unfolding few
 holds_no_mark = refl
+
+-- so neither the row nor a mark is nothing
+row_is_held : HoldsNothingBack few → ⊥
+unfolding few
+row_is_held none = false≢true (none.temp_storage (5 ∷ []) (record { items = []; next = 0 }) refl)
+
+mark_is_held : HoldsNothingBack few → ⊥
+unfolding few
+mark_is_held none = nothing (none.trans_data (8 ∷ []) one_written refl marked).1
+  where
+    one_written : TransState
+    one_written = record { kind = Logical; placed = (4 ∷ []) ∷ []; read = 0; written = 1 }
+
+    marked : IsMarked one_written
+    marked = record { read = omega arith; written = omega arith; unmarked = λ other. absurd (true≢false other) }
+
+    nothing : one_written.written ≡ 0 → ⊥
+    nothing e = omega (arith, e)
 
 -- the writer of the second queue commits: its record is like all others
 writers : (writers_settled few own).trans_data

@@ -11,7 +11,7 @@ use Rattle.cics_tempstor.specs.Places.{AreInOrder}
 use Rattle.cics_tempstor.specs.Queues.{ts_swept}
 use Rattle.cics_tempstor.specs.Undo.{name_of_image, KeepsQueues}
 use Rattle.cics_transdata.specs.Trans.{TransState}
-use Rattle.cics_transdata.specs.Undo.{end_of, content_at as end_content, KeepsEnds}
+use Rattle.cics_transdata.specs.Undo.{content_at as end_content, KeepsEnds}
 use Rattle.cics_transdata.specs.UndoLaws as queue
 use Rattle.cics_history.specs.Openings.{IsOpeningInOrder}
 use Rattle.cics_history.specs.Holding.{UnitsState}
@@ -24,16 +24,15 @@ use Rattle.cics_units.specs.FilesImages.{FilesKeep, cell_of_image, files_swept, 
 use Rattle.cics_units.specs.UnitImages.{kept_by, AreOthersKept, AreHeldForImages}
 use Rattle.cics_units.specs.StoreMatching.{StoreValue, AnyImage, shown_store, cell_of_any, any_content, any_swept, AnyKeep, any_holds}
 use Rattle.cics_units.specs.StoreInPlace.{AreInPlace, reader_ended, writer_ended}
-use Rattle.cics_units.specs.StoreEnds.{file_images, ts_images, td_images, any_fixed, ends_settled, has_end, IsEnded}
+use Rattle.cics_units.specs.StoreEnds.{file_images, ts_images, any_fixed, ends_settled, has_end, IsEnded}
 use Rattle.cics_units.proofs.StoreQueues.{all_swept_queue}
-use Rattle.cics_units.proofs.StoreEnds.{swept_files, swept_rows, swept_queues, rising-all_swept, queues_rise}
+use Rattle.cics_units.proofs.StoreEnds.{swept_files, swept_rows, swept_queues, queues_rise}
 use Rattle.cics_units.proofs.StoreSettled.{ends_files, ends_rows, ends_rising, ends_at, ends_held}
 use Rattle.cics_units.proofs.StoreEnded.{committed_ended, committed_shows}
 
 -- to sweep the cells of images leaves the names of the queues rising
 swept_rise : (js : List AnyImage) (m : StoreValue) → is_rising m.trans_data ≡ true → is_rising (all_swept any_swept cell_of_any m js).trans_data ≡ true
-swept_rise js m rising = subst (λ queues. is_rising queues ≡ true) (sym (swept_queues js m))
-    (rising-all_swept (λ q c. q) end_of (td_images js) m.trans_data rising)
+swept_rise js m rising = subst (λ queues. is_rising queues ≡ true) (sym (swept_queues js m)) rising
 
 -- to settle ends and then to sweep is to sweep and then to settle
 pub either_first : (m : StoreValue) (is js : List AnyImage) → is_rising m.trans_data ≡ true →

@@ -7,7 +7,7 @@ use Rattle.cics_names.specs.Keyed.{Bytes, Map, value_at, has_key, is_same, is_ke
 use Rattle.cics_names.specs.KeyedLaws.{is_same-eq}
 use Rattle.cics_names.specs.declared.conditions.Condition.{Condition}
 use Rattle.cics_images.specs.Cells.{is_other, AreReadyInTurn, LeadBack, images_of, is_unnamed, all_swept}
-use Rattle.cics_images.specs.NamedValues.{split, of_value, of_split, named_holds}
+use Rattle.cics_images.specs.NamedValues.{split, of_value, of_split}
 use Rattle.cics_images.specs.StoreCells.{file_cell}
 use Rattle.cics_ksds.specs.Files.{FileValue, key_of as file_key_of, fits_file}
 use Rattle.cics_enqueue.specs.Resources.{Table, released}
@@ -19,12 +19,13 @@ use Rattle.cics_history.specs.Openings.{OpeningState, FileOpening, QueueOpening,
 use Rattle.cics_history.specs.Store.{Store, apply, is_recoverable, initial_store}
 use Rattle.cics_history.specs.History.{is_open, kept}
 use Rattle.cics_history.specs.Holding.{UnitsState, store_of, awaited}
+use Rattle.cics_history.proofs.Ready.{ready_short}
 use Rattle.cics_history.specs.Execution.{unit_or_next, outcomes_with, next_after, entered, state_of, after_execution, after_unlock, after_end, read_at, is_fit_for, is_ready_op}
 use Rattle.cics_history.specs.Headline.{IsHeadline, beginning}
 use Rattle.cics_history.specs.Cells.{IsCanonical, Writing}
 use Rattle.cics_history.specs.Events.{may_act, is_live}
 use Rattle.cics_history.specs.Isolation.{IsSound}
-use Rattle.cics_history.specs.Records.{is_file_op, file_of, key_of}
+use Rattle.cics_history.specs.Records.{is_file_op, file_of}
 use Rattle.cics_history.specs.declared.ops.Op.{Op}
 use Rattle.cics_history.specs.declared.ops.Op.TheVariants.{Write, Rewrite, Delete, DeleteGeneric, ReadUpdate, TsWrite, TsRewrite, TsDelete, TdWrite, TdRead, TdDelete}
 use Rattle.cics_history.specs.declared.ops.Answer.{Answer}
@@ -81,24 +82,12 @@ none_held files c = by (split c)
         opened None = refl
         opened (Some x) = refl
 
--- of transient data nothing is held back
-none_held_queue : (queues : Map TransState) (c : List ℕ) → named_holds (λ q k. false) queues c ≡ false
-none_held_queue queues c = by (split c)
-  where
-    by : (e : Option (Bytes × List ℕ)) → of_split false (λ (q : TransState) (k : List ℕ). false) queues e ≡ false
-    by None = refl
-    by (Some e) = there (value_at e.0 queues)
-      where
-        there : (o : Option TransState) → of_value false (λ (q : TransState). false) o ≡ false
-        there None = refl
-        there (Some q) = refl
-
 -- nothing is held back in what a region begins with
 opened_holds : (o : OpeningState) (c : List ℕ) → any_holds (opened_store o) c ≡ false
 opened_holds o [] = refl
 opened_holds o (zero ∷ c) = none_held o.files c
 opened_holds o (suc zero ∷ c) = refl
-opened_holds o (suc (suc zero) ∷ c) = none_held_queue (opened_queues o.queues) c
+opened_holds o (suc (suc zero) ∷ c) = refl
 opened_holds o (suc (suc (suc n)) ∷ c) = refl
 
 -- where the second test fails, not both hold
@@ -195,9 +184,9 @@ module _ (s : UnitsState) (st : UndoableValue) (t : Table) (is : AreKept s st t)
   pub ready_fits : (u : Option ℕ) (op : Op) → is_ready_op s u op ≡ true → IsFitOp st.store op
   ready_fits u (Write f k r) ready = record_of_defined f k r ready
   ready_fits u (Rewrite f k r) ready = record_of_defined f k r (and_parts (is_fit_for (value_at f s.opening.files) k r) _ ready).0
-  ready_fits u (Delete f k) ready = defined_there f ready
-  ready_fits u (DeleteGeneric f p) ready = defined_there f ready
-  ready_fits u (ReadUpdate f k) ready = defined_there f (and_parts (has_key f s.opening.files) _ ready).0
+  ready_fits u (Delete f k) ready = defined_there f (and_parts (has_key f s.opening.files) _ ready).0
+  ready_fits u (DeleteGeneric f p) ready = defined_there f (and_parts (has_key f s.opening.files) _ ready).0
+  ready_fits u (ReadUpdate f k) ready = defined_there f (and_parts (has_key f s.opening.files) _ (and_parts _ _ ready).0).0
   ready_fits u (TsWrite q d) ready = tt
   ready_fits u (TsRewrite q n d) ready = tt
   ready_fits u (TsDelete q) ready = tt
@@ -374,7 +363,7 @@ module _ (s : UnitsState) (st new : UndoableValue) (t : Table) (is : AreKept s s
   pub is_entered : after_execution s u op ≡ entered s u op answer
   is_entered = ap (state_of s u op) free
 
-  module _ (ready : is_ready_op s u op ≡ true) (short : length (key_of op) ≤ 255) (room : unit_or_next u s.outcomes < length st.images) where
+  module _ (ready : is_ready_op s u op ≡ true) (room : unit_or_next u s.outcomes < length st.images) where
     -- a command that leaves all in place keeps all
     kept_left : AreInPlace (after_execution s u op) new.store new.images → shown_store new.store ≡ (apply (shown_store st.store) op).store → AreAsDefined s.opening new.store →
         HavePlaces (entered s u op answer) new.store.temp_storage → AreOthersKept st.images new.images (unit_or_next u s.outcomes) →
@@ -391,7 +380,7 @@ module _ (s : UnitsState) (st new : UndoableValue) (t : Table) (is : AreKept s s
       defined = defined;
       rows = places.in_order;
       places = sym places.places;
-      table = table_entered s t u op answer is.sound is.table acts free ready short;
+      table = table_entered s t u op answer is.sound is.table acts free ready (ready_short s u op is.lawful_keys ready);
       held = held_after_change any_holds cell_of_any st.store new.store st.images new.images (unit_or_next u s.outcomes) apart held more is.held;
       begun = begun_by u room;
     }

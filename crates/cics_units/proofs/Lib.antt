@@ -57,3 +57,4 @@ pub mod StoreSettled
 pub mod StoreEnded
 pub mod EndsFirst
 mod EndExamples
+mod NothingHeld

@@ -3,7 +3,7 @@
 use Rattle.std.proofs.Common.{◌≡◌, ◌≢◌, ℕ, true, false, Option, None, refl, ap, sym, subst, ◌∙◌, inl, inr, ◌⊎◌}
 use Rattle.std.specs.Prelude.{unwrap_or, option_map}
 use Rattle.std.proofs.lemmas.Bool.{cases_Bool, true≢false, false≢true}
-use Rattle.cics_names.specs.Keyed.{Map}
+use Rattle.cics_names.specs.Keyed.{Map, with_value}
 use Rattle.cics_images.specs.Cells.{is_other, is_unnamed}
 use Rattle.cics_images.specs.declared.stores.StoreImage.TheVariants.{TempStorage}
 use Rattle.cics_tempstor.specs.declared.queue_rows.Row.{Row}
@@ -68,7 +68,8 @@ module _ (s : UnitsState) (old new : UndoableValue) (u : Option ℕ) (op : Op) (
         store = ap shown_store done.store
             ∙ queue_stored s old.store old.images new.images u op done.before done.after done.image sound place acts free is done.rising done.there kind done.change;
         files = ap (λ (n : StoreValue). n.files) done.store;
-        held = λ c unnamed held. trans_held old.store _ c (ap (λ n. any_holds n c) (sym done.store) ∙ held);
+        held = λ c unnamed held. trans_held old.store (with_value (queue_of op) done.after old.store.trans_data) c
+            (ap (λ n. any_holds n c) (sym done.store) ∙ held);
         answered = done.answered
             ∙ sym (trans_answered op (holds_end s unit (queue_of op) Writing) old.store done.before is done.there
             (told s old.store old.images new.images u op done.before done.after done.image sound place acts free is done.rising done.there kind done.change));

@@ -1,15 +1,14 @@
 -- What a command on a queue holds back: an empty row of temporary storage, where its unit keeps an image of the queue, and nothing
 -- of transient data.
-use Rattle.std.specs.Prelude.{◌≡◌, ℕ, zero, suc, Bool, true, false, not, ◌&&◌, ◌-◌, nat_lt, Option, Some, None, is_some, option_map, length, slice_set, List, [], ◌∷◌, ◌++◌}
+use Rattle.std.specs.Prelude.{◌≡◌, ℕ, zero, suc, Bool, true, false, not, ◌&&◌, ◌-◌, nat_lt, Option, Some, is_some, option_map, length, slice_set, List, [], ◌∷◌, ◌++◌}
 use Rattle.std.proofs.Common.{sym, ap, ◌∙◌, subst, refl, inl, inr}
 use Rattle.std.proofs.lemmas.Bool.{cases_Bool, false≢true, and_parts}
 use Rattle.std.specs.Str.{bytes_eq}
 use Rattle.cics_names.specs.Keyed.{Bytes, Map, has_key, with_value, without}
 use Rattle.cics_names.specs.KeyedLaws.{value_at-with_value_other, value_at-without_same, value_at-without_other}
-use Rattle.cics_images.specs.Cells.{is_other, is_unnamed}
+use Rattle.cics_images.specs.Cells.{is_unnamed}
 use Rattle.cics_images.specs.Cells as images
 use Rattle.cics_images.specs.NamedLaws.{same_or_other}
-use Rattle.cics_images.specs.NamedValues.{split, of_split, of_value, named_holds}
 use Rattle.cics_images.specs.StoreCells.{temp_cell, with_temp_storage, with_trans_data}
 use Rattle.cics_images.specs.declared.stores.StoreImage.TheVariants.{TempStorage}
 use Rattle.cics_tempstor.specs.declared.images.TsImage.{TsImage}
@@ -114,22 +113,10 @@ read_held m q n (suc zero ∷ c) held = elim (cases_Bool (has_item (queue_at q m
 read_held m q n (suc (suc zero) ∷ c) held = held
 read_held m q n (suc (suc (suc k)) ∷ c) held = held
 
--- of transient data nothing is held back
-none_held : (queues : Map TransState) (c : images.Cell) → named_holds (λ (t : TransState) (c : images.Cell). false) queues c ≡ false
-none_held queues c = by (split c)
-  where
-    by : (o : Option (Bytes × images.Cell)) → of_split false (λ (t : TransState) (c : images.Cell). false) queues o ≡ false
-    by None = refl
-    by (Some e) = nothing _
-      where
-        nothing : (o : Option TransState) → of_value false (λ (t : TransState). false) o ≡ false
-        nothing None = refl
-        nothing (Some t) = refl
-
--- so no command on a transient data queue holds back more
+-- of transient data nothing is held back, so no command on a queue of it holds back more
 pub trans_held : (m : StoreValue) (queues : Map TransState) (c : images.Cell) → any_holds (with_trans_data m queues) c ≡ true → any_holds m c ≡ true
 trans_held m queues [] held = held
 trans_held m queues (zero ∷ c) held = held
 trans_held m queues (suc zero ∷ c) held = held
-trans_held m queues (suc (suc zero) ∷ c) held = absurd (false≢true (sym (none_held queues c) ∙ held))
+trans_held m queues (suc (suc zero) ∷ c) held = held
 trans_held m queues (suc (suc (suc n)) ∷ c) held = held

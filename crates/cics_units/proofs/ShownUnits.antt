@@ -1,24 +1,15 @@
 -- What the units show after each call is what the call makes of their state.
 use Rattle.std.proofs.Common.{◌≡◌, ℕ, ◌<◌, ◌≤◌, Bool, true, false, not, Option, Some, None, List, [], ◌∷◌, ◌++◌, length, refl, ap, sym, subst, ◌∙◌, arith}
-use Rattle.std.specs.Prelude.{if◌then◌else◌, MatchBool, T, map, IfSome, filter, slice_set, ◌==◌, All}
+use Rattle.std.specs.Prelude.{if◌then◌else◌, MatchBool, IfSome, filter, slice_set, ◌==◌, All}
 use Rattle.std.specs.Option.{option_copied}
 use Rattle.std.proofs.Common.{Bor}
 use Rattle.std.proofs.lemmas.List.Elements.{All-head, All-tail}
-use Rattle.cics_names.specs.Keyed.{is_same, is_rising}
-use Rattle.cics_names.specs.KeyedLaws.{is_same-self, is_same-eq}
-use Rattle.cics_ksds.specs.Files.{records_of}
-use Rattle.cics_transdata.specs.Trans.{TransState, queue_of}
-use Rattle.cics_transdata.specs.declared.queues.Recovery.{Recovery}
-use Rattle.cics_units.specs.RegionFiles.{files_listed}
-use Rattle.cics_units.specs.Listings.{recovery_in}
-use Rattle.cics_history.proofs.Entries.{first, second, value_at-below}
+use Rattle.cics_names.specs.Keyed.{is_same}
 use Rattle.std.specs.List.{list_any}
 use Rattle.std.specs.Prelude.{is_some}
 use Rattle.std.proofs.Common.{inl, inr, eqb}
-use Rattle.cics_names.specs.Keyed.{has_key}
 use Rattle.std.proofs.lemmas.Bool.{cases_Bool, and_parts, or_left, or_right, false≢true, and_from, lt-ltb}
 use Rattle.cics_names.specs.Keyed.{Bytes, Map, value_at}
-use Rattle.cics_ksds.specs.Files.{FileValue}
 use Rattle.cics_tempstor.specs.Queues.{places_of}
 use Rattle.cics_enqueue.specs.Resources.{Table, released}
 use Rattle.cics_history.specs.Openings.{OpeningState, file_recoverable}
@@ -28,7 +19,7 @@ use Rattle.cics_history.specs.Execution.{execution, done_of, state_of, has_read,
 use Rattle.cics_history.specs.Headline.{beginning}
 use Rattle.cics_history.specs.Events.{is_live, may_act}
 use Rattle.cics_units.specs.StoreMatching.{StoreValue, UndoableValue, shown_store}
-use Rattle.cics_history.specs.Records.{is_file_op, file_of, key_of}
+use Rattle.cics_history.specs.Records.{is_file_op, file_of}
 use Rattle.cics_units.specs.Uses.{uses_if, AreFreeFor}
 use Rattle.cics_units.specs.Awaiting.{is_writer, unit_in_way}
 use Rattle.cics_units.specs.QueueChanges.{queue_of as queue_on, AreQueuesChanged}
@@ -95,21 +86,21 @@ module _ (o : OpeningState) (trace : List Entry) (outcomes : List UnitState) (p 
 
   -- ---- A command
   module _ (u : Option ℕ) (op : Op) (acts : may_act before u ≡ true) (free : awaited before u op ≡ None) (ready : is_ready_op before u op ≡ true)
-      (short : length (key_of op) ≤ 255) (room : unit_or_next u outcomes < length p.stores.images) (answer : Answer)
+      (room : unit_or_next u outcomes < length p.stores.images) (answer : Answer)
       (changed : MatchBool (is_file_op op) (AreChanged p.stores new.stores (unit_or_next u outcomes) op)
       (AreQueuesChanged p.stores new.stores (unit_or_next u outcomes) op (told_in p.table (unit_or_next u outcomes) op (is_recoverable o op)) answer))
       (of_file : is_file_op op ≡ true → answer ≡ (apply (shown_store p.stores.store) op).answer)
       (table : new.table ≡ table_executed o (unit_or_next u outcomes) op answer.condition p.reads p.table)
       (reads : new.reads ≡ reads_after (unit_or_next u outcomes) op answer.condition p.reads) where
     pub told : answer ≡ (apply (store_of before) op).answer
-    told = answered_right before p.stores new.stores p.table is u op acts free ready short room answer changed of_file
+    told = answered_right before p.stores new.stores p.table is u op acts free ready room answer changed of_file
 
     abbrev entry : Entry
     entry = record { unit = unit_or_next u outcomes; op = op; answer = answer }
 
     kept_then : AreKept (entered before u op answer) new.stores (table_executed o (unit_or_next u outcomes) op answer.condition p.reads p.table)
     kept_then = subst (λ a. AreKept (entered before u op a) new.stores (table_executed o (unit_or_next u outcomes) op a.condition p.reads p.table)) (sym told)
-        (kept_executed before p.stores new.stores p.table is u op acts free ready short room answer changed)
+        (kept_executed before p.stores new.stores p.table is u op acts free ready room answer changed)
 
     entered_state : state_shown o (trace ++ entry ∷ []) (outcomes_with u outcomes) new ≡ entered before u op answer
     entered_state = λ i. record (entered before u op answer) {
@@ -136,37 +127,6 @@ read_short (r ∷ rs) u f short =
 pub copied_short : (k : Option (Bor Bytes)) (o : Option Bytes) → option_copied k ≡ o → IfSome o (λ b. length b ≤ 255) → IfSome k (λ b. length b.now ≤ 255)
 copied_short None o is short = tt
 copied_short (Some k) o is short = subst (λ x. IfSome x (λ b. length b ≤ 255)) (sym is) short
-
--- ---- Listings
--- what each entry of a map by name shows of itself is what is told by its name
-module _ {X Y A B : Type 0} (look : X → A) (told : Bytes → A) (shown : X → Y) (rest : Y → B) where
-  nothing_there : {x : X} → None ≡ Some x → ⊥
-  nothing_there e = cc
-
-  listed_alike : (m : Map X) → T (is_rising m) → ((k : Bytes) (x : X) → value_at k m ≡ Some x → look x ≡ told k) →
-      map {B = Bytes × A × B} (λ e. (e.0, look e.1, rest (shown e.1))) m ≡ map (λ e. (e.0, told e.0, rest e.1)) (map {B = Bytes × Y} (λ e. (e.0, shown e.1)) m)
-  listed_alike [] rises alike = refl
-  listed_alike (e ∷ m) rises alike = λ i.
-      (e.0, alike e.0 e.1 (rw (is_same-self e.0) refl) i, rest (shown e.1))
-      ∷ listed_alike m (second _ _ rises) (λ k x at. alike k x (later k x at)) i
-    where
-      later : (k : Bytes) (x : X) → value_at k m ≡ Some x → value_at k (e ∷ m) ≡ Some x
-      later k x at = elim (is_same k e.0) as (λ b. is_same k e.0 ≡ b → (if b then Some e.1 else value_at k m) ≡ Some x) [
-        | true ↦ λ same. absurd (nothing_there (sym (value_at-below e.0 m (first _ _ rises)) ∙ ap (λ g. value_at g m) (sym (is_same-eq k e.0 same)) ∙ at))
-        | false ↦ λ other. at
-      ] refl
-
-module _ (o : OpeningState) where
-  -- the files are listed as the opening defines them
-  pub files_alike : (m : Map FileValue) → T (is_rising m) → ((f : Bytes) (x : FileValue) → value_at f m ≡ Some x → x.definition.recoverable ≡ file_recoverable o f) →
-      files_listed m ≡ map (λ e. (e.0, file_recoverable o e.0, records_of e.1)) (map {B = Bytes × Map Bytes} (λ e. (e.0, e.1.records)) m)
-  files_alike = listed_alike (λ (x : FileValue). x.definition.recoverable) (file_recoverable o) (λ x. x.records) records_of
-
-  -- and so are the transient data queues
-  pub queues_alike : (m : Map TransState) → T (is_rising m) → ((q : Bytes) (t : TransState) → value_at q m ≡ Some t → t.kind ≡ recovery_in (value_at q o.queues)) →
-      map {B = Bytes × Recovery × List Bytes} (λ e. (e.0, e.1.kind, queue_of e.1)) m
-      ≡ map (λ e. (e.0, recovery_in (value_at e.0 o.queues), e.1)) (map {B = Bytes × List Bytes} (λ e. (e.0, queue_of e.1)) m)
-  queues_alike = listed_alike (λ (t : TransState). t.kind) (λ q. recovery_in (value_at q o.queues)) queue_of (λ l. l)
 
 -- ---- The beginning
 -- what has just begun shows the beginning
@@ -218,7 +178,7 @@ module _ (o : OpeningState) (trace : List Entry) (outcomes : List UnitState) (p 
     free_way none = subst (λ rs. AreFreeFor p.table rs (unit_or_next u outcomes)) (sym (uses_alike o op))
         (uses_free state_before p.table is.sound is.table u op (awaited_is ∙ none))
 
-    module _ (none : in_way ≡ None) (ready : is_ready_op state_before u op ≡ true) (short : length (key_of op) ≤ 255)
+    module _ (none : in_way ≡ None) (ready : is_ready_op state_before u op ≡ true)
         (answer : Answer) (done : AreExecuted p new (unit_or_next u outcomes) op (is_recoverable o op) answer) where
       free : awaited state_before u op ≡ None
       free = awaited_is ∙ none
@@ -261,21 +221,21 @@ module _ (o : OpeningState) (trace : List Entry) (outcomes : List UnitState) (p 
           ∙ ap (λ m. given_record m (is_writer p.table (unit_or_next u outcomes) (queue_on op)) op) done.room.store
 
       pub parts_state : state_shown o (trace ++ record { unit = unit_or_next u outcomes; op = op; answer = answer } ∷ []) (outcomes_with u outcomes) new ≡ after_execution state_before u op
-      parts_state = executed_state o trace outcomes roomy_parts new roomy_kept u op roomy_acts roomy_free roomy_ready short done.begun answer done.changed right_then table_is done.reads
+      parts_state = executed_state o trace outcomes roomy_parts new roomy_kept u op roomy_acts roomy_free roomy_ready done.begun answer done.changed right_then table_is done.reads
           ∙ ap (λ s. after_execution s u op) roomy_state
 
       pub parts_kept : AreKept (state_shown o (trace ++ record { unit = unit_or_next u outcomes; op = op; answer = answer } ∷ []) (outcomes_with u outcomes) new) new.stores new.table
-      parts_kept = executed_shown o trace outcomes roomy_parts new roomy_kept u op roomy_acts roomy_free roomy_ready short done.begun answer done.changed right_then table_is done.reads
+      parts_kept = executed_shown o trace outcomes roomy_parts new roomy_kept u op roomy_acts roomy_free roomy_ready done.begun answer done.changed right_then table_is done.reads
 
       pub answered : Answered (unit_or_next u outcomes) answer ≡ execution state_before u op
       answered = ap (Answered (unit_or_next u outcomes))
-          (told o trace outcomes roomy_parts new roomy_kept u op roomy_acts roomy_free roomy_ready short done.begun answer done.changed right_then table_is done.reads
+          (told o trace outcomes roomy_parts new roomy_kept u op roomy_acts roomy_free roomy_ready done.begun answer done.changed right_then table_is done.reads
           ∙ ap (λ s. (apply (store_of s) op).answer) roomy_state)
           ∙ sym (ap (done_of state_before u op) free)
 
 -- READ UPDATE is ready where the unit has no record of the file read for update
 pub none_open_of : (s : UnitsState) (u : Option ℕ) (op : Op) → ((v : ℕ) → list_any (λ r. r.unit == v) s.reads ≡ true → v < length s.outcomes) → is_ready_op s u op ≡ true → is_read op ≡ true → read_at s.reads (unit_or_next u s.outcomes) (file_of op) ≡ None
-none_open_of s u (ReadUpdate f k) known ready read = by u (and_parts (has_key f s.opening.files) _ ready).1
+none_open_of s u (ReadUpdate f k) known ready read = by u (and_parts _ _ ready).1
   where
     by : (u : Option ℕ) → not (is_some (has_read s u f)) ≡ true → read_at s.reads (unit_or_next u s.outcomes) f ≡ None
     by None t = no_reads s.reads known

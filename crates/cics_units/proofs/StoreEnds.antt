@@ -19,7 +19,7 @@ use Rattle.cics_tempstor.specs.Shown.{queue_shown, queues_of-shown, value_at-sho
 use Rattle.cics_tempstor.specs.Undo.{name_of_image, undone as rows_undone}
 use Rattle.cics_tempstor.specs.Places.{AreInOrder, backed_out, committed, in_order_committed, in_order_backed_out}
 use Rattle.cics_transdata.specs.Trans.{queue_of}
-use Rattle.cics_transdata.specs.Undo.{end_of, undone as queue_undone}
+use Rattle.cics_transdata.specs.Undo.{undone as queue_undone}
 use Rattle.cics_history.specs.Openings.{is_in_order}
 use Rattle.cics_history.specs.Cells.{IsCanonical}
 use Rattle.cics_history.proofs.Maps.{of_T, rising-with_value, rising-without}
@@ -68,8 +68,7 @@ swept_rows (TempStorage i ∷ is) m = swept_rows is (any_swept m (cell_of_any (T
 swept_rows (TransData i ∷ is) m = swept_rows is (any_swept m (cell_of_any (TransData i)))
 
 -- the transient data queues, in which nothing is held back
-pub swept_queues : (is : List AnyImage) (m : StoreValue) → (all_swept any_swept cell_of_any m is).trans_data ≡
-    all_swept (λ s c. named_swept (λ q c. q) s c) (λ i. named_cell end_of i) m.trans_data (td_images is)
+pub swept_queues : (is : List AnyImage) (m : StoreValue) → (all_swept any_swept cell_of_any m is).trans_data ≡ m.trans_data
 swept_queues [] m = refl
 swept_queues (File i ∷ is) m = swept_queues is (any_swept m (cell_of_any (File i)))
 swept_queues (TempStorage i ∷ is) m = swept_queues is (any_swept m (cell_of_any (TempStorage i)))
@@ -88,10 +87,8 @@ module _ (m n : StoreValue) (is : List AnyImage) (whole : n ≡ all_swept any_sw
       ∙ ap (λ rows. all_swept ts_swept name_of_image rows (ts_images is)) (undone_rows is m)
 
   -- the transient data queues
-  pub queues_backed_out : n.trans_data ≡ all_swept (λ s c. named_swept (λ q c. q) s c) (λ i. named_cell end_of i)
-      (fold (λ s i. named_undone queue_undone s i) m.trans_data (td_images is)) (td_images is)
-  queues_backed_out = ap (λ (x : StoreValue). x.trans_data) whole ∙ swept_queues is (fold any_undone m is)
-      ∙ ap (λ queues. all_swept (λ s c. named_swept (λ q c. q) s c) (λ i. named_cell end_of i) queues (td_images is)) (undone_queues is m)
+  pub queues_backed_out : n.trans_data ≡ fold (λ s i. named_undone queue_undone s i) m.trans_data (td_images is)
+  queues_backed_out = ap (λ (x : StoreValue). x.trans_data) whole ∙ swept_queues is (fold any_undone m is) ∙ undone_queues is m
 
 -- ---- after a commit, before its ends are settled
 module _ (m n : StoreValue) (is : List AnyImage) (whole : n ≡ all_swept any_swept cell_of_any m is) where
@@ -104,7 +101,7 @@ module _ (m n : StoreValue) (is : List AnyImage) (whole : n ≡ all_swept any_sw
   rows_committed = ap (λ (x : StoreValue). x.temp_storage) whole ∙ swept_rows is m
 
   -- the transient data queues
-  pub queues_committed : n.trans_data ≡ all_swept (λ s c. named_swept (λ q c. q) s c) (λ i. named_cell end_of i) m.trans_data (td_images is)
+  pub queues_committed : n.trans_data ≡ m.trans_data
   queues_committed = ap (λ (x : StoreValue). x.trans_data) whole ∙ swept_queues is m
 
 -- ---- names that rise
@@ -218,8 +215,7 @@ module _ (m : StoreValue) (canonical : IsCanonical (shown_store m)) where
         (keys_swept (file_images is) (fold files_undone m.files (file_images is)) (keys_undone (file_images is) m.files keys_rise)))
         (subst (λ rows. T (is_rising rows)) (sym (rows_backed_out m n is whole)) (in_order_backed_out m.temp_storage (ts_images is) rows).rising)
         (subst (λ queues. is_rising queues ≡ true) (sym (queues_backed_out m n is whole))
-        (rising-all_swept (λ q c. q) end_of (td_images is) (fold (λ s i. named_undone queue_undone s i) m.trans_data (td_images is))
-        (rising-all_undone queue_undone (td_images is) m.trans_data queues_rise)))
+        (rising-all_undone queue_undone (td_images is) m.trans_data queues_rise))
 
     -- and so does a commit
     pub canonical_committed : n ≡ all_swept any_swept cell_of_any m is → IsCanonical (shown_store n)
@@ -228,5 +224,4 @@ module _ (m : StoreValue) (canonical : IsCanonical (shown_store m)) where
         (rising-all_swept swept key_of_image (file_images is) m.files files_rise))
         (subst AreKeysRising (sym (files_committed m n is whole)) (keys_swept (file_images is) m.files keys_rise))
         (subst (λ rows. T (is_rising rows)) (sym (rows_committed m n is whole)) (in_order_committed m.temp_storage (ts_images is) rows).rising)
-        (subst (λ queues. is_rising queues ≡ true) (sym (queues_committed m n is whole))
-        (rising-all_swept (λ q c. q) end_of (td_images is) m.trans_data queues_rise))
+        (subst (λ queues. is_rising queues ≡ true) (sym (queues_committed m n is whole)) queues_rise)

@@ -7,7 +7,7 @@ use Rattle.std.specs.List.{list_any}
 use Rattle.std.specs.Option.{option_and_then}
 use Rattle.std.proofs.lemmas.Bool.{true≢false, false≢true, cases_Bool, eqb-true, eqb-false, eq-eqb, and_parts, false_from_ne_true, true_from_ne_false}
 use Rattle.cics_names.specs.Keyed.{Bytes, Map, value_at, is_rising, is_same}
-use Rattle.cics_images.specs.Cells.{Kept, Content as Shown, is_unnamed, AreOf, AreReadyInTurn, LeadBack, images_of, all_swept}
+use Rattle.cics_images.specs.Cells.{Kept, is_unnamed, AreOf, AreReadyInTurn}
 use Rattle.cics_images.specs.Cells as images
 use Rattle.cics_images.specs.NamedValues.{cell_of as value_cell, NamedKeep, IsNamedReady, named_undone}
 use Rattle.cics_images.specs.NamedLaws as named

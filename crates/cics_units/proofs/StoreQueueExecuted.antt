@@ -5,7 +5,7 @@ use Rattle.std.specs.List.{list_any}
 use Rattle.std.proofs.lemmas.Bool.{true≢false, cases_Bool, and_parts, eq-eqb, false_from_ne_true}
 use Rattle.cics_names.specs.Keyed.{Bytes, value_at, with_value, is_same, is_rising}
 use Rattle.cics_names.specs.KeyedLaws.{is_same-self, is_same-eq, value_at-with_value_same, value_at-with_value_other}
-use Rattle.cics_images.specs.Cells.{Kept, AreOf}
+use Rattle.cics_images.specs.Cells.{Kept}
 use Rattle.cics_images.specs.Cells as images
 use Rattle.cics_images.specs.NamedChanges as among
 use Rattle.cics_images.specs.NamedLaws as named

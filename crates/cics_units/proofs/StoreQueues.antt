@@ -1,6 +1,6 @@
 -- What a unit's end does to each transient data queue: undoing its images undoes the marks that they stand for, sweeping
 -- changes nothing, and a commit settles the ends that the unit holds.
-use Rattle.std.specs.Prelude.{◌≡◌, ◌≤◌, Bool, true, false, not, Option, Some, None, List, [], ◌∷◌, length, take, fold, refl}
+use Rattle.std.specs.Prelude.{◌≡◌, ◌≤◌, Bool, true, false, not, Some, List, [], ◌∷◌, length, take, fold, refl}
 use Rattle.std.proofs.Common.{arith, sym, ap, ◌∙◌, subst, inl, inr}
 use Rattle.std.specs.Option.{option_map}
 use Rattle.std.proofs.lemmas.Bool.{cases_Bool, false≢true, true≢false, or_parts}
@@ -9,11 +9,11 @@ use Rattle.cics_names.specs.Keyed.{Bytes, is_same, value_at}
 use Rattle.cics_names.specs.KeyedLaws.{is_same-self, is_same-eq}
 use Rattle.cics_images.specs.Cells.{all_swept}
 use Rattle.cics_images.specs.Cells as images
-use Rattle.cics_images.specs.NamedValues.{split, split_swept, named_cell, named_undone}
-use Rattle.cics_images.specs.NamedLaws.{here, elsewhere, each_name}
+use Rattle.cics_images.specs.NamedValues.{named_undone}
+use Rattle.cics_images.specs.NamedLaws.{here, elsewhere}
 use Rattle.cics_images.specs.declared.stores.StoreImage.TheVariants.{File, TempStorage, TransData}
 use Rattle.cics_transdata.specs.Trans.{TransState, IsApart, is_logical}
-use Rattle.cics_transdata.specs.Undo.{reading_end, writing_end, end_of, undone as queue_undone, KeepsEnds}
+use Rattle.cics_transdata.specs.Undo.{reading_end, writing_end, undone as queue_undone, KeepsEnds}
 use Rattle.cics_transdata.specs.UndoLaws.{undone_fixed, keeps_itself}
 use Rattle.cics_transdata.specs.EndLaws.{reader_committed_keeps, writer_committed_keeps}
 use Rattle.cics_history.specs.Undo.{Image}
@@ -25,20 +25,11 @@ use Rattle.cics_units.specs.StoreMatching.{StoreValue, AnyImage, cell_of_any, an
 use Rattle.cics_units.specs.StoreInPlace.{HasMarks, writer_ended, reader_ended, ends_committed}
 
 -- ---- sweeping
--- what is changed into itself
-same_value : (o : Option TransState) → option_map (λ t. t) o ≡ o
-same_value None = refl
-same_value (Some t) = refl
-
 -- to sweep the cell of an image leaves each queue
 swept_queue : (s : StoreValue) (i : AnyImage) (q : Bytes) → value_at q (any_swept s (cell_of_any i)).trans_data ≡ value_at q s.trans_data
 swept_queue s (File i) q = refl
 swept_queue s (TempStorage i) q = refl
-swept_queue s (TransData i) q = by (split (named_cell end_of i))
-  where
-    by : (o : Option (Bytes × images.Cell)) → value_at q (split_swept (λ t c. t) s.trans_data o) ≡ value_at q s.trans_data
-    by None = refl
-    by (Some e) = each_name (λ t. t) e.0 s.trans_data (λ q o r. r ≡ o) (same_value (value_at e.0 s.trans_data)) (λ q apart. refl) q
+swept_queue s (TransData i) q = refl
 
 -- and so does sweeping the cells of all
 pub all_swept_queue : (s : StoreValue) (is : List AnyImage) (q : Bytes) → value_at q

@@ -6,11 +6,11 @@ use Rattle.std.specs.List.{list_any}
 use Rattle.std.proofs.lemmas.List.{reverse-append}
 use Rattle.std.proofs.lemmas.Bool.{true≢false, false≢true, cases_Bool, and_parts, or_parts, false_from_ne_true}
 use Rattle.std.proofs.lemmas.Iterator.Adapters.{option_map_id}
-use Rattle.cics_names.specs.Keyed.{Bytes, Map, value_at, is_same, is_rising}
+use Rattle.cics_names.specs.Keyed.{Bytes, value_at, is_same, is_rising}
 use Rattle.cics_names.specs.KeyedLaws.{is_same-self, is_same-other}
 use Rattle.cics_images.specs.Cells.{Kept, all_swept}
 use Rattle.cics_images.specs.Cells as images
-use Rattle.cics_images.specs.NamedValues.{split, of_value, of_split, changed_at}
+use Rattle.cics_images.specs.NamedValues.{changed_at}
 use Rattle.cics_images.specs.NamedLaws.{each_name}
 use Rattle.cics_images.specs.StoreCells.{with_trans_data}
 use Rattle.cics_images.specs.declared.stores.StoreImage.TheVariants.{File, TempStorage, TransData}
@@ -175,24 +175,12 @@ module _ (m : StoreValue) (is : List AnyImage) where
           ∙ shown_ended Reading (has_end q Reading is) (option_map (writer_ended (has_end q Writing is)) (value_at q m.trans_data))
           ∙ shown_ended Writing (has_end q Writing is) (value_at q m.trans_data) ∙ sym (value_at-each queue_of q m.trans_data))
 
-  -- nothing is held back for a mark
-  none_held : (queues : Map TransState) (c : images.Cell) → of_split false (λ (t : TransState) (k : images.Cell). false) queues (split c) ≡ false
-  none_held queues c = by (split c)
-    where
-      none : (o : Option TransState) → of_value false (λ (t : TransState). false) o ≡ false
-      none None = refl
-      none (Some t) = refl
-
-      by : (e : Option (Bytes × images.Cell)) → of_split false (λ (t : TransState) (k : images.Cell). false) queues e ≡ false
-      by None = refl
-      by (Some e) = none (value_at e.0 queues)
-
-  -- so what is held back stays
+  -- nothing is held back for a mark, so what is held back stays
   pub ends_held : (c : images.Cell) → any_holds (ends_settled m is) c ≡ any_holds m c
   ends_held [] = refl
   ends_held (zero ∷ c) = ap (λ files. any_holds (record m { files = files }) (0 ∷ c)) ends_files
   ends_held (suc zero ∷ c) = ap (λ rows. any_holds (record m { temp_storage = rows }) (1 ∷ c)) ends_rows
-  ends_held (suc (suc zero) ∷ c) = none_held (ends_settled m is).trans_data c ∙ sym (none_held m.trans_data c)
+  ends_held (suc (suc zero) ∷ c) = refl
   ends_held (suc (suc (suc n)) ∷ c) = refl
 
 -- ---- in which order the images come

@@ -14,14 +14,14 @@ use Rattle.cics_enqueue.specs.declared.resources.Resource.TheVariants.{User}
 use Rattle.cics_history.specs.Openings.{OpeningState, file_recoverable}
 use Rattle.cics_history.specs.Store.{apply, is_normal, is_recoverable}
 use Rattle.cics_history.specs.History.{outcome_of, is_open}
-use Rattle.cics_history.specs.Holding.{UnitsState, UpdateRead, EnqCount, store_of, uses_of, held_by, held_by_count, held_table, first_holder, first_some, awaited}
+use Rattle.cics_history.specs.Holding.{UnitsState, UpdateRead, EnqCount, store_of, uses_of, held_by, held_by_count, awaited}
 use Rattle.cics_history.specs.Execution.{unit_or_next, is_read_of, read_at, covers, opened, reads_after, entered, state_of, after_execution, after_unlock, after_end, is_ready_op}
 use Rattle.cics_history.specs.Headline.{beginning}
 use Rattle.cics_history.specs.Events.{is_live, may_act}
 use Rattle.cics_history.specs.Isolation.{IsSound}
-use Rattle.cics_history.specs.Records.{is_file_op, file_of, key_of}
+use Rattle.cics_history.specs.Records.{file_of, key_of}
 use Rattle.cics_units.specs.Uses.{uses_if, taken_all, AreFreeFor}
-use Rattle.cics_units.specs.TableInPlace.{record_of, resource_of, is_read, AreOnce, IsTableOf, table_given_back, table_executed, table_unlocked}
+use Rattle.cics_units.specs.TableInPlace.{record_of, is_read, AreOnce, IsTableOf, table_given_back, table_executed, table_unlocked}
 use Rattle.cics_history.specs.declared.ops.Op.{Op}
 use Rattle.cics_history.specs.declared.ops.Op.TheVariants.{Write, Rewrite, Delete, DeleteGeneric, ReadUpdate, TsWrite, TsRewrite, TsDelete, TdWrite, TdRead, TdDelete}
 use Rattle.cics_history.specs.declared.ops.Answer.{Answer}
@@ -46,31 +46,6 @@ table_begins o = record {
   once = tt;
   keys = All-nil (λ r. length r.key ≤ 255);
 }
-
--- ---- Who is found
-
--- a command on a file waits for whoever holds the least of what overlaps what it uses
-pub awaited-file : (s : UnitsState) (u : Option ℕ) (op : Op) → is_file_op op ≡ true →
-    awaited s u op ≡ first_holder (held_table s) u (resource_of op)
-awaited-file s u op = by_file op
-  where
-    alone : (h : Option ℕ) → first_some (first_some h None) None ≡ h
-    alone None = refl
-    alone (Some v) = refl
-
-    by_file : (op : Op) → is_file_op op ≡ true →
-        awaited s u op ≡ first_holder (held_table s) u (resource_of op)
-    by_file (Write f k d) h = alone (first_holder (held_table s) u (record_of f k))
-    by_file (Rewrite f k d) h = alone (first_holder (held_table s) u (record_of f k))
-    by_file (Delete f k) h = alone (first_holder (held_table s) u (record_of f k))
-    by_file (DeleteGeneric f p) h = alone (first_holder (held_table s) u (resource_of (DeleteGeneric f p)))
-    by_file (ReadUpdate f k) h = alone (first_holder (held_table s) u (record_of f k))
-    by_file (TsWrite q d) h = absurd (false≢true h)
-    by_file (TsRewrite q n d) h = absurd (false≢true h)
-    by_file (TsDelete q) h = absurd (false≢true h)
-    by_file (TdWrite q d) h = absurd (false≢true h)
-    by_file (TdRead q) h = absurd (false≢true h)
-    by_file (TdDelete q) h = absurd (false≢true h)
 
 -- ---- A command
 

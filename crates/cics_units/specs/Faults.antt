@@ -29,12 +29,12 @@ abbrev pub load_td_fault : Option QueueOpening → Bytes → Option DefineFault
 load_td_fault None r = Some NotThere
 load_td_fault (Some queue) r = if is_record_size (length r) then None else Some BadLength
 
--- a refusal names the fault that stands; where none stands the answer is Ok or NoMemory
-abbrev pub IsRefused : {X : Type 0} → Result X DefineFault → Option DefineFault → Type 0
-IsRefused (Ok x) None = Unit {0}
-IsRefused (Ok x) (Some fault) = ⊥
-IsRefused (Err e) None = e ≡ NoMemory
-IsRefused (Err e) (Some fault) = e ≡ fault
+-- the answer is the fault that stands; where none stands it is Ok or NoMemory
+abbrev pub AnswersFault : {X : Type 0} → Result X DefineFault → Option DefineFault → Type 0
+AnswersFault (Ok x) None = Unit {0}
+AnswersFault (Ok x) (Some fault) = ⊥
+AnswersFault (Err e) None = e ≡ NoMemory
+AnswersFault (Err e) (Some fault) = e ≡ fault
 
 -- what is there already is a Duplicate
 abbrev pub fault_if : Bool → Option DefineFault

@@ -20,3 +20,4 @@ pub mod StoreInPlace
 pub mod QueueChanges
 pub mod StorePlaces
 pub mod StoreEnds
+pub mod HeldBack

@@ -5,7 +5,10 @@ use Rattle.cics_ksds.specs.Files.{records_of}
 use Rattle.cics_transdata.specs.declared.queues.Recovery.{Recovery}
 use Rattle.cics_transdata.specs.declared.queues.Recovery.TheVariants.{Unrecovered}
 use Rattle.cics_history.specs.Openings.{OpeningState, QueueOpening, file_recoverable, has_prefix_in}
-use Rattle.cics_history.specs.Store.{Store}
+use Rattle.cics_history.specs.Store.{Store, initial_store}
+use Rattle.cics_history.specs.History.{kept, replay}
+use Rattle.cics_history.specs.declared.ops.Entry.{Entry}
+use Rattle.cics_history.specs.declared.ops.UnitState.{UnitState}
 use Rattle.cics_units.specs.declared.listings.Listing.{Listing}
 
 -- the recovery of a queue; one that isn't defined has none
@@ -29,3 +32,7 @@ listed_td o td = map (λ e. (e.0, recovery_in (value_at e.0 o.queues), e.1)) td
 -- with its items, each defined transient data queue with its records, and no task
 abbrev pub listing_of : OpeningState → Store → Listing
 listing_of o s = record { files = listed_files o s.files; ts = listed_ts o s.ts; td = listed_td o s.td; tasks = [] }
+
+-- the listing that a history gives: that of what was opened, changed by each entry that is kept, in the order of the entries
+abbrev pub replayed_listing : OpeningState → List Entry → List UnitState → Listing
+replayed_listing o trace outcomes = listing_of o (replay (initial_store o) (kept o trace outcomes))

@@ -1,5 +1,5 @@
--- Recovery: the files and queues as they stand with the images that open units keep, and what an executed command on a
--- file makes of them.
+-- Recovery: the files and queues as they stand with the images that open units keep, and what an executed command
+-- makes of them.
 use Rattle.std.specs.Prelude.{◌≡◌, ℕ, ◌<◌, ◌≤◌, Bool, true, false, not, ◌&&◌, IsTrue, if◌then◌else◌, MatchBool, length, IsSome, Option, Some, None, List, [], ◌∷◌, ◌++◌, map}
 use Rattle.cics_names.specs.Keyed.{Bytes, Map, value_at, is_same}
 use Rattle.cics_images.specs.Cells.{Cell, is_other, is_unnamed, AreReadyInTurn}

@@ -1,7 +1,7 @@
 -- The files of a region, by name, and those of an opening.
-use Rattle.std.specs.Prelude.{◌≡◌, Bool, true, IsTrue, T, All, Option, Some, None, List, [], map, fold}
+use Rattle.std.specs.Prelude.{◌≡◌, Bool, true, IsTrue, T, All, Option, Some, None, [], map, fold}
 use Rattle.cics_names.specs.Keyed.{Bytes, Map, with_value, is_rising}
-use Rattle.cics_ksds.specs.Files.{FileValue, IsContent, key_of, fits_file, records_of, written, rewritten, deleted}
+use Rattle.cics_ksds.specs.Files.{FileValue, IsContent, key_of, fits_file, written, rewritten, deleted}
 use Rattle.cics_ksds.specs.Prefixes.{without_prefix}
 use Rattle.cics_history.specs.Openings.{FileOpening, is_key}
 
@@ -18,11 +18,6 @@ IsThere (Some f) = Unit {0}
 -- the key of a record in a file
 abbrev pub key_in : FileValue → Bytes → Bytes
 key_in f r = key_of f.definition r
-
--- a file takes the place of the one that has its name
-abbrev pub replaced : Map FileValue → Bytes → FileValue → Option FileValue → Map FileValue
-replaced files name f None = files
-replaced files name f (Some old) = with_value name f files
 
 -- a record is written to one of the files, and the others stay
 abbrev pub written_in : Map FileValue → Bytes → Bytes → Option FileValue → Map FileValue
@@ -43,10 +38,6 @@ deleted_in files name key keep (Some f) = with_value name (deleted keep f key) f
 abbrev pub deleted_under : Map FileValue → Bytes → Bytes → Bool → Option FileValue → Map FileValue
 deleted_under files name prefix keep None = files
 deleted_under files name prefix keep (Some f) = with_value name (without_prefix keep f prefix) files
-
--- the listing of files: each with its name, whether it is recoverable, and its records in key order
-abbrev pub files_listed : Map FileValue → List (Bytes × Bool × List Bytes)
-files_listed files = map (λ e. (e.0, e.1.definition.recoverable, records_of e.1.records)) files
 
 -- what a file was defined with and has loaded
 abbrev pub opening_of : FileValue → FileOpening

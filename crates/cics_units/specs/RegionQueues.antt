@@ -1,14 +1,13 @@
 -- The transient data queues of a region, by name, as one value whose changes are undone: values by name, where each value
 -- is a queue. A cell is an end of a queue.
-use Rattle.std.specs.Prelude.{◌≡◌, Bool, T, All, List, ◌∷◌, [], ◌++◌, map}
+use Rattle.std.specs.Prelude.{◌≡◌, Bool, T, All, ◌∷◌, [], ◌++◌, map}
 use Rattle.cics_names.specs.Keyed.{Bytes, Map, is_rising}
 use Rattle.cics_images.specs.Cells.{Cell}
 use Rattle.cics_images.specs.Turns.{IsImageOf}
 use Rattle.cics_images.specs.NamedValues.{named_content, named_cell, IsNamedReady, named_undone, NamedKeep}
 use Rattle.cics_images.specs.declared.named.NamedImage.{NamedImage}
 use Rattle.cics_transdata.specs.declared.images.TdImage.{TdImage}
-use Rattle.cics_transdata.specs.declared.queues.Recovery.{Recovery}
-use Rattle.cics_transdata.specs.Trans.{TransState, holding, queue_of}
+use Rattle.cics_transdata.specs.Trans.{TransState, holding}
 use Rattle.cics_transdata.specs.Undo.{content_at as end_content, end_of, Leads as EndLeads, IsReadyImage as IsEndReady, undone as queue_undone, KeepsEnds}
 use Rattle.cics_history.specs.Openings.{QueueOpening}
 
@@ -26,11 +25,7 @@ IsQueuesImage old new c image =
     IsImageOf (λ s c. named_content end_content s c) (λ i. named_cell end_of i) (λ i. EndLeads i.image) (λ s i. IsNamedReady IsEndReady s i)
     (λ s i. named_undone queue_undone s i) (λ p s n. QueuesKeep p s n) old new c image
 
--- the listing of queues: each with its name, its recovery, and its records, the first first
-abbrev pub queues_listed : Map TransState → List (Bytes × Recovery × List Bytes)
-queues_listed queues = map (λ e. (e.0, e.1.kind, queue_of e.1)) queues
-
--- a queue with a record more that no unit of work wrote
+-- a queue of which no unit of work has written a record, with a record more
 abbrev pub loaded_with : TransState → Bytes → TransState
 loaded_with q d = record { kind = q.kind; placed = q.placed ++ d ∷ []; read = q.read; written = 0 }
 

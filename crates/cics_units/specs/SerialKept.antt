@@ -29,14 +29,14 @@ pub record TakeTurns (u : SerialValue) : Type 0 where
   pub stores : (later : List ℕ) → AreOpen u.units.state later →
       IsSameRecoverable u.units.state.opening (store_without_others u.units.state later)
       (serial_store u.units.state (u.commits ++ later))
-  -- with all open units behind the others, the turns give what the files hold
+  -- with all open units behind the others, the turns give what the files and queues hold
   pub whole : (later : List ℕ) → AreOpen u.units.state later → AreAllOpen u.units.state later →
       IsSameRecoverable u.units.state.opening u.units.store (serial_store u.units.state (u.commits ++ later))
   -- where no unit is open, the turns of those that committed do
   pub closed : NoneIsOpen u.units.state →
       IsSameRecoverable u.units.state.opening u.units.store (serial_store u.units.state u.commits)
 
--- what every call keeps: the units are kept apart and in the order in which they committed, the files are the replay, and
+-- what every call keeps: the units are kept apart and in the order in which they committed, files and queues are the replay, and
 -- there is room for each unit that has begun
 pub record AreSerial (u : UnitsValue) (commits : List ℕ) (room : ℕ) : Type 0 where
   pub sound : IsSound u.state

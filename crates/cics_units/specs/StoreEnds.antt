@@ -82,8 +82,8 @@ writers_settled s is = fold (λ s i. end_settled Writing s i) s is
 abbrev pub readers_settled : StoreValue → List AnyImage → StoreValue
 readers_settled s is = fold (λ s i. end_settled Reading s i) s is
 
--- the three after a unit that keeps these images has settled its ends: the writing ends first, since the unit may have
--- read what it wrote
+-- the three after a unit that keeps these images has settled its ends: the writing ends first, so that no record has both
+-- marks where a reading end is committed
 abbrev pub ends_settled : StoreValue → List AnyImage → StoreValue
 ends_settled s is = readers_settled (writers_settled s is) is
 

@@ -60,7 +60,7 @@ abbrev pub reader_ended : Bool → TransState → TransState
 reader_ended ends t = if ends then reader_committed t else t
 
 -- the queue after the commit of a unit that holds the reading end or not, and the writing end or not: the writing end is
--- committed first, since the unit may have read what it wrote
+-- committed first, so that no record has both marks where the reading end is committed
 abbrev pub ends_committed : (reads writes : Bool) → TransState → TransState
 ends_committed reads writes t = reader_ended reads (writer_ended writes t)
 

@@ -5,7 +5,7 @@ use Rattle.std.specs.Prelude.{◌≡◌, Bool, false, Some, None, List, [], ◌�
 use Rattle.cics_names.specs.Keyed.{Bytes, Map}
 use Rattle.cics_images.specs.Cells.{Kept, Content as Shown}
 use Rattle.cics_images.specs.Cells as images
-use Rattle.cics_images.specs.NamedValues.{cell_of as value_cell, named_content, named_cell, named_holds, IsNamedReady, named_undone, named_swept, NamedKeep}
+use Rattle.cics_images.specs.NamedValues.{cell_of as value_cell, named_content, named_cell, IsNamedReady, named_undone, NamedKeep}
 use Rattle.cics_images.specs.StoreCells.{file_cell, temp_cell, trans_cell, image_cell, image_leads, stores_content, IsStoresReady, stores_undone, stores_swept, stores_hold, StoresKeep}
 use Rattle.cics_images.specs.declared.named.NamedImage.{NamedImage}
 use Rattle.cics_images.specs.declared.stores.Stores.{Stores}
@@ -93,13 +93,13 @@ IsAnyReady s i = IsStoresReady IsReadyFor IsQueueReady (λ s i. IsNamedReady IsE
 abbrev pub any_undone : StoreValue → AnyImage → StoreValue
 any_undone s i = stores_undone files_undone rows_undone (λ s i. named_undone queue_undone s i) s i
 
--- the three after a cell is swept; of transient data nothing is held back
+-- the three after a cell is swept; of transient data nothing is held back, so that stays as it is
 abbrev pub any_swept : StoreValue → images.Cell → StoreValue
-any_swept s c = stores_swept files_swept ts_swept (λ s c. named_swept (λ q c. q) s c) s c
+any_swept s c = stores_swept files_swept ts_swept (λ s c. s) s c
 
 -- whether something is held back at a cell: an empty place, an empty row; of transient data nothing is
 abbrev pub any_holds : StoreValue → images.Cell → Bool
-any_holds s c = stores_hold files_hold holds_row (λ s c. named_holds (λ q c. false) s c) s c
+any_holds s c = stores_hold files_hold holds_row (λ s c. false) s c
 
 -- at the cells that pass, the second three have what the first have, and what an undo there needs
 abbrev pub AnyKeep : (images.Cell → Bool) → StoreValue → StoreValue → Type 0

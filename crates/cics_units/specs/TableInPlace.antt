@@ -5,24 +5,19 @@ use Rattle.cics_names.specs.Keyed.{Bytes}
 use Rattle.cics_names.specs.declared.conditions.Condition.{Condition}
 use Rattle.cics_enqueue.specs.Resources.{Table, Held, bytes_of, is_one, is_user, is_in_order, holder_of, count_of, given_back}
 use Rattle.cics_enqueue.specs.declared.resources.Resource.{Resource}
-use Rattle.cics_enqueue.specs.declared.resources.Resource.TheVariants.{FileKey, FilePrefix, User}
+use Rattle.cics_enqueue.specs.declared.resources.Resource.TheVariants.{FileKey, User}
 use Rattle.cics_history.specs.Openings.{OpeningState, file_recoverable}
 use Rattle.cics_history.specs.Store.{is_normal, is_recoverable}
 use Rattle.cics_history.specs.Holding.{UnitsState, UpdateRead, EnqCount, held_by}
 use Rattle.cics_history.specs.Execution.{is_read_of, read_at, covers}
-use Rattle.cics_history.specs.Records.{file_of, key_of}
+use Rattle.cics_history.specs.Records.{file_of}
 use Rattle.cics_units.specs.Uses.{uses_if, taken_all}
 use Rattle.cics_history.specs.declared.ops.Op.{Op}
-use Rattle.cics_history.specs.declared.ops.Op.TheVariants.{DeleteGeneric, ReadUpdate}
+use Rattle.cics_history.specs.declared.ops.Op.TheVariants.{ReadUpdate}
 
 -- a key of a file as a resource
 abbrev pub record_of : Bytes → Bytes → Resource
 record_of f k = FileKey f (bytes_of k)
-
--- what a command on a file uses: its record, or all under its prefix
-abbrev pub resource_of : Op → Resource
-resource_of (DeleteGeneric f p) = FilePrefix f (bytes_of p)
-resource_of op = record_of (file_of op) (key_of op)
 
 -- a value as a resource
 abbrev pub value_of : Bytes → Resource

@@ -17,9 +17,7 @@ mod units;
 mod uses;
 
 pub use cics_history::{Answer, Done, Enqueued, Entry, Op, UnitState};
-pub use files::{Files, FilesImage};
 pub use listings::{Listing, TaskState};
-pub use named::Named;
 pub use opening::{DefineFault, Opening};
 pub use replay::plain_replay;
 pub use serial_units::SerialUnits;

@@ -99,7 +99,8 @@ impl Listing {
         opening: &Opening,
         store: &Stores<Files, TempStore, Queues>,
     ) -> Result<Listing, NoMemory>
-        ensures { IfOk result (λ listing. listing ≡ listing_of opening.now (shown_store store.now)) }
+        ensures { IfOk result (λ listing. listing
+            ≡ listing_of opening.now (shown_store store.now)) }
     {
         Ok(Listing {
             files: listed_files(alloc, opening, &store.files)?,

@@ -4,23 +4,20 @@ ghost use Rattle.std.specs.Prelude.{◌≡◌, ◌<◌, ◌^◌, [], length, T, 
 ghost use Rattle.std.specs.Option.{option_copied};
 ghost use Rattle.std.specs.Map.Iter.{ShowsInOrder, deref_pair};
 ghost use Rattle.cics_names.specs.Keyed.{has_key, value_at, with_value, is_rising};
-ghost use Rattle.cics_images.specs.NamedValues.{replaced};
 
 use cics_images::{NamedImage, Undoable};
 use cics_names::{Name8, NoMemory};
 use std::alloc::Global;
 use std::collections::BTreeMap;
-use std::collections::btree_map::{IntoIter, Iter};
-use std::iter::IntoIterator;
+use std::collections::btree_map::Iter;
 use std::marker::Model;
-use std::mem;
 
 /// Values of one kind, each under its name, in the order of the names' bytes: the files of a region.
 ///
 /// Contracts see them as a map from the names to the values, itself in that order. A look-up costs the logarithm of
 /// the number of values.
 #[derive(Drop)]
-pub struct Named<M: Undoable + Drop> {
+pub(crate) struct Named<M: Undoable + Drop> {
     pub(crate) rows: BTreeMap<Name8, M>,
     alloc: Global,
 }
@@ -38,7 +35,7 @@ impl<M: Undoable + Drop> Model for Named<M> {
 
 impl<M: Undoable + Drop> Named<M> {
     /// No values yet. `alloc` gives the memory for what is put in.
-    pub fn new(alloc: Global) -> Named<M>
+    pub(crate) fn new(alloc: Global) -> Named<M>
         ensures { result ≡ [] }
     {
         Named {
@@ -47,27 +44,20 @@ impl<M: Undoable + Drop> Named<M> {
         }
     }
 
-    /// How many values there are.
-    pub fn len(&self) -> usize
-        ensures { result ≡ length self.now }
-    {
-        self.rows.len()
-    }
-
     /// Whether there is a value of a name.
-    pub fn contains(&self, name: &Name8) -> bool
+    pub(crate) fn contains(&self, name: &Name8) -> bool
         ensures { result ≡ has_key name.now self.now }
     {
         self.rows.contains_key(name)
     }
 
     /// The allocator that gives the values their places.
-    pub fn allocator(&self) -> Global {
+    pub(crate) fn allocator(&self) -> Global {
         self.alloc
     }
 
     /// The value of a name, or `None` where there is none. The names of all values rise.
-    pub fn get(&self, name: &Name8) -> Option<&M>
+    pub(crate) fn get(&self, name: &Name8) -> Option<&M>
         ensures value { option_copied result ≡ value_at name.now self.now }
         ensures in_order { T (is_rising self.now) }
     {
@@ -78,7 +68,7 @@ impl<M: Undoable + Drop> Named<M> {
     ///
     /// Where memory is refused all values stay as they were, and the value that was handed in goes. Only a new name
     /// takes memory.
-    pub fn insert(&mut self, name: Name8, value: M) -> Result<Option<M>, NoMemory>
+    pub(crate) fn insert(&mut self, name: Name8, value: M) -> Result<Option<M>, NoMemory>
         ensures old { IfOk result (λ old. old ≡ value_at name self.old) }
         ensures values { OnOk result (self.new ≡ with_value name value self.old) }
         ensures new_name { OnErr result (value_at name self.old ≡ None) }
@@ -87,43 +77,13 @@ impl<M: Undoable + Drop> Named<M> {
         Ok(self.rows.insert(name, value)?)
     }
 
-    /// Puts a value in the place of the one that has the name, which it answers.
-    ///
-    /// Where no value has the name, all stay as they were, and the value that was handed in goes. This takes no memory.
-    pub fn replace(&mut self, name: &Name8, value: M) -> Option<M>
-        ensures old { result ≡ value_at name.now self.old }
-        ensures values { self.new ≡ replaced self.old name.now value (value_at name.now self.old) }
-    {
-        let Some(place) = self.rows.get_mut(name) else {
-            return None;
-        };
-        Some(mem::replace(place, value))
-    }
-
     /// The values with their names, in the order of the names.
-    pub fn iter(&self) -> Iter<'_, Name8, M>
+    pub(crate) fn iter(&self) -> Iter<'_, Name8, M>
         ensures rest { result ≡ self.now }
         ensures runs { ShowsInOrder (deref_pair {K = Name8} {X = M}) }
         ensures fits { length self.now < 2 ^ 63 }
     {
         self.rows.iter()
-    }
-}
-
-impl<M: Undoable + Drop> IntoIterator for Named<M> {
-    ghost use Rattle.std.specs.Prelude.{◌≡◌, ◌<◌, ◌^◌, length};
-    ghost use Rattle.std.specs.Map.Iter.{GivesInOrder};
-    ghost use Rattle.cics_names.specs.declared.names.Name8.{Name8};
-
-    type Item = (Name8, M);
-
-    type IntoIter = IntoIter<Name8, M>;
-
-    ghost into_iter_gives = { λ n r. (r ≡ n) × (length n < 2 ^ 63) × GivesInOrder (Name8 × M) };
-
-    /// The values with their names, in the order of the names.
-    fn into_iter(self) -> IntoIter<Name8, M> {
-        self.rows.into_iter()
     }
 }
 

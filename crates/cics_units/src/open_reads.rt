@@ -1,8 +1,7 @@
 //! The records that units of work have read for update, and not yet rewritten, deleted or unlocked.
 
-ghost use Rattle.std.specs.Prelude.{◌≡◌, ◌==◌, ◌&&◌, not, filter, [], None, OnOk, OnErr};
+ghost use Rattle.std.specs.Prelude.{◌≡◌, ◌==◌, not, filter, [], None, OnOk, OnErr};
 ghost use Rattle.std.specs.Option.{option_copied};
-ghost use Rattle.cics_names.specs.Keyed.{is_same};
 ghost use Rattle.cics_history.specs.Execution.{is_read_of, read_at, with_read};
 ghost use Rattle.cics_units.specs.OpenReads.{is_read_key, is_read_under};
 

@@ -120,7 +120,7 @@ impl Opening {
     ghost use Rattle.cics_history.specs.Openings.{HasLawfulKeys, IsOpeningInOrder};
     ghost use Rattle.cics_history.specs.Store.{is_recoverable};
     ghost use Rattle.cics_history.specs.Openings.{file_recoverable, has_prefix_in, queue_logical};
-    ghost use Rattle.cics_units.specs.Faults.{IsRefused, file_fault, load_fault};
+    ghost use Rattle.cics_units.specs.Faults.{AnswersFault, file_fault, load_fault};
     ghost use Rattle.cics_units.specs.Faults.{fault_if, load_td_fault};
     ghost use Rattle.cics_units.specs.RegionFiles.{opened_files, AreLoaded};
     ghost use Rattle.cics_units.specs.RegionQueues.{opened_queues};
@@ -144,7 +144,7 @@ impl Opening {
     /// defined already (`Duplicate`), the record size isn't 1 to 32,767 (`BadLength`), the key isn't
     /// 1 to 255 bytes long or ends behind the record (`BadKey`), memory is refused (`NoMemory`).
     pub fn define_file(&mut self, name: Name8, definition: FileDef) -> Result<(), DefineFault>
-        ensures fault { IsRefused result (file_fault self.old name definition) }
+        ensures fault { AnswersFault result (file_fault self.old name definition) }
         ensures ok { OnOk result (self.new ≡ with_file self.old name definition) }
         ensures err { OnErr result (self.new ≡ self.old) }
     {
@@ -167,7 +167,7 @@ impl Opening {
     /// defined (`NotThere`), the record ends before its key does or is longer than the record size
     /// (`BadLength`), the file has the key already (`Duplicate`), memory is refused (`NoMemory`).
     pub fn load_file(&mut self, name: Name8, content: Record) -> Result<(), DefineFault>
-        ensures fault { IsRefused result (load_fault (value_at name self.old.files) content) }
+        ensures fault { AnswersFault result (load_fault (value_at name self.old.files) content) }
         ensures ok { OnOk result (self.new ≡ with_record self.old name content) }
         ensures err { OnErr result (self.new ≡ self.old) }
     {
@@ -191,7 +191,7 @@ impl Opening {
     /// It is refused, and nothing changes, where the prefix is defined already (`Duplicate`), and else
     /// where memory is refused (`NoMemory`).
     pub fn define_ts_prefix(&mut self, prefix: Name8) -> Result<(), DefineFault>
-        ensures fault { IsRefused result (fault_if (is_key_in prefix self.old.prefixes)) }
+        ensures fault { AnswersFault result (fault_if (is_key_in prefix self.old.prefixes)) }
         ensures ok { OnOk result (self.new ≡ with_prefix self.old prefix) }
         ensures err { OnErr result (self.new ≡ self.old) }
     {
@@ -207,7 +207,7 @@ impl Opening {
     /// It is refused, and nothing changes, where a queue of the name is defined already (`Duplicate`),
     /// and else where memory is refused (`NoMemory`).
     pub fn define_td(&mut self, name: Name4, recovery: Recovery) -> Result<(), DefineFault>
-        ensures fault { IsRefused result (fault_if (has_key name self.old.queues)) }
+        ensures fault { AnswersFault result (fault_if (has_key name self.old.queues)) }
         ensures ok { OnOk result (self.new ≡ with_queue self.old name recovery) }
         ensures err { OnErr result (self.new ≡ self.old) }
     {
@@ -225,7 +225,7 @@ impl Opening {
     /// defined (`NotThere`), the record isn't 1 to 32,767 bytes long (`BadLength`), memory is refused
     /// (`NoMemory`).
     pub fn load_td(&mut self, name: Name4, content: Record) -> Result<(), DefineFault>
-        ensures fault { IsRefused result (load_td_fault (value_at name self.old.queues) content) }
+        ensures fault { AnswersFault result (load_td_fault (value_at name self.old.queues) content) }
         ensures ok { OnOk result (self.new ≡ with_td_record self.old name content) }
         ensures err { OnErr result (self.new ≡ self.old) }
     {
@@ -239,10 +239,15 @@ impl Opening {
         Ok(())
     }
 
+    /// The allocator that gives the memory for all that is defined and loaded.
+    pub fn allocator(&self) -> Global {
+        self.alloc
+    }
+
     /// The files that are defined, with what was loaded into each.
     ///
     /// Their names rise, and so do the keys of each; each key is one that a definition may have.
-    pub fn files(&self) -> &Files
+    pub(crate) fn files(&self) -> &Files
         ensures files { result.now ≡ opened_files self.now.files }
         ensures in_order { IsOpeningInOrder self.now }
         ensures lawful_keys { HasLawfulKeys self.now }
@@ -319,12 +324,5 @@ impl Opening {
             Some(queue) => queue.recovery(),
             None => Recovery::Unrecovered,
         }
-    }
-
-    /// The files that are defined, with what was loaded into each.
-    pub fn into_files(self) -> Files
-        ensures { result ≡ opened_files self.files }
-    {
-        self.files
     }
 }

@@ -1,8 +1,8 @@
 //! All that units change where it stands: the files and queues with their images, who holds what, and the
 //! open update reads.
 
-ghost use Rattle.std.specs.Prelude.{◌≡◌, ◌==◌, ◌<◌, ◌≤◌, ℕ, Bool, if◌then◌else◌, true, false, not};
-ghost use Rattle.std.specs.Prelude.{[], None, length, filter, fold, List, T, IsTrue, IfOk};
+ghost use Rattle.std.specs.Prelude.{◌≡◌, ◌==◌, ◌<◌, ◌≤◌, ℕ, Bool, true, false, not};
+ghost use Rattle.std.specs.Prelude.{[], None, length, filter, fold, List, T, IfOk};
 ghost use Rattle.std.specs.Prelude.{IfErr, IfSome, OnOk, OnErr, All};
 ghost use Rattle.std.specs.List.{list_any};
 ghost use Rattle.std.specs.Option.{option_copied};
@@ -19,7 +19,7 @@ ghost use Rattle.cics_units.specs.StoreMatching.{IsAnyReady, any_undone, any_swe
 ghost use Rattle.cics_units.specs.StoreMatching.{AnyKeep};
 ghost use Rattle.cics_units.specs.StoreEnds.{any_fixed};
 ghost use Rattle.cics_units.specs.UnitImages.{kept_by, room_of, AreOthersKept, AreHeldForImages};
-ghost use Rattle.cics_history.specs.Records.{is_file_op, file_of, key_of};
+ghost use Rattle.cics_history.specs.Records.{is_file_op, file_of};
 ghost use Rattle.cics_units.specs.Uses.{uses_if, listed, taken_all, AreFreeFor};
 ghost use Rattle.cics_units.specs.TableInPlace.{is_read, covered_read};
 ghost use Rattle.cics_units.specs.TableInPlace.{value_of, AreOnce, table_changed};
@@ -83,10 +83,11 @@ impl Parts {
     }
 
     /// The key that a unit has read for update in a file.
-    pub(crate) fn open_read(&self, unit: UnitId, file: &Name8) -> Option<&Record>
+    pub(crate) fn open_read(&self, unit: UnitId, file: &Name8) -> Option<&[u8]>
         ensures { option_copied result ≡ read_at self.now.reads unit file.now }
     {
-        self.reads.key(unit, file)
+        let key = self.reads.key(unit, file)?;
+        Some(key.bytes())
     }
 
     /// The unit, other than the one that asks, that holds the least of what overlaps a resource.
@@ -166,14 +167,17 @@ impl Parts {
         requires on_file { is_file_op op.now ≡ true }
         requires fit { IsFitFileOp self.old.stores.store.files op.now }
         requires begun { unit < length self.old.stores.images }
-        requires room { most_images self.old.stores.store.files op.now ≤ room_of self.old.stores.images unit }
+        requires room { most_images self.old.stores.store.files op.now
+            ≤ room_of self.old.stores.images unit }
         requires plain { list_any is_user (listed uses.now) ≡ false }
         requires free { AreFreeFor self.old.table (listed uses.now) unit }
         requires in_order { T (is_in_order self.old.table) }
         requires once { AreOnce self.old.reads }
         ensures changed { OnOk result (AreChanged self.old.stores self.new.stores unit op.now) }
-        ensures table { OnOk result (self.new.table ≡ taken_all self.old.table unit (listed uses.now)) }
-        ensures reads { OnOk result (self.new.reads ≡ filter (λ r. not (covers unit op.now r)) self.old.reads) }
+        ensures table { OnOk result (self.new.table
+            ≡ taken_all self.old.table unit (listed uses.now)) }
+        ensures reads { OnOk result (self.new.reads
+            ≡ filter (λ r. not (covers unit op.now r)) self.old.reads) }
         ensures err { OnErr result (self.new ≡ self.old) }
     {
         let were_free = hold_all(&mut self.enqueues, uses, unit)?;
@@ -195,14 +199,16 @@ impl Parts {
         requires on_file { is_file_op op.now ≡ true }
         requires fit { IsFitFileOp self.old.stores.store.files op.now }
         requires begun { unit < length self.old.stores.images }
-        requires room { most_images self.old.stores.store.files op.now ≤ room_of self.old.stores.images unit }
+        requires room { most_images self.old.stores.store.files op.now
+            ≤ room_of self.old.stores.images unit }
         requires short { All (λ r. length r.key ≤ 255) self.old.reads }
         requires once { AreOnce self.old.reads }
         ensures changed { OnOk result (AreChanged self.old.stores self.new.stores unit op.now) }
         ensures table { OnOk result (self.new.table
             ≡ table_given_back false unit file.now (covered_read unit op.now self.old.reads)
             self.old.table) }
-        ensures reads { OnOk result (self.new.reads ≡ filter (λ r. not (covers unit op.now r)) self.old.reads) }
+        ensures reads { OnOk result (self.new.reads
+            ≡ filter (λ r. not (covers unit op.now r)) self.old.reads) }
         ensures err { OnErr result (self.new ≡ self.old) }
     {
         self.stores.change(unit, op)?;
@@ -218,20 +224,24 @@ impl Parts {
         requires on_file { is_file_op op.now ≡ true }
         requires fit { IsFitFileOp self.old.stores.store.files op.now }
         requires begun { unit < length self.old.stores.images }
-        requires room { most_images self.old.stores.store.files op.now ≤ room_of self.old.stores.images unit }
+        requires room { most_images self.old.stores.store.files op.now
+            ≤ room_of self.old.stores.images unit }
         requires short { All (λ r. length r.key ≤ 255) self.old.reads }
         requires used { listed uses.now
-            ≡ uses_if (is_recoverable_in (value_at (file_of op.now) self.old.stores.store.files)) op.now }
+            ≡ uses_if (is_recoverable_in
+            (value_at (file_of op.now) self.old.stores.store.files)) op.now }
         requires free { AreFreeFor self.old.table (listed uses.now) unit }
         requires in_order { T (is_in_order self.old.table) }
         requires once { AreOnce self.old.reads }
-        requires none_open { is_read op.now ≡ true → read_at self.old.reads unit (file_of op.now) ≡ None }
+        requires none_open { is_read op.now ≡ true →
+            read_at self.old.reads unit (file_of op.now) ≡ None }
         ensures changed { OnOk result (AreChanged self.old.stores self.new.stores unit op.now) }
         ensures table { OnOk result (self.new.table
             ≡ table_changed
             (is_recoverable_in (value_at (file_of op.now) self.old.stores.store.files)) unit op.now
             self.old.reads self.old.table) }
-        ensures reads { OnOk result (self.new.reads ≡ reads_after unit op.now Normal self.old.reads) }
+        ensures reads { OnOk result (self.new.reads
+            ≡ reads_after unit op.now Normal self.old.reads) }
         ensures err { OnErr result (self.new ≡ self.old) }
     {
         let Some((file, key)) = op.record() else {
@@ -273,7 +283,8 @@ impl Parts {
     // The first record of a queue that a unit may read: of what isn't committed only what it wrote itself.
     fn first_for(&self, unit: UnitId, name: Name4) -> Option<&Record>
         ensures { option_copied result
-            ≡ first_in (value_at name self.now.stores.store.trans_data) (is_writer self.now.table unit name) }
+            ≡ first_in (value_at name self.now.stores.store.trans_data)
+            (is_writer self.now.table unit name) }
     {
         let queue = self.stores.store().trans_data.get(&name)?;
         queue.first(self.is_writer(unit, name))
@@ -285,7 +296,8 @@ impl Parts {
     pub(crate) fn given_record(&self, unit: UnitId, op: &Op) -> Result<Option<Record>, NoMemory>
         requires fit { IsFitOp self.now.stores.store op.now }
         ensures { IfOk result (λ given. given
-            ≡ given_record self.now.stores.store (is_writer self.now.table unit (queue_of op.now)) op.now) }
+            ≡ given_record self.now.stores.store
+            (is_writer self.now.table unit (queue_of op.now)) op.now) }
     {
         match op {
             Op::ReadUpdate { .. } => Ok(self.stores.answer(op)?.content),
@@ -304,11 +316,13 @@ impl Parts {
         requires begun { unit ≤ length self.old.stores.images }
         requires short { All (λ r. length r.key ≤ 255) self.old.reads }
         requires used { listed uses.now
-            ≡ uses_if (is_recoverable_in (value_at (file_of op.now) self.old.stores.store.files)) op.now }
+            ≡ uses_if (is_recoverable_in
+            (value_at (file_of op.now) self.old.stores.store.files)) op.now }
         requires free { AreFreeFor self.old.table (listed uses.now) unit }
         requires in_order { T (is_in_order self.old.table) }
         requires once { AreOnce self.old.reads }
-        requires none_open { is_read op.now ≡ true → read_at self.old.reads unit (file_of op.now) ≡ None }
+        requires none_open { is_read op.now ≡ true →
+            read_at self.old.reads unit (file_of op.now) ≡ None }
         ensures executed { IfOk result (λ answer. AreExecuted self.old self.new unit op.now
             (is_recoverable_in (value_at (file_of op.now) self.old.stores.store.files)) answer) }
         ensures err { OnErr result (ArePartsKept self.old self.new) }
@@ -372,14 +386,16 @@ impl Parts {
     ) -> Result<Answer, NoMemory>
         requires fit { IsFitOp self.old.stores.store op.now }
         requires recoverable { is_file_op op.now ≡ true →
-            recoverable ≡ is_recoverable_in (value_at (file_of op.now) self.old.stores.store.files) }
+            recoverable ≡ is_recoverable_in
+            (value_at (file_of op.now) self.old.stores.store.files) }
         requires begun { unit ≤ length self.old.stores.images }
         requires short { All (λ r. length r.key ≤ 255) self.old.reads }
         requires used { listed uses.now ≡ uses_if recoverable op.now }
         requires free { AreFreeFor self.old.table (listed uses.now) unit }
         requires in_order { T (is_in_order self.old.table) }
         requires once { AreOnce self.old.reads }
-        requires none_open { is_read op.now ≡ true → read_at self.old.reads unit (file_of op.now) ≡ None }
+        requires none_open { is_read op.now ≡ true →
+            read_at self.old.reads unit (file_of op.now) ≡ None }
         ensures executed { IfOk result (λ answer.
             AreExecuted self.old self.new unit op.now recoverable answer) }
         ensures err { OnErr result (ArePartsKept self.old self.new) }
@@ -475,7 +491,8 @@ impl Parts {
             ≡ table_given_back
             (is_recoverable_in (value_at file.now self.old.stores.store.files)) unit file.now
             (read_at self.old.reads unit file.now) self.old.table }
-        ensures reads { self.new.reads ≡ filter (λ r. not (is_read_of unit file.now r)) self.old.reads }
+        ensures reads { self.new.reads
+            ≡ filter (λ r. not (is_read_of unit file.now r)) self.old.reads }
     {
         let Some(key) = self.reads.close(unit, file) else {
             return;
@@ -504,7 +521,8 @@ impl Parts {
         ensures cells { AnyKeep (is_unnamed cell_of_any (kept_by self.old.stores.images unit))
             self.old.stores.store self.new.stores.store }
         ensures fixed { any_fixed self.new.stores.store ≡ any_fixed self.old.stores.store }
-        ensures held { AreHeldForImages any_holds cell_of_any self.old.stores.store self.old.stores.images
+        ensures held { AreHeldForImages any_holds cell_of_any self.old.stores.store
+            self.old.stores.images
             → AreHeldForImages any_holds cell_of_any self.new.stores.store self.new.stores.images }
         ensures whole { self.new.stores.store
             ≡ all_swept any_swept cell_of_any
@@ -528,7 +546,8 @@ impl Parts {
             any_content self.new.stores.store c ≡ any_content (settled_by self.old.stores unit) c }
         ensures cells { AnyKeep (is_unnamed cell_of_any (kept_by self.old.stores.images unit))
             (settled_by self.old.stores unit) self.new.stores.store }
-        ensures fixed { any_fixed self.new.stores.store ≡ any_fixed (settled_by self.old.stores unit) }
+        ensures fixed { any_fixed self.new.stores.store
+            ≡ any_fixed (settled_by self.old.stores unit) }
         ensures held { AreHeldForImages any_holds cell_of_any (settled_by self.old.stores unit)
             self.old.stores.images
             → AreHeldForImages any_holds cell_of_any self.new.stores.store self.new.stores.images }

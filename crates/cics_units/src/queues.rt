@@ -7,10 +7,9 @@ ghost use Rattle.std.specs.Option.{option_copied};
 ghost use Rattle.std.specs.Map.Iter.{ShowsInOrder, deref_pair};
 ghost use Rattle.cics_names.specs.Keyed.{has_key, value_at, with_value, is_rising};
 ghost use Rattle.cics_units.specs.RegionFiles.{refilled};
-ghost use Rattle.cics_units.specs.RegionQueues.{queues_listed};
 
 use cics_images::Undoable;
-use cics_names::{Items, Name4, NoMemory, Record};
+use cics_names::{Name4, NoMemory};
 use cics_transdata::{Recovery, TdImage, TransQueue};
 use std::alloc::Global;
 use std::collections::BTreeMap;
@@ -76,11 +75,6 @@ impl Queues {
         self.rows.contains_key(name)
     }
 
-    /// The allocator that gives the queues their places.
-    pub(crate) fn allocator(&self) -> Global {
-        self.alloc
-    }
-
     /// The queue of a name, or `None` where there is none. The names of all queues rise.
     pub(crate) fn get(&self, name: &Name4) -> Option<&TransQueue>
         ensures value { option_copied result ≡ value_at name.now self.now }
@@ -115,23 +109,10 @@ impl Queues {
         self.rows.iter()
     }
 
-    /// Each queue with its name, its recovery and copies of its records, the first first, the queues in
-    /// the order of their names. Records that are marked as read aren't among them.
-    ///
-    /// An `Err` comes only where memory is refused.
-    pub(crate) fn listing(&self) -> Result<Items<(Name4, Recovery, Items<Record>)>, NoMemory>
-        ensures { IfOk result (λ queues. queues ≡ queues_listed self.now) }
-    {
-        let mut queues = Items::new(self.alloc);
-        for (name, queue) in &self.rows {
-            queues.push((*name, queue.recovery(), queue.listing()?))?;
-        }
-        Ok(queues)
-    }
-
-    // The queues one after the other, each put among those before it.
+    // The queues one after the other, each put among those before it. Their names rise.
     fn refill(&self) -> Result<Queues, NoMemory>
-        ensures { IfOk result (λ queues. queues ≡ refilled self.now) }
+        ensures queues { IfOk result (λ queues. queues ≡ refilled self.now) }
+        ensures in_order { T (is_rising self.now) }
     {
         let mut queues = Queues::new(self.alloc);
         for (name, original) in &self.rows {
@@ -145,7 +126,6 @@ impl Queues {
     pub(crate) fn copy(&self) -> Result<Queues, NoMemory>
         ensures { IfOk result (λ queues. queues ≡ self.now) }
     {
-        let _rows = &self.rows;
         self.refill()
     }
 }
@@ -155,7 +135,8 @@ impl Undoable for Queues {
     ghost use Rattle.std.specs.Prelude.{Option, false, refl};
     ghost use Rattle.cics_names.specs.Keyed.{Bytes};
     ghost use Rattle.cics_images.specs.NamedValues.{named_content, named_cell, IsNamedReady};
-    ghost use Rattle.cics_images.specs.NamedValues.{named_undone, named_holds, named_swept};
+    ghost use Rattle.cics_images.specs.NamedValues.{named_undone};
+    ghost use Rattle.cics_images.specs.Cells.{is_other};
     ghost use Rattle.cics_images.specs.NamedValues.{NamedKeep, named_fixed};
     ghost use Rattle.cics_images.specs.NamedLaws as laws;
     ghost use Rattle.cics_transdata.specs.declared.queues.Recovery.{Recovery};
@@ -176,9 +157,9 @@ impl Undoable for Queues {
 
     ghost undone = { named_undone queue_undone };
 
-    ghost holds_back = { named_holds (λ q c. false) };
+    ghost holds_back = { λ s c. false };
 
-    ghost swept = { named_swept (λ q c. q) };
+    ghost swept = { λ s c. s };
 
     ghost Keeps = { NamedKeep KeepsEnds };
 
@@ -194,15 +175,15 @@ impl Undoable for Queues {
 
     ghost undone_fixed = { laws.undone_fixed (λ q. q.kind) queue_undone ends.undone_fixed };
 
-    ghost undone_holds = { laws.undone_holds (λ q c. false) end_of queue_undone (λ q i c other. refl) };
+    ghost undone_holds = { λ s i c other. refl };
 
-    ghost swept_content = { laws.swept_content end_content (λ q c. q) (λ q s c. refl) };
+    ghost swept_content = { λ s k c. refl };
 
-    ghost swept_keeps = { laws.swept_keeps KeepsEnds ends.keeps_itself ends.keeps_fewer (λ q c. q) (λ q s. ends.keeps_itself _ q) };
+    ghost swept_keeps = { λ s k. laws.keeps_itself KeepsEnds ends.keeps_itself (is_other k) s };
 
-    ghost swept_fixed = { laws.swept_fixed (λ q. q.kind) (λ q c. q) (λ q s. refl) };
+    ghost swept_fixed = { λ s k. refl };
 
-    ghost swept_holds = { laws.swept_holds (λ q c. false) (λ q c. q) (λ q s c. refl) };
+    ghost swept_holds = { λ s k c. refl };
 
     ghost keeps_content = { laws.keeps_content KeepsEnds end_content ends.keeps_content };
 
@@ -224,7 +205,5 @@ impl Undoable for Queues {
     }
 
     // Nothing is held back for an undo.
-    fn settle(&mut self, _image: QueueImage) {
-        let _rows = &self.rows;
-    }
+    fn settle(&mut self, _image: QueueImage) {}
 }

@@ -7,8 +7,6 @@ ghost use Rattle.cics_history.specs.Execution.{is_ready_op, execution, after_exe
 ghost use Rattle.cics_history.specs.Execution.{after_enqueue, after_dequeue, after_unlock, after_end};
 ghost use Rattle.cics_history.specs.Headline.{IsHeadline, LeavesNoTrace, beginning};
 ghost use Rattle.cics_units.specs.SerialKept.{TakeTurns};
-ghost use Rattle.cics_history.specs.Records.{key_of};
-ghost use Rattle.cics_history.specs.declared.ops.Op.{Op as OpValue};
 ghost use Rattle.cics_history.specs.declared.ops.UnitState.TheVariants.{Committed, BackedOut};
 
 use crate::opening::Opening;
@@ -24,8 +22,8 @@ use std::marker::Model;
 /// Contracts see the units as `Units` shows them, and beside them that list. After every call the
 /// units take turns (`turns`): what each unit that committed did to recoverable files and queues, one after
 /// the other in the order of the list, gives what would stand there if the open units were backed out;
-/// with the open ones behind, in any order, it gives what stands there. Each command on a recoverable file that
-/// was answered NORMAL has in its unit's turn the answer that its task was given.
+/// with the open ones behind, in any order, it gives what stands there. Each command on a recoverable file or queue
+/// that was answered NORMAL has in its unit's turn the answer that its task was given.
 #[derive(Drop)]
 pub struct SerialUnits {
     units: Units,
@@ -64,7 +62,7 @@ impl SerialUnits {
         ensures turns { IfOk result TakeTurns }
         ensures err { IfErr result (λ back. back ≡ opening) }
     {
-        let alloc = opening.files().allocator();
+        let alloc = opening.allocator();
         Ok(SerialUnits {
             units: Units::start(opening)?,
             commits: Vec::new(alloc),
@@ -95,9 +93,9 @@ impl SerialUnits {
     pub fn execute(&mut self, unit: Option<UnitId>, op: &Op) -> Result<Done, NoMemory>
         requires is_open { IsOpenOrNone self.old.units.state unit }
         requires ready { IsTrue (is_ready_op self.old.units.state unit op.now) }
-        requires key { length (key_of op.now) ≤ 255 }
         ensures done { IfOk result (λ done. done ≡ execution self.old.units.state unit op.now) }
-        ensures holder_open { IfOk result (λ done. IfMustWait done (IsOpenUnit self.old.units.state)) }
+        ensures holder_open { IfOk result
+            (λ done. IfMustWait done (IsOpenUnit self.old.units.state)) }
         ensures state { OnOk result
             (self.new.units.state ≡ after_execution self.old.units.state unit op.now) }
         ensures headline { IsHeadline self.new.units }
@@ -142,7 +140,8 @@ impl SerialUnits {
         requires is_open { IsOpenOrNone self.old.units.state unit }
         requires most { length value.now ≤ 255 }
         ensures done { IfOk result (λ done. done ≡ enqueue self.old.units.state unit value.now) }
-        ensures holder_open { IfOk result (λ done. IfEnqMustWait done (IsOpenUnit self.old.units.state)) }
+        ensures holder_open { IfOk result
+            (λ done. IfEnqMustWait done (IsOpenUnit self.old.units.state)) }
         ensures state { OnOk result
             (self.new.units.state ≡ after_enqueue self.old.units.state unit value.now) }
         ensures headline { IsHeadline self.new.units }

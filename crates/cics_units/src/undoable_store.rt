@@ -96,8 +96,8 @@ fn settle_reader(store: &mut Store, image: &AnyImage)
     }
 }
 
-// Commits the ends of the queues that a unit's images are of: the writing ends first, since the unit may
-// have read what it wrote.
+// Commits the ends of the queues that a unit's images are of: the writing ends first, so that no record
+// has both marks where a reading end is committed. What stands afterwards is the same in either order.
 fn settle_ends(store: &mut Store, images: &[AnyImage])
     ensures { store.new ≡ ends_settled store.old (reverse images.now) }
 {
@@ -169,7 +169,8 @@ impl UndoableStore {
     fn answer_to_read(&self, name: &Name8, key: &Record) -> Result<Answer, NoMemory>
         requires there { IsThere (value_at name.now self.now.store.files) }
         ensures { IfOk result (λ answer. IfSome (value_at name.now self.now.store.files) (λ f.
-            answer ≡ with_content (found_condition (value_at key.now f.records)) (value_at key.now f.records))) }
+            answer ≡ with_content (found_condition (value_at key.now f.records))
+            (value_at key.now f.records))) }
     {
         let Some(record) = self.found(name, key) else {
             return Ok(only(Condition::Notfnd));
@@ -212,7 +213,8 @@ impl UndoableStore {
     /// What a command on a file would be answered now. It takes memory for a record that is read.
     pub(crate) fn answer(&self, op: &Op) -> Result<Answer, NoMemory>
         requires fit { IsFitFileOp self.now.store.files op.now }
-        ensures { IfOk result (λ answer. answer ≡ (apply (shown_store self.now.store) op.now).answer) }
+        ensures { IfOk result (λ answer. answer
+            ≡ (apply (shown_store self.now.store) op.now).answer) }
     {
         match op {
             Op::Write { file, key, .. } => Ok(self.answer_to_write(file, key)),
@@ -324,10 +326,10 @@ impl UndoableStore {
         requires fit { IsRecordOf (value_at name self.old.store.files) key.now from.now }
         requires begun { unit < length self.old.images }
         requires room { 0 < room_of self.old.images unit }
-        ensures changed { OnOk result (AreChanged self.old self.new unit (Write name key.now from.now)) }
+        ensures changed { OnOk result
+            (AreChanged self.old self.new unit (Write name key.now from.now)) }
         ensures err { OnErr result (self.new ≡ self.old) }
     {
-        let _key = key;
         let keep = self.is_recoverable(&name);
         let changed = self.store.files.write(&name, from.copy()?, keep)?;
         self.keep(unit, name, changed.image);
@@ -345,10 +347,10 @@ impl UndoableStore {
         requires fit { IsRecordOf (value_at name self.old.store.files) key.now from.now }
         requires begun { unit < length self.old.images }
         requires room { 0 < room_of self.old.images unit }
-        ensures changed { OnOk result (AreChanged self.old self.new unit (Rewrite name key.now from.now)) }
+        ensures changed { OnOk result
+            (AreChanged self.old self.new unit (Rewrite name key.now from.now)) }
         ensures err { OnErr result (self.new ≡ self.old) }
     {
-        let _key = key;
         let keep = self.is_recoverable(&name);
         let changed = self.store.files.rewrite(&name, from.copy()?, keep);
         self.keep(unit, name, changed.image);
@@ -407,14 +409,15 @@ impl UndoableStore {
     /// Backs a unit out: its images are undone, newest first. It keeps none from then on.
     pub(crate) fn back_out(&mut self, unit: UnitId)
         requires begun { unit < length self.old.images }
-        requires ready { AreReadyInTurn IsAnyReady any_undone self.old.store (kept_by self.old.images unit) }
+        requires ready { AreReadyInTurn IsAnyReady any_undone self.old.store
+            (kept_by self.old.images unit) }
         ensures none { kept_by self.new.images unit ≡ [] }
         ensures others { AreOthersKept self.old.images self.new.images unit }
         ensures led_back { (c : List ℕ) →
             LeadBack AnyLeads (images_of cell_of_any c (kept_by self.old.images unit))
             (any_content self.old.store c) (any_content self.new.store c) }
-        ensures cells { AnyKeep (is_unnamed cell_of_any (kept_by self.old.images unit)) self.old.store
-            self.new.store }
+        ensures cells { AnyKeep (is_unnamed cell_of_any (kept_by self.old.images unit))
+            self.old.store self.new.store }
         ensures fixed { any_fixed self.new.store ≡ any_fixed self.old.store }
         ensures held { AreHeldForImages any_holds cell_of_any self.old.store self.old.images →
             AreHeldForImages any_holds cell_of_any self.new.store self.new.images }
@@ -437,7 +440,8 @@ impl UndoableStore {
         ensures cells { AnyKeep (is_unnamed cell_of_any (kept_by self.old.images unit))
             (settled_by self.old unit) self.new.store }
         ensures fixed { any_fixed self.new.store ≡ any_fixed (settled_by self.old unit) }
-        ensures held { AreHeldForImages any_holds cell_of_any (settled_by self.old unit) self.old.images →
+        ensures held { AreHeldForImages any_holds cell_of_any
+            (settled_by self.old unit) self.old.images →
             AreHeldForImages any_holds cell_of_any self.new.store self.new.images }
         ensures whole { self.new.store
             ≡ all_swept any_swept cell_of_any (settled_by self.old unit)

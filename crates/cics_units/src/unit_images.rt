@@ -1,6 +1,6 @@
 //! The before images of each unit of work, by the unit's number.
 
-ghost use Rattle.std.specs.Prelude.{◌≡◌, ◌≢◌, ◌+◌, ◌<◌, ◌≤◌, ◌&&◌, ℕ, [], ◌∷◌, length, slice_get};
+ghost use Rattle.std.specs.Prelude.{◌≡◌, ◌+◌, ◌<◌, ◌≤◌, ◌&&◌, ℕ, [], ◌∷◌, length};
 ghost use Rattle.std.specs.Prelude.{OnOk, fold, reverse};
 ghost use Rattle.cics_images.specs.Cells.{Cell, AreReadyInTurn, LeadBack, images_of, is_unnamed};
 ghost use Rattle.cics_images.specs.Cells.{all_swept};

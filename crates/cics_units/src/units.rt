@@ -1,23 +1,20 @@
 //! Units of work: their commands, what they hold, and their ends.
 
-ghost use Rattle.std.specs.Prelude.{◌≡◌, ◌<◌, ◌≤◌, ◌++◌, ◌∷◌, [], true, false, length, vec_len};
+ghost use Rattle.std.specs.Prelude.{◌≡◌, ◌<◌, ◌≤◌, ◌++◌, ◌∷◌, [], true, length, vec_len};
 ghost use Rattle.std.specs.Prelude.{vec_capacity, IsTrue, Option, Some, None, option_map, IfOk};
 ghost use Rattle.std.specs.Prelude.{IfErr, IfSome, OnOk, OnErr};
 ghost use Rattle.std.specs.Option.{option_copied};
 ghost use Rattle.cics_names.specs.Keyed.{value_at};
-ghost use Rattle.cics_history.specs.Openings.{is_key};
+ghost use Rattle.cics_history.specs.Openings.{IsOpeningInOrder, is_key};
 ghost use Rattle.cics_history.specs.History.{outcome_of};
-ghost use Rattle.cics_history.specs.Holding.{held_table, first_holder, awaited, value_holder};
+ghost use Rattle.cics_history.specs.Holding.{awaited, value_holder};
 ghost use Rattle.cics_history.specs.Execution.{IfMustWait, IfEnqMustWait, unit_or_next};
 ghost use Rattle.cics_history.specs.Execution.{outcomes_with, IsOpenUnit, IsOpenOrNone, is_ready_op};
 ghost use Rattle.cics_history.specs.Execution.{execution, after_execution, enqueue, after_enqueue};
 ghost use Rattle.cics_history.specs.Execution.{after_dequeue, after_unlock, read_at, after_end};
 ghost use Rattle.cics_history.specs.Execution.{place_at, item_asked, ts_reading, after_ts_reading};
 ghost use Rattle.cics_history.specs.Headline.{IsHeadline, LeavesNoTrace, beginning};
-ghost use Rattle.cics_units.specs.Listings.{listing_of};
-ghost use Rattle.cics_history.specs.Records.{is_file_op, key_of};
-ghost use Rattle.cics_units.specs.TableInPlace.{resource_of};
-ghost use Rattle.cics_history.specs.declared.ops.Op.{Op as OpValue};
+ghost use Rattle.cics_units.specs.Listings.{listing_of, replayed_listing};
 ghost use Rattle.cics_history.specs.declared.ops.UnitState.TheVariants.{Committed, BackedOut};
 
 use crate::listings::Listing;
@@ -28,7 +25,7 @@ use cics_enqueue::{Resource, TakeFault, UnitId};
 use cics_history::{Answer, Done, Enqueued, Entry, Op, UnitState};
 use cics_images::Stores;
 use cics_ksds::File;
-use cics_names::{Name4, Name8, NoMemory, Record};
+use cics_names::{Name4, Name8, NoMemory};
 use cics_tempstor::TempStore;
 use cics_transdata::Recovery;
 use std::alloc::Global;
@@ -101,12 +98,16 @@ fn enter(trace: &mut Vec<Entry>, outcomes: &mut Vec<UnitState>, unit: Option<Uni
 impl Units {
     /// Starts with what an opening holds: no command is executed, and no unit has begun. It takes
     /// memory for a copy of the files and queues; where that is refused the opening comes back.
+    ///
+    /// - `in_order`: the names in an opening rise, and so do the keys of each file, as what is said of
+    ///   whole runs asks.
     pub fn start(opening: Opening) -> Result<Units, Opening>
         ensures state { IfOk result (λ units. units.state ≡ beginning opening) }
+        ensures in_order { IfOk result (λ units. IsOpeningInOrder units.state.opening) }
         ensures headline { IfOk result IsHeadline }
         ensures err { IfErr result (λ back. back ≡ opening) }
     {
-        let alloc = opening.files().allocator();
+        let alloc = opening.allocator();
         let Ok(files) = opening.files().copy() else {
             return Err(opening);
         };
@@ -127,33 +128,18 @@ impl Units {
         })
     }
 
-    /// The unit, other than the one that asks, that holds the least of what overlaps a resource, in byte
-    /// order; `asking` is None for a task without a unit.
-    ///
-    /// - `awaits`: so it is the unit that a command on a file has to wait for that uses that resource.
-    pub fn holder(&self, asking: Option<UnitId>, resource: &Resource) -> Option<UnitId>
-        ensures holder { result ≡ first_holder (held_table self.now.state) asking resource.now }
-        ensures is_open { IfSome result (IsOpenUnit self.now.state) }
-        ensures awaits { (op : OpValue) → is_file_op op ≡ true →
-            resource.now ≡ resource_of op →
-            result ≡ awaited self.now.state asking op }
-    {
-        let _trace = &self.trace;
-        self.parts.holder_over(asking, resource)
-    }
-
     /// The unit that a command has to wait for, if any: another one that holds what it uses, else for
     /// READQ TD the writer of the queue, where that has no record that the task may read. `asking` is
-    /// None for a task without a unit, and a key or a prefix has at most 255 bytes. It takes no memory.
+    /// None for a task without a unit. What `execute` asks of the unit and the command has to hold, and
+    /// it takes no memory.
     pub fn awaited(&self, asking: Option<UnitId>, op: &Op) -> Option<UnitId>
         requires is_open { IsOpenOrNone self.now.state asking }
-        requires key { length (key_of op.now) ≤ 255 }
+        requires ready { IsTrue (is_ready_op self.now.state asking op.now) }
         ensures awaited { result ≡ awaited self.now.state asking op.now }
         ensures is_open { IfSome result (IsOpenUnit self.now.state) }
     {
         // A copy for each call that the unit is handed to.
         let acts = asking;
-        let _trace = &self.trace;
         let uses = uses_of(op, self.opening.is_recoverable(op));
         let acting = unit_or_next(acts, self.outcomes.as_slice());
         self.parts.awaited(asking, acting, op, &uses)
@@ -170,7 +156,6 @@ impl Units {
     pub fn execute(&mut self, unit: Option<UnitId>, op: &Op) -> Result<Done, NoMemory>
         requires is_open { IsOpenOrNone self.old.state unit }
         requires ready { IsTrue (is_ready_op self.old.state unit op.now) }
-        requires key { length (key_of op.now) ≤ 255 }
         ensures done { IfOk result (λ done. done ≡ execution self.old.state unit op.now) }
         ensures holder_open { IfOk result (λ done. IfMustWait done (IsOpenUnit self.old.state)) }
         ensures state { OnOk result (self.new.state ≡ after_execution self.old.state unit op.now) }
@@ -245,7 +230,6 @@ impl Units {
         ensures holder { result ≡ value_holder self.now.state asking value.now }
         ensures is_open { IfSome result (IsOpenUnit self.now.state) }
     {
-        let _trace = &self.trace;
         self.parts.holder_over(asking, &Resource::value(value))
     }
 
@@ -264,16 +248,15 @@ impl Units {
     }
 
     /// The key of the record that a unit has read for update in a file, if it has.
-    pub fn open_read(&self, unit: UnitId, file: &Name8) -> Option<&Record>
+    pub fn open_read(&self, unit: UnitId, file: &Name8) -> Option<&[u8]>
         ensures key { option_copied result ≡ read_at self.now.state.reads unit file.now }
         ensures most { IfSome result (λ key. length key.now ≤ 255) }
     {
-        let _trace = &self.trace;
         self.parts.open_read(unit, file)
     }
 
-    /// Ends a unit's update read of a file, if it has one: UNLOCK. What its commands hold stays held.
-    /// It takes no memory.
+    /// Ends a unit's update read of a file, if it has one: UNLOCK. The record of an unrecoverable file is
+    /// free then; in a recoverable one the unit holds it until it ends. It takes no memory.
     pub fn unlock(&mut self, unit: UnitId, file: &Name8)
         requires is_open { IsOpenUnit self.old.state unit }
         ensures state { self.new.state ≡ after_unlock self.old.state unit file.now }
@@ -293,7 +276,8 @@ impl Units {
         ensures answer { IfOk result (λ answer. answer
             ≡ ts_reading self.old.state queue.now (item_asked self.old.state queue.now item)) }
         ensures state { OnOk result (self.new.state
-            ≡ after_ts_reading self.old.state queue.now (item_asked self.old.state queue.now item)) }
+            ≡ after_ts_reading self.old.state queue.now
+            (item_asked self.old.state queue.now item)) }
         ensures headline { IsHeadline self.new }
         ensures store { self.new.store ≡ self.old.store }
         ensures err { OnErr result (self.new ≡ self.old) }
@@ -306,12 +290,12 @@ impl Units {
         })
     }
 
-    /// The NEXT place of a temporary storage queue: the number of the item that any task read last, and
-    /// 0 where none was since the queue was made, and where the queue is absent.
+    /// The NEXT place of a temporary storage queue: the number of the item that the last READQ TS gave, by
+    /// whichever task. DELETEQ TS and the WRITEQ TS that makes the queue set it to 0, and an absent
+    /// queue's is 0; a backout doesn't change it.
     pub fn next_place(&self, queue: &Name8) -> u16
         ensures { result ≡ place_at self.now.state queue.now }
     {
-        let _trace = &self.trace;
         self.parts.stores().store().temp_storage.next_place(queue)
     }
 
@@ -320,7 +304,6 @@ impl Units {
         ensures { result
             ≡ option_map (λ q. q.recovery) (value_at queue.now self.now.state.opening.queues) }
     {
-        let _trace = &self.trace;
         match self.parts.stores().store().trans_data.get(queue) {
             Some(queue) => Some(queue.recovery()),
             None => None,
@@ -358,11 +341,11 @@ impl Units {
     pub fn file(&self, name: &Name8) -> Option<&File>
         ensures records { value_at name.now self.now.store.files
             ≡ option_map (λ f. f.records) (option_copied result) }
-        ensures definition { option_map (λ f. f.definition) (value_at name.now self.now.state.opening.files)
+        ensures definition { option_map (λ f. f.definition)
+            (value_at name.now self.now.state.opening.files)
             ≡ option_map (λ f. f.definition) (option_copied result) }
         ensures lawful { IfSome result (λ f. is_key f.now.definition ≡ true) }
     {
-        let _trace = &self.trace;
         self.parts.stores().store().files.get(name)
     }
 
@@ -375,7 +358,8 @@ impl Units {
 
     /// The executed commands with their units and answers, in the order of their execution.
     pub fn trace(&self) -> &[Entry]
-        ensures { result.now ≡ self.now.state.trace }
+        ensures trace { result.now ≡ self.now.state.trace }
+        ensures headline { IsHeadline self.now }
     {
         self.trace.as_slice()
     }
@@ -397,10 +381,15 @@ impl Units {
 
     /// What stands in the files and queues, the changes of open units included, and no task. It takes
     /// memory for a copy of each record.
+    ///
+    /// - `replayed`: so it is what `plain_replay` gives of the opening, the trace and the outcomes.
     pub fn listing(&self) -> Result<Listing, NoMemory>
-        ensures { IfOk result (λ listing. listing ≡ listing_of self.now.state.opening self.now.store) }
+        ensures listing { IfOk result (λ listing. listing
+            ≡ listing_of self.now.state.opening self.now.store) }
+        ensures replayed { IfOk result (λ listing. listing ≡ replayed_listing self.now.state.opening
+            self.now.state.trace self.now.state.outcomes) }
+        ensures headline { IsHeadline self.now }
     {
-        let _trace = &self.trace;
         Listing::of_store(self.alloc, &self.opening, self.parts.stores().store())
     }
 }

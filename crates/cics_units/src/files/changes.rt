@@ -1,6 +1,6 @@
 //! Changes of one file of a region, with the images that undo them.
 
-ghost use Rattle.std.specs.Prelude.{◌≡◌, IfOk, IfSome, OnOk, OnErr, Some, option_map};
+ghost use Rattle.std.specs.Prelude.{◌≡◌, IfOk, IfSome, OnOk, OnErr, Some};
 ghost use Rattle.cics_names.specs.Keyed.{value_at};
 ghost use Rattle.cics_images.specs.Cells.{is_other};
 ghost use Rattle.cics_ksds.specs.Files.{key_of, write_condition, change_condition};
@@ -34,8 +34,10 @@ impl Named<File> {
             (λ f. changed.image ≡ written_image keep f content)) }
         ensures files { OnOk result (self.new
             ≡ written_in self.old name.now content (value_at name.now self.old)) }
-        ensures undoable { IfOk result (λ changed. IfSome (value_at name.now self.old) (λ f. IfSome changed.image
-            (λ i. IsFilesImage self.old self.new (cell_of name.now (key_in f content)) (record { name = name.now; image = i })))) }
+        ensures undoable { IfOk result
+            (λ changed. IfSome (value_at name.now self.old) (λ f. IfSome changed.image
+            (λ i. IsFilesImage self.old self.new (cell_of name.now (key_in f content))
+            (record { name = name.now; image = i })))) }
         ensures others { IfSome (value_at name.now self.old) (λ f.
             FilesKeep (is_other (cell_of name.now (key_in f content))) self.old self.new) }
         ensures err { OnErr result (self.new ≡ self.old) }
@@ -53,9 +55,11 @@ impl Named<File> {
             (λ f. result.condition ≡ change_condition f.records (key_in f content)) }
         ensures image { IfSome (value_at name.now self.old)
             (λ f. result.image ≡ rewritten_image keep f content) }
-        ensures files { self.new ≡ rewritten_in self.old name.now content (value_at name.now self.old) }
+        ensures files { self.new
+            ≡ rewritten_in self.old name.now content (value_at name.now self.old) }
         ensures undoable { IfSome (value_at name.now self.old) (λ f. IfSome result.image
-            (λ i. IsFilesImage self.old self.new (cell_of name.now (key_in f content)) (record { name = name.now; image = i }))) }
+            (λ i. IsFilesImage self.old self.new (cell_of name.now (key_in f content))
+            (record { name = name.now; image = i }))) }
         ensures others { IfSome (value_at name.now self.old) (λ f.
             FilesKeep (is_other (cell_of name.now (key_in f content))) self.old self.new) }
     {
@@ -80,7 +84,8 @@ impl Named<File> {
         ensures files { OnOk result (self.new
             ≡ deleted_in self.old name.now key.now keep (value_at name.now self.old)) }
         ensures undoable { IfOk result (λ changed. IfSome changed.image
-            (λ i. IsFilesImage self.old self.new (cell_of name.now key.now) (record { name = name.now; image = i }))) }
+            (λ i. IsFilesImage self.old self.new (cell_of name.now key.now)
+            (record { name = name.now; image = i }))) }
         ensures others { FilesKeep (is_other (cell_of name.now key.now)) self.old self.new }
         ensures err { OnErr result (self.new ≡ self.old) }
     {

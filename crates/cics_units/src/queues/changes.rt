@@ -1,6 +1,6 @@
 //! Changes of one transient data queue of a region, with the images that undo them.
 
-ghost use Rattle.std.specs.Prelude.{◌≡◌, Bool, true, false, is_some, IfOk, IfSome, IfNone, IsSome, OnOk, OnErr, option_map};
+ghost use Rattle.std.specs.Prelude.{◌≡◌, Bool, true, IfOk, IfSome, IfNone, IsSome, OnOk, OnErr, option_map};
 ghost use Rattle.cics_names.specs.Keyed.{value_at};
 ghost use Rattle.cics_names.specs.declared.conditions.Condition.{Condition};
 ghost use Rattle.cics_images.specs.Cells.{is_other};
@@ -56,7 +56,8 @@ impl Queues {
     ) -> Result<Changed<QueueImage>, NoMemory>
         requires { IsSome (value_at name.now self.old) }
         ensures condition { IfOk result (λ changed. changed.condition ≡ Condition.Normal) }
-        ensures queues { OnOk result (self.new ≡ changed_at (λ q. trans_written q content) name.now self.old) }
+        ensures queues { OnOk result (self.new
+            ≡ changed_at (λ q. trans_written q content) name.now self.old) }
         ensures image { IfOk result (λ changed. IfSome (value_at name.now self.old)
             (λ q. changed.image ≡ option_map (queue_image name.now) (written_image q))) }
         ensures undoable { IfOk result (λ changed. IfSome changed.image
@@ -88,9 +89,11 @@ impl Queues {
             (λ q. answer.content ≡ first_of q past_fresh)) }
         ensures condition { IfOk result (λ answer. IfSome (value_at name.now self.old)
             (λ q. answer.changed.condition ≡ read_condition (first_of q past_fresh))) }
-        ensures queues { OnOk result (self.new ≡ changed_at (λ q. trans_read q past_fresh) name.now self.old) }
+        ensures queues { OnOk result (self.new
+            ≡ changed_at (λ q. trans_read q past_fresh) name.now self.old) }
         ensures image { IfOk result (λ answer. IfSome (value_at name.now self.old)
-            (λ q. answer.changed.image ≡ option_map (queue_image name.now) (read_image q past_fresh))) }
+            (λ q. answer.changed.image
+            ≡ option_map (queue_image name.now) (read_image q past_fresh))) }
         ensures undoable { IfOk result (λ answer. IfSome answer.changed.image
             (IsQueuesImage self.old self.new (cell_of name.now reading_end))) }
         ensures others { IfOk result (λ answer. IfSome (value_at name.now self.old)

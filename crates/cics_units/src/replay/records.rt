@@ -1,7 +1,7 @@
 //! The records of one file in a plain map.
 
 ghost use Rattle.std.specs.Prelude.{◌≡◌, [], IfOk, OnOk};
-ghost use Rattle.cics_names.specs.Keyed.{has_key, with_value, without};
+ghost use Rattle.cics_names.specs.Keyed.{has_key, with_value};
 ghost use Rattle.cics_ksds.specs.Prefixes.{outside};
 ghost use Rattle.cics_ksds.specs.Files.{records_of, records_after_write, records_after_rewrite};
 ghost use Rattle.cics_ksds.specs.Files.{records_after_delete};

@@ -114,7 +114,8 @@ impl PlainStore {
     /// WRITE to a file.
     fn write(&mut self, file: &Name8, key: &Record, from: &Record) -> Result<(), NoMemory>
         ensures { OnOk result (self.new
-            ≡ (apply_write self.old file.now key.now from.now (value_at file.now self.old.files)).store) }
+            ≡ (apply_write self.old file.now key.now from.now
+            (value_at file.now self.old.files)).store) }
     {
         let Some(records) = self.files.get_mut(file) else {
             return Ok(());
@@ -125,7 +126,8 @@ impl PlainStore {
     /// REWRITE of a file.
     fn rewrite(&mut self, file: &Name8, key: &Record, from: &Record) -> Result<(), NoMemory>
         ensures { OnOk result (self.new
-            ≡ (apply_rewrite self.old file.now key.now from.now (value_at file.now self.old.files)).store) }
+            ≡ (apply_rewrite self.old file.now key.now from.now
+            (value_at file.now self.old.files)).store) }
     {
         let Some(records) = self.files.get_mut(file) else {
             return Ok(());
@@ -184,7 +186,8 @@ impl PlainStore {
     /// WRITEQ TS REWRITE of an item that is there.
     fn ts_rewrite(&mut self, queue: &Name8, item: u64, from: &Record) -> Result<(), NoMemory>
         ensures { OnOk result (self.new
-            ≡ (apply_ts_rewrite self.old queue.now item from.now (ts_queue self.old queue.now)).store) }
+            ≡ (apply_ts_rewrite self.old queue.now item from.now
+            (ts_queue self.old queue.now)).store) }
     {
         let content = from.copy()?;
         let Some(items) = self.temp_storage.get_mut(queue) else {
@@ -199,7 +202,8 @@ impl PlainStore {
 
     /// DELETEQ TS of a queue that is there.
     fn ts_delete(&mut self, queue: &Name8)
-        ensures { self.new ≡ (apply_ts_delete self.old queue.now (ts_queue self.old queue.now)).store }
+        ensures { self.new ≡ (apply_ts_delete self.old queue.now
+            (ts_queue self.old queue.now)).store }
     {
         let Some(items) = self.temp_storage.get(queue) else {
             return;
@@ -223,7 +227,8 @@ impl PlainStore {
 
     /// READQ TD: the first record goes, where there is one.
     fn td_read(&mut self, queue: &Name4)
-        ensures { self.new ≡ (apply_td_read self.old queue.now (value_at queue.now self.old.td)).store }
+        ensures { self.new ≡ (apply_td_read self.old queue.now
+            (value_at queue.now self.old.td)).store }
     {
         let Some(records) = self.trans_data.get_mut(queue) else {
             return;
@@ -233,7 +238,8 @@ impl PlainStore {
 
     /// DELETEQ TD: all records go.
     fn td_delete(&mut self, queue: &Name4)
-        ensures { self.new ≡ (apply_td_delete self.old queue.now (value_at queue.now self.old.td)).store }
+        ensures { self.new ≡ (apply_td_delete self.old queue.now
+            (value_at queue.now self.old.td)).store }
     {
         let Some(records) = self.trans_data.get_mut(queue) else {
             return;
@@ -245,7 +251,6 @@ impl PlainStore {
     pub(crate) fn apply(&mut self, op: &Op) -> Result<(), NoMemory>
         ensures { OnOk result (self.new ≡ (apply self.old op.now).store) }
     {
-        let _queues = &self.temp_storage;
         match op {
             Op::Write { file, key, from } => self.write(file, key, from),
             Op::Rewrite { file, key, from } => self.rewrite(file, key, from),

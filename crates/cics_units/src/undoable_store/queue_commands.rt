@@ -95,7 +95,8 @@ impl UndoableStore {
         requires begun { unit < length self.old.images }
         requires room { 0 < room_of self.old.images unit }
         ensures executed { IfOk result (λ answer.
-            IsTempExecuted self.old self.new unit (TsRewrite queue.now item from.now) recoverable answer) }
+            IsTempExecuted self.old self.new unit
+            (TsRewrite queue.now item from.now) recoverable answer) }
         ensures err { OnErr result (self.new ≡ self.old) }
     {
         let written = self

@@ -1,10 +1,8 @@
-use Rattle.std.proofs.Common.{◌∙◌, subst}
-use Rattle.std.specs.Prelude.{T}
-use Rattle.cics_names.specs.Keyed.{is_rising}
+use Rattle.std.proofs.Common.{◌∙◌}
 use Rattle.cics_units.proofs.Refilled.{refilled-rising}
 use Rattle.cics_units.proofs.Changing.{IfOk-more}
 use Rattle.cics_units.proofs.files.Named+File.copy.Goals as goal
 
 pub returns : goal.returns
 returns c = IfOk-more c.refill.result _ _
-    (λ files same. same ∙ refilled-rising c.args.self.now (subst (λ m. T (is_rising m)) c.self.view_is c.self.invariant)) c.refill.ensures
+    (λ files same. same ∙ refilled-rising c.args.self.now c.refill.ensures.in_order) c.refill.ensures.files

@@ -3,7 +3,7 @@ use Rattle.std.proofs.lemmas.Result.{err_from_is_err_and}
 use Rattle.cics_names.specs.Keyed.{with_value}
 use Rattle.cics_transdata.specs.Trans.{holding}
 use Rattle.cics_history.specs.Openings.{with_queue}
-use Rattle.cics_units.specs.Faults.{IsRefused, fault_if}
+use Rattle.cics_units.specs.Faults.{AnswersFault, fault_if}
 use Rattle.cics_units.specs.Opened.{opened_with}
 use Rattle.cics_units.specs.RegionQueues.{AreLoadedQueues}
 use Rattle.cics_units.specs.declared.opening.DefineFault.TheVariants.{Duplicate}
@@ -11,11 +11,11 @@ use Rattle.cics_units.proofs.Opened.{defined_already, AreLoadedQueues-with, open
 use Rattle.cics_units.proofs.opening.Opening.define_td.Goals as goal
 
 pub returns-then-contains-clause-fault : goal.returns-then-contains-clause-fault
-returns-then-contains-clause-fault c = subst (λ b. IsRefused {X = Unit {0}} (Err Duplicate) (fault_if b))
+returns-then-contains-clause-fault c = subst (λ b. AnswersFault {X = Unit {0}} (Err Duplicate) (fault_if b))
     (c.if-contains.ensures ∙ defined_already c.self.inside.files c.self.inside.prefixes c.self.inside.queues c.args.self.now c.self.view_is c.args.name) refl
 
 pub returns-in_err-insert-clause-fault : goal.returns-in_err-insert-clause-fault
-returns-in_err-insert-clause-fault c = subst (λ b. IsRefused {X = Unit {0}} c.from_residual.result (fault_if b))
+returns-in_err-insert-clause-fault c = subst (λ b. AnswersFault {X = Unit {0}} c.from_residual.result (fault_if b))
     (c.if-contains.ensures ∙ defined_already c.self.inside.files c.self.inside.prefixes c.self.inside.queues c.args.self.now c.self.view_is c.args.name)
     (let p = err_from_is_err_and c.from_residual.result c.from_residual.ensures.1 in rw p.1 p.2)
 
@@ -28,7 +28,7 @@ invariant_of-self-2 c = (
 )
 
 pub returns-clause-fault : goal.returns-clause-fault
-returns-clause-fault c = subst (λ b. IsRefused {X = Unit {0}} (Ok (tt {0})) (fault_if b))
+returns-clause-fault c = subst (λ b. AnswersFault {X = Unit {0}} (Ok (tt {0})) (fault_if b))
     (c.if-contains.ensures ∙ defined_already c.self.inside.files c.self.inside.prefixes c.self.inside.queues c.args.self.now c.self.view_is c.args.name) (tt {0})
 
 pub returns-clause-ok : goal.returns-clause-ok

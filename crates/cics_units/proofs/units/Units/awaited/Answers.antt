@@ -1,5 +1,6 @@
 use Rattle.std.proofs.Common.{◌≡◌, ◌∙◌, sym, ap, subst, true}
-use Rattle.cics_history.specs.Execution.{unit_or_next, IsOpenUnit, IsOpenOrNone}
+use Rattle.cics_history.proofs.Ready.{ready_short}
+use Rattle.cics_history.specs.Execution.{unit_or_next, IsOpenUnit, IsOpenOrNone, is_ready_op}
 use Rattle.cics_history.specs.Holding.{awaited}
 use Rattle.cics_history.specs.Events.{may_act}
 use Rattle.cics_history.specs.Store.{is_recoverable}
@@ -8,6 +9,14 @@ use Rattle.cics_units.specs.Uses.{uses_if}
 use Rattle.cics_units.specs.Awaiting.{unit_in_way}
 use Rattle.cics_units.proofs.ShownUnits.{acts_of, if_open, in_way, awaited_is, waits_open}
 use Rattle.cics_units.proofs.units.Units.awaited.Goals as goal
+
+pub uses_of-uses-requires : goal.uses_of-uses-requires
+uses_of-uses-requires c =
+    let u = c.self.inside in
+    let op = c.args.op.now in
+    let s = state_shown u.opening u.trace.items u.outcomes.items u.parts in
+    let ready : is_ready_op s c.args.asking op ≡ true = subst (λ v. is_ready_op v.state c.args.asking op ≡ true) (sym c.self.view_is) c.requires.ready in
+    record { most = ready_short s c.args.asking op c.self.invariant.lawful_keys ready }
 
 pub returns-clause-awaited : goal.returns-clause-awaited
 returns-clause-awaited c =

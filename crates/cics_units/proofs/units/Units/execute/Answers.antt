@@ -1,6 +1,7 @@
 use Rattle.std.proofs.Common.{◌≡◌, ◌∙◌, sym, ap, subst, true, None, [], ◌∷◌, ◌++◌}
 use Rattle.cics_history.specs.Execution.{execution, after_execution, unit_or_next, read_at, outcomes_with, IsOpenUnit, IsOpenOrNone, is_ready_op}
 use Rattle.cics_history.specs.Headline.{IsHeadline}
+use Rattle.cics_history.proofs.Ready.{ready_short}
 use Rattle.cics_history.specs.Events.{may_act}
 use Rattle.cics_history.specs.Records.{file_of}
 use Rattle.cics_history.specs.Store.{is_recoverable}
@@ -100,6 +101,14 @@ returns-in_err-answer-clause-headline c =
     c.reserve.ensures.items c.reserve-2.ensures.items)
 
 -- ---- what the calls require
+pub uses_of-uses-requires : goal.uses_of-uses-requires
+uses_of-uses-requires c =
+    let u = c.self.inside in
+    let op = c.args.op.now in
+    let s = state_shown u.opening u.trace.items u.outcomes.items u.parts in
+    let ready : is_ready_op s c.args.unit op ≡ true = subst (λ v. is_ready_op v.state c.args.unit op ≡ true) (sym c.self.view_is) c.requires.ready in
+    record { most = ready_short s c.args.unit op c.self.invariant.lawful_keys ready }
+
 pub given_record-requires : goal.given_record-requires
 given_record-requires c =
     let u = c.self.inside in
@@ -169,14 +178,14 @@ invariant_of-self-2 c =
     (subst (λ n. AreExecuted u.parts c.execute.new.self n op c.is_recoverable-recoverable.result c.in_ok-answer.answer) acting c.in_ok-answer.ensures.executed) in
     let given : c.in_ok-content.content ≡ c.in_ok-answer.answer.content =
     c.in_ok-content.ensures ∙ ap (λ a. given_record u.parts.stores.store (is_writer u.parts.table a (queue_of op)) op) acting
-    ∙ sym (record_given u.opening u.trace.items u.outcomes.items u.parts c.execute.new.self c.self.invariant c.args.unit op acts none ready c.requires.key c.in_ok-answer.answer done) in
+    ∙ sym (record_given u.opening u.trace.items u.outcomes.items u.parts c.execute.new.self c.self.invariant c.args.unit op acts none ready c.in_ok-answer.answer done) in
     let told : Answer = c.in_ok-answer.answer in
     let trace : c.enter.new.trace.items ≡ u.trace.items ++ record { unit = unit_or_next c.args.unit u.outcomes.items; op = op; answer = told } ∷ [] =
     c.enter.ensures.trace ∙ (λ i. c.reserve.ensures.items i ++ record { unit = acting i; op = c.in_ok-op_copy.ensures i; answer = record { condition = told.condition; content = given i; number = told.number } } ∷ []) in
     let outcomes : c.enter.new.outcomes.items ≡ outcomes_with c.args.unit u.outcomes.items = c.enter.ensures.outcomes ∙ ap (outcomes_with c.args.unit) c.reserve-2.ensures.items in
     (subst (λ e. AreKept (state_shown u.opening e c.enter.new.outcomes.items c.execute.new.self) c.execute.new.self.stores c.execute.new.self.table) (sym trace)
     (subst (λ o. AreKept (state_shown u.opening (u.trace.items ++ record { unit = unit_or_next c.args.unit u.outcomes.items; op = op; answer = told } ∷ []) o c.execute.new.self) c.execute.new.self.stores c.execute.new.self.table) (sym outcomes)
-    (parts_kept u.opening u.trace.items u.outcomes.items u.parts c.execute.new.self c.self.invariant c.args.unit op acts none ready c.requires.key c.in_ok-answer.answer done)))
+    (parts_kept u.opening u.trace.items u.outcomes.items u.parts c.execute.new.self c.self.invariant c.args.unit op acts none ready c.in_ok-answer.answer done)))
 
 pub returns-clause-done : goal.returns-clause-done
 returns-clause-done c =
@@ -194,7 +203,7 @@ returns-clause-done c =
     let done : AreExecuted u.parts c.execute.new.self (unit_or_next c.args.unit u.outcomes.items) op (is_recoverable u.opening op) c.in_ok-answer.answer =
     subst (λ b. AreExecuted u.parts c.execute.new.self (unit_or_next c.args.unit u.outcomes.items) op b c.in_ok-answer.answer) c.is_recoverable-recoverable.ensures
     (subst (λ n. AreExecuted u.parts c.execute.new.self n op c.is_recoverable-recoverable.result c.in_ok-answer.answer) acting c.in_ok-answer.ensures.executed) in
-    (λ i. Answered (acting i) c.in_ok-answer.answer) ∙ answered u.opening u.trace.items u.outcomes.items u.parts c.execute.new.self c.self.invariant c.args.unit op acts none ready c.requires.key c.in_ok-answer.answer done ∙ ap (λ v. execution v.state c.args.unit op) c.self.view_is
+    (λ i. Answered (acting i) c.in_ok-answer.answer) ∙ answered u.opening u.trace.items u.outcomes.items u.parts c.execute.new.self c.self.invariant c.args.unit op acts none ready c.in_ok-answer.answer done ∙ ap (λ v. execution v.state c.args.unit op) c.self.view_is
 
 pub returns-clause-state : goal.returns-clause-state
 returns-clause-state c =
@@ -214,12 +223,12 @@ returns-clause-state c =
     (subst (λ n. AreExecuted u.parts c.execute.new.self n op c.is_recoverable-recoverable.result c.in_ok-answer.answer) acting c.in_ok-answer.ensures.executed) in
     let given : c.in_ok-content.content ≡ c.in_ok-answer.answer.content =
     c.in_ok-content.ensures ∙ ap (λ a. given_record u.parts.stores.store (is_writer u.parts.table a (queue_of op)) op) acting
-    ∙ sym (record_given u.opening u.trace.items u.outcomes.items u.parts c.execute.new.self c.self.invariant c.args.unit op acts none ready c.requires.key c.in_ok-answer.answer done) in
+    ∙ sym (record_given u.opening u.trace.items u.outcomes.items u.parts c.execute.new.self c.self.invariant c.args.unit op acts none ready c.in_ok-answer.answer done) in
     let told : Answer = c.in_ok-answer.answer in
     let trace : c.enter.new.trace.items ≡ u.trace.items ++ record { unit = unit_or_next c.args.unit u.outcomes.items; op = op; answer = told } ∷ [] =
     c.enter.ensures.trace ∙ (λ i. c.reserve.ensures.items i ++ record { unit = acting i; op = c.in_ok-op_copy.ensures i; answer = record { condition = told.condition; content = given i; number = told.number } } ∷ []) in
     let outcomes : c.enter.new.outcomes.items ≡ outcomes_with c.args.unit u.outcomes.items = c.enter.ensures.outcomes ∙ ap (outcomes_with c.args.unit) c.reserve-2.ensures.items in
-    (λ i. state_shown u.opening (trace i) (outcomes i) c.execute.new.self) ∙ parts_state u.opening u.trace.items u.outcomes.items u.parts c.execute.new.self c.self.invariant c.args.unit op acts none ready c.requires.key c.in_ok-answer.answer done ∙ ap (λ v. after_execution v.state c.args.unit op) c.self.view_is
+    (λ i. state_shown u.opening (trace i) (outcomes i) c.execute.new.self) ∙ parts_state u.opening u.trace.items u.outcomes.items u.parts c.execute.new.self c.self.invariant c.args.unit op acts none ready c.in_ok-answer.answer done ∙ ap (λ v. after_execution v.state c.args.unit op) c.self.view_is
 
 pub returns-clause-headline : goal.returns-clause-headline
 returns-clause-headline c =
@@ -239,7 +248,7 @@ returns-clause-headline c =
     (subst (λ n. AreExecuted u.parts c.execute.new.self n op c.is_recoverable-recoverable.result c.in_ok-answer.answer) acting c.in_ok-answer.ensures.executed) in
     let given : c.in_ok-content.content ≡ c.in_ok-answer.answer.content =
     c.in_ok-content.ensures ∙ ap (λ a. given_record u.parts.stores.store (is_writer u.parts.table a (queue_of op)) op) acting
-    ∙ sym (record_given u.opening u.trace.items u.outcomes.items u.parts c.execute.new.self c.self.invariant c.args.unit op acts none ready c.requires.key c.in_ok-answer.answer done) in
+    ∙ sym (record_given u.opening u.trace.items u.outcomes.items u.parts c.execute.new.self c.self.invariant c.args.unit op acts none ready c.in_ok-answer.answer done) in
     let told : Answer = c.in_ok-answer.answer in
     let trace : c.enter.new.trace.items ≡ u.trace.items ++ record { unit = unit_or_next c.args.unit u.outcomes.items; op = op; answer = told } ∷ [] =
     c.enter.ensures.trace ∙ (λ i. c.reserve.ensures.items i ++ record { unit = acting i; op = c.in_ok-op_copy.ensures i; answer = record { condition = told.condition; content = given i; number = told.number } } ∷ []) in
@@ -247,4 +256,4 @@ returns-clause-headline c =
     kept_headline (state_shown u.opening c.enter.new.trace.items c.enter.new.outcomes.items c.execute.new.self) c.execute.new.self.stores c.execute.new.self.table
     (subst (λ e. AreKept (state_shown u.opening e c.enter.new.outcomes.items c.execute.new.self) c.execute.new.self.stores c.execute.new.self.table) (sym trace)
     (subst (λ o. AreKept (state_shown u.opening (u.trace.items ++ record { unit = unit_or_next c.args.unit u.outcomes.items; op = op; answer = told } ∷ []) o c.execute.new.self) c.execute.new.self.stores c.execute.new.self.table) (sym outcomes)
-    (parts_kept u.opening u.trace.items u.outcomes.items u.parts c.execute.new.self c.self.invariant c.args.unit op acts none ready c.requires.key c.in_ok-answer.answer done)))
+    (parts_kept u.opening u.trace.items u.outcomes.items u.parts c.execute.new.self c.self.invariant c.args.unit op acts none ready c.in_ok-answer.answer done)))

@@ -9,7 +9,7 @@ pub invariant_of-result : goal.invariant_of-result
 invariant_of-result c =
     let store : StoreValue = record { files = c.in-Ok.files; temp_storage = c.new.result; trans_data = c.in-Ok-copy.trans_data } in
     let opened : store ≡ opened_store c.args.opening = λ i. record {
-      files = (c.in-Ok.ensures ∙ c.files-2.ensures.files) i;
+      files = (c.in-Ok.ensures ∙ c.files.ensures.files) i;
       temp_storage = c.new.ensures i;
       trans_data = (c.in-Ok-copy.ensures ∙ c.queues.ensures) i;
     } in
@@ -20,7 +20,7 @@ pub returns-clause-headline : goal.returns-clause-headline
 returns-clause-headline c =
     let store : StoreValue = record { files = c.in-Ok.files; temp_storage = c.new.result; trans_data = c.in-Ok-copy.trans_data } in
     let opened : store ≡ opened_store c.args.opening = λ i. record {
-      files = (c.in-Ok.ensures ∙ c.files-2.ensures.files) i;
+      files = (c.in-Ok.ensures ∙ c.files.ensures.files) i;
       temp_storage = c.new.ensures i;
       trans_data = (c.in-Ok-copy.ensures ∙ c.queues.ensures) i;
     } in
