@@ -31,6 +31,8 @@ use Rattle.cics_names.specs.declared.commands.Command.{Command}
 use Rattle.cics_names.specs.declared.commands.Verb.{Verb}
 use Rattle.cics_names.specs.declared.commands.Verb.TheVariants.{Read, Write, Rewrite, Delete, Unlock, StartBr, ResetBr, ReadNext, ReadPrev, EndBr, Enq, Deq, Syncpoint, Rollback, Return, Abend}
 use Rattle.cics_dispatch.specs.declared.outcomes.Reply.{Reply}
+use Rattle.cics_dispatch.proofs.KeptTasks.{begins_now}
+use Rattle.cics_dispatch.proofs.KeptTasks.{begins_now}
 use Rattle.cics_dispatch.proofs.TaskPlaces.{task_at-replaced}
 use Rattle.cics_dispatch.proofs.OtherUnits.{LeavesOthers, leaves_all, acting_other, entered_leaves, counted_leaves, dequeued_leaves, unlocked_leaves, closed_leaves}
 use Rattle.cics_dispatch.proofs.OthersHold.{LeavesHeld, held_all, entered_held, counted_held, dequeued_held, unlocked_held, closed_held}
@@ -52,7 +54,7 @@ pub record ActsIn (m : Machine) (u v : Option ℕ) : Type 0 where
 abbrev pub Waits : Bytes → Machine → Machine → Type 0
 Waits label m n =
     (n.waiting ≡ m.waiting)
-    ⊎ (((c : Command) × (n.waiting ≡ m.waiting ++ record { label = label; command = c; since = m.clock } ∷ []))
+    ⊎ (((c : Command) × (o : Option Op) × (n.waiting ≡ m.waiting ++ begins_now label m c o ∷ []))
     ⊎ (n.waiting ≡ not_waiting m.waiting label))
 
 pub record ActsAlone (label : Bytes) (u : Option ℕ) (m n : Machine) : Type 0 where
@@ -202,9 +204,9 @@ module _ (m : Machine) (t : Task) where
       full false is = cc
 
   module _ (c : Command) (asks : asks_no_queue c.verb ≡ true) where
-    waits_alone : (holder : ℕ) (busy : Option Condition) → ActsAlone t.label t.unit m (made_to_wait m t c holder busy).machine
-    waits_alone holder None = record { others = record { clock = refl; tasks = λ x other. refl; units = leaves_all m.units t.unit; held = held_all m.units t.unit }; waits = inr (inl (c, refl)) }
-    waits_alone holder (Some condition) = answered_alone c.resp _
+    waits_alone : (o : Option Op) (holder : ℕ) (busy : Option Condition) → ActsAlone t.label t.unit m (made_to_wait m t c o holder busy).machine
+    waits_alone o holder None = record { others = record { clock = refl; tasks = λ x other. refl; units = leaves_all m.units t.unit; held = held_all m.units t.unit }; waits = inr (inl (c, o, refl)) }
+    waits_alone o holder (Some condition) = answered_alone c.resp _
 
     -- the task's own unit, or the one that begins, has the units' change
     in_unit : (units : UnitsState) (unit : ℕ) → unit_or_next t.unit m.units.outcomes ≡ unit → LeavesOthers m.units units t.unit → LeavesHeld m.units units t.unit → (r : Reply) →
@@ -225,7 +227,7 @@ module _ (m : Machine) (t : Task) where
     executed_alone o = by (execution m.units t.unit o) refl
       where
         by : (d : Done) → execution m.units t.unit o ≡ d → ActsAlone t.label t.unit m (executed m t c o d).machine
-        by (MustWait holder) is = waits_alone holder _
+        by (MustWait holder) is = waits_alone (Some o) holder _
         by (Answered unit a) is =
             in_unit (after_execution m.units t.unit o) unit (acts_in m.units t.unit o unit a is)
             (executed_others o (awaited m.units t.unit o)) (executed_held o (awaited m.units t.unit o)) _
@@ -234,7 +236,7 @@ module _ (m : Machine) (t : Task) where
     enqueued_alone value = by (enqueue m.units t.unit value) refl
       where
         by : (e : Enqueued) → enqueue m.units t.unit value ≡ e → ActsAlone t.label t.unit m (enqueued m t c value e).machine
-        by (EnqMustWait holder) is = waits_alone holder _
+        by (EnqMustWait holder) is = waits_alone None holder _
         by CountFull is = answered_alone c.resp _
         by (Taken unit) is =
             let same : unit_or_next t.unit m.units.outcomes ≡ unit = taken_in value unit (value_holder m.units t.unit value) is in

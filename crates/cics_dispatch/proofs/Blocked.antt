@@ -1,37 +1,33 @@
 -- Waiting commands that are blocked: what is awaited blocks, and what is blocked may not go on.
-use Rattle.std.specs.Prelude.{◌≡◌, ℕ, ◌<◌, ◌==◌, Bool, true, false, cond, ◌&&◌, Option, Some, None, is_none, map, flat_map, List, [], ◌∷◌, ◌++◌, All, take, length, slice_get, IfSome, refl}
+use Rattle.std.specs.Prelude.{◌≡◌, ℕ, ◌<◌, ◌==◌, Bool, true, false, cond, Option, Some, None, is_none, List, [], ◌∷◌, ◌++◌, All, take, length, slice_get, IfSome, refl}
 use Rattle.std.specs.List.{list_any}
 use Rattle.std.proofs.Common.{◌⊎◌, inl, inr, sym, ap, subst, ◌∙◌}
-use Rattle.std.proofs.lemmas.Bool.{false≢true, true≢false, and_parts, and_from, or_cases, or_left, or_right, eq-eqb, eqb-true, lt-ltb}
+use Rattle.std.proofs.lemmas.Bool.{false≢true, true≢false, and_from, or_cases, or_left, or_right, eq-eqb, eqb-true, lt-ltb}
 use Rattle.std.proofs.lemmas.List.Folds.{list_any-append}
 use Rattle.indexmap.specs.IndexSet.{insert_key}
 use Rattle.std.proofs.lemmas.List.Elements.{All-nil, All-cons, All-head, All-tail}
 use Rattle.cics_names.specs.Keyed.{Bytes, is_same}
-use Rattle.cics_enqueue.specs.Resources.{bytes_of, overlaps, is_other, is_prefix}
+use Rattle.cics_enqueue.specs.Resources.{bytes_of, overlaps, is_other}
 use Rattle.cics_enqueue.specs.declared.resources.Resource.{Resource}
 use Rattle.cics_enqueue.specs.declared.resources.Resource.TheVariants.{User}
 use Rattle.cics_history.specs.Holding.{UnitsState, uses_of, held_by, held_table, first_holder, first_some, holder_among, writer_awaited, awaited}
 use Rattle.cics_history.specs.Execution.{IsOpenUnit}
 use Rattle.cics_history.specs.Events.{is_live}
-use Rattle.cics_history.specs.Records.{is_file_op, file_of, key_of}
-use Rattle.cics_units.specs.TableInPlace.{record_of}
+use Rattle.cics_history.specs.Records.{is_file_op}
 use Rattle.cics_history.specs.declared.ops.Op.{Op}
 use Rattle.cics_history.specs.declared.ops.Op.TheVariants.{Write, Rewrite, Delete, DeleteGeneric, ReadUpdate}
 use Rattle.cics_history.proofs.Waiting.{none_first, none_either, in_table}
 use Rattle.cics_history.proofs.Holders.{any_only}
 use Rattle.cics_history.proofs.States.{holder_holds}
 use Rattle.cics_dispatch.specs.Machine.{Machine, Task, Suspended, task_at}
-use Rattle.cics_dispatch.specs.Steps.{op_of}
-use Rattle.cics_names.specs.Commands.{asks_no_queue}
 use Rattle.cics_dispatch.specs.Waits.{wait_of}
-use Rattle.cics_dispatch.specs.Waking.{holder_for, resource_for, may_go_on, first_free, is_late, first_late}
-use Rattle.cics_dispatch.specs.Settled.{is_among, AreAmong, needs_of, holds_one, IsBlocked, IsInTime}
+use Rattle.cics_dispatch.specs.Waking.{awaited_by, may_go_on, first_free, is_late, first_late}
+use Rattle.cics_dispatch.specs.Settled.{is_among, AreAmong, holds_back, IsBlocked, IsInTime}
 use Rattle.cics_names.specs.declared.commands.Verb.{Verb}
 use Rattle.cics_names.specs.declared.commands.Verb.TheVariants.{Enq}
-use Rattle.cics_dispatch.specs.KeptTasks.{HasPassed}
+use Rattle.cics_dispatch.specs.KeptTasks.{IsReady, IsWaitKept}
 use Rattle.cics_dispatch.proofs.OtherUnits.{begun}
-use Rattle.cics_dispatch.proofs.RegionSteps.{place}
-use Rattle.cics_dispatch.proofs.Ready.{is_file_op_of}
+use Rattle.cics_dispatch.proofs.RegionSteps.{task_there}
 
 -- ---- A unit that is found holds what was asked for
 
@@ -39,6 +35,10 @@ use Rattle.cics_dispatch.proofs.Ready.{is_file_op_of}
 either_some : {X : Type 0} (x y : Option X) (h : X) → first_some x y ≡ Some h → (x ≡ Some h) ⊎ (y ≡ Some h)
 either_some None y h is = inr is
 either_some (Some x) y h is = inl is
+
+-- one of these resources is held by a unit
+abbrev holds_one : UnitsState → ℕ → List Resource → Bool
+holds_one s u rs = list_any (λ r. list_any (overlaps r) (held_by s u)) rs
 
 found_among : (s : UnitsState) (u : Option ℕ) (h : ℕ) (rs : List Resource) → holder_among (held_table s) u rs ≡ Some h →
     (is_other u h ≡ true) × (holds_one s h rs ≡ true)
@@ -66,24 +66,22 @@ found_awaited s u h o on_file is =
       | inr writer ↦ let none : None ≡ Some h = sym (no_writer s u o on_file) ∙ writer in cc
     ]
 
--- the unit that a command must wait for holds what the command needs
-found_for : (m : Machine) (t : Task) (h : ℕ) (verb : Verb) (o : Option Op) → ((c : Op) → o ≡ Some c → is_file_op c ≡ true) → holder_for m t verb o ≡ Some h →
-    (is_other t.unit h ≡ true) × (holds_one m.units h (needs_of m.units.opening verb o) ≡ true)
-found_for m t h verb (Some o) on_file is = found_awaited m.units t.unit h o (on_file o refl) is
-found_for m t h (Enq value n nosuspend) None on_file is =
-    let found = holder_holds m.units t.unit (User (bytes_of (take n value))) h is in
-    (found.0, or_left _ _ found.1)
-found_for m t h verb None on_file is = cc
+-- the unit that a command must wait for holds it back
+found_for : (s : UnitsState) (u : Option ℕ) (h : ℕ) (verb : Verb) (o : Option Op) → IsReady s u verb o → awaited_by s u verb o ≡ Some h →
+    (is_other u h ≡ true) × (holds_back s h verb o ≡ true)
+found_for s u h verb (Some o) ready is = found_awaited s u h o ready.on_file is
+found_for s u h (Enq value n nosuspend) None ready is = holder_holds s u (User (bytes_of (take n value))) h is
+found_for s u h verb None ready is = absurd ready
 
 -- a unit is among itself
 pub is_among-one : (u : ℕ) → is_among (u ∷ []) u ≡ true
 is_among-one u = or_left _ _ (eq-eqb u u refl)
 
 -- the unit that a waiting command must wait for blocks it
-pub blocked_by : (m : Machine) (w : Suspended) (t : Task) (h : ℕ) → task_at m.tasks w.label ≡ Some t → asks_no_queue w.command.verb ≡ true → IsOpenUnit m.units h →
-    holder_for m t w.command.verb (op_of m t w.command.verb) ≡ Some h → IsBlocked m (h ∷ []) w
-blocked_by m w t h of_task asks is_open is =
-    let found = found_for m t h w.command.verb (op_of m t w.command.verb) (λ c there. is_file_op_of m t w.command.verb c there asks) is in
+pub blocked_by : (m : Machine) (w : Suspended) (t : Task) (h : ℕ) → task_at m.tasks w.label ≡ Some t → IsReady m.units t.unit w.command.verb w.op →
+    IsOpenUnit m.units h → awaited_by m.units t.unit w.command.verb w.op ≡ Some h → IsBlocked m (h ∷ []) w
+blocked_by m w t h of_task ready is_open is =
+    let found = found_for m.units t.unit h w.command.verb w.op ready is in
     record {
       task = t;
       of_task = of_task;
@@ -111,15 +109,13 @@ held_among s u h (r ∷ rs) live other holds none =
       | inr later ↦ held_among s u h rs live other later both.1
     ]
 
-held_for : (m : Machine) (t : Task) (h : ℕ) (verb : Verb) (o : Option Op) → is_live m.units h ≡ true → is_other t.unit h ≡ true →
-    holds_one m.units h (needs_of m.units.opening verb o) ≡ true → holder_for m t verb o ≡ None → ⊥
-held_for m t h verb (Some o) live other holds none =
-    held_among m.units t.unit h (uses_of m.units.opening o) live other holds
-    (none_either (holder_among (held_table m.units) t.unit (uses_of m.units.opening o)) (writer_awaited m.units t.unit o) none).0
-held_for m t h (Enq value n nosuspend) None live other holds none =
-    held_first m.units t.unit (User (bytes_of (take n value))) h live other
-    (any_only (λ r. list_any (overlaps r) (held_by m.units h)) (User (bytes_of (take n value))) holds) none
-held_for m t h verb None live other holds none = absurd (false≢true holds)
+held_for : (s : UnitsState) (u : Option ℕ) (h : ℕ) (verb : Verb) (o : Option Op) → is_live s h ≡ true → is_other u h ≡ true →
+    holds_back s h verb o ≡ true → awaited_by s u verb o ≡ None → ⊥
+held_for s u h verb (Some o) live other holds none =
+    held_among s u h (uses_of s.opening o) live other holds
+    (none_either (holder_among (held_table s) u (uses_of s.opening o)) (writer_awaited s u o) none).0
+held_for s u h (Enq value n nosuspend) None live other holds none = held_first s u (User (bytes_of (take n value))) h live other holds none
+held_for s u h verb None live other holds none = absurd (false≢true holds)
 
 -- one that is there is not none
 not_none : {X : Type 0} (o : Option X) → (o ≡ None → ⊥) → is_none o ≡ false
@@ -129,8 +125,8 @@ not_none (Some x) there = refl
 pub blocked_stays : (m : Machine) (bs : List ℕ) (w : Suspended) → IsBlocked m bs w → may_go_on m w (task_at m.tasks w.label) ≡ false
 blocked_stays m bs w is =
     ap (may_go_on m w) is.of_task
-    ∙ not_none (holder_for m is.task w.command.verb (op_of m is.task w.command.verb))
-    (held_for m is.task is.holder w.command.verb (op_of m is.task w.command.verb) is.is_open is.other is.holds)
+    ∙ not_none (awaited_by m.units is.task.unit w.command.verb w.op)
+    (held_for m.units is.task.unit is.holder w.command.verb w.op is.is_open is.other is.holds)
 
 -- where each is blocked none is the first that may go on
 pub none_free : (m : Machine) (bs : List ℕ) (ws : List Suspended) → All (IsBlocked m bs) ws → first_free m ws ≡ None
@@ -207,12 +203,14 @@ all_in_time m (w ∷ ws) none =
 -- ---- As the commands are looked at
 
 -- the unit that is found for a waiting command blocks it
-pub blocked_found : (m : Machine) (w : Suspended) (at : ℕ) (o : Option ℕ) → HasPassed m w → slice_get m.tasks at ≡ task_at m.tasks w.label → at < length m.tasks →
-    ((t : Task) → slice_get m.tasks at ≡ Some t → o ≡ holder_for m t w.command.verb (op_of m t w.command.verb)) → IfSome o (IsOpenUnit m.units) →
+pub blocked_found : (m : Machine) (w : Suspended) (at : ℕ) (o : Option ℕ) → IsWaitKept m w → slice_get m.tasks at ≡ task_at m.tasks w.label → at < length m.tasks →
+    ((t : Task) → slice_get m.tasks at ≡ Some t → o ≡ awaited_by m.units t.unit w.command.verb w.op) → IfSome o (IsOpenUnit m.units) →
     IfSome o (λ h. IsBlocked m (h ∷ []) w)
 blocked_found m w at None has task within told is_open = tt
 blocked_found m w at (Some h) has task within told is_open =
-    place m.tasks at within (λ t there. blocked_by m w t h (sym task ∙ there) has.no_queue is_open (sym (told t there)))
+    task_there m.tasks at within (λ t there.
+    let of_task : task_at m.tasks w.label ≡ Some t = sym task ∙ there in
+    blocked_by m w t h of_task (has.ready t of_task) is_open (sym (told t there)))
 
 -- what is left of the waits blocks with what was passed
 pub record AreNoted (m : Machine) (bs : List ℕ) (ws : List Suspended) : Type 0 where

@@ -1,8 +1,6 @@
 -- What stands at each index of a list after a change.
-use Rattle.std.proofs.Common.{◌≡◌, ◌≢◌, ℕ, zero, suc, ◌+◌, ◌-◌, ◌<◌, ◌&&◌, ◌==◌, Bool, true, false, cond, Option, Some, None, is_some, List, [], ◌∷◌, ◌++◌, length, take, slice_get, slice_set, nat_eq, refl, sym, ap, subst, ◌∙◌, arith, get_or, inl, inr}
+use Rattle.std.proofs.Common.{◌≡◌, ℕ, zero, suc, ◌&&◌, true, false, cond, Some, None, is_some, List, [], ◌∷◌, ◌++◌, length, slice_get, slice_set, nat_eq, refl, sym, ap, ◌∙◌}
 use Rattle.std.proofs.Math.Dec.{eqb-suc-zero, eqb-zero-suc, eqb-suc-suc}
-use Rattle.std.proofs.lemmas.Bool.{eqb-true, ne_eqb, eq-eqb, and_parts, and_from, cases_Bool}
-use Rattle.std.proofs.lemmas.Option.{slice_get-get_or}
 
 module _ {X : Type 0} where
   -- one is written over

@@ -17,8 +17,8 @@ use Rattle.cics_history.specs.declared.ops.Enqueued.TheVariants.{Taken, CountFul
 use Rattle.cics_dispatch.specs.Machine.{Machine, Task, Suspended, task_at, is_waiting, not_waiting, with_waiting, with_units, with_task, with_unit, with_browses, records_in}
 use Rattle.cics_dispatch.specs.Replies.{plain, cut, read_reply}
 use Rattle.cics_names.specs.Commands.{length_of}
-use Rattle.cics_dispatch.specs.Steps.{unhandled, answered, reply_of, executed, enqueued, unlocked, dequeued, browse_reply, with_browse, started, reset, browsed, other_command, by_op, op_of, performed}
-use Rattle.cics_dispatch.specs.Waking.{holder_for, may_go_on, first_free, went_on, woken_first, woken, is_late, first_late, expired_task, expired}
+use Rattle.cics_dispatch.specs.Steps.{unhandled, answered, reply_of, executed, enqueued, unlocked, dequeued, browse_reply, with_browse, started, reset, browsed, other_command, by_op}
+use Rattle.cics_dispatch.specs.Waking.{awaited_by, may_go_on, first_free, went_on, woken_first, woken, is_late, first_late, expired_task, expired}
 use Rattle.cics_names.specs.declared.commands.Command.{Command}
 use Rattle.cics_names.specs.declared.commands.Verb.{Verb}
 use Rattle.cics_names.specs.declared.commands.Verb.TheVariants.{Read, Unlock, StartBr, ResetBr, ReadNext, ReadPrev, EndBr, ReadqTs, Enq, Deq, Syncpoint, Rollback, Return, Abend}
@@ -137,7 +137,7 @@ module _ (m : Machine) (t : Task) (c : Command) where
   browsed_none f n None given after = answered_none m t c.resp (plain Invreq)
   browsed_none f n (Some p) given after = browse_none f (after p) (cut n (browse_reply (given p)))
 
-  other_none : (verb : Verb) → holder_for m t verb None ≡ None → length (other_command m t c verb).machine.waiting ≤ length m.waiting
+  other_none : (verb : Verb) → awaited_by m.units t.unit verb None ≡ None → length (other_command m t c verb).machine.waiting ≤ length m.waiting
   other_none (Read f key given n generic gteq update) free = answered_none m t c.resp (cut n (read_reply (records_in m f) key generic gteq))
   other_none (Unlock f) free = unlocked_none f t.unit
   other_none (StartBr f key given generic equal) free = started_none f key generic equal
@@ -155,12 +155,9 @@ module _ (m : Machine) (t : Task) (c : Command) where
   other_none (Abend (Some code)) free = not_more m.waiting t.label
   other_none verb free = answered_none m t c.resp (plain Invreq)
 
-  by_op_none : (o : Option Op) → holder_for m t c.verb o ≡ None → length (by_op m t c o).machine.waiting ≤ length m.waiting
+  by_op_none : (o : Option Op) → awaited_by m.units t.unit c.verb o ≡ None → length (by_op m t c o).machine.waiting ≤ length m.waiting
   by_op_none (Some o) free = executed_none o free
   by_op_none None free = other_none c.verb free
-
-  performed_none : holder_for m t c.verb (op_of m t c.verb) ≡ None → length (performed m t c).machine.waiting ≤ length m.waiting
-  performed_none free = by_op_none (op_of m t c.verb) free
 
 -- ---- Waking and time-out
 
@@ -186,7 +183,7 @@ woken_fewer m k = by (first_free m m.waiting) refl
     task w is None goes told = cc
     task w is (Some t) goes told =
         let less = fewer m.waiting w.label (free_waits m w m.waiting is) in
-        let none = performed_none (with_waiting m (not_waiting m.waiting w.label)) t w.command (none_awaited (holder_for m t w.command.verb (op_of m t w.command.verb)) goes) in
+        let none = by_op_none (with_waiting m (not_waiting m.waiting w.label)) t w.command w.op (none_awaited (awaited_by m.units t.unit w.command.verb w.op) goes) in
         omega (arith, less, none)
 
     by : (o : Option Suspended) → first_free m m.waiting ≡ o → (woken_first m o).outcome ≡ Some k → length (woken_first m o).machine.waiting < length m.waiting

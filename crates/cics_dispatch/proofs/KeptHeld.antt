@@ -109,16 +109,16 @@ module _ (m : Machine) (t : Task) (v : ℕ) where
   unlocked_told f resp r recoverable (Some u) goes = told_keeps m (unlocked m (Some u) f) t v resp r (unlocked_keeps m.units u v f recoverable) goes
 
   module _ (c : Command) where
-    waits_keeps : (holder : ℕ) (busy : Option Condition) → goes_on (made_to_wait m t c holder busy).outcome ≡ true → Keeps m.units (made_to_wait m t c holder busy).machine.units v
-    waits_keeps holder None goes = keeps_same m.units v
-    waits_keeps holder (Some condition) goes = answered_keeps c.resp (plain condition) goes
+    waits_keeps : (o : Option Op) (holder : ℕ) (busy : Option Condition) → goes_on (made_to_wait m t c o holder busy).outcome ≡ true → Keeps m.units (made_to_wait m t c o holder busy).machine.units v
+    waits_keeps o holder None goes = keeps_same m.units v
+    waits_keeps o holder (Some condition) goes = answered_keeps c.resp (plain condition) goes
 
     state_keeps : (o : Op) (w : Option ℕ) → gives_up_nothing m.units.opening o ≡ true → Keeps m.units (state_of m.units t.unit o w) v
     state_keeps o (Some holder) keeps = keeps_same m.units v
     state_keeps o None keeps = entered_keeps m.units t.unit v o (apply (store_of m.units) o).answer keeps
 
     executed_keeps : (o : Op) → gives_up_nothing m.units.opening o ≡ true → (d : Done) → goes_on (executed m t c o d).outcome ≡ true → Keeps m.units (executed m t c o d).machine.units v
-    executed_keeps o keeps (MustWait holder) goes = waits_keeps holder _ goes
+    executed_keeps o keeps (MustWait holder) goes = waits_keeps (Some o) holder _ goes
     executed_keeps o keeps (Answered unit a) goes =
         told_keeps m (with_task (with_units m (after_execution m.units t.unit o)) (with_unit t unit)) (with_unit t unit) v c.resp _ (state_keeps o (awaited m.units t.unit o) keeps) goes
 
@@ -126,7 +126,7 @@ module _ (m : Machine) (t : Task) (v : ℕ) where
     enqueued_told value = by (enqueue m.units t.unit value) refl
       where
         by : (e : Enqueued) → enqueue m.units t.unit value ≡ e → goes_on (enqueued m t c value e).outcome ≡ true → Keeps m.units (enqueued m t c value e).machine.units v
-        by (EnqMustWait holder) is goes = waits_keeps holder _ goes
+        by (EnqMustWait holder) is goes = waits_keeps None holder _ goes
         by CountFull is goes = answered_keeps c.resp (plain Invreq) goes
         by (Taken unit) is goes =
             let same : unit_or_next t.unit m.units.outcomes ≡ unit = taken_in m t value unit (value_holder m.units t.unit value) is in

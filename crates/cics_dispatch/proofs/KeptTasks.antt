@@ -1,9 +1,9 @@
 -- Task control: each step of a region keeps what holds between its tasks, its waiting commands and its units.
-use Rattle.std.specs.Prelude.{◌≡◌, ◌≢◌, ℕ, ◌<◌, Bool, true, false, not, cond, if◌then◌else◌, nat_le, Option, Some, None, is_some, option_map, List, [], ◌∷◌, ◌++◌, All, length, slice_get, slice_set, refl}
+use Rattle.std.specs.Prelude.{◌≡◌, ◌≢◌, ℕ, ◌<◌, Bool, true, false, not, cond, if◌then◌else◌, nat_le, Option, Some, None, is_some, List, [], ◌∷◌, ◌++◌, All, length, slice_get, slice_set, refl}
 use Rattle.std.proofs.Common.{◌⊎◌, inl, inr, sym, ap, ◌∙◌, subst, arith}
 use Rattle.std.proofs.lemmas.Bool.{false≢true, and_parts}
 use Rattle.std.proofs.lemmas.List.Elements.{All-nil, All-cons, All-head, All-tail, All-filter, All-append}
-use Rattle.cics_names.specs.Keyed.{Bytes, Map, value_at, is_same}
+use Rattle.cics_names.specs.Keyed.{Bytes, Map, is_same}
 use Rattle.cics_names.specs.KeyedLaws.{is_same-self}
 use Rattle.cics_browse.specs.Positions.{Position}
 use Rattle.cics_enqueue.specs.Resources.{most_count}
@@ -11,24 +11,22 @@ use Rattle.cics_history.specs.Openings.{OpeningState}
 use Rattle.cics_history.specs.Holding.{UnitsState, store_of, awaited, value_holder}
 use Rattle.cics_history.specs.Store.{apply}
 use Rattle.cics_history.specs.History.{outcome_of, is_open}
-use Rattle.cics_history.specs.Execution.{has_read, unit_or_next, count_at, counted, done_of, state_of, execution, after_execution, enq_of, enqueue, after_enqueued, after_enqueue, after_dequeue, after_unlock, IsOpenUnit, IsOpenOrNone}
+use Rattle.cics_history.specs.Execution.{is_ready_op, has_read, unit_or_next, count_at, counted, done_of, state_of, execution, after_execution, enq_of, enqueue, after_enqueued, after_enqueue, after_dequeue, after_unlock, IsOpenUnit, IsOpenOrNone}
 use Rattle.cics_history.specs.Events.{is_live, may_act}
 use Rattle.cics_history.specs.declared.ops.Op.{Op}
+use Rattle.cics_history.specs.declared.ops.Op.TheVariants.{Write, Rewrite, Delete, DeleteGeneric, ReadUpdate, TsWrite, TsRewrite, TsDelete, TdWrite, TdRead, TdDelete}
+use Rattle.cics_names.specs.declared.commands.Verb.TheVariants.{Enq}
 use Rattle.cics_history.specs.declared.ops.Answer.{Answer}
 use Rattle.cics_history.specs.declared.ops.Done.TheVariants.{Answered}
 use Rattle.cics_history.specs.declared.ops.Enqueued.TheVariants.{Taken, CountFull}
 use Rattle.cics_history.specs.declared.ops.UnitState.{UnitState}
 use Rattle.cics_history.specs.declared.ops.UnitState.TheVariants.{BackedOut}
 use Rattle.cics_dispatch.specs.Machine.{Machine, Task, Suspended, beginning_region, task_at, replaced, is_waiting, not_waiting, with_task, with_units, with_waiting, with_unit, with_browses, units_after, unit_closed, abended}
-use Rattle.cics_dispatch.specs.Checks.{open_key, fault_of}
 use Rattle.cics_dispatch.specs.Steps.{new_task, with_new_task, unlocked, dequeued}
-use Rattle.cics_names.specs.Commands.{asks_no_queue, file_named}
-use Rattle.cics_dispatch.specs.Faults.{definition_named, open_key_named, browse_named, verb_fault}
 use Rattle.cics_dispatch.specs.Tasks.{own_label, own_unit, had_at, IsOwn, HasNoOwner}
-use Rattle.cics_dispatch.specs.KeptTasks.{HasPassed, AreTasksKept}
+use Rattle.cics_dispatch.specs.KeptTasks.{IsReady, IsWaitKept, AreTasksKept}
 use Rattle.cics_names.specs.declared.commands.Command.{Command}
 use Rattle.cics_names.specs.declared.commands.Verb.{Verb}
-use Rattle.cics_dispatch.proofs.Asked.{fault_of-verb_fault}
 use Rattle.cics_dispatch.proofs.TaskPlaces.{same_place, place-set, set_placed, set_same, IsOwn-set, task_at-place, place_of_task, replaced-set, task_at-replaced, place-push, IsOwn-push, task_at-push}
 use Rattle.cics_dispatch.proofs.OtherUnits.{LeavesOthers, leaves_all, begun, acting_lives, entered_leaves, counted_leaves, dequeued_leaves, unlocked_leaves, closed_leaves}
 
@@ -64,20 +62,28 @@ no_owner_next m kept = record {
       omega arith;
 }
 
--- ---- Checks that have passed
+-- ---- What is ready stays ready
 
--- the first fault of a command is told by the opening and the task's open update reads
-fault_kept : (m n : Machine) (t : Task) (verb : Verb) → n.units.opening ≡ m.units.opening → ((f : Bytes) → open_key n t f ≡ open_key m t f) →
-    asks_no_queue verb ≡ true → fault_of n t verb ≡ fault_of m t verb
-fault_kept m n t verb opening keys asks =
-    fault_of-verb_fault n t verb asks ∙ by (file_named verb) ∙ sym (fault_of-verb_fault m t verb asks)
-  where
-    by : (o : Option Bytes) →
-        verb_fault (definition_named n o) (open_key_named n t o) (browse_named t o) verb ≡ verb_fault (definition_named m o) (open_key_named m t o) (browse_named t o) verb
-    by None = refl
-    by (Some f) =
-        ap (λ o. verb_fault (option_map (λ file. file.definition) (value_at f o.files)) (open_key n t f) (browse_named t (Some f)) verb) opening
-        ∙ ap (λ k. verb_fault (definition_named m (Some f)) k (browse_named t (Some f)) verb) (keys f)
+-- whether an updating command is ready is told by the opening and the update reads that are open for the task's unit
+ready_kept : (s n : UnitsState) (u : Option ℕ) (o : Op) → n.opening ≡ s.opening → ((f : Bytes) → has_read n u f ≡ has_read s u f) →
+    is_ready_op n u o ≡ is_ready_op s u o
+ready_kept s n u (Write f k r) opening reads = rw opening refl
+ready_kept s n u (Rewrite f k r) opening reads = rw (opening, reads f) refl
+ready_kept s n u (Delete f k) opening reads = rw opening refl
+ready_kept s n u (DeleteGeneric f k) opening reads = rw opening refl
+ready_kept s n u (ReadUpdate f k) opening reads = rw (opening, reads f) refl
+ready_kept s n u (TsWrite q d) opening reads = refl
+ready_kept s n u (TsRewrite q i d) opening reads = refl
+ready_kept s n u (TsDelete q) opening reads = refl
+ready_kept s n u (TdWrite q d) opening reads = rw opening refl
+ready_kept s n u (TdRead q) opening reads = rw opening refl
+ready_kept s n u (TdDelete q) opening reads = rw opening refl
+
+ready_yet : (s n : UnitsState) (u : Option ℕ) (verb : Verb) (o : Option Op) → n.opening ≡ s.opening → ((f : Bytes) → has_read n u f ≡ has_read s u f) →
+    IsReady s u verb o → IsReady n u verb o
+ready_yet s n u verb (Some o) opening reads is = record { on_file = is.on_file; ready = ready_kept s n u o opening reads ∙ is.ready }
+ready_yet s n u (Enq value k nosuspend) None opening reads is = is
+ready_yet s n u verb None opening reads is = absurd is
 
 -- ---- A step of one task
 
@@ -111,8 +117,8 @@ module _ (m n : Machine) (t owner : Task) (at : ℕ) (kept : AreTasksKept m) (pl
         | inr other ↦ others.live u (not_own i v u other.0 other.1 own) (kept.open_units i v u other.1 own)
       ]
 
-  -- the command of another task has passed its checks yet
-  module _ (w : Suspended) (other : t.label ≢ w.label) (has : HasPassed m w) where
+  -- what the command of another task goes on with is ready yet
+  module _ (w : Suspended) (other : t.label ≢ w.label) (has : IsWaitKept m w) where
     same_task : task_at n.tasks w.label ≡ task_at m.tasks w.label
     same_task = ap (λ ts. task_at ts w.label) tasks ∙ task_at-replaced m.tasks owner w.label (λ e. other (sym label ∙ e))
 
@@ -129,24 +135,23 @@ module _ (m n : Machine) (t owner : Task) (at : ℕ) (kept : AreTasksKept m) (pl
             let same : t ≡ v = cc in
             ap (λ x. x.label) same
 
-    passed_yet : HasPassed n w
-    passed_yet = record {
+    wait_yet : IsWaitKept n w
+    wait_yet = record {
       of_task = ap is_some same_task ∙ has.of_task;
-      no_queue = has.no_queue;
-      no_fault = λ v is.
+      ready = λ v is.
           let there : task_at m.tasks w.label ≡ Some v = sym same_task ∙ is in
-          fault_kept m n v w.command.verb others.opening (λ f. same_key v there f v.unit refl) has.no_queue ∙ has.no_fault v there;
+          ready_yet m.units n.units v.unit w.command.verb w.op others.opening (λ f. same_key v there f v.unit refl) (has.ready v there);
     }
 
-  passed_all : (ws : List Suspended) → is_waiting ws t.label ≡ false → All (HasPassed m) ws → All (HasPassed n) ws
-  passed_all [] none all = All-nil (HasPassed n)
-  passed_all (w ∷ ws) none all =
-      elim (is_same w.label t.label) as (λ b. is_same w.label t.label ≡ b → cond b true (is_waiting ws t.label) ≡ false → All (HasPassed n) (w ∷ ws)) [
+  waits_all : (ws : List Suspended) → is_waiting ws t.label ≡ false → All (IsWaitKept m) ws → All (IsWaitKept n) ws
+  waits_all [] none all = All-nil (IsWaitKept n)
+  waits_all (w ∷ ws) none all =
+      elim (is_same w.label t.label) as (λ b. is_same w.label t.label ≡ b → cond b true (is_waiting ws t.label) ≡ false → All (IsWaitKept n) (w ∷ ws)) [
         | true ↦ λ same wrong. absurd (false≢true (sym wrong))
         | false ↦ λ differs rest.
-            All-cons (HasPassed n) w ws
-            (passed_yet w (λ e. false≢true (sym differs ∙ ap (is_same w.label) e ∙ is_same-self w.label)) (All-head (HasPassed m) w ws all))
-            (passed_all ws rest (All-tail (HasPassed m) w ws all))
+            All-cons (IsWaitKept n) w ws
+            (wait_yet w (λ e. false≢true (sym differs ∙ ap (is_same w.label) e ∙ is_same-self w.label)) (All-head (IsWaitKept m) w ws all))
+            (waits_all ws rest (All-tail (IsWaitKept m) w ws all))
       ] refl none
 
   pub stepped_kept : AreTasksKept n
@@ -154,7 +159,7 @@ module _ (m n : Machine) (t owner : Task) (at : ℕ) (kept : AreTasksKept m) (pl
     labels = subst (IsOwn own_label) (sym now) (IsOwn-set own_label m.tasks at owner kept.labels same_label);
     owners = subst (IsOwn own_unit) (sym now) (IsOwn-set own_unit m.tasks at owner kept.owners same_unit);
     open_units = open_now;
-    passed = subst (All (HasPassed n)) (sym waiting) (passed_all m.waiting free kept.passed);
+    waits = subst (All (IsWaitKept n)) (sym waiting) (waits_all m.waiting free kept.waits);
   }
 
 -- ---- The tasks, the waiting commands and the clock
@@ -165,7 +170,7 @@ kept_begins o = record {
   labels = record { one = λ i j x p q. absurd (no_task own_label i x p) };
   owners = record { one = λ i j x p q. absurd (no_task own_unit i x p) };
   open_units = λ i t u placed own. absurd (no_place i t placed);
-  passed = All-nil (HasPassed (beginning_region o));
+  waits = All-nil (IsWaitKept (beginning_region o));
 }
   where
     no_place : (i : ℕ) (t : Task) → slice_get [] i ≡ Some t → ⊥
@@ -184,7 +189,7 @@ kept_attached m label dtimout kept none = record {
         | inl last ↦ absurd (no_unit u (ap (λ x. x.unit) (sym last.1) ∙ own))
         | inr before ↦ kept.open_units i v u before own
       ];
-  passed = passed_all m.waiting kept.passed;
+  waits = waits_all m.waiting kept.waits;
 }
   where
     no_unit : (u : ℕ) → None ≡ Some u → ⊥
@@ -200,48 +205,57 @@ kept_attached m label dtimout kept none = record {
     there_yet l None is some = absurd (false≢true some)
     there_yet l (Some v) is some = task_at-push m.tasks (new_task label dtimout) l v is ∙ sym is
 
-    passed_yet_of : (w : Suspended) → HasPassed m w → HasPassed (with_new_task m label dtimout) w
-    passed_yet_of w has =
+    wait_yet : (w : Suspended) → IsWaitKept m w → IsWaitKept (with_new_task m label dtimout) w
+    wait_yet w has =
         let same = there_yet w.label (task_at m.tasks w.label) refl has.of_task in
         record {
           of_task = ap is_some same ∙ has.of_task;
-          no_queue = has.no_queue;
-          no_fault = λ v is. has.no_fault v (sym same ∙ is);
+          ready = λ v is. has.ready v (sym same ∙ is);
         }
 
-    passed_all : (ws : List Suspended) → All (HasPassed m) ws → All (HasPassed (with_new_task m label dtimout)) ws
-    passed_all [] all = All-nil (HasPassed (with_new_task m label dtimout))
-    passed_all (w ∷ ws) all =
-        All-cons (HasPassed (with_new_task m label dtimout)) w ws (passed_yet_of w (All-head (HasPassed m) w ws all))
-        (passed_all ws (All-tail (HasPassed m) w ws all))
+    waits_all : (ws : List Suspended) → All (IsWaitKept m) ws → All (IsWaitKept (with_new_task m label dtimout)) ws
+    waits_all [] all = All-nil (IsWaitKept (with_new_task m label dtimout))
+    waits_all (w ∷ ws) all =
+        All-cons (IsWaitKept (with_new_task m label dtimout)) w ws (wait_yet w (All-head (IsWaitKept m) w ws all))
+        (waits_all ws (All-tail (IsWaitKept m) w ws all))
 
--- what a command was checked against is in the tasks and the units
-waiting_now : (m : Machine) (waiting : List Suspended) (clock : ℕ) → AreTasksKept m → All (HasPassed m) waiting →
+-- what a waiting command goes on with is told by the tasks and the units
+waiting_now : (m : Machine) (waiting : List Suspended) (clock : ℕ) → AreTasksKept m → All (IsWaitKept m) waiting →
     AreTasksKept (record m { waiting = waiting; clock = clock })
-waiting_now m waiting clock kept passed = record {
+waiting_now m waiting clock kept waits = record {
   labels = kept.labels;
   owners = kept.owners;
   open_units = kept.open_units;
-  passed = all waiting passed;
+  waits = all waiting waits;
 }
   where
-    all : (ws : List Suspended) → All (HasPassed m) ws → All (HasPassed (record m { waiting = waiting; clock = clock })) ws
-    all [] passed = All-nil (HasPassed (record m { waiting = waiting; clock = clock }))
-    all (w ∷ ws) passed =
-        let has = All-head (HasPassed m) w ws passed in
-        All-cons (HasPassed (record m { waiting = waiting; clock = clock })) w ws
-        (record { of_task = has.of_task; no_queue = has.no_queue; no_fault = has.no_fault })
-        (all ws (All-tail (HasPassed m) w ws passed))
+    all : (ws : List Suspended) → All (IsWaitKept m) ws → All (IsWaitKept (record m { waiting = waiting; clock = clock })) ws
+    all [] waits = All-nil (IsWaitKept (record m { waiting = waiting; clock = clock }))
+    all (w ∷ ws) waits =
+        let has = All-head (IsWaitKept m) w ws waits in
+        All-cons (IsWaitKept (record m { waiting = waiting; clock = clock })) w ws
+        (record { of_task = has.of_task; ready = has.ready })
+        (all ws (All-tail (IsWaitKept m) w ws waits))
 
 -- the clock is set
 pub kept_clock : (m : Machine) (now : ℕ) → AreTasksKept m → AreTasksKept (record m { clock = now })
-kept_clock m now kept = waiting_now m m.waiting now kept kept.passed
+kept_clock m now kept = waiting_now m m.waiting now kept kept.waits
 
 -- a command waits no more
 pub kept_not_waiting : (m : Machine) (label : Bytes) → AreTasksKept m → AreTasksKept (with_waiting m (not_waiting m.waiting label))
 kept_not_waiting m label kept =
     waiting_now m (not_waiting m.waiting label) m.clock kept
-    (All-filter (λ w. not (is_same w.label label)) (HasPassed m) m.waiting kept.passed)
+    (All-filter (λ w. not (is_same w.label label)) (IsWaitKept m) m.waiting kept.waits)
+
+-- the waits stand aside
+pub kept_aside : (m : Machine) → AreTasksKept m → AreTasksKept (with_waiting m [])
+kept_aside m kept = waiting_now m [] m.clock kept (All-nil (IsWaitKept m))
+
+pub waits_aside : (m : Machine) (ws : List Suspended) → All (IsWaitKept m) ws → All (IsWaitKept (with_waiting m [])) ws
+waits_aside m [] waits = All-nil (IsWaitKept (with_waiting m []))
+waits_aside m (w ∷ ws) waits =
+    let has = All-head (IsWaitKept m) w ws waits in
+    All-cons (IsWaitKept (with_waiting m [])) w ws (record { of_task = has.of_task; ready = has.ready }) (waits_aside m ws (All-tail (IsWaitKept m) w ws waits))
 
 pub not_waiting_then : (ws : List Suspended) (label : Bytes) → is_waiting (not_waiting ws label) label ≡ false
 not_waiting_then [] label = refl
@@ -251,28 +265,30 @@ not_waiting_then (w ∷ ws) label =
       | false ↦ λ differs. ap (λ b. cond b true (is_waiting (not_waiting ws label) label)) differs ∙ not_waiting_then ws label
     ] refl
 
--- the command of a task as it waits
-abbrev last : Machine → Task → Command → Suspended
-last m t c = record { label = t.label; command = c; since = m.clock }
+-- the command of a task as it begins to wait
+abbrev pub begins_now : Bytes → Machine → Command → Option Op → Suspended
+begins_now label m c o = record { label = label; command = c; op = o; since = m.clock }
 
--- a command whose checks have passed waits, last of all
-pub kept_suspended : (m : Machine) (at : ℕ) (t : Task) (c : Command) → AreTasksKept m → slice_get m.tasks at ≡ Some t → fault_of m t c.verb ≡ None → asks_no_queue c.verb ≡ true →
-    AreTasksKept (with_waiting m (m.waiting ++ record { label = t.label; command = c; since = m.clock } ∷ []))
-kept_suspended m at t c kept placed passes asks =
-    waiting_now m (m.waiting ++ last m t c ∷ []) m.clock kept
-    (All-append (HasPassed m) m.waiting (last m t c ∷ []) kept.passed (All-cons (HasPassed m) (last m t c) [] has (All-nil (HasPassed m))))
+-- a command that goes on with what is ready waits, last of all
+pub kept_suspended : (m : Machine) (at : ℕ) (t : Task) (c : Command) (o : Option Op) → AreTasksKept m → slice_get m.tasks at ≡ Some t →
+    IsReady m.units t.unit c.verb o → AreTasksKept (with_waiting m (m.waiting ++ begins_now t.label m c o ∷ []))
+kept_suspended m at t c o kept placed ready =
+    waiting_now m (m.waiting ++ last ∷ []) m.clock kept
+    (All-append (IsWaitKept m) m.waiting (last ∷ []) kept.waits (All-cons (IsWaitKept m) last [] has (All-nil (IsWaitKept m))))
   where
+    last : Suspended
+    last = begins_now t.label m c o
+
     there : task_at m.tasks t.label ≡ Some t
     there = task_at-place m.tasks at t kept.labels placed
 
-    has : HasPassed m (last m t c)
+    has : IsWaitKept m last
     has = record {
       of_task = ap is_some there;
-      no_queue = asks;
-      no_fault = λ v is.
+      ready = λ v is.
           let both : Some t ≡ Some v = sym there ∙ is in
           let same : t ≡ v = cc in
-          ap (λ x. fault_of m x c.verb) (sym same) ∙ passes;
+          subst (λ x. IsReady m.units x.unit c.verb o) same ready;
     }
 
 -- ---- A task in the place of the one of its label

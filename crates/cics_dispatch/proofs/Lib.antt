@@ -18,7 +18,6 @@ mod RegionEnqueuing
 mod RegionListing
 mod RegionWaking
 mod RegionPerforming
-pub mod KeptSteps
 pub mod Blocked
 pub mod OthersHold
 pub mod ActsAlone

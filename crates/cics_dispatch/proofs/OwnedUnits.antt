@@ -1,16 +1,11 @@
 -- Task control: an open unit of work is a task's, and stays one's through each step of a region.
-use Rattle.std.specs.Prelude.{◌≡◌, ℕ, Bool, true, false, cond, if◌then◌else◌, ◌&&◌, Option, Some, None, is_some, unwrap_or, IfNone, take, ◌⊎◌, List, [], ◌∷◌, ◌++◌, length, nat_lt, nat_le, nat_eq, get_or, slice_get, refl}
+use Rattle.std.specs.Prelude.{◌≡◌, ℕ, Bool, true, false, cond, if◌then◌else◌, ◌&&◌, Option, Some, None, is_some, unwrap_or, IfNone, ◌⊎◌, List, [], ◌∷◌, ◌++◌, length, nat_lt, nat_le, nat_eq, get_or, slice_get, refl}
 use Rattle.std.proofs.Common.{sym, ap, ◌∙◌, subst, inl, inr, zero, suc, arith}
 use Rattle.std.proofs.lemmas.Bool.{and_parts, and_from, cases_Bool, false_from_ne_true, ltb-true, lt-ltb, eq-eqb, eqb-true}
 use Rattle.std.proofs.lemmas.Option.{slice_get-get_or, slice_get_within}
-use Rattle.cics_names.specs.Keyed.{Bytes, Map, is_same, value_at, with_value, without}
+use Rattle.cics_names.specs.Keyed.{Bytes, Map, is_same, with_value}
 use Rattle.cics_names.specs.KeyedLaws.{is_same-self, is_same-eq}
-use Rattle.cics_names.specs.Conditions.{default_abend_of}
-use Rattle.cics_names.specs.declared.conditions.AbendCode.{AbendCode}
-use Rattle.cics_names.specs.declared.conditions.Condition.{Condition}
-use Rattle.cics_names.specs.declared.conditions.Condition.TheVariants.{Normal, Notfnd, Invreq}
-use Rattle.cics_browse.specs.Positions.{Position, read_next, after_next, read_prev, after_prev, finds_start, start_at, reset_condition, after_reset}
-use Rattle.cics_browse.specs.declared.browses.Browsed.{Browsed}
+use Rattle.cics_browse.specs.Positions.{Position}
 use Rattle.cics_tempstor.specs.Queues.{has_item}
 use Rattle.cics_enqueue.specs.Resources.{most_count}
 use Rattle.cics_dispatch.proofs.Elements.{get-set, get-pushed}
@@ -18,30 +13,19 @@ use Rattle.cics_history.specs.Openings.{OpeningState}
 use Rattle.cics_history.specs.Store.{ts_queue}
 use Rattle.cics_history.specs.History.{outcome_of, is_open}
 use Rattle.cics_history.specs.Holding.{UnitsState, store_of, awaited, value_holder}
-use Rattle.cics_history.specs.Execution.{count_at, item_asked, ts_reading, after_ts_reading, unit_or_next, outcomes_with, done_of, state_of, execution, after_execution, enq_of, enqueue, after_enqueue, after_enqueued}
+use Rattle.cics_history.specs.Execution.{count_at, after_ts_reading, unit_or_next, outcomes_with, done_of, state_of, execution, after_execution, enq_of, enqueue, after_enqueue, after_enqueued}
 use Rattle.cics_history.specs.Headline.{beginning}
 use Rattle.cics_history.specs.Events.{is_live}
 use Rattle.cics_history.specs.declared.ops.Op.{Op}
 use Rattle.cics_history.specs.declared.ops.Answer.{Answer}
-use Rattle.cics_history.specs.declared.ops.Done.{Done}
 use Rattle.cics_history.specs.declared.ops.Done.TheVariants.{Answered, MustWait}
-use Rattle.cics_history.specs.declared.ops.Enqueued.{Enqueued}
-use Rattle.cics_history.specs.declared.ops.Enqueued.TheVariants.{Taken, MustWait as EnqMustWait, CountFull}
+use Rattle.cics_history.specs.declared.ops.Enqueued.TheVariants.{Taken, CountFull}
 use Rattle.cics_history.specs.declared.ops.UnitState.{UnitState}
 use Rattle.cics_history.specs.declared.ops.UnitState.TheVariants.{Open, Committed, BackedOut}
-use Rattle.cics_dispatch.specs.Replies.{plain, cut, read_reply}
-use Rattle.cics_dispatch.specs.Machine.{Machine, Task, Suspended, beginning_region, task_at, replaced, is_unit, with_task, with_units, with_waiting, with_unit, with_browses, units_after, unit_closed, abended, not_waiting, records_in}
-use Rattle.cics_dispatch.specs.Checks.{fault_of}
-use Rattle.cics_names.specs.Commands.{length_of}
-use Rattle.cics_dispatch.specs.Steps.{Stepped, other_command, by_op, performed, checked, op_of, refused_or, issue_refusal, issued_by, issued, attach_refusal, attached, unhandled, answered, made_to_wait, executed, enqueued, busy_of, reply_of, started, reset, browsed, browse_reply, new_task, with_new_task, unlocked, dequeued}
-use Rattle.cics_dispatch.specs.Waking.{clock_refusal, clock_set, first_free, went_on, woken_first, woken, is_late, first_late, expired_task, expired}
+use Rattle.cics_dispatch.specs.Machine.{Machine, Task, Suspended, beginning_region, replaced, is_unit, with_task, with_units, with_waiting, with_unit, with_browses, units_after, unit_closed, abended, not_waiting}
+use Rattle.cics_dispatch.specs.Steps.{new_task, with_new_task, unlocked, dequeued}
 use Rattle.cics_dispatch.specs.Tasks.{IsOwn, HasNoOwner, own_label, had_by, had_at}
 use Rattle.cics_dispatch.specs.OwnedUnits.{AreUnitsOwned}
-use Rattle.cics_names.specs.declared.commands.Verb.{Verb}
-use Rattle.cics_names.specs.declared.commands.Verb.TheVariants.{Read, Unlock, StartBr, ResetBr, ReadNext, ReadPrev, EndBr, ReadqTs, Enq, Deq, Syncpoint, Rollback, Return, Abend}
-use Rattle.cics_dispatch.specs.declared.outcomes.Refused.{Refused}
-use Rattle.cics_names.specs.declared.commands.Command.{Command}
-use Rattle.cics_dispatch.specs.declared.outcomes.Reply.{Reply}
 use Rattle.cics_dispatch.proofs.TaskTable.{is_unit-has}
 
 -- ---- Open units
@@ -311,179 +295,3 @@ module _ (m : Machine) (t : Task) (at : ℕ) (there : slice_get m.tasks at ≡ S
         | inl other ↦ inl (live, other)
         | inr own ↦ inr own
       ]
-
-  -- ---- What a task is told
-
-  -- a condition that nothing handles abends the task
-  owned_unhandled : (r : Reply) (code : Option AbendCode) → AreUnitsOwned (unhandled m t r code).machine
-  owned_unhandled r None = owned
-  owned_unhandled r (Some code) = owned_abended
-
-  pub owned_answered : (resp : Bool) (r : Reply) → AreUnitsOwned (answered m t resp r).machine
-  owned_answered true r = owned
-  owned_answered false r = owned_unhandled r (default_abend_of r.condition)
-
--- what a task is told once another value of it stands in its place
-module _ (m : Machine) (t : Task) (at : ℕ) (there : slice_get m.tasks at ≡ Some t) (labels : IsOwn own_label m.tasks) where
-  owned_told : (units : UnitsState) (owner : Task) (resp : Bool) (r : Reply) → owner.label ≡ t.label → AreUnitsOwned (with_task (with_units m units) owner) →
-      AreUnitsOwned (answered (with_task (with_units m units) owner) owner resp r).machine
-  owned_told units owner resp r label owned =
-      owned_answered (with_task (with_units m units) owner) owner at (replaced_there t owner label m.tasks at labels there) (replaced_labels owner m.tasks labels) owned resp r
-
-module _ (m : Machine) (t : Task) (at : ℕ) (there : slice_get m.tasks at ≡ Some t) (labels : IsOwn own_label m.tasks) (owned : AreUnitsOwned m) where
-  -- the task with other browses is told a reply
-  owned_told_browsing : (browses : Map Position) (resp : Bool) (r : Reply) →
-      AreUnitsOwned (answered (with_task m (with_browses t browses)) (with_browses t browses) resp r).machine
-  owned_told_browsing browses resp r =
-      owned_told m t at there labels m.units (with_browses t browses) resp r refl (owned_browses m t at there labels owned browses)
-
-  -- ---- The commands
-
-  owned_made_to_wait : (c : Command) (holder : ℕ) (busy : Option Condition) → AreUnitsOwned (made_to_wait m t c holder busy).machine
-  owned_made_to_wait c holder None = owned_suspended m (m.waiting ++ record { label = t.label; command = c; since = m.clock } ∷ []) owned
-  owned_made_to_wait c holder (Some busy) = owned_answered m t at there labels owned c.resp (plain busy)
-
-  owned_after_execution : (c : Command) (o : Op) (d : Done) → execution m.units t.unit o ≡ d → AreUnitsOwned (executed m t c o d).machine
-  owned_after_execution c o (MustWait holder) is = owned_made_to_wait c holder (busy_of c.verb)
-  owned_after_execution c o (Answered unit a) is =
-      owned_told m t at there labels (after_execution m.units t.unit o) (with_unit t unit) c.resp (reply_of (length_of c.verb) a) refl
-      (owned_executed m t at there labels owned o unit a is)
-
-  owned_after_enqueue : (c : Command) (value : Bytes) (d : Enqueued) → enqueue m.units t.unit value ≡ d → AreUnitsOwned (enqueued m t c value d).machine
-  owned_after_enqueue c value (EnqMustWait holder) is = owned_made_to_wait c holder (busy_of c.verb)
-  owned_after_enqueue c value CountFull is = owned_answered m t at there labels owned c.resp (plain Invreq)
-  owned_after_enqueue c value (Taken unit) is =
-      owned_told m t at there labels (after_enqueue m.units t.unit value) (with_unit t unit) c.resp (plain Normal) refl
-      (owned_enqueued m t at there labels owned value unit is)
-
-  owned_started : (resp : Bool) (f key : Bytes) (generic equal : Bool) → AreUnitsOwned (started m t resp f key generic equal).machine
-  owned_started resp f key generic equal = by (finds_start (records_in m f) key generic equal)
-    where
-      browses : Map Position
-      browses = with_value f (start_at key generic) t.browses
-
-      by : (b : Bool) → AreUnitsOwned (cond b (answered (with_task m (with_browses t browses)) (with_browses t browses) resp (plain Normal)) (answered m t resp (plain Notfnd))).machine
-      by true = owned_told_browsing browses resp (plain Normal)
-      by false = owned_answered m t at there labels owned resp (plain Notfnd)
-
-  owned_reset : (resp : Bool) (f key : Bytes) (generic equal : Bool) (p : Option Position) → AreUnitsOwned (reset m t resp f key generic equal p).machine
-  owned_reset resp f key generic equal None = owned_answered m t at there labels owned resp (plain Invreq)
-  owned_reset resp f key generic equal (Some p) =
-      owned_told_browsing (with_value f (after_reset (records_in m f) p key generic equal) t.browses) resp (plain (reset_condition (records_in m f) key generic equal))
-
-  owned_browsed : (resp : Bool) (f : Bytes) (n : Option ℕ) (p : Option Position) (given : Position → Browsed) (after : Position → Position) →
-      AreUnitsOwned (browsed m t resp f n p given after).machine
-  owned_browsed resp f n None given after = owned_answered m t at there labels owned resp (plain Invreq)
-  owned_browsed resp f n (Some p) given after = owned_told_browsing (with_value f (after p) t.browses) resp (cut n (browse_reply (given p)))
-
-  owned_other_command : (c : Command) (verb : Verb) → AreUnitsOwned (other_command m t c verb).machine
-  owned_other_command c (Read f key given n generic gteq update) = owned_answered m t at there labels owned c.resp (cut n (read_reply (records_in m f) key generic gteq))
-  owned_other_command c (Unlock f) = by t.unit
-    where
-      by : (unit : Option ℕ) → AreUnitsOwned (answered (unlocked m unit f) t c.resp (plain Normal)).machine
-      by None = owned_answered m t at there labels owned c.resp (plain Normal)
-      by (Some u) = owned_answered (unlocked m (Some u) f) t at there labels (owned_unlocked m (Some u) f owned) c.resp (plain Normal)
-  owned_other_command c (StartBr f key given generic equal) = owned_started c.resp f key generic equal
-  owned_other_command c (ResetBr f key given generic equal) = owned_reset c.resp f key generic equal (value_at f t.browses)
-  owned_other_command c (ReadNext f n) = owned_browsed c.resp f n (value_at f t.browses) (read_next (records_in m f)) (after_next (records_in m f))
-  owned_other_command c (ReadPrev f n) = owned_browsed c.resp f n (value_at f t.browses) (read_prev (records_in m f)) (after_prev (records_in m f))
-  owned_other_command c (EndBr f) = owned_told_browsing (without f t.browses) c.resp (plain Normal)
-  owned_other_command c (ReadqTs q n item) =
-      let k = item_asked m.units q item in
-      owned_answered (with_units m (after_ts_reading m.units q k)) t at there labels (owned_item_read m q k owned) c.resp (reply_of n (ts_reading m.units q k))
-  owned_other_command c (Enq value n nosuspend) = owned_after_enqueue c (take n value) (enqueue m.units t.unit (take n value)) refl
-  owned_other_command c (Deq value n) = by t.unit
-    where
-      by : (unit : Option ℕ) → AreUnitsOwned (answered (dequeued m unit (take n value)) t c.resp (plain Normal)).machine
-      by None = owned_answered m t at there labels owned c.resp (plain Normal)
-      by (Some u) = owned_answered (dequeued m (Some u) (take n value)) t at there labels (owned_dequeued m (Some u) (take n value) owned) c.resp (plain Normal)
-  owned_other_command c Syncpoint = owned_closed m t at there labels owned Committed false refl
-  owned_other_command c Rollback = owned_closed m t at there labels owned BackedOut false refl
-  owned_other_command c Return = owned_closed m t at there labels owned Committed true refl
-  owned_other_command c (Abend None) = owned_abended m t at there labels owned
-  owned_other_command c (Abend (Some code)) = owned_abended m t at there labels owned
-  owned_other_command c verb = owned_answered m t at there labels owned c.resp (plain Invreq)
-
-  owned_by_op : (c : Command) (o : Option Op) → AreUnitsOwned (by_op m t c o).machine
-  owned_by_op c (Some o) = owned_after_execution c o (execution m.units t.unit o) refl
-  owned_by_op c None = owned_other_command c c.verb
-
-  -- a command whose checks have passed
-  pub owned_performed : (c : Command) → AreUnitsOwned (performed m t c).machine
-  owned_performed c = owned_by_op c (op_of m t c.verb)
-
-  -- and one that is checked first
-  pub owned_checked : (c : Command) (fault : Option Condition) → AreUnitsOwned (checked m t c fault).machine
-  owned_checked c (Some fault) = owned_answered m t at there labels owned c.resp (plain fault)
-  owned_checked c None = owned_performed c
-
--- ---- The calls
-
--- the task of a label stands at a place
-pub place_of : (ts : List Task) (label : Bytes) (t : Task) → task_at ts label ≡ Some t → (at : ℕ) × (slice_get ts at ≡ Some t)
-place_of [] label t found = absurd (none_some found)
-place_of (s ∷ ts) label t found =
-    elim (is_same s.label label) as (λ b. cond b (Some s) (task_at ts label) ≡ Some t → (at : ℕ) × (slice_get (s ∷ ts) at ≡ Some t)) [
-      | true ↦ λ e. (0, e)
-      | false ↦ λ e. let rest = place_of ts label t e in (suc rest.0, rest.1)
-    ] found
-
--- a call that is refused changes nothing
-owned_refused_or : {X : Type 0} (m : Machine) (refusal : Option Refused) (next : Stepped X) → AreUnitsOwned m → AreUnitsOwned next.machine → AreUnitsOwned (refused_or m refusal next).machine
-owned_refused_or m None next owned kept = kept
-owned_refused_or m (Some refusal) next owned kept = owned
-
-pub owned_attach : (m : Machine) (label : Bytes) (dtimout : ℕ) → AreUnitsOwned m → AreUnitsOwned (attached m label dtimout).machine
-owned_attach m label dtimout owned =
-    owned_refused_or m (attach_refusal m label) (record { outcome = tt; machine = with_new_task m label dtimout }) owned (owned_attached m label dtimout owned)
-
-pub owned_clock_set : (m : Machine) (now : ℕ) → AreUnitsOwned m → AreUnitsOwned (clock_set m now).machine
-owned_clock_set m now owned = owned_refused_or m (clock_refusal m now) (record { outcome = tt; machine = record m { clock = now } }) owned (owned_clock m now owned)
-
-module _ (m : Machine) (labels : IsOwn own_label m.tasks) (owned : AreUnitsOwned m) where
-  pub owned_issued : (label : Bytes) (c : Command) → AreUnitsOwned (issued m label c).machine
-  owned_issued label c = by (task_at m.tasks label) refl
-    where
-      by : (o : Option Task) → task_at m.tasks label ≡ o → AreUnitsOwned (issued_by m c o).machine
-      by None found = owned
-      by (Some t) found =
-          let place = place_of m.tasks label t found in
-          owned_refused_or m (issue_refusal m (Some t)) (checked m t c (fault_of m t c.verb)) owned
-          (owned_checked m t place.0 place.1 labels owned c (fault_of m t c.verb))
-
-  pub owned_woken : AreUnitsOwned (woken m).machine
-  owned_woken = by (first_free m m.waiting)
-    where
-      goes_on : (w : Suspended) (o : Option Task) → task_at m.tasks w.label ≡ o → AreUnitsOwned (went_on m w o).machine
-      goes_on w None found = owned
-      goes_on w (Some t) found =
-          let place = place_of m.tasks w.label t found in
-          let waiting = not_waiting m.waiting w.label in
-          owned_performed (with_waiting m waiting) t place.0 place.1 labels (owned_suspended m waiting owned) w.command
-
-      by : (o : Option Suspended) → AreUnitsOwned (woken_first m o).machine
-      by None = owned
-      by (Some w) = goes_on w (task_at m.tasks w.label) refl
-
-  -- a task that is late stands at a place
-  abbrev Stands : Option Task → Type 0
-  Stands None = Unit {0}
-  Stands (Some t) = (at : ℕ) × (slice_get m.tasks at ≡ Some t)
-
-  found_stands : (label : Bytes) (o : Option Task) → task_at m.tasks label ≡ o → Stands o
-  found_stands label None found = tt
-  found_stands label (Some t) found = place_of m.tasks label t found
-
-  late_stands : (ws : List Suspended) → Stands (first_late m ws)
-  late_stands [] = tt
-  late_stands (w ∷ ws) = elim (is_late m w (task_at m.tasks w.label)) as (λ b. Stands (cond b (task_at m.tasks w.label) (first_late m ws))) [
-    | true ↦ found_stands w.label (task_at m.tasks w.label) refl
-    | false ↦ late_stands ws
-  ]
-
-  pub owned_expired : AreUnitsOwned (expired m).machine
-  owned_expired = by (first_late m m.waiting) (late_stands m.waiting)
-    where
-      by : (o : Option Task) → Stands o → AreUnitsOwned (expired_task m o).machine
-      by None stands = owned
-      by (Some t) stands = owned_abended m t stands.0 stands.1 labels owned

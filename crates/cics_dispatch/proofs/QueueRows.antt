@@ -79,10 +79,12 @@ not_recoverable : (left files_and_queues (does t1 (write_ts acct one) ∷ does t
 not_recoverable = refl
 
 -- the name of a recoverable queue is held until the unit's end, that of another queue isn't
-name_held : journal files_and_queues (does t1 (write_ts rq one) ∷ does t1 (write_ts acct one) ∷ does t2 (write_ts acct two) ∷ does t2 (DeleteqTs rq) ∷ does t1 Syncpoint ∷ []) ≡ told t1 (item Normal 1 None) ∷ told t1 (item Normal 1 None) ∷ told t2 (item Normal 2 None) ∷ told t2 (Waiting t1) ∷ told t1 normal ∷ woke t2 normal ∷ []
+name_held : journal files_and_queues (does t1 (write_ts rq one) ∷ does t1 (write_ts acct one) ∷ does t2 (write_ts acct two) ∷ does t2 (DeleteqTs rq)
+    ∷ does t1 Syncpoint ∷ []) ≡ told t1 (item Normal 1 None) ∷ told t1 (item Normal 1 None) ∷ told t2 (item Normal 2 None) ∷ told t2 (Waiting t1)
+    ∷ told t1 normal ∷ woke t2 normal ∷ []
 name_held = refl
 
--- LENGERR moves the NEXT place, ITEM(n) too; a length that is wrong comes before a queue that is absent
+-- LENGERR moves the NEXT task_there, ITEM(n) too; a length that is wrong comes before a queue that is absent
 places : journal files_and_queues (
     asks t1 (rewrite_ts rq [] 1) ∷ asks t1 (rewrite_ts rq one 1) ∷ does t1 (write_ts rq one) ∷ does t1 (write_ts rq two)
     ∷ asks t2 (ReadqTs rq (Some 1) None) ∷ does t2 (next rq) ∷ does t2 (ReadqTs rq None (Some 1)) ∷ does t2 (next rq) ∷ asks t2 (ReadqTs rq None (Some 0)) ∷ []

@@ -1,8 +1,8 @@
 -- A command whose checks have passed asks for an updating command that is ready to be executed, on a file and with a key
 -- of no more bytes than a key may have.
-use Rattle.std.specs.Prelude.{◌≡◌, ℕ, ◌+◌, ◌≤◌, Bool, true, false, not, ◌&&◌, ◌||◌, Option, Some, None, is_some, nat_le, option_map, length, [], ◌∷◌, refl}
+use Rattle.std.specs.Prelude.{◌<◌, IfSome, ◌≡◌, ℕ, ◌+◌, ◌≤◌, Bool, true, false, not, ◌&&◌, ◌||◌, Option, Some, None, is_some, nat_le, option_map, length, [], ◌∷◌, refl}
 use Rattle.std.proofs.Common.{sym, subst, arith}
-use Rattle.std.proofs.lemmas.Bool.{leb-true, eqb-true}
+use Rattle.std.proofs.lemmas.Bool.{false≢true, leb-true, le-leb, eqb-true}
 use Rattle.cics_names.specs.Keyed.{Bytes, value_at, is_same}
 use Rattle.cics_names.specs.KeyedLaws.{is_same-self}
 use Rattle.cics_names.specs.declared.conditions.Condition.{Condition}
@@ -11,17 +11,20 @@ use Rattle.cics_ksds.specs.Files.{key_of as key_in, fits_file}
 use Rattle.cics_ksds.specs.declared.definition.FileDef.{FileDef}
 use Rattle.cics_history.specs.Openings.{FileOpening, is_key}
 use Rattle.cics_history.specs.Records.{is_file_op, key_of}
-use Rattle.cics_history.specs.Execution.{is_fit_for, is_ready_op}
+use Rattle.cics_history.specs.Execution.{is_fit_for, is_ready_op, is_short_key}
 use Rattle.cics_history.specs.declared.ops.Op.{Op}
 use Rattle.cics_history.specs.declared.ops.Op.TheVariants as op
 use Rattle.cics_history.specs.declared.ops.Op.TheVariants.{TsWrite, TsRewrite, TsDelete, TdWrite, TdRead, TdDelete}
 use Rattle.cics_dispatch.specs.Lengths.{fault_unless, first_fault, is_length_given, is_key_length, key_fault, is_within, used_of, from_fault, own_key_fault, write_fault}
 use Rattle.cics_dispatch.specs.Machine.{Machine, Task, definition_of}
-use Rattle.cics_dispatch.specs.Checks.{defined_fault, open_key, read_fault, rewrite_fault, delete_fault, fault_of}
+use Rattle.cics_dispatch.specs.Checks.{resource_fault, defined_fault, open_key, read_fault, rewrite_fault, delete_fault, fault_of}
 use Rattle.cics_dispatch.specs.Steps.{op_of}
 use Rattle.cics_names.specs.Commands.{file_named, asks_no_queue}
 use Rattle.cics_names.specs.declared.commands.Verb.{Verb}
-use Rattle.cics_names.specs.declared.commands.Verb.TheVariants.{Read, Write, Rewrite, Delete}
+use Rattle.cics_names.specs.declared.commands.Verb.TheVariants.{Read, Write, Rewrite, Delete, Enq}
+use Rattle.cics_dispatch.specs.KeptTasks.{IsReady}
+use Rattle.cics_dispatch.specs.Calls.{OfTask, HasReady, MayPerform}
+use Rattle.cics_dispatch.proofs.RegionSteps.{task_there}
 
 -- ---- Checks that have passed
 
@@ -125,35 +128,50 @@ rewrite_ready m t f from n (Some k) c there passes is =
     let fits = fit_to_rewrite (value_at f m.units.opening.files) k from n passes in
     subst (λ c. is_ready_op m.units t.unit c ≡ true) e (rw (there, fits) (is_same-self k))
 
+-- a key that is no longer than a key may be is short
+short_key : (k : Bytes) → length k ≤ 255 → is_short_key k ≡ true
+short_key k at_most = le-leb (length k) 255 at_most
+
+-- so is the key of the command that is asked for
+short_of : (c o : Op) → o ≡ c → length (key_of c) ≤ 255 → is_short_key (key_of o) ≡ true
+short_of c o same short = short_key (key_of o) (subst (λ c. length (key_of c) ≤ 255) (sym same) short)
+
 -- a DELETE of the record that was read
 delete_ready : (m : Machine) (t : Task) (f : Bytes) (given : Option ℕ) (o : Option Bytes) (c : Op) →
     defined_fault (definition_of m f) (λ d. delete_fault d o None given) ≡ None → option_map (λ key. op.Delete f key) o ≡ Some c →
-    is_ready_op m.units t.unit c ≡ true
-delete_ready m t f given None c passes is = cc
-delete_ready m t f given (Some k) c passes is =
+    length (key_of c) ≤ 255 → is_ready_op m.units t.unit c ≡ true
+delete_ready m t f given None c passes is short = cc
+delete_ready m t f given (Some k) c passes is short =
     let e : op.Delete f k ≡ c = cc in
-    subst (λ c. is_ready_op m.units t.unit c ≡ true) e (defined (value_at f m.units.opening.files) (λ d. delete_fault d (Some k) None given) passes)
+    let file = value_at f m.units.opening.files in
+    subst (λ c. is_ready_op m.units t.unit c ≡ true) e
+    (and_both (is_some file) (is_short_key k)
+    (defined file (λ d. delete_fault d (Some k) None given) passes) (short_of c (op.Delete f k) e short))
 
 -- a command whose checks have passed is ready
 pub ready_of : (m : Machine) (t : Task) (verb : Verb) (c : Op) → fault_of m t verb ≡ None → op_of m t verb ≡ Some c → asks_no_queue verb ≡ true →
-    is_ready_op m.units t.unit c ≡ true
-ready_of m t (Read f key given n generic gteq false) c passes is asks = cc
-ready_of m t (Read f key given n generic gteq true) c passes is asks =
+    length (key_of c) ≤ 255 → is_ready_op m.units t.unit c ≡ true
+ready_of m t (Read f key given n generic gteq false) c passes is asks short = cc
+ready_of m t (Read f key given n generic gteq true) c passes is asks short =
     let e : op.ReadUpdate f key ≡ c = cc in
     let file = value_at f m.units.opening.files in
     subst (λ c. is_ready_op m.units t.unit c ≡ true) e
-    (and_both (is_some file) (not (is_some (open_key m t f)))
-    (defined file (λ d. read_fault d (open_key m t f) key given generic gteq true) passes)
+    (and_both (is_some file && is_short_key key) (not (is_some (open_key m t f)))
+    (and_both (is_some file) (is_short_key key)
+    (defined file (λ d. read_fault d (open_key m t f) key given generic gteq true) passes) (short_of c (op.ReadUpdate f key) e short))
     (none_open (definition_of m f) (open_key m t f) key given generic gteq passes))
-ready_of m t (Write f key given from n) c passes is asks =
+ready_of m t (Write f key given from n) c passes is asks short =
     let e : op.Write f key (used_of from n) ≡ c = cc in
     subst (λ c. is_ready_op m.units t.unit c ≡ true) e (fit_to_write (value_at f m.units.opening.files) key given from n passes)
-ready_of m t (Rewrite f from n) c passes is asks = rewrite_ready m t f from n (open_key m t f) c refl passes is
-ready_of m t (Delete f (Some key) given) c passes is asks =
+ready_of m t (Rewrite f from n) c passes is asks short = rewrite_ready m t f from n (open_key m t f) c refl passes is
+ready_of m t (Delete f (Some key) given) c passes is asks short =
     let e : op.Delete f key ≡ c = cc in
-    subst (λ c. is_ready_op m.units t.unit c ≡ true) e (defined (value_at f m.units.opening.files) (λ d. delete_fault d (open_key m t f) (Some key) given) passes)
-ready_of m t (Delete f None given) c passes is asks = delete_ready m t f given (open_key m t f) c passes is
-ready_of m t verb c passes is asks = cc
+    let file = value_at f m.units.opening.files in
+    subst (λ c. is_ready_op m.units t.unit c ≡ true) e
+    (and_both (is_some file) (is_short_key key)
+    (defined file (λ d. delete_fault d (open_key m t f) (Some key) given) passes) (short_of c (op.Delete f key) e short))
+ready_of m t (Delete f None given) c passes is asks short = delete_ready m t f given (open_key m t f) c passes is short
+ready_of m t verb c passes is asks short = cc
 
 -- it is a command on a file
 pub is_file_op_of : (m : Machine) (t : Task) (verb : Verb) (c : Op) → op_of m t verb ≡ Some c → asks_no_queue verb ≡ true → is_file_op c ≡ true
@@ -208,8 +226,50 @@ named_key_short m t (Delete f None given) lawful were_short c passes is asks =
     of_read (λ key. op.Delete f key) (open_key m t f) c (λ k. refl) (λ k. were_short f k refl) is
 named_key_short m t verb lawful were_short c passes is asks = cc
 
--- the same, where the definitions of all files are lawful and so are all keys that were read
-pub key_of_op_short : (m : Machine) (t : Task) → ((f : Bytes) (d : FileDef) → definition_of m f ≡ Some d → is_key d ≡ true) →
-    ((f k : Bytes) → open_key m t f ≡ Some k → length k ≤ 255) →
-    (verb : Verb) (c : Op) → fault_of m t verb ≡ None → op_of m t verb ≡ Some c → asks_no_queue verb ≡ true → length (key_of c) ≤ 255
-key_of_op_short m t lawful were_short verb = named_key_short m t verb (λ f d named. lawful f d) (λ f k named. were_short f k)
+-- an updating command that a task may ask for is ready
+pub ready_to : (m : Machine) (at : ℕ) (verb : Verb) (o : Op) → MayPerform m at verb → OfTask m.tasks at (λ t. op_of m t verb ≡ Some o) → HasReady m at verb (Some o)
+ready_to m at verb o may asked = λ t there. record {
+  on_file = is_file_op_of m t verb o (asked t there) may.no_queue;
+  ready = ready_of m t verb o (may.passed t there) (asked t there) may.no_queue
+      (subst (λ x. IfSome x (λ c. length (key_of c) ≤ 255)) (asked t there) (may.short t there));
+}
+
+-- whether a command is an ENQ
+abbrev pub is_enq : Verb → Bool
+is_enq (Enq value n nosuspend) = true
+is_enq verb = false
+
+-- and so is an ENQ
+pub ready_value : (m : Machine) (at : ℕ) (verb : Verb) (value : Bytes) (n : ℕ) (nosuspend : Bool) → verb ≡ Enq value n nosuspend → MayPerform m at verb → HasReady m at verb None
+ready_value m at verb value n nosuspend is may = λ t there.
+    subst (λ v. IsReady m.units t.unit v None) (sym is) (subst (λ v. fault_of m t v ≡ None) is (may.passed t there))
+
+-- LENGTH of a value that has passed its check
+pub value_within : (value : Bytes) (n : ℕ) → resource_fault value n ≡ None → (1 ≤ n) × (n ≤ 255) × (n ≤ length value)
+value_within value n passes =
+    let parts = both (nat_le 1 n && nat_le n 255) (nat_le n (length value)) (holds (nat_le 1 n && nat_le n 255 && nat_le n (length value)) Lengerr passes) in
+    let bounds = both (nat_le 1 n) (nat_le n 255) parts.0 in
+    (leb-true 1 n bounds.0, leb-true n 255 bounds.1, leb-true n (length value) parts.1)
+
+-- what a command goes on with that asks for no updating command is an ENQ of a right LENGTH
+pub value_ready : (m : Machine) (at : ℕ) (verb : Verb) (value : Bytes) (n : ℕ) (nosuspend : Bool) → at < length m.tasks → verb ≡ Enq value n nosuspend →
+    HasReady m at verb None → (1 ≤ n) × (n ≤ 255) × (n ≤ length value)
+value_ready m at verb value n nosuspend within is ready =
+    task_there m.tasks at within (λ t there. value_within value n (subst (λ v. IsReady m.units t.unit v None) is (ready t there)))
+
+-- and no other
+pub only_enq : (m : Machine) (at : ℕ) (verb : Verb) → at < length m.tasks → ((value : Bytes) (n : ℕ) (nosuspend : Bool) → verb ≡ Enq value n nosuspend → ⊥) →
+    HasReady m at verb None → ⊥
+only_enq m at verb within other ready = task_there m.tasks at within (λ t there. by t verb refl (ready t there))
+  where
+    by : (t : Task) (v : Verb) → verb ≡ v → IsReady m.units t.unit v None → ⊥
+    by t (Enq value n nosuspend) is ready = other value n nosuspend is
+    by t v is ready = ready
+
+-- a command that is an ENQ is ready where the task may perform it
+pub ready_enq : (m : Machine) (at : ℕ) (verb : Verb) → is_enq verb ≡ true → MayPerform m at verb → HasReady m at verb None
+ready_enq m at verb enq may = λ t there. by t verb enq (may.passed t there)
+  where
+    by : (t : Task) (v : Verb) → is_enq v ≡ true → fault_of m t v ≡ None → IsReady m.units t.unit v None
+    by t (Enq value n nosuspend) enq passes = passes
+    by t v enq passes = absurd (false≢true enq)

@@ -42,7 +42,7 @@ pub never_none : {Q X Y : Type 0} (g : X → Y) (o : Option X) → is_some o ≡
 never_none g None some none = absurd (false≢true some)
 never_none g (Some x) some none = cc
 
-module _ (units : UnitsValue) (tasks : List Task) (waiting : List Suspended) (clock : ℕ) (kept : IsRegionKept (region_of units tasks waiting clock))
+module _ {units : UnitsValue} {tasks : List Task} {waiting : List Suspended} {clock : ℕ} (kept : IsRegionKept (region_of units tasks waiting clock))
     (at : ℕ) (t : Task) (there : slice_get tasks at ≡ Some t) where
   abbrev machine : Machine
   machine = (region_of units tasks waiting clock).machine

@@ -1,33 +1,34 @@
 -- ENQ and DEQ leave what a region keeps, and the task stands where it stood.
-use Rattle.std.specs.Prelude.{◌≡◌, ℕ, if◌then◌else◌, Bool, true, false, Option, Some, None, slice_get, List, refl}
+use Rattle.std.specs.Prelude.{take, ◌≡◌, ℕ, if◌then◌else◌, Bool, true, false, Option, Some, None, slice_get, List, refl}
 use Rattle.std.proofs.Common.{sym, ap, ◌∙◌, subst}
-use Rattle.std.proofs.lemmas.Bool.{false≢true}
 use Rattle.cics_names.specs.Keyed.{Bytes}
 use Rattle.cics_names.specs.declared.conditions.Condition.TheVariants.{Normal, Invreq, Enqbusy}
 use Rattle.cics_history.specs.Execution.{UnitsValue, unit_or_next, enqueue, enq_of, after_enqueue, after_enqueued}
 use Rattle.cics_history.specs.Holding.{UnitsState, value_holder}
 use Rattle.cics_history.specs.Headline.{IsHeadline}
-use Rattle.cics_history.specs.declared.ops.Enqueued.TheVariants.{Taken, CountFull}
+use Rattle.cics_history.specs.declared.ops.Enqueued.TheVariants.{Taken, CountFull, MustWait as EnqMustWait}
 use Rattle.cics_dispatch.specs.Machine.{Machine, Task, Suspended, replaced, is_waiting, with_units, with_task, with_unit}
 use Rattle.cics_dispatch.specs.Replies.{plain}
-use Rattle.cics_dispatch.specs.Steps.{answered, made_to_wait, busy_of, enqueued, dequeued, units_dequeued}
+use Rattle.cics_dispatch.specs.Steps.{by_op, other_command, answered, made_to_wait, busy_of, enqueued, dequeued, units_dequeued}
 use Rattle.cics_dispatch.specs.Regions.{region_of, IsRegionKept}
 use Rattle.cics_dispatch.specs.Tasks.{HasNoOwner}
 use Rattle.cics_names.specs.declared.commands.Command.{Command}
+use Rattle.cics_names.specs.declared.commands.Verb.{Verb}
 use Rattle.cics_names.specs.declared.commands.Verb.TheVariants.{Enq}
+use Rattle.cics_dispatch.specs.KeptTasks.{IsReady}
+use Rattle.cics_dispatch.specs.Waking.{awaited_by}
 use Rattle.cics_dispatch.specs.declared.outcomes.Reply.{Reply}
 use Rattle.cics_dispatch.proofs.KeptTasks.{with_task_placed, kept_enqueued, kept_dequeued, no_owner_next}
 use Rattle.cics_dispatch.proofs.OwnedUnits.{owned_enqueued, owned_dequeued}
 use Rattle.cics_dispatch.proofs.RegionSteps.{kept_as}
 
 -- an ENQ with NOSUSPEND is told that its value is busy
-pub busy_answered : (m : Machine) (t : Task) (resource : Bytes) (n : ℕ) (nosuspend resp : Bool) (holder : ℕ) (r : Reply) → nosuspend ≡ true → r ≡ plain Enqbusy →
-    answered m t resp r ≡ made_to_wait m t (record { verb = Enq resource n nosuspend; resp = resp }) holder (busy_of (Enq resource n nosuspend))
-busy_answered m t resource n true resp holder r is told = ap (answered m t resp) told
-busy_answered m t resource n false resp holder r is told = absurd (false≢true is)
+pub busy_answered : (m : Machine) (t : Task) (c : Command) (resource : Bytes) (n : ℕ) (holder : ℕ) (r : Reply) → c.verb ≡ Enq resource n true → r ≡ plain Enqbusy →
+    answered m t c.resp r ≡ made_to_wait m t c None holder (busy_of c.verb)
+busy_answered m t c resource n holder r is told = ap (answered m t c.resp) told ∙ ap (λ v. made_to_wait m t c None holder (busy_of v)) (sym is)
 
 -- ---- DEQ
-module _ (units : UnitsValue) (tasks : List Task) (waiting : List Suspended) (clock : ℕ) (kept : IsRegionKept (region_of units tasks waiting clock))
+module _ {units : UnitsValue} {tasks : List Task} {waiting : List Suspended} {clock : ℕ} (kept : IsRegionKept (region_of units tasks waiting clock))
     (at : ℕ) (t : Task) (there : slice_get tasks at ≡ Some t) (value : Bytes) (after : UnitsValue) (state : after.state ≡ units_dequeued units.state t.unit value) where
   abbrev machine : Machine
   machine = (region_of units tasks waiting clock).machine
@@ -57,7 +58,29 @@ takes_for s u value unit = by (value_holder s u value)
     by (Some holder) is = cc
     by None is = full _ is
 
-module _ (units : UnitsValue) (tasks : List Task) (waiting : List Suspended) (clock : ℕ) (kept : IsRegionKept (region_of units tasks waiting clock))
+-- an ENQ that has to wait waits for the unit that holds its value
+pub enq_awaited : (s : UnitsState) (u : Option ℕ) (value : Bytes) (holder : ℕ) → enqueue s u value ≡ EnqMustWait holder → value_holder s u value ≡ Some holder
+enq_awaited s u value holder = by (value_holder s u value)
+  where
+    full : (b : Bool) → (if b then CountFull else Taken (unit_or_next u s.outcomes)) ≡ EnqMustWait holder → ⊥
+    full true is = cc
+    full false is = cc
+
+    by : (w : Option ℕ) → enq_of s u value w ≡ EnqMustWait holder → w ≡ Some holder
+    by (Some v) is = let same : v ≡ holder = cc in ap Some same
+    by None is = absurd (full _ is)
+
+-- and its wait, or its answer with NOSUSPEND, is its step
+pub enq_waits : (m : Machine) (t : Task) (c : Command) (holder : ℕ) → IsReady m.units t.unit c.verb None → awaited_by m.units t.unit c.verb None ≡ Some holder →
+    made_to_wait m t c None holder (busy_of c.verb) ≡ by_op m t c None
+enq_waits m t c holder = by c.verb
+  where
+    by : (verb : Verb) → IsReady m.units t.unit verb None → awaited_by m.units t.unit verb None ≡ Some holder →
+        made_to_wait m t c None holder (busy_of c.verb) ≡ other_command m t c verb
+    by (Enq value n nosuspend) ready waits = ap (λ w. enqueued m t c (take n value) (enq_of m.units t.unit (take n value) w)) (sym waits)
+    by verb ready waits = absurd ready
+
+module _ {units : UnitsValue} {tasks : List Task} {waiting : List Suspended} {clock : ℕ} (kept : IsRegionKept (region_of units tasks waiting clock))
     (at : ℕ) (t : Task) (there : slice_get tasks at ≡ Some t) (value : Bytes) (after : UnitsValue) (state : after.state ≡ after_enqueue units.state t.unit value) where
   abbrev m : Machine
   m = (region_of units tasks waiting clock).machine
@@ -67,6 +90,11 @@ module _ (units : UnitsValue) (tasks : List Task) (waiting : List Suspended) (cl
       answered (region_of after ts waiting clock).machine t c.resp r ≡ enqueued m t c value (enqueue units.state t.unit value)
   full_step ts same c r full told =
       (λ i. answered (record m { units = (state ∙ ap (after_enqueued units.state t.unit value) full) i; tasks = same i }) t c.resp (told i)) ∙ ap (enqueued m t c value) (sym full)
+
+  pub full_kept : (ts : List Task) → ts ≡ tasks → enqueue units.state t.unit value ≡ CountFull → IsHeadline after → IsRegionKept (region_of after ts waiting clock)
+  full_kept ts same full headline =
+      kept_as (region_of after ts waiting clock) m (λ i. record m { units = (state ∙ ap (after_enqueued units.state t.unit value) full) i; tasks = same i })
+      kept.tasks kept.owned (record { headline = headline })
 
   -- one that takes its value makes its unit the task's
   module _ (unit : ℕ) (taken : enqueue units.state t.unit value ≡ Taken unit) where

@@ -1,58 +1,54 @@
 -- The commands of the tasks of a region: what their checks tell, and what they answer.
-use Rattle.std.specs.Prelude.{◌≡◌, ℕ, ◌≤◌, ◌&&◌, if◌then◌else◌, Bool, true, false, Option, Some, None, is_some, is_none, nat_le, Result, Ok, Err, IfOk, IfSome, OnErr, IsErr, IsErrAnd, length, refl}
-use Rattle.std.proofs.Common.{◌∙◌, sym, ap, subst}
-use Rattle.std.proofs.lemmas.Bool.{false≢true, leb-true}
+use Rattle.std.specs.Prelude.{IfNone, ◌≡◌, ℕ, ◌≤◌, ◌&&◌, if◌then◌else◌, Bool, true, false, Option, Some, None, is_some, is_none, Result, Ok, Err, IfSome, OnErr, IsErr, IsErrAnd, length, refl}
+use Rattle.std.specs.Option.{option_copied}
+use Rattle.std.proofs.Common.{Bor, ◌∙◌, sym, ap, subst}
+use Rattle.std.proofs.lemmas.Bool.{false≢true}
 use Rattle.cics_names.specs.Keyed.{Bytes, value_at}
 use Rattle.cics_names.specs.declared.conditions.Condition.{Condition}
-use Rattle.cics_names.specs.declared.conditions.Condition.TheVariants.{Lengerr}
 use Rattle.cics_browse.specs.Positions.{Position}
 use Rattle.cics_ksds.specs.declared.definition.FileDef.{FileDef}
 use Rattle.cics_history.specs.Openings.{is_key}
 use Rattle.cics_history.specs.Records.{key_of}
 use Rattle.cics_history.specs.declared.ops.Op.{Op}
 use Rattle.cics_dispatch.specs.Machine.{Machine, Task, RegionValue, definition_of, task_at, is_waiting}
-use Rattle.cics_dispatch.specs.Checks.{defined_fault, browse_fault, back_fault, resource_fault, fault_of, open_key}
+use Rattle.cics_dispatch.specs.Checks.{file_fault, named_fault, defined_fault, browse_fault, back_fault, fault_of, open_key}
 use Rattle.cics_names.specs.Commands.{file_named, asks_no_queue}
-use Rattle.cics_dispatch.specs.Faults.{is_generic, fault_by_file}
-use Rattle.cics_dispatch.specs.Steps.{Stepped, op_of, by_op, performed, other_command, checked, issue_refusal, refused_or, issued_by, issued}
+use Rattle.cics_dispatch.specs.Steps.{Stepped, op_of, by_op, performed, checked, issue_refusal, refused_or, issued_by, issued}
 use Rattle.cics_dispatch.specs.Answers.{is_growing, passes_checks, may_want, IsStep}
-use Rattle.cics_dispatch.specs.Updates.{verb_op}
 use Rattle.cics_names.specs.declared.commands.Command.{Command}
 use Rattle.cics_names.specs.declared.commands.Verb.{Verb}
-use Rattle.cics_names.specs.declared.commands.Verb.TheVariants.{Unlock, ResetBr, ReadNext, ReadPrev, EndBr, Enq, Deq, Syncpoint, Rollback, Return, Abend}
+use Rattle.cics_names.specs.declared.commands.Verb.TheVariants.{Unlock, ResetBr, ReadNext, ReadPrev, EndBr, Deq, Syncpoint, Rollback, Return, Abend}
 use Rattle.cics_dispatch.specs.declared.outcomes.Refused.{Refused}
 use Rattle.cics_dispatch.specs.declared.outcomes.Refused.TheVariants.{NoMemory, TaskEnded, TaskWaiting}
 use Rattle.cics_dispatch.proofs.TaskPlaces.{place_of_task}
-use Rattle.cics_dispatch.proofs.Asked.{op_of-named, fault_of-named}
-use Rattle.cics_dispatch.proofs.Ready.{both, holds, named_key_short}
+use Rattle.cics_dispatch.proofs.Ready.{value_within, named_key_short}
 
 -- ---- The updating command that is asked for
 
--- of a result that is one thing, what holds of that thing holds
-pub IfOk-is : {A E : Type 0} (P : A → Type 0) (r : Result A E) (x : A) → IfOk r (λ a. a ≡ x) → P x → IfOk r P
-IfOk-is P (Ok a) x is p = subst P (sym is) p
-IfOk-is P (Err e) x is p = tt
-
--- its key has no more bytes than a key may have, where that is so wherever it is there
-pub short_if : (o : Option Op) → ((c : Op) → o ≡ Some c → length (key_of c) ≤ 255) → IfSome o (λ c. length (key_of c) ≤ 255)
-short_if None short = tt
-short_if (Some c) short = short c refl
-
--- the key of the updating command that a command on a file asks for, told by the file's definition and the key of its
--- task's open update read, has no more bytes than a key may have
-pub op_short : (m : Machine) (t : Task) (verb : Verb) (f : Bytes) (definition : Option FileDef) (open_read : Option Bytes) →
-    asks_no_queue verb ≡ true → fault_of m t verb ≡ None → file_named verb ≡ Some f → definition_of m f ≡ definition →
-    ((d : FileDef) → definition ≡ Some d → is_key d ≡ true) → open_read ≡ open_key m t f → ((k : Bytes) → open_read ≡ Some k → length k ≤ 255) →
-    IfSome (verb_op open_read verb) (λ c. length (key_of c) ≤ 255)
-op_short m t verb f definition open_read asks passes named is_definition lawful is_open short =
-    short_if (verb_op open_read verb) (λ c is.
-    named_key_short m t verb
-    (λ g d other there. lawful d (sym is_definition ∙ ap (definition_of m) (one_file g other) ∙ there))
-    (λ g k other there. short k (is_open ∙ ap (open_key m t) (one_file g other) ∙ there)) c passes
-    (op_of-named m t f verb named ∙ ap (λ x. verb_op x verb) (sym is_open) ∙ is) asks)
+-- the key of the updating command that a command asks for has no more bytes than a key may have, where its checks have passed
+pub op_short : (m : Machine) (t : Task) (verb : Verb) → asks_no_queue verb ≡ true → fault_of m t verb ≡ None →
+    ((f : Bytes) (d : FileDef) → file_named verb ≡ Some f → definition_of m f ≡ Some d → is_key d ≡ true) →
+    ((f k : Bytes) → file_named verb ≡ Some f → open_key m t f ≡ Some k → length k ≤ 255) →
+    IfSome (op_of m t verb) (λ c. length (key_of c) ≤ 255)
+op_short m t verb asks passes lawful were_short = by (op_of m t verb) refl
   where
-    one_file : (g : Bytes) → file_named verb ≡ Some g → f ≡ g
-    one_file g other = cc
+    by : (o : Option Op) → op_of m t verb ≡ o → IfSome o (λ c. length (key_of c) ≤ 255)
+    by None is = tt
+    by (Some c) is = named_key_short m t verb lawful were_short c passes is asks
+
+-- what holds where none is, holds where it is told from none
+pub if_none : {X Q : Type 0} (r : Option X) → (r ≡ None → Q) → IfNone r Q
+if_none None follows = follows refl
+if_none (Some x) follows = tt
+
+-- what holds of what is found holds of it by its value
+pub found_has : {X : Type 0} (P : X → Type 0) (o : Option (Bor X)) → IfSome o (λ x. P x.now) → (x : X) → option_copied o ≡ Some x → P x
+found_has P None has x is = cc
+found_has P (Some y) has x is = let same : y.now ≡ x = cc in subst P same has
+
+-- a command that names a file names one
+pub one_file : (verb : Verb) (f g : Bytes) → file_named verb ≡ Some f → file_named verb ≡ Some g → f ≡ g
+one_file verb f g is other = let both : Some f ≡ Some g = sym is ∙ other in cc
 
 -- a command that asks for an updating command takes memory
 pub op_grows : (m : Machine) (t : Task) (verb : Verb) (c : Op) → op_of m t verb ≡ Some c → is_growing verb ≡ true
@@ -71,9 +67,9 @@ pub on_error : {A E Q : Type 0} (r : Result A E) → Q → OnErr r Q
 on_error (Ok a) q = tt
 on_error (Err e) q = q
 
--- a command that asks for no updating command is another command
-pub performed_other : (m : Machine) (t : Task) (c : Command) → op_of m t c.verb ≡ None → other_command m t c c.verb ≡ performed m t c
-performed_other m t c none = ap (by_op m t c) (sym none)
+-- a command that asks for an updating command is performed as that asks, or else as another
+pub performed_by : (m : Machine) (t : Task) (c : Command) (o : Option Op) → op_of m t c.verb ≡ o → by_op m t c o ≡ performed m t c
+performed_by m t c o is = ap (by_op m t c) (sym is)
 
 -- ---- A command that is issued
 
@@ -112,16 +108,13 @@ refused_memory wants old s (Err e) new is may same = subst (λ e. IsStep wants o
 -- ---- A command that updates nothing
 
 -- the file of a command whose checks have passed is defined
-pub file_there : (m : Machine) (t : Task) (verb : Verb) (f : Bytes) → asks_no_queue verb ≡ true → file_named verb ≡ Some f → fault_of m t verb ≡ None →
+pub file_there : (m : Machine) (t : Task) (verb : Verb) (f : Bytes) → file_named verb ≡ Some f → fault_of m t verb ≡ None →
     is_some (definition_of m f) ≡ true
-file_there m t verb f asks named passes =
-    by (definition_of m f) (open_key m t f) (is_generic (value_at f t.browses))
-    (subst (λ n. fault_by_file n (definition_of m f) (open_key m t f) (is_generic (value_at f t.browses)) verb ≡ None) named
-    (sym (fault_of-named m t f verb asks named) ∙ passes))
+file_there m t verb f named passes = by (definition_of m f) (subst (λ o. named_fault m t verb o ≡ None) named passes)
   where
-    by : (o : Option FileDef) (open_read : Option Bytes) (browse : Option Bool) → fault_by_file (Some f) o open_read browse verb ≡ None → is_some o ≡ true
-    by None open_read browse e = cc
-    by (Some d) open_read browse e = refl
+    by : (o : Option FileDef) → defined_fault o (λ d. file_fault d (open_key m t f) (value_at f t.browses) verb) ≡ None → is_some o ≡ true
+    by None e = cc
+    by (Some d) e = refl
 
 -- the browse of a READNEXT whose checks have passed is open
 pub browse_there : (m : Machine) (t : Task) (verb : Verb) (f : Bytes) (n : Option ℕ) → verb ≡ ReadNext f n → fault_of m t verb ≡ None →
@@ -142,18 +135,6 @@ back_there m t verb f n is passes = by (definition_of m f) (value_at f t.browses
     by None browse e = cc
     by (Some d) None e = cc
     by (Some d) (Some p) e = refl
-
--- LENGTH of a value that has passed its check
-value_within : (value : Bytes) (n : ℕ) → resource_fault value n ≡ None → (1 ≤ n) × (n ≤ 255) × (n ≤ length value)
-value_within value n passes =
-    let parts = both (nat_le 1 n && nat_le n 255) (nat_le n (length value)) (holds (nat_le 1 n && nat_le n 255 && nat_le n (length value)) Lengerr passes) in
-    let bounds = both (nat_le 1 n) (nat_le n 255) parts.0 in
-    (leb-true 1 n bounds.0, leb-true n 255 bounds.1, leb-true n (length value) parts.1)
-
--- LENGTH of an ENQ whose checks have passed
-pub enq_count : (m : Machine) (t : Task) (verb : Verb) (value : Bytes) (n : ℕ) (nosuspend : Bool) → verb ≡ Enq value n nosuspend → fault_of m t verb ≡ None →
-    (1 ≤ n) × (n ≤ 255) × (n ≤ length value)
-enq_count m t verb value n nosuspend is passes = value_within value n (subst (λ v. fault_of m t v ≡ None) is passes)
 
 -- LENGTH of a DEQ whose checks have passed
 pub deq_count : (m : Machine) (t : Task) (verb : Verb) (value : Bytes) (n : ℕ) → verb ≡ Deq value n → fault_of m t verb ≡ None →

@@ -2,11 +2,10 @@
 use Rattle.std.specs.Prelude.{◌≡◌, ℕ, ◌<◌, IfNone, IfOk, OnOk, Result, Ok, Err, if◌then◌else◌, Bool, true, false, Option, Some, None, is_some, slice_get, length, List, [], refl}
 use Rattle.std.proofs.Common.{sym, ap, ◌∙◌, subst, arith, inl, inr, ◌≤◌}
 use Rattle.std.proofs.lemmas.Option.{slice_get_cases, slice_get_within}
-use Rattle.cics_history.specs.Execution.{UnitsValue, unit_or_next, execution, after_execution, done_of, state_of, IfMustWait, IsOpenUnit}
-use Rattle.cics_history.specs.Holding.{UnitsState, awaited}
+use Rattle.cics_history.specs.Execution.{UnitsValue, unit_or_next, execution, after_execution, done_of, state_of, IsOpenUnit}
+use Rattle.cics_history.specs.Holding.{UnitsState, store_of, awaited}
 use Rattle.cics_history.specs.declared.ops.Op.{Op}
 use Rattle.cics_history.specs.declared.ops.Answer.{Answer}
-use Rattle.cics_history.specs.declared.ops.Done.{Done}
 use Rattle.cics_history.specs.declared.ops.Done.TheVariants.{Answered, MustWait}
 use Rattle.cics_history.specs.Headline.{IsHeadline}
 use Rattle.cics_history.specs.declared.ops.UnitState.{UnitState}
@@ -20,7 +19,13 @@ use Rattle.cics_dispatch.specs.OwnedUnits.{AreUnitsOwned}
 use Rattle.cics_dispatch.specs.Regions.{region_of, IsRegionKept}
 use Rattle.cics_dispatch.specs.Tasks.{own_label, IsOwn, HasNoOwner}
 use Rattle.cics_names.specs.Commands.{length_of, asks_no_queue}
-use Rattle.cics_dispatch.specs.Steps.{suspended, executed, made_to_wait, busy_of, answered, reply_of, op_of}
+use Rattle.cics_dispatch.specs.Steps.{Stepped, suspended, executed, made_to_wait, busy_of, by_op, answered, reply_of, op_of}
+use Rattle.cics_dispatch.specs.Calls.{OfTask, HasChanged, IsStepOf, IsStepOrRefused, IsAttempt, going_on}
+use Rattle.cics_names.specs.declared.records.NoMemory.{NoMemory}
+use Rattle.cics_dispatch.specs.Waking.{awaited_by}
+use Rattle.cics_dispatch.specs.declared.outcomes.Attempt.{Attempt}
+use Rattle.cics_dispatch.specs.declared.outcomes.Attempt.TheVariants.{Told, MustWait as Waits}
+use Rattle.cics_dispatch.specs.declared.outcomes.Outcome.{Outcome}
 use Rattle.cics_dispatch.specs.declared.outcomes.Reply.{Reply}
 use Rattle.cics_names.specs.declared.commands.Verb.{Verb}
 use Rattle.cics_names.specs.declared.commands.Verb.TheVariants.{Read, Write, Rewrite, Delete, Unlock, StartBr, ResetBr, ReadNext, ReadPrev, EndBr, WriteqTs, ReadqTs, DeleteqTs, WriteqTd, ReadqTd, DeleteqTd, Enq, Deq, Syncpoint, Rollback, Return, Abend}
@@ -30,8 +35,8 @@ use Rattle.cics_dispatch.proofs.OwnedUnits.{owned_closed, owned_abended, owned_e
 use Rattle.cics_dispatch.proofs.TaskPlaces.{replaced-set, set_same}
 
 -- a task is at each place of the list
-pub place : {Q : Type 0} (ts : List Task) (at : ℕ) → at < length ts → ((t : Task) → slice_get ts at ≡ Some t → Q) → Q
-place ts at within follows = elim (slice_get_cases ts at).1 [
+pub task_there : {Q : Type 0} (ts : List Task) (at : ℕ) → at < length ts → ((t : Task) → slice_get ts at ≡ Some t → Q) → Q
+task_there ts at within follows = elim (slice_get_cases ts at).1 [
   | inl here ↦ follows here.0 here.2
   | inr past ↦ absurd (never past.0)
 ]
@@ -43,7 +48,7 @@ place ts at within follows = elim (slice_get_cases ts at).1 [
 pub kept_as : (r : RegionValue) (m : Machine) → r.machine ≡ m → AreTasksKept m → AreUnitsOwned m → IsHeadlineRegion r → IsRegionKept r
 kept_as r m is tasks owned headline = record { tasks = subst AreTasksKept (sym is) tasks; owned = subst AreUnitsOwned (sym is) owned; headline = headline }
 
-module _ (units : UnitsValue) (tasks : List Task) (waiting : List Suspended) (clock : ℕ) (kept : IsRegionKept (region_of units tasks waiting clock)) where
+module _ {units : UnitsValue} {tasks : List Task} {waiting : List Suspended} {clock : ℕ} (kept : IsRegionKept (region_of units tasks waiting clock)) where
   abbrev machine : Machine
   machine = (region_of units tasks waiting clock).machine
 
@@ -97,12 +102,6 @@ waits_state s u o holder = by (awaited s u o)
         never : done_of s u o None ≡ MustWait holder → ⊥
         never e = cc
 
--- so the unit that it has to wait for is open still
-pub waits_open : (s next : UnitsState) (u : Option ℕ) (o : Op) (d : Done) (h : ℕ) → next ≡ after_execution s u o → d ≡ execution s u o →
-    d ≡ MustWait h → IfMustWait d (IsOpenUnit s) → IsOpenUnit next h
-waits_open s next u o d h state done is live =
-    subst (λ n. IsOpenUnit n h) (sym (state ∙ waits_state s u o h (sym done ∙ is))) (subst (λ x. IfMustWait x (IsOpenUnit s)) is live)
-
 -- a command is executed in its task's unit, or in the next one
 pub acts_in : (s : UnitsState) (u : Option ℕ) (o : Op) (unit : ℕ) (a : Answer) → execution s u o ≡ Answered unit a → unit_or_next u s.outcomes ≡ unit
 acts_in s u o unit a = by (awaited s u o)
@@ -114,19 +113,21 @@ acts_in s u o unit a = by (awaited s u o)
         never e = cc
     by None is = cc
 
+-- the task that has its unit now stands in its own place
+pub owned_now : (ts us vs : List Task) (at : ℕ) (t : Task) (unit : ℕ) → us ≡ ts → slice_get ts at ≡ Some t → HasChanged us at (λ s. with_unit s unit) vs → vs ≡ replaced ts (with_unit t unit)
+owned_now ts us vs at t unit same there owned = owned t (ap (λ l. slice_get l at) same ∙ there) ∙ ap (λ l. replaced l (with_unit t unit)) same
+
+-- units that are in the state in which they were hold the store that they held
+pub same_region : {units : UnitsValue} {tasks : List Task} {waiting : List Suspended} {clock : ℕ} → IsRegionKept (region_of units tasks waiting clock) →
+    (after : UnitsValue) (ts : List Task) → after.state ≡ units.state → IsHeadline after → ts ≡ tasks → region_of after ts waiting clock ≡ region_of units tasks waiting clock
+same_region {units} {tasks} {waiting} {clock} kept after ts state headline same =
+    λ i. region_of (record { state = state i; store = (headline.store ∙ ap store_of state ∙ sym kept.headline.headline.store) i }) (same i) waiting clock
+
 -- ---- An updating command
-module _ (units : UnitsValue) (tasks : List Task) (waiting : List Suspended) (clock : ℕ) (kept : IsRegionKept (region_of units tasks waiting clock))
+module _ {units : UnitsValue} {tasks : List Task} {waiting : List Suspended} {clock : ℕ} (kept : IsRegionKept (region_of units tasks waiting clock))
     (at : ℕ) (t : Task) (there : slice_get tasks at ≡ Some t) (o : Op) (after : UnitsValue) (state : after.state ≡ after_execution units.state t.unit o) (headline : IsHeadline after) where
   abbrev m : Machine
   m = (region_of units tasks waiting clock).machine
-
-  -- one that has to wait changes nothing
-  module _ (holder : ℕ) (waits : execution units.state t.unit o ≡ MustWait holder) where
-    pub waits_machine : (region_of after tasks waiting clock).machine ≡ m
-    waits_machine = λ i. record m { units = (state ∙ waits_state units.state t.unit o holder waits) i }
-
-    pub waits_kept : (ts : List Task) → ts ≡ tasks → IsRegionKept (region_of after ts waiting clock)
-    waits_kept ts same = kept_as (region_of after ts waiting clock) m (λ i. record m { units = (state ∙ waits_state units.state t.unit o holder waits) i; tasks = same i }) kept.tasks kept.owned (record { headline = headline })
 
   -- one that is executed makes its unit the task's
   module _ (awake : is_waiting waiting t.label ≡ false) (unit : ℕ) (a : Answer) (acts : execution units.state t.unit o ≡ Answered unit a) where
@@ -143,22 +144,11 @@ module _ (units : UnitsValue) (tasks : List Task) (waiting : List Suspended) (cl
     pub owner_there : (ts : List Task) → ts ≡ replaced tasks (with_unit t unit) → slice_get ts at ≡ Some (with_unit t unit)
     owner_there ts is = ap (λ l. slice_get l at) is ∙ with_task_placed m at t (with_unit t unit) kept.tasks there refl
 
--- what an executed command answers, and the region that it leaves
-module _ (units : UnitsValue) (tasks : List Task) (waiting : List Suspended) (clock : ℕ) (kept : IsRegionKept (region_of units tasks waiting clock))
-    (at : ℕ) (t : Task) (there : slice_get tasks at ≡ Some t) (o : Op) (after : UnitsValue) (state : after.state ≡ after_execution units.state t.unit o) (headline : IsHeadline after) (c : Command) where
-  abbrev start : Machine
-  start = (region_of units tasks waiting clock).machine
-
-  pub waits_step : (holder : ℕ) → execution units.state t.unit o ≡ MustWait holder → busy_of c.verb ≡ None → (ts : List Task) → ts ≡ tasks →
-      suspended (region_of after ts waiting clock).machine t c holder ≡ executed start t c o (execution units.state t.unit o)
-  waits_step holder waits busy ts same =
-      (λ i. suspended (record { units = (state ∙ waits_state units.state t.unit o holder waits) i; tasks = same i; waiting = waiting; clock = clock }) t c holder)
-      ∙ ap (made_to_wait start t c holder) (sym busy) ∙ ap (executed start t c o) (sym waits)
-
-  pub acted_step : (unit : ℕ) (a : Answer) → execution units.state t.unit o ≡ Answered unit a → (ts : List Task) → ts ≡ replaced tasks (with_unit t unit) → (r : Reply) → r ≡ reply_of (length_of c.verb) a →
-      answered (region_of after ts waiting clock).machine (with_unit t unit) c.resp r ≡ executed start t c o (execution units.state t.unit o)
-  acted_step unit a acts ts is r told =
-      (λ i. answered (record { units = state i; tasks = is i; waiting = waiting; clock = clock }) (with_unit t unit) c.resp (told i)) ∙ ap (executed start t c o) (sym acts)
+  -- what an executed command answers, and the region that it leaves
+  pub acted_step : (c : Command) (unit : ℕ) (a : Answer) → execution units.state t.unit o ≡ Answered unit a → (ts : List Task) → ts ≡ replaced tasks (with_unit t unit) → (r : Reply) → r ≡ reply_of (length_of c.verb) a →
+      answered (region_of after ts waiting clock).machine (with_unit t unit) c.resp r ≡ by_op m t c (Some o)
+  acted_step c unit a acts ts is r told =
+      (λ i. answered (record { units = state i; tasks = is i; waiting = waiting; clock = clock }) (with_unit t unit) c.resp (told i)) ∙ ap (executed m t c o) (sym acts)
 
 -- no updating command on a file is answered in place of a wait
 pub busy_none : (m : Machine) (t : Task) (verb : Verb) (o : Op) → op_of m t verb ≡ Some o → asks_no_queue verb ≡ true → busy_of verb ≡ None
@@ -188,6 +178,23 @@ busy_none m t Rollback o is asks = refl
 busy_none m t Return o is asks = refl
 busy_none m t (Abend code) o is asks = refl
 
+-- a command that has to wait for a unit is executed by no other step than its wait
+pub waits_for : (m : Machine) (t : Task) (c : Command) (o : Op) (holder : ℕ) → awaited m.units t.unit o ≡ Some holder → busy_of c.verb ≡ None →
+    suspended m t c (Some o) holder ≡ by_op m t c (Some o)
+waits_for m t c o holder waits busy =
+    ap (made_to_wait m t c (Some o) holder) (sym busy) ∙ ap (λ w. executed m t c o (done_of m.units t.unit o w)) (sym waits)
+
+-- the unit that has to be waited for is the one that is awaited
+pub holder_awaited : (s : UnitsState) (u : Option ℕ) (o : Op) (holder : ℕ) → execution s u o ≡ MustWait holder → awaited s u o ≡ Some holder
+holder_awaited s u o holder = by (awaited s u o)
+  where
+    by : (w : Option ℕ) → done_of s u o w ≡ MustWait holder → w ≡ Some holder
+    by (Some v) is = let same : v ≡ holder = cc in ap Some same
+    by None is = absurd (never is)
+      where
+        never : done_of s u o None ≡ MustWait holder → ⊥
+        never e = cc
+
 -- a place that has a task is within the list
 pub placed_within : (ts : List Task) (at : ℕ) (t : Task) → slice_get ts at ≡ Some t → at < length ts
 placed_within ts at t there = slice_get_within ts at t there
@@ -196,12 +203,38 @@ placed_within ts at t there = slice_get_within ts at t there
 pub one_task : {t s : Task} (ts : List Task) (at : ℕ) → slice_get ts at ≡ Some t → slice_get ts at ≡ Some s → t ≡ s
 one_task {t} {s} ts at here there = let same : Some t ≡ Some s = sym here ∙ there in cc
 
--- what is told of the task at a place is told of each task at the place, whichever way the region is seen
-pub told_of : {X : Type 0} (f : RegionValue → Task → X) (at : ℕ) (r now : RegionValue) → r ≡ now → (t : Task) → slice_get r.machine.tasks at ≡ Some t → (x : X) → x ≡ f r t →
-    (s : Task) → slice_get now.machine.tasks at ≡ Some s → x ≡ f now s
-told_of f at r now seen t there x is s here =
-    let same : t ≡ s = one_task r.machine.tasks at there (ap (λ v. slice_get v.machine.tasks at) seen ∙ here) in
-    is ∙ (λ i. f (seen i) (same i))
+-- a step of the task at a place is one whichever way the region is seen
+pub seen_step : {old now new : RegionValue} {x : Outcome} (at : ℕ) (f : Machine → Task → Stepped Outcome) → old ≡ now → IsStepOf old at (f old.machine) x new → IsStepOf now at (f now.machine) x new
+seen_step {old} {now} {new} {x} at f seen = subst (λ v. IsStepOf v at (f v.machine) x new) seen
+
+-- a task that is told a reply, once it and the region are changed, has made a step
+pub then_told : {old mid new : RegionValue} {x : Outcome} (at : ℕ) (t owner : Task) (resp : Bool) (r : Reply) (f : Task → Stepped Outcome) →
+    slice_get old.machine.tasks at ≡ Some t → slice_get mid.machine.tasks at ≡ Some owner → IsRegionKept mid → answered mid.machine owner resp r ≡ f t →
+    IsStepOf mid at (λ s. answered mid.machine s resp r) x new → IsStepOf old at f x new
+then_told {old} at t owner resp r f there here kept is step =
+    (λ s other. step.0 owner here ∙ is ∙ ap f (one_task old.machine.tasks at there other), λ was. step.1 kept)
+
+-- one that is told a reply that is another step's has made that step
+pub told_as : {old new : RegionValue} {x : Outcome} (at : ℕ) (f g : Task → Stepped Outcome) → OfTask old.machine.tasks at (λ t. f t ≡ g t) → IsStepOf old at f x new → IsStepOf old at g x new
+told_as at f g same step = (λ t there. step.0 t there ∙ same t there, step.1)
+
+-- and so it is where a call may be refused
+pub may_told_as : (old new : RegionValue) (r : Result Outcome NoMemory) (at : ℕ) (f g : Task → Stepped Outcome) → OfTask old.machine.tasks at (λ t. f t ≡ g t) →
+    IsStepOrRefused old at f r new → IsStepOrRefused old at g r new
+may_told_as old new (Ok x) at f g same step = told_as {old = old} {new = new} at f g same step
+may_told_as old new (Err e) at f g same step = step
+
+-- a command that was tried is told what its step answers, or must wait for an open unit
+pub tried_told : (old new : RegionValue) (at : ℕ) (c : Command) (o : Option Op) (a : Attempt) (x : Outcome) → a ≡ Told x → IsAttempt old at c o (Ok a) new → IsStepOrRefused old at (going_on old.machine c o) (Ok x) new
+tried_told old new at c o a x is tried = subst (λ b. IsAttempt old at c o (Ok b) new) is tried
+
+pub tried_waits : (old new : RegionValue) (at : ℕ) (c : Command) (o : Option Op) (a : Attempt) (h : ℕ) → a ≡ Waits h → IsAttempt old at c o (Ok a) new →
+    OfTask old.machine.tasks at (λ t. awaited_by old.machine.units t.unit c.verb o ≡ Some h) × (IsOpenUnit old.machine.units h × (new ≡ old))
+tried_waits old new at c o a h is tried = subst (λ b. IsAttempt old at c o (Ok b) new) is tried
+
+-- what comes of a call on a region that is as it was, comes of it
+pub seen_may : (old now new : RegionValue) (r : Result Outcome NoMemory) (at : ℕ) (f : Machine → Task → Stepped Outcome) → old ≡ now → IsStepOrRefused old at (f old.machine) r new → IsStepOrRefused now at (f now.machine) r new
+seen_may old now new r at f seen = subst (λ v. IsStepOrRefused v at (f v.machine) r new) seen
 
 pub IfOk-then : {A E : Type 0} (r : Result A E) {P Q : A → Type 0} → ((a : A) → P a → Q a) → IfOk r P → IfOk r Q
 IfOk-then (Ok a) f p = f a p

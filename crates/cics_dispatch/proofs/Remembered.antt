@@ -1,36 +1,35 @@
 -- Task control: what is remembered of the last looks at the waiting commands stays true over a step.
-use Rattle.std.specs.Prelude.{◌≡◌, ◌≢◌, ℕ, ◌==◌, ◌-◌, ◌<◌, ◌≤◌, Bool, true, false, not, cond, if◌then◌else◌, ◌&&◌, nat_lt, nat_le, Option, Some, None, is_some, Result, Ok, Err, List, [], ◌∷◌, ◌++◌, All, slice_get, refl}
+use Rattle.std.specs.Prelude.{take, ◌≡◌, ◌≢◌, ℕ, ◌==◌, ◌-◌, ◌<◌, ◌≤◌, Bool, true, false, not, cond, if◌then◌else◌, ◌&&◌, nat_lt, nat_le, Option, Some, None, is_some, Result, Ok, Err, List, [], ◌∷◌, ◌++◌, All, refl}
 use Rattle.std.specs.List.{list_any}
 use Rattle.std.proofs.Common.{◌⊎◌, inl, inr, sym, ap, ◌∙◌, subst, arith}
 use Rattle.std.proofs.lemmas.Bool.{false≢true, true≢false, and_parts, ltb-true, leb-true, false_from_ne_true, eqb-true, eq-eqb}
 use Rattle.std.proofs.lemmas.List.Elements.{All-nil, All-cons, All-head, All-tail, All-filter, All-append}
 use Rattle.cics_names.specs.Keyed.{Bytes, is_same}
 use Rattle.cics_names.specs.KeyedLaws.{is_same-self}
-use Rattle.cics_enqueue.specs.Resources.{overlaps}
 use Rattle.cics_enqueue.specs.declared.resources.Resource.{Resource}
 use Rattle.cics_history.specs.Events.{is_live}
-use Rattle.cics_history.specs.Holding.{held_by}
+use Rattle.cics_enqueue.specs.Resources.{bytes_of, overlaps}
+use Rattle.cics_enqueue.specs.declared.resources.Resource.TheVariants.{User}
+use Rattle.cics_names.specs.declared.commands.Verb.TheVariants.{Enq}
+use Rattle.cics_history.specs.declared.ops.Op.{Op}
+use Rattle.cics_dispatch.proofs.KeptTasks.{begins_now}
+use Rattle.cics_history.specs.Holding.{UnitsState, uses_of, held_by}
 use Rattle.cics_history.proofs.Waiting.{any_more}
-use Rattle.cics_history.specs.Execution.{has_read}
 use Rattle.cics_dispatch.specs.Machine.{Machine, Task, Suspended, RegionValue, task_at, is_waiting}
-use Rattle.cics_dispatch.specs.Checks.{open_key, fault_of}
-use Rattle.cics_names.specs.Commands.{file_named, asks_no_queue}
-use Rattle.cics_dispatch.specs.Faults.{open_key_named}
-use Rattle.cics_dispatch.specs.Updates.{verb_op}
-use Rattle.cics_dispatch.specs.Steps.{Stepped, with_new_task, attach_refusal, attached, new_task, op_of, checked, issue_refusal, refused_or, issued_by, issued}
+use Rattle.cics_dispatch.specs.Checks.{fault_of}
+use Rattle.cics_names.specs.Commands.{asks_no_queue}
+use Rattle.cics_dispatch.specs.Steps.{Stepped, with_new_task, attach_refusal, attached, new_task, checked, issue_refusal, refused_or, issued_by, issued}
 use Rattle.cics_dispatch.specs.Waits.{wait_of}
 use Rattle.cics_dispatch.specs.Waking.{is_late}
 use Rattle.cics_dispatch.specs.Answers.{IsStep}
-use Rattle.cics_dispatch.specs.KeptTasks.{HasPassed, AreTasksKept}
-use Rattle.cics_dispatch.specs.Tasks.{own_unit}
-use Rattle.cics_dispatch.specs.Settled.{is_among, AreAmong, needs_of, holds_one, is_keeping, goes_on, IsBlocked, IsInTime}
+use Rattle.cics_dispatch.specs.KeptTasks.{IsWaitKept, AreTasksKept}
+use Rattle.cics_dispatch.specs.Settled.{is_among, AreAmong, holds_back, is_keeping, goes_on, IsBlocked, IsInTime}
 use Rattle.cics_names.specs.declared.commands.Command.{Command}
 use Rattle.cics_names.specs.declared.commands.Verb.{Verb}
 use Rattle.cics_dispatch.specs.declared.outcomes.Outcome.{Outcome}
 use Rattle.cics_dispatch.specs.declared.outcomes.Refused.{Refused}
 use Rattle.cics_dispatch.specs.declared.outcomes.Refused.TheVariants.{NoTask, TaskEnded, TaskWaiting, DuplicateLabel, NoMemory, ClockBack}
-use Rattle.cics_dispatch.proofs.Asked.{op_of-verb_op}
-use Rattle.cics_dispatch.proofs.TaskPlaces.{same_place, place_of_task, task_at-push}
+use Rattle.cics_dispatch.proofs.TaskPlaces.{place_of_task, task_at-push}
 use Rattle.cics_dispatch.proofs.Blocked.{all_more}
 use Rattle.cics_dispatch.proofs.KeepsOwn.{Keeps}
 use Rattle.cics_dispatch.proofs.KeptHeld.{checked_keeps}
@@ -49,36 +48,18 @@ refused_leaves wants old new s ClockBack step = step.1
 
 -- ---- A waiting command of another task
 
--- the updating command that a verb asks for is told by its task's open update reads
-op_kept : (m n : Machine) (t : Task) (verb : Verb) → ((f : Bytes) → open_key n t f ≡ open_key m t f) → op_of n t verb ≡ op_of m t verb
-op_kept m n t verb keys = op_of-verb_op n t verb ∙ ap (λ k. verb_op k verb) (named (file_named verb)) ∙ sym (op_of-verb_op m t verb)
-  where
-    named : (o : Option Bytes) → open_key_named n t o ≡ open_key_named m t o
-    named None = refl
-    named (Some f) = keys f
+-- a unit that holds what it held and more holds a command back yet
+holds_yet : (s n : UnitsState) (h : ℕ) (verb : Verb) (o : Option Op) → n.opening ≡ s.opening →
+    ((p : Resource → Bool) → list_any p (held_by s h) ≡ true → list_any p (held_by n h) ≡ true) → holds_back s h verb o ≡ true → holds_back n h verb o ≡ true
+holds_yet s n h verb (Some o) opening holds is =
+    (λ i. list_any (λ r. list_any (overlaps r) (held_by n h)) (uses_of (opening i) o))
+    ∙ any_more (λ r. list_any (overlaps r) (held_by s h)) (λ r. list_any (overlaps r) (held_by n h)) (λ r. holds (overlaps r)) (uses_of s.opening o) is
+holds_yet s n h (Enq value k nosuspend) None opening holds is = holds (overlaps (User (bytes_of (take k value)))) is
+holds_yet s n h verb None opening holds is = absurd (false≢true is)
 
 -- a task acts whose unit is none of the blockers, or holds what it held
-module _ (m n : Machine) (t : Task) (bs : List ℕ) (kept : AreTasksKept m) (is_task : task_at m.tasks t.label ≡ Some t) (others : LeavesTasks t.label t.unit m n)
+module _ (m n : Machine) (t : Task) (bs : List ℕ) (others : LeavesTasks t.label t.unit m n)
     (free : (v : ℕ) → t.unit ≡ Some v → (is_among bs v ≡ false) ⊎ Keeps m.units n.units v) (w : Suspended) (other : t.label ≢ w.label) (is : IsBlocked m bs w) where
-  -- the unit of the waiting command's task isn't the unit of the one that acts
-  not_own : (u : ℕ) → is.task.unit ≡ Some u → t.unit ≡ Some u → ⊥
-  not_own u own_w own_t =
-      let i = place_of_task m.tasks w.label is.task is.of_task in
-      let j = place_of_task m.tasks t.label t is_task in
-      let place : i.0 ≡ j.0 = same_place own_unit m.tasks i.0 j.0 is.task t u kept.owners i.1 j.1 own_w own_t in
-      let both : Some is.task ≡ Some t = sym i.1 ∙ ap (slice_get m.tasks) place ∙ j.1 in
-      let same : is.task ≡ t = cc in
-      other (ap (λ x. x.label) (sym same) ∙ i.2)
-
-  same_key : (f : Bytes) (o : Option ℕ) → is.task.unit ≡ o → has_read n.units o f ≡ has_read m.units o f
-  same_key f None own = refl
-  same_key f (Some u) own =
-      let i = place_of_task m.tasks w.label is.task is.of_task in
-      others.units.reads u f (not_own u own) (kept.open_units i.0 is.task u i.1 own)
-
-  same_op : op_of n is.task w.command.verb ≡ op_of m is.task w.command.verb
-  same_op = op_kept m n is.task w.command.verb (λ f. same_key f is.task.unit refl)
-
   -- the blocker is open, and holds what it held that is needed
   holder_yet : ((p : Resource → Bool) → list_any p (held_by m.units is.holder) ≡ true → list_any p (held_by n.units is.holder) ≡ true) → is_live n.units is.holder ≡ true → IsBlocked n bs w
   holder_yet holds live = record {
@@ -88,10 +69,7 @@ module _ (m n : Machine) (t : Task) (bs : List ℕ) (kept : AreTasksKept m) (is_
     among = is.among;
     is_open = live;
     other = is.other;
-    holds =
-        (λ i. holds_one n.units is.holder (needs_of (others.units.opening i) w.command.verb (same_op i)))
-        ∙ any_more (λ r. list_any (overlaps r) (held_by m.units is.holder)) (λ r. list_any (overlaps r) (held_by n.units is.holder)) (λ r. holds (overlaps r))
-        (needs_of m.units.opening w.command.verb (op_of m is.task w.command.verb)) is.holds;
+    holds = holds_yet m.units n.units is.holder w.command.verb w.op others.units.opening holds is.holds;
   }
 
   -- another unit than the one that acts
@@ -129,18 +107,15 @@ others_all label P Q follows (w ∷ ws) none all =
           (others_all label P Q follows ws rest (All-tail P w ws all))
     ] refl none
 
--- a wait of a task that begins now
-abbrev begins_now : Bytes → Machine → Command → Suspended
-begins_now label m c = record { label = label; command = c; since = m.clock }
-
 waits_all : (label : Bytes) (m n : Machine) (Q : Suspended → Type 0) → Waits label m n → All Q m.waiting →
-    ((c : Command) → n.waiting ≡ m.waiting ++ begins_now label m c ∷ [] → Q (begins_now label m c)) → All Q n.waiting
+    ((c : Command) (o : Option Op) → n.waiting ≡ m.waiting ++ begins_now label m c o ∷ [] → Q (begins_now label m c o)) → All Q n.waiting
 waits_all label m n Q waits all begins = elim waits [
   | inl same ↦ subst (All Q) (sym same) all
   | inr changed ↦ elim changed [
     | inl more ↦
-        subst (All Q) (sym more.1)
-        (All-append Q m.waiting (begins_now label m more.0 ∷ []) all (All-cons Q (begins_now label m more.0) [] (begins more.0 more.1) (All-nil Q)))
+        let last = begins_now label m more.0 more.1 in
+        subst (All Q) (sym more.2)
+        (All-append Q m.waiting (last ∷ []) all (All-cons Q last [] (begins more.0 more.1 more.2) (All-nil Q)))
     | inr less ↦ subst (All Q) (sym less) (All-filter (λ w. not (is_same w.label label)) Q m.waiting all)
   ]
 ]
@@ -164,18 +139,20 @@ not_refused false false is = refl
 
 -- after a command each waiting command is blocked yet, where the task's unit is none of the blockers, and the task's own
 -- command is blocked if it waits now
-module _ (m : Machine) (c : Command) (bs cs : List ℕ) (kept : AreTasksKept m) (asks : asks_no_queue c.verb ≡ true) (more : AreAmong bs cs) (all : All (IsBlocked m bs) m.waiting) where
-  checked_blocked : (t : Task) → task_at m.tasks t.label ≡ Some t →
+module _ (m : Machine) (c : Command) (bs cs : List ℕ) (asks : asks_no_queue c.verb ≡ true) (more : AreAmong bs cs) (all : All (IsBlocked m bs) m.waiting) where
+  checked_blocked : (t : Task) →
       ((v : ℕ) → t.unit ≡ Some v → (is_among bs v ≡ false) ⊎ Keeps m.units (checked m t c (fault_of m t c.verb)).machine.units v) → is_waiting m.waiting t.label ≡ false →
       ((w : Suspended) → wait_of (checked m t c (fault_of m t c.verb)).machine.waiting t.label ≡ Some w → IsBlocked (checked m t c (fault_of m t c.verb)).machine cs w) →
       All (IsBlocked (checked m t c (fault_of m t c.verb)).machine cs) (checked m t c (fault_of m t c.verb)).machine.waiting
-  checked_blocked t is free awake own =
+  checked_blocked t free awake own =
       let n = (checked m t c (fault_of m t c.verb)).machine in
       let alone = checked_alone m t c asks in
       waits_all t.label m n (IsBlocked n cs) alone.waits
       (all_more n bs cs m.waiting more
-      (others_all t.label (IsBlocked m bs) (IsBlocked n bs) (λ w other blocked. blocked_yet m n t bs kept is alone.others free w other blocked) m.waiting awake all))
-      (λ d begins. own (begins_now t.label m d) (ap (λ ws. wait_of ws t.label) begins ∙ wait_of-last m.waiting t.label (begins_now t.label m d) awake refl))
+      (others_all t.label (IsBlocked m bs) (IsBlocked n bs) (λ w other blocked. blocked_yet m n t bs alone.others free w other blocked) m.waiting awake all))
+      (λ d o begins.
+      let last = begins_now t.label m d o in
+      own last (ap (λ ws. wait_of ws t.label) begins ∙ wait_of-last m.waiting t.label last awake refl))
 
   pub issued_blocked : (label : Bytes) (outcome : Outcome) → (issued m label c).outcome ≡ Ok outcome →
       ((t : Task) (v : ℕ) → task_at m.tasks label ≡ Some t → t.unit ≡ Some v → (is_among bs v ≡ false) ⊎ ((is_keeping m.units.opening c.verb ≡ true) × (goes_on outcome ≡ true))) →
@@ -194,7 +171,7 @@ module _ (m : Machine) (c : Command) (bs cs : List ℕ) (kept : AreTasksKept m) 
       by_refusal t label same is free (Some refusal) refused told own = stays
       by_refusal t label same is free None refused told own =
           let one : (checked m t c (fault_of m t c.verb)).outcome ≡ outcome = cc in
-          checked_blocked t (ap (task_at m.tasks) same ∙ is)
+          checked_blocked t
           (λ v own_v. elim (free v own_v) [
             | inl none ↦ inl none
             | inr keeps ↦ inr (checked_keeps m t v c keeps.0 (ap goes_on one ∙ keeps.1))
@@ -236,7 +213,7 @@ module _ (m : Machine) (c : Command) (asks : asks_no_queue c.verb ≡ true) (all
       waits_all t.label m n (IsInTime n) alone.waits
       (others_all t.label (IsInTime m) (IsInTime n)
       (λ w other early. ap (is_late n w) (alone.others.tasks w.label other) ∙ same_clock m n w (task_at m.tasks w.label) alone.others.clock ∙ early) m.waiting awake all)
-      (λ d begins. begun_late n (begins_now t.label m d) (task_at n.tasks t.label) alone.others.clock)
+      (λ d o begins. begun_late n (begins_now t.label m d o) (task_at n.tasks t.label) alone.others.clock)
 
   -- after a command no task has waited too long yet
   pub issued_in_time : (label : Bytes) → All (IsInTime (issued m label c).machine) (issued m label c).machine.waiting
@@ -278,9 +255,7 @@ attached_blocked m label dtimout bs all = by (attach_refusal m label)
       among = is.among;
       is_open = is.is_open;
       other = is.other;
-      holds =
-          ap (λ o. holds_one m.units is.holder (needs_of m.units.opening w.command.verb o)) (op_kept m (with_new_task m label dtimout) is.task w.command.verb (λ f. refl))
-          ∙ is.holds;
+      holds = is.holds;
     }
 
     by : (refusal : Option Refused) →
@@ -291,14 +266,14 @@ attached_blocked m label dtimout bs all = by (attach_refusal m label)
 pub attached_in_time : (m : Machine) (label : Bytes) (dtimout : ℕ) → AreTasksKept m → All (IsInTime m) m.waiting → All (IsInTime (attached m label dtimout).machine) (attached m label dtimout).machine.waiting
 attached_in_time m label dtimout kept all = by (attach_refusal m label)
   where
-    one : (w : Suspended) → HasPassed m w → IsInTime m w → IsInTime (with_new_task m label dtimout) w
+    one : (w : Suspended) → IsWaitKept m w → IsInTime m w → IsInTime (with_new_task m label dtimout) w
     one w has early =
         ap (is_late (with_new_task m label dtimout) w) (there_yet m.tasks (new_task label dtimout) w.label has.of_task)
         ∙ same_clock m (with_new_task m label dtimout) w (task_at m.tasks w.label) refl ∙ early
 
     by : (refusal : Option Refused) →
         All (IsInTime (refused_or m refusal (record { outcome = tt {0}; machine = with_new_task m label dtimout })).machine) (refused_or m refusal (record { outcome = tt {0}; machine = with_new_task m label dtimout })).machine.waiting
-    by None = both_all (HasPassed m) (IsInTime m) (IsInTime (with_new_task m label dtimout)) one m.waiting kept.passed all
+    by None = both_all (IsWaitKept m) (IsInTime m) (IsInTime (with_new_task m label dtimout)) one m.waiting kept.waits all
     by (Some refusal) = all
 
 -- the clock makes no difference to what is blocked
@@ -313,7 +288,5 @@ clock_blocked m clock bs all = both_all (IsBlocked m bs) (IsBlocked m bs) (IsBlo
       among = is.among;
       is_open = is.is_open;
       other = is.other;
-      holds =
-          ap (λ o. holds_one m.units is.holder (needs_of m.units.opening w.command.verb o)) (op_kept m (record m { clock = clock }) is.task w.command.verb (λ f. refl))
-          ∙ is.holds;
+      holds = is.holds;
     }

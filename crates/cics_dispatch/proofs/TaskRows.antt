@@ -44,7 +44,9 @@ abbrev deq : Verb
 deq = Deq x 1
 
 -- a value that was enqueued on twice is free after two DEQ; a task that waits is given no other command
-counted : journal both_files (does t1 enq ∷ does t1 enq ∷ does t2 (Enq x 1 true) ∷ does t1 deq ∷ does t2 enq ∷ does t2 Syncpoint ∷ does t1 deq ∷ does t1 deq ∷ []) ≡ told t1 normal ∷ told t1 normal ∷ told t2 (replied Enqbusy) ∷ told t1 normal ∷ told t2 (Waiting t1) ∷ refused t2 TaskWaiting ∷ told t1 normal ∷ woke t2 normal ∷ told t1 normal ∷ []
+counted : journal both_files (does t1 enq ∷ does t1 enq ∷ does t2 (Enq x 1 true) ∷ does t1 deq ∷ does t2 enq ∷ does t2 Syncpoint ∷ does t1 deq
+    ∷ does t1 deq ∷ []) ≡ told t1 normal ∷ told t1 normal ∷ told t2 (replied Enqbusy) ∷ told t1 normal ∷ told t2 (Waiting t1) ∷ refused t2 TaskWaiting
+    ∷ told t1 normal ∷ woke t2 normal ∷ told t1 normal ∷ []
 counted = refl
 
 counted_tasks : tasks_listed (at_end both_files (does t1 enq ∷ does t1 deq ∷ does t2 deq ∷ [])) ≡ (t1, HasUnit) ∷ (t2, Idle) ∷ []

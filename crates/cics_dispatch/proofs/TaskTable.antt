@@ -10,7 +10,7 @@ use Rattle.cics_names.specs.KeyedLaws.{is_same-self, is_same-eq}
 use Rattle.cics_names.specs.RisingLaws.{is_same-turned}
 use Rattle.cics_browse.specs.Positions.{Position}
 use Rattle.cics_dispatch.specs.Machine.{Task, task_at, replaced, label_of, is_unit, with_browses}
-use Rattle.cics_dispatch.specs.Tasks.{AreLabelled, AreKept, IsOwn, HasNoOwner, own_label, own_unit, had_by, had_at}
+use Rattle.cics_dispatch.specs.Tasks.{AreLabelled, AreTaskRowsKept, IsOwn, HasNoOwner, own_label, own_unit, had_by, had_at}
 
 -- ---- What is found
 
@@ -109,11 +109,11 @@ module _ (t : Task) where
       both i j x (inr a) (inl b) = absurd (new x a.1 j b)
       both i j x (inr a) (inr b) = a.0 ∙ sym b.0
 
-module _ (es new : List (Bytes × Task)) (t : Task) (kept : AreKept es) (none : task_at (values_of es) t.label ≡ None) (unit : t.unit ≡ None) (added : new ≡ es ++ (t.label, t) ∷ []) where
+module _ (es new : List (Bytes × Task)) (t : Task) (kept : AreTaskRowsKept es) (none : task_at (values_of es) t.label ≡ None) (unit : t.unit ≡ None) (added : new ≡ es ++ (t.label, t) ∷ []) where
   pub attached-values : values_of new ≡ values_of es ++ t ∷ []
   attached-values = ap values_of added ∙ values_of-append t es
 
-  pub attached-kept : AreKept new
+  pub attached-kept : AreTaskRowsKept new
   attached-kept = record {
     labelled = subst AreLabelled (sym added) (labelled-append t es kept.labelled);
     labels = subst (IsOwn own_label) (sym attached-values) (own-append t own_label (values_of es) kept.labels (λ l is i at. not_found t.label (values_of es) none i (at ∙ sym is)));
@@ -173,7 +173,7 @@ values_of-same (e ∷ es) zero v there = let is : v ≡ e.1 = cc in ap (λ r. r 
 values_of-same (e ∷ es) (suc at) v there = ap (λ r. e.1 ∷ r) (values_of-same es at v there)
 
 -- another task w is written over the task v at a place
-module _ (es : List (Bytes × Task)) (ts : List Task) (at : ℕ) (v w : Task) (kept : AreKept es) (view : values_of es ≡ ts) (there : slice_get (values_of es) at ≡ Some v) where
+module _ (es : List (Bytes × Task)) (ts : List Task) (at : ℕ) (v w : Task) (kept : AreTaskRowsKept es) (view : values_of es ≡ ts) (there : slice_get (values_of es) at ≡ Some v) where
   pub unchanged : w ≡ v → values_of (set_value_at es at w) ≡ ts
   unchanged same = ap (λ t. values_of (set_value_at es at t)) same ∙ values_of-same es at v there ∙ view
 
@@ -188,7 +188,7 @@ module _ (es : List (Bytes × Task)) (ts : List Task) (at : ℕ) (v w : Task) (k
         same : {a b : Task} → Some a ≡ Some b → a ≡ b
         same e = cc
 
-    changed-with : ((u : ℕ) → w.unit ≡ Some u → (i : ℕ) → had_at own_unit (values_of es) i ≡ Some u → i ≡ at) → AreKept (set_value_at es at w)
+    changed-with : ((u : ℕ) → w.unit ≡ Some u → (i : ℕ) → had_at own_unit (values_of es) i ≡ Some u → i ≡ at) → AreTaskRowsKept (set_value_at es at w)
     changed-with fresh = record {
       labelled = labelled-set v w label es at there kept.labelled;
       labels = own-set v w label own_label es at kept.labels (λ l is i here. kept.labels.one i at l here (ap (had_by own_label) there ∙ ap Some (sym label) ∙ is));
@@ -196,18 +196,18 @@ module _ (es : List (Bytes × Task)) (ts : List Task) (at : ℕ) (v w : Task) (k
     }
 
     -- and the unit
-    pub kept-same : w.unit ≡ v.unit → AreKept (set_value_at es at w)
+    pub kept-same : w.unit ≡ v.unit → AreTaskRowsKept (set_value_at es at w)
     kept-same unit = changed-with (λ u is i here. kept.units.one i at u here (ap (had_by own_unit) there ∙ sym unit ∙ is))
 
     -- and gives the unit up
-    pub kept-closed : w.unit ≡ None → AreKept (set_value_at es at w)
+    pub kept-closed : w.unit ≡ None → AreTaskRowsKept (set_value_at es at w)
     kept-closed unit = changed-with (λ u is i here. absurd (never u (sym unit ∙ is)))
       where
         never : (u : ℕ) → None ≡ Some u → ⊥
         never u e = cc
 
     -- and has a unit that was no task's
-    pub kept-begun : (u : ℕ) → HasNoOwner ts u → w.unit ≡ Some u → AreKept (set_value_at es at w)
+    pub kept-begun : (u : ℕ) → HasNoOwner ts u → w.unit ≡ Some u → AreTaskRowsKept (set_value_at es at w)
     kept-begun u none unit = changed-with (λ x is i here.
         absurd (owned i (slice_get (values_of es) i) (ap (λ l. slice_get l i) (sym view)) (here ∙ sym is ∙ unit)))
       where
@@ -217,9 +217,9 @@ module _ (es : List (Bytes × Task)) (ts : List Task) (at : ℕ) (v w : Task) (k
 
   -- w has other browses, or where memory was refused is v itself
   module _ {A E : Type 0} (r : Result A E) (browses : Map Position) (ok : OnOk r (w ≡ with_browses v browses)) (err : OnErr r (w ≡ v)) where
-    pub kept-either : AreKept (set_value_at es at w)
+    pub kept-either : AreTaskRowsKept (set_value_at es at w)
     kept-either = by r ok err
       where
-        by : (s : Result A E) → OnOk s (w ≡ with_browses v browses) → OnErr s (w ≡ v) → AreKept (set_value_at es at w)
+        by : (s : Result A E) → OnOk s (w ≡ with_browses v browses) → OnErr s (w ≡ v) → AreTaskRowsKept (set_value_at es at w)
         by (Ok a) is tt = kept-same (ap (λ t. t.label) is) (ap (λ t. t.unit) is)
         by (Err e) tt is = kept-same (ap (λ t. t.label) is) (ap (λ t. t.unit) is)

@@ -2,6 +2,7 @@
 -- defined; the length of its key; the length of its FROM or RESOURCE; the update read and the browse of its task; the key
 -- in its record. The first check that fails is answered, and takes no memory.
 use Rattle.std.specs.Prelude.{ℕ, Bool, false, not, ◌&&◌, ◌||◌, Option, Some, None, is_some, is_none, nat_le, length, [], ◌∷◌}
+use Rattle.cics_names.specs.Commands.{file_named}
 use Rattle.cics_names.specs.Keyed.{Bytes, value_at, has_key}
 use Rattle.cics_names.specs.declared.conditions.Condition.{Condition}
 use Rattle.cics_names.specs.declared.conditions.Condition.TheVariants.{Dsiderr, Invreq, Lengerr, Qiderr}
@@ -11,7 +12,7 @@ use Rattle.cics_history.specs.Execution.{has_read, is_item}
 use Rattle.cics_dispatch.specs.Lengths.{fault_unless, first_fault, key_fault, is_within, used_of, from_fault, own_key_fault, write_fault}
 use Rattle.cics_dispatch.specs.Machine.{Machine, Task, definition_of}
 use Rattle.cics_names.specs.declared.commands.Verb.{Verb}
-use Rattle.cics_names.specs.declared.commands.Verb.TheVariants.{Read, Write, Rewrite, Delete, Unlock, StartBr, ResetBr, ReadNext, ReadPrev, EndBr, WriteqTs, WriteqTd, ReadqTd, DeleteqTd, Enq, Deq}
+use Rattle.cics_names.specs.declared.commands.Verb.TheVariants.{Read, Write, Rewrite, Delete, StartBr, ResetBr, ReadNext, ReadPrev, EndBr, WriteqTs, WriteqTd, ReadqTd, DeleteqTd, Enq, Deq}
 
 -- a file that isn't defined is DSIDERR, before every other check
 abbrev pub defined_fault : Option FileDef → (FileDef → Option Condition) → Option Condition
@@ -37,7 +38,12 @@ open_key m t f = has_read m.units t.unit f
 -- READ UPDATE goes with neither GTEQ nor GENERIC; its key's length; no second update read of the file
 abbrev pub read_fault : FileDef → Option Bytes → Bytes → Option ℕ → Bool → Bool → Bool → Option Condition
 read_fault d open_read key given generic gteq update =
-    first_fault (fault_unless (not (update && (gteq || generic))) Invreq ∷ key_fault d key given generic ∷ fault_unless (not (update && is_some open_read)) Invreq ∷ [])
+    first_fault (
+    fault_unless (not (update && (gteq || generic))) Invreq
+    ∷ key_fault d key given generic
+    ∷ fault_unless (not (update && is_some open_read)) Invreq
+    ∷ []
+    )
 
 -- REWRITE: the length of its record, then an update read that is open, then the key that was read is the key in the record
 abbrev pub rewrite_fault : FileDef → Option Bytes → Bytes → Option ℕ → Option Condition
@@ -58,22 +64,55 @@ abbrev pub back_fault : Option Position → Option Condition
 back_fault None = Some Invreq
 back_fault (Some p) = fault_unless (not p.generic) Invreq
 
+-- STARTBR: the length of its key, then that no browse of the file is open
+abbrev pub startbr_fault : FileDef → Option Position → Bytes → Option ℕ → Bool → Option Condition
+startbr_fault d browse key given generic =
+    first_fault (key_fault d key given generic ∷ fault_unless (is_none browse) Invreq ∷ [])
+
+-- RESETBR: the length of its key, then that a browse of the file is open
+abbrev pub resetbr_fault : FileDef → Option Position → Bytes → Option ℕ → Bool → Option Condition
+resetbr_fault d browse key given generic =
+    first_fault (key_fault d key given generic ∷ browse_fault browse ∷ [])
+
+-- the first fault of a command of a browse, from the task's browse of the file
+abbrev pub browsing_fault : FileDef → Option Position → Verb → Option Condition
+browsing_fault d browse (StartBr f key given generic equal) = startbr_fault d browse key given generic
+browsing_fault d browse (ResetBr f key given generic equal) = resetbr_fault d browse key given generic
+browsing_fault d browse (ReadNext f n) = browse_fault browse
+browsing_fault d browse (ReadPrev f n) = back_fault browse
+browsing_fault d browse (EndBr f) = browse_fault browse
+browsing_fault d browse _ = None
+
+-- the first fault of a command on a file that is defined, from the key of the task's open update read of the file and its
+-- browse of it
+abbrev pub file_fault : FileDef → Option Bytes → Option Position → Verb → Option Condition
+file_fault d open_read browse (Read f key given n generic gteq update) =
+    read_fault d open_read key given generic gteq update
+file_fault d open_read browse (Write f key given from n) = write_fault d key given from n
+file_fault d open_read browse (Rewrite f from n) = rewrite_fault d open_read from n
+file_fault d open_read browse (Delete f key given) = delete_fault d open_read key given
+file_fault d open_read browse verb = browsing_fault d browse verb
+
+-- the fault of ENQ or DEQ
+abbrev pub value_fault : Verb → Option Condition
+value_fault (Enq value n nosuspend) = resource_fault value n
+value_fault (Deq value n) = resource_fault value n
+value_fault _ = None
+
+-- the first fault of a command that names no file
+abbrev pub other_fault : Machine → Verb → Option Condition
+other_fault m (WriteqTs q from n item) = item_fault from n
+other_fault m (WriteqTd q from n) = first_fault (queue_fault m q ∷ item_fault from n ∷ [])
+other_fault m (ReadqTd q n nosuspend) = queue_fault m q
+other_fault m (DeleteqTd q) = queue_fault m q
+other_fault m verb = value_fault verb
+
+-- the first fault of a command that names this file, or none
+abbrev pub named_fault : Machine → Task → Verb → Option Bytes → Option Condition
+named_fault m t verb None = other_fault m verb
+named_fault m t verb (Some f) =
+    defined_fault (definition_of m f) (λ d. file_fault d (open_key m t f) (value_at f t.browses) verb)
+
 -- the first fault of a command
 abbrev pub fault_of : Machine → Task → Verb → Option Condition
-fault_of m t (Read f key given n generic gteq update) = defined_fault (definition_of m f) (λ d. read_fault d (open_key m t f) key given generic gteq update)
-fault_of m t (Write f key given from n) = defined_fault (definition_of m f) (λ d. write_fault d key given from n)
-fault_of m t (Rewrite f from n) = defined_fault (definition_of m f) (λ d. rewrite_fault d (open_key m t f) from n)
-fault_of m t (Delete f key given) = defined_fault (definition_of m f) (λ d. delete_fault d (open_key m t f) key given)
-fault_of m t (Unlock f) = defined_fault (definition_of m f) (λ d. None)
-fault_of m t (StartBr f key given generic equal) = defined_fault (definition_of m f) (λ d. first_fault (key_fault d key given generic ∷ fault_unless (not (has_key f t.browses)) Invreq ∷ []))
-fault_of m t (ResetBr f key given generic equal) = defined_fault (definition_of m f) (λ d. first_fault (key_fault d key given generic ∷ browse_fault (value_at f t.browses) ∷ []))
-fault_of m t (ReadNext f n) = defined_fault (definition_of m f) (λ d. browse_fault (value_at f t.browses))
-fault_of m t (ReadPrev f n) = defined_fault (definition_of m f) (λ d. back_fault (value_at f t.browses))
-fault_of m t (EndBr f) = defined_fault (definition_of m f) (λ d. browse_fault (value_at f t.browses))
-fault_of m t (WriteqTs q from n item) = item_fault from n
-fault_of m t (WriteqTd q from n) = first_fault (queue_fault m q ∷ item_fault from n ∷ [])
-fault_of m t (ReadqTd q n nosuspend) = queue_fault m q
-fault_of m t (DeleteqTd q) = queue_fault m q
-fault_of m t (Enq value n nosuspend) = resource_fault value n
-fault_of m t (Deq value n) = resource_fault value n
-fault_of m t _ = None
+fault_of m t verb = named_fault m t verb (file_named verb)

@@ -1,20 +1,36 @@
 -- Task control: what holds between the tasks of a region, its waiting commands and its units.
-use Rattle.std.specs.Prelude.{◌≡◌, ℕ, true, Some, None, All, is_some, slice_get}
+use Rattle.std.specs.Prelude.{◌≡◌, ℕ, true, Option, Some, None, All, is_some, slice_get}
 use Rattle.cics_history.specs.Events.{is_live}
+use Rattle.cics_history.specs.Execution.{is_ready_op}
+use Rattle.cics_history.specs.Holding.{UnitsState}
+use Rattle.cics_history.specs.Records.{is_file_op}
+use Rattle.cics_history.specs.declared.ops.Op.{Op}
+use Rattle.cics_names.specs.declared.commands.Verb.{Verb}
+use Rattle.cics_names.specs.declared.commands.Verb.TheVariants.{Enq}
 use Rattle.cics_dispatch.specs.Machine.{Machine, Task, Suspended, task_at}
-use Rattle.cics_dispatch.specs.Checks.{fault_of}
-use Rattle.cics_names.specs.Commands.{asks_no_queue}
+use Rattle.cics_dispatch.specs.Checks.{resource_fault}
 use Rattle.cics_dispatch.specs.Tasks.{own_label, own_unit, IsOwn}
 
--- a waiting command is one of a task, asks nothing of a queue, and has passed its checks
-pub record HasPassed (m : Machine) (w : Suspended) : Type 0 where
-  pub of_task : is_some (task_at m.tasks w.label) ≡ true
-  pub no_queue : asks_no_queue w.command.verb ≡ true
-  pub no_fault : (t : Task) → task_at m.tasks w.label ≡ Some t → fault_of m t w.command.verb ≡ None
+-- an updating command on a file can be executed whenever no other unit holds its record
+pub record IsReadyFor (s : UnitsState) (asking : Option ℕ) (o : Op) : Type 0 where
+  pub on_file : is_file_op o ≡ true
+  pub ready : is_ready_op s asking o ≡ true
 
--- no two tasks have one label or one unit, a task's unit is open, and the waiting commands have passed their checks
+-- what a command that may have to wait goes on with is ready: the updating command that it asks for, or as of an ENQ a
+-- value of a right LENGTH
+abbrev pub IsReady : UnitsState → Option ℕ → Verb → Option Op → Type 0
+IsReady s asking verb (Some o) = IsReadyFor s asking o
+IsReady s asking (Enq value n nosuspend) None = resource_fault value n ≡ None
+IsReady s asking _ None = ⊥
+
+-- a waiting command is one of a task, and what it goes on with is ready
+pub record IsWaitKept (m : Machine) (w : Suspended) : Type 0 where
+  pub of_task : is_some (task_at m.tasks w.label) ≡ true
+  pub ready : (t : Task) → task_at m.tasks w.label ≡ Some t → IsReady m.units t.unit w.command.verb w.op
+
+-- no two tasks have one label or one unit, a task's unit is open, and what the waiting commands go on with is ready
 pub record AreTasksKept (m : Machine) : Type 0 where
   pub labels : IsOwn own_label m.tasks
   pub owners : IsOwn own_unit m.tasks
   pub open_units : (i : ℕ) (t : Task) (u : ℕ) → slice_get m.tasks i ≡ Some t → t.unit ≡ Some u → is_live m.units u ≡ true
-  pub passed : All (HasPassed m) m.waiting
+  pub waits : All (IsWaitKept m) m.waiting

@@ -4,8 +4,6 @@ pub mod Machine
 pub mod Checks
 pub mod Steps
 pub mod Calls
-pub mod Faults
-pub mod Updates
 pub mod Waking
 pub mod Answers
 pub mod KeptTasks

@@ -10,6 +10,7 @@ use Rattle.cics_history.specs.Store.{Store}
 use Rattle.cics_history.specs.Holding.{UnitsState, store_of}
 use Rattle.cics_history.specs.Execution.{after_end}
 use Rattle.cics_history.specs.Headline.{beginning}
+use Rattle.cics_history.specs.declared.ops.Op.{Op}
 use Rattle.cics_history.specs.declared.ops.UnitState.{UnitState}
 use Rattle.cics_history.specs.declared.ops.UnitState.TheVariants.{BackedOut}
 use Rattle.cics_names.specs.declared.commands.Command.{Command}
@@ -23,10 +24,12 @@ pub record Task : Type 0 where
   pub browses : Map Position
   pub has_ended : Bool
 
--- a command that waits: its task, the command whole, and the clock when the wait began
+-- a command that waits: its task, the command whole, the updating command that it asks for, if it asks for one, and the
+-- clock when the wait began
 pub record Suspended : Type 0 where
   pub label : Bytes
   pub command : Command
+  pub op : Option Op
   pub since : ℕ
 
 -- a region: its units, its tasks in the order of attach, its waiting commands in the order in which the waits began, and

@@ -1,15 +1,13 @@
 -- Waiting commands that were looked at: each still has the unit that it waits for, and no task has waited too long.
-use Rattle.std.specs.Prelude.{◌≡◌, ℕ, ◌==◌, Bool, true, false, Option, Some, None, List, [], ◌∷◌, All, take}
+use Rattle.std.specs.Prelude.{◌≡◌, ℕ, ◌==◌, Bool, true, false, Option, Some, None, List, All, take}
 use Rattle.std.specs.List.{list_any}
 use Rattle.cics_enqueue.specs.Resources.{bytes_of, overlaps, is_other}
-use Rattle.cics_enqueue.specs.declared.resources.Resource.{Resource}
 use Rattle.cics_enqueue.specs.declared.resources.Resource.TheVariants.{User}
 use Rattle.cics_history.specs.Openings.{OpeningState, file_recoverable}
 use Rattle.cics_history.specs.Holding.{UnitsState, uses_of, held_by}
 use Rattle.cics_history.specs.Events.{is_live}
 use Rattle.cics_history.specs.declared.ops.Op.{Op}
 use Rattle.cics_dispatch.specs.Machine.{Machine, Task, Suspended, task_at}
-use Rattle.cics_dispatch.specs.Steps.{op_of}
 use Rattle.cics_dispatch.specs.Waking.{is_late}
 use Rattle.cics_names.specs.declared.commands.Verb.{Verb}
 use Rattle.cics_names.specs.declared.commands.Verb.TheVariants.{Read, Write, Rewrite, Delete, Unlock, StartBr, ResetBr, ReadNext, ReadPrev, EndBr, Enq}
@@ -29,15 +27,11 @@ is_blocker units (Some u) = is_among units u
 pub record AreAmong (these those : List ℕ) : Type 0 where
   pub among : (u : ℕ) → is_among these u ≡ true → is_among those u ≡ true
 
--- what a command needs that another unit may hold: an updating command what it uses, and ENQ its value
-abbrev pub needs_of : OpeningState → Verb → Option Op → List Resource
-needs_of o verb (Some op) = uses_of o op
-needs_of o (Enq value n nosuspend) None = User (bytes_of (take n value)) ∷ []
-needs_of o _ None = []
-
--- a unit holds what keeps others from one of these
-abbrev pub holds_one : UnitsState → ℕ → List Resource → Bool
-holds_one s u needs = list_any (λ r. list_any (overlaps r) (held_by s u)) needs
+-- a unit holds what keeps a command waiting: something that its updating command uses, or as of an ENQ its value
+abbrev pub holds_back : UnitsState → ℕ → Verb → Option Op → Bool
+holds_back s u verb (Some op) = list_any (λ r. list_any (overlaps r) (held_by s u)) (uses_of s.opening op)
+holds_back s u (Enq value n nosuspend) None = list_any (overlaps (User (bytes_of (take n value)))) (held_by s u)
+holds_back s u _ None = false
 
 -- a waiting command still has the unit that it waits for: one of the blockers, open and another than its task's, holds
 -- what it needs
@@ -48,7 +42,7 @@ pub record IsBlocked (m : Machine) (blockers : List ℕ) (w : Suspended) : Type 
   pub among : is_among blockers holder ≡ true
   pub is_open : is_live m.units holder ≡ true
   pub other : is_other task.unit holder ≡ true
-  pub holds : holds_one m.units holder (needs_of m.units.opening w.command.verb (op_of m task w.command.verb)) ≡ true
+  pub holds : holds_back m.units holder w.command.verb w.op ≡ true
 
 -- a command ends no unit of work and no enqueue, and an update read only of a recoverable file, where the read itself holds
 -- nothing: so its unit holds what it held, unless the task is abended

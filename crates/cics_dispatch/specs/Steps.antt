@@ -2,7 +2,7 @@
 -- command answer, and the state that they leave. After its checks a command waits, or it is executed; it is answered by
 -- what it acts on; a content that is longer than LENGTH is LENGERR; and a condition that nothing handles abends the task.
 use Rattle.std.specs.Prelude.{ℕ, Bool, true, false, if◌then◌else◌, Option, Some, None, is_some, option_map, Result, Ok, Err, take, [], ◌∷◌, ◌++◌}
-use Rattle.cics_names.specs.Commands.{length_of}
+use Rattle.cics_names.specs.Commands.{file_named, length_of}
 use Rattle.cics_names.specs.Keyed.{Bytes, value_at, with_value, without}
 use Rattle.cics_names.specs.Conditions.{default_abend_of}
 use Rattle.cics_names.specs.declared.conditions.Condition.{Condition}
@@ -39,6 +39,10 @@ pub record Stepped (X : Type 0) : Type 0 where
   pub outcome : X
   pub machine : Machine
 
+-- this answer, and this state
+abbrev pub with_outcome : {X : Type 0} → X → Machine → Stepped X
+with_outcome outcome m = record { outcome = outcome; machine = m }
+
 -- ---- Answers
 
 -- an unhandled condition abends the task with the condition's default code, if it has one
@@ -63,17 +67,17 @@ busy_of (Enq value n nosuspend) = if nosuspend then Some Enqbusy else None
 busy_of _ = None
 
 -- a command that must wait waits last of all, and nothing of it is executed; the holder's task is named
-abbrev pub suspended : Machine → Task → Command → ℕ → Stepped Outcome
-suspended m t c holder =
+abbrev pub suspended : Machine → Task → Command → Option Op → ℕ → Stepped Outcome
+suspended m t c o holder =
     record {
       outcome = Waiting (label_of m.tasks holder);
-      machine = with_waiting m (m.waiting ++ record { label = t.label; command = c; since = m.clock } ∷ []);
+      machine = with_waiting m (m.waiting ++ record { label = t.label; command = c; op = o; since = m.clock } ∷ []);
     }
 
 -- a command that must wait is suspended, or with NOSUSPEND answered
-abbrev pub made_to_wait : Machine → Task → Command → ℕ → Option Condition → Stepped Outcome
-made_to_wait m t c holder None = suspended m t c holder
-made_to_wait m t c holder (Some busy) = answered m t c.resp (plain busy)
+abbrev pub made_to_wait : Machine → Task → Command → Option Op → ℕ → Option Condition → Stepped Outcome
+made_to_wait m t c o holder None = suspended m t c o holder
+made_to_wait m t c o holder (Some busy) = answered m t c.resp (plain busy)
 
 -- ---- Updating commands
 
@@ -87,22 +91,35 @@ abbrev pub ts_write_op : Bytes → Bytes → Option ℕ → Op
 ts_write_op q from None = op.TsWrite q from
 ts_write_op q from (Some item) = op.TsRewrite q item from
 
--- the updating command that a verb asks for, if it is one
+-- the updating command on a queue that a command asks for
+abbrev pub queue_op : Verb → Option Op
+queue_op (WriteqTs q from n item) = Some (ts_write_op q (used_of from n) item)
+queue_op (DeleteqTs q) = Some (op.TsDelete q)
+queue_op (WriteqTd q from n) = Some (op.TdWrite q (used_of from n))
+queue_op (ReadqTd q n nosuspend) = Some (op.TdRead q)
+queue_op (DeleteqTd q) = Some (op.TdDelete q)
+queue_op _ = None
+
+-- the updating command that a command asks for, if it asks for one, from the key of its task's open update read of its file
+abbrev pub asked_op : Option Bytes → Verb → Option Op
+asked_op open_read (Read f key given n generic gteq update) = if update then Some (op.ReadUpdate f key) else None
+asked_op open_read (Write f key given from n) = Some (op.Write f key (used_of from n))
+asked_op open_read (Rewrite f from n) = option_map (λ key. op.Rewrite f key (used_of from n)) open_read
+asked_op open_read (Delete f key given) = delete_op f key open_read
+asked_op open_read verb = queue_op verb
+
+-- the key of the task's open update read of the file that is named, if one is named
+abbrev pub key_read : Machine → Task → Option Bytes → Option Bytes
+key_read m t None = None
+key_read m t (Some f) = open_key m t f
+
+-- the updating command that a task's command asks for
 abbrev pub op_of : Machine → Task → Verb → Option Op
-op_of m t (Read f key given n generic gteq update) = if update then Some (op.ReadUpdate f key) else None
-op_of m t (Write f key given from n) = Some (op.Write f key (used_of from n))
-op_of m t (Rewrite f from n) = option_map (λ key. op.Rewrite f key (used_of from n)) (open_key m t f)
-op_of m t (Delete f key given) = delete_op f key (open_key m t f)
-op_of m t (WriteqTs q from n item) = Some (ts_write_op q (used_of from n) item)
-op_of m t (DeleteqTs q) = Some (op.TsDelete q)
-op_of m t (WriteqTd q from n) = Some (op.TdWrite q (used_of from n))
-op_of m t (ReadqTd q n nosuspend) = Some (op.TdRead q)
-op_of m t (DeleteqTd q) = Some (op.TdDelete q)
-op_of m t _ = None
+op_of m t verb = asked_op (key_read m t (file_named verb)) verb
 
 -- an updating command waits; or it is executed, whatever it answers, and its task has the unit that it was executed in
 abbrev pub executed : Machine → Task → Command → Op → Done → Stepped Outcome
-executed m t c o (MustWait holder) = made_to_wait m t c holder (busy_of c.verb)
+executed m t c o (MustWait holder) = made_to_wait m t c (Some o) holder (busy_of c.verb)
 executed m t c o (Answered unit a) =
     let owner = with_unit t unit in
     answered (with_task (with_units m (after_execution m.units t.unit o)) owner) owner c.resp (reply_of (length_of c.verb) a)
@@ -111,7 +128,7 @@ executed m t c o (Answered unit a) =
 
 -- ENQ waits, or takes its value for the task's unit, which it may begin; a value that is held the most times is INVREQ
 abbrev pub enqueued : Machine → Task → Command → Bytes → Enqueued → Stepped Outcome
-enqueued m t c value (EnqMustWait holder) = made_to_wait m t c holder (busy_of c.verb)
+enqueued m t c value (EnqMustWait holder) = made_to_wait m t c None holder (busy_of c.verb)
 enqueued m t c value CountFull = answered m t c.resp (plain Invreq)
 enqueued m t c value (Taken unit) =
     let owner = with_unit t unit in
@@ -202,7 +219,7 @@ other_command m t c Return = record { outcome = Ended; machine = unit_closed m t
 other_command m t c (Abend code) = abended_with m t (code_of code)
 other_command m t c _ = answered m t c.resp (plain Invreq)
 
--- an updating command waits or is executed; another is answered
+-- a command that asks for an updating command waits, or that one is executed; another command is answered
 abbrev pub by_op : Machine → Task → Command → Option Op → Stepped Outcome
 by_op m t c (Some o) = executed m t c o (execution m.units t.unit o)
 by_op m t c None = other_command m t c c.verb

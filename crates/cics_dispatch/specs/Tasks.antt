@@ -31,7 +31,7 @@ pub record IsOwn {X : Type 0} (own : Task → Option X) (ts : List Task) : Type 
   pub one : (i j : ℕ) (x : X) → had_at own ts i ≡ Some x → had_at own ts j ≡ Some x → i ≡ j
 
 -- the tasks stand under their labels, and no two have one label or one unit
-pub record AreKept (es : List (Bytes × Task)) : Type 0 where
+pub record AreTaskRowsKept (es : List (Bytes × Task)) : Type 0 where
   pub labelled : AreLabelled es
   pub labels : IsOwn own_label (values_of es)
   pub units : IsOwn own_unit (values_of es)

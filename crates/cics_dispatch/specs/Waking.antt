@@ -1,14 +1,9 @@
 -- Waiting commands (chapter on task control): which one goes on, which one's time is over, and the clock.
 use Rattle.std.specs.Prelude.{ℕ, ◌-◌, Bool, false, ◌&&◌, if◌then◌else◌, Option, Some, None, is_none, Result, nat_le, nat_lt, take, List, [], ◌∷◌}
-use Rattle.cics_history.specs.Holding.{awaited, value_holder}
-use Rattle.cics_enqueue.specs.Resources.{bytes_of}
-use Rattle.cics_enqueue.specs.declared.resources.Resource.{Resource}
-use Rattle.cics_enqueue.specs.declared.resources.Resource.TheVariants.{User}
-use Rattle.cics_history.specs.Records.{file_of, key_of}
-use Rattle.cics_units.specs.TableInPlace.{record_of}
+use Rattle.cics_history.specs.Holding.{UnitsState, awaited, value_holder}
 use Rattle.cics_history.specs.declared.ops.Op.{Op}
 use Rattle.cics_dispatch.specs.Machine.{Machine, Task, Suspended, task_at, with_waiting, not_waiting, abended, timed_out}
-use Rattle.cics_dispatch.specs.Steps.{Stepped, op_of, performed, refused_or}
+use Rattle.cics_dispatch.specs.Steps.{Stepped, by_op, refused_or}
 use Rattle.cics_names.specs.declared.commands.Verb.{Verb}
 use Rattle.cics_names.specs.declared.commands.Verb.TheVariants.{Enq}
 use Rattle.cics_dispatch.specs.declared.outcomes.Woken.{Woken}
@@ -28,33 +23,28 @@ clock_set m now = refused_or m (clock_refusal m now) (record { outcome = tt; mac
 
 -- ---- Waking
 
--- the unit that a command must wait for, if it must. Only updating commands and ENQ wait
-abbrev pub holder_for : Machine → Task → Verb → Option Op → Option ℕ
-holder_for m t verb (Some o) = awaited m.units t.unit o
-holder_for m t (Enq value n nosuspend) None = value_holder m.units t.unit (take n value)
-holder_for m t _ None = None
-
--- what a command needs that another unit may hold: an updating command its record, and ENQ its value
-abbrev pub resource_for : Verb → Option Op → Option Resource
-resource_for verb (Some o) = Some (record_of (file_of o) (key_of o))
-resource_for (Enq value n nosuspend) None = Some (User (bytes_of (take n value)))
-resource_for _ None = None
+-- the unit that a command must wait for, if it must: for the updating command that it asks for, or as ENQ for its value
+abbrev pub awaited_by : UnitsState → Option ℕ → Verb → Option Op → Option ℕ
+awaited_by s asking verb (Some o) = awaited s asking o
+awaited_by s asking (Enq value n nosuspend) None = value_holder s asking (take n value)
+awaited_by s asking _ None = None
 
 -- a waiting command may go on where it needn't wait any more
 abbrev pub may_go_on : Machine → Suspended → Option Task → Bool
 may_go_on m w None = false
-may_go_on m w (Some t) = is_none (holder_for m t w.command.verb (op_of m t w.command.verb))
+may_go_on m w (Some t) = is_none (awaited_by m.units t.unit w.command.verb w.op)
 
 -- the first command that may go on, in the order in which the waits began
 abbrev pub first_free : Machine → List Suspended → Option Suspended
 first_free m [] = None
 first_free m (w ∷ ws) = if may_go_on m w (task_at m.tasks w.label) then Some w else first_free m ws
 
--- a woken command waits no more, and goes on from the look at what other units hold
+-- a woken command waits no more, and goes on from the look at what other units hold, with what it asked for when it was
+-- issued
 abbrev pub went_on : Machine → Suspended → Option Task → Stepped (Option Woken)
 went_on m w None = record { outcome = None; machine = m }
 went_on m w (Some t) =
-    let s = performed (with_waiting m (not_waiting m.waiting w.label)) t w.command in
+    let s = by_op (with_waiting m (not_waiting m.waiting w.label)) t w.command w.op in
     record { outcome = Some (record { label = w.label; outcome = s.outcome }); machine = s.machine }
 
 -- a waiting command goes on, if there is one

@@ -88,8 +88,10 @@ impl Browses {
         generic: bool,
         equal: bool,
     ) -> Option<Condition>
-        ensures condition { result ≡ reset_told records.now.records key generic equal file.now self.old }
-        ensures position { self.new ≡ reset_moved records.now.records key generic equal file.now self.old }
+        ensures condition { result
+            ≡ reset_told records.now.records key generic equal file.now self.old }
+        ensures position { self.new
+            ≡ reset_moved records.now.records key generic equal file.now self.old }
     {
         let browse = self.rows.get_mut(file)?;
         Some(browse.reset(records, key, generic, equal))
@@ -100,8 +102,10 @@ impl Browses {
     /// `records` is the file itself as it stands. `Err` comes only where memory for the copies is refused, and then
     /// the position stays.
     pub(crate) fn next(&mut self, file: &Name8, records: &File) -> Result<Option<Browsed>, NoMemory>
-        ensures reply { IfOk result (λ reply. reply ≡ next_told records.now.records file.now self.old) }
-        ensures position { OnOk result (self.new ≡ next_moved records.now.records file.now self.old) }
+        ensures reply { IfOk result (λ reply. reply
+            ≡ next_told records.now.records file.now self.old) }
+        ensures position { OnOk result (self.new
+            ≡ next_moved records.now.records file.now self.old) }
         ensures err { OnErr result (self.new ≡ self.old) }
     {
         let Some(browse) = self.rows.get_mut(file) else {
@@ -115,8 +119,10 @@ impl Browses {
     /// `records` is the file itself as it stands. `Err` comes only where memory for the copies is refused, and then
     /// the position stays.
     pub(crate) fn prev(&mut self, file: &Name8, records: &File) -> Result<Option<Browsed>, NoMemory>
-        ensures reply { IfOk result (λ reply. reply ≡ prev_told records.now.records file.now self.old) }
-        ensures position { OnOk result (self.new ≡ prev_moved records.now.records file.now self.old) }
+        ensures reply { IfOk result (λ reply. reply
+            ≡ prev_told records.now.records file.now self.old) }
+        ensures position { OnOk result (self.new
+            ≡ prev_moved records.now.records file.now self.old) }
         ensures err { OnErr result (self.new ≡ self.old) }
     {
         let Some(browse) = self.rows.get_mut(file) else {

@@ -5,10 +5,10 @@ ghost use Rattle.std.specs.Option.{option_copied};
 ghost use Rattle.cics_dispatch.specs.Lengths.{is_length_given, key_fault, is_within, used_of};
 ghost use Rattle.cics_dispatch.specs.Lengths.{write_fault};
 ghost use Rattle.cics_dispatch.specs.Checks.{resource_fault, read_fault, rewrite_fault};
-ghost use Rattle.cics_dispatch.specs.Checks.{delete_fault};
-ghost use Rattle.cics_dispatch.specs.Faults.{startbr_fault, resetbr_fault, absent_fault};
-ghost use Rattle.cics_dispatch.specs.Faults.{backward_fault};
+ghost use Rattle.cics_dispatch.specs.Checks.{delete_fault, startbr_fault, resetbr_fault};
+ghost use Rattle.cics_dispatch.specs.Checks.{browse_fault, back_fault};
 
+use cics_browse::Browse;
 use cics_ksds::FileDef;
 use cics_names::{Condition, NoMemory, Record};
 
@@ -92,7 +92,7 @@ pub(crate) fn write_fault(
 /// UPDATE where the task has an open update read of the file, whose key is `open_key`.
 pub(crate) fn read_fault(
     definition: FileDef,
-    open_key: Option<&Record>,
+    open_key: Option<&[u8]>,
     key: &[u8],
     given: Option<u64>,
     generic: bool,
@@ -119,7 +119,7 @@ pub(crate) fn read_fault(
 /// the file, or where the key in the record isn't `open_key`, the key that was read.
 pub(crate) fn rewrite_fault(
     definition: FileDef,
-    open_key: Option<&Record>,
+    open_key: Option<&[u8]>,
     from: &[u8],
     length: Option<u64>,
 ) -> Option<Condition>
@@ -132,7 +132,7 @@ pub(crate) fn rewrite_fault(
         return Some(Condition::Lengerr);
     }
     match open_key {
-        Some(key) if definition.key_in(content).cmp(key.bytes()).is_eq() => None,
+        Some(key) if definition.key_in(content).cmp(key).is_eq() => None,
         _ => Some(Condition::Invreq),
     }
 }
@@ -141,7 +141,7 @@ pub(crate) fn rewrite_fault(
 /// the task has no open update read of the file.
 pub(crate) fn delete_fault(
     definition: FileDef,
-    open_key: Option<&Record>,
+    open_key: Option<&[u8]>,
     ridfld: Option<&Record>,
     given: Option<u64>,
 ) -> Option<Condition>
@@ -171,16 +171,16 @@ pub(crate) fn resource_fault(value: &[u8], length: u64) -> Option<Condition>
 
 /// The first fault of a STARTBR: INVREQ for its key's length, and where a browse of the file is open.
 ///
-/// Here and below `browse` is the task's browse of the file, by whether it was started with GENERIC, and
-/// None where there is none.
+/// Here and below `browse` is the task's browse of the file, and None where there is none.
 pub(crate) fn startbr_fault(
     definition: FileDef,
-    browse: Option<bool>,
+    browse: Option<&Browse>,
     key: &[u8],
     given: Option<u64>,
     generic: bool,
 ) -> Option<Condition>
-    ensures { result ≡ startbr_fault definition browse key.now given generic }
+    ensures { result ≡ startbr_fault definition (option_copied browse.entry)
+        key.now given generic }
 {
     if let Some(fault) = key_fault(definition, key, given, generic) {
         return Some(fault);
@@ -195,22 +195,23 @@ pub(crate) fn startbr_fault(
 /// The first fault of a RESETBR: INVREQ for its key's length, and where no browse of the file is open.
 pub(crate) fn resetbr_fault(
     definition: FileDef,
-    browse: Option<bool>,
+    browse: Option<&Browse>,
     key: &[u8],
     given: Option<u64>,
     generic: bool,
 ) -> Option<Condition>
-    ensures { result ≡ resetbr_fault definition browse key.now given generic }
+    ensures { result ≡ resetbr_fault definition (option_copied browse.entry)
+        key.now given generic }
 {
     if let Some(fault) = key_fault(definition, key, given, generic) {
         return Some(fault);
     }
-    absent_fault(browse)
+    browse_fault(browse)
 }
 
 /// INVREQ of a READNEXT or ENDBR where no browse of the file is open.
-pub(crate) fn absent_fault(browse: Option<bool>) -> Option<Condition>
-    ensures { result ≡ absent_fault browse }
+pub(crate) fn browse_fault(browse: Option<&Browse>) -> Option<Condition>
+    ensures { result ≡ browse_fault (option_copied browse.entry) }
 {
     if browse.is_some() {
         None
@@ -220,11 +221,11 @@ pub(crate) fn absent_fault(browse: Option<bool>) -> Option<Condition>
 }
 
 /// INVREQ of a READPREV where no browse of the file is open, or a generic one.
-pub(crate) fn backward_fault(browse: Option<bool>) -> Option<Condition>
-    ensures { result ≡ backward_fault browse }
+pub(crate) fn back_fault(browse: Option<&Browse>) -> Option<Condition>
+    ensures { result ≡ back_fault (option_copied browse.entry) }
 {
     match browse {
-        Some(false) => None,
+        Some(browse) if !browse.is_generic() => None,
         _ => Some(Condition::Invreq),
     }
 }

@@ -7,7 +7,7 @@ mod performing;
 mod waking;
 
 ghost use Rattle.std.specs.Prelude.{◌≡◌, ◌<◌, ◌≤◌, true, false, Option, Some, None, length, IfOk};
-ghost use Rattle.std.specs.Prelude.{IfErr, IfSome, OnOk, OnErr, if◌then◌else◌, Result, Ok, Err};
+ghost use Rattle.std.specs.Prelude.{IfErr, IfSome, IfNone, if◌then◌else◌, Result, Ok, Err};
 ghost use Rattle.std.specs.Option.{option_copied};
 ghost use Rattle.cics_history.specs.declared.ops.UnitState.TheVariants.{Committed, BackedOut};
 ghost use Rattle.cics_dispatch.specs.Machine.{units_after, definition_of, Task as TaskValue};
@@ -23,21 +23,21 @@ ghost use Rattle.cics_dispatch.specs.Waking.{clock_set};
 ghost use Rattle.cics_history.specs.Openings.{file_recoverable};
 ghost use Rattle.cics_dispatch.specs.Regions.{IsRegionKept};
 ghost use Rattle.cics_dispatch.specs.Settled.{is_keeping};
-ghost use Rattle.cics_dispatch.specs.Answers.{IsStep, attach_may_want, IsHeadlineRegion};
-ghost use Rattle.cics_dispatch.specs.Faults.{is_generic};
-ghost use Rattle.cics_names.specs.Keyed.{value_at};
+ghost use Rattle.cics_dispatch.specs.Answers.{IsStep, attach_may_want};
 ghost use Rattle.cics_names.specs.declared.commands.Verb.TheVariants.{Enq};
-ghost use Rattle.cics_dispatch.specs.Calls.{OfTask, IsAwake, PassesChecks, IsOutcomeOf, IsLeftBy};
-ghost use Rattle.cics_dispatch.specs.Calls.{executing};
+ghost use Rattle.cics_dispatch.specs.Calls.{OfTask, IsAwake, HasReady, MayPerform};
+ghost use Rattle.cics_dispatch.specs.Calls.{KeepsRegion, IsStepOf};
+ghost use Rattle.cics_dispatch.specs.Calls.{IsStepOrRefused, IsAttempt, going_on};
+ghost use Rattle.cics_history.specs.Openings.{is_key};
 
-use crate::faults::fault_of_verb;
-use crate::outcomes::{Outcome, Refused, Reply};
+use crate::faults::{file_fault, value_fault};
+use crate::outcomes::{Attempt, Outcome, Refused, Reply};
 use crate::replies::reply_of_answer;
 use crate::tasks::Tasks;
 use crate::waits::Waits;
 use cics_enqueue::UnitId;
 use cics_ksds::FileDef;
-use cics_names::{Command, Condition, Name4, Name8, NoMemory, Record, Verb};
+use cics_names::{Command, Condition, Name4, Name8, NoMemory, Verb};
 use cics_units::{Done, Op, Opening, UnitState, Units};
 use std::alloc::Global;
 use std::marker::Model;
@@ -89,10 +89,10 @@ impl Dispatcher {
     /// and queues; where that is refused the opening comes back.
     pub fn new(opening: Opening) -> Result<Dispatcher, Opening>
         ensures machine { IfOk result (λ region. region.machine ≡ beginning_region opening) }
-        ensures headline { IfOk result IsHeadlineRegion }
+        ensures kept { IfOk result IsRegionKept }
         ensures err { IfErr result (λ back. back ≡ opening) }
     {
-        let alloc = opening.files().allocator();
+        let alloc = opening.allocator();
         let units = Units::start(opening)?;
         Ok(Dispatcher {
             units,
@@ -103,19 +103,11 @@ impl Dispatcher {
         })
     }
 
-    /// What is kept by each step, as a fact that a caller may use.
-    pub(crate) fn keeps(&self)
-        ensures kept { IsRegionKept self.now }
-    {
-        let _units = &self.units;
-    }
-
     /// The open unit of work of the task of a label, if there is one.
     pub(crate) fn unit_of(&self, label: &Name8) -> Option<UnitId>
         ensures { (t : TaskValue) →
             task_at self.now.machine.tasks label.now ≡ Some t → result ≡ t.unit }
     {
-        let _units = &self.units;
         let at = self.tasks.find(label)?;
         self.tasks.get(at).unit()
     }
@@ -158,9 +150,8 @@ impl Dispatcher {
     pub fn attach(&mut self, label: Name8, _transaction: Name4, dtimout: u64) -> Result<(), Refused>
         ensures step { IsStep (attach_may_want self.old.machine label) self.old
             (attached self.old.machine label dtimout) result self.new }
-        ensures headline { IsHeadlineRegion self.new }
+        ensures kept { KeepsRegion self.old self.new }
     {
-        let _units = &self.units;
         if self.tasks.find(&label).is_some() {
             return Err(Refused::DuplicateLabel);
         }
@@ -171,9 +162,8 @@ impl Dispatcher {
     /// Sets the clock to so many seconds. It is refused where the clock would go back (`ClockBack`).
     pub fn set_clock(&mut self, now: u64) -> Result<(), Refused>
         ensures step { IsStep false self.old (clock_set self.old.machine now) result self.new }
-        ensures headline { IsHeadlineRegion self.new }
+        ensures kept { KeepsRegion self.old self.new }
     {
-        let _units = &self.units;
         if now < self.clock {
             return Err(Refused::ClockBack);
         }
@@ -182,7 +172,7 @@ impl Dispatcher {
     }
 
     // The key of the record that the task at a place has read for update in a file.
-    fn open_key(&self, at: usize, file: &Name8) -> Option<&Record>
+    fn open_key(&self, at: usize, file: &Name8) -> Option<&[u8]>
         requires within { at < length self.now.machine.tasks }
         ensures key { OfTask self.now.machine.tasks at
             (λ t. option_copied result ≡ open_key self.now.machine t file.now) }
@@ -192,37 +182,32 @@ impl Dispatcher {
         self.units.open_read(unit, file)
     }
 
-    // The definition of a file, if the file is defined.
+    // The definition of a file, if the file is defined. It is lawful, so that its keys have at most 255 bytes.
     fn definition(&self, name: &Name8) -> Option<FileDef>
-        ensures { result ≡ definition_of self.now.machine name.now }
+        ensures definition { result ≡ definition_of self.now.machine name.now }
+        ensures lawful { IfSome result (λ d. is_key d ≡ true) }
     {
         let file = self.units.file(name)?;
         Some(file.definition())
     }
 
-    // Whether the browse of a file of the task at a place was started with GENERIC, if one is open.
-    fn browse(&self, at: usize, name: &Name8) -> Option<bool>
-        requires within { at < length self.now.machine.tasks }
-        ensures { OfTask self.now.machine.tasks at
-            (λ t. result ≡ is_generic (value_at name.now t.browses)) }
-    {
-        let browse = self.tasks.get(at).browse(name)?;
-        Some(browse.is_generic())
-    }
-
-    // The first fault of a command of the task at a place.
+    // The first fault of a command of the task at a place. A file that isn't defined is DSIDERR.
     fn fault(&self, at: usize, verb: &Verb) -> Option<Condition>
         requires within { at < length self.now.machine.tasks }
         requires no_queue { asks_no_queue verb.now ≡ true }
         ensures fault { OfTask self.now.machine.tasks at
             (λ t. result ≡ fault_of self.now.machine t verb.now) }
+        ensures short { IfNone result (OfTask self.now.machine.tasks at
+            (λ t. IfSome (op_of self.now.machine t verb.now) (λ o. length (key_of o) ≤ 255))) }
     {
         let Some(name) = verb.file() else {
-            return fault_of_verb(verb, None, None, None);
+            return value_fault(verb);
         };
-        let definition = self.definition(name);
-        let browse = self.browse(at, name);
-        fault_of_verb(verb, definition, self.open_key(at, name), browse)
+        let Some(definition) = self.definition(name) else {
+            return Some(Condition::Dsiderr);
+        };
+        let browse = self.tasks.get(at).browse(name);
+        file_fault(definition, self.open_key(at, name), browse, verb)
     }
 
     // Ends the unit of the task at a place and its browses; the task ends too where that is said.
@@ -233,7 +218,7 @@ impl Dispatcher {
             (λ t. self.new.machine
             ≡ unit_closed self.old.machine t
             (if commits then Committed else BackedOut) has_ended) }
-        ensures headline { IsHeadlineRegion self.new }
+        ensures kept { KeepsRegion self.old self.new }
     {
         let unit = self.tasks.close_unit(at, has_ended);
         end_unit(&mut self.units, unit, commits);
@@ -244,7 +229,7 @@ impl Dispatcher {
         requires within { at < length self.old.machine.tasks }
         ensures machine { OfTask self.old.machine.tasks at
             (λ t. self.new.machine ≡ abended self.old.machine t) }
-        ensures headline { IsHeadlineRegion self.new }
+        ensures kept { KeepsRegion self.old self.new }
     {
         let label = self.tasks.get(at).label();
         let unit = self.tasks.close_unit(at, true);
@@ -255,12 +240,9 @@ impl Dispatcher {
     // Tells the task at a place a reply, or abends it for a condition that nothing handles.
     fn answer(&mut self, at: usize, resp: bool, reply: Reply) -> Outcome
         requires within { at < length self.old.machine.tasks }
-        ensures outcome { IsOutcomeOf self.old.machine at (λ t. answered self.old.machine t resp reply) result }
-        ensures machine { IsLeftBy self.old.machine at
-            (λ t. answered self.old.machine t resp reply) self.new.machine }
-        ensures headline { IsHeadlineRegion self.new }
+        ensures step { IsStepOf self.old at
+            (λ t. answered self.old.machine t resp reply) result self.new }
     {
-        let _units = &self.units;
         match reply.condition.default_abend() {
             Some(code) if !resp => {
                 self.abend(at);
@@ -270,54 +252,61 @@ impl Dispatcher {
         }
     }
 
-    // Makes a command of the task at a place wait, last of all, for a unit that another task has.
-    fn suspend(&mut self, at: usize, command: Command, holder: UnitId) -> Result<Outcome, NoMemory>
+    // Makes a command of the task at a place wait, last of all, for a unit that another task has. `op` is the updating
+    // command that it asks for.
+    fn suspend(
+        &mut self,
+        at: usize,
+        command: Command,
+        op: Option<Op>,
+        holder: UnitId,
+    ) -> Result<Outcome, NoMemory>
         requires within { at < length self.old.machine.tasks }
         requires awake { IsAwake self.old.machine at }
-        requires passed { PassesChecks self.old.machine at command.verb }
-        requires no_queue { asks_no_queue command.verb ≡ true }
+        requires ready { HasReady self.old.machine at command.verb op }
         requires is_open { IsOpenUnit self.old.machine.units holder }
-        ensures outcome { IfOk result (IsOutcomeOf self.old.machine at
-            (λ t. suspended self.old.machine t command holder)) }
-        ensures machine { OnOk result (IsLeftBy self.old.machine at
-            (λ t. suspended self.old.machine t command holder) self.new.machine) }
-        ensures headline { IsHeadlineRegion self.new }
-        ensures err { OnErr result (self.new ≡ self.old) }
+        ensures step { IsStepOrRefused self.old at
+            (λ t. suspended self.old.machine t command op holder) result self.new }
     {
-        let _units = &self.units;
         let label = self.tasks.get(at).label();
         let Some(owner) = self.tasks.label_of(holder) else {
             unreachable!();
         };
-        self.waits.begin(label, command, self.clock)?;
+        self.waits.begin(label, command, op, self.clock)?;
         Ok(Outcome::Waiting(owner))
     }
 
-    // Executes the updating command that a command of the task at a place asks for, or makes it wait.
-    fn update(&mut self, at: usize, command: Command, op: &Op) -> Result<Outcome, NoMemory>
+    // Executes an updating command that a command of the task at a place asks for, unless it has to wait.
+    fn execute(&mut self, at: usize, command: &Command, op: &Op) -> Result<Attempt, NoMemory>
         requires within { at < length self.old.machine.tasks }
         requires awake { IsAwake self.old.machine at }
-        requires passed { PassesChecks self.old.machine at command.verb }
-        requires no_queue { asks_no_queue command.verb ≡ true }
-        requires asked { OfTask self.old.machine.tasks at
-            (λ t. op_of self.old.machine t command.verb ≡ Some op.now) }
-        requires short { length (key_of op.now) ≤ 255 }
-        ensures outcome { IfOk result (IsOutcomeOf self.old.machine at
-            (executing self.old.machine command op.now)) }
-        ensures machine { OnOk result (IsLeftBy self.old.machine at
-            (executing self.old.machine command op.now) self.new.machine) }
-        ensures headline { IsHeadlineRegion self.new }
-        ensures err { OnErr result (self.new ≡ self.old) }
+        requires ready { HasReady self.old.machine at command.now.verb (Some op.now) }
+        ensures attempt { IsAttempt self.old at command.now (Some op.now) result self.new }
     {
         let unit = self.tasks.get(at).unit();
         self.tasks.make_room_for_unit()?;
         match self.units.execute(unit, op)? {
-            Done::MustWait(holder) => self.suspend(at, command, holder),
+            Done::MustWait(holder) => Ok(Attempt::MustWait(holder)),
             Done::Answered(unit, answer) => {
                 self.tasks.own_unit(at, unit);
                 let reply = reply_of_answer(answer, command.verb.length());
-                Ok(self.answer(at, command.resp, reply))
+                Ok(Attempt::Told(self.answer(at, command.resp, reply)))
             }
+        }
+    }
+
+    // Executes the updating command that a command of the task at a place asks for, or makes it wait.
+    fn update(&mut self, at: usize, command: Command, op: Op) -> Result<Outcome, NoMemory>
+        requires within { at < length self.old.machine.tasks }
+        requires may { MayPerform self.old.machine at command.verb }
+        requires asked { OfTask self.old.machine.tasks at
+            (λ t. op_of self.old.machine t command.verb ≡ Some op) }
+        ensures step { IsStepOrRefused self.old at
+            (going_on self.old.machine command (Some op)) result self.new }
+    {
+        match self.execute(at, &command, &op)? {
+            Attempt::Told(outcome) => Ok(outcome),
+            Attempt::MustWait(holder) => self.suspend(at, command, Some(op), holder),
         }
     }
 }

@@ -1,5 +1,6 @@
 //! What comes of an event.
 
+use cics_enqueue::UnitId;
 use cics_names::{AbendCode, Condition, Name8, NoMemory, Record};
 
 /// The number that a reply carries.
@@ -36,6 +37,15 @@ pub enum Outcome {
     Abended(AbendCode, Option<Reply>),
     /// The task has ended by RETURN.
     Ended,
+}
+
+/// What comes of trying a command: its task is told something, or it has to wait for a unit.
+#[derive(Drop)]
+pub(crate) enum Attempt {
+    /// What the task is told.
+    Told(Outcome),
+    /// An open unit that the command has to wait for.
+    MustWait(UnitId),
 }
 
 /// A waiting command that went on.

@@ -39,13 +39,15 @@ pub struct Region {
 
 impl Model for Region {
     ghost use Rattle.cics_dispatch.specs.Machine.{RegionValue};
+    ghost use Rattle.cics_dispatch.specs.Regions.{IsRegionKept};
     ghost use Rattle.cics_dispatch.specs.Settled.{IsRemembered};
 
     ghost Value = { RegionValue };
 
     ghost view = { λ r. r.dispatcher };
 
-    ghost invariant = { λ r. IsRemembered r.dispatcher.machine r.is_settled r.is_in_time r.blockers.keys };
+    ghost invariant = { λ r. IsRegionKept r.dispatcher
+        × IsRemembered r.dispatcher.machine r.is_settled r.is_in_time r.blockers.keys };
 }
 
 // Whether what was settled stays settled after a command: its task's unit is no blocker, or the command gives up nothing
@@ -75,7 +77,7 @@ impl Region {
         ensures headline { IfOk result IsHeadlineRegion }
         ensures err { IfErr result (λ back. back ≡ opening) }
     {
-        let alloc = opening.files().allocator();
+        let alloc = opening.allocator();
         let dispatcher = Dispatcher::new(opening)?;
         Ok(Region {
             dispatcher,
@@ -95,7 +97,6 @@ impl Region {
             (attached self.old.machine label dtimout) result self.new }
         ensures headline { IsHeadlineRegion self.new }
     {
-        self.dispatcher.keeps();
         self.dispatcher.attach(label, transaction, dtimout)
     }
 
@@ -122,7 +123,6 @@ impl Region {
             (issued self.old.machine label command) result self.new }
         ensures headline { IsHeadlineRegion self.new }
     {
-        self.dispatcher.keeps();
         let unit = self.dispatcher.unit_of(&label);
         let blocks = is_blocker(&self.blockers, unit);
         let keeps = self.dispatcher.is_keeping(&command.verb);
@@ -145,7 +145,6 @@ impl Region {
         ensures step { IsStep true self.old (always (woken self.old.machine)) result self.new }
         ensures headline { IsHeadlineRegion self.new }
     {
-        self.dispatcher.keeps();
         if self.is_settled {
             return Ok(None);
         }
@@ -172,7 +171,6 @@ impl Region {
         ensures machine { self.new.machine ≡ (expired self.old.machine).machine }
         ensures headline { IsHeadlineRegion self.new }
     {
-        self.dispatcher.keeps();
         if self.is_in_time {
             return None;
         }

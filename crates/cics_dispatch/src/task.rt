@@ -31,7 +31,13 @@ impl Model for Task {
 
     ghost Value = { TaskValue };
 
-    ghost view = { λ t. record { label = t.label; dtimout = t.dtimout; unit = t.unit; browses = t.browses; has_ended = t.has_ended } };
+    ghost view = { λ t. record {
+      label = t.label;
+      dtimout = t.dtimout;
+      unit = t.unit;
+      browses = t.browses;
+      has_ended = t.has_ended;
+    } };
 }
 
 impl Task {
@@ -105,7 +111,8 @@ impl Task {
     /// that it had.
     pub(crate) fn close_unit(&mut self, has_ended: bool) -> Option<UnitId>
         ensures unit { result ≡ self.old.unit }
-        ensures task { self.new ≡ record self.old { unit = None; browses = []; has_ended = has_ended } }
+        ensures task { self.new
+            ≡ record self.old { unit = None; browses = []; has_ended = has_ended } }
     {
         let unit = self.unit;
         self.unit = None;
@@ -139,7 +146,8 @@ impl Task {
         generic: bool,
         equal: bool,
     ) -> Option<Condition>
-        ensures condition { result ≡ reset_told records.now.records key generic equal file.now self.old.browses }
+        ensures condition { result
+            ≡ reset_told records.now.records key generic equal file.now self.old.browses }
         ensures task { self.new ≡ with_browses self.old
             (reset_moved records.now.records key generic equal file.now self.old.browses) }
     {

@@ -37,13 +37,13 @@ impl Model for Tasks {
     ghost use Rattle.std.specs.Prelude.{List};
     ghost use Rattle.std.specs.Map.{values_of};
     ghost use Rattle.cics_dispatch.specs.Machine.{Task as TaskValue};
-    ghost use Rattle.cics_dispatch.specs.Tasks.{AreKept};
+    ghost use Rattle.cics_dispatch.specs.Tasks.{AreTaskRowsKept};
 
     ghost Value = { List TaskValue };
 
     ghost view = { λ t. values_of t.rows.entries };
 
-    ghost invariant = { λ t. AreKept t.rows.entries };
+    ghost invariant = { λ t. AreTaskRowsKept t.rows.entries };
 }
 
 impl Tasks {
@@ -147,8 +147,7 @@ impl Tasks {
             slice_get self.old at ≡ Some t → t.unit ≡ Some u → u ≡ unit }
         ensures { HasChanged self.old at (λ t. with_unit t unit) self.new }
     {
-        let _rows = &self.rows;
-        if self.get(at).unit().is_none() {
+        if self.rows[at].unit().is_none() {
             self.begin_unit(at, unit);
         }
     }
@@ -189,7 +188,8 @@ impl Tasks {
     /// Ends the browse of a file of the task at a place, if one is open. Takes no memory.
     pub(crate) fn end_browse(&mut self, at: usize, file: &Name8)
         requires { at < length self.old }
-        ensures { HasChanged self.old at (λ t. with_browses t (without file.now t.browses)) self.new }
+        ensures { HasChanged self.old at
+            (λ t. with_browses t (without file.now t.browses)) self.new }
     {
         self.rows[at].end_browse(file);
     }

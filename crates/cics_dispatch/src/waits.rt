@@ -1,13 +1,14 @@
 //! The commands of a region that wait.
 
 ghost use Rattle.std.specs.Prelude.{◌≡◌, ◌↔◌, [], ◌∷◌, ◌++◌, false, length, IsTrue, OnOk, OnErr};
-ghost use Rattle.std.specs.Prelude.{IfErr, IfSome, option_map};
+ghost use Rattle.std.specs.Prelude.{IfSome};
 ghost use Rattle.std.specs.Option.{option_copied};
 ghost use Rattle.std.specs.Map.Iter.{ShowsInOrder, deref};
 ghost use Rattle.cics_dispatch.specs.Machine.{is_waiting, not_waiting};
 ghost use Rattle.cics_dispatch.specs.Waits.{wait_of, AreBelow};
 
 use cics_names::{Command, Name8, NoMemory};
+use cics_units::Op;
 use indexmap::IndexMap;
 use std::alloc::Global;
 use std::collections::BTreeMap;
@@ -19,6 +20,7 @@ use std::marker::Model;
 pub(crate) struct Suspended {
     label: Name8,
     command: Command,
+    op: Option<Op>,
     since: u64,
 }
 
@@ -27,7 +29,12 @@ impl Model for Suspended {
 
     ghost Value = { SuspendedValue };
 
-    ghost view = { λ w. record { label = w.label; command = w.command; since = w.since } };
+    ghost view = { λ w. record {
+      label = w.label;
+      command = w.command;
+      op = w.op;
+      since = w.since;
+    } };
 }
 
 impl Suspended {
@@ -43,6 +50,13 @@ impl Suspended {
         ensures { result.now ≡ self.now.command }
     {
         &self.command
+    }
+
+    /// The updating command that it asks for, or `None` of an ENQ, which asks for none.
+    pub(crate) fn op(&self) -> Option<&Op>
+        ensures { option_copied result ≡ self.now.op }
+    {
+        self.op.as_ref()
     }
 
     /// The clock when the wait began, in seconds.
@@ -88,21 +102,18 @@ fn next_number(rows: &BTreeMap<u64, Suspended>) -> Option<u64>
     }
 }
 
-// Adds a wait, last of all, under a number above those of all waits. Without memory it comes back.
+// Adds a wait, last of all, under a number above those of all waits.
 fn add(
     rows: &mut BTreeMap<u64, Suspended>,
     number: u64,
     suspended: Suspended,
-) -> Result<(), Suspended>
+) -> Result<(), NoMemory>
     requires { AreBelow number rows.old.entries }
     ensures ok { OnOk result (rows.new.entries ≡ rows.old.entries ++ (number, suspended) ∷ []) }
-    ensures err { IfErr result (λ back.
-        (back ≡ suspended) × (rows.new.entries ≡ rows.old.entries)) }
+    ensures err { OnErr result (rows.new.entries ≡ rows.old.entries) }
 {
-    match rows.insert(number, suspended) {
-        Ok(_) => Ok(()),
-        Err(refused) => Err(refused.value.1),
-    }
+    rows.insert(number, suspended)?;
+    Ok(())
 }
 
 impl Waits {
@@ -153,61 +164,49 @@ impl Waits {
         self.rows.values()
     }
 
-    /// Adds the wait of a command, last of all, where none of its task's waits. `since` is the clock, in seconds.
+    /// Adds the wait of a command, last of all, where none of its task's waits. `op` is the updating command that it
+    /// asks for, `since` the clock, in seconds.
     ///
-    /// `Err` gives the command back: memory was refused, or 2^64 - 1 waits have begun while never all had ended. All
-    /// waits are as they were then.
-    pub(crate) fn push(&mut self, label: Name8, command: Command, since: u64) -> Result<(), Command>
-        requires { is_waiting self.old label ≡ false }
-        ensures ok { OnOk result (self.new
-            ≡ self.old ++ record { label = label; command = command; since = since } ∷ []) }
-        ensures err { IfErr result (λ back. (back ≡ command) × (self.new ≡ self.old)) }
-    {
-        let Some(number) = next_number(&self.rows) else {
-            return Err(command);
-        };
-        if self.numbers.reserve(1).is_err() {
-            return Err(command);
-        }
-        let suspended = Suspended {
-            label,
-            command,
-            since,
-        };
-        if let Err(suspended) = add(&mut self.rows, number, suspended) {
-            return Err(suspended.command);
-        }
-        let _ = self.numbers.insert(label, number);
-        Ok(())
-    }
-
-    /// Adds the wait of a command as `push` does; where it is refused the command goes.
+    /// It is refused where memory is, or where 2^64 - 1 waits have begun while never all had ended. All waits are as
+    /// they were then, and the command goes.
     pub(crate) fn begin(
         &mut self,
         label: Name8,
         command: Command,
+        op: Option<Op>,
         since: u64,
     ) -> Result<(), NoMemory>
         requires { is_waiting self.old label ≡ false }
-        ensures ok { OnOk result (self.new
-            ≡ self.old ++ record { label = label; command = command; since = since } ∷ []) }
+        ensures ok { OnOk result (self.new ≡ self.old
+            ++ record { label = label; command = command; op = op; since = since } ∷ []) }
         ensures err { OnErr result (self.new ≡ self.old) }
     {
-        match self.push(label, command, since) {
-            Ok(()) => Ok(()),
-            Err(_) => Err(NoMemory),
+        let Some(number) = next_number(&self.rows) else {
+            return Err(NoMemory);
+        };
+        if self.numbers.reserve(1).is_err() {
+            return Err(NoMemory);
         }
+        let suspended = Suspended {
+            label,
+            command,
+            op,
+            since,
+        };
+        add(&mut self.rows, number, suspended)?;
+        let _ = self.numbers.insert(label, number);
+        Ok(())
     }
 
-    /// Ends the wait of a label's task, if a command of it waits, and gives the command. Takes no memory.
-    pub(crate) fn remove(&mut self, label: &Name8) -> Option<Command>
-        ensures command { result ≡ option_map (λ w. w.command) (wait_of self.old label.now) }
-        ensures others { self.new ≡ not_waiting self.old label.now }
+    /// Ends the wait of a label's task, if a command of it waits. Takes no memory.
+    pub(crate) fn remove(&mut self, label: &Name8)
+        ensures { self.new ≡ not_waiting self.old label.now }
     {
-        let number = self.numbers.swap_remove(label)?;
-        match self.rows.remove(&number) {
-            Some(suspended) => Some(suspended.command),
-            None => unreachable!(),
-        }
+        let Some(number) = self.numbers.swap_remove(label) else {
+            return;
+        };
+        let Some(_) = self.rows.remove(&number) else {
+            unreachable!();
+        };
     }
 }

@@ -2,7 +2,7 @@
 
 ghost use Rattle.std.specs.Prelude.{◌≡◌, ◌++◌, List, ℕ, OnOk, OnErr, IfOk, Ok, Option, true};
 ghost use Rattle.cics_history.specs.Openings.{OpeningState};
-ghost use Rattle.cics_units.specs.Faults.{IsRefused};
+ghost use Rattle.cics_units.specs.Faults.{AnswersFault};
 ghost use Rattle.cics_units.specs.declared.opening.DefineFault.{DefineFault};
 ghost use Rattle.cics_names.specs.Commands.{asks_no_queue};
 ghost use Rattle.cics_script.specs.Lines.{AsksNoQueue};
@@ -163,7 +163,7 @@ impl Stage {
         let Stage::Opening(opening) = self else {
             return Ok(());
         };
-        let nothing = Opening::new(opening.files().allocator());
+        let nothing = Opening::new(opening.allocator());
         match Region::new(replace(opening, nothing)) {
             Ok(region) => {
                 *self = Stage::Running(region);
@@ -193,7 +193,7 @@ fn print_definition(
     answer: Result<(), DefineFault>,
     out: &mut Vec<u8>,
 ) -> Result<bool, NoMemory>
-    ensures { (o next now : OpeningState) (fault : Option DefineFault) → IsRefused answer fault → OnOk answer (now ≡ next) → OnErr answer (now ≡ o)
+    ensures { (o next now : OpeningState) (fault : Option DefineFault) → AnswersFault answer fault → OnOk answer (now ≡ next) → OnErr answer (now ≡ o)
         → Leads (defined number o fault next) (OpeningStage now) out.old.items out.new.items result }
 {
     match answer {

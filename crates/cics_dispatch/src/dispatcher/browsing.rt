@@ -11,9 +11,8 @@ ghost use Rattle.cics_dispatch.specs.Machine.{Machine, definition_of, replaced, 
 ghost use Rattle.cics_dispatch.specs.Replies.{plain};
 ghost use Rattle.cics_dispatch.specs.Steps.{answered, unlocked, started, with_browse, reset};
 ghost use Rattle.cics_dispatch.specs.Steps.{browsed, browse_ended};
-ghost use Rattle.cics_dispatch.specs.Answers.{IsHeadlineRegion};
-ghost use Rattle.cics_dispatch.specs.Calls.{OfTask, IsAwake, HasBrowse, IsOutcomeOf, IsLeftBy};
-ghost use Rattle.cics_dispatch.specs.Calls.{reading, reading_next, reading_prev};
+ghost use Rattle.cics_dispatch.specs.Calls.{OfTask, IsAwake, HasBrowse, IsStepOf};
+ghost use Rattle.cics_dispatch.specs.Calls.{IsStepOrRefused, reading, reading_next, reading_prev};
 
 use crate::dispatcher::Dispatcher;
 use crate::outcomes::Outcome;
@@ -80,13 +79,8 @@ impl Dispatcher {
     ) -> Result<Outcome, NoMemory>
         requires within { at < length self.old.machine.tasks }
         requires there { is_some (definition_of self.old.machine name.now) ≡ true }
-        ensures outcome { IfOk result (IsOutcomeOf self.old.machine at
-            (reading self.old.machine resp name.now key.now limit generic gteq)) }
-        ensures machine { OnOk result (IsLeftBy self.old.machine at
-            (reading self.old.machine resp name.now key.now limit generic gteq)
-            self.new.machine) }
-        ensures headline { IsHeadlineRegion self.new }
-        ensures err { OnErr result (self.new ≡ self.old) }
+        ensures step { IsStepOrRefused self.old at
+            (reading self.old.machine resp name.now key.now limit generic gteq) result self.new }
     {
         let Some(file) = self.units.file(name) else {
             unreachable!();
@@ -99,13 +93,9 @@ impl Dispatcher {
     pub(super) fn unlock(&mut self, at: usize, resp: bool, name: &Name8) -> Outcome
         requires within { at < length self.old.machine.tasks }
         requires awake { IsAwake self.old.machine at }
-        ensures outcome { IsOutcomeOf self.old.machine at
+        ensures step { IsStepOf self.old at
             (λ t. answered (unlocked self.old.machine t.unit name.now) t resp
-            (plain Normal)) result }
-        ensures machine { IsLeftBy self.old.machine at
-            (λ t. answered (unlocked self.old.machine t.unit name.now) t resp
-            (plain Normal)) self.new.machine }
-        ensures headline { IsHeadlineRegion self.new }
+            (plain Normal)) result self.new }
     {
         let unit = self.tasks.get(at).unit();
         unlock_file(&mut self.units, unit, name);
@@ -125,12 +115,8 @@ impl Dispatcher {
         requires within { at < length self.old.machine.tasks }
         requires awake { IsAwake self.old.machine at }
         requires there { is_some (definition_of self.old.machine name) ≡ true }
-        ensures outcome { IfOk result (IsOutcomeOf self.old.machine at
-            (λ t. started self.old.machine t resp name key generic equal)) }
-        ensures machine { OnOk result (IsLeftBy self.old.machine at
-            (λ t. started self.old.machine t resp name key generic equal) self.new.machine) }
-        ensures headline { IsHeadlineRegion self.new }
-        ensures err { OnErr result (self.new ≡ self.old) }
+        ensures step { IsStepOrRefused self.old at
+            (λ t. started self.old.machine t resp name key generic equal) result self.new }
     {
         let Some(file) = self.units.file(&name) else {
             unreachable!();
@@ -152,13 +138,9 @@ impl Dispatcher {
         requires within { at < length self.old.machine.tasks }
         requires awake { IsAwake self.old.machine at }
         requires there { is_some (definition_of self.old.machine name.now) ≡ true }
-        ensures outcome { IsOutcomeOf self.old.machine at
+        ensures step { IsStepOf self.old at
             (λ t. reset self.old.machine t resp name.now key generic equal
-            (value_at name.now t.browses)) result }
-        ensures machine { IsLeftBy self.old.machine at
-            (λ t. reset self.old.machine t resp name.now key generic equal
-            (value_at name.now t.browses)) self.new.machine }
-        ensures headline { IsHeadlineRegion self.new }
+            (value_at name.now t.browses)) result self.new }
     {
         let Some(file) = self.units.file(name) else {
             unreachable!();
@@ -180,12 +162,8 @@ impl Dispatcher {
         requires awake { IsAwake self.old.machine at }
         requires there { is_some (definition_of self.old.machine name.now) ≡ true }
         requires browsing { HasBrowse self.old.machine at name.now }
-        ensures outcome { IfOk result (IsOutcomeOf self.old.machine at
-            (reading_next self.old.machine resp name.now limit)) }
-        ensures machine { OnOk result (IsLeftBy self.old.machine at
-            (reading_next self.old.machine resp name.now limit) self.new.machine) }
-        ensures headline { IsHeadlineRegion self.new }
-        ensures err { OnErr result (self.new ≡ self.old) }
+        ensures step { IsStepOrRefused self.old at
+            (reading_next self.old.machine resp name.now limit) result self.new }
     {
         let Some(file) = self.units.file(name) else {
             unreachable!();
@@ -208,12 +186,8 @@ impl Dispatcher {
         requires awake { IsAwake self.old.machine at }
         requires there { is_some (definition_of self.old.machine name.now) ≡ true }
         requires browsing { HasBrowse self.old.machine at name.now }
-        ensures outcome { IfOk result (IsOutcomeOf self.old.machine at
-            (reading_prev self.old.machine resp name.now limit)) }
-        ensures machine { OnOk result (IsLeftBy self.old.machine at
-            (reading_prev self.old.machine resp name.now limit) self.new.machine) }
-        ensures headline { IsHeadlineRegion self.new }
-        ensures err { OnErr result (self.new ≡ self.old) }
+        ensures step { IsStepOrRefused self.old at
+            (reading_prev self.old.machine resp name.now limit) result self.new }
     {
         let Some(file) = self.units.file(name) else {
             unreachable!();
@@ -228,11 +202,8 @@ impl Dispatcher {
     pub(super) fn end_browse(&mut self, at: usize, resp: bool, name: &Name8) -> Outcome
         requires within { at < length self.old.machine.tasks }
         requires awake { IsAwake self.old.machine at }
-        ensures outcome { IsOutcomeOf self.old.machine at
-            (λ t. browse_ended self.old.machine t resp name.now) result }
-        ensures machine { IsLeftBy self.old.machine at
-            (λ t. browse_ended self.old.machine t resp name.now) self.new.machine }
-        ensures headline { IsHeadlineRegion self.new }
+        ensures step { IsStepOf self.old at
+            (λ t. browse_ended self.old.machine t resp name.now) result self.new }
     {
         self.tasks.end_browse(at, name);
         self.answer(at, resp, plain_reply(Condition::Normal))

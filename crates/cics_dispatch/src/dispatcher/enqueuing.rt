@@ -1,21 +1,20 @@
 //! ENQ and DEQ of the tasks of a region.
 
-ghost use Rattle.std.specs.Prelude.{◌≡◌, ◌<◌, ◌≤◌, length, IfOk, OnOk, OnErr};
+ghost use Rattle.std.specs.Prelude.{◌≡◌, ◌<◌, ◌≤◌, None, length};
 ghost use Rattle.cics_names.specs.declared.conditions.Condition.TheVariants.{Normal};
-ghost use Rattle.cics_history.specs.Execution.{enqueue, IsOpenUnit, IsOpenOrNone};
+ghost use Rattle.cics_history.specs.Execution.{IsOpenUnit, IsOpenOrNone};
 ghost use Rattle.cics_history.specs.Headline.{IsHeadline};
 ghost use Rattle.cics_dispatch.specs.Replies.{plain};
-ghost use Rattle.cics_dispatch.specs.Steps.{answered, dequeued, units_dequeued};
-ghost use Rattle.cics_dispatch.specs.Answers.{IsHeadlineRegion};
-ghost use Rattle.cics_names.specs.declared.commands.Verb.TheVariants.{Enq};
-ghost use Rattle.cics_dispatch.specs.Calls.{IsAwake, IsOutcomeOf, IsLeftBy, enqueuing};
-ghost use Rattle.cics_dispatch.specs.Calls.{awaiting_value};
+ghost use Rattle.cics_dispatch.specs.Steps.{answered, busy_of, dequeued, made_to_wait};
+ghost use Rattle.cics_dispatch.specs.Steps.{units_dequeued};
+ghost use Rattle.cics_dispatch.specs.Calls.{IsAwake, HasReady, IsStepOf, IsStepOrRefused};
+ghost use Rattle.cics_dispatch.specs.Calls.{IsAttempt, going_on};
 
 use crate::dispatcher::Dispatcher;
-use crate::outcomes::Outcome;
+use crate::outcomes::{Attempt, Outcome};
 use crate::reads::plain_reply;
 use cics_enqueue::UnitId;
-use cics_names::{Command, Condition, NoMemory, Record, Verb};
+use cics_names::{Command, Condition, NoMemory, Verb};
 use cics_units::{Enqueued, Units};
 
 // Frees a value once for a unit, if there is one.
@@ -33,69 +32,72 @@ fn free_value(units: &mut Units, unit: Option<UnitId>, value: &[u8])
 }
 
 impl Dispatcher {
-    // An ENQ of a value that another unit holds: it waits, or with NOSUSPEND it is answered.
+    // ENQ that has to wait for a unit, which holds its value: it waits, or with NOSUSPEND it is answered.
     fn await_value(
         &mut self,
         at: usize,
-        resp: bool,
-        resource: Record,
-        count: u64,
-        nosuspend: bool,
+        command: Command,
         holder: UnitId,
     ) -> Result<Outcome, NoMemory>
         requires within { at < length self.old.machine.tasks }
         requires awake { IsAwake self.old.machine at }
-        requires count { (1 ≤ count) × (count ≤ 255) × (count ≤ length resource) }
+        requires ready { HasReady self.old.machine at command.verb None }
         requires is_open { IsOpenUnit self.old.machine.units holder }
-        ensures outcome { IfOk result (IsOutcomeOf self.old.machine at
-            (awaiting_value self.old.machine resource count nosuspend resp holder)) }
-        ensures machine { OnOk result (IsLeftBy self.old.machine at
-            (awaiting_value self.old.machine resource count nosuspend resp holder)
-            self.new.machine) }
-        ensures headline { IsHeadlineRegion self.new }
-        ensures err { OnErr result (self.new ≡ self.old) }
+        ensures step { IsStepOrRefused self.old at
+            (λ t. made_to_wait self.old.machine t command None holder (busy_of command.verb))
+            result self.new }
     {
-        if nosuspend {
-            return Ok(self.answer(at, resp, plain_reply(Condition::Enqbusy)));
-        }
-        let verb = Verb::Enq {
-            resource,
-            length: count,
-            nosuspend,
+        let Verb::Enq { nosuspend, .. } = &command.verb else {
+            unreachable!();
         };
-        self.suspend(at, Command { verb, resp }, holder)
+        if *nosuspend {
+            return Ok(self.answer(at, command.resp, plain_reply(Condition::Enqbusy)));
+        }
+        self.suspend(at, command, None, holder)
     }
 
-    // ENQ, of the first bytes of a value.
-    pub(super) fn enqueue(
-        &mut self,
-        at: usize,
-        resp: bool,
-        resource: Record,
-        count: u64,
-        nosuspend: bool,
-    ) -> Result<Outcome, NoMemory>
+    // Takes the value of an ENQ of the task at a place, unless it has to wait.
+    pub(super) fn take_value(&mut self, at: usize, command: &Command) -> Result<Attempt, NoMemory>
         requires within { at < length self.old.machine.tasks }
         requires awake { IsAwake self.old.machine at }
-        requires count { (1 ≤ count) × (count ≤ 255) × (count ≤ length resource) }
-        ensures outcome { IfOk result (IsOutcomeOf self.old.machine at
-            (enqueuing self.old.machine resource count nosuspend resp)) }
-        ensures machine { OnOk result (IsLeftBy self.old.machine at
-            (enqueuing self.old.machine resource count nosuspend resp) self.new.machine) }
-        ensures headline { IsHeadlineRegion self.new }
-        ensures err { OnErr result (self.new ≡ self.old) }
+        requires ready { HasReady self.old.machine at command.now.verb None }
+        ensures attempt { IsAttempt self.old at command.now None result self.new }
     {
+        let Verb::Enq {
+            resource,
+            length,
+            ..
+        } = &command.verb
+        else {
+            unreachable!();
+        };
         let unit = self.tasks.get(at).unit();
         self.tasks.make_room_for_unit()?;
-        match self.units.enq(unit, &resource.bytes()[..count as usize])? {
-            Enqueued::MustWait(holder) => {
-                self.await_value(at, resp, resource, count, nosuspend, holder)
+        match self.units.enq(unit, &resource.bytes()[..*length as usize])? {
+            Enqueued::MustWait(holder) => Ok(Attempt::MustWait(holder)),
+            Enqueued::CountFull => {
+                let reply = plain_reply(Condition::Invreq);
+                Ok(Attempt::Told(self.answer(at, command.resp, reply)))
             }
-            Enqueued::CountFull => Ok(self.answer(at, resp, plain_reply(Condition::Invreq))),
             Enqueued::Taken(unit) => {
                 self.tasks.own_unit(at, unit);
-                Ok(self.answer(at, resp, plain_reply(Condition::Normal)))
+                let reply = plain_reply(Condition::Normal);
+                Ok(Attempt::Told(self.answer(at, command.resp, reply)))
             }
+        }
+    }
+
+    // ENQ.
+    pub(super) fn enqueue(&mut self, at: usize, command: Command) -> Result<Outcome, NoMemory>
+        requires within { at < length self.old.machine.tasks }
+        requires awake { IsAwake self.old.machine at }
+        requires ready { HasReady self.old.machine at command.verb None }
+        ensures step { IsStepOrRefused self.old at
+            (going_on self.old.machine command None) result self.new }
+    {
+        match self.take_value(at, &command)? {
+            Attempt::Told(outcome) => Ok(outcome),
+            Attempt::MustWait(holder) => self.await_value(at, command, holder),
         }
     }
 
@@ -104,13 +106,9 @@ impl Dispatcher {
         requires within { at < length self.old.machine.tasks }
         requires awake { IsAwake self.old.machine at }
         requires most { length value.now ≤ 255 }
-        ensures outcome { IsOutcomeOf self.old.machine at
-            (λ t. answered (dequeued self.old.machine t.unit value.now) t resp
-            (plain Normal)) result }
-        ensures machine { IsLeftBy self.old.machine at
-            (λ t. answered (dequeued self.old.machine t.unit value.now) t resp
-            (plain Normal)) self.new.machine }
-        ensures headline { IsHeadlineRegion self.new }
+        ensures step { IsStepOf self.old at
+            (λ t. answered (dequeued self.old.machine t.unit value.now) t resp (plain Normal))
+            result self.new }
     {
         let unit = self.tasks.get(at).unit();
         free_value(&mut self.units, unit, value);

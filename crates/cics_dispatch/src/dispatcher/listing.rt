@@ -22,7 +22,6 @@ impl Dispatcher {
     fn task_state(&self, task: &Task) -> TaskState
         ensures { result ≡ task_state self.now.machine task.now }
     {
-        let _units = &self.units;
         if self.waits.is_waiting(&task.label()) {
             TaskState::IsWaiting
         } else if task.unit().is_some() {

@@ -1,22 +1,22 @@
 //! The commands of the tasks of a region, from the look at what other units hold on.
 
-ghost use Rattle.std.specs.Prelude.{◌≡◌, ◌<◌, ◌≤◌, true, false, Some, None, length, if◌then◌else◌};
-ghost use Rattle.std.specs.Prelude.{IsTrue, IfOk, IfSome, OnOk, OnErr};
-ghost use Rattle.cics_history.specs.Records.{key_of};
+ghost use Rattle.std.specs.Prelude.{◌≡◌, ◌<◌, true, false, None, length, if◌then◌else◌};
+ghost use Rattle.std.specs.Prelude.{IsTrue, IfOk, OnErr};
 ghost use Rattle.cics_dispatch.specs.Machine.{unit_closed};
-ghost use Rattle.cics_dispatch.specs.Steps.{op_of, code_of, performed, other_command, issued};
-ghost use Rattle.cics_dispatch.specs.Answers.{is_growing, may_want, IsStep, IsHeadlineRegion};
+ghost use Rattle.cics_dispatch.specs.Steps.{op_of, code_of, performed, issued};
+ghost use Rattle.cics_dispatch.specs.Answers.{is_growing, may_want, IsStep};
 ghost use Rattle.cics_names.specs.Commands.{asks_no_queue};
 ghost use Rattle.cics_dispatch.specs.Replies.{plain};
 ghost use Rattle.cics_names.specs.declared.conditions.Condition.TheVariants.{Normal};
 ghost use Rattle.cics_dispatch.specs.declared.outcomes.Outcome.TheVariants.{Replied};
 ghost use Rattle.cics_history.specs.declared.ops.UnitState.TheVariants.{Committed, BackedOut};
-ghost use Rattle.cics_dispatch.specs.Calls.{OfTask, IsAwake, PassesChecks, IsOutcomeOf, IsLeftBy};
+ghost use Rattle.cics_dispatch.specs.Calls.{OfTask, IsAwake, MayPerform, KeepsRegion};
+ghost use Rattle.cics_dispatch.specs.Calls.{IsStepOrRefused, going_on};
 
 use crate::dispatcher::Dispatcher;
 use crate::outcomes::{Outcome, Refused};
 use crate::reads::plain_reply;
-use crate::updates::updating;
+use crate::updates::asked_op;
 use cics_names::{AbendCode, Command, Condition, Name4, Name8, NoMemory, Verb};
 use cics_units::Op;
 
@@ -37,39 +37,27 @@ impl Dispatcher {
     // The updating command that a command of the task at a place asks for, if it asks for one.
     fn op(&self, at: usize, verb: &Verb) -> Result<Option<Op>, NoMemory>
         requires within { at < length self.now.machine.tasks }
-        requires passed { PassesChecks self.now.machine at verb.now }
-        requires no_queue { asks_no_queue verb.now ≡ true }
         ensures op { IfOk result (λ op. OfTask self.now.machine.tasks at
             (λ t. op ≡ op_of self.now.machine t verb.now)) }
-        ensures short { IfOk result (λ op. IfSome op (λ o. length (key_of o) ≤ 255)) }
         ensures growing { OnErr result (IsTrue (is_growing verb.now)) }
     {
         match verb.file() {
-            Some(name) => {
-                // The file's definition is lawful, so its keys have at most 255 bytes.
-                let _file = self.units.file(name);
-                updating(verb, self.open_key(at, name))
-            }
-            None => updating(verb, None),
+            Some(name) => asked_op(self.alloc, verb, self.open_key(at, name)),
+            None => asked_op(self.alloc, verb, None),
         }
     }
 
     // A command of the task at a place that updates nothing.
     fn perform_other(&mut self, at: usize, command: Command) -> Result<Outcome, NoMemory>
         requires within { at < length self.old.machine.tasks }
-        requires awake { IsAwake self.old.machine at }
-        requires passed { PassesChecks self.old.machine at command.verb }
-        requires no_queue { asks_no_queue command.verb ≡ true }
-        requires no_op { OfTask self.old.machine.tasks at
-            (λ t. op_of self.old.machine t command.verb ≡ None) }
-        ensures outcome { IfOk result (IsOutcomeOf self.old.machine at
-            (λ t. other_command self.old.machine t command command.verb)) }
-        ensures machine { OnOk result (IsLeftBy self.old.machine at
-            (λ t. other_command self.old.machine t command command.verb) self.new.machine) }
-        ensures headline { IsHeadlineRegion self.new }
-        ensures err { OnErr result (self.new ≡ self.old) }
+        requires may { MayPerform self.old.machine at command.verb }
+        ensures step { IsStepOrRefused self.old at
+            (going_on self.old.machine command None) result self.new }
         ensures growing { OnErr result (IsTrue (is_growing command.verb)) }
     {
+        if let Verb::Enq { .. } = &command.verb {
+            return self.enqueue(at, command);
+        }
         let Command { verb, resp } = command;
         match verb {
             Verb::Read {
@@ -98,11 +86,6 @@ impl Dispatcher {
             Verb::ReadNext { file, length } => self.read_next(at, resp, &file, length),
             Verb::ReadPrev { file, length } => self.read_prev(at, resp, &file, length),
             Verb::EndBr { file } => Ok(self.end_browse(at, resp, &file)),
-            Verb::Enq {
-                resource,
-                length,
-                nosuspend,
-            } => self.enqueue(at, resp, resource, length, nosuspend),
             Verb::Deq { resource, length } => {
                 Ok(self.dequeue(at, resp, &resource.bytes()[..length as usize]))
             }
@@ -129,29 +112,22 @@ impl Dispatcher {
             (λ t. self.new.machine
             ≡ unit_closed self.old.machine t
             (if commits then Committed else BackedOut) false) }
-        ensures headline { IsHeadlineRegion self.new }
+        ensures kept { KeepsRegion self.old self.new }
     {
         self.close(at, commits, false);
         Outcome::Replied(plain_reply(Condition::Normal))
     }
 
     // A command of the task at a place whose checks have passed.
-    pub(super) fn perform(&mut self, at: usize, command: Command) -> Result<Outcome, NoMemory>
+    fn perform(&mut self, at: usize, command: Command) -> Result<Outcome, NoMemory>
         requires within { at < length self.old.machine.tasks }
-        requires awake { IsAwake self.old.machine at }
-        requires passed { PassesChecks self.old.machine at command.verb }
-        requires no_queue { asks_no_queue command.verb ≡ true }
-        ensures outcome { IfOk result (IsOutcomeOf self.old.machine at
-            (λ t. performed self.old.machine t command)) }
-        ensures machine { OnOk result (IsLeftBy self.old.machine at
-            (λ t. performed self.old.machine t command) self.new.machine) }
-        ensures headline { IsHeadlineRegion self.new }
-        ensures err { OnErr result (self.new ≡ self.old) }
+        requires may { MayPerform self.old.machine at command.verb }
+        ensures step { IsStepOrRefused self.old at
+            (λ t. performed self.old.machine t command) result self.new }
         ensures growing { OnErr result (IsTrue (is_growing command.verb)) }
     {
-        let _units = &self.units;
         match self.op(at, &command.verb)? {
-            Some(op) => self.update(at, command, &op),
+            Some(op) => self.update(at, command, op),
             None => self.perform_other(at, command),
         }
     }
@@ -168,9 +144,8 @@ impl Dispatcher {
         requires no_queue { IsTrue (asks_no_queue command.verb) }
         ensures step { IsStep (may_want self.old.machine label command) self.old
             (issued self.old.machine label command) result self.new }
-        ensures headline { IsHeadlineRegion self.new }
+        ensures kept { KeepsRegion self.old self.new }
     {
-        let _units = &self.units;
         let Some(at) = self.tasks.find(&label) else {
             return Err(Refused::NoTask);
         };

@@ -1,28 +1,27 @@
 //! Waiting commands: which one goes on, and which one's time is over.
 
-ghost use Rattle.std.specs.Prelude.{◌≡◌, ◌<◌, [], ◌∷◌, All, Some, None, option_map, true, false};
-ghost use Rattle.std.specs.Prelude.{length, slice_get, IfOk, OnOk, OnErr, IfSome, IfNone};
+ghost use Rattle.std.specs.Prelude.{◌≡◌, ◌<◌, [], ◌∷◌, All, Some, None, true, false, length};
+ghost use Rattle.std.specs.Prelude.{slice_get, IfOk, OnErr, IfSome, IfNone};
 ghost use Rattle.std.specs.Option.{option_copied};
 ghost use Rattle.cics_history.specs.Execution.{IsOpenUnit};
-ghost use Rattle.cics_history.specs.Records.{key_of};
-ghost use Rattle.cics_dispatch.specs.Machine.{task_at, timed_out, with_waiting, not_waiting};
+ghost use Rattle.cics_dispatch.specs.Machine.{task_at, timed_out};
 ghost use Rattle.cics_dispatch.specs.Machine.{Suspended as SuspendedValue};
-ghost use Rattle.cics_names.specs.Commands.{asks_no_queue};
-ghost use Rattle.cics_dispatch.specs.KeptTasks.{HasPassed};
-ghost use Rattle.cics_dispatch.specs.Steps.{op_of, performed};
-ghost use Rattle.cics_dispatch.specs.Updates.{file_op};
-ghost use Rattle.cics_dispatch.specs.Waking.{expired, woken, first_free, first_late, holder_for};
-ghost use Rattle.cics_dispatch.specs.Waking.{is_late, may_go_on, resource_for};
+ghost use Rattle.cics_dispatch.specs.KeptTasks.{IsWaitKept};
+ghost use Rattle.cics_dispatch.specs.Waking.{expired, woken, woken_first, first_free, first_late};
+ghost use Rattle.cics_dispatch.specs.Waking.{is_late, may_go_on, awaited_by};
+ghost use Rattle.cics_dispatch.specs.Steps.{with_outcome};
 ghost use Rattle.cics_dispatch.specs.Settled.{AreAmong, IsBlocked};
 ghost use Rattle.cics_dispatch.specs.Waits.{wait_of};
-ghost use Rattle.cics_dispatch.specs.Answers.{IsStep, always, IsHeadlineRegion};
-ghost use Rattle.cics_dispatch.specs.Calls.{OfTask, PassesChecks, IsOutcomeOf, IsLeftBy};
+ghost use Rattle.cics_dispatch.specs.Answers.{IsStep, always};
+ghost use Rattle.cics_dispatch.specs.Calls.{OfTask, IsAwake, HasReady, KeepsRegion};
+ghost use Rattle.cics_dispatch.specs.Calls.{IsStepOrRefused};
+ghost use Rattle.cics_dispatch.specs.Calls.{IsAttempt, going_on};
 
 use crate::dispatcher::Dispatcher;
-use crate::outcomes::{Expired, Outcome, Refused, Woken};
+use crate::outcomes::{Attempt, Expired, Outcome, Refused, Woken};
 use crate::waits::{Suspended, Waits};
-use cics_enqueue::{Resource, UnitId};
-use cics_names::{AbendCode, Command, Name4, Name8, NoMemory, Record, Verb};
+use cics_enqueue::UnitId;
+use cics_names::{AbendCode, Name4, Name8, NoMemory, Verb};
 use indexmap::IndexSet;
 use std::mem;
 
@@ -36,82 +35,49 @@ fn time_out_code() -> AbendCode
     }
 }
 
-// The key of the record that an updating command on a file uses, where `open_key` is the key of its
-// task's open update read of the file. None of another command.
-fn used_key<'a>(verb: &'a Verb, open_key: Option<&'a Record>) -> Option<&'a Record>
-    ensures { option_copied result
-        ≡ option_map key_of (file_op (option_copied open_key.entry) verb.now) }
-{
-    match verb {
-        Verb::Read {
-            ridfld,
-            update: true,
-            ..
-        } => Some(ridfld),
-        Verb::Write { ridfld, .. } => Some(ridfld),
-        Verb::Rewrite { .. } => open_key,
-        Verb::Delete { ridfld, .. } => ridfld.as_ref().or(open_key),
-        _ => None,
-    }
-}
-
 impl Dispatcher {
-    // What a command of the task at a place needs that another unit may hold. Takes no memory.
-    fn asked(&self, at: usize, verb: &Verb) -> Option<Resource>
+    // The unit that a waiting command of the task at a place has to wait for, if it has to wait.
+    fn awaited(&self, at: usize, wait: &Suspended) -> Option<UnitId>
         requires within { at < length self.now.machine.tasks }
-        requires no_queue { asks_no_queue verb.now ≡ true }
-        requires passed { PassesChecks self.now.machine at verb.now }
-        ensures { OfTask self.now.machine.tasks at
-            (λ t. result ≡ resource_for verb.now (op_of self.now.machine t verb.now)) }
+        requires ready { HasReady self.now.machine at wait.now.command.verb wait.now.op }
+        ensures holder { OfTask self.now.machine.tasks at (λ t. result
+            ≡ awaited_by self.now.machine.units t.unit wait.now.command.verb wait.now.op) }
+        ensures is_open { IfSome result (IsOpenUnit self.now.machine.units) }
     {
-        if let Verb::Enq {
+        let asking = self.tasks.get(at).unit();
+        if let Some(op) = wait.op() {
+            return self.units.awaited(asking, op);
+        }
+        let Verb::Enq {
             resource,
             length,
             ..
-        } = verb
-        {
-            return Some(Resource::value(&resource.bytes()[0..*length as usize]));
-        }
-        let name = verb.file()?;
-        // The file's definition is lawful, so its keys have at most 255 bytes.
-        let _file = self.units.file(name);
-        let key = used_key(verb, self.open_key(at, name))?;
-        Some(Resource::record(*name, key.bytes()))
-    }
-
-    // The unit that a command of the task at a place has to wait for, if it has to wait.
-    fn awaited(&self, at: usize, verb: &Verb) -> Option<UnitId>
-        requires within { at < length self.now.machine.tasks }
-        requires no_queue { asks_no_queue verb.now ≡ true }
-        requires passed { PassesChecks self.now.machine at verb.now }
-        ensures holder { OfTask self.now.machine.tasks at
-            (λ t. result
-            ≡ holder_for self.now.machine t verb.now (op_of self.now.machine t verb.now)) }
-        ensures is_open { IfSome result (IsOpenUnit self.now.machine.units) }
-    {
-        let resource = self.asked(at, verb)?;
-        let asking = self.tasks.get(at).unit();
-        self.units.holder(asking, &resource)
+        } = &wait.command().verb
+        else {
+            unreachable!();
+        };
+        self.units
+            .value_holder(asking, &resource.bytes()[..*length as usize])
     }
 
     // Whether a waiting command needn't wait any more.
     fn may_go_on(&self, wait: &Suspended) -> bool
-        requires passed { HasPassed self.now.machine wait.now }
+        requires kept { IsWaitKept self.now.machine wait.now }
         ensures { result
             ≡ may_go_on self.now.machine wait.now (task_at self.now.machine.tasks wait.now.label) }
     {
-        let _units = &self.units;
         let Some(at) = self.tasks.find(&wait.label()) else {
             return false;
         };
-        self.awaited(at, &wait.command().verb).is_none()
+        self.awaited(at, wait).is_none()
     }
 
-    // The first waiting command that may go on, in the order in which the waits began.
-    fn first_free(&self) -> Option<&Suspended>
-        ensures { option_copied result ≡ first_free self.now.machine self.now.machine.waiting }
+    // The first of these waiting commands that may go on.
+    fn first_free<'w>(&self, waits: &'w Waits) -> Option<&'w Suspended>
+        requires kept { All (IsWaitKept self.now.machine) waits.now }
+        ensures { option_copied result ≡ first_free self.now.machine waits.now }
     {
-        for wait in self.waits.iter() {
+        for wait in waits.iter() {
             if self.may_go_on(wait) {
                 return Some(wait);
             }
@@ -121,12 +87,11 @@ impl Dispatcher {
 
     // The unit that a waiting command has to wait for, if it has to wait.
     fn blocker(&self, wait: &Suspended) -> Option<UnitId>
-        requires passed { HasPassed self.now.machine wait.now }
+        requires kept { IsWaitKept self.now.machine wait.now }
         ensures { IfSome result (λ unit. IsBlocked self.now.machine (unit ∷ []) wait.now) }
     {
-        let _units = &self.units;
         let at = self.tasks.find(&wait.label())?;
-        self.awaited(at, &wait.command().verb)
+        self.awaited(at, wait)
     }
 
     /// Adds to `blockers` the unit that each waiting command has to wait for. `false` where one needn't wait, or memory
@@ -160,7 +125,6 @@ impl Dispatcher {
             IsBlocked self.now.machine blockers.new.keys w }
         ensures more { AreAmong blockers.old.keys blockers.new.keys }
     {
-        let _units = &self.units;
         if !is_settled {
             return false;
         }
@@ -176,37 +140,53 @@ impl Dispatcher {
         true
     }
 
-    // Ends the wait of the task at a place and performs its command, which needn't wait any more.
-    fn go_on(&mut self, at: usize, command: Command) -> Result<Outcome, NoMemory>
+    // Tries a waiting command of the task at a place again, with what it asked for when it was issued.
+    fn attempt(&mut self, at: usize, wait: &Suspended) -> Result<Attempt, NoMemory>
         requires within { at < length self.old.machine.tasks }
-        requires passed { PassesChecks self.old.machine at command.verb }
-        requires no_queue { asks_no_queue command.verb ≡ true }
-        requires free { OfTask self.old.machine.tasks at
-            (λ t. holder_for self.old.machine t command.verb
-            (op_of self.old.machine t command.verb) ≡ None) }
-        ensures outcome { IfOk result (IsOutcomeOf self.old.machine at
-            (λ t. performed (with_waiting self.old.machine
-            (not_waiting self.old.machine.waiting t.label)) t command)) }
-        ensures machine { OnOk result (IsLeftBy self.old.machine at
-            (λ t. performed (with_waiting self.old.machine
-            (not_waiting self.old.machine.waiting t.label)) t command) self.new.machine) }
-        ensures headline { IsHeadlineRegion self.new }
+        requires awake { IsAwake self.old.machine at }
+        requires ready { HasReady self.old.machine at wait.now.command.verb wait.now.op }
+        ensures attempt { IsAttempt self.old at wait.now.command wait.now.op result self.new }
+    {
+        match wait.op() {
+            Some(op) => self.execute(at, wait.command(), op),
+            None => self.take_value(at, wait.command()),
+        }
+    }
+
+    // A command of the task at a place that waited, and needn't wait any more, goes on.
+    fn go_on(&mut self, at: usize, wait: &Suspended) -> Result<Outcome, NoMemory>
+        requires within { at < length self.old.machine.tasks }
+        requires awake { IsAwake self.old.machine at }
+        requires ready { HasReady self.old.machine at wait.now.command.verb wait.now.op }
+        requires free { OfTask self.old.machine.tasks at (λ t.
+            awaited_by self.old.machine.units t.unit wait.now.command.verb wait.now.op ≡ None) }
+        ensures step { IsStepOrRefused self.old at
+            (going_on self.old.machine wait.now.command wait.now.op) result self.new }
+    {
+        match self.attempt(at, wait)? {
+            Attempt::Told(outcome) => Ok(outcome),
+            Attempt::MustWait(_) => unreachable!(),
+        }
+    }
+
+    // Lets the first of these commands go on that needn't wait, where no other command waits.
+    fn wake_first(&mut self, waits: &Waits) -> Result<Option<Woken>, NoMemory>
+        requires alone { self.old.machine.waiting ≡ [] }
+        requires kept { All (IsWaitKept self.old.machine) waits.now }
+        ensures step { IfOk result (λ woken. with_outcome woken self.new.machine
+            ≡ woken_first self.old.machine (first_free self.old.machine waits.now)) }
+        ensures kept { KeepsRegion self.old self.new }
         ensures err { OnErr result (self.new ≡ self.old) }
     {
-        let label = self.tasks.get(at).label();
-        // The waits stand aside, whole, so that they come back without memory where the command wants it.
-        let mut waits = mem::replace(&mut self.waits, Waits::new(self.alloc));
-        match self.perform(at, command) {
-            Ok(outcome) => {
-                waits.remove(&label);
-                self.waits = waits;
-                Ok(outcome)
-            }
-            Err(want) => {
-                self.waits = waits;
-                Err(want)
-            }
-        }
+        let Some(wait) = self.first_free(waits) else {
+            return Ok(None);
+        };
+        let label = wait.label();
+        let Some(at) = self.tasks.find(&label) else {
+            return Ok(None);
+        };
+        let outcome = self.go_on(at, wait)?;
+        Ok(Some(Woken { label, outcome }))
     }
 
     /// Lets the first waiting command go on that needn't wait any more, and answers its task's label
@@ -217,25 +197,32 @@ impl Dispatcher {
     /// changes nothing then: the command waits as it did.
     pub fn wake(&mut self) -> Result<Option<Woken>, Refused>
         ensures step { IsStep true self.old (always (woken self.old.machine)) result self.new }
-        ensures headline { IsHeadlineRegion self.new }
+        ensures kept { KeepsRegion self.old self.new }
     {
-        let _units = &self.units;
-        let Some(wait) = self.first_free() else {
-            return Ok(None);
-        };
-        let label = wait.label();
-        let Some(at) = self.tasks.find(&label) else {
-            return Ok(None);
-        };
-        let command = wait.command().copy()?;
-        let outcome = self.go_on(at, command)?;
-        Ok(Some(Woken { label, outcome }))
+        // The waits stand aside, whole, so that a command that wants memory waits as it did.
+        let mut waits = mem::replace(&mut self.waits, Waits::new(self.alloc));
+        match self.wake_first(&waits) {
+            Ok(Some(woken)) => {
+                waits.remove(&woken.label);
+                self.waits = waits;
+                Ok(Some(woken))
+            }
+            Ok(None) => {
+                self.waits = waits;
+                Ok(None)
+            }
+            Err(_) => {
+                self.waits = waits;
+                Err(Refused::NoMemory)
+            }
+        }
     }
 
     // The place of a waiting command's task, if the task has waited too long.
     fn late(&self, wait: &Suspended) -> Option<usize>
         ensures late { IfSome result (λ at.
-            is_late self.now.machine wait.now (task_at self.now.machine.tasks wait.now.label) ≡ true) }
+            is_late self.now.machine wait.now (task_at self.now.machine.tasks wait.now.label)
+            ≡ true) }
         ensures task { IfSome result (λ at. slice_get self.now.machine.tasks at
             ≡ task_at self.now.machine.tasks wait.now.label) }
         ensures within { IfSome result (λ at. at < length self.now.machine.tasks) }
@@ -243,7 +230,6 @@ impl Dispatcher {
             (is_late self.now.machine wait.now (task_at self.now.machine.tasks wait.now.label)
             ≡ false) }
     {
-        let _units = &self.units;
         let at = self.tasks.find(&wait.label())?;
         let limit = self.tasks.get(at).dtimout();
         let waited = self.clock.saturating_sub(wait.since());
@@ -278,9 +264,8 @@ impl Dispatcher {
     pub fn expire(&mut self) -> Option<Expired>
         ensures outcome { result ≡ (expired self.old.machine).outcome }
         ensures machine { self.new.machine ≡ (expired self.old.machine).machine }
-        ensures headline { IsHeadlineRegion self.new }
+        ensures kept { KeepsRegion self.old self.new }
     {
-        let _units = &self.units;
         let at = self.first_late()?;
         let label = self.tasks.get(at).label();
         self.abend(at);

@@ -17,6 +17,14 @@ pub invariant_of-self : goal.invariant_of-self
 invariant_of-self c =
     let u = c.self.inside in
     let t = c.get.result.now in
-    abended_kept u.units u.tasks u.waits u.clock c.self.invariant c.end_unit.new.units c.close_unit-unit.new.self c.remove.new.self c.args.at t c.get.ensures
+    abended_kept c.self.invariant c.end_unit.new.units c.close_unit-unit.new.self c.remove.new.self c.args.at t c.get.ensures
     (c.end_unit.ensures.state ∙ ap (λ o. units_after u.units.state o BackedOut) (c.close_unit-unit.ensures.unit t c.get.ensures))
-    (c.close_unit-unit.ensures.task t c.get.ensures) (c.remove.ensures.others ∙ ap (not_waiting u.waits) c.label-label.ensures) c.end_unit.ensures.headline
+    (c.close_unit-unit.ensures.task t c.get.ensures) (c.remove.ensures ∙ ap (not_waiting u.waits) c.label-label.ensures) c.end_unit.ensures.headline
+
+pub returns-clause-kept : goal.returns-clause-kept
+returns-clause-kept c = λ was.
+    let u = c.self.inside in
+    let t = c.get.result.now in
+    abended_kept c.self.invariant c.end_unit.new.units c.close_unit-unit.new.self c.remove.new.self c.args.at t c.get.ensures
+    (c.end_unit.ensures.state ∙ ap (λ o. units_after u.units.state o BackedOut) (c.close_unit-unit.ensures.unit t c.get.ensures))
+    (c.close_unit-unit.ensures.task t c.get.ensures) (c.remove.ensures ∙ ap (not_waiting u.waits) c.label-label.ensures) c.end_unit.ensures.headline

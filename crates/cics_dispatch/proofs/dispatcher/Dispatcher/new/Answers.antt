@@ -24,3 +24,10 @@ invariant_of-result c =
     kept_as (region_of c.in_ok-units.units c.new.result c.new-2.result 0) (beginning_region o)
     (begun o c.in_ok-units.units c.new.result c.new-2.result c.in_ok-units.ensures.state c.new.ensures c.new-2.ensures) (kept_begins o)
     (owned_begins o) (record { headline = c.in_ok-units.ensures.headline })
+
+pub returns-clause-kept : goal.returns-clause-kept
+returns-clause-kept c =
+    let o = c.args.opening in
+    kept_as (region_of c.in_ok-units.units c.new.result c.new-2.result 0) (beginning_region o)
+    (begun o c.in_ok-units.units c.new.result c.new-2.result c.in_ok-units.ensures.state c.new.ensures c.new-2.ensures) (kept_begins o)
+    (owned_begins o) (record { headline = c.in_ok-units.ensures.headline })

@@ -1,22 +1,24 @@
-use Rattle.std.proofs.Common.{◌∙◌, sym, ap}
-use Rattle.cics_dispatch.proofs.RegionSteps.{place, IfOk-then, OnOk-then}
-use Rattle.cics_dispatch.proofs.RegionPerforming.{op_grows, on_error, performed_other}
+use Rattle.std.proofs.Common.{◌∙◌, sym, Some, None}
+use Rattle.cics_dispatch.specs.Calls.{going_on}
+use Rattle.cics_dispatch.specs.Steps.{performed}
+use Rattle.cics_dispatch.proofs.RegionSteps.{task_there, may_told_as}
+use Rattle.cics_dispatch.proofs.RegionPerforming.{op_grows, on_error, performed_by}
 use Rattle.cics_dispatch.proofs.dispatcher.Dispatcher.perform.Goals as goal
 
 pub returns-in-Some-clause-growing : goal.returns-in-Some-clause-growing
 returns-in-Some-clause-growing c =
     let m = c.args.self.now.machine in
-    on_error c.update.result (place m.tasks c.args.at c.requires.within (λ t there.
+    on_error c.update.result (task_there m.tasks c.args.at c.requires.within (λ t there.
     op_grows m t c.args.command.verb c.in-Some.op (sym (c.in_ok-op.ensures.op t there) ∙ c.in-Some.is)))
 
-pub returns-in-None-clause-outcome : goal.returns-in-None-clause-outcome
-returns-in-None-clause-outcome c =
+pub returns-in-Some-clause-step : goal.returns-in-Some-clause-step
+returns-in-Some-clause-step c =
     let m = c.args.self.now.machine in
-    IfOk-then c.perform_other.result (λ outcome told t there.
-    told t there ∙ ap (λ s. s.outcome) (performed_other m t c.args.command (sym (c.in_ok-op.ensures.op t there) ∙ c.in-None.is))) c.perform_other.ensures.outcome
+    may_told_as c.args.self.now c.update.new.self c.update.result c.args.at (going_on m c.args.command (Some c.in-Some.op)) (λ t. performed m t c.args.command)
+    (λ t there. performed_by m t c.args.command (Some c.in-Some.op) (sym (c.in_ok-op.ensures.op t there) ∙ c.in-Some.is)) c.update.ensures.step
 
-pub returns-in-None-clause-machine : goal.returns-in-None-clause-machine
-returns-in-None-clause-machine c =
+pub returns-in-None-clause-step : goal.returns-in-None-clause-step
+returns-in-None-clause-step c =
     let m = c.args.self.now.machine in
-    OnOk-then c.perform_other.result (λ told t there.
-    told t there ∙ ap (λ s. s.machine) (performed_other m t c.args.command (sym (c.in_ok-op.ensures.op t there) ∙ c.in-None.is))) c.perform_other.ensures.machine
+    may_told_as c.args.self.now c.perform_other.new.self c.perform_other.result c.args.at (going_on m c.args.command None) (λ t. performed m t c.args.command)
+    (λ t there. performed_by m t c.args.command None (sym (c.in_ok-op.ensures.op t there) ∙ c.in-None.is)) c.perform_other.ensures.step

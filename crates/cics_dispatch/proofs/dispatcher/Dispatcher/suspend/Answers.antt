@@ -1,11 +1,14 @@
-use Rattle.std.proofs.Common.{◌≡◌, ◌∙◌, sym, ap, subst, Some, None, ◌++◌, ◌∷◌, []}
-use Rattle.std.specs.Prelude.{slice_get}
-use Rattle.cics_dispatch.specs.Machine.{Task, with_waiting}
-use Rattle.cics_dispatch.specs.Checks.{fault_of}
+use Rattle.std.proofs.Common.{◌∙◌, sym, ap, subst, Ok}
 use Rattle.cics_dispatch.specs.Regions.{region_of}
-use Rattle.cics_dispatch.proofs.KeptTasks.{kept_suspended}
+use Rattle.cics_dispatch.specs.Calls.{HasReady, IsStepOrRefused}
+use Rattle.std.specs.Prelude.{◌++◌, ◌∷◌, []}
+use Rattle.cics_dispatch.specs.Machine.{with_waiting}
+use Rattle.cics_dispatch.proofs.KeptTasks.{begins_now, kept_suspended}
 use Rattle.cics_dispatch.proofs.OwnedUnits.{owned_suspended}
-use Rattle.cics_dispatch.proofs.RegionSteps.{kept_as}
+use Rattle.std.specs.Prelude.{unwrap_or}
+use Rattle.cics_dispatch.specs.Steps.{with_outcome, suspended}
+use Rattle.cics_dispatch.specs.declared.outcomes.Outcome.TheVariants.{Waiting}
+use Rattle.cics_dispatch.proofs.RegionSteps.{kept_as, one_task}
 use Rattle.cics_dispatch.proofs.dispatcher.Dispatcher.suspend.Goals as goal
 
 pub invariant_of-self-2 : goal.invariant_of-self-2
@@ -13,10 +16,10 @@ invariant_of-self-2 c =
     let u = c.self.inside in
     let m = (region_of u.units u.tasks u.waits u.clock).machine in
     let t = c.get.result.now in
-    kept_as (region_of u.units u.tasks c.begin.new.self u.clock) (with_waiting m (m.waiting ++ record { label = t.label; command = c.args.command; since = m.clock } ∷ []))
-    (λ i. record m { waiting = (c.in_ok-begin.ensures.ok ∙ ap (λ l. u.waits ++ record { label = l; command = c.args.command; since = u.clock } ∷ []) c.label-label.ensures) i })
-    (kept_suspended m c.args.at t c.args.command c.self.invariant.tasks c.get.ensures
-    (subst (λ v. (s : Task) → slice_get v.machine.tasks c.args.at ≡ Some s → fault_of v.machine s c.args.command.verb ≡ None) (sym c.self.view_is) c.requires.passed t c.get.ensures) c.requires.no_queue)
+    let ready = subst (λ v. HasReady v.machine c.args.at c.args.command.verb c.args.op) (sym c.self.view_is) c.requires.ready t c.get.ensures in
+    let began = c.in_ok-begin.ensures.ok ∙ ap (λ l. u.waits ++ begins_now l m c.args.command c.args.op ∷ []) c.label-label.ensures in
+    kept_as (region_of u.units u.tasks c.begin.new.self u.clock) (with_waiting m (m.waiting ++ begins_now t.label m c.args.command c.args.op ∷ []))
+    (λ i. record m { waiting = began i }) (kept_suspended m c.args.at t c.args.command c.args.op c.self.invariant.tasks c.get.ensures ready)
     (owned_suspended m _ c.self.invariant.owned) (record { headline = c.self.invariant.headline.headline })
 
 pub invariant_of-self : goal.invariant_of-self
@@ -25,3 +28,22 @@ invariant_of-self c =
     let m = (region_of u.units u.tasks u.waits u.clock).machine in
     kept_as (region_of u.units u.tasks c.begin.new.self u.clock) m (λ i. record m { waiting = c.in_err-begin.ensures.err i })
     c.self.invariant.tasks c.self.invariant.owned (record { headline = c.self.invariant.headline.headline })
+
+pub returns : goal.returns
+returns c =
+    let u = c.self.inside in
+    let m = (region_of u.units u.tasks u.waits u.clock).machine in
+    let t = c.get.result.now in
+    let command = c.args.command in
+    let op = c.args.op in
+    let new = region_of u.units u.tasks c.begin.new.self u.clock in
+    let ready = subst (λ v. HasReady v.machine c.args.at command.verb op) (sym c.self.view_is) c.requires.ready t c.get.ensures in
+    let began = c.in_ok-begin.ensures.ok ∙ ap (λ l. u.waits ++ begins_now l m command op ∷ []) c.label-label.ensures in
+    let owner = sym (ap (λ o. unwrap_or o []) c.in-Some.is) ∙ c.label_of.ensures.label in
+    record {
+      step = subst (λ v. IsStepOrRefused v c.args.at (λ s. suspended v.machine s command op c.args.holder) (Ok (Waiting c.in-Some.owner)) new) c.self.view_is (
+        (λ s other. (λ i. with_outcome (Waiting (owner i)) (with_waiting m (began i))) ∙ ap (λ x. suspended m x command op c.args.holder) (one_task u.tasks c.args.at c.get.ensures other)),
+        λ was. kept_as new (with_waiting m (m.waiting ++ begins_now t.label m command op ∷ [])) (λ i. record m { waiting = began i })
+            (kept_suspended m c.args.at t command op c.self.invariant.tasks c.get.ensures ready) (owned_suspended m _ c.self.invariant.owned) (record { headline = c.self.invariant.headline.headline }),
+      );
+    }

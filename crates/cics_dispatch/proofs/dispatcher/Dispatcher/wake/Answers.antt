@@ -1,39 +1,52 @@
-use Rattle.std.proofs.Common.{◌≡◌, ◌∙◌, ◌<◌, ap, subst, Ok, length, slice_get}
-use Rattle.cics_dispatch.specs.Machine.{task_at}
+use Rattle.std.proofs.Common.{◌≡◌, ◌∙◌, sym, ap, subst, refl, Ok}
+use Rattle.cics_dispatch.specs.Regions.{region_of}
+use Rattle.std.specs.Prelude.{[]}
+use Rattle.cics_dispatch.specs.Machine.{with_waiting}
+use Rattle.cics_dispatch.specs.Steps.{with_outcome}
+use Rattle.cics_dispatch.specs.Waking.{woken}
 use Rattle.cics_dispatch.specs.KeptTasks.{AreTasksKept}
-use Rattle.cics_dispatch.proofs.RegionWaking.{first_passed, first_no_queue, first_free_of_holders, woken_as}
+use Rattle.cics_dispatch.proofs.OwnedUnits.{owned_suspended}
+use Rattle.cics_dispatch.proofs.RegionSteps.{kept_as}
+use Rattle.cics_dispatch.proofs.RegionWaking.{woken_back, woken_kept}
 use Rattle.cics_dispatch.proofs.dispatcher.Dispatcher.wake.Goals as goal
 
-pub go_on-requires-clause-passed : goal.go_on-requires-clause-passed
-go_on-requires-clause-passed c =
-    let m = c.args.self.now.machine in
-    let kept : AreTasksKept m = subst (λ v. AreTasksKept v.machine) c.self.view_is c.self.invariant.tasks in
-    let command : c.in_ok-command.command ≡ c.in-Some.wait.now.command = c.in_ok-command.ensures ∙ c.command.ensures in
-    let task : slice_get m.tasks c.in-Some-find.at ≡ task_at m.tasks c.label-label.result = subst (λ v. slice_get v.machine.tasks c.in-Some-find.at ≡ task_at v.machine.tasks c.label-label.result) c.self.view_is c.in-Some-find.ensures.task in
-    first_passed m c.in-Some.wait.now c.in_ok-command.command c.label-label.result c.in-Some-find.at kept c.in-Some.ensures c.label-label.ensures command task
+pub invariant_of-self-in-Ok-Some : goal.invariant_of-self-in-Ok-Some
+invariant_of-self-in-Ok-Some c =
+    let u = c.self.inside in
+    let p = c.self-2.inside in
+    let m = (region_of u.units u.tasks u.waits u.clock).machine in
+    let n = (region_of p.units p.tasks p.waits p.clock).machine in
+    let w = c.in-Ok-Some.woken in
+    let none : c.replace-waits.new.dest ≡ [] = c.replace-waits.ensures.after ∙ c.new.ensures in
+    let back = woken_back m (region_of u.units u.tasks c.replace-waits.new.dest u.clock).machine n w c.in-Ok-Some.field-0 c.replace-waits.result c.remove.new.self c.self.invariant.tasks.waits
+    (λ i. with_waiting m (none i)) c.replace-waits.ensures.value c.in-Ok-Some.field-0-is (ap (λ r. with_outcome c.in-Ok-Some.field-0 r.machine) c.self-2.view_is ∙ c.in-Ok-Some.ensures.step) c.remove.ensures in
+    kept_as (region_of p.units p.tasks c.remove.new.self p.clock) (with_waiting n c.remove.new.self) refl
+    (subst AreTasksKept (sym (ap (λ s. s.machine) back)) (woken_kept m c.self.invariant.tasks))
+    (owned_suspended n c.remove.new.self c.self-2.invariant.owned) (record { headline = c.self-2.invariant.headline.headline })
 
-pub go_on-requires-clause-no_queue : goal.go_on-requires-clause-no_queue
-go_on-requires-clause-no_queue c =
-    let m = c.args.self.now.machine in
-    let kept : AreTasksKept m = subst (λ v. AreTasksKept v.machine) c.self.view_is c.self.invariant.tasks in
-    let command : c.in_ok-command.command ≡ c.in-Some.wait.now.command = c.in_ok-command.ensures ∙ c.command.ensures in
-    let task : slice_get m.tasks c.in-Some-find.at ≡ task_at m.tasks c.label-label.result = subst (λ v. slice_get v.machine.tasks c.in-Some-find.at ≡ task_at v.machine.tasks c.label-label.result) c.self.view_is c.in-Some-find.ensures.task in
-    first_no_queue m c.in-Some.wait.now c.in_ok-command.command c.label-label.result c.in-Some-find.at kept c.in-Some.ensures c.label-label.ensures command task
+pub returns-in-Ok-Some-clause-step : goal.returns-in-Ok-Some-clause-step
+returns-in-Ok-Some-clause-step c =
+    let u = c.self.inside in
+    let p = c.self-2.inside in
+    let m = (region_of u.units u.tasks u.waits u.clock).machine in
+    let n = (region_of p.units p.tasks p.waits p.clock).machine in
+    let w = c.in-Ok-Some.woken in
+    let none : c.replace-waits.new.dest ≡ [] = c.replace-waits.ensures.after ∙ c.new.ensures in
+    let back = woken_back m (region_of u.units u.tasks c.replace-waits.new.dest u.clock).machine n w c.in-Ok-Some.field-0 c.replace-waits.result c.remove.new.self c.self.invariant.tasks.waits
+    (λ i. with_waiting m (none i)) c.replace-waits.ensures.value c.in-Ok-Some.field-0-is (ap (λ r. with_outcome c.in-Ok-Some.field-0 r.machine) c.self-2.view_is ∙ c.in-Ok-Some.ensures.step) c.remove.ensures in
+    let is = back ∙ ap (λ v. woken v.machine) c.self.view_is in
+    (sym (ap (λ s. Ok s.outcome) is), ap (λ s. s.machine) is)
 
-pub go_on-requires-clause-free : goal.go_on-requires-clause-free
-go_on-requires-clause-free c =
-    let m = c.args.self.now.machine in
-    let kept : AreTasksKept m = subst (λ v. AreTasksKept v.machine) c.self.view_is c.self.invariant.tasks in
-    let command : c.in_ok-command.command ≡ c.in-Some.wait.now.command = c.in_ok-command.ensures ∙ c.command.ensures in
-    let task : slice_get m.tasks c.in-Some-find.at ≡ task_at m.tasks c.label-label.result = subst (λ v. slice_get v.machine.tasks c.in-Some-find.at ≡ task_at v.machine.tasks c.label-label.result) c.self.view_is c.in-Some-find.ensures.task in
-    first_free_of_holders m c.in-Some.wait.now c.in_ok-command.command c.label-label.result c.in-Some-find.at kept c.in-Some.ensures c.label-label.ensures command task
-
-pub returns-clause-step : goal.returns-clause-step
-returns-clause-step c =
-    let m = c.args.self.now.machine in
-    let kept : AreTasksKept m = subst (λ v. AreTasksKept v.machine) c.self.view_is c.self.invariant.tasks in
-    let command : c.in_ok-command.command ≡ c.in-Some.wait.now.command = c.in_ok-command.ensures ∙ c.command.ensures in
-    let task : slice_get m.tasks c.in-Some-find.at ≡ task_at m.tasks c.label-label.result = subst (λ v. slice_get v.machine.tasks c.in-Some-find.at ≡ task_at v.machine.tasks c.label-label.result) c.self.view_is c.in-Some-find.ensures.task in
-    let within : c.in-Some-find.at < length m.tasks = subst (λ v. c.in-Some-find.at < length v.machine.tasks) c.self.view_is c.in-Some-find.ensures.within in
-    let is = woken_as m c.in-Some.wait.now c.in_ok-command.command c.label-label.result c.in-Some-find.at kept c.in-Some.ensures c.label-label.ensures command task c.in_ok-outcome.outcome c.go_on.new.self.machine within c.in_ok-outcome.ensures.outcome c.in_ok-outcome.ensures.machine in
-    (ap Ok is.0, is.1)
+pub returns-in-Ok-Some-clause-kept : goal.returns-in-Ok-Some-clause-kept
+returns-in-Ok-Some-clause-kept c = λ was.
+    let u = c.self.inside in
+    let p = c.self-2.inside in
+    let m = (region_of u.units u.tasks u.waits u.clock).machine in
+    let n = (region_of p.units p.tasks p.waits p.clock).machine in
+    let w = c.in-Ok-Some.woken in
+    let none : c.replace-waits.new.dest ≡ [] = c.replace-waits.ensures.after ∙ c.new.ensures in
+    let back = woken_back m (region_of u.units u.tasks c.replace-waits.new.dest u.clock).machine n w c.in-Ok-Some.field-0 c.replace-waits.result c.remove.new.self c.self.invariant.tasks.waits
+    (λ i. with_waiting m (none i)) c.replace-waits.ensures.value c.in-Ok-Some.field-0-is (ap (λ r. with_outcome c.in-Ok-Some.field-0 r.machine) c.self-2.view_is ∙ c.in-Ok-Some.ensures.step) c.remove.ensures in
+    kept_as (region_of p.units p.tasks c.remove.new.self p.clock) (with_waiting n c.remove.new.self) refl
+    (subst AreTasksKept (sym (ap (λ s. s.machine) back)) (woken_kept m c.self.invariant.tasks))
+    (owned_suspended n c.remove.new.self c.self-2.invariant.owned) (record { headline = c.self-2.invariant.headline.headline })

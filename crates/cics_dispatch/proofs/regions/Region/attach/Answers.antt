@@ -6,6 +6,8 @@ use Rattle.cics_dispatch.proofs.regions.Region.attach.Goals as goal
 pub invariant_of-self : goal.invariant_of-self
 invariant_of-self c =
     let u = c.self.inside in
-    let m = u.dispatcher.machine in
-    after_step (λ m. IsRemembered m u.is_settled u.is_in_time u.blockers.keys) _ u.dispatcher c.attach.new.self (attached m c.args.label c.args.dtimout) c.attach.result c.attach.ensures.step c.self.invariant
-    (remembered_attached m c.args.label c.args.dtimout u.is_settled u.is_in_time u.blockers.keys c.keeps.ensures.kept.tasks c.self.invariant)
+    let m = u.dispatcher.machine in (
+      c.attach.ensures.kept c.self.invariant.0,
+      after_step (λ m. IsRemembered m u.is_settled u.is_in_time u.blockers.keys) _ u.dispatcher c.attach.new.self (attached m c.args.label c.args.dtimout) c.attach.result c.attach.ensures.step c.self.invariant.1
+          (remembered_attached m c.args.label c.args.dtimout u.is_settled u.is_in_time u.blockers.keys c.self.invariant.0.tasks c.self.invariant.1),
+    )

@@ -7,6 +7,8 @@ use Rattle.cics_dispatch.proofs.regions.Region.set_clock.Goals as goal
 pub invariant_of-self : goal.invariant_of-self
 invariant_of-self c =
     let u = c.self.inside in
-    let m = u.dispatcher.machine in
-    after_step (λ m. IsRemembered m u.is_settled false u.blockers.keys) _ u.dispatcher c.set_clock.new.self (clock_set m c.args.now) c.set_clock.result c.set_clock.ensures.step
-    (remembered_late m u.is_settled u.is_in_time u.blockers.keys c.self.invariant) (remembered_clock m c.args.now u.is_settled u.is_in_time u.blockers.keys c.self.invariant)
+    let m = u.dispatcher.machine in (
+      c.set_clock.ensures.kept c.self.invariant.0,
+      after_step (λ m. IsRemembered m u.is_settled false u.blockers.keys) _ u.dispatcher c.set_clock.new.self (clock_set m c.args.now) c.set_clock.result c.set_clock.ensures.step
+          (remembered_late m u.is_settled u.is_in_time u.blockers.keys c.self.invariant.1) (remembered_clock m c.args.now u.is_settled u.is_in_time u.blockers.keys c.self.invariant.1),
+    )
