@@ -13,25 +13,21 @@ pub(crate) const KEYED: FileDef = FileDef {
     recoverable: true,
 };
 
-// Defines a file of these records, which have a stroke between them.
-fn define(
+// A name; NotThere for a text that is none.
+fn named(name: &str) -> Result<Name8, DefineFault> {
+    Name8::new(name.as_bytes()).map_err(|_| DefineFault::NotThere)
+}
+
+/// Loads these records, which have a stroke between them, to a file.
+pub(crate) fn load_all(
     opening: &mut Opening,
     alloc: Global,
     name: &str,
-    recoverable: bool,
     records: &str,
 ) -> Result<(), DefineFault> {
-    let Ok(name) = Name8::new(name.as_bytes()) else {
-        return Err(DefineFault::NotThere);
-    };
-    let definition = FileDef {
-        recoverable,
-        ..KEYED
-    };
-    opening.define_file(name, definition)?;
     for record in records.split('|') {
         if !record.is_empty() {
-            opening.load_file(name, Record::from_slice(alloc, record.as_bytes())?)?;
+            opening.load_file(named(name)?, Record::from_slice(alloc, record.as_bytes())?)?;
         }
     }
     Ok(())
@@ -41,8 +37,14 @@ fn define(
 /// stroke between them.
 pub(crate) fn opened(alloc: Global, records: &str) -> Result<Opening, DefineFault> {
     let mut opening = Opening::new(alloc);
-    define(&mut opening, alloc, "ACCT", true, records)?;
-    define(&mut opening, alloc, "LOG", false, records)?;
+    for (name, recoverable) in [("ACCT", true), ("LOG", false)] {
+        let definition = FileDef {
+            recoverable,
+            ..KEYED
+        };
+        opening.define_file(named(name)?, definition)?;
+        load_all(&mut opening, alloc, name, records)?;
+    }
     Ok(opening)
 }
 

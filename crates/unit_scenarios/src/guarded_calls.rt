@@ -1,21 +1,24 @@
 //! Calls on units for tests: each sees to what its call needs, and tells where that isn't so.
 
-ghost use Rattle.std.specs.Prelude.{◌≡◌, ◌&&◌, true, IsTrue};
+ghost use Rattle.std.specs.Prelude.{◌≡◌, true};
 ghost use Rattle.std.specs.Option.{option_copied};
 ghost use Rattle.cics_names.specs.Keyed.{value_at, has_key, is_same};
-ghost use Rattle.cics_history.specs.Execution.{has_read, is_fit_for, is_ready_op, IsOpenUnit, IsOpenOrNone};
+ghost use Rattle.cics_history.specs.Execution.{has_read, read_at, is_fit_for, is_item, is_ready_op};
+ghost use Rattle.cics_history.specs.Execution.{is_short_key};
+ghost use Rattle.cics_history.specs.Execution.{IsOpenUnit, IsOpenOrNone};
 ghost use Rattle.cics_units.specs.OpenReads.{is_read_key};
-ghost use Rattle.cics_history.specs.Records.{is_file_op};
 
-use cics_enqueue::{Resource, UnitId};
-use cics_names::{Condition, Name8, NoMemory, Record};
-use cics_units::{Done, Enqueued, Op, SerialUnits, UnitState, Units};
+use cics_enqueue::UnitId;
+use cics_names::{Name4, Name8, NoMemory, Record};
+use cics_units::{Answer, Done, Enqueued, Op, SerialUnits, UnitState, Units};
 
 /// What came of a call; units are told by their numbers.
-#[derive(Clone, Copy, Debug, PartialEq, Eq)]
+#[derive(Drop)]
 pub(crate) enum Told {
-    /// The command was executed for this unit, with this condition.
-    Answered(u64, Condition),
+    /// The command was executed for this unit, with this answer.
+    Answered(u64, Answer),
+    /// READQ TS, which is of no unit, was answered so.
+    Read(Answer),
     /// The value is this unit's.
     Taken(u64),
     /// The unit has taken the value as often as it may.
@@ -45,12 +48,19 @@ fn is_open_or_none(units: &Units, unit: Option<UnitId>) -> bool
     }
 }
 
+/// The key of the record that a unit has read for update in a file, if it has.
+pub(crate) fn read_key<'a>(units: &'a Units, unit: UnitId, file: &Name8) -> Option<&'a [u8]>
+    ensures { option_copied result ≡ read_at units.now.state.reads unit file.now }
+{
+    units.open_read(unit, file)
+}
+
 // The key that a unit, if it is one, has read for update in a file.
-fn has_read<'a>(units: &'a Units, unit: Option<UnitId>, file: &Name8) -> Option<&'a Record>
+fn has_read<'a>(units: &'a Units, unit: Option<UnitId>, file: &Name8) -> Option<&'a [u8]>
     ensures { option_copied result ≡ has_read units.now.state unit file.now }
 {
     match unit {
-        Some(unit) => units.open_read(unit, file),
+        Some(unit) => read_key(units, unit, file),
         None => None,
     }
 }
@@ -60,7 +70,7 @@ fn has_read_key(units: &Units, unit: Option<UnitId>, file: &Name8, key: &Record)
     ensures { result ≡ is_read_key (has_read units.now.state unit file.now) key.now }
 {
     match has_read(units, unit, file) {
-        Some(read) => read.bytes() == key.bytes(),
+        Some(read) => read == key.bytes(),
         None => false,
     }
 }
@@ -85,35 +95,63 @@ fn is_fit(units: &Units, file: &Name8, key: &Record, from: &Record) -> bool
     }
 }
 
-// Whether a command on a file may be executed for a unit, or for the next one.
+// Whether a transient data queue is defined.
+fn is_queue(units: &Units, queue: &Name4) -> bool
+    ensures { result ≡ has_key queue.now units.now.state.opening.queues }
+{
+    units.td_recovery(queue).is_some()
+}
+
+// Whether an item or a record of a queue has as many bytes as it may have.
+fn is_item(from: &Record) -> bool
+    ensures { result ≡ is_item from.now }
+{
+    let size = from.len() as u64;
+    1 <= size && size <= 32_767
+}
+
+// Whether a key, or a prefix of keys, has as many bytes as it may have.
+fn is_short(key: &Record) -> bool
+    ensures { result ≡ is_short_key key.now }
+{
+    key.len() <= 255
+}
+
+// Whether a command may be executed for a unit, or for the next one.
 fn is_ready(units: &Units, unit: Option<UnitId>, op: &Op) -> bool
-    ensures { result ≡ is_file_op op.now && is_ready_op units.now.state unit op.now }
+    ensures { result ≡ is_ready_op units.now.state unit op.now }
 {
     match op {
         Op::Write { file, key, from } => is_fit(units, file, key, from),
         Op::Rewrite { file, key, from } => {
             is_fit(units, file, key, from) && has_read_key(units, unit, file, key)
         }
-        Op::Delete { file, .. } | Op::DeleteGeneric { file, .. } => is_defined(units, file),
-        Op::ReadUpdate { file, .. } => {
-            is_defined(units, file) && has_read(units, unit, file).is_none()
+        Op::Delete { file, key } => is_defined(units, file) && is_short(key),
+        Op::DeleteGeneric { file, prefix } => is_defined(units, file) && is_short(prefix),
+        Op::ReadUpdate { file, key } => {
+            is_defined(units, file) && is_short(key) && has_read(units, unit, file).is_none()
         }
-        _ => false,
+        Op::TsWrite { from, .. } | Op::TsRewrite { from, .. } => is_item(from),
+        Op::TsDelete { .. } => true,
+        Op::TdWrite { queue, from } => is_queue(units, queue) && is_item(from),
+        Op::TdRead { queue } | Op::TdDelete { queue } => is_queue(units, queue),
+    }
+}
+
+// What came of a command.
+fn told_of(done: Done) -> Told {
+    match done {
+        Done::Answered(acting, answer) => Told::Answered(acting.number(), answer),
+        Done::MustWait(holder) => Told::Waits(holder.number()),
     }
 }
 
 /// Executes a command where that may be done, and tells what came of it.
 pub(crate) fn execute(units: &mut Units, unit: Option<UnitId>, op: &Op) -> Result<Told, NoMemory> {
-    let Some((_, key)) = op.record() else {
-        return Ok(Told::MayNot);
-    };
-    if key.len() > 255 || !is_open_or_none(units, unit) || !is_ready(units, unit, op) {
+    if !is_open_or_none(units, unit) || !is_ready(units, unit, op) {
         return Ok(Told::MayNot);
     }
-    Ok(match units.execute(unit, op)? {
-        Done::Answered(acting, answer) => Told::Answered(acting.number(), answer.condition),
-        Done::MustWait(holder) => Told::Waits(holder.number()),
-    })
+    Ok(told_of(units.execute(unit, op)?))
 }
 
 /// Executes a command of units that take turns, where that may be done, and tells what came of it.
@@ -122,16 +160,21 @@ pub(crate) fn execute_in_turn(
     unit: Option<UnitId>,
     op: &Op,
 ) -> Result<Told, NoMemory> {
-    let Some((_, key)) = op.record() else {
-        return Ok(Told::MayNot);
-    };
-    if key.len() > 255 || !is_open_or_none(all.units(), unit) || !is_ready(all.units(), unit, op) {
+    if !is_open_or_none(all.units(), unit) || !is_ready(all.units(), unit, op) {
         return Ok(Told::MayNot);
     }
-    Ok(match all.execute(unit, op)? {
-        Done::Answered(acting, answer) => Told::Answered(acting.number(), answer.condition),
-        Done::MustWait(holder) => Told::Waits(holder.number()),
-    })
+    Ok(told_of(all.execute(unit, op)?))
+}
+
+/// The unit that a command of a unit, or of the next one to begin, has to wait for.
+pub(crate) fn awaited(units: &Units, unit: Option<UnitId>, op: &Op) -> Option<UnitId> {
+    // A copy for each call that the unit is handed to.
+    let open = unit;
+    let ready = unit;
+    if !is_open_or_none(units, open) || !is_ready(units, ready, op) {
+        return None;
+    }
+    units.awaited(unit, op)
 }
 
 /// Commits a unit of those that take turns, where it is open.
@@ -195,10 +238,10 @@ pub(crate) fn outcome(units: &Units, unit: UnitId) -> Option<UnitState> {
     }
 }
 
-/// The unit that holds the record of a key against a task without a unit.
-pub(crate) fn holder(units: &Units, file: Name8, key: &[u8]) -> Option<UnitId> {
-    if key.len() > 255 {
+/// The unit that an ENQ of a value has to wait for.
+pub(crate) fn value_holder(units: &Units, unit: Option<UnitId>, value: &[u8]) -> Option<UnitId> {
+    if value.len() > 255 {
         return None;
     }
-    units.holder(None, &Resource::record(file, key))
+    units.value_holder(unit, value)
 }

@@ -5,6 +5,12 @@
 #![tactic(auto)]
 
 #[cfg(test)]
+mod answers;
+#[cfg(test)]
+mod commands;
+#[cfg(test)]
+mod ends;
+#[cfg(test)]
 mod enqueues;
 #[cfg(test)]
 mod fixtures;
@@ -14,6 +20,10 @@ mod generic;
 mod guarded_calls;
 #[cfg(test)]
 mod looks;
+#[cfg(test)]
+mod many;
+#[cfg(test)]
+mod nothing_left;
 #[cfg(test)]
 mod openings;
 #[cfg(test)]
@@ -26,5 +36,9 @@ mod replays;
 mod scenarios;
 #[cfg(test)]
 mod side_by_side;
+#[cfg(test)]
+mod temp_storage;
+#[cfg(test)]
+mod trans_data;
 #[cfg(test)]
 mod turns;

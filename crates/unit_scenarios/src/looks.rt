@@ -2,19 +2,26 @@
 //!
 //! - `file ACCT`, `loaded ACCT`: the records of a file as it stands, and as it was loaded, with a
 //!   stroke between them; `empty` without a record, and `none` without a file;
+//! - `intervals ACCT`: how many control intervals a file has;
+//! - `ts QUEUE`: `recoverable` or `plain` and the items of a temporary storage queue, a stroke between them,
+//!   or `none`; `place QUEUE`: its NEXT place;
+//! - `td DEST`: `logical`, `physical` or `none` and the records of a transient data queue, a stroke between
+//!   them, or `no` where none is defined; `recovery DEST`: the first word of these alone;
 //! - `read 0 ACCT`: the key of the record that a unit has read for update in a file, or `none`;
-//! - `holder ACCT k1`: the unit that holds a record against a task without a unit, or `none`;
+//! - `awaited - delete ACCT k1`: the unit that a command of this unit, or of the next one to begin, would
+//!   have to wait for, or `none`; `value 0 A`: the unit that an ENQ would have to wait for;
 //! - `outcome 0`: how a unit stands, or `none` where it has yet to begin;
-//! - `entry 0`: the condition of an executed command, and the record that it read;
+//! - `entry 0`: what an executed command was answered;
 //! - `entries`, `units`: how many commands were executed, and how many units have begun.
 
-use crate::guarded_calls::{holder, outcome};
-use crate::scenarios::cut;
+use crate::answers::{is_answered, is_number};
+use crate::commands::command;
+use crate::guarded_calls::{awaited, outcome, read_key, value_holder};
+use crate::scenarios::{cut, number_of};
 use cics_enqueue::UnitId;
-use cics_ksds::File;
 use cics_names::{Items, Name4, Name8, NoMemory, Record};
 use cics_transdata::Recovery;
-use cics_units::{UnitState, Units};
+use cics_units::{Listing, UnitState, Units, plain_replay};
 use std::alloc::Global;
 
 // The records with a stroke between them.
@@ -95,22 +102,105 @@ pub(crate) fn is_td_listed(
     Ok(listed.len() == queues.lines().count())
 }
 
-// Whether a text lists the records of a file.
-fn is_file(file: Option<&File>, alloc: Global, text: &str) -> Result<bool, NoMemory> {
-    let Some(file) = file else {
+// Whether a text is these records, as far as they are there.
+fn is_file(records: Option<&Items<Record>>, alloc: Global, text: &str) -> Result<bool, NoMemory> {
+    let Some(records) = records else {
         return Ok(text == "none");
     };
-    let records = file.listing()?;
     if records.is_empty() {
         return Ok(text == "empty");
     }
-    Ok(joined(alloc, &records)?.as_slice() == text.as_bytes())
+    Ok(joined(alloc, records)?.as_slice() == text.as_bytes())
+}
+
+// Whether a text is the records of a file of a listing.
+fn is_listed_file(
+    listing: &Listing,
+    alloc: Global,
+    name: &str,
+    text: &str,
+) -> Result<bool, NoMemory> {
+    for (listed_name, _, records) in listing.files.as_slice() {
+        if Name8::new(name.as_bytes()) == Ok(*listed_name) {
+            return is_file(Some(records), alloc, text);
+        }
+    }
+    is_file(None, alloc, text)
+}
+
+// Whether a text is the records of a file as it stands.
+fn is_file_now(units: &Units, alloc: Global, name: &str, text: &str) -> Result<bool, NoMemory> {
+    let Ok(name) = Name8::new(name.as_bytes()) else {
+        return Ok(false);
+    };
+    match units.file(&name) {
+        Some(file) => is_file(Some(&file.listing()?), alloc, text),
+        None => is_file(None, alloc, text),
+    }
+}
+
+// Whether a text is the number of control intervals of a file.
+fn has_intervals(units: &Units, name: &str, text: &str) -> bool {
+    let Ok(name) = Name8::new(name.as_bytes()) else {
+        return false;
+    };
+    match units.file(&name) {
+        Some(file) => is_number(file.interval_count(), text),
+        None => false,
+    }
+}
+
+// Whether a text is a temporary storage queue of a listing.
+fn is_ts(listing: &Listing, alloc: Global, name: &str, text: &str) -> Result<bool, NoMemory> {
+    let (word, items) = cut(text);
+    for (listed_name, recoverable, listed_items) in listing.ts.as_slice() {
+        if Name8::new(name.as_bytes()) == Ok(*listed_name) {
+            return Ok(
+                word == if *recoverable { "recoverable" } else { "plain" }
+                    && joined(alloc, listed_items)?.as_slice() == items.as_bytes(),
+            );
+        }
+    }
+    Ok(text == "none")
+}
+
+// Whether a text is a transient data queue of a listing.
+fn is_td(listing: &Listing, alloc: Global, name: &str, text: &str) -> Result<bool, NoMemory> {
+    let (word, records) = cut(text);
+    for (listed_name, listed_recovery, listed_records) in listing.td.as_slice() {
+        if Name4::new(name.as_bytes()) == Ok(*listed_name) {
+            return Ok(
+                recovery(word) == Some(*listed_recovery)
+                    && joined(alloc, listed_records)?.as_slice() == records.as_bytes(),
+            );
+        }
+    }
+    Ok(text == "no")
+}
+
+// Whether a text is the recovery of a transient data queue.
+fn is_recovery(units: &Units, name: &str, text: &str) -> bool {
+    let Ok(name) = Name4::new(name.as_bytes()) else {
+        return false;
+    };
+    match units.td_recovery(&name) {
+        Some(found) => recovery(text) == Some(found),
+        None => text == "no",
+    }
+}
+
+// Whether a text is the NEXT place of a temporary storage queue.
+fn is_place(units: &Units, name: &str, text: &str) -> bool {
+    match Name8::new(name.as_bytes()) {
+        Ok(name) => is_number(units.next_place(&name) as u64, text),
+        Err(_) => false,
+    }
 }
 
 // Whether a text is the key that a unit has read.
-fn is_read(read: Option<&Record>, text: &str) -> bool {
+fn is_read(read: Option<&[u8]>, text: &str) -> bool {
     match read {
-        Some(key) => key.bytes() == text.as_bytes(),
+        Some(key) => key == text.as_bytes(),
         None => text == "none",
     }
 }
@@ -123,9 +213,19 @@ fn is_unit(unit: Option<UnitId>, text: &str) -> bool {
     }
 }
 
-// Whether a text is a number.
-fn is_number(number: u64, text: &str) -> bool {
-    text.parse::<u64>().ok() == Some(number)
+// Whether a text is the unit that a command would have to wait for.
+fn is_awaited(units: &Units, alloc: Global, call: &str, text: &str) -> Result<bool, NoMemory> {
+    let (unit, call) = cut(call);
+    match command(alloc, call)? {
+        Some(op) => Ok(is_unit(awaited(units, number_of(unit), &op), text)),
+        None => Ok(false),
+    }
+}
+
+// Whether a text is the unit that an ENQ would have to wait for.
+fn is_value_holder(units: &Units, call: &str, text: &str) -> bool {
+    let (unit, value) = cut(call);
+    is_unit(value_holder(units, number_of(unit), value.as_bytes()), text)
 }
 
 // Whether a text says how a unit stands.
@@ -138,48 +238,38 @@ fn is_outcome(outcome: Option<UnitState>, text: &str) -> bool {
     }
 }
 
-// Whether a text is the condition of an executed command, and the record that it read.
+// Whether a text is what an executed command was answered.
 fn is_entry(units: &Units, at: Option<usize>, text: &str) -> bool {
-    let (condition, record) = cut(text);
-    let Some(entry) = at.and_then(|at| units.trace().get(at)) else {
-        return false;
-    };
-    entry.answer.condition.name() == condition
-        && match &entry.answer.content {
-            Some(content) => content.bytes() == record.as_bytes(),
-            None => record.is_empty(),
-        }
-}
-
-// Whether the units show a text at a file.
-fn shows_file(
-    units: &Units,
-    alloc: Global,
-    word: &str,
-    rest: &str,
-    text: &str,
-) -> Result<bool, NoMemory> {
-    let (name, key) = cut(rest);
-    let Ok(name) = Name8::new(name.as_bytes()) else {
-        return Ok(false);
-    };
-    match word {
-        "file" => is_file(units.file(&name), alloc, text),
-        "loaded" => is_file(units.opening().files().get(&name), alloc, text),
-        "holder" => Ok(is_unit(holder(units, name, key.as_bytes()), text)),
-        _ => Ok(false),
+    match at.and_then(|at| units.trace().get(at)) {
+        Some(entry) => is_answered(entry.unit.number(), &entry.answer, text),
+        None => false,
     }
 }
 
 // Whether the units show a text at a unit.
 fn shows_unit(units: &Units, word: &str, rest: &str, text: &str) -> bool {
     let (unit, file) = cut(rest);
-    let Some(unit) = unit.parse::<u64>().ok().map(UnitId::new) else {
+    let Some(unit) = number_of(unit) else {
         return false;
     };
     match (word, Name8::new(file.as_bytes())) {
-        ("read", Ok(file)) => is_read(units.open_read(unit, &file), text),
+        ("read", Ok(file)) => is_read(read_key(units, unit, &file), text),
         ("outcome", _) => is_outcome(outcome(units, unit), text),
+        _ => false,
+    }
+}
+
+// Whether the units show a text at a look that takes no memory.
+fn shows_at_once(units: &Units, word: &str, rest: &str, text: &str) -> bool {
+    match word {
+        "read" | "outcome" => shows_unit(units, word, rest, text),
+        "entry" => is_entry(units, rest.parse::<usize>().ok(), text),
+        "entries" => is_number(units.trace().len() as u64, text),
+        "units" => is_number(units.outcomes().len() as u64, text),
+        "intervals" => has_intervals(units, rest, text),
+        "place" => is_place(units, rest, text),
+        "recovery" => is_recovery(units, rest, text),
+        "value" => is_value_holder(units, rest, text),
         _ => false,
     }
 }
@@ -193,10 +283,14 @@ pub(crate) fn shows(
 ) -> Result<bool, NoMemory> {
     let (word, rest) = cut(look);
     match word {
-        "read" | "outcome" => Ok(shows_unit(units, word, rest, text)),
-        "entry" => Ok(is_entry(units, rest.parse::<usize>().ok(), text)),
-        "entries" => Ok(is_number(units.trace().len() as u64, text)),
-        "units" => Ok(is_number(units.outcomes().len() as u64, text)),
-        _ => shows_file(units, alloc, word, rest, text),
+        "file" => is_file_now(units, alloc, rest, text),
+        "loaded" => {
+            let loaded = plain_replay(alloc, units.opening(), &[], &[])?;
+            is_listed_file(&loaded, alloc, rest, text)
+        }
+        "ts" => is_ts(&units.listing()?, alloc, rest, text),
+        "td" => is_td(&units.listing()?, alloc, rest, text),
+        "awaited" => is_awaited(units, alloc, rest, text),
+        _ => Ok(shows_at_once(units, word, rest, text)),
     }
 }

@@ -1,10 +1,10 @@
 //! What an opening accepts and refuses, and what its files and queues show.
 
 use crate::looks::{is_listed, recovery};
-use crate::scenarios::{cut, halves};
+use crate::scenarios::{cut, halves, started_by};
 use cics_ksds::{File, FileDef};
 use cics_names::{Name4, Name8, NoMemory, Record};
-use cics_units::{DefineFault, Files, Opening};
+use cics_units::{DefineFault, Listing, Opening};
 use std::alloc::Global;
 use std::test::Fail;
 
@@ -123,6 +123,22 @@ pub(crate) fn first_wrong<'a>(
     Ok(None)
 }
 
+/// The opening of a text, with what was loaded by another; None where a line comes out otherwise than it
+/// says.
+pub(crate) fn opened_by(
+    alloc: Global,
+    definitions: &str,
+    loads: &str,
+) -> Result<Option<Opening>, NoMemory> {
+    let mut opening = Opening::new(alloc);
+    for lines in [definitions, loads] {
+        if first_wrong(&mut opening, alloc, lines)?.is_some() {
+            return Ok(None);
+        }
+    }
+    Ok(Some(opening))
+}
+
 /// The name comes before the record size, and the record size before the key.
 const DEFINITIONS: &str = "\
 define ACCT 4 2 10
@@ -140,9 +156,8 @@ define LOG 4 0 80 = duplicate
 
 #[test]
 fn a_definition_is_refused_by_its_first_fault(rt: HostRuntime) -> Result<(), Fail> {
-    let mut opening = Opening::new(rt.alloc());
-    assert_eq!(rt; first_wrong(&mut opening, rt.alloc(), DEFINITIONS)?, None);
-    assert_eq!(rt; opening.files().len(), 2);
+    let units = started_by(rt.alloc(), DEFINITIONS, "")?;
+    assert_eq!(rt; units.listing()?.files.len(), 2);
     Ok(())
 }
 
@@ -227,79 +242,44 @@ load ACCT cc0001
 ";
 
 // Whether the files are listed in the order of their names, and their records in that of their keys.
-fn is_in_order(alloc: Global, files: &Files) -> Result<bool, NoMemory> {
-    let listed = files.listing()?;
+fn is_in_order(alloc: Global, listing: &Listing) -> Result<bool, NoMemory> {
     Ok(
-        listed.len() == 2
-            && is_listed(alloc, &listed, 0, "ACCT", true, "cc0001|aa0002|bb0003")?
-            && is_listed(alloc, &listed, 1, "LOG", false, "")?,
+        listing.files.len() == 2
+            && is_listed(
+                alloc,
+                &listing.files,
+                0,
+                "ACCT",
+                true,
+                "cc0001|aa0002|bb0003",
+            )?
+            && is_listed(alloc, &listing.files, 1, "LOG", false, "")?,
     )
 }
 
 #[test]
 fn a_listing_has_the_order_of_names_and_keys(rt: HostRuntime) -> Result<(), Fail> {
-    let mut opening = Opening::new(rt.alloc());
-    assert_eq!(rt; first_wrong(&mut opening, rt.alloc(), OUT_OF_ORDER)?, None);
-    assert!(rt; is_in_order(rt.alloc(), opening.files())?);
+    let units = started_by(rt.alloc(), OUT_OF_ORDER, "")?;
+    assert!(rt; is_in_order(rt.alloc(), &units.listing()?)?);
     Ok(())
 }
 
-// A copy of each file, under its name; None where a name has two.
-fn saved(alloc: Global, files: &Files) -> Result<Option<Files>, NoMemory> {
-    let mut saved = Files::new(alloc);
-    for (name, file) in files.iter() {
-        if saved.insert(*name, file.copy()?)?.is_some() {
-            return Ok(None);
-        }
-    }
-    Ok(Some(saved))
-}
-
-// Whether an empty file goes in the place of ACCT, and none in that of LOG, which isn't there.
-fn is_emptied(alloc: Global, files: &mut Files, accounts: &Name8, others: &Name8) -> bool {
-    let taken = files.replace(accounts, File::new(alloc, TAGGED));
-    let missing = files.replace(others, File::new(alloc, TAGGED));
-    taken.is_some() && missing.is_none() && !files.contains(others)
-}
-
-// Whether a file is there and has the record of a key.
-fn has_record(file: Option<&File>, key: &[u8]) -> bool {
-    match file {
-        Some(file) => file.read(key).is_some(),
-        None => false,
-    }
-}
-
-// Moves the saved files back, and tells whether each took the place of a file without the record.
-fn is_moved_back(files: &mut Files, saved: Files) -> bool {
-    for (name, file) in saved {
-        let changed = files.replace(&name, file);
-        if changed.is_none() || has_record(changed.as_ref(), b"0001") {
-            return false;
-        }
-    }
-    true
-}
-
-// Whether the record is there again once the files are saved, emptied and moved back.
-fn is_restored(alloc: Global, files: &mut Files) -> Result<bool, Fail> {
-    let (accounts, others) = (Name8::new(b"ACCT")?, Name8::new(b"LOG")?);
-    let Some(saved) = saved(alloc, files)? else {
-        return Ok(false);
+// Whether a file has a definition, and the record under a key.
+fn has_record(file: Option<&File>, definition: FileDef, key: &[u8], record: &[u8]) -> bool {
+    let Some(file) = file else {
+        return false;
     };
-    Ok(
-        is_emptied(alloc, files, &accounts, &others)
-            && is_moved_back(files, saved)
-            && has_record(files.get(&accounts), b"0001"),
-    )
+    file.definition() == definition
+        && file
+            .read(key)
+            .is_some_and(|content| content.bytes() == record)
 }
 
 #[test]
-fn a_saved_file_is_moved_back(rt: HostRuntime) -> Result<(), Fail> {
-    let mut opening = Opening::new(rt.alloc());
-    let loads = "define ACCT 4 2 10\nload ACCT xx0001";
-    assert_eq!(rt; first_wrong(&mut opening, rt.alloc(), loads)?, None);
-    let mut files = opening.into_files();
-    assert!(rt; is_restored(rt.alloc(), &mut files)?);
+fn a_loaded_record_is_found_under_the_key_that_lies_in_it(rt: HostRuntime) -> Result<(), Fail> {
+    let units = started_by(rt.alloc(), OUT_OF_ORDER, "")?;
+    let (accounts, others) = (Name8::new(b"ACCT")?, Name8::new(b"NONE")?);
+    assert!(rt; has_record(units.file(&accounts), TAGGED, b"0002", b"aa0002"));
+    assert!(rt; units.file(&others).is_none());
     Ok(())
 }

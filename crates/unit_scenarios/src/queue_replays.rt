@@ -2,11 +2,11 @@
 //! a LOGICAL one, leaves no trace, and what it did to others stays.
 
 use crate::looks::{is_td_listed, is_ts_listed};
-use crate::openings::first_wrong;
+use crate::openings::opened_by;
 use crate::replays::{entries, outcomes};
-use crate::scenarios::{first_wrong_of, started_with};
+use crate::scenarios::{first_wrong_of, started_by};
 use cics_names::NoMemory;
-use cics_units::{Listing, Opening, plain_replay};
+use cics_units::{Listing, Units, plain_replay};
 use std::alloc::Global;
 use std::test::Fail;
 
@@ -26,13 +26,6 @@ put OUTQ a
 put PHYQ a
 ";
 
-// What the text opens with; None where a line of it comes out otherwise.
-fn opened(alloc: Global) -> Result<Option<Opening>, NoMemory> {
-    let mut opening = Opening::new(alloc);
-    let wrong = first_wrong(&mut opening, alloc, OPENED)?;
-    Ok(if wrong.is_none() { Some(opening) } else { None })
-}
-
 // Whether a listing has these queues and no others, in temporary storage and in transient data.
 fn shows(alloc: Global, listing: &Listing, ts: &str, td: &str) -> Result<bool, NoMemory> {
     Ok(is_ts_listed(alloc, &listing.ts, ts)? && is_td_listed(alloc, &listing.td, td)?)
@@ -42,7 +35,7 @@ fn shows(alloc: Global, listing: &Listing, ts: &str, td: &str) -> Result<bool, N
 // transient data.
 fn leaves(alloc: Global, replay: &str, ends: &str, ts: &str, td: &str) -> Result<bool, NoMemory> {
     let (Some(opening), Some(trace), Some(outcomes)) = (
-        opened(alloc)?,
+        opened_by(alloc, OPENED, "")?,
         entries(alloc, replay)?,
         outcomes(alloc, ends)?,
     ) else {
@@ -73,16 +66,19 @@ const ON_FILES: &str = "\
 0 commit
 ";
 
+// Whether the queues are listed as they were loaded, before commands on files and behind them.
+fn are_listed_as_loaded(units: &mut Units, alloc: Global) -> Result<bool, NoMemory> {
+    Ok(
+        shows(alloc, &units.listing()?, "", LOADED)?
+            && first_wrong_of(units, alloc, ON_FILES)?.is_none()
+            && shows(alloc, &units.listing()?, "", LOADED)?,
+    )
+}
+
 #[test]
-fn a_region_lists_the_queues_that_it_opened_with(rt: HostRuntime) -> Result<(), Fail> {
-    let opening = opened(rt.alloc())?;
-    assert!(rt; opening.is_some());
-    if let Some(opening) = opening {
-        let mut units = started_with(opening)?;
-        assert!(rt; shows(rt.alloc(), &units.listing()?, "", LOADED)?);
-        assert_eq!(rt; first_wrong_of(&mut units, rt.alloc(), ON_FILES)?, None);
-        assert!(rt; shows(rt.alloc(), &units.listing()?, "", LOADED)?);
-    }
+fn units_list_the_queues_that_they_opened_with(rt: HostRuntime) -> Result<(), Fail> {
+    let mut units = started_by(rt.alloc(), OPENED, "")?;
+    assert!(rt; are_listed_as_loaded(&mut units, rt.alloc())?);
     Ok(())
 }
 

@@ -3,11 +3,12 @@
 //!
 //! A replay is a text of a line for each command, with the unit that executed it, as in a scenario.
 
-use crate::fixtures::{opened, write};
+use crate::commands::command;
+use crate::fixtures::opened;
 use crate::looks::{is_listed, is_ts_listed};
-use crate::scenarios::{command, cut, halves};
+use crate::scenarios::{cut, halves};
 use cics_enqueue::UnitId;
-use cics_names::{Condition, Items, Name4, Name8, NoMemory, Record};
+use cics_names::{Condition, NoMemory};
 use cics_units::{Answer, Entry, Op, UnitState, plain_replay};
 use std::alloc::Global;
 use std::test::Fail;
@@ -25,82 +26,12 @@ fn entry(unit: u64, op: Op) -> Entry {
     }
 }
 
-// A new item of a queue, as `item QUEUE 2 two`; None where a text is none.
-fn new_item(alloc: Global, queue: Name8, rest: &str) -> Result<Option<Op>, NoMemory> {
-    let (item, from) = cut(rest);
-    let Ok(item) = item.parse::<u64>() else {
-        return Ok(None);
-    };
-    let from = Record::from_slice(alloc, from.as_bytes())?;
-    Ok(Some(Op::TsRewrite { queue, item, from }))
-}
-
-// A WRITE under a key that doesn't lie in the record, as `store LOG k3 a`.
-fn store(alloc: Global, file: Name8, rest: &str) -> Result<Option<Op>, NoMemory> {
-    let (key, from) = cut(rest);
-    Ok(Some(write(alloc, file, key.as_bytes(), from.as_bytes())?))
-}
-
-// A DELETE GENERIC of a prefix, as `clear ACCT k`.
-fn clear(alloc: Global, file: Name8, prefix: &str) -> Result<Option<Op>, NoMemory> {
-    let prefix = Record::from_slice(alloc, prefix.as_bytes())?;
-    Ok(Some(Op::DeleteGeneric { file, prefix }))
-}
-
-// A command on a transient data queue: WRITEQ of a record as `put DEST lost`, READQ as `get DEST` and
-// DELETEQ as `purge DEST`; None where a text is none.
-fn on_trans_data(
-    alloc: Global,
-    word: &str,
-    queue: &str,
-    from: &str,
-) -> Result<Option<Op>, NoMemory> {
-    let Ok(queue) = Name4::new(queue.as_bytes()) else {
-        return Ok(None);
-    };
-    Ok(match word {
-        "put" => Some(Op::TdWrite {
-            queue,
-            from: Record::from_slice(alloc, from.as_bytes())?,
-        }),
-        "get" => Some(Op::TdRead { queue }),
-        "purge" => Some(Op::TdDelete { queue }),
-        _ => None,
-    })
-}
-
-// An item behind the others of a queue, as `append QUEUE one`.
-fn append(alloc: Global, queue: Name8, from: &str) -> Result<Option<Op>, NoMemory> {
-    let from = Record::from_slice(alloc, from.as_bytes())?;
-    Ok(Some(Op::TsWrite { queue, from }))
-}
-
-// The command of a text, if it is one.
-fn any_command(alloc: Global, text: &str) -> Result<Option<Op>, NoMemory> {
-    let (word, rest) = cut(text);
-    let (name, rest) = cut(rest);
-    if let Some(op) = on_trans_data(alloc, word, name, rest)? {
-        return Ok(Some(op));
-    }
-    let Ok(name) = Name8::new(name.as_bytes()) else {
-        return Ok(None);
-    };
-    match word {
-        "append" => append(alloc, name, rest),
-        "item" => new_item(alloc, name, rest),
-        "drop" => Ok(Some(Op::TsDelete { queue: name })),
-        "store" => store(alloc, name, rest),
-        "clear" => clear(alloc, name, rest),
-        _ => command(alloc, word, name, rest.as_bytes()),
-    }
-}
-
 /// The entries of a text; None where a line is none.
 pub(crate) fn entries(alloc: Global, text: &str) -> Result<Option<Vec<Entry>>, NoMemory> {
     let mut entries = Vec::new(alloc);
     for line in text.lines() {
         let (unit, text) = cut(line);
-        let (Ok(unit), Some(op)) = (unit.parse::<u64>(), any_command(alloc, text)?) else {
+        let (Ok(unit), Some(op)) = (unit.parse::<u64>(), command(alloc, text)?) else {
             return Ok(None);
         };
         entries.push(entry(unit, op))?;

@@ -1,34 +1,69 @@
 //! Scenarios of units, as texts of a line for each call, with what is to come of it:
 //!
-//! - `- write ACCT k1 one = NORMAL 0`: a call of the unit with this number, or of the next one to
-//!   begin (`-`), and what it is answered. A call that is answered nothing stands alone (`0 commit`),
-//!   and one that may not be made is answered `no`.
+//! - `- write ACCT k1 one = NORMAL 0`: a command (`commands`) of the unit with this number, or of the next
+//!   one to begin (`-`), and what comes of it (`answers`). A call that is answered nothing stands alone, as
+//!   `0 commit`, `0 backout`, `0 unlock ACCT` and `0 deq A`.
+//! - `- next QUEUE = NORMAL ITEM 1 DATA one`, `- readitem QUEUE 2 = ITEMERR`: READQ TS, which is of no unit.
 //! - `9 times 0 enq A = taken 0`: a call that is made so often, with the same answer each time.
+//! - `0 writes 2000 ACCT = NORMAL 0`, `0 deletes 2000 ACCT = NORMAL 0`: as many records of a file are written
+//!   or deleted, each with that answer; `0 appends 9 RQ`: items that get the numbers from 2 to 9 (`many`).
 //! - `? file ACCT = k1 one|k2 two`: a look at the units, and what they show (`looks`).
+//!
+//! What a command is answered stands in the newest entry of the trace too, and after each line what the
+//! files and queues list is held against the plain replay of what was executed.
 
-use crate::fixtures::{
-    KEYED, delete, delete_generic, is_same_listing, opened, read_update, rewrite, write,
-};
+use crate::answers::{is_answered, is_told};
+use crate::commands::command;
+use crate::fixtures::{is_same_listing, load_all};
 use crate::guarded_calls::{Told, deq, end, enq, execute, unlock};
 use crate::looks::shows;
+use crate::many::{all_are_numbered, all_come_out};
+use crate::openings::opened_by;
 use cics_enqueue::UnitId;
 use cics_names::{Name8, NoMemory};
-use cics_units::{Op, Opening, Units, plain_replay};
+use cics_units::{Opening, Units, plain_replay};
 use std::alloc::Global;
 use std::test::Fail;
 
-/// Units over what an opening holds.
-pub(crate) fn started_with(opening: Opening) -> Result<Units, Fail> {
+/// A scenario over two files without a record, a prefix of recoverable temporary storage queues, and a
+/// transient data queue of each recovery (`OPENED`).
+#[derive(Clone, Copy)]
+pub(crate) struct Scenario<'a> {
+    /// What it shows.
+    pub(crate) shows: &'a str,
+    /// The records that each of the two files has at the beginning, a stroke between them.
+    pub(crate) records: &'a str,
+    /// What is loaded besides, a line for each load.
+    pub(crate) loads: &'a str,
+    /// Its calls and looks, a line for each.
+    pub(crate) lines: &'a str,
+}
+
+// Units over what an opening holds.
+fn started_with(opening: Opening) -> Result<Units, Fail> {
     match Units::start(opening) {
         Ok(units) => Ok(units),
         Err(_) => Err(NoMemory.into()),
     }
 }
 
-/// Units over the recoverable file ACCT and the unrecoverable file LOG, with these records in each, a
-/// stroke between them.
-pub(crate) fn started(alloc: Global, records: &str) -> Result<Units, Fail> {
-    started_with(opened(alloc, records)?)
+/// Units over what a text defines and another loads.
+pub(crate) fn started_by(alloc: Global, definitions: &str, loads: &str) -> Result<Units, Fail> {
+    match opened_by(alloc, definitions, loads)? {
+        Some(opening) => started_with(opening),
+        None => Err(Fail::new("the opening has a line that comes out otherwise")),
+    }
+}
+
+/// Units as a scenario begins with them.
+pub(crate) fn started(alloc: Global, scenario: &Scenario) -> Result<Units, Fail> {
+    let Some(mut opening) = opened_by(alloc, OPENED, scenario.loads)? else {
+        return Err(Fail::new("the opening has a line that comes out otherwise"));
+    };
+    for file in ["ACCT", "LOG"] {
+        load_all(&mut opening, alloc, file, scenario.records)?;
+    }
+    started_with(opening)
 }
 
 /// The first word of a text, and what comes behind it.
@@ -36,89 +71,107 @@ pub(crate) fn cut(text: &str) -> (&str, &str) {
     text.split_once(' ').unwrap_or((text, ""))
 }
 
+/// The unit of a number; None for a text that is no number.
+pub(crate) fn number_of(text: &str) -> Option<UnitId> {
+    text.parse::<u64>().ok().map(UnitId::new)
+}
+
 /// A call, and what is to come of it.
 pub(crate) fn halves(line: &str) -> (&str, &str) {
     line.split_once(" = ").unwrap_or((line, ""))
 }
 
-// Whether a text is a word and a unit's number.
-fn is_of(text: &str, word: &str, unit: u64) -> bool {
-    let (first, number) = cut(text);
-    first == word && number.parse::<u64>().ok() == Some(unit)
-}
-
-// Whether a text says that this came of a call.
-fn is_told(told: Told, text: &str) -> bool {
-    match told {
-        Told::Answered(unit, condition) => is_of(text, condition.name(), unit),
-        Told::Taken(unit) => is_of(text, "taken", unit),
-        Told::Waits(unit) => is_of(text, "waits", unit),
-        Told::Full => text == "full",
-        Told::Done => text.is_empty(),
-        Told::MayNot => text == "no",
+// Ends a unit's update read of a file; None where the name is none.
+fn unlock_by_name(units: &mut Units, unit: UnitId, file: &str) -> Option<Told> {
+    match Name8::new(file.as_bytes()) {
+        Ok(file) => Some(unlock(units, unit, &file)),
+        Err(_) => None,
     }
 }
 
-// The key with which a record begins.
-fn key_of(from: &[u8]) -> &[u8] {
-    if KEYED.fits(from) {
-        KEYED.key_in(from)
-    } else {
-        from
+// READQ TS of the item behind the one that was read last, or with its number behind the queue; None for a
+// text that names no queue.
+fn read_ts(units: &mut Units, is_next: bool, rest: &str) -> Result<Option<Told>, NoMemory> {
+    let (queue, item) = cut(rest);
+    let (Ok(queue), item) = (Name8::new(queue.as_bytes()), item.parse::<u64>().ok()) else {
+        return Ok(None);
+    };
+    if is_next == item.is_some() {
+        return Ok(None);
     }
+    Ok(Some(Told::Read(units.read_ts(&queue, item)?)))
 }
 
-/// The command on a file of a word, if it is one: a record's key is the 2 bytes with which it begins,
-/// and `clear` is DELETE GENERIC.
-pub(crate) fn command(
-    alloc: Global,
-    word: &str,
-    file: Name8,
-    record: &[u8],
-) -> Result<Option<Op>, NoMemory> {
-    Ok(match word {
-        "write" => Some(write(alloc, file, key_of(record), record)?),
-        "rewrite" => Some(rewrite(alloc, file, key_of(record), record)?),
-        "delete" => Some(delete(alloc, file, record)?),
-        "clear" => Some(delete_generic(alloc, file, record)?),
-        "read" => Some(read_update(alloc, file, record)?),
-        _ => None,
-    })
-}
-
-// Makes a call that names a file, for a unit or for the next one to begin.
-fn call_on_file(
+// Executes the command of a text, and tells what came of it; None for a text that is no command.
+fn execute_text(
     units: &mut Units,
     alloc: Global,
     unit: Option<UnitId>,
-    word: &str,
-    rest: &str,
+    text: &str,
 ) -> Result<Option<Told>, NoMemory> {
-    let (file, record) = cut(rest);
-    let Ok(file) = Name8::new(file.as_bytes()) else {
-        return Ok(None);
-    };
-    match (word, unit) {
-        ("unlock", Some(unit)) => Ok(Some(unlock(units, unit, &file))),
-        _ => match command(alloc, word, file, record.as_bytes())? {
-            Some(op) => Ok(Some(execute(units, unit, &op)?)),
-            None => Ok(None),
-        },
+    match command(alloc, text)? {
+        Some(op) => Ok(Some(execute(units, unit, &op)?)),
+        None => Ok(None),
     }
 }
 
 // Makes a call, and tells what came of it; None for a text that is no call.
 fn make(units: &mut Units, alloc: Global, call: &str) -> Result<Option<Told>, NoMemory> {
-    let (unit, rest) = cut(call);
-    let (word, rest) = cut(rest);
-    let unit = unit.parse::<u64>().ok().map(UnitId::new);
+    let (unit, text) = cut(call);
+    let (word, rest) = cut(text);
+    let unit = number_of(unit);
     match (word, unit) {
         ("enq", _) => Ok(Some(enq(units, unit, rest.as_bytes())?)),
         ("deq", Some(unit)) => Ok(Some(deq(units, unit, rest.as_bytes()))),
         ("commit", Some(unit)) => Ok(Some(end(units, unit, true))),
         ("backout", Some(unit)) => Ok(Some(end(units, unit, false))),
-        _ => call_on_file(units, alloc, unit, word, rest),
+        ("unlock", Some(unit)) => Ok(unlock_by_name(units, unit, rest)),
+        ("next" | "readitem", _) => read_ts(units, word == "next", rest),
+        _ => execute_text(units, alloc, unit, text),
     }
+}
+
+// Whether a text says that this came of a call, as the newest entry does where a command was executed.
+fn is_told_and_entered(units: &Units, told: &Told, text: &str) -> bool {
+    is_told(told, text)
+        && match (told, units.trace().last()) {
+            (Told::Answered(_, _), Some(entry)) => {
+                is_answered(entry.unit.number(), &entry.answer, text)
+            }
+            (Told::Answered(_, _), None) => false,
+            _ => true,
+        }
+}
+
+// Makes the many commands of a call, and tells whether each comes out as it says; false for a text that is
+// no such call.
+fn all_come_out_as(
+    units: &mut Units,
+    alloc: Global,
+    call: &str,
+    expected: &str,
+) -> Result<bool, NoMemory> {
+    let (unit, text) = cut(call);
+    let (word, rest) = cut(text);
+    let (count, name) = cut(rest);
+    let (Some(unit), Ok(count), Ok(name)) = (
+        number_of(unit),
+        count.parse::<u16>(),
+        Name8::new(name.as_bytes()),
+    ) else {
+        return Ok(false);
+    };
+    if word == "appends" {
+        return all_are_numbered(units, alloc, unit, name, count as u64);
+    }
+    all_come_out(units, alloc, unit, name, count, word == "writes", expected)
+}
+
+// Whether a call is one of many commands.
+fn is_of_many(call: &str) -> bool {
+    let (_, text) = cut(call);
+    let (word, _) = cut(text);
+    word == "writes" || word == "deletes" || word == "appends"
 }
 
 /// Whether a line comes out as it says.
@@ -126,8 +179,9 @@ pub(crate) fn comes_out(units: &mut Units, alloc: Global, line: &str) -> Result<
     let (call, expected) = halves(line);
     match cut(call) {
         ("?", look) => shows(units, alloc, look, expected),
+        _ if is_of_many(call) => all_come_out_as(units, alloc, call, expected),
         _ => match make(units, alloc, call)? {
-            Some(told) => Ok(is_told(told, expected)),
+            Some(told) => Ok(is_told_and_entered(units, &told, expected)),
             None => Ok(false),
         },
     }
@@ -150,10 +204,8 @@ fn comes_out_each_time(units: &mut Units, alloc: Global, line: &str) -> Result<b
 }
 
 /// Whether the files and queues themselves list the same as the plain replay of what was executed.
-pub(crate) fn is_replayed(units: &Units) -> Result<bool, NoMemory> {
-    let opening = units.opening();
-    let alloc = opening.files().allocator();
-    let replayed = plain_replay(alloc, opening, units.trace(), units.outcomes())?;
+pub(crate) fn is_replayed(units: &Units, alloc: Global) -> Result<bool, NoMemory> {
+    let replayed = plain_replay(alloc, units.opening(), units.trace(), units.outcomes())?;
     Ok(is_same_listing(&units.listing()?, &replayed))
 }
 
@@ -165,19 +217,29 @@ pub(crate) fn first_wrong_of<'a>(
     scenario: &'a str,
 ) -> Result<Option<(usize, &'a str)>, NoMemory> {
     for (before, line) in scenario.lines().enumerate() {
-        if !comes_out_each_time(units, alloc, line)? || !is_replayed(units)? {
+        if !comes_out_each_time(units, alloc, line)? || !is_replayed(units, alloc)? {
             return Ok(Some((before.saturating_add(1), line)));
         }
     }
     Ok(None)
 }
 
-/// As `first_wrong_of`, of units with these records in each file, a stroke between them.
+/// As `first_wrong_of`, of a scenario from its beginning.
 pub(crate) fn first_wrong<'a>(
     alloc: Global,
-    records: &str,
-    scenario: &'a str,
+    scenario: &Scenario<'a>,
 ) -> Result<Option<(usize, &'a str)>, Fail> {
-    let mut units = started(alloc, records)?;
-    Ok(first_wrong_of(&mut units, alloc, scenario)?)
+    let mut units = started(alloc, scenario)?;
+    Ok(first_wrong_of(&mut units, alloc, scenario.lines)?)
 }
+
+/// Two files without a record, a prefix of recoverable temporary storage queues, and a transient data queue
+/// of each recovery.
+pub(crate) const OPENED: &str = "\
+define ACCT 2 0 10
+plain LOG 2 0 10
+prefix R
+queue TDQ1 logical
+queue PHYQ physical
+queue OUTQ none
+";

@@ -6,7 +6,6 @@ use Rattle.unit_scenarios.proofs.guarded_calls.has_read_key.Goals as goal
 
 pub returns-in-Some : goal.returns-in-Some
 returns-in-Some c =
-    c.eq.ensures ∙ pointwise-is_same c.bytes.result.now c.bytes-in-Some.result.now
-    ∙ ap (λ bytes. is_same bytes c.bytes-in-Some.result.now) c.bytes.ensures
-    ∙ ap (λ bytes. is_same c.in-Some.read.now bytes) c.bytes-in-Some.ensures
+    c.eq.ensures ∙ pointwise-is_same c.in-Some.read.now c.bytes.result.now
+    ∙ ap (λ bytes. is_same c.in-Some.read.now bytes) c.bytes.ensures
     ∙ ap (λ read. is_read_key read c.args.key.now) c.in-Some.ensures
