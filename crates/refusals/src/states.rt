@@ -1,0 +1,115 @@
+//! All that units and openings show, as texts: two states are told apart by them.
+
+use crate::calls::{Call, Step};
+use crate::guarded_calls::{is_open, is_open_or_none, is_ready};
+use crate::texts::{outcome_word, push_bytes, push_entry, push_listing, push_name};
+use cics_enqueue::UnitId;
+use cics_names::{Name8, NoMemory};
+use cics_units::{Listing, Op, Opening, Units, plain_replay};
+use std::alloc::Global;
+use std::fmt::Write;
+
+// The unit that a call would have to wait for, if any, made by an open unit or by a task without one. A
+// command that may not be executed now is not asked for.
+fn awaited(units: &Units, asking: Option<UnitId>, call: &Call) -> Option<UnitId> {
+    // A copy for each call that the unit is handed to.
+    let asks = asking;
+    let acts = asking;
+    if !is_open_or_none(units, asking) {
+        return None;
+    }
+    match call {
+        Call::Execute(_, op) if is_ready(units, acts, op) => units.awaited(asks, op),
+        Call::Enqueue(_, value) if value.len() <= 255 => units.value_holder(asks, value.bytes()),
+        _ => None,
+    }
+}
+
+// The temporary storage queue that a call names, if it does.
+fn ts_queue(call: &Call) -> Option<&Name8> {
+    match call {
+        Call::ReadTs(queue, _) => Some(queue),
+        Call::Execute(_, Op::TsWrite { queue, .. }) => Some(queue),
+        Call::Execute(_, Op::TsRewrite { queue, .. }) => Some(queue),
+        Call::Execute(_, Op::TsDelete { queue }) => Some(queue),
+        _ => None,
+    }
+}
+
+// Puts at the end whom a call would have to wait for, of whatever unit, and the NEXT place that it names.
+fn push_call(text: &mut String, units: &Units, call: &Call) -> Result<(), NoMemory> {
+    text.push('\n')?;
+    if let Some(holder) = awaited(units, None, call) {
+        write!(text, " - waits {}", holder.number())?;
+    }
+    for number in 0..units.outcomes().len() as u64 {
+        if let Some(holder) = awaited(units, Some(UnitId::new(number)), call) {
+            write!(text, " {number} waits {}", holder.number())?;
+        }
+    }
+    if let Some(queue) = ts_queue(call) {
+        write!(text, " next {}", units.next_place(queue))?;
+    }
+    Ok(())
+}
+
+// Puts at the end how a unit stands, and what it has read for update in each file.
+fn push_unit(
+    text: &mut String,
+    units: &Units,
+    number: u64,
+    listing: &Listing,
+) -> Result<(), NoMemory> {
+    let unit = UnitId::new(number);
+    text.push_str(if is_open(units, unit) {
+        "\nopen"
+    } else {
+        "\nended"
+    })?;
+    for (file, _, _) in listing.files.as_slice() {
+        if let Some(key) = units.open_read(unit, file) {
+            push_name(text, &file.bytes())?;
+            push_bytes(text, key)?;
+        }
+    }
+    Ok(())
+}
+
+/// All that units show: the files and queues, the executed commands with their answers, the outcomes, the
+/// update reads, and of each of these calls who would wait for whom, and the NEXT place.
+pub(crate) fn state_of(alloc: Global, units: &Units, steps: &[Step]) -> Result<String, NoMemory> {
+    let mut text = String::new(alloc);
+    let listing = units.listing()?;
+    push_listing(&mut text, &listing)?;
+    for entry in units.trace() {
+        text.push('\n')?;
+        push_entry(&mut text, entry)?;
+    }
+    for (number, outcome) in units.outcomes().iter().enumerate() {
+        push_unit(&mut text, units, number as u64, &listing)?;
+        text.push_str(outcome_word(*outcome))?;
+    }
+    for step in steps {
+        push_call(&mut text, units, &step.call)?;
+    }
+    Ok(text)
+}
+
+/// The listing of the plain replay of what units executed.
+pub(crate) fn replay_of(alloc: Global, units: &Units) -> Result<String, NoMemory> {
+    let mut text = String::new(alloc);
+    let listing = plain_replay(alloc, units.opening(), units.trace(), units.outcomes())?;
+    push_listing(&mut text, &listing)?;
+    Ok(text)
+}
+
+/// All that an opening shows: what is defined, and what was loaded.
+pub(crate) fn opening_of(alloc: Global, opening: &Opening) -> Result<String, NoMemory> {
+    let mut text = String::new(alloc);
+    let listing = plain_replay(alloc, opening, &[], &[])?;
+    push_listing(&mut text, &listing)?;
+    for prefix in opening.prefixes() {
+        push_name(&mut text, &prefix.bytes())?;
+    }
+    Ok(text)
+}

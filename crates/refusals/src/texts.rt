@@ -1,0 +1,182 @@
+//! Texts of what units show, so that two states are compared, and what a call told with what it is to tell.
+
+use crate::guarded_calls::Told;
+use cics_names::{Items, Name8, NoMemory, Record, from_ebcdic};
+use cics_transdata::Recovery;
+use cics_units::{Answer, Done, Enqueued, Entry, Listing, Op, UnitState};
+use std::alloc::Global;
+use std::fmt::Write;
+
+const BLANK: u8 = 0x40;
+
+/// The first word of a text, and what comes behind it.
+pub(crate) fn cut(text: &str) -> (&str, &str) {
+    text.split_once(' ').unwrap_or((text, ""))
+}
+
+/// Puts a name at the end, behind a blank and without the blanks that fill it up.
+pub(crate) fn push_name(text: &mut String, name: &[u8]) -> Result<(), NoMemory> {
+    text.push(' ')?;
+    for code in name {
+        if *code != BLANK {
+            text.push(from_ebcdic(*code).unwrap_or('?'))?;
+        }
+    }
+    Ok(())
+}
+
+/// Puts bytes at the end, behind a blank and in quotes.
+pub(crate) fn push_bytes(text: &mut String, bytes: &[u8]) -> Result<(), NoMemory> {
+    write!(text, " '{}'", bytes.escape_ascii())?;
+    Ok(())
+}
+
+// Puts a number at the end, behind a blank.
+fn push_number(text: &mut String, number: u64) -> Result<(), NoMemory> {
+    write!(text, " {number}")?;
+    Ok(())
+}
+
+// Puts each record at the end.
+fn push_records(text: &mut String, records: &Items<Record>) -> Result<(), NoMemory> {
+    for record in records.as_slice() {
+        push_bytes(text, record.bytes())?;
+    }
+    text.push(';')?;
+    Ok(())
+}
+
+// Puts files or temporary storage queues at the end.
+fn push_listed(
+    text: &mut String,
+    kind: &str,
+    listed: &Items<(Name8, bool, Items<Record>)>,
+) -> Result<(), NoMemory> {
+    for (name, recoverable, records) in listed.as_slice() {
+        text.push_str(kind)?;
+        push_name(text, &name.bytes())?;
+        text.push_str(if *recoverable { "" } else { " unrecoverable" })?;
+        push_records(text, records)?;
+    }
+    Ok(())
+}
+
+fn recovery_word(recovery: Recovery) -> &'static str {
+    match recovery {
+        Recovery::Logical => "",
+        Recovery::Physical => " physical",
+        Recovery::Unrecovered => " none",
+    }
+}
+
+/// Puts a listing at the end: files, temporary storage and transient data, each with its records.
+pub(crate) fn push_listing(text: &mut String, listing: &Listing) -> Result<(), NoMemory> {
+    push_listed(text, " file", &listing.files)?;
+    push_listed(text, " ts", &listing.ts)?;
+    for (name, recovery, records) in listing.td.as_slice() {
+        text.push_str(" td")?;
+        push_name(text, &name.bytes())?;
+        text.push_str(recovery_word(*recovery))?;
+        push_records(text, records)?;
+    }
+    Ok(())
+}
+
+// Puts the word of a command at the end, with what it names and the bytes that it has.
+fn push_command(
+    text: &mut String,
+    word: &str,
+    name: &[u8],
+    bytes: [&[u8]; 2],
+) -> Result<(), NoMemory> {
+    text.push_str(word)?;
+    push_name(text, name)?;
+    for part in bytes {
+        push_bytes(text, part)?;
+    }
+    Ok(())
+}
+
+// Puts a command at the end.
+fn push_op(text: &mut String, op: &Op) -> Result<(), NoMemory> {
+    match op {
+        Op::Write { file, key, from } => {
+            push_command(text, " write", &file.bytes(), [key.bytes(), from.bytes()])
+        }
+        Op::Rewrite { file, key, from } => {
+            push_command(text, " rewrite", &file.bytes(), [key.bytes(), from.bytes()])
+        }
+        Op::Delete { file, key } => {
+            push_command(text, " delete", &file.bytes(), [key.bytes(), b""])
+        }
+        Op::DeleteGeneric { file, prefix } => {
+            push_command(text, " clear", &file.bytes(), [prefix.bytes(), b""])
+        }
+        Op::ReadUpdate { file, key } => {
+            push_command(text, " read", &file.bytes(), [key.bytes(), b""])
+        }
+        Op::TsWrite { queue, from } => {
+            push_command(text, " ts-write", &queue.bytes(), [from.bytes(), b""])
+        }
+        Op::TsRewrite { queue, item, from } => {
+            push_number(text, *item)?;
+            push_command(text, " ts-rewrite", &queue.bytes(), [from.bytes(), b""])
+        }
+        Op::TsDelete { queue } => push_command(text, " ts-delete", &queue.bytes(), [b"", b""]),
+        Op::TdWrite { queue, from } => {
+            push_command(text, " td-write", &queue.bytes(), [from.bytes(), b""])
+        }
+        Op::TdRead { queue } => push_command(text, " td-read", &queue.bytes(), [b"", b""]),
+        Op::TdDelete { queue } => push_command(text, " td-delete", &queue.bytes(), [b"", b""]),
+    }
+}
+
+// Puts an answer at the end, with the number of the unit that was answered, if one was.
+fn push_answer(text: &mut String, answer: &Answer, unit: Option<u64>) -> Result<(), NoMemory> {
+    text.push_str(answer.condition.name())?;
+    if let Some(unit) = unit {
+        push_number(text, unit)?;
+    }
+    if let Some(number) = answer.number {
+        write!(text, " number {number}")?;
+    }
+    if let Some(content) = &answer.content {
+        push_bytes(text, content.bytes())?;
+    }
+    Ok(())
+}
+
+/// Puts an executed command at the end, with its answer.
+pub(crate) fn push_entry(text: &mut String, entry: &Entry) -> Result<(), NoMemory> {
+    push_op(text, &entry.op)?;
+    text.push_str(" = ")?;
+    push_answer(text, &entry.answer, Some(entry.unit.number()))
+}
+
+/// How a unit stands, as a word behind a blank.
+pub(crate) fn outcome_word(outcome: UnitState) -> &'static str {
+    match outcome {
+        UnitState::Open => " open",
+        UnitState::Committed => " committed",
+        UnitState::BackedOut => " backed-out",
+    }
+}
+
+/// What came of a call, as a step says it.
+pub(crate) fn told_text(alloc: Global, told: &Told) -> Result<String, NoMemory> {
+    let mut text = String::new(alloc);
+    match told {
+        Told::Executed(Done::Answered(unit, answer)) => {
+            push_answer(&mut text, answer, Some(unit.number()))?;
+        }
+        Told::Executed(Done::MustWait(holder)) => write!(text, "waits {}", holder.number())?,
+        Told::Enqueued(Enqueued::Taken(unit)) => write!(text, "taken {}", unit.number())?,
+        Told::Enqueued(Enqueued::MustWait(holder)) => write!(text, "waits {}", holder.number())?,
+        Told::Enqueued(Enqueued::CountFull) => text.push_str("full")?,
+        Told::Read(answer) => push_answer(&mut text, answer, None)?,
+        Told::Listed(listing) => push_listing(&mut text, listing)?,
+        Told::Nothing => {}
+        Told::MayNot => text.push_str("no")?,
+    }
+    Ok(text)
+}
