@@ -59,7 +59,7 @@ delete_fault d open_read None given = fault_unless (is_none given && is_some ope
 abbrev pub browse_fault : Option Position → Option Condition
 browse_fault browse = fault_unless (is_some browse) Invreq
 
--- READPREV is no command of a browse that was started with GENERIC
+-- READPREV is no command of a browse whose last STARTBR or RESETBR had GENERIC
 abbrev pub back_fault : Option Position → Option Condition
 back_fault None = Some Invreq
 back_fault (Some p) = fault_unless (not p.generic) Invreq

@@ -43,7 +43,7 @@ used_of from (Some n) = take n from
 abbrev pub from_fault : FileDef → Bytes → Option ℕ → Option Condition
 from_fault d from n = fault_unless (is_within from n && fits_file d (used_of from n)) Lengerr
 
--- WRITE: the key that RIDFLD gives is the key in the record, else INVREQ
+-- the key that RIDFLD of a WRITE gives, or that was read before a REWRITE, is the key in the record, else INVREQ
 abbrev pub own_key_fault : FileDef → Bytes → Bytes → Option ℕ → Option Condition
 own_key_fault d key from n = fault_unless (is_same (key_of d (used_of from n)) key) Invreq
 

@@ -35,6 +35,6 @@ abbrev pub read_found : Bytes → Bool → Bool → Option (Bytes × Bytes) → 
 read_found key generic gteq None = plain Notfnd
 read_found key generic gteq (Some found) = if gteq || is_asked_for key generic found.0 then giving found.1 else plain Notfnd
 
--- the record of the key asked for, or NOTFND
+-- the record of the key asked for, with GTEQ the first one not below it, or NOTFND
 abbrev pub read_reply : Map Bytes → Bytes → Bool → Bool → Reply
 read_reply records key generic gteq = read_found key generic gteq (first_from records key false)

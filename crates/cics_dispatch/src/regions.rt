@@ -21,8 +21,8 @@ use std::marker::Model;
 ///
 /// Each call is one step of the region's machine: its answer and the state that it leaves are those of
 /// the step. After each call the files hold what replaying the executed commands gives, those left out
-/// by which a unit that was backed out changed a recoverable file, and each command of the replay has
-/// the answer that its task was given.
+/// by which a unit that was backed out acted on a recoverable file, and each command of the replay has
+/// the answer that it was executed with; LENGTH may have cut what its task was told.
 ///
 /// The region remembers what it found when it last looked at the waiting commands, so that `wake` and
 /// `expire` needn't look at each of them again where nothing has changed for them.
@@ -165,7 +165,7 @@ impl Region {
     /// The order is that in which the waits began. A task has waited too long once the clock is its
     /// `dtimout` past the begin of its wait; a `dtimout` of 0 is no limit. Its unit of work is backed
     /// out, its wait ends, and so does the task. Takes no memory. Where it answered `None`, and since
-    /// then the clock wasn't set and no waiting command went on, it looks at no wait.
+    /// then nobody asked to set the clock and no waiting command went on, it looks at no wait.
     pub fn expire(&mut self) -> Option<Expired>
         ensures outcome { result ≡ (expired self.old.machine).outcome }
         ensures machine { self.new.machine ≡ (expired self.old.machine).machine }
