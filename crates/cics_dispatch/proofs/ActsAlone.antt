@@ -13,7 +13,7 @@ use Rattle.cics_browse.specs.declared.browses.Browsed.{Browsed}
 use Rattle.cics_enqueue.specs.Resources.{most_count}
 use Rattle.cics_history.specs.Store.{apply}
 use Rattle.cics_history.specs.Holding.{UnitsState, store_of, awaited, value_holder}
-use Rattle.cics_history.specs.Execution.{unit_or_next, count_at, state_of, execution, after_execution, enq_of, enqueue, after_enqueued, after_enqueue, after_dequeue, after_unlock}
+use Rattle.cics_history.specs.Execution.{unit_or_next, count_at, state_of, execution, after_execution, enq_of, enqueue, after_enqueued, after_enqueue, after_dequeue, after_unlock, after_ts_reading, item_asked}
 use Rattle.cics_history.specs.Events.{is_live}
 use Rattle.cics_history.specs.declared.ops.Op.{Op}
 use Rattle.cics_history.specs.declared.ops.Done.{Done}
@@ -26,16 +26,15 @@ use Rattle.cics_dispatch.specs.Replies.{plain}
 use Rattle.cics_dispatch.specs.Machine.{Machine, Task, task_at, not_waiting, with_task, with_units, with_unit, with_browses, units_after, unit_closed, abended, records_in}
 use Rattle.cics_dispatch.specs.Checks.{fault_of}
 use Rattle.cics_dispatch.specs.Steps.{unhandled, answered, made_to_wait, executed, enqueued, unlocked, dequeued, with_browse, started, reset, browsed, browse_ended, other_command, by_op, op_of, performed, checked}
-use Rattle.cics_names.specs.Commands.{asks_no_queue}
 use Rattle.cics_names.specs.declared.commands.Command.{Command}
 use Rattle.cics_names.specs.declared.commands.Verb.{Verb}
-use Rattle.cics_names.specs.declared.commands.Verb.TheVariants.{Read, Write, Rewrite, Delete, Unlock, StartBr, ResetBr, ReadNext, ReadPrev, EndBr, Enq, Deq, Syncpoint, Rollback, Return, Abend}
+use Rattle.cics_names.specs.declared.commands.Verb.TheVariants.{Read, Write, Rewrite, Delete, Unlock, StartBr, ResetBr, ReadNext, ReadPrev, EndBr, WriteqTs, ReadqTs, DeleteqTs, WriteqTd, ReadqTd, DeleteqTd, Enq, Deq, Syncpoint, Rollback, Return, Abend}
 use Rattle.cics_dispatch.specs.declared.outcomes.Reply.{Reply}
 use Rattle.cics_dispatch.proofs.KeptTasks.{begins_now}
 use Rattle.cics_dispatch.proofs.KeptTasks.{begins_now}
 use Rattle.cics_dispatch.proofs.TaskPlaces.{task_at-replaced}
-use Rattle.cics_dispatch.proofs.OtherUnits.{LeavesOthers, leaves_all, acting_other, entered_leaves, counted_leaves, dequeued_leaves, unlocked_leaves, closed_leaves}
-use Rattle.cics_dispatch.proofs.OthersHold.{LeavesHeld, held_all, entered_held, counted_held, dequeued_held, unlocked_held, closed_held}
+use Rattle.cics_dispatch.proofs.OtherUnits.{LeavesOthers, leaves_all, acting_other, entered_leaves, counted_leaves, dequeued_leaves, unlocked_leaves, item_read_leaves, closed_leaves}
+use Rattle.cics_dispatch.proofs.OthersHold.{LeavesHeld, held_all, entered_held, counted_held, dequeued_held, unlocked_held, item_read_held, closed_held}
 use Rattle.cics_dispatch.proofs.RegionSteps.{acts_in}
 
 -- a step of the task of a label, in a unit or without one, leaves the clock, the tasks of other labels, and the other
@@ -194,6 +193,12 @@ module _ (m : Machine) (t : Task) where
       (leaves_units t.label m (after_dequeue m.units u value) (Some u) (dequeued_leaves m.units u value) (dequeued_held m.units u value)))
       (acts_own m t.unit) refl resp r
 
+  item_read_alone : (q : Bytes) (item : ℕ) (resp : Bool) (r : Reply) → ActsAlone t.label t.unit m (answered (with_units m (after_ts_reading m.units q item)) t resp r).machine
+  item_read_alone q item resp r =
+      then_answered t.label t.unit m (with_units m (after_ts_reading m.units q item)) t refl
+      (leaves_units t.label m (after_ts_reading m.units q item) t.unit (item_read_leaves m.units t.unit q item) (item_read_held m.units t.unit q item))
+      (acts_own m t.unit) refl resp r
+
   -- ENQ that takes its value takes it for the task's own unit, or for the one that begins
   pub taken_in : (value : Bytes) (unit : ℕ) (w : Option ℕ) → enq_of m.units t.unit value w ≡ Taken unit → unit_or_next t.unit m.units.outcomes ≡ unit
   taken_in value unit (Some holder) is = cc
@@ -203,7 +208,7 @@ module _ (m : Machine) (t : Task) where
       full true is = cc
       full false is = cc
 
-  module _ (c : Command) (asks : asks_no_queue c.verb ≡ true) where
+  module _ (c : Command) where
     waits_alone : (o : Option Op) (holder : ℕ) (busy : Option Condition) → ActsAlone t.label t.unit m (made_to_wait m t c o holder busy).machine
     waits_alone o holder None = record { others = record { clock = refl; tasks = λ x other. refl; units = leaves_all m.units t.unit; held = held_all m.units t.unit }; waits = inr (inl (c, o, refl)) }
     waits_alone o holder (Some condition) = answered_alone c.resp _
@@ -245,28 +250,33 @@ module _ (m : Machine) (t : Task) where
             (subst (λ e. LeavesHeld m.units (after_enqueued m.units t.unit value e) t.unit) (sym is)
             (subst (λ v. LeavesHeld m.units (after_enqueued m.units t.unit value (Taken v)) t.unit) same (counted_held m.units t.unit value))) _
 
-    other_alone : (verb : Verb) → asks_no_queue verb ≡ true → ActsAlone t.label t.unit m (other_command m t c verb).machine
-    other_alone (Read f key given n generic gteq update) no_queue = answered_alone c.resp _
-    other_alone (Write f key given from n) no_queue = answered_alone c.resp _
-    other_alone (Rewrite f from n) no_queue = answered_alone c.resp _
-    other_alone (Delete f key given) no_queue = answered_alone c.resp _
-    other_alone (Unlock f) no_queue = unlocked_alone f c.resp _ t.unit refl
-    other_alone (StartBr f key given generic equal) no_queue = started_alone c.resp f key generic equal
-    other_alone (ResetBr f key given generic equal) no_queue = reset_alone c.resp f key generic equal (value_at f t.browses)
-    other_alone (ReadNext f n) no_queue = browsed_alone c.resp f n (value_at f t.browses) (read_next (records_in m f)) (after_next (records_in m f))
-    other_alone (ReadPrev f n) no_queue = browsed_alone c.resp f n (value_at f t.browses) (read_prev (records_in m f)) (after_prev (records_in m f))
-    other_alone (EndBr f) no_queue = browse_ended_alone c.resp f
-    other_alone (Enq value n nosuspend) no_queue = enqueued_alone (take n value)
-    other_alone (Deq value n) no_queue = dequeued_alone (take n value) c.resp _ t.unit refl
-    other_alone Syncpoint no_queue = closed_alone Committed false
-    other_alone Rollback no_queue = closed_alone BackedOut false
-    other_alone Return no_queue = closed_alone Committed true
-    other_alone (Abend None) no_queue = abended_alone
-    other_alone (Abend (Some code)) no_queue = abended_alone
-    other_alone verb no_queue = absurd (false≢true no_queue)
+    other_alone : (verb : Verb) → ActsAlone t.label t.unit m (other_command m t c verb).machine
+    other_alone (Read f key given n generic gteq update) = answered_alone c.resp _
+    other_alone (Write f key given from n) = answered_alone c.resp _
+    other_alone (Rewrite f from n) = answered_alone c.resp _
+    other_alone (Delete f key given generic) = answered_alone c.resp _
+    other_alone (Unlock f) = unlocked_alone f c.resp _ t.unit refl
+    other_alone (StartBr f key given generic equal) = started_alone c.resp f key generic equal
+    other_alone (ResetBr f key given generic equal) = reset_alone c.resp f key generic equal (value_at f t.browses)
+    other_alone (ReadNext f n) = browsed_alone c.resp f n (value_at f t.browses) (read_next (records_in m f)) (after_next (records_in m f))
+    other_alone (ReadPrev f n) = browsed_alone c.resp f n (value_at f t.browses) (read_prev (records_in m f)) (after_prev (records_in m f))
+    other_alone (EndBr f) = browse_ended_alone c.resp f
+    other_alone (Enq value n nosuspend) = enqueued_alone (take n value)
+    other_alone (Deq value n) = dequeued_alone (take n value) c.resp _ t.unit refl
+    other_alone Syncpoint = closed_alone Committed false
+    other_alone Rollback = closed_alone BackedOut false
+    other_alone Return = closed_alone Committed true
+    other_alone (Abend None) = abended_alone
+    other_alone (Abend (Some code)) = abended_alone
+    other_alone (WriteqTs q from n item) = answered_alone c.resp _
+    other_alone (ReadqTs q n item) = item_read_alone q (item_asked m.units q item) c.resp _
+    other_alone (DeleteqTs q) = answered_alone c.resp _
+    other_alone (WriteqTd q from n) = answered_alone c.resp _
+    other_alone (ReadqTd q n nosuspend) = answered_alone c.resp _
+    other_alone (DeleteqTd q) = answered_alone c.resp _
 
     by_op_alone : (o : Option Op) → ActsAlone t.label t.unit m (by_op m t c o).machine
-    by_op_alone None = other_alone c.verb asks
+    by_op_alone None = other_alone c.verb
     by_op_alone (Some o) = executed_alone o
 
     -- from the look at what other units hold on

@@ -13,16 +13,15 @@ use Rattle.cics_enqueue.specs.declared.resources.Resource.TheVariants.{User}
 use Rattle.cics_history.specs.Holding.{UnitsState, uses_of, held_by, held_table, first_holder, first_some, holder_among, writer_awaited, awaited}
 use Rattle.cics_history.specs.Execution.{IsOpenUnit}
 use Rattle.cics_history.specs.Events.{is_live}
-use Rattle.cics_history.specs.Records.{is_file_op}
 use Rattle.cics_history.specs.declared.ops.Op.{Op}
-use Rattle.cics_history.specs.declared.ops.Op.TheVariants.{Write, Rewrite, Delete, DeleteGeneric, ReadUpdate}
+use Rattle.cics_history.specs.declared.ops.Op.TheVariants.{TdRead}
 use Rattle.cics_history.proofs.Waiting.{none_first, none_either, in_table}
 use Rattle.cics_history.proofs.Holders.{any_only}
 use Rattle.cics_history.proofs.States.{holder_holds}
 use Rattle.cics_dispatch.specs.Machine.{Machine, Task, Suspended, task_at}
 use Rattle.cics_dispatch.specs.Waits.{wait_of}
 use Rattle.cics_dispatch.specs.Waking.{awaited_by, may_go_on, first_free, is_late, first_late}
-use Rattle.cics_dispatch.specs.Settled.{is_among, AreAmong, holds_back, IsBlocked, IsInTime}
+use Rattle.cics_dispatch.specs.Settled.{is_among, AreAmong, reads_queue, holds_back, IsBlocked, IsInTime}
 use Rattle.cics_names.specs.declared.commands.Verb.{Verb}
 use Rattle.cics_names.specs.declared.commands.Verb.TheVariants.{Enq}
 use Rattle.cics_dispatch.specs.KeptTasks.{IsReady, IsWaitKept}
@@ -49,39 +48,35 @@ found_among s u h (r ∷ rs) is =
       | inr later ↦ let found = found_among s u h rs later in (found.0, or_right _ _ found.1)
     ]
 
--- a command on a file waits for no writer of a queue
-no_writer : (s : UnitsState) (u : Option ℕ) (o : Op) → is_file_op o ≡ true → writer_awaited s u o ≡ None
-no_writer s u (Write f k d) is = refl
-no_writer s u (Rewrite f k d) is = refl
-no_writer s u (Delete f k) is = refl
-no_writer s u (DeleteGeneric f p) is = refl
-no_writer s u (ReadUpdate f k) is = refl
-no_writer s u o is = absurd (false≢true is)
+-- no command but READQ TD waits for the writer of a queue
+no_writer : (s : UnitsState) (u : Option ℕ) (o : Op) → reads_queue (Some o) ≡ false → writer_awaited s u o ≡ None
+no_writer s u (TdRead q) is = absurd (false≢true (sym is))
+no_writer s u o is = refl
 
-found_awaited : (s : UnitsState) (u : Option ℕ) (h : ℕ) (o : Op) → is_file_op o ≡ true → awaited s u o ≡ Some h →
+found_awaited : (s : UnitsState) (u : Option ℕ) (h : ℕ) (o : Op) → reads_queue (Some o) ≡ false → awaited s u o ≡ Some h →
     (is_other u h ≡ true) × (holds_one s h (uses_of s.opening o) ≡ true)
-found_awaited s u h o on_file is =
+found_awaited s u h o no_read is =
     elim (either_some (holder_among (held_table s) u (uses_of s.opening o)) (writer_awaited s u o) h is) [
       | inl held ↦ found_among s u h (uses_of s.opening o) held
-      | inr writer ↦ let none : None ≡ Some h = sym (no_writer s u o on_file) ∙ writer in cc
+      | inr writer ↦ let none : None ≡ Some h = sym (no_writer s u o no_read) ∙ writer in cc
     ]
 
 -- the unit that a command must wait for holds it back
-found_for : (s : UnitsState) (u : Option ℕ) (h : ℕ) (verb : Verb) (o : Option Op) → IsReady s u verb o → awaited_by s u verb o ≡ Some h →
+found_for : (s : UnitsState) (u : Option ℕ) (h : ℕ) (verb : Verb) (o : Option Op) → reads_queue o ≡ false → IsReady s u verb o → awaited_by s u verb o ≡ Some h →
     (is_other u h ≡ true) × (holds_back s h verb o ≡ true)
-found_for s u h verb (Some o) ready is = found_awaited s u h o ready.on_file is
-found_for s u h (Enq value n nosuspend) None ready is = holder_holds s u (User (bytes_of (take n value))) h is
-found_for s u h verb None ready is = absurd ready
+found_for s u h verb (Some o) no_read ready is = found_awaited s u h o no_read is
+found_for s u h (Enq value n nosuspend) None no_read ready is = holder_holds s u (User (bytes_of (take n value))) h is
+found_for s u h verb None no_read ready is = absurd ready
 
 -- a unit is among itself
 pub is_among-one : (u : ℕ) → is_among (u ∷ []) u ≡ true
 is_among-one u = or_left _ _ (eq-eqb u u refl)
 
 -- the unit that a waiting command must wait for blocks it
-pub blocked_by : (m : Machine) (w : Suspended) (t : Task) (h : ℕ) → task_at m.tasks w.label ≡ Some t → IsReady m.units t.unit w.command.verb w.op →
+pub blocked_by : (m : Machine) (w : Suspended) (t : Task) (h : ℕ) → reads_queue w.op ≡ false → task_at m.tasks w.label ≡ Some t → IsReady m.units t.unit w.command.verb w.op →
     IsOpenUnit m.units h → awaited_by m.units t.unit w.command.verb w.op ≡ Some h → IsBlocked m (h ∷ []) w
-blocked_by m w t h of_task ready is_open is =
-    let found = found_for m.units t.unit h w.command.verb w.op ready is in
+blocked_by m w t h no_read of_task ready is_open is =
+    let found = found_for m.units t.unit h w.command.verb w.op no_read ready is in
     record {
       task = t;
       of_task = of_task;
@@ -203,14 +198,14 @@ all_in_time m (w ∷ ws) none =
 -- ---- As the commands are looked at
 
 -- the unit that is found for a waiting command blocks it
-pub blocked_found : (m : Machine) (w : Suspended) (at : ℕ) (o : Option ℕ) → IsWaitKept m w → slice_get m.tasks at ≡ task_at m.tasks w.label → at < length m.tasks →
+pub blocked_found : (m : Machine) (w : Suspended) (at : ℕ) (o : Option ℕ) → reads_queue w.op ≡ false → IsWaitKept m w → slice_get m.tasks at ≡ task_at m.tasks w.label → at < length m.tasks →
     ((t : Task) → slice_get m.tasks at ≡ Some t → o ≡ awaited_by m.units t.unit w.command.verb w.op) → IfSome o (IsOpenUnit m.units) →
     IfSome o (λ h. IsBlocked m (h ∷ []) w)
-blocked_found m w at None has task within told is_open = tt
-blocked_found m w at (Some h) has task within told is_open =
+blocked_found m w at None no_read has task within told is_open = tt
+blocked_found m w at (Some h) no_read has task within told is_open =
     task_there m.tasks at within (λ t there.
     let of_task : task_at m.tasks w.label ≡ Some t = sym task ∙ there in
-    blocked_by m w t h of_task (has.ready t of_task) is_open (sym (told t there)))
+    blocked_by m w t h no_read of_task (has.ready t of_task) is_open (sym (told t there)))
 
 -- what is left of the waits blocks with what was passed
 pub record AreNoted (m : Machine) (bs : List ℕ) (ws : List Suspended) : Type 0 where

@@ -85,7 +85,7 @@ abbrev pub write : Bytes → Bytes → Bytes → Verb
 write f key from = Write f key None from None
 
 abbrev pub delete : Bytes → Bytes → Verb
-delete f key = Delete f (Some key) None
+delete f key = Delete f (Some key) None false
 
 -- a reply of a condition alone, and an abend for a condition by a code that begins with AE
 abbrev pub replied : Condition → Outcome

@@ -93,7 +93,7 @@ module _ (m : Machine) (t : Task) (c : Command) where
       by : (w : Option ℕ) → w ≡ None → length (executed m t c o (done_of m.units t.unit o w)).machine.waiting ≤ length m.waiting
       by None none =
           let owner = with_unit t (unit_or_next t.unit m.units.outcomes) in
-          answered_none (with_task (with_units m (after_execution m.units t.unit o)) owner) owner c.resp (reply_of (length_of c.verb) (apply (store_of m.units) o).answer)
+          answered_none (with_task (with_units m (after_execution m.units t.unit o)) owner) owner c.resp (reply_of c.verb (apply (store_of m.units) o).answer)
       by (Some v) none = cc
 
   enqueued_none : (value : Bytes) → value_holder m.units t.unit value ≡ None → length (enqueued m t c value (enqueue m.units t.unit value)).machine.waiting ≤ length m.waiting
@@ -145,7 +145,7 @@ module _ (m : Machine) (t : Task) (c : Command) where
   other_none (ReadNext f n) free = browsed_none f n (value_at f t.browses) (read_next (records_in m f)) (after_next (records_in m f))
   other_none (ReadPrev f n) free = browsed_none f n (value_at f t.browses) (read_prev (records_in m f)) (after_prev (records_in m f))
   other_none (EndBr f) free = let owner = with_browses t (without f t.browses) in answered_none (with_task m owner) owner c.resp (plain Normal)
-  other_none (ReadqTs q n item) free = answered_none (with_units m (after_ts_reading m.units q (item_asked m.units q item))) t c.resp (reply_of n (ts_reading m.units q (item_asked m.units q item)))
+  other_none (ReadqTs q n item) free = answered_none (with_units m (after_ts_reading m.units q (item_asked m.units q item))) t c.resp (reply_of (ReadqTs q n (Some (item_asked m.units q item))) (ts_reading m.units q (item_asked m.units q item)))
   other_none (Enq value n nosuspend) free = enqueued_none (take n value) free
   other_none (Deq value n) free = dequeued_none (take n value) t.unit
   other_none Syncpoint free = as_many (length m.waiting)

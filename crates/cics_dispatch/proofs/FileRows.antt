@@ -145,8 +145,8 @@ update_reads : journal both_files (
 update_reads = refl
 
 -- DELETE without RIDFLD deletes the record that was read for update, and has no KEYLENGTH
-delete_read : journal both_files (asks t1 (Delete acct None None) ∷ does t1 (read_update acct key_1) ∷ asks t1 (Delete acct None (Some 4))
-    ∷ does t1 (Delete acct None None) ∷ asks t1 (read acct key_1) ∷ []) ≡ told t1 (replied Invreq) ∷ told t1 (gives record_1)
+delete_read : journal both_files (asks t1 (Delete acct None None false) ∷ does t1 (read_update acct key_1) ∷ asks t1 (Delete acct None (Some 4) false)
+    ∷ does t1 (Delete acct None None false) ∷ asks t1 (read acct key_1) ∷ []) ≡ told t1 (replied Invreq) ∷ told t1 (gives record_1)
     ∷ told t1 (replied Invreq) ∷ told t1 normal ∷ told t1 (replied Notfnd) ∷ []
 delete_read = refl
 

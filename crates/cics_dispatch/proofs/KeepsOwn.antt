@@ -15,7 +15,7 @@ use Rattle.cics_history.specs.Openings.{OpeningState, file_recoverable}
 use Rattle.cics_history.specs.Store.{is_normal}
 use Rattle.cics_history.specs.History.{outcome_of, is_open}
 use Rattle.cics_history.specs.Holding.{UnitsState, UpdateRead, EnqCount, held_by_entry, held_by_read, held_by_count, held_by}
-use Rattle.cics_history.specs.Execution.{unit_or_next, outcomes_with, is_read_of, is_read_before, with_read, covers, opened, reads_after, entered, is_count, counted, with_counts, after_unlock}
+use Rattle.cics_history.specs.Execution.{unit_or_next, outcomes_with, is_read_of, is_read_before, with_read, covers, opened, reads_after, entered, is_count, counted, with_counts, after_unlock, after_ts_reading}
 use Rattle.cics_history.specs.Events.{is_live}
 use Rattle.cics_history.specs.declared.ops.Op.{Op}
 use Rattle.cics_history.specs.declared.ops.Op.TheVariants.{Write, Rewrite, Delete, DeleteGeneric, ReadUpdate, TsWrite, TsRewrite, TsDelete, TdWrite, TdRead, TdDelete}
@@ -23,7 +23,7 @@ use Rattle.cics_history.specs.declared.ops.Answer.{Answer}
 use Rattle.cics_history.proofs.Outcomes.{outcome_of-with}
 use Rattle.cics_history.proofs.Waiting.{any_flat_map}
 use Rattle.cics_history.proofs.Holders.{any_if}
-use Rattle.cics_dispatch.proofs.OtherUnits.{lives_with}
+use Rattle.cics_dispatch.proofs.OtherUnits.{lives_with, item_read_is}
 
 -- an open unit is open yet, and what it holds passes a test yet
 pub record Keeps (old new : UnitsState) (v : ℕ) : Type 0 where
@@ -195,6 +195,11 @@ pub counted_keeps : (s : UnitsState) (u : Option ℕ) (v : ℕ) (value : Bytes) 
 counted_keeps s u v value =
     has_yet s (with_counts s (outcomes_with u s.outcomes) (counted s.counts (unit_or_next u s.outcomes) value)) v (lives_with u s.outcomes v) (outcome_of-with u s.outcomes v) (λ p has. has) (λ p has. has)
     (λ p. counts_kept (unit_or_next u s.outcomes) v value p s.counts)
+
+-- READQ TS
+pub item_read_keeps : (s : UnitsState) (v : ℕ) (q : Bytes) (item : ℕ) → Keeps s (after_ts_reading s q item) v
+item_read_keeps s v q item =
+    item_read_is (λ n. Keeps s n v) s q item (keeps_same s v) (record { live = λ live. live; held = λ p has. has })
 
 -- UNLOCK of a recoverable file
 pub unlocked_keeps : (s : UnitsState) (u v : ℕ) (f : Bytes) → file_recoverable s.opening f ≡ true → Keeps s (after_unlock s u f) v

@@ -12,7 +12,7 @@ use Rattle.cics_browse.specs.declared.browses.Browsed.{Browsed}
 use Rattle.cics_history.specs.Openings.{OpeningState, file_recoverable}
 use Rattle.cics_history.specs.Store.{apply}
 use Rattle.cics_history.specs.Holding.{store_of, awaited, value_holder}
-use Rattle.cics_history.specs.Execution.{unit_or_next, state_of, execution, after_execution, enqueue, after_enqueued, after_enqueue}
+use Rattle.cics_history.specs.Execution.{unit_or_next, state_of, execution, after_execution, enqueue, after_enqueued, after_enqueue, after_ts_reading, item_asked}
 use Rattle.cics_history.specs.declared.ops.Op.{Op}
 use Rattle.cics_history.specs.declared.ops.Op.TheVariants as op
 use Rattle.cics_history.specs.declared.ops.Done.{Done}
@@ -27,9 +27,9 @@ use Rattle.cics_dispatch.specs.Steps.{unhandled, answered, made_to_wait, execute
 use Rattle.cics_dispatch.specs.Settled.{is_keeping, goes_on}
 use Rattle.cics_names.specs.declared.commands.Command.{Command}
 use Rattle.cics_names.specs.declared.commands.Verb.{Verb}
-use Rattle.cics_names.specs.declared.commands.Verb.TheVariants.{Read, Write, Rewrite, Delete, Unlock, StartBr, ResetBr, ReadNext, ReadPrev, EndBr, Enq}
+use Rattle.cics_names.specs.declared.commands.Verb.TheVariants.{Read, Write, Rewrite, Delete, Unlock, StartBr, ResetBr, ReadNext, ReadPrev, EndBr, WriteqTs, ReadqTs, DeleteqTs, WriteqTd, ReadqTd, DeleteqTd, Enq}
 use Rattle.cics_dispatch.specs.declared.outcomes.Reply.{Reply}
-use Rattle.cics_dispatch.proofs.KeepsOwn.{Keeps, keeps_same, gives_up_nothing, entered_keeps, counted_keeps, unlocked_keeps}
+use Rattle.cics_dispatch.proofs.KeepsOwn.{Keeps, keeps_same, gives_up_nothing, entered_keeps, counted_keeps, unlocked_keeps, item_read_keeps}
 use Rattle.cics_dispatch.proofs.ActsAlone.{taken_in}
 
 -- ---- Answers
@@ -59,8 +59,9 @@ keeping_op m t o (Rewrite f from n) c keeps is = of (open_key m t f) is where
   of : (k : Option Bytes) → option_map (λ key. op.Rewrite f key (used_of from n)) k ≡ Some c → gives_up_nothing o c ≡ true
   of None is = cc
   of (Some k) is = let e : op.Rewrite f k (used_of from n) ≡ c = cc in subst (λ c. gives_up_nothing o c ≡ true) e keeps
-keeping_op m t o (Delete f (Some key) given) c keeps is = let e : op.Delete f key ≡ c = cc in subst (λ c. gives_up_nothing o c ≡ true) e keeps
-keeping_op m t o (Delete f None given) c keeps is = of (open_key m t f) is where
+keeping_op m t o (Delete f (Some key) given false) c keeps is = let e : op.Delete f key ≡ c = cc in subst (λ c. gives_up_nothing o c ≡ true) e keeps
+keeping_op m t o (Delete f (Some key) given true) c keeps is = let e : op.DeleteGeneric f key ≡ c = cc in subst (λ c. gives_up_nothing o c ≡ true) e keeps
+keeping_op m t o (Delete f None given generic) c keeps is = of (open_key m t f) is where
   of : (k : Option Bytes) → option_map (λ key. op.Delete f key) k ≡ Some c → gives_up_nothing o c ≡ true
   of None is = cc
   of (Some k) is = let e : op.Delete f k ≡ c = cc in subst (λ c. gives_up_nothing o c ≡ true) e keeps
@@ -70,6 +71,13 @@ keeping_op m t o (ResetBr f key given generic equal) c keeps is = cc
 keeping_op m t o (ReadNext f n) c keeps is = cc
 keeping_op m t o (ReadPrev f n) c keeps is = cc
 keeping_op m t o (EndBr f) c keeps is = cc
+keeping_op m t o (WriteqTs q from n None) c keeps is = let e : op.TsWrite q (used_of from n) ≡ c = cc in subst (λ c. gives_up_nothing o c ≡ true) e refl
+keeping_op m t o (WriteqTs q from n (Some item)) c keeps is = let e : op.TsRewrite q item (used_of from n) ≡ c = cc in subst (λ c. gives_up_nothing o c ≡ true) e refl
+keeping_op m t o (ReadqTs q n item) c keeps is = cc
+keeping_op m t o (DeleteqTs q) c keeps is = let e : op.TsDelete q ≡ c = cc in subst (λ c. gives_up_nothing o c ≡ true) e refl
+keeping_op m t o (WriteqTd q from n) c keeps is = let e : op.TdWrite q (used_of from n) ≡ c = cc in subst (λ c. gives_up_nothing o c ≡ true) e refl
+keeping_op m t o (ReadqTd q n nosuspend) c keeps is = let e : op.TdRead q ≡ c = cc in subst (λ c. gives_up_nothing o c ≡ true) e refl
+keeping_op m t o (DeleteqTd q) c keeps is = let e : op.TdDelete q ≡ c = cc in subst (λ c. gives_up_nothing o c ≡ true) e refl
 keeping_op m t o (Enq value n nosuspend) c keeps is = cc
 keeping_op m t o verb c keeps is = absurd (false≢true keeps)
 
@@ -138,7 +146,7 @@ module _ (m : Machine) (t : Task) (v : ℕ) where
     other_keeps (Read f key given n generic gteq update) keeps goes = answered_keeps c.resp _ goes
     other_keeps (Write f key given from n) keeps goes = answered_keeps c.resp _ goes
     other_keeps (Rewrite f from n) keeps goes = answered_keeps c.resp _ goes
-    other_keeps (Delete f key given) keeps goes = answered_keeps c.resp _ goes
+    other_keeps (Delete f key given generic) keeps goes = answered_keeps c.resp _ goes
     other_keeps (Unlock f) keeps goes = unlocked_told f c.resp (plain Normal) keeps t.unit goes
     other_keeps (StartBr f key given generic equal) keeps goes = started_keeps c.resp f key generic equal goes
     other_keeps (ResetBr f key given generic equal) keeps goes = reset_keeps c.resp f key generic equal (value_at f t.browses) goes
@@ -146,6 +154,14 @@ module _ (m : Machine) (t : Task) (v : ℕ) where
     other_keeps (ReadPrev f n) keeps goes = browsed_keeps c.resp f n (value_at f t.browses) (read_prev (records_in m f)) (after_prev (records_in m f)) goes
     other_keeps (EndBr f) keeps goes =
         told_keeps m (with_task m (with_browses t (without f t.browses))) (with_browses t (without f t.browses)) v c.resp (plain Normal) (keeps_same m.units v) goes
+    other_keeps (WriteqTs q from n item) keeps goes = answered_keeps c.resp _ goes
+    other_keeps (ReadqTs q n item) keeps goes =
+        let asked = item_asked m.units q item in
+        told_keeps m (with_units m (after_ts_reading m.units q asked)) t v c.resp _ (item_read_keeps m.units v q asked) goes
+    other_keeps (DeleteqTs q) keeps goes = answered_keeps c.resp _ goes
+    other_keeps (WriteqTd q from n) keeps goes = answered_keeps c.resp _ goes
+    other_keeps (ReadqTd q n nosuspend) keeps goes = answered_keeps c.resp _ goes
+    other_keeps (DeleteqTd q) keeps goes = answered_keeps c.resp _ goes
     other_keeps (Enq value n nosuspend) keeps goes = enqueued_told (take n value) goes
     other_keeps verb keeps goes = absurd (false≢true keeps)
 

@@ -11,7 +11,7 @@ use Rattle.cics_history.specs.Openings.{OpeningState}
 use Rattle.cics_history.specs.Holding.{UnitsState, store_of, awaited, value_holder}
 use Rattle.cics_history.specs.Store.{apply}
 use Rattle.cics_history.specs.History.{outcome_of, is_open}
-use Rattle.cics_history.specs.Execution.{is_ready_op, has_read, unit_or_next, count_at, counted, done_of, state_of, execution, after_execution, enq_of, enqueue, after_enqueued, after_enqueue, after_dequeue, after_unlock, IsOpenUnit, IsOpenOrNone}
+use Rattle.cics_history.specs.Execution.{is_ready_op, has_read, unit_or_next, count_at, counted, done_of, state_of, execution, after_execution, enq_of, enqueue, after_enqueued, after_enqueue, after_dequeue, after_unlock, after_ts_reading, IsOpenUnit, IsOpenOrNone}
 use Rattle.cics_history.specs.Events.{is_live, may_act}
 use Rattle.cics_history.specs.declared.ops.Op.{Op}
 use Rattle.cics_history.specs.declared.ops.Op.TheVariants.{Write, Rewrite, Delete, DeleteGeneric, ReadUpdate, TsWrite, TsRewrite, TsDelete, TdWrite, TdRead, TdDelete}
@@ -28,7 +28,7 @@ use Rattle.cics_dispatch.specs.KeptTasks.{IsReady, IsWaitKept, AreTasksKept}
 use Rattle.cics_names.specs.declared.commands.Command.{Command}
 use Rattle.cics_names.specs.declared.commands.Verb.{Verb}
 use Rattle.cics_dispatch.proofs.TaskPlaces.{same_place, place-set, set_placed, set_same, IsOwn-set, task_at-place, place_of_task, replaced-set, task_at-replaced, place-push, IsOwn-push, task_at-push}
-use Rattle.cics_dispatch.proofs.OtherUnits.{LeavesOthers, leaves_all, begun, acting_lives, entered_leaves, counted_leaves, dequeued_leaves, unlocked_leaves, closed_leaves}
+use Rattle.cics_dispatch.proofs.OtherUnits.{LeavesOthers, leaves_all, begun, acting_lives, entered_leaves, counted_leaves, dequeued_leaves, unlocked_leaves, item_read_leaves, item_read_live, closed_leaves}
 
 -- ---- What the units and the tasks are told
 
@@ -81,7 +81,7 @@ ready_kept s n u (TdDelete q) opening reads = rw opening refl
 
 ready_yet : (s n : UnitsState) (u : Option ℕ) (verb : Verb) (o : Option Op) → n.opening ≡ s.opening → ((f : Bytes) → has_read n u f ≡ has_read s u f) →
     IsReady s u verb o → IsReady n u verb o
-ready_yet s n u verb (Some o) opening reads is = record { on_file = is.on_file; ready = ready_kept s n u o opening reads ∙ is.ready }
+ready_yet s n u verb (Some o) opening reads is = ready_kept s n u o opening reads ∙ is
 ready_yet s n u (Enq value k nosuspend) None opening reads is = is
 ready_yet s n u verb None opening reads is = absurd is
 
@@ -396,6 +396,12 @@ module _ (m : Machine) (at : ℕ) (t : Task) (kept : AreTasksKept m) (placed : s
       by (Some u) own =
           kept_units (after_dequeue m.units u value) (subst (LeavesOthers m.units (after_dequeue m.units u value)) (sym own) (dequeued_leaves m.units u value))
           (λ v own_v. kept.open_units at t v placed own_v)
+
+  -- READQ TS
+  pub kept_item_read : (q : Bytes) (item : ℕ) → AreTasksKept (with_units m (after_ts_reading m.units q item))
+  kept_item_read q item =
+      let leaves = item_read_leaves m.units t.unit q item in
+      kept_units (after_ts_reading m.units q item) leaves (λ u own. item_read_live m.units q item u (kept.open_units at t u placed own))
 
 -- an abend, also where a command of the task waits
 pub kept_abended : (m : Machine) (at : ℕ) (t : Task) → AreTasksKept m → slice_get m.tasks at ≡ Some t → AreTasksKept (abended m t)

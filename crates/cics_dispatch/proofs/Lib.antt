@@ -18,6 +18,7 @@ mod RegionEnqueuing
 mod RegionListing
 mod RegionWaking
 mod RegionPerforming
+mod RegionQueues
 pub mod Blocked
 pub mod OthersHold
 pub mod ActsAlone

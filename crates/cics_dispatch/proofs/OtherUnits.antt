@@ -3,13 +3,14 @@ use Rattle.std.specs.Prelude.{◌≡◌, ◌≢◌, ℕ, ◌<◌, ◌==◌, Bool
 use Rattle.std.proofs.Common.{length-append, sym, ap, ◌∙◌, arith}
 use Rattle.std.proofs.lemmas.Bool.{false≢true, and_parts, and_from, ltb-true, lt-ltb, eqb-true, ne_eqb, false_from_ne_true}
 use Rattle.std.proofs.lemmas.List.{length-set}
-use Rattle.cics_names.specs.Keyed.{Bytes, is_same}
+use Rattle.cics_names.specs.Keyed.{Bytes, is_same, with_value}
 use Rattle.cics_names.specs.declared.conditions.Condition.{Condition}
 use Rattle.cics_ksds.specs.Prefixes.{has_prefix}
-use Rattle.cics_history.specs.Store.{is_normal}
+use Rattle.cics_tempstor.specs.Queues.{has_item}
+use Rattle.cics_history.specs.Store.{is_normal, ts_queue}
 use Rattle.cics_history.specs.History.{outcome_of, is_open}
-use Rattle.cics_history.specs.Holding.{UnitsState, UpdateRead, EnqCount}
-use Rattle.cics_history.specs.Execution.{unit_or_next, outcomes_with, is_read_of, read_at, is_read_before, with_read, covers, opened, reads_after, entered, with_counts, after_unlock, after_dequeue, after_end}
+use Rattle.cics_history.specs.Holding.{UnitsState, UpdateRead, EnqCount, store_of}
+use Rattle.cics_history.specs.Execution.{unit_or_next, outcomes_with, is_read_of, read_at, is_read_before, with_read, covers, opened, reads_after, entered, with_counts, after_unlock, after_dequeue, after_end, after_ts_reading}
 use Rattle.cics_history.specs.Events.{may_act, is_live}
 use Rattle.cics_history.specs.declared.ops.Op.{Op}
 use Rattle.cics_history.specs.declared.ops.Op.TheVariants.{Write, Rewrite, Delete, DeleteGeneric, ReadUpdate, TsWrite, TsRewrite, TsDelete, TdWrite, TdRead, TdDelete}
@@ -144,6 +145,23 @@ unlocked_leaves s u f = record {
       read_at-filter (λ r. not (is_read_of u f r)) v g
       (λ r own. ap (λ b. not (b && is_same r.file f)) (other_unit u v r.unit (λ e. other (ap Some e)) own)) s.reads;
 }
+
+-- READQ TS moves the NEXT place of a queue alone
+pub item_read_is : (P : UnitsState → Type 0) (s : UnitsState) (q : Bytes) (item : ℕ) → P s →
+    P (record { opening = s.opening; trace = s.trace; outcomes = s.outcomes; reads = s.reads; counts = s.counts; next = with_value q item s.next }) → P (after_ts_reading s q item)
+item_read_is P s q item stays moved =
+    elim (has_item (ts_queue (store_of s) q) item) as
+    (λ b. P (cond b (record { opening = s.opening; trace = s.trace; outcomes = s.outcomes; reads = s.reads; counts = s.counts; next = with_value q item s.next }) s)) [
+      | true ↦ moved
+      | false ↦ stays
+    ]
+
+pub item_read_leaves : (s : UnitsState) (u : Option ℕ) (q : Bytes) (item : ℕ) → LeavesOthers s (after_ts_reading s q item) u
+item_read_leaves s u q item =
+    item_read_is (λ n. LeavesOthers s n u) s q item (leaves_all s u) (record { opening = refl; live = λ v other live. live; reads = λ v f other live. refl })
+
+pub item_read_live : (s : UnitsState) (q : Bytes) (item v : ℕ) → is_live s v ≡ true → is_live (after_ts_reading s q item) v ≡ true
+item_read_live s q item v live = item_read_is (λ n. is_live n v ≡ true) s q item live live
 
 -- the end of a unit
 ended_leaves : (s : UnitsState) (u : ℕ) (outcome : UnitState) → LeavesOthers s (after_end s u outcome) (Some u)

@@ -11,7 +11,7 @@ use Rattle.cics_history.specs.Openings.{OpeningState, file_recoverable}
 use Rattle.cics_history.specs.Store.{is_normal, is_recoverable}
 use Rattle.cics_history.specs.History.{outcome_of, is_open}
 use Rattle.cics_history.specs.Holding.{UnitsState, UpdateRead, EnqCount, uses_of, held_by_entry, held_by_read, held_by_count, held_by}
-use Rattle.cics_history.specs.Execution.{unit_or_next, outcomes_with, is_read_of, is_read_before, with_read, covers, opened, reads_after, entered, is_count, counted, uncounted, with_counts, after_unlock, after_dequeue, after_end}
+use Rattle.cics_history.specs.Execution.{unit_or_next, outcomes_with, is_read_of, is_read_before, with_read, covers, opened, reads_after, entered, is_count, counted, uncounted, with_counts, after_unlock, after_dequeue, after_end, after_ts_reading}
 use Rattle.cics_history.specs.Events.{is_live}
 use Rattle.cics_history.specs.declared.ops.Op.{Op}
 use Rattle.cics_history.specs.declared.ops.Op.TheVariants.{Write, Rewrite, Delete, DeleteGeneric, ReadUpdate, TsWrite, TsRewrite, TsDelete, TdWrite, TdRead, TdDelete}
@@ -20,7 +20,7 @@ use Rattle.cics_history.specs.declared.ops.Entry.{Entry}
 use Rattle.cics_history.specs.declared.ops.UnitState.{UnitState}
 use Rattle.cics_history.proofs.Outcomes.{outcome_of-with, outcome_of-set}
 use Rattle.cics_dispatch.specs.Machine.{units_after}
-use Rattle.cics_dispatch.proofs.OtherUnits.{acting_other}
+use Rattle.cics_dispatch.proofs.OtherUnits.{acting_other, item_read_is}
 
 -- a step of a unit, or of a task without one, leaves every other open unit what it holds
 pub record LeavesHeld (old new : UnitsState) (u : Option ℕ) : Type 0 where
@@ -188,6 +188,10 @@ unlocked_held s u f = record {
       (given_filter (held_by_read s.opening v) (λ r. not (is_read_of u f r))
       (λ r is. read_other s.opening v r (λ e. other (ap Some (sym (eqb-true r.unit u (and_parts _ _ (left_out (is_read_of u f r) is)).0) ∙ e)))) s.reads) refl;
 }
+
+-- READQ TS
+pub item_read_held : (s : UnitsState) (u : Option ℕ) (q : Bytes) (item : ℕ) → LeavesHeld s (after_ts_reading s q item) u
+item_read_held s u q item = item_read_is (λ n. LeavesHeld s n u) s q item (held_all s u) (record { held = λ v other live. refl })
 
 -- the end of a unit
 pub ended_held : (s : UnitsState) (u : ℕ) (outcome : UnitState) → LeavesHeld s (after_end s u outcome) (Some u)

@@ -1,27 +1,26 @@
--- A command whose checks have passed asks for an updating command that is ready to be executed, on a file and with a key
--- of no more bytes than a key may have.
-use Rattle.std.specs.Prelude.{◌<◌, IfSome, ◌≡◌, ℕ, ◌+◌, ◌≤◌, Bool, true, false, not, ◌&&◌, ◌||◌, Option, Some, None, is_some, nat_le, option_map, length, [], ◌∷◌, refl}
+-- A command whose checks have passed asks for an updating command that is ready to be executed, with a key of no more bytes
+-- than a key may have.
+use Rattle.std.specs.Prelude.{◌<◌, IfSome, ◌≡◌, ℕ, ◌+◌, ◌≤◌, Bool, true, false, if◌then◌else◌, not, ◌&&◌, ◌||◌, Option, Some, None, is_some, nat_le, option_map, length, [], ◌∷◌, refl}
 use Rattle.std.proofs.Common.{sym, subst, arith}
 use Rattle.std.proofs.lemmas.Bool.{false≢true, leb-true, le-leb, eqb-true}
-use Rattle.cics_names.specs.Keyed.{Bytes, value_at, is_same}
+use Rattle.cics_names.specs.Keyed.{Bytes, value_at, has_key, is_same}
 use Rattle.cics_names.specs.KeyedLaws.{is_same-self}
 use Rattle.cics_names.specs.declared.conditions.Condition.{Condition}
-use Rattle.cics_names.specs.declared.conditions.Condition.TheVariants.{Invreq, Lengerr}
+use Rattle.cics_names.specs.declared.conditions.Condition.TheVariants.{Invreq, Lengerr, Qiderr}
 use Rattle.cics_ksds.specs.Files.{key_of as key_in, fits_file}
 use Rattle.cics_ksds.specs.declared.definition.FileDef.{FileDef}
 use Rattle.cics_history.specs.Openings.{FileOpening, is_key}
-use Rattle.cics_history.specs.Records.{is_file_op, key_of}
-use Rattle.cics_history.specs.Execution.{is_fit_for, is_ready_op, is_short_key}
+use Rattle.cics_history.specs.Records.{key_of}
+use Rattle.cics_history.specs.Execution.{is_fit_for, is_item, is_ready_op, is_short_key}
 use Rattle.cics_history.specs.declared.ops.Op.{Op}
 use Rattle.cics_history.specs.declared.ops.Op.TheVariants as op
-use Rattle.cics_history.specs.declared.ops.Op.TheVariants.{TsWrite, TsRewrite, TsDelete, TdWrite, TdRead, TdDelete}
 use Rattle.cics_dispatch.specs.Lengths.{fault_unless, first_fault, is_length_given, is_key_length, key_fault, is_within, used_of, from_fault, own_key_fault, write_fault}
 use Rattle.cics_dispatch.specs.Machine.{Machine, Task, definition_of}
-use Rattle.cics_dispatch.specs.Checks.{resource_fault, defined_fault, open_key, read_fault, rewrite_fault, delete_fault, fault_of}
+use Rattle.cics_dispatch.specs.Checks.{resource_fault, defined_fault, queue_fault, item_fault, open_key, read_fault, rewrite_fault, deleted_key_fault, delete_fault, fault_of}
 use Rattle.cics_dispatch.specs.Steps.{op_of}
-use Rattle.cics_names.specs.Commands.{file_named, asks_no_queue}
+use Rattle.cics_names.specs.Commands.{file_named}
 use Rattle.cics_names.specs.declared.commands.Verb.{Verb}
-use Rattle.cics_names.specs.declared.commands.Verb.TheVariants.{Read, Write, Rewrite, Delete, Enq}
+use Rattle.cics_names.specs.declared.commands.Verb.TheVariants.{Read, Write, Rewrite, Delete, WriteqTs, DeleteqTs, WriteqTd, ReadqTd, DeleteqTd, Enq}
 use Rattle.cics_dispatch.specs.KeptTasks.{IsReady}
 use Rattle.cics_dispatch.specs.Calls.{OfTask, HasReady, MayPerform}
 use Rattle.cics_dispatch.proofs.RegionSteps.{task_there}
@@ -137,22 +136,30 @@ short_of : (c o : Op) → o ≡ c → length (key_of c) ≤ 255 → is_short_key
 short_of c o same short = short_key (key_of o) (subst (λ c. length (key_of c) ≤ 255) (sym same) short)
 
 -- a DELETE of the record that was read
-delete_ready : (m : Machine) (t : Task) (f : Bytes) (given : Option ℕ) (o : Option Bytes) (c : Op) →
-    defined_fault (definition_of m f) (λ d. delete_fault d o None given) ≡ None → option_map (λ key. op.Delete f key) o ≡ Some c →
+delete_ready : (m : Machine) (t : Task) (f : Bytes) (given : Option ℕ) (generic : Bool) (o : Option Bytes) (c : Op) →
+    defined_fault (definition_of m f) (λ d. delete_fault d o None given generic) ≡ None → option_map (λ key. op.Delete f key) o ≡ Some c →
     length (key_of c) ≤ 255 → is_ready_op m.units t.unit c ≡ true
-delete_ready m t f given None c passes is short = cc
-delete_ready m t f given (Some k) c passes is short =
+delete_ready m t f given generic None c passes is short = cc
+delete_ready m t f given generic (Some k) c passes is short =
     let e : op.Delete f k ≡ c = cc in
     let file = value_at f m.units.opening.files in
     subst (λ c. is_ready_op m.units t.unit c ≡ true) e
     (and_both (is_some file) (is_short_key k)
-    (defined file (λ d. delete_fault d (Some k) None given) passes) (short_of c (op.Delete f k) e short))
+    (defined file (λ d. delete_fault d (Some k) None given generic) passes) (short_of c (op.Delete f k) e short))
+
+-- an item or a transient data record that has passed its check
+item_used : (from : Bytes) (n : Option ℕ) → item_fault from n ≡ None → is_item (used_of from n) ≡ true
+item_used from n passes = (both (is_within from n) (is_item (used_of from n)) (holds (is_within from n && is_item (used_of from n)) Lengerr passes)).1
+
+-- a transient data queue whose check has passed is defined
+queue_there : (m : Machine) (q : Bytes) → queue_fault m q ≡ None → has_key q m.units.opening.queues ≡ true
+queue_there m q passes = holds (has_key q m.units.opening.queues) Qiderr passes
 
 -- a command whose checks have passed is ready
-pub ready_of : (m : Machine) (t : Task) (verb : Verb) (c : Op) → fault_of m t verb ≡ None → op_of m t verb ≡ Some c → asks_no_queue verb ≡ true →
+pub ready_of : (m : Machine) (t : Task) (verb : Verb) (c : Op) → fault_of m t verb ≡ None → op_of m t verb ≡ Some c →
     length (key_of c) ≤ 255 → is_ready_op m.units t.unit c ≡ true
-ready_of m t (Read f key given n generic gteq false) c passes is asks short = cc
-ready_of m t (Read f key given n generic gteq true) c passes is asks short =
+ready_of m t (Read f key given n generic gteq false) c passes is short = cc
+ready_of m t (Read f key given n generic gteq true) c passes is short =
     let e : op.ReadUpdate f key ≡ c = cc in
     let file = value_at f m.units.opening.files in
     subst (λ c. is_ready_op m.units t.unit c ≡ true) e
@@ -160,34 +167,44 @@ ready_of m t (Read f key given n generic gteq true) c passes is asks short =
     (and_both (is_some file) (is_short_key key)
     (defined file (λ d. read_fault d (open_key m t f) key given generic gteq true) passes) (short_of c (op.ReadUpdate f key) e short))
     (none_open (definition_of m f) (open_key m t f) key given generic gteq passes))
-ready_of m t (Write f key given from n) c passes is asks short =
+ready_of m t (Write f key given from n) c passes is short =
     let e : op.Write f key (used_of from n) ≡ c = cc in
     subst (λ c. is_ready_op m.units t.unit c ≡ true) e (fit_to_write (value_at f m.units.opening.files) key given from n passes)
-ready_of m t (Rewrite f from n) c passes is asks short = rewrite_ready m t f from n (open_key m t f) c refl passes is
-ready_of m t (Delete f (Some key) given) c passes is asks short =
+ready_of m t (Rewrite f from n) c passes is short = rewrite_ready m t f from n (open_key m t f) c refl passes is
+ready_of m t (Delete f (Some key) given false) c passes is short =
     let e : op.Delete f key ≡ c = cc in
     let file = value_at f m.units.opening.files in
     subst (λ c. is_ready_op m.units t.unit c ≡ true) e
     (and_both (is_some file) (is_short_key key)
-    (defined file (λ d. delete_fault d (open_key m t f) (Some key) given) passes) (short_of c (op.Delete f key) e short))
-ready_of m t (Delete f None given) c passes is asks short = delete_ready m t f given (open_key m t f) c passes is short
-ready_of m t verb c passes is asks short = cc
-
--- it is a command on a file
-pub is_file_op_of : (m : Machine) (t : Task) (verb : Verb) (c : Op) → op_of m t verb ≡ Some c → asks_no_queue verb ≡ true → is_file_op c ≡ true
-is_file_op_of m t (Read f key given n generic gteq false) c is asks = cc
-is_file_op_of m t (Read f key given n generic gteq true) c is asks = let e : op.ReadUpdate f key ≡ c = cc in subst (λ c. is_file_op c ≡ true) e refl
-is_file_op_of m t (Write f key given from n) c is asks = let e : op.Write f key (used_of from n) ≡ c = cc in subst (λ c. is_file_op c ≡ true) e refl
-is_file_op_of m t (Rewrite f from n) c is asks = of (open_key m t f) is where
-  of : (o : Option Bytes) → option_map (λ key. op.Rewrite f key (used_of from n)) o ≡ Some c → is_file_op c ≡ true
-  of None is = cc
-  of (Some k) is = let e : op.Rewrite f k (used_of from n) ≡ c = cc in subst (λ c. is_file_op c ≡ true) e refl
-is_file_op_of m t (Delete f (Some key) given) c is asks = let e : op.Delete f key ≡ c = cc in subst (λ c. is_file_op c ≡ true) e refl
-is_file_op_of m t (Delete f None given) c is asks = of (open_key m t f) is where
-  of : (o : Option Bytes) → option_map (λ key. op.Delete f key) o ≡ Some c → is_file_op c ≡ true
-  of None is = cc
-  of (Some k) is = let e : op.Delete f k ≡ c = cc in subst (λ c. is_file_op c ≡ true) e refl
-is_file_op_of m t verb c is asks = cc
+    (defined file (λ d. delete_fault d (open_key m t f) (Some key) given false) passes) (short_of c (op.Delete f key) e short))
+ready_of m t (Delete f (Some key) given true) c passes is short =
+    let e : op.DeleteGeneric f key ≡ c = cc in
+    let file = value_at f m.units.opening.files in
+    subst (λ c. is_ready_op m.units t.unit c ≡ true) e
+    (and_both (is_some file) (is_short_key key)
+    (defined file (λ d. delete_fault d (open_key m t f) (Some key) given true) passes) (short_of c (op.DeleteGeneric f key) e short))
+ready_of m t (Delete f None given generic) c passes is short = delete_ready m t f given generic (open_key m t f) c passes is short
+ready_of m t (WriteqTs q from n None) c passes is short =
+    let e : op.TsWrite q (used_of from n) ≡ c = cc in
+    subst (λ c. is_ready_op m.units t.unit c ≡ true) e (item_used from n passes)
+ready_of m t (WriteqTs q from n (Some item)) c passes is short =
+    let e : op.TsRewrite q item (used_of from n) ≡ c = cc in
+    subst (λ c. is_ready_op m.units t.unit c ≡ true) e (item_used from n passes)
+ready_of m t (DeleteqTs q) c passes is short =
+    let e : op.TsDelete q ≡ c = cc in
+    subst (λ c. is_ready_op m.units t.unit c ≡ true) e refl
+ready_of m t (WriteqTd q from n) c passes is short =
+    let e : op.TdWrite q (used_of from n) ≡ c = cc in
+    let passed = two_pass (queue_fault m q) (item_fault from n) passes in
+    subst (λ c. is_ready_op m.units t.unit c ≡ true) e
+    (and_both (has_key q m.units.opening.queues) (is_item (used_of from n)) (queue_there m q passed.0) (item_used from n passed.1))
+ready_of m t (ReadqTd q n nosuspend) c passes is short =
+    let e : op.TdRead q ≡ c = cc in
+    subst (λ c. is_ready_op m.units t.unit c ≡ true) e (queue_there m q passes)
+ready_of m t (DeleteqTd q) c passes is short =
+    let e : op.TdDelete q ≡ c = cc in
+    subst (λ c. is_ready_op m.units t.unit c ≡ true) e (queue_there m q passes)
+ready_of m t verb c passes is short = cc
 
 -- the key that was read, where the command takes it over
 of_read : (make : Bytes → Op) (o : Option Bytes) (c : Op) → ((k : Bytes) → key_of (make k) ≡ k) → ((k : Bytes) → o ≡ Some k → length k ≤ 255) →
@@ -197,42 +214,62 @@ of_read make (Some k) c same were_short is =
     let e : make k ≡ c = cc in
     subst (λ c. length (key_of c) ≤ 255) e (subst (λ key. length key ≤ 255) (sym (same k)) (were_short k refl))
 
+-- a command on a queue has no key
+no_key : (c o : Op) → o ≡ c → length (key_of o) ≡ 0 → length (key_of c) ≤ 255
+no_key c o same none = subst (λ c. length (key_of c) ≤ 255) same (omega (arith, none))
+
 -- its key has no more bytes than a key may have, where the definition of its file is lawful and so is the key that was read
 pub named_key_short : (m : Machine) (t : Task) (verb : Verb) →
     ((f : Bytes) (d : FileDef) → file_named verb ≡ Some f → definition_of m f ≡ Some d → is_key d ≡ true) →
     ((f k : Bytes) → file_named verb ≡ Some f → open_key m t f ≡ Some k → length k ≤ 255) →
-    (c : Op) → fault_of m t verb ≡ None → op_of m t verb ≡ Some c → asks_no_queue verb ≡ true → length (key_of c) ≤ 255
-named_key_short m t (Read f key given n generic gteq false) lawful were_short c passes is asks = cc
-named_key_short m t (Read f key given n generic gteq true) lawful were_short c passes is asks =
+    (c : Op) → fault_of m t verb ≡ None → op_of m t verb ≡ Some c → length (key_of c) ≤ 255
+named_key_short m t (Read f key given n generic gteq false) lawful were_short c passes is = cc
+named_key_short m t (Read f key given n generic gteq true) lawful were_short c passes is =
     let e : op.ReadUpdate f key ≡ c = cc in
     let open_read = open_key m t f in
     subst (λ c. length (key_of c) ≤ 255) e
     (key_short (definition_of m f) (λ d. read_fault d open_read key given generic gteq true) key given generic (λ d. lawful f d refl)
     (λ d none. (three_pass (fault_unless (not (gteq || generic)) Invreq) (key_fault d key given generic) (fault_unless (not (is_some open_read)) Invreq) none).1)
     passes)
-named_key_short m t (Write f key given from n) lawful were_short c passes is asks =
+named_key_short m t (Write f key given from n) lawful were_short c passes is =
     let e : op.Write f key (used_of from n) ≡ c = cc in
     subst (λ c. length (key_of c) ≤ 255) e
     (key_short (definition_of m f) (λ d. write_fault d key given from n) key given false (λ d. lawful f d refl)
     (λ d none. (three_pass (key_fault d key given false) (from_fault d from n) (own_key_fault d key from n) none).0) passes)
-named_key_short m t (Rewrite f from n) lawful were_short c passes is asks =
+named_key_short m t (Rewrite f from n) lawful were_short c passes is =
     of_read (λ key. op.Rewrite f key (used_of from n)) (open_key m t f) c (λ k. refl) (λ k. were_short f k refl) is
-named_key_short m t (Delete f (Some key) given) lawful were_short c passes is asks =
-    let e : op.Delete f key ≡ c = cc in
-    subst (λ c. length (key_of c) ≤ 255) e
-    (key_short (definition_of m f) (λ d. key_fault d key given false) key given false (λ d. lawful f d refl)
-    (λ d none. none) passes)
-named_key_short m t (Delete f None given) lawful were_short c passes is asks =
+named_key_short m t (Delete f (Some key) given generic) lawful were_short c passes is = by generic passes is
+  where
+    at_most : (generic : Bool) → defined_fault (definition_of m f) (λ d. deleted_key_fault d key given generic) ≡ None → length key ≤ 255
+    at_most generic passes =
+        key_short (definition_of m f) (λ d. deleted_key_fault d key given generic) key given generic (λ d. lawful f d refl)
+        (λ d none. (two_pass (key_fault d key given generic) (fault_unless (nat_le 1 (length key) || not generic) Invreq) none).0) passes
+
+    by : (generic : Bool) → defined_fault (definition_of m f) (λ d. deleted_key_fault d key given generic) ≡ None →
+        Some (if generic then op.DeleteGeneric f key else op.Delete f key) ≡ Some c → length (key_of c) ≤ 255
+    by true passes is = let e : op.DeleteGeneric f key ≡ c = cc in subst (λ c. length (key_of c) ≤ 255) e (at_most true passes)
+    by false passes is = let e : op.Delete f key ≡ c = cc in subst (λ c. length (key_of c) ≤ 255) e (at_most false passes)
+named_key_short m t (Delete f None given generic) lawful were_short c passes is =
     of_read (λ key. op.Delete f key) (open_key m t f) c (λ k. refl) (λ k. were_short f k refl) is
-named_key_short m t verb lawful were_short c passes is asks = cc
+named_key_short m t (WriteqTs q from n None) lawful were_short c passes is =
+    let e : op.TsWrite q (used_of from n) ≡ c = cc in no_key c (op.TsWrite q (used_of from n)) e (refl {a = 0})
+named_key_short m t (WriteqTs q from n (Some item)) lawful were_short c passes is =
+    let e : op.TsRewrite q item (used_of from n) ≡ c = cc in no_key c (op.TsRewrite q item (used_of from n)) e (refl {a = 0})
+named_key_short m t (DeleteqTs q) lawful were_short c passes is =
+    let e : op.TsDelete q ≡ c = cc in no_key c (op.TsDelete q) e (refl {a = 0})
+named_key_short m t (WriteqTd q from n) lawful were_short c passes is =
+    let e : op.TdWrite q (used_of from n) ≡ c = cc in no_key c (op.TdWrite q (used_of from n)) e (refl {a = 0})
+named_key_short m t (ReadqTd q n nosuspend) lawful were_short c passes is =
+    let e : op.TdRead q ≡ c = cc in no_key c (op.TdRead q) e (refl {a = 0})
+named_key_short m t (DeleteqTd q) lawful were_short c passes is =
+    let e : op.TdDelete q ≡ c = cc in no_key c (op.TdDelete q) e (refl {a = 0})
+named_key_short m t verb lawful were_short c passes is = cc
 
 -- an updating command that a task may ask for is ready
 pub ready_to : (m : Machine) (at : ℕ) (verb : Verb) (o : Op) → MayPerform m at verb → OfTask m.tasks at (λ t. op_of m t verb ≡ Some o) → HasReady m at verb (Some o)
-ready_to m at verb o may asked = λ t there. record {
-  on_file = is_file_op_of m t verb o (asked t there) may.no_queue;
-  ready = ready_of m t verb o (may.passed t there) (asked t there) may.no_queue
-      (subst (λ x. IfSome x (λ c. length (key_of c) ≤ 255)) (asked t there) (may.short t there));
-}
+ready_to m at verb o may asked = λ t there.
+    ready_of m t verb o (may.passed t there) (asked t there)
+    (subst (λ x. IfSome x (λ c. length (key_of c) ≤ 255)) (asked t there) (may.short t there))
 
 -- whether a command is an ENQ
 abbrev pub is_enq : Verb → Bool

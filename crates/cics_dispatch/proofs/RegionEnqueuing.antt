@@ -2,7 +2,7 @@
 use Rattle.std.specs.Prelude.{take, ◌≡◌, ℕ, if◌then◌else◌, Bool, true, false, Option, Some, None, slice_get, List, refl}
 use Rattle.std.proofs.Common.{sym, ap, ◌∙◌, subst}
 use Rattle.cics_names.specs.Keyed.{Bytes}
-use Rattle.cics_names.specs.declared.conditions.Condition.TheVariants.{Normal, Invreq, Enqbusy}
+use Rattle.cics_names.specs.declared.conditions.Condition.TheVariants.{Normal, Invreq}
 use Rattle.cics_history.specs.Execution.{UnitsValue, unit_or_next, enqueue, enq_of, after_enqueue, after_enqueued}
 use Rattle.cics_history.specs.Holding.{UnitsState, value_holder}
 use Rattle.cics_history.specs.Headline.{IsHeadline}
@@ -21,11 +21,6 @@ use Rattle.cics_dispatch.specs.declared.outcomes.Reply.{Reply}
 use Rattle.cics_dispatch.proofs.KeptTasks.{with_task_placed, kept_enqueued, kept_dequeued, no_owner_next}
 use Rattle.cics_dispatch.proofs.OwnedUnits.{owned_enqueued, owned_dequeued}
 use Rattle.cics_dispatch.proofs.RegionSteps.{kept_as}
-
--- an ENQ with NOSUSPEND is told that its value is busy
-pub busy_answered : (m : Machine) (t : Task) (c : Command) (resource : Bytes) (n : ℕ) (holder : ℕ) (r : Reply) → c.verb ≡ Enq resource n true → r ≡ plain Enqbusy →
-    answered m t c.resp r ≡ made_to_wait m t c None holder (busy_of c.verb)
-busy_answered m t c resource n holder r is told = ap (answered m t c.resp) told ∙ ap (λ v. made_to_wait m t c None holder (busy_of v)) (sym is)
 
 -- ---- DEQ
 module _ {units : UnitsValue} {tasks : List Task} {waiting : List Suspended} {clock : ℕ} (kept : IsRegionKept (region_of units tasks waiting clock))

@@ -12,7 +12,7 @@ use Rattle.cics_history.specs.Records.{key_of}
 use Rattle.cics_history.specs.declared.ops.Op.{Op}
 use Rattle.cics_dispatch.specs.Machine.{Machine, Task, RegionValue, definition_of, task_at, is_waiting}
 use Rattle.cics_dispatch.specs.Checks.{file_fault, named_fault, defined_fault, browse_fault, back_fault, fault_of, open_key}
-use Rattle.cics_names.specs.Commands.{file_named, asks_no_queue}
+use Rattle.cics_names.specs.Commands.{file_named}
 use Rattle.cics_dispatch.specs.Steps.{Stepped, op_of, by_op, performed, checked, issue_refusal, refused_or, issued_by, issued}
 use Rattle.cics_dispatch.specs.Answers.{is_growing, passes_checks, may_want, IsStep}
 use Rattle.cics_names.specs.declared.commands.Command.{Command}
@@ -26,15 +26,15 @@ use Rattle.cics_dispatch.proofs.Ready.{value_within, named_key_short}
 -- ---- The updating command that is asked for
 
 -- the key of the updating command that a command asks for has no more bytes than a key may have, where its checks have passed
-pub op_short : (m : Machine) (t : Task) (verb : Verb) → asks_no_queue verb ≡ true → fault_of m t verb ≡ None →
+pub op_short : (m : Machine) (t : Task) (verb : Verb) → fault_of m t verb ≡ None →
     ((f : Bytes) (d : FileDef) → file_named verb ≡ Some f → definition_of m f ≡ Some d → is_key d ≡ true) →
     ((f k : Bytes) → file_named verb ≡ Some f → open_key m t f ≡ Some k → length k ≤ 255) →
     IfSome (op_of m t verb) (λ c. length (key_of c) ≤ 255)
-op_short m t verb asks passes lawful were_short = by (op_of m t verb) refl
+op_short m t verb passes lawful were_short = by (op_of m t verb) refl
   where
     by : (o : Option Op) → op_of m t verb ≡ o → IfSome o (λ c. length (key_of c) ≤ 255)
     by None is = tt
-    by (Some c) is = named_key_short m t verb lawful were_short c passes is asks
+    by (Some c) is = named_key_short m t verb lawful were_short c passes is
 
 -- what holds where none is, holds where it is told from none
 pub if_none : {X Q : Type 0} (r : Option X) → (r ≡ None → Q) → IfNone r Q

@@ -5,7 +5,6 @@ use Rattle.std.proofs.lemmas.Bool.{false≢true, and_parts, or_cases}
 use Rattle.cics_names.specs.Keyed.{Bytes}
 use Rattle.cics_dispatch.specs.Machine.{Machine, Task, Suspended, RegionValue, task_at}
 use Rattle.cics_dispatch.specs.Steps.{Stepped, attached, refused_or, issued}
-use Rattle.cics_names.specs.Commands.{asks_no_queue}
 use Rattle.cics_dispatch.specs.Waits.{wait_of}
 use Rattle.cics_dispatch.specs.Waking.{clock_refusal, clock_set, woken, woken_first, first_late, expired, expired_task}
 use Rattle.cics_dispatch.specs.Answers.{IsStep}
@@ -72,18 +71,18 @@ module _ (m : Machine) (label : Bytes) (c : Command) (outcome : Outcome) (is_set
   ]
 
 pub remembered_issued : (m n : Machine) (label : Bytes) (c : Command) (outcome : Outcome) (is_settled stays noted is_in_time : Bool) (bs cs : List ℕ) (unit : Option ℕ) →
-    asks_no_queue c.verb ≡ true → IsRemembered m is_settled is_in_time bs →
+    IsRemembered m is_settled is_in_time bs →
     ((t : Task) → task_at m.tasks label ≡ Some t → unit ≡ t.unit) →
     stays ≡ (is_settled && (not (is_blocker bs unit) || (is_keeping m.units.opening c.verb && goes_on outcome))) → (noted ≡ true → stays ≡ true) → AreAmong bs cs →
     (noted ≡ true → (w : Suspended) → wait_of n.waiting label ≡ Some w → IsBlocked n cs w) → (issued m label c).outcome ≡ Ok outcome → n ≡ (issued m label c).machine →
     IsRemembered n noted is_in_time cs
-remembered_issued m n label c outcome is_settled stays noted is_in_time bs cs unit asks is own stayed settled more blocked told step = record {
+remembered_issued m n label c outcome is_settled stays noted is_in_time bs cs unit is own stayed settled more blocked told step = record {
   settled = λ set.
       subst (λ x. All (IsBlocked x cs) x.waiting) (sym step)
-      (issued_blocked m c bs cs asks more (is.settled (was_settled m label c outcome is_settled stays bs unit own stayed (settled set))) label outcome told
+      (issued_blocked m c bs cs more (is.settled (was_settled m label c outcome is_settled stays bs unit own stayed (settled set))) label outcome told
       (mild m label c outcome is_settled stays bs unit own stayed (settled set))
       (λ w. subst (λ x. wait_of x.waiting label ≡ Some w → IsBlocked x cs w) step (blocked set w)));
-  in_time = λ set. subst (λ x. All (IsInTime x) x.waiting) (sym step) (issued_in_time m c asks (is.in_time set) label);
+  in_time = λ set. subst (λ x. All (IsInTime x) x.waiting) (sym step) (issued_in_time m c (is.in_time set) label);
 }
 
 -- where each waiting command is blocked none goes on

@@ -18,17 +18,14 @@ use Rattle.cics_dispatch.specs.KeptTasks.{AreTasksKept}
 use Rattle.cics_dispatch.specs.OwnedUnits.{AreUnitsOwned}
 use Rattle.cics_dispatch.specs.Regions.{region_of, IsRegionKept}
 use Rattle.cics_dispatch.specs.Tasks.{own_label, IsOwn, HasNoOwner}
-use Rattle.cics_names.specs.Commands.{length_of, asks_no_queue}
-use Rattle.cics_dispatch.specs.Steps.{Stepped, suspended, executed, made_to_wait, busy_of, by_op, answered, reply_of, op_of}
-use Rattle.cics_dispatch.specs.Calls.{OfTask, HasChanged, IsStepOf, IsStepOrRefused, IsAttempt, going_on}
+use Rattle.cics_dispatch.specs.Steps.{Stepped, executed, by_op, answered, reply_of}
+use Rattle.cics_dispatch.specs.Calls.{OfTask, HasChanged, IsStepOf, IsStepOrRefused, IsAttempt, going_on, waiting_for}
 use Rattle.cics_names.specs.declared.records.NoMemory.{NoMemory}
 use Rattle.cics_dispatch.specs.Waking.{awaited_by}
 use Rattle.cics_dispatch.specs.declared.outcomes.Attempt.{Attempt}
 use Rattle.cics_dispatch.specs.declared.outcomes.Attempt.TheVariants.{Told, MustWait as Waits}
 use Rattle.cics_dispatch.specs.declared.outcomes.Outcome.{Outcome}
 use Rattle.cics_dispatch.specs.declared.outcomes.Reply.{Reply}
-use Rattle.cics_names.specs.declared.commands.Verb.{Verb}
-use Rattle.cics_names.specs.declared.commands.Verb.TheVariants.{Read, Write, Rewrite, Delete, Unlock, StartBr, ResetBr, ReadNext, ReadPrev, EndBr, WriteqTs, ReadqTs, DeleteqTs, WriteqTd, ReadqTd, DeleteqTd, Enq, Deq, Syncpoint, Rollback, Return, Abend}
 use Rattle.cics_names.specs.declared.commands.Command.{Command}
 use Rattle.cics_dispatch.proofs.KeptTasks.{kept_closed, kept_abended, kept_executed, no_owner_next, with_task_placed}
 use Rattle.cics_dispatch.proofs.OwnedUnits.{owned_closed, owned_abended, owned_executed}
@@ -145,44 +142,15 @@ module _ {units : UnitsValue} {tasks : List Task} {waiting : List Suspended} {cl
     owner_there ts is = ap (λ l. slice_get l at) is ∙ with_task_placed m at t (with_unit t unit) kept.tasks there refl
 
   -- what an executed command answers, and the region that it leaves
-  pub acted_step : (c : Command) (unit : ℕ) (a : Answer) → execution units.state t.unit o ≡ Answered unit a → (ts : List Task) → ts ≡ replaced tasks (with_unit t unit) → (r : Reply) → r ≡ reply_of (length_of c.verb) a →
+  pub acted_step : (c : Command) (unit : ℕ) (a : Answer) → execution units.state t.unit o ≡ Answered unit a → (ts : List Task) → ts ≡ replaced tasks (with_unit t unit) → (r : Reply) → r ≡ reply_of c.verb a →
       answered (region_of after ts waiting clock).machine (with_unit t unit) c.resp r ≡ by_op m t c (Some o)
   acted_step c unit a acts ts is r told =
       (λ i. answered (record { units = state i; tasks = is i; waiting = waiting; clock = clock }) (with_unit t unit) c.resp (told i)) ∙ ap (executed m t c o) (sym acts)
 
--- no updating command on a file is answered in place of a wait
-pub busy_none : (m : Machine) (t : Task) (verb : Verb) (o : Op) → op_of m t verb ≡ Some o → asks_no_queue verb ≡ true → busy_of verb ≡ None
-busy_none m t (Read f key given n generic gteq update) o is asks = refl
-busy_none m t (Write f key given from n) o is asks = refl
-busy_none m t (Rewrite f from n) o is asks = refl
-busy_none m t (Delete f key given) o is asks = refl
-busy_none m t (Unlock f) o is asks = refl
-busy_none m t (StartBr f key given generic equal) o is asks = refl
-busy_none m t (ResetBr f key given generic equal) o is asks = refl
-busy_none m t (ReadNext f n) o is asks = refl
-busy_none m t (ReadPrev f n) o is asks = refl
-busy_none m t (EndBr f) o is asks = refl
-busy_none m t (WriteqTs q from n item) o is asks = refl
-busy_none m t (ReadqTs q n item) o is asks = refl
-busy_none m t (DeleteqTs q) o is asks = refl
-busy_none m t (WriteqTd q from n) o is asks = refl
-busy_none m t (ReadqTd q n nosuspend) o is asks = absurd (true≢false (sym asks))
-busy_none m t (DeleteqTd q) o is asks = refl
-busy_none m t (Enq value n nosuspend) o is asks = absurd (never is)
-  where
-    never : None ≡ Some o → ⊥
-    never e = cc
-busy_none m t (Deq value n) o is asks = refl
-busy_none m t Syncpoint o is asks = refl
-busy_none m t Rollback o is asks = refl
-busy_none m t Return o is asks = refl
-busy_none m t (Abend code) o is asks = refl
-
--- a command that has to wait for a unit is executed by no other step than its wait
-pub waits_for : (m : Machine) (t : Task) (c : Command) (o : Op) (holder : ℕ) → awaited m.units t.unit o ≡ Some holder → busy_of c.verb ≡ None →
-    suspended m t c (Some o) holder ≡ by_op m t c (Some o)
-waits_for m t c o holder waits busy =
-    ap (made_to_wait m t c (Some o) holder) (sym busy) ∙ ap (λ w. executed m t c o (done_of m.units t.unit o w)) (sym waits)
+-- a command that has to wait for a unit is executed by no other step than its wait, or its answer with NOSUSPEND
+pub waits_for : (m : Machine) (t : Task) (c : Command) (o : Op) (holder : ℕ) → awaited m.units t.unit o ≡ Some holder →
+    waiting_for m c (Some o) holder t ≡ by_op m t c (Some o)
+waits_for m t c o holder waits = ap (λ w. executed m t c o (done_of m.units t.unit o w)) (sym waits)
 
 -- the unit that has to be waited for is the one that is awaited
 pub holder_awaited : (s : UnitsState) (u : Option ℕ) (o : Op) (holder : ℕ) → execution s u o ≡ MustWait holder → awaited s u o ≡ Some holder

@@ -104,7 +104,7 @@ module _ (m : Machine) (t : Task) (c : Command) (ws : List Suspended) (others : 
       by None none =
           let owner = with_unit t (unit_or_next t.unit m.units.outcomes) in
           answered_beside (with_task (with_units m (after_execution m.units t.unit o)) owner) owner ws others c.resp
-          (reply_of (length_of c.verb) (apply (store_of m.units) o).answer)
+          (reply_of c.verb (apply (store_of m.units) o).answer)
       by (Some v) none = cc
 
   enqueued_beside : (value : Bytes) → value_holder m.units t.unit value ≡ None →

@@ -17,7 +17,6 @@ use Rattle.cics_history.specs.Holding.{UnitsState, uses_of, held_by}
 use Rattle.cics_history.proofs.Waiting.{any_more}
 use Rattle.cics_dispatch.specs.Machine.{Machine, Task, Suspended, RegionValue, task_at, is_waiting}
 use Rattle.cics_dispatch.specs.Checks.{fault_of}
-use Rattle.cics_names.specs.Commands.{asks_no_queue}
 use Rattle.cics_dispatch.specs.Steps.{Stepped, with_new_task, attach_refusal, attached, new_task, checked, issue_refusal, refused_or, issued_by, issued}
 use Rattle.cics_dispatch.specs.Waits.{wait_of}
 use Rattle.cics_dispatch.specs.Waking.{is_late}
@@ -139,14 +138,14 @@ not_refused false false is = refl
 
 -- after a command each waiting command is blocked yet, where the task's unit is none of the blockers, and the task's own
 -- command is blocked if it waits now
-module _ (m : Machine) (c : Command) (bs cs : List ℕ) (asks : asks_no_queue c.verb ≡ true) (more : AreAmong bs cs) (all : All (IsBlocked m bs) m.waiting) where
+module _ (m : Machine) (c : Command) (bs cs : List ℕ) (more : AreAmong bs cs) (all : All (IsBlocked m bs) m.waiting) where
   checked_blocked : (t : Task) →
       ((v : ℕ) → t.unit ≡ Some v → (is_among bs v ≡ false) ⊎ Keeps m.units (checked m t c (fault_of m t c.verb)).machine.units v) → is_waiting m.waiting t.label ≡ false →
       ((w : Suspended) → wait_of (checked m t c (fault_of m t c.verb)).machine.waiting t.label ≡ Some w → IsBlocked (checked m t c (fault_of m t c.verb)).machine cs w) →
       All (IsBlocked (checked m t c (fault_of m t c.verb)).machine cs) (checked m t c (fault_of m t c.verb)).machine.waiting
   checked_blocked t free awake own =
       let n = (checked m t c (fault_of m t c.verb)).machine in
-      let alone = checked_alone m t c asks in
+      let alone = checked_alone m t c in
       waits_all t.label m n (IsBlocked n cs) alone.waits
       (all_more n bs cs m.waiting more
       (others_all t.label (IsBlocked m bs) (IsBlocked n bs) (λ w other blocked. blocked_yet m n t bs alone.others free w other blocked) m.waiting awake all))
@@ -205,11 +204,11 @@ same_clock : (m n : Machine) (w : Suspended) (o : Option Task) → n.clock ≡ m
 same_clock m n w None same = refl
 same_clock m n w (Some t) same = ap (λ k. nat_lt 0 t.dtimout && nat_le t.dtimout (k - w.since)) same
 
-module _ (m : Machine) (c : Command) (asks : asks_no_queue c.verb ≡ true) (all : All (IsInTime m) m.waiting) where
+module _ (m : Machine) (c : Command) (all : All (IsInTime m) m.waiting) where
   checked_in_time : (t : Task) → is_waiting m.waiting t.label ≡ false → All (IsInTime (checked m t c (fault_of m t c.verb)).machine) (checked m t c (fault_of m t c.verb)).machine.waiting
   checked_in_time t awake =
       let n = (checked m t c (fault_of m t c.verb)).machine in
-      let alone = checked_alone m t c asks in
+      let alone = checked_alone m t c in
       waits_all t.label m n (IsInTime n) alone.waits
       (others_all t.label (IsInTime m) (IsInTime n)
       (λ w other early. ap (is_late n w) (alone.others.tasks w.label other) ∙ same_clock m n w (task_at m.tasks w.label) alone.others.clock ∙ early) m.waiting awake all)

@@ -1,6 +1,6 @@
 -- How a call answers its step: just so, or, where it may want memory, by NoMemory, and then nothing has changed. And what
 -- a region lists.
-use Rattle.std.specs.Prelude.{◌≡◌, Bool, true, false, not, ◌&&◌, if◌then◌else◌, IsTrue, Option, Some, None, is_some, is_none, Result, Ok, Err, map, filter, List}
+use Rattle.std.specs.Prelude.{◌≡◌, Bool, true, false, not, ◌&&◌, if◌then◌else◌, IsTrue, Option, Some, None, is_some, is_none, Result, Ok, Err, map, filter, List, []}
 use Rattle.cics_names.specs.Keyed.{Bytes}
 use Rattle.cics_history.specs.Headline.{IsHeadline}
 use Rattle.cics_units.specs.Listings.{listing_of}
@@ -70,6 +70,10 @@ tasks_listed m = map (λ t. (t.label, task_state m t)) (filter (λ t. not t.has_
 -- the listing of a region: the files and queues as they stand, and the tasks
 abbrev pub region_listing : RegionValue → Listing
 region_listing r = record (listing_of r.machine.units.opening r.store) { tasks = tasks_listed r.machine }
+
+-- the files and queues of a listing
+abbrev pub without_tasks : Listing → Listing
+without_tasks listing = record listing { tasks = [] }
 
 -- the listing of what replaying the kept history gives, without tasks
 abbrev pub replayed_listing : RegionValue → Listing

@@ -1,18 +1,17 @@
 -- Words of the clauses on calls: what is said of the task at a place, and of a step of it.
 use Rattle.std.specs.Prelude.{◌≡◌, ◌≤◌, ℕ, Bool, true, false, Option, Some, None, is_some, IfSome, length, slice_get, List, Result, Ok, Err}
 use Rattle.cics_names.specs.Keyed.{Bytes, value_at}
-use Rattle.cics_names.specs.Commands.{asks_no_queue}
 use Rattle.cics_names.specs.declared.records.NoMemory.{NoMemory}
 use Rattle.cics_names.specs.declared.commands.Command.{Command}
 use Rattle.cics_names.specs.declared.commands.Verb.{Verb}
 use Rattle.cics_browse.specs.Positions.{read_next, after_next, read_prev, after_prev}
-use Rattle.cics_history.specs.Execution.{IsOpenUnit}
+use Rattle.cics_history.specs.Execution.{IsOpenUnit, item_asked}
 use Rattle.cics_history.specs.Records.{key_of}
 use Rattle.cics_history.specs.declared.ops.Op.{Op}
 use Rattle.cics_dispatch.specs.Machine.{Machine, Task, RegionValue, is_waiting, records_in, replaced}
 use Rattle.cics_dispatch.specs.Checks.{fault_of}
 use Rattle.cics_dispatch.specs.Replies.{cut, read_reply}
-use Rattle.cics_dispatch.specs.Steps.{Stepped, with_outcome, answered, browsed, by_op, op_of}
+use Rattle.cics_dispatch.specs.Steps.{Stepped, with_outcome, answered, browsed, by_op, busy_of, made_to_wait, op_of, ts_read}
 use Rattle.cics_dispatch.specs.Waking.{awaited_by}
 use Rattle.cics_dispatch.specs.KeptTasks.{IsReady}
 use Rattle.cics_dispatch.specs.Regions.{IsRegionKept}
@@ -42,11 +41,10 @@ HasBrowse m at file = OfTask m.tasks at (λ t. is_some (value_at file t.browses)
 abbrev pub HasReady : Machine → ℕ → Verb → Option Op → Type 0
 HasReady m at verb o = OfTask m.tasks at (λ t. IsReady m.units t.unit verb o)
 
--- the task may perform a command: none of its commands waits, and this one asks nothing of a queue and passes its checks;
--- an updating command that it asks for has a key of no more bytes than a key may have
+-- the task may perform a command: none of its commands waits, and this one passes its checks; an updating command that it
+-- asks for has a key of no more bytes than a key may have
 pub record MayPerform (m : Machine) (at : ℕ) (verb : Verb) : Type 0 where
   pub awake : IsAwake m at
-  pub no_queue : asks_no_queue verb ≡ true
   pub passed : OfTask m.tasks at (λ t. fault_of m t verb ≡ None)
   pub short : OfTask m.tasks at (λ t. IfSome (op_of m t verb) (λ o. length (key_of o) ≤ 255))
 
@@ -71,6 +69,10 @@ abbrev pub reading : Machine → Bool → Bytes → Bytes → Option ℕ → Boo
 reading m resp file key limit generic gteq t =
     answered m t resp (cut limit (read_reply (records_in m file) key generic gteq))
 
+-- READQ TS as a step of a task
+abbrev pub reading_item : Machine → Bool → Bytes → Option ℕ → Option ℕ → Task → Stepped Outcome
+reading_item m resp q limit item t = ts_read m t resp q limit (item_asked m.units q item)
+
 -- READNEXT as a step of a task
 abbrev pub reading_next : Machine → Bool → Bytes → Option ℕ → Task → Stepped Outcome
 reading_next m resp file limit t =
@@ -86,6 +88,10 @@ reading_prev m resp file limit t =
 -- a command of the task, from the look at what other units hold on, as a step of it
 abbrev pub going_on : Machine → Command → Option Op → Task → Stepped Outcome
 going_on m c o t = by_op m t c o
+
+-- a command of the task that must wait for a unit, as a step of it
+abbrev pub waiting_for : Machine → Command → Option Op → ℕ → Task → Stepped Outcome
+waiting_for m c o holder t = made_to_wait m t c o holder (busy_of c.verb)
 
 -- what comes of trying a command of the task: it is told what its step answers; or it must wait for an open unit, or it is
 -- refused for want of memory, and then the region is as it was

@@ -50,10 +50,15 @@ abbrev pub rewrite_fault : FileDef → Option Bytes → Bytes → Option ℕ →
 rewrite_fault d None from n = first_fault (from_fault d from n ∷ Some Invreq ∷ [])
 rewrite_fault d (Some key) from n = first_fault (from_fault d from n ∷ own_key_fault d key from n ∷ [])
 
--- DELETE with RIDFLD: the length of its key. Without RIDFLD there is no KEYLENGTH, and an update read is open
-abbrev pub delete_fault : FileDef → Option Bytes → Option Bytes → Option ℕ → Option Condition
-delete_fault d open_read (Some key) given = key_fault d key given false
-delete_fault d open_read None given = fault_unless (is_none given && is_some open_read) Invreq
+-- DELETE with RIDFLD: the length of its key, with GENERIC no fewer than one byte
+abbrev pub deleted_key_fault : FileDef → Bytes → Option ℕ → Bool → Option Condition
+deleted_key_fault d key given generic =
+    first_fault (key_fault d key given generic ∷ fault_unless (nat_le 1 (length key) || not generic) Invreq ∷ [])
+
+-- DELETE without RIDFLD has neither KEYLENGTH nor GENERIC, and an update read is open
+abbrev pub delete_fault : FileDef → Option Bytes → Option Bytes → Option ℕ → Bool → Option Condition
+delete_fault d open_read (Some key) given generic = deleted_key_fault d key given generic
+delete_fault d open_read None given generic = fault_unless (is_none given && not generic && is_some open_read) Invreq
 
 -- READNEXT, READPREV, RESETBR and ENDBR have a browse that is open
 abbrev pub browse_fault : Option Position → Option Condition
@@ -90,7 +95,7 @@ file_fault d open_read browse (Read f key given n generic gteq update) =
     read_fault d open_read key given generic gteq update
 file_fault d open_read browse (Write f key given from n) = write_fault d key given from n
 file_fault d open_read browse (Rewrite f from n) = rewrite_fault d open_read from n
-file_fault d open_read browse (Delete f key given) = delete_fault d open_read key given
+file_fault d open_read browse (Delete f key given generic) = delete_fault d open_read key given generic
 file_fault d open_read browse verb = browsing_fault d browse verb
 
 -- the fault of ENQ or DEQ

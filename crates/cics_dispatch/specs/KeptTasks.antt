@@ -3,7 +3,6 @@ use Rattle.std.specs.Prelude.{◌≡◌, ℕ, true, Option, Some, None, All, is_
 use Rattle.cics_history.specs.Events.{is_live}
 use Rattle.cics_history.specs.Execution.{is_ready_op}
 use Rattle.cics_history.specs.Holding.{UnitsState}
-use Rattle.cics_history.specs.Records.{is_file_op}
 use Rattle.cics_history.specs.declared.ops.Op.{Op}
 use Rattle.cics_names.specs.declared.commands.Verb.{Verb}
 use Rattle.cics_names.specs.declared.commands.Verb.TheVariants.{Enq}
@@ -11,15 +10,10 @@ use Rattle.cics_dispatch.specs.Machine.{Machine, Task, Suspended, task_at}
 use Rattle.cics_dispatch.specs.Checks.{resource_fault}
 use Rattle.cics_dispatch.specs.Tasks.{own_label, own_unit, IsOwn}
 
--- an updating command on a file can be executed whenever no other unit holds its record
-pub record IsReadyFor (s : UnitsState) (asking : Option ℕ) (o : Op) : Type 0 where
-  pub on_file : is_file_op o ≡ true
-  pub ready : is_ready_op s asking o ≡ true
-
--- what a command that may have to wait goes on with is ready: the updating command that it asks for, or as of an ENQ a
--- value of a right LENGTH
+-- what a command that may have to wait goes on with is ready: the updating command that it asks for can be executed once it
+-- needn't wait, or as of an ENQ its value has a right LENGTH
 abbrev pub IsReady : UnitsState → Option ℕ → Verb → Option Op → Type 0
-IsReady s asking verb (Some o) = IsReadyFor s asking o
+IsReady s asking verb (Some o) = is_ready_op s asking o ≡ true
 IsReady s asking (Enq value n nosuspend) None = resource_fault value n ≡ None
 IsReady s asking _ None = ⊥
 

@@ -7,10 +7,11 @@ use Rattle.cics_history.specs.Openings.{OpeningState, file_recoverable}
 use Rattle.cics_history.specs.Holding.{UnitsState, uses_of, held_by}
 use Rattle.cics_history.specs.Events.{is_live}
 use Rattle.cics_history.specs.declared.ops.Op.{Op}
+use Rattle.cics_history.specs.declared.ops.Op.TheVariants.{TdRead}
 use Rattle.cics_dispatch.specs.Machine.{Machine, Task, Suspended, task_at}
 use Rattle.cics_dispatch.specs.Waking.{is_late}
 use Rattle.cics_names.specs.declared.commands.Verb.{Verb}
-use Rattle.cics_names.specs.declared.commands.Verb.TheVariants.{Read, Write, Rewrite, Delete, Unlock, StartBr, ResetBr, ReadNext, ReadPrev, EndBr, Enq}
+use Rattle.cics_names.specs.declared.commands.Verb.TheVariants.{Read, Write, Rewrite, Delete, Unlock, StartBr, ResetBr, ReadNext, ReadPrev, EndBr, WriteqTs, ReadqTs, DeleteqTs, WriteqTd, ReadqTd, DeleteqTd, Enq}
 use Rattle.cics_dispatch.specs.declared.outcomes.Outcome.{Outcome}
 use Rattle.cics_dispatch.specs.declared.outcomes.Outcome.TheVariants.{Replied, Waiting, Abended, Ended}
 
@@ -26,6 +27,11 @@ is_blocker units (Some u) = is_among units u
 -- each of these units is one of those
 pub record AreAmong (these those : List ℕ) : Type 0 where
   pub among : (u : ℕ) → is_among these u ≡ true → is_among those u ≡ true
+
+-- READQ TD, which may have to wait for a unit that holds nothing of what it uses: the writer of its queue
+abbrev pub reads_queue : Option Op → Bool
+reads_queue (Some (TdRead q)) = true
+reads_queue o = false
 
 -- a unit holds what keeps a command waiting: something that its updating command uses, or as of an ENQ its value
 abbrev pub holds_back : UnitsState → ℕ → Verb → Option Op → Bool
@@ -50,13 +56,19 @@ abbrev pub is_keeping : OpeningState → Verb → Bool
 is_keeping o (Read f key given n generic gteq update) = true
 is_keeping o (Write f key given from n) = true
 is_keeping o (Rewrite f from n) = file_recoverable o f
-is_keeping o (Delete f key given) = file_recoverable o f
+is_keeping o (Delete f key given generic) = file_recoverable o f
 is_keeping o (Unlock f) = file_recoverable o f
 is_keeping o (StartBr f key given generic equal) = true
 is_keeping o (ResetBr f key given generic equal) = true
 is_keeping o (ReadNext f n) = true
 is_keeping o (ReadPrev f n) = true
 is_keeping o (EndBr f) = true
+is_keeping o (WriteqTs q from n item) = true
+is_keeping o (ReadqTs q n item) = true
+is_keeping o (DeleteqTs q) = true
+is_keeping o (WriteqTd q from n) = true
+is_keeping o (ReadqTd q n nosuspend) = true
+is_keeping o (DeleteqTd q) = true
 is_keeping o (Enq value n nosuspend) = true
 is_keeping o _ = false
 

@@ -27,7 +27,8 @@ use Rattle.cics_dispatch.specs.Checks.{fault_of, open_key}
 use Rattle.cics_names.specs.declared.commands.Command.{Command}
 use Rattle.cics_names.specs.declared.commands.Verb.{Verb}
 use Rattle.cics_names.specs.declared.commands.Verb.TheVariants.{Read, Write, Rewrite, Delete, Unlock, StartBr, ResetBr, ReadNext, ReadPrev, EndBr, WriteqTs, ReadqTs, DeleteqTs, WriteqTd, ReadqTd, DeleteqTd, Enq, Deq, Syncpoint, Rollback, Return, Abend}
-use Rattle.cics_dispatch.specs.declared.outcomes.Number.TheVariants.{Item}
+use Rattle.cics_dispatch.specs.declared.outcomes.Number.{Number}
+use Rattle.cics_dispatch.specs.declared.outcomes.Number.TheVariants.{Item, Numrec}
 use Rattle.cics_dispatch.specs.declared.outcomes.Reply.{Reply}
 use Rattle.cics_dispatch.specs.declared.outcomes.Outcome.{Outcome}
 use Rattle.cics_dispatch.specs.declared.outcomes.Outcome.TheVariants.{Replied, Waiting, Abended, Ended}
@@ -54,9 +55,18 @@ unhandled m t r (Some code) = record { outcome = Abended code (Some r); machine 
 abbrev pub answered : Machine → Task → Bool → Reply → Stepped Outcome
 answered m t resp r = if resp then record { outcome = Replied r; machine = m } else unhandled m t r (default_abend_of r.condition)
 
--- an answer as the task is told it: with the number of an item, and no more of the content than LENGTH
-abbrev pub reply_of : Option ℕ → Answer → Reply
-reply_of n a = cut n (record { condition = a.condition; key = None; content = a.content; number = option_map (λ k. Item k) a.number })
+-- the number that a command is answered: of the records that DELETE GENERIC deleted, else of an item
+abbrev pub number_of : Verb → ℕ → Number
+number_of (Delete f key given generic) k = Numrec k
+number_of _ k = Item k
+
+-- an answer as the task is told it, with this number, and no more of the content than LENGTH
+abbrev pub reply_with : Option ℕ → Option Number → Answer → Reply
+reply_with n number a = cut n (record { condition = a.condition; key = None; content = a.content; number = number })
+
+-- an answer to a command as its task is told it
+abbrev pub reply_of : Verb → Answer → Reply
+reply_of verb a = reply_with (length_of verb) (option_map (number_of verb) a.number) a
 
 -- ---- Waiting
 
@@ -81,10 +91,11 @@ made_to_wait m t c o holder (Some busy) = answered m t c.resp (plain busy)
 
 -- ---- Updating commands
 
--- DELETE deletes the record of RIDFLD, or without RIDFLD the one that was read for update
-abbrev pub delete_op : Bytes → Option Bytes → Option Bytes → Option Op
-delete_op f (Some key) open_read = Some (op.Delete f key)
-delete_op f None open_read = option_map (λ key. op.Delete f key) open_read
+-- DELETE deletes the record of RIDFLD, with GENERIC each whose key begins with it, or without RIDFLD the one that was read
+-- for update
+abbrev pub delete_op : Bytes → Option Bytes → Bool → Option Bytes → Option Op
+delete_op f (Some key) generic open_read = Some (if generic then op.DeleteGeneric f key else op.Delete f key)
+delete_op f None generic open_read = option_map (λ key. op.Delete f key) open_read
 
 -- WRITEQ TS adds an item, or with REWRITE replaces the item of the number
 abbrev pub ts_write_op : Bytes → Bytes → Option ℕ → Op
@@ -105,7 +116,7 @@ abbrev pub asked_op : Option Bytes → Verb → Option Op
 asked_op open_read (Read f key given n generic gteq update) = if update then Some (op.ReadUpdate f key) else None
 asked_op open_read (Write f key given from n) = Some (op.Write f key (used_of from n))
 asked_op open_read (Rewrite f from n) = option_map (λ key. op.Rewrite f key (used_of from n)) open_read
-asked_op open_read (Delete f key given) = delete_op f key open_read
+asked_op open_read (Delete f key given generic) = delete_op f key generic open_read
 asked_op open_read verb = queue_op verb
 
 -- the key of the task's open update read of the file that is named, if one is named
@@ -122,7 +133,7 @@ abbrev pub executed : Machine → Task → Command → Op → Done → Stepped O
 executed m t c o (MustWait holder) = made_to_wait m t c (Some o) holder (busy_of c.verb)
 executed m t c o (Answered unit a) =
     let owner = with_unit t unit in
-    answered (with_task (with_units m (after_execution m.units t.unit o)) owner) owner c.resp (reply_of (length_of c.verb) a)
+    answered (with_task (with_units m (after_execution m.units t.unit o)) owner) owner c.resp (reply_of c.verb a)
 
 -- ---- Enqueues
 
@@ -188,7 +199,7 @@ browse_ended m t resp f = let owner = with_browses t (without f t.browses) in an
 
 -- READQ TS gives an item and moves the NEXT place to it
 abbrev pub ts_read : Machine → Task → Bool → Bytes → Option ℕ → ℕ → Stepped Outcome
-ts_read m t resp q n item = answered (with_units m (after_ts_reading m.units q item)) t resp (reply_of n (ts_reading m.units q item))
+ts_read m t resp q n item = answered (with_units m (after_ts_reading m.units q item)) t resp (reply_of (ReadqTs q n (Some item)) (ts_reading m.units q item))
 
 -- ---- The commands
 

@@ -1,11 +1,12 @@
-//! What is checked of a file command's key and record before the file is touched.
+//! What is checked of a command's key, record or item before its file or queue is touched.
 
 ghost use Rattle.std.specs.Prelude.{◌≡◌, IsTrue, IfOk, Some, None, if◌then◌else◌};
 ghost use Rattle.std.specs.Option.{option_copied};
 ghost use Rattle.cics_dispatch.specs.Lengths.{is_length_given, key_fault, is_within, used_of};
 ghost use Rattle.cics_dispatch.specs.Lengths.{write_fault};
 ghost use Rattle.cics_dispatch.specs.Checks.{resource_fault, read_fault, rewrite_fault};
-ghost use Rattle.cics_dispatch.specs.Checks.{delete_fault, startbr_fault, resetbr_fault};
+ghost use Rattle.cics_dispatch.specs.Checks.{delete_fault, deleted_key_fault, item_fault};
+ghost use Rattle.cics_dispatch.specs.Checks.{startbr_fault, resetbr_fault};
 ghost use Rattle.cics_dispatch.specs.Checks.{browse_fault, back_fault};
 
 use cics_browse::Browse;
@@ -137,24 +138,55 @@ pub(crate) fn rewrite_fault(
     }
 }
 
-/// The fault of a DELETE: INVREQ for the length of its key, and without RIDFLD where KEYLENGTH is given or
-/// the task has no open update read of the file.
+// The fault of a DELETE with RIDFLD: INVREQ for the length of its key, which with GENERIC is one byte at least.
+fn deleted_key_fault(
+    definition: FileDef,
+    key: &[u8],
+    given: Option<u64>,
+    generic: bool,
+) -> Option<Condition>
+    ensures { result ≡ deleted_key_fault definition key.now given generic }
+{
+    if let Some(fault) = key_fault(definition, key, given, generic) {
+        return Some(fault);
+    }
+    if 1 <= key.len() || !generic {
+        None
+    } else {
+        Some(Condition::Invreq)
+    }
+}
+
+/// The fault of a DELETE: INVREQ for the length of its key, which with GENERIC is one byte at least, and
+/// without RIDFLD where KEYLENGTH or GENERIC is given or the task has no open update read of the file.
 pub(crate) fn delete_fault(
     definition: FileDef,
     open_key: Option<&[u8]>,
     ridfld: Option<&Record>,
     given: Option<u64>,
+    generic: bool,
 ) -> Option<Condition>
     ensures { result ≡ delete_fault definition (option_copied open_key.entry)
-        (option_copied ridfld.entry) given }
+        (option_copied ridfld.entry) given generic }
 {
     if let Some(key) = ridfld {
-        return key_fault(definition, key.bytes(), given, false);
+        return deleted_key_fault(definition, key.bytes(), given, generic);
     }
-    if given.is_none() && open_key.is_some() {
+    if given.is_none() && !generic && open_key.is_some() {
         None
     } else {
         Some(Condition::Invreq)
+    }
+}
+
+/// LENGERR of a WRITEQ whose LENGTH isn't 1 to the length of FROM, or whose item or record hasn't 1 to 32,767
+/// bytes.
+pub(crate) fn item_fault(from: &[u8], length: Option<u64>) -> Option<Condition>
+    ensures { result ≡ item_fault from.now length }
+{
+    match used(from, length) {
+        Some(content) if 1 <= content.len() && content.len() <= 32_767 => None,
+        _ => Some(Condition::Lengerr),
     }
 }
 

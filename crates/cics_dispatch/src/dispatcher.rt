@@ -4,6 +4,7 @@ mod browsing;
 mod enqueuing;
 mod listing;
 mod performing;
+mod queues;
 mod waking;
 
 ghost use Rattle.std.specs.Prelude.{◌≡◌, ◌<◌, ◌≤◌, true, false, Option, Some, None, length, IfOk};
@@ -17,8 +18,7 @@ ghost use Rattle.cics_dispatch.specs.Checks.{fault_of, open_key};
 ghost use Rattle.cics_history.specs.Execution.{IsOpenUnit, IsOpenOrNone};
 ghost use Rattle.cics_history.specs.Headline.{IsHeadline};
 ghost use Rattle.cics_history.specs.Records.{key_of};
-ghost use Rattle.cics_names.specs.Commands.{asks_no_queue};
-ghost use Rattle.cics_dispatch.specs.Steps.{answered, attached, op_of, suspended};
+ghost use Rattle.cics_dispatch.specs.Steps.{answered, attached, busy_of, op_of, suspended};
 ghost use Rattle.cics_dispatch.specs.Waking.{clock_set};
 ghost use Rattle.cics_history.specs.Openings.{file_recoverable};
 ghost use Rattle.cics_dispatch.specs.Regions.{IsRegionKept};
@@ -27,11 +27,12 @@ ghost use Rattle.cics_dispatch.specs.Answers.{IsStep, attach_may_want};
 ghost use Rattle.cics_names.specs.declared.commands.Verb.TheVariants.{Enq};
 ghost use Rattle.cics_dispatch.specs.Calls.{OfTask, IsAwake, HasReady, MayPerform};
 ghost use Rattle.cics_dispatch.specs.Calls.{KeepsRegion, IsStepOf};
-ghost use Rattle.cics_dispatch.specs.Calls.{IsStepOrRefused, IsAttempt, going_on};
+ghost use Rattle.cics_dispatch.specs.Calls.{IsStepOrRefused, IsAttempt, going_on, waiting_for};
 ghost use Rattle.cics_history.specs.Openings.{is_key};
 
-use crate::faults::{file_fault, value_fault};
+use crate::faults::file_fault;
 use crate::outcomes::{Attempt, Outcome, Refused, Reply};
+use crate::reads::plain_reply;
 use crate::replies::reply_of_answer;
 use crate::tasks::Tasks;
 use crate::waits::Waits;
@@ -64,6 +65,17 @@ impl Model for Dispatcher {
     ghost view = { λ r. region_of r.units r.tasks r.waits r.clock };
 
     ghost invariant = { λ r. IsRegionKept (region_of r.units r.tasks r.waits r.clock) };
+}
+
+// What NOSUSPEND tells in place of a wait, where a command has it.
+fn busy_condition(verb: &Verb) -> Option<Condition>
+    ensures { result ≡ busy_of verb.now }
+{
+    match verb {
+        Verb::ReadqTd { nosuspend, .. } => nosuspend.then_some(Condition::Qbusy),
+        Verb::Enq { nosuspend, .. } => nosuspend.then_some(Condition::Enqbusy),
+        _ => None,
+    }
 }
 
 // Commits a unit or backs it out, if there is one.
@@ -124,6 +136,12 @@ impl Dispatcher {
             | Verb::ReadNext { .. }
             | Verb::ReadPrev { .. }
             | Verb::EndBr { .. }
+            | Verb::WriteqTs { .. }
+            | Verb::ReadqTs { .. }
+            | Verb::DeleteqTs { .. }
+            | Verb::WriteqTd { .. }
+            | Verb::ReadqTd { .. }
+            | Verb::DeleteqTd { .. }
             | Verb::Enq { .. } => true,
             Verb::Rewrite { file, .. } | Verb::Delete { file, .. } | Verb::Unlock { file } => {
                 self.is_recoverable(file)
@@ -191,17 +209,17 @@ impl Dispatcher {
         Some(file.definition())
     }
 
-    // The first fault of a command of the task at a place. A file that isn't defined is DSIDERR.
+    // The first fault of a command of the task at a place. A file that isn't defined is DSIDERR, and a transient data
+    // queue that isn't is QIDERR.
     fn fault(&self, at: usize, verb: &Verb) -> Option<Condition>
         requires within { at < length self.now.machine.tasks }
-        requires no_queue { asks_no_queue verb.now ≡ true }
         ensures fault { OfTask self.now.machine.tasks at
             (λ t. result ≡ fault_of self.now.machine t verb.now) }
         ensures short { IfNone result (OfTask self.now.machine.tasks at
             (λ t. IfSome (op_of self.now.machine t verb.now) (λ o. length (key_of o) ≤ 255))) }
     {
         let Some(name) = verb.file() else {
-            return value_fault(verb);
+            return self.other_fault(verb);
         };
         let Some(definition) = self.definition(name) else {
             return Some(Condition::Dsiderr);
@@ -276,6 +294,28 @@ impl Dispatcher {
         Ok(Outcome::Waiting(owner))
     }
 
+    // Makes a command of the task at a place wait for a unit that another task has, or with NOSUSPEND tells the task
+    // that it would have to wait.
+    fn make_wait(
+        &mut self,
+        at: usize,
+        command: Command,
+        op: Option<Op>,
+        holder: UnitId,
+    ) -> Result<Outcome, NoMemory>
+        requires within { at < length self.old.machine.tasks }
+        requires awake { IsAwake self.old.machine at }
+        requires ready { HasReady self.old.machine at command.verb op }
+        requires is_open { IsOpenUnit self.old.machine.units holder }
+        ensures step { IsStepOrRefused self.old at
+            (waiting_for self.old.machine command op holder) result self.new }
+    {
+        match busy_condition(&command.verb) {
+            Some(busy) => Ok(self.answer(at, command.resp, plain_reply(busy))),
+            None => self.suspend(at, command, op, holder),
+        }
+    }
+
     // Executes an updating command that a command of the task at a place asks for, unless it has to wait.
     fn execute(&mut self, at: usize, command: &Command, op: &Op) -> Result<Attempt, NoMemory>
         requires within { at < length self.old.machine.tasks }
@@ -289,7 +329,7 @@ impl Dispatcher {
             Done::MustWait(holder) => Ok(Attempt::MustWait(holder)),
             Done::Answered(unit, answer) => {
                 self.tasks.own_unit(at, unit);
-                let reply = reply_of_answer(answer, command.verb.length());
+                let reply = reply_of_answer(answer, &command.verb);
                 Ok(Attempt::Told(self.answer(at, command.resp, reply)))
             }
         }
@@ -306,7 +346,7 @@ impl Dispatcher {
     {
         match self.execute(at, &command, &op)? {
             Attempt::Told(outcome) => Ok(outcome),
-            Attempt::MustWait(holder) => self.suspend(at, command, Some(op), holder),
+            Attempt::MustWait(holder) => self.make_wait(at, command, Some(op), holder),
         }
     }
 }

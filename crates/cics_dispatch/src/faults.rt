@@ -52,9 +52,10 @@ pub(crate) fn file_fault(
         }
         Verb::Delete {
             ridfld,
-            key_length,
+            key_length: given,
+            generic,
             ..
-        } => delete_fault(definition, open_key, ridfld.as_ref(), *key_length),
+        } => delete_fault(definition, open_key, ridfld.as_ref(), *given, *generic),
         _ => browsing_fault(definition, browse, verb),
     }
 }

@@ -8,6 +8,8 @@ use cics_names::{AbendCode, Condition, Name8, NoMemory, Record};
 pub enum Number {
     /// The number of an item of temporary storage, from 1 on.
     Item(u64),
+    /// The number of the records that DELETE GENERIC deleted, from 1 on.
+    Numrec(u64),
 }
 
 /// What a command was answered.

@@ -4,10 +4,10 @@ ghost use Rattle.std.specs.Prelude.{◌≡◌, ◌&&◌, ◌||◌, not, true, fa
 ghost use Rattle.cics_dispatch.specs.Machine.{beginning_region};
 ghost use Rattle.cics_dispatch.specs.Steps.{attached, issued};
 ghost use Rattle.cics_dispatch.specs.Waking.{clock_set, woken, expired};
+ghost use Rattle.cics_dispatch.specs.Answers.{without_tasks};
 ghost use Rattle.cics_dispatch.specs.Answers.{IsStep, always, attach_may_want, may_want};
 ghost use Rattle.cics_dispatch.specs.Answers.{IsHeadlineRegion, region_listing, replayed_listing};
 ghost use Rattle.cics_dispatch.specs.Settled.{is_blocker, goes_on};
-ghost use Rattle.cics_names.specs.Commands.{asks_no_queue};
 
 use crate::dispatcher::Dispatcher;
 use crate::outcomes::{Expired, Outcome, Refused, Woken};
@@ -118,7 +118,6 @@ impl Region {
     /// nor NOHANDLE handles abends the task with the condition's default code (chapter on the
     /// exceptional conditions).
     pub fn issue(&mut self, label: Name8, command: Command) -> Result<Outcome, Refused>
-        requires no_queue { IsTrue (asks_no_queue command.verb) }
         ensures step { IsStep (may_want self.old.machine label command) self.old
             (issued self.old.machine label command) result self.new }
         ensures headline { IsHeadlineRegion self.new }
@@ -185,7 +184,9 @@ impl Region {
     /// The units of work of the region, with the files and queues that they share, their history and its
     /// outcomes.
     pub fn units(&self) -> &Units
-        ensures { result.now ≡ record { state = self.now.machine.units; store = self.now.store } }
+        ensures units { result.now
+            ≡ record { state = self.now.machine.units; store = self.now.store } }
+        ensures headline { IsHeadlineRegion self.now }
     {
         self.dispatcher.units()
     }
@@ -198,7 +199,10 @@ impl Region {
     /// tasks (`NoMemory`). It changes nothing. Each task costs one look-up of its wait, however many
     /// commands wait.
     pub fn listing(&self) -> Result<Listing, NoMemory>
-        ensures { IfOk result (λ listing. listing ≡ region_listing self.now) }
+        ensures listing { IfOk result (λ listing. listing ≡ region_listing self.now) }
+        ensures replayed { IfOk result (λ listing.
+            without_tasks listing ≡ replayed_listing self.now) }
+        ensures headline { IsHeadlineRegion self.now }
     {
         self.dispatcher.listing()
     }
@@ -212,7 +216,8 @@ impl Region {
     /// It changes nothing. It takes time in proportion to the records that were loaded and the
     /// commands that were executed, each with the logarithm of the records in its file.
     pub fn replayed(&self) -> Result<Listing, NoMemory>
-        ensures { IfOk result (λ listing. listing ≡ replayed_listing self.now) }
+        ensures replayed { IfOk result (λ listing. listing ≡ replayed_listing self.now) }
+        ensures headline { IsHeadlineRegion self.now }
     {
         self.dispatcher.replayed()
     }

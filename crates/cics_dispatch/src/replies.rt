@@ -1,12 +1,12 @@
 //! What a task is told of a read.
 
-ghost use Rattle.std.specs.Prelude.{◌≡◌, take};
+ghost use Rattle.std.specs.Prelude.{◌≡◌, take, option_map};
 ghost use Rattle.cics_dispatch.specs.Replies.{cut};
-ghost use Rattle.cics_dispatch.specs.Steps.{browse_reply, reply_of};
+ghost use Rattle.cics_dispatch.specs.Steps.{browse_reply, reply_of, reply_with};
 
 use crate::outcomes::{Number, Reply};
 use cics_browse::Browsed;
-use cics_names::{Condition, Record};
+use cics_names::{Condition, Record, Verb};
 use cics_units::Answer;
 
 // The first bytes of a content, in its own place.
@@ -58,16 +58,36 @@ pub(crate) fn reply_of_browsed(browsed: Browsed, length: Option<u64>) -> Reply
     cut(reply, length)
 }
 
-/// What an executed command answered as the task is told it, with no more of the content than LENGTH. It
-/// takes no memory, so nothing fails after the change.
-pub(crate) fn reply_of_answer(answer: Answer, length: Option<u64>) -> Reply
-    ensures { result ≡ reply_of length answer }
+// What was answered as the task is told it, with this number, and with no more of the content than LENGTH.
+fn reply_with(answer: Answer, number: Option<Number>, length: Option<u64>) -> Reply
+    ensures { result ≡ reply_with length number answer }
 {
     let reply = Reply {
         condition: answer.condition,
         key: None,
         content: answer.content,
-        number: answer.number.map(Number::Item),
+        number,
     };
     cut(reply, length)
+}
+
+/// What READQ TS answered as the task is told it, with the number of the item and no more of its content
+/// than LENGTH. It takes no memory, so nothing fails after the NEXT place has moved.
+pub(crate) fn reply_of_item(answer: Answer, length: Option<u64>) -> Reply
+    ensures { result ≡ reply_with length (option_map (λ k. Number.Item k) answer.number) answer }
+{
+    let number = answer.number.map(Number::Item);
+    reply_with(answer, number, length)
+}
+
+/// What an executed command answered as the task is told it, with the number of the item or of the records
+/// deleted, and with no more of the content than LENGTH. It takes no memory, so nothing fails after the change.
+pub(crate) fn reply_of_answer(answer: Answer, verb: &Verb) -> Reply
+    ensures { result ≡ reply_of verb.now answer }
+{
+    let number = match verb {
+        Verb::Delete { .. } => answer.number.map(Number::Numrec),
+        _ => answer.number.map(Number::Item),
+    };
+    reply_with(answer, number, verb.length())
 }

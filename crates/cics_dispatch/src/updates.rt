@@ -137,6 +137,15 @@ pub(crate) fn asked_op(
         Verb::Rewrite { file, from, length } => rewrite_op(alloc, *file, open_key, from, *length),
         Verb::Delete {
             file,
+            ridfld: Some(prefix),
+            generic: true,
+            ..
+        } => Ok(Some(Op::DeleteGeneric {
+            file: *file,
+            prefix: prefix.copy()?,
+        })),
+        Verb::Delete {
+            file,
             ridfld: Some(key),
             ..
         } => delete_op(alloc, *file, Some(key.bytes())),

@@ -10,7 +10,7 @@ abbrev pub asks_no_queue : Verb → Bool
 asks_no_queue (Read file ridfld given n generic gteq update) = true
 asks_no_queue (Write file ridfld given from n) = true
 asks_no_queue (Rewrite file from n) = true
-asks_no_queue (Delete file ridfld given) = true
+asks_no_queue (Delete file ridfld given generic) = true
 asks_no_queue (Unlock file) = true
 asks_no_queue (StartBr file ridfld given generic equal) = true
 asks_no_queue (ResetBr file ridfld given generic equal) = true
@@ -35,7 +35,7 @@ abbrev pub file_named : Verb → Option Bytes
 file_named (Read f key given n generic gteq update) = Some f
 file_named (Write f key given from n) = Some f
 file_named (Rewrite f from n) = Some f
-file_named (Delete f key given) = Some f
+file_named (Delete f key given generic) = Some f
 file_named (Unlock f) = Some f
 file_named (StartBr f key given generic equal) = Some f
 file_named (ResetBr f key given generic equal) = Some f

@@ -56,11 +56,13 @@ pub enum Verb {
         length: Option<u64>,
     },
     /// DELETE (file control): deletes the record of the key, or without `ridfld` the one that was
-    /// read for update.
+    /// read for update. With `ridfld` and `generic` it deletes every record whose key begins with it,
+    /// and answers their number.
     Delete {
         file: Name8,
         ridfld: Option<Record>,
         key_length: Option<u64>,
+        generic: bool,
     },
     /// UNLOCK (file control): ends the update read of the file, if one is open.
     Unlock {
@@ -225,10 +227,12 @@ impl Verb {
                 file,
                 ridfld,
                 key_length,
+                generic,
             } => Ok(Verb::Delete {
                 file: *file,
                 ridfld: copy_of(ridfld)?,
                 key_length: *key_length,
+                generic: *generic,
             }),
             Verb::Unlock { file } => Ok(Verb::Unlock { file: *file }),
             Verb::StartBr {

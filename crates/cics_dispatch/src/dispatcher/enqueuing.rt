@@ -2,11 +2,10 @@
 
 ghost use Rattle.std.specs.Prelude.{◌≡◌, ◌<◌, ◌≤◌, None, length};
 ghost use Rattle.cics_names.specs.declared.conditions.Condition.TheVariants.{Normal};
-ghost use Rattle.cics_history.specs.Execution.{IsOpenUnit, IsOpenOrNone};
+ghost use Rattle.cics_history.specs.Execution.{IsOpenOrNone};
 ghost use Rattle.cics_history.specs.Headline.{IsHeadline};
 ghost use Rattle.cics_dispatch.specs.Replies.{plain};
-ghost use Rattle.cics_dispatch.specs.Steps.{answered, busy_of, dequeued, made_to_wait};
-ghost use Rattle.cics_dispatch.specs.Steps.{units_dequeued};
+ghost use Rattle.cics_dispatch.specs.Steps.{answered, dequeued, units_dequeued};
 ghost use Rattle.cics_dispatch.specs.Calls.{IsAwake, HasReady, IsStepOf, IsStepOrRefused};
 ghost use Rattle.cics_dispatch.specs.Calls.{IsAttempt, going_on};
 
@@ -32,30 +31,6 @@ fn free_value(units: &mut Units, unit: Option<UnitId>, value: &[u8])
 }
 
 impl Dispatcher {
-    // ENQ that has to wait for a unit, which holds its value: it waits, or with NOSUSPEND it is answered.
-    fn await_value(
-        &mut self,
-        at: usize,
-        command: Command,
-        holder: UnitId,
-    ) -> Result<Outcome, NoMemory>
-        requires within { at < length self.old.machine.tasks }
-        requires awake { IsAwake self.old.machine at }
-        requires ready { HasReady self.old.machine at command.verb None }
-        requires is_open { IsOpenUnit self.old.machine.units holder }
-        ensures step { IsStepOrRefused self.old at
-            (λ t. made_to_wait self.old.machine t command None holder (busy_of command.verb))
-            result self.new }
-    {
-        let Verb::Enq { nosuspend, .. } = &command.verb else {
-            unreachable!();
-        };
-        if *nosuspend {
-            return Ok(self.answer(at, command.resp, plain_reply(Condition::Enqbusy)));
-        }
-        self.suspend(at, command, None, holder)
-    }
-
     // Takes the value of an ENQ of the task at a place, unless it has to wait.
     pub(super) fn take_value(&mut self, at: usize, command: &Command) -> Result<Attempt, NoMemory>
         requires within { at < length self.old.machine.tasks }
@@ -97,7 +72,7 @@ impl Dispatcher {
     {
         match self.take_value(at, &command)? {
             Attempt::Told(outcome) => Ok(outcome),
-            Attempt::MustWait(holder) => self.await_value(at, command, holder),
+            Attempt::MustWait(holder) => self.make_wait(at, command, None, holder),
         }
     }
 

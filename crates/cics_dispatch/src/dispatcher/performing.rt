@@ -5,7 +5,6 @@ ghost use Rattle.std.specs.Prelude.{IsTrue, IfOk, OnErr};
 ghost use Rattle.cics_dispatch.specs.Machine.{unit_closed};
 ghost use Rattle.cics_dispatch.specs.Steps.{op_of, code_of, performed, issued};
 ghost use Rattle.cics_dispatch.specs.Answers.{is_growing, may_want, IsStep};
-ghost use Rattle.cics_names.specs.Commands.{asks_no_queue};
 ghost use Rattle.cics_dispatch.specs.Replies.{plain};
 ghost use Rattle.cics_names.specs.declared.conditions.Condition.TheVariants.{Normal};
 ghost use Rattle.cics_dispatch.specs.declared.outcomes.Outcome.TheVariants.{Replied};
@@ -86,6 +85,11 @@ impl Dispatcher {
             Verb::ReadNext { file, length } => self.read_next(at, resp, &file, length),
             Verb::ReadPrev { file, length } => self.read_prev(at, resp, &file, length),
             Verb::EndBr { file } => Ok(self.end_browse(at, resp, &file)),
+            Verb::ReadqTs {
+                queue,
+                length,
+                item,
+            } => self.read_item(at, resp, &queue, length, item),
             Verb::Deq { resource, length } => {
                 Ok(self.dequeue(at, resp, &resource.bytes()[..length as usize]))
             }
@@ -141,7 +145,6 @@ impl Dispatcher {
     /// nor NOHANDLE handles abends the task with the condition's default code (chapter on the
     /// exceptional conditions).
     pub fn issue(&mut self, label: Name8, command: Command) -> Result<Outcome, Refused>
-        requires no_queue { IsTrue (asks_no_queue command.verb) }
         ensures step { IsStep (may_want self.old.machine label command) self.old
             (issued self.old.machine label command) result self.new }
         ensures kept { KeepsRegion self.old self.new }

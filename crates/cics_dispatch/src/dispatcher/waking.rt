@@ -85,11 +85,15 @@ impl Dispatcher {
         None
     }
 
-    // The unit that a waiting command has to wait for, if it has to wait.
+    // The unit that a waiting command has to wait for, if it has to wait for what that unit holds. None of READQ TD,
+    // which may have to wait for the writer of its queue until something is committed.
     fn blocker(&self, wait: &Suspended) -> Option<UnitId>
         requires kept { IsWaitKept self.now.machine wait.now }
         ensures { IfSome result (λ unit. IsBlocked self.now.machine (unit ∷ []) wait.now) }
     {
+        if wait.reads_queue() {
+            return None;
+        }
         let at = self.tasks.find(&wait.label())?;
         self.awaited(at, wait)
     }

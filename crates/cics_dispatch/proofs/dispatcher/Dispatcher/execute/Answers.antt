@@ -5,14 +5,13 @@ use Rattle.cics_dispatch.specs.Calls.{IsAwake, HasReady, IsAttempt, going_on}
 use Rattle.cics_history.specs.Execution.{execution, after_execution, IfMustWait, IsOpenUnit}
 use Rattle.cics_history.specs.Holding.{awaited}
 use Rattle.cics_dispatch.specs.Machine.{with_unit}
-use Rattle.cics_dispatch.specs.Steps.{reply_of}
 use Rattle.cics_dispatch.specs.declared.outcomes.Attempt.TheVariants.{Told, MustWait}
 use Rattle.cics_dispatch.proofs.RegionSteps.{then_told, same_region, waits_state, holder_awaited, owned_now, acted_kept, acted_step, owner_free, owner_there, placed_within, one_task}
 use Rattle.cics_dispatch.proofs.dispatcher.Dispatcher.execute.Goals as goal
 
 pub execute-requires-clause-ready : goal.execute-requires-clause-ready
 execute-requires-clause-ready c =
-    rw c.unit-unit.ensures (subst (λ v. HasReady v.machine c.args.at c.args.command.now.verb (Some c.args.op.now)) (sym c.self.view_is) c.requires.ready c.get.result.now c.get.ensures).ready
+    rw c.unit-unit.ensures (subst (λ v. HasReady v.machine c.args.at c.args.command.now.verb (Some c.args.op.now)) (sym c.self.view_is) c.requires.ready c.get.result.now c.get.ensures)
 
 pub invariant_of-self-in-MustWait : goal.invariant_of-self-in-MustWait
 invariant_of-self-in-MustWait c =
@@ -82,7 +81,7 @@ returns-in-Answered c =
     let owned = owned_now u.tasks c.make_room_for_unit.new.self c.own_unit.new.self c.args.at t c.in-Answered.unit c.make_room_for_unit.ensures c.get.ensures c.own_unit.ensures in
     let unit = c.in-Answered.unit in
     let command = c.args.command.now in
-    let reply = c.reply_of_answer-reply.ensures ∙ ap (λ n. reply_of n c.in-Answered.answer) c.length.ensures in
+    let reply = c.reply_of_answer-reply.ensures in
     record {
       attempt = subst (λ v. IsAttempt v c.args.at command (Some c.args.op.now) (Ok (Told c.answer.result)) c.answer.new.self) c.self.view_is
           (then_told c.args.at t (with_unit t unit) command.resp c.reply_of_answer-reply.result (going_on (region_of u.units u.tasks u.waits u.clock).machine command (Some c.args.op.now)) c.get.ensures

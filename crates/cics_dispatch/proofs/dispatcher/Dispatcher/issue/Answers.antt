@@ -29,7 +29,6 @@ perform-requires-clause-may c = record {
       let there : slice_get m.tasks c.in-Some.at ≡ Some t = ap (λ r. slice_get r.machine.tasks c.in-Some.at) (sym c.self.view_is) ∙ c.get.ensures in
       let awake : is_waiting m.waiting label ≡ false = ap (λ r. is_waiting r.machine.waiting label) (sym c.self.view_is) ∙ sym c.is_waiting.ensures ∙ c.if-is_waiting.false in
       ap (λ x. is_waiting m.waiting x.label) (one_task m.tasks c.in-Some.at here there) ∙ ap (is_waiting m.waiting) (place_of_task m.tasks label t is).2 ∙ awake;
-  no_queue = c.requires.no_queue;
   passed = λ s here. sym (c.fault.ensures.fault s here) ∙ c.in-None.is;
   short =
       let m = c.args.self.now.machine in

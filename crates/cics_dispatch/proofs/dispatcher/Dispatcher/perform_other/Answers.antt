@@ -1,8 +1,7 @@
 use Rattle.std.proofs.Common.{◌≡◌, ◌∙◌, ◌≤◌, length, sym, ap, subst, arith, refl, true, None}
-use Rattle.std.proofs.lemmas.Bool.{false≢true}
 use Rattle.std.proofs.lemmas.List.{length-take-le}
 use Rattle.cics_names.specs.declared.conditions.Condition.TheVariants.{Invreq}
-use Rattle.cics_names.specs.Commands.{file_named, asks_no_queue}
+use Rattle.cics_names.specs.Commands.{file_named}
 use Rattle.cics_dispatch.specs.Machine.{Task}
 use Rattle.cics_dispatch.specs.Replies.{plain}
 use Rattle.cics_dispatch.specs.Steps.{answered, other_command}
@@ -81,23 +80,23 @@ returns c =
     }
   where
     -- a command that nothing else tells of is INVREQ
-    by : (t : Task) (verb : Verb) → c.args.command.verb ≡ verb → asks_no_queue verb ≡ true →
+    by : (t : Task) (verb : Verb) → c.args.command.verb ≡ verb →
         answered c.args.self.now.machine t c.args.command.resp (plain Invreq) ≡ other_command c.args.self.now.machine t c.args.command verb
-    by t (Read f key given n generic gteq update) is asks = absurd (c.in_default-verb.not-Read _ _ _ _ _ _ _ is)
-    by t (Unlock f) is asks = absurd (c.in_default-verb.not-Unlock _ is)
-    by t (StartBr f key given generic equal) is asks = absurd (c.in_default-verb.not-StartBr _ _ _ _ _ is)
-    by t (ResetBr f key given generic equal) is asks = absurd (c.in_default-verb.not-ResetBr _ _ _ _ _ is)
-    by t (ReadNext f n) is asks = absurd (c.in_default-verb.not-ReadNext _ _ is)
-    by t (ReadPrev f n) is asks = absurd (c.in_default-verb.not-ReadPrev _ _ is)
-    by t (EndBr f) is asks = absurd (c.in_default-verb.not-EndBr _ is)
-    by t (ReadqTs q n item) is asks = absurd (false≢true asks)
-    by t (Enq value n nosuspend) is asks = absurd (c.in_default.not-Enq _ _ _ is)
-    by t (Deq value n) is asks = absurd (c.in_default-verb.not-Deq _ _ is)
-    by t Syncpoint is asks = absurd (c.in_default-verb.not-Syncpoint is)
-    by t Rollback is asks = absurd (c.in_default-verb.not-Rollback is)
-    by t Return is asks = absurd (c.in_default-verb.not-Return is)
-    by t (Abend code) is asks = absurd (c.in_default-verb.not-Abend _ is)
-    by t verb is asks = refl
+    by t (Read f key given n generic gteq update) is = absurd (c.in_default-verb.not-Read _ _ _ _ _ _ _ is)
+    by t (Unlock f) is = absurd (c.in_default-verb.not-Unlock _ is)
+    by t (StartBr f key given generic equal) is = absurd (c.in_default-verb.not-StartBr _ _ _ _ _ is)
+    by t (ResetBr f key given generic equal) is = absurd (c.in_default-verb.not-ResetBr _ _ _ _ _ is)
+    by t (ReadNext f n) is = absurd (c.in_default-verb.not-ReadNext _ _ is)
+    by t (ReadPrev f n) is = absurd (c.in_default-verb.not-ReadPrev _ _ is)
+    by t (EndBr f) is = absurd (c.in_default-verb.not-EndBr _ is)
+    by t (ReadqTs q n item) is = absurd (c.in_default-verb.not-ReadqTs _ _ _ is)
+    by t (Enq value n nosuspend) is = absurd (c.in_default.not-Enq _ _ _ is)
+    by t (Deq value n) is = absurd (c.in_default-verb.not-Deq _ _ is)
+    by t Syncpoint is = absurd (c.in_default-verb.not-Syncpoint is)
+    by t Rollback is = absurd (c.in_default-verb.not-Rollback is)
+    by t Return is = absurd (c.in_default-verb.not-Return is)
+    by t (Abend code) is = absurd (c.in_default-verb.not-Abend _ is)
+    by t verb is = refl
 
     step : (t : Task) → answered c.args.self.now.machine t c.args.command.resp c.plain_reply.result ≡ other_command c.args.self.now.machine t c.args.command c.args.command.verb
-    step t = ap (answered c.args.self.now.machine t c.args.command.resp) c.plain_reply.ensures ∙ by t c.args.command.verb refl c.requires.may.no_queue
+    step t = ap (answered c.args.self.now.machine t c.args.command.resp) c.plain_reply.ensures ∙ by t c.args.command.verb refl

@@ -14,7 +14,7 @@ invariant_of-self-2 c =
     c.stays_settled-stays.ensures ∙ (λ i. u.is_settled && (not (c.is_blocker-blocks.ensures i) || (c.is_keeping-keeps.ensures i && goes_on outcome))) in (
       c.in_ok-outcome.ensures.kept c.self.invariant.0,
       remembered_issued u.dispatcher.machine c.issue.new.self.machine c.args.label c.args.command outcome u.is_settled c.stays_settled-stays.result noted.result u.is_in_time u.blockers.keys noted.new.blockers.keys
-          c.unit_of-unit.result c.requires.no_queue c.self.invariant.1 (λ t there. c.unit_of-unit.ensures t there) stayed noted.ensures.settled noted.ensures.more noted.ensures.own
+          c.unit_of-unit.result c.self.invariant.1 (λ t there. c.unit_of-unit.ensures t there) stayed noted.ensures.settled noted.ensures.more noted.ensures.own
           c.in_ok-outcome.ensures.step.0 c.in_ok-outcome.ensures.step.1,
     )
 

@@ -1,0 +1,61 @@
+//! Temporary storage and transient data of the tasks of a region: their checks, and READQ TS.
+
+ghost use Rattle.std.specs.Prelude.{◌≡◌, ◌<◌, length};
+ghost use Rattle.cics_dispatch.specs.Checks.{queue_fault, other_fault};
+ghost use Rattle.cics_dispatch.specs.Calls.{IsAwake, IsStepOrRefused, reading_item};
+
+use crate::checks::item_fault;
+use crate::dispatcher::Dispatcher;
+use crate::faults::value_fault;
+use crate::outcomes::Outcome;
+use crate::replies::reply_of_item;
+use cics_names::{Condition, Name4, Name8, NoMemory, Verb};
+
+impl Dispatcher {
+    // QIDERR of a transient data queue that isn't defined.
+    fn queue_fault(&self, queue: &Name4) -> Option<Condition>
+        ensures { result ≡ queue_fault self.now.machine queue.now }
+    {
+        match self.units.td_recovery(queue) {
+            Some(_) => None,
+            None => Some(Condition::Qiderr),
+        }
+    }
+
+    // The first fault of a command that names no file.
+    pub(super) fn other_fault(&self, verb: &Verb) -> Option<Condition>
+        ensures { result ≡ other_fault self.now.machine verb.now }
+    {
+        match verb {
+            Verb::WriteqTs { from, length, .. } => item_fault(from.bytes(), *length),
+            Verb::WriteqTd {
+                queue,
+                from,
+                length,
+            } => match self.queue_fault(queue) {
+                Some(fault) => Some(fault),
+                None => item_fault(from.bytes(), *length),
+            },
+            Verb::ReadqTd { queue, .. } | Verb::DeleteqTd { queue } => self.queue_fault(queue),
+            _ => value_fault(verb),
+        }
+    }
+
+    // READQ TS.
+    pub(super) fn read_item(
+        &mut self,
+        at: usize,
+        resp: bool,
+        queue: &Name8,
+        limit: Option<u64>,
+        item: Option<u64>,
+    ) -> Result<Outcome, NoMemory>
+        requires within { at < length self.old.machine.tasks }
+        requires awake { IsAwake self.old.machine at }
+        ensures step { IsStepOrRefused self.old at
+            (reading_item self.old.machine resp queue.now limit item) result self.new }
+    {
+        let answer = self.units.read_ts(queue, item)?;
+        Ok(self.answer(at, resp, reply_of_item(answer, limit)))
+    }
+}
