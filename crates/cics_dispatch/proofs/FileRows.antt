@@ -1,5 +1,5 @@
 -- Worked examples of files: units backed out and committed, waiting for a record, update reads, browses.
-use Rattle.std.specs.Prelude.{◌≡◌, true, false, Some, None, List, [], ◌∷◌, ◌++◌, refl}
+use Rattle.std.specs.Prelude.{◌≡◌, ℕ, true, false, Some, None, List, [], ◌∷◌, ◌++◌, refl}
 use Rattle.cics_names.specs.Keyed.{Bytes, Map}
 use Rattle.cics_names.specs.declared.conditions.Condition.TheVariants.{Normal, Dsiderr, Notfnd, Duprec, Invreq, Endfile, Lengerr}
 use Rattle.cics_history.specs.Openings.{OpeningState, nothing_defined, with_file, with_record}
@@ -10,6 +10,7 @@ use Rattle.cics_dispatch.specs.Answers.{tasks_listed}
 use Rattle.cics_names.specs.declared.commands.Verb.{Verb}
 use Rattle.cics_names.specs.declared.commands.Verb.TheVariants.{Read, Rewrite, Delete, Unlock, StartBr, ResetBr, ReadNext, ReadPrev, EndBr, Syncpoint, Rollback, Return, Abend}
 use Rattle.cics_dispatch.specs.declared.outcomes.Outcome.{Outcome}
+use Rattle.cics_dispatch.specs.declared.outcomes.Number.TheVariants.{Numrec}
 use Rattle.cics_dispatch.specs.declared.outcomes.Outcome.TheVariants.{Replied, Waiting, Abended, Ended}
 use Rattle.cics_dispatch.proofs.Examples.{acct, log, t1, t2, t3, zeros, key_1, key_2, key_3, record_1, record_2, record_3, keyed, both_files, read, read_update, write, delete, replied, abend}
 use Rattle.cics_dispatch.proofs.Journal.{Event, journal, at_end, left}
@@ -257,3 +258,47 @@ check_before_wait = refl
 -- a fault of a check abends, and the unit is backed out
 fault_abends : journal both_files (does t1 (delete acct key_1) ∷ does t1 (read t1 key_1) ∷ does t2 (read acct key_1) ∷ []) ≡ told t1 normal ∷ told t1 (abend 0xC9 0xD3 Dsiderr) ∷ told t2 (gives record_1) ∷ []
 fault_abends = refl
+
+-- ---- DELETE GENERIC
+
+abbrev deleted : ℕ → Outcome
+deleted n = Replied (record { condition = Normal; key = None; content = None; number = Some (Numrec n) })
+
+abbrev delete_generic : Bytes → Verb
+delete_generic prefix = Delete acct (Some prefix) None true
+
+-- 0009, 9000, and the record 0009n
+abbrev key_9 : Bytes
+key_9 = zeros ++ 0xF9 ∷ []
+
+abbrev other_key : Bytes
+other_key = 0xF9 ∷ zeros
+
+abbrev record_9 : Bytes
+record_9 = key_9 ++ 0x95 ∷ []
+
+-- it holds every key that begins with its prefix, present or not, and a backout brings the records back
+abbrev prefix_held : List Event
+prefix_held = does t1 (delete_generic zeros) ∷ does t2 (write acct key_9 record_9) ∷ does t1 Rollback ∷ []
+
+prefix_held_journal : journal both_files prefix_held ≡ told t1 (deleted 1) ∷ told t2 (Waiting t1) ∷ told t1 normal ∷ woke t2 normal ∷ []
+prefix_held_journal = refl
+
+prefix_held_left : (left both_files prefix_held).files ≡ files_with ((key_1, record_1) ∷ (key_9, record_9) ∷ []) []
+prefix_held_left = refl
+
+-- where no key begins with it it is NOTFND, and holds nothing; a prefix of no byte is INVREQ
+prefix_absent : journal both_files (asks t1 (delete_generic (0xF9 ∷ [])) ∷ does t2 (write acct other_key other_key) ∷ asks t1 (delete_generic []) ∷ []) ≡ told t1 (replied Notfnd) ∷ told t2 normal ∷ told t1 (replied Invreq) ∷ []
+prefix_absent = refl
+
+-- without RIDFLD GENERIC is INVREQ, also with an update read open
+generic_alone : journal both_files (does t1 (read_update acct key_1) ∷ asks t1 (Delete acct None None true) ∷ []) ≡ told t1 (gives record_1) ∷ told t1 (replied Invreq) ∷ []
+generic_alone = refl
+
+-- it waits for a unit that holds a key of the prefix, and deletes once that unit was backed out
+prefix_waits : journal two_accounts (does t1 (delete acct key_2) ∷ does t2 (delete_generic zeros) ∷ does t1 Rollback ∷ []) ≡ told t1 normal ∷ told t2 (Waiting t1) ∷ told t1 normal ∷ woke t2 (deleted 2) ∷ []
+prefix_waits = refl
+
+-- it ends the update read that its prefix covers
+covered_read : journal both_files (does t1 (read_update acct key_1) ∷ does t1 (delete_generic zeros) ∷ asks t1 (Rewrite acct record_1b None) ∷ []) ≡ told t1 (gives record_1) ∷ told t1 (deleted 1) ∷ told t1 (replied Invreq) ∷ []
+covered_read = refl

@@ -9,25 +9,29 @@ use Rattle.cics_history.specs.Holding.{store_of}
 use Rattle.cics_dispatch.specs.Machine.{Machine, beginning_region}
 use Rattle.cics_dispatch.specs.Steps.{Stepped, attached, issued}
 use Rattle.cics_dispatch.specs.Waking.{clock_set, woken, expired}
+use Rattle.cics_dispatch.specs.Shutdown.{unless_down, shut_down}
 use Rattle.cics_names.specs.declared.commands.Verb.{Verb}
 use Rattle.cics_dispatch.specs.declared.outcomes.Outcome.{Outcome}
 use Rattle.cics_dispatch.specs.declared.outcomes.Refused.{Refused}
 use Rattle.cics_dispatch.proofs.Examples.{t1, t2}
 
--- a task is attached with its DTIMOUT; a command without RESP; one with RESP; the clock is set
+-- a task is attached with its DTIMOUT; a command without RESP; one with RESP; the clock is set; the region is shut down
 pub data Event : Type 0 where
   attaches : Bytes → ℕ → Event
   does : Bytes → Verb → Event
   asks : Bytes → Verb → Event
   clock : ℕ → Event
+  shuts : Event
 
--- a task is attached; what a command came to; a refused event; the clock; what a woken command came to; a time-out
+-- a task is attached; what a command came to; a refused event; the clock; a refused event without a task; the units that a
+-- shutdown backed out; what a woken command came to; a time-out
 pub data Line : Type 0 where
   began : Bytes → Line
   told : Bytes → Outcome → Line
   refused : Bytes → Refused → Line
   ticked : ℕ → Line
   stopped : Refused → Line
+  down : ℕ → Line
   woke : Bytes → Outcome → Line
   late : Bytes → AbendCode → Line
 
@@ -47,14 +51,19 @@ abbrev pub line_of_clock : ℕ → Result (Unit {0}) Refused → Line
 line_of_clock n (Ok u) = ticked n
 line_of_clock n (Err r) = stopped r
 
+abbrev pub line_of_shutdown : Result ℕ Refused → Line
+line_of_shutdown (Ok n) = down n
+line_of_shutdown (Err r) = stopped r
+
 abbrev pub one : {X : Type 0} → (X → Line) → Stepped X → Run
 one line s = record { lines = line s.outcome ∷ []; machine = s.machine }
 
 abbrev pub event : Machine → Event → Run
-event m (attaches l dtimout) = one (line_of_attach l) (attached m l dtimout)
-event m (does l verb) = one (line_of_issue l) (issued m l (record { verb = verb; resp = false }))
-event m (asks l verb) = one (line_of_issue l) (issued m l (record { verb = verb; resp = true }))
-event m (clock n) = one (line_of_clock n) (clock_set m n)
+event m (attaches l dtimout) = one (line_of_attach l) (unless_down m (attached m l dtimout))
+event m (does l verb) = one (line_of_issue l) (unless_down m (issued m l (record { verb = verb; resp = false })))
+event m (asks l verb) = one (line_of_issue l) (unless_down m (issued m l (record { verb = verb; resp = true })))
+event m (clock n) = one (line_of_clock n) (unless_down m (clock_set m n))
+event m shuts = one line_of_shutdown (unless_down m (shut_down m))
 
 abbrev pub then : Line → Run → Run
 then line r = record { lines = line ∷ r.lines; machine = r.machine }

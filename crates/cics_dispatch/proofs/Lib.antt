@@ -19,6 +19,7 @@ mod RegionListing
 mod RegionWaking
 mod RegionPerforming
 mod RegionQueues
+mod RegionShutdown
 pub mod Blocked
 pub mod OthersHold
 pub mod ActsAlone

@@ -42,10 +42,10 @@ pub never_none : {Q X Y : Type 0} (g : X → Y) (o : Option X) → is_some o ≡
 never_none g None some none = absurd (false≢true some)
 never_none g (Some x) some none = cc
 
-module _ {units : UnitsValue} {tasks : List Task} {waiting : List Suspended} {clock : ℕ} (kept : IsRegionKept (region_of units tasks waiting clock))
+module _ {units : UnitsValue} {tasks : List Task} {waiting : List Suspended} {clock : ℕ} {is_down : Bool} (kept : IsRegionKept (region_of units tasks waiting clock is_down))
     (at : ℕ) (t : Task) (there : slice_get tasks at ≡ Some t) where
   abbrev machine : Machine
-  machine = (region_of units tasks waiting clock).machine
+  machine = (region_of units tasks waiting clock is_down).machine
 
   -- the task with other browses stands where it stood
   pub owner_there : (ts : List Task) (browses : Map Position) → ts ≡ replaced tasks (with_browses t browses) → slice_get ts at ≡ Some (with_browses t browses)
@@ -57,17 +57,17 @@ module _ {units : UnitsValue} {tasks : List Task} {waiting : List Suspended} {cl
 
   -- the task has other browses
   pub browses_kept : (ts : List Task) (browses : Map Position) → is_waiting waiting t.label ≡ false → ts ≡ replaced tasks (with_browses t browses) →
-      IsRegionKept (region_of units ts waiting clock)
+      IsRegionKept (region_of units ts waiting clock is_down)
   browses_kept ts browses awake is =
-      kept_as (region_of units ts waiting clock) (with_task machine (with_browses t browses)) (λ i. record { units = units.state; tasks = is i; waiting = waiting; clock = clock })
+      kept_as (region_of units ts waiting clock is_down) (with_task machine (with_browses t browses)) (λ i. record { units = units.state; tasks = is i; waiting = waiting; clock = clock; is_down = is_down })
       (kept_browses machine at t kept.tasks there awake browses) (owned_browses machine t at there kept.tasks.labels kept.owned browses)
       (record { headline = kept.headline.headline })
 
   -- UNLOCK
   pub unlocked_kept : (after : UnitsValue) (f : Bytes) → is_waiting waiting t.label ≡ false → with_units machine after.state ≡ unlocked machine t.unit f → IsHeadline after →
-      IsRegionKept (region_of after tasks waiting clock)
+      IsRegionKept (region_of after tasks waiting clock is_down)
   unlocked_kept after f awake is headline =
-      kept_as (region_of after tasks waiting clock) (unlocked machine t.unit f) is
+      kept_as (region_of after tasks waiting clock is_down) (unlocked machine t.unit f) is
       (kept_unlocked machine at t kept.tasks there awake f) (owned_unlocked machine t.unit f kept.owned) (record { headline = headline })
 
   -- a file's own records are those of the region's machine
@@ -78,13 +78,13 @@ module _ {units : UnitsValue} {tasks : List Task} {waiting : List Suspended} {cl
 
   -- UNLOCK
   pub unlock_answered : (after : UnitsValue) (f : Bytes) (resp : Bool) (r : Reply) → with_units machine after.state ≡ unlocked machine t.unit f → r ≡ plain Normal →
-      answered (region_of after tasks waiting clock).machine t resp r ≡ answered (unlocked machine t.unit f) t resp (plain Normal)
+      answered (region_of after tasks waiting clock is_down).machine t resp r ≡ answered (unlocked machine t.unit f) t resp (plain Normal)
   unlock_answered after f resp r is told = λ i. answered (is i) t resp (told i)
 
   -- a step that gives the task other browses
   module _ (ts : List Task) (resp : Bool) (f : Bytes) (r : Reply) where
     abbrev now : Machine
-    now = (region_of units ts waiting clock).machine
+    now = (region_of units ts waiting clock is_down).machine
 
     -- READNEXT and READPREV
     pub read_answered : (n : Option ℕ) (records : Map Bytes) (given : Map Bytes → Position → Browsed) (after : Map Bytes → Position → Position) (b : Browsed) (o : Option Position) →
@@ -132,11 +132,11 @@ module _ {units : UnitsValue} {tasks : List Task} {waiting : List Suspended} {cl
   pub start_answered : (ts : List Task) (resp : Bool) (f : Bytes) (r : Reply) (key : Bytes) (generic equal : Bool) (records : Map Bytes) (condition : Condition) (finds : Bool) →
       finds_start records key generic equal ≡ finds → records ≡ records_in machine f →
       condition ≡ (if finds then Normal else Notfnd) → ts ≡ (if finds then replaced tasks (with_browse t f (start_at key generic)) else tasks) → r ≡ plain condition →
-      answered (region_of units ts waiting clock).machine (with_browses t (opened finds f (start_at key generic)).browses) resp r ≡ started machine t resp f key generic equal
+      answered (region_of units ts waiting clock is_down).machine (with_browses t (opened finds f (start_at key generic)).browses) resp r ≡ started machine t resp f key generic equal
   start_answered ts resp f r key generic equal records condition finds found own is changed told =
       by finds is changed ∙ ap (λ b. started_as b resp f (start_at key generic)) (sym found ∙ ap (λ rs. finds_start rs key generic equal) own)
     where
       by : (b : Bool) → condition ≡ (if b then Normal else Notfnd) → ts ≡ (if b then replaced tasks (with_browse t f (start_at key generic)) else tasks) →
-          answered (region_of units ts waiting clock).machine (with_browses t (opened b f (start_at key generic)).browses) resp r ≡ started_as b resp f (start_at key generic)
+          answered (region_of units ts waiting clock is_down).machine (with_browses t (opened b f (start_at key generic)).browses) resp r ≡ started_as b resp f (start_at key generic)
       by true is changed = λ i. answered (record machine { tasks = changed i }) (with_browse t f (start_at key generic)) resp ((told ∙ ap plain is) i)
       by false is changed = λ i. answered (record machine { tasks = changed i }) t resp ((told ∙ ap plain is) i)

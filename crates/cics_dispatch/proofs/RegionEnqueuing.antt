@@ -23,20 +23,20 @@ use Rattle.cics_dispatch.proofs.OwnedUnits.{owned_enqueued, owned_dequeued}
 use Rattle.cics_dispatch.proofs.RegionSteps.{kept_as}
 
 -- ---- DEQ
-module _ {units : UnitsValue} {tasks : List Task} {waiting : List Suspended} {clock : ℕ} (kept : IsRegionKept (region_of units tasks waiting clock))
+module _ {units : UnitsValue} {tasks : List Task} {waiting : List Suspended} {clock : ℕ} {is_down : Bool} (kept : IsRegionKept (region_of units tasks waiting clock is_down))
     (at : ℕ) (t : Task) (there : slice_get tasks at ≡ Some t) (value : Bytes) (after : UnitsValue) (state : after.state ≡ units_dequeued units.state t.unit value) where
   abbrev machine : Machine
-  machine = (region_of units tasks waiting clock).machine
+  machine = (region_of units tasks waiting clock is_down).machine
 
   -- the tasks stay, and each open unit is its task's
-  pub dequeued_kept : is_waiting waiting t.label ≡ false → IsHeadline after → IsRegionKept (region_of after tasks waiting clock)
+  pub dequeued_kept : is_waiting waiting t.label ≡ false → IsHeadline after → IsRegionKept (region_of after tasks waiting clock is_down)
   dequeued_kept awake headline =
-      kept_as (region_of after tasks waiting clock) (dequeued machine t.unit value) (λ i. with_units machine (state i))
+      kept_as (region_of after tasks waiting clock is_down) (dequeued machine t.unit value) (λ i. with_units machine (state i))
       (kept_dequeued machine at t kept.tasks there awake value) (owned_dequeued machine t.unit value kept.owned) (record { headline = headline })
 
   -- the task is told that it is done
   pub dequeue_answered : (resp : Bool) (r : Reply) → r ≡ plain Normal →
-      answered (region_of after tasks waiting clock).machine t resp r ≡ answered (dequeued machine t.unit value) t resp (plain Normal)
+      answered (region_of after tasks waiting clock is_down).machine t resp r ≡ answered (dequeued machine t.unit value) t resp (plain Normal)
   dequeue_answered resp r told = λ i. answered (with_units machine (state i)) t resp (told i)
 
 -- ---- ENQ
@@ -75,20 +75,20 @@ enq_waits m t c holder = by c.verb
     by (Enq value n nosuspend) ready waits = ap (λ w. enqueued m t c (take n value) (enq_of m.units t.unit (take n value) w)) (sym waits)
     by verb ready waits = absurd ready
 
-module _ {units : UnitsValue} {tasks : List Task} {waiting : List Suspended} {clock : ℕ} (kept : IsRegionKept (region_of units tasks waiting clock))
+module _ {units : UnitsValue} {tasks : List Task} {waiting : List Suspended} {clock : ℕ} {is_down : Bool} (kept : IsRegionKept (region_of units tasks waiting clock is_down))
     (at : ℕ) (t : Task) (there : slice_get tasks at ≡ Some t) (value : Bytes) (after : UnitsValue) (state : after.state ≡ after_enqueue units.state t.unit value) where
   abbrev m : Machine
-  m = (region_of units tasks waiting clock).machine
+  m = (region_of units tasks waiting clock is_down).machine
 
   -- one of a value that the unit holds the most times leaves the units, and is told so
   pub full_step : (ts : List Task) → ts ≡ tasks → (c : Command) (r : Reply) → enqueue units.state t.unit value ≡ CountFull → r ≡ plain Invreq →
-      answered (region_of after ts waiting clock).machine t c.resp r ≡ enqueued m t c value (enqueue units.state t.unit value)
+      answered (region_of after ts waiting clock is_down).machine t c.resp r ≡ enqueued m t c value (enqueue units.state t.unit value)
   full_step ts same c r full told =
       (λ i. answered (record m { units = (state ∙ ap (after_enqueued units.state t.unit value) full) i; tasks = same i }) t c.resp (told i)) ∙ ap (enqueued m t c value) (sym full)
 
-  pub full_kept : (ts : List Task) → ts ≡ tasks → enqueue units.state t.unit value ≡ CountFull → IsHeadline after → IsRegionKept (region_of after ts waiting clock)
+  pub full_kept : (ts : List Task) → ts ≡ tasks → enqueue units.state t.unit value ≡ CountFull → IsHeadline after → IsRegionKept (region_of after ts waiting clock is_down)
   full_kept ts same full headline =
-      kept_as (region_of after ts waiting clock) m (λ i. record m { units = (state ∙ ap (after_enqueued units.state t.unit value) full) i; tasks = same i })
+      kept_as (region_of after ts waiting clock is_down) m (λ i. record m { units = (state ∙ ap (after_enqueued units.state t.unit value) full) i; tasks = same i })
       kept.tasks kept.owned (record { headline = headline })
 
   -- one that takes its value makes its unit the task's
@@ -102,15 +102,15 @@ module _ {units : UnitsValue} {tasks : List Task} {waiting : List Suspended} {cl
       pub owner_there : slice_get ts at ≡ Some (with_unit t unit)
       owner_there = ap (λ l. slice_get l at) is ∙ with_task_placed m at t (with_unit t unit) kept.tasks there refl
 
-      taken_machine : (region_of after ts waiting clock).machine ≡ with_task (with_units m (after_enqueue units.state t.unit value)) (with_unit t unit)
-      taken_machine = λ i. record { units = state i; tasks = is i; waiting = waiting; clock = clock }
+      taken_machine : (region_of after ts waiting clock is_down).machine ≡ with_task (with_units m (after_enqueue units.state t.unit value)) (with_unit t unit)
+      taken_machine = λ i. record { units = state i; tasks = is i; waiting = waiting; clock = clock; is_down = is_down }
 
-      pub taken_kept : is_waiting waiting t.label ≡ false → IsHeadline after → IsRegionKept (region_of after ts waiting clock)
+      pub taken_kept : is_waiting waiting t.label ≡ false → IsHeadline after → IsRegionKept (region_of after ts waiting clock is_down)
       taken_kept awake headline =
-          kept_as (region_of after ts waiting clock) _ taken_machine
+          kept_as (region_of after ts waiting clock is_down) _ taken_machine
           (kept_enqueued m at t kept.tasks there awake value unit taken) (owned_enqueued m t at there kept.tasks.labels kept.owned value unit taken) (record { headline = headline })
 
       -- the task is told that the value is its own
       pub taken_step : (c : Command) (r : Reply) → r ≡ plain Normal →
-          answered (region_of after ts waiting clock).machine (with_unit t unit) c.resp r ≡ enqueued m t c value (enqueue units.state t.unit value)
+          answered (region_of after ts waiting clock is_down).machine (with_unit t unit) c.resp r ≡ enqueued m t c value (enqueue units.state t.unit value)
       taken_step c r told = (λ i. answered (taken_machine i) (with_unit t unit) c.resp (told i)) ∙ ap (enqueued m t c value) (sym taken)

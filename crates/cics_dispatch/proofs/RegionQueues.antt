@@ -10,16 +10,16 @@ use Rattle.cics_dispatch.proofs.KeptTasks.{kept_item_read}
 use Rattle.cics_dispatch.proofs.OwnedUnits.{owned_item_read}
 use Rattle.cics_dispatch.proofs.RegionSteps.{kept_as}
 
-module _ {units : UnitsValue} {tasks : List Task} {waiting : List Suspended} {clock : ℕ} (kept : IsRegionKept (region_of units tasks waiting clock))
+module _ {units : UnitsValue} {tasks : List Task} {waiting : List Suspended} {clock : ℕ} {is_down : Bool} (kept : IsRegionKept (region_of units tasks waiting clock is_down))
     (at : ℕ) (t : Task) (there : slice_get tasks at ≡ Some t) (q : Bytes) (item : ℕ) (after : UnitsValue) (state : after.state ≡ after_ts_reading units.state q item) where
   abbrev m : Machine
-  m = (region_of units tasks waiting clock).machine
+  m = (region_of units tasks waiting clock is_down).machine
 
   -- the NEXT place moves, and nothing else
-  pub item_read_machine : (region_of after tasks waiting clock).machine ≡ with_units m (after_ts_reading units.state q item)
-  item_read_machine = λ i. record { units = state i; tasks = tasks; waiting = waiting; clock = clock }
+  pub item_read_machine : (region_of after tasks waiting clock is_down).machine ≡ with_units m (after_ts_reading units.state q item)
+  item_read_machine = λ i. record { units = state i; tasks = tasks; waiting = waiting; clock = clock; is_down = is_down }
 
-  pub item_read_kept : is_waiting waiting t.label ≡ false → IsHeadline after → IsRegionKept (region_of after tasks waiting clock)
+  pub item_read_kept : is_waiting waiting t.label ≡ false → IsHeadline after → IsRegionKept (region_of after tasks waiting clock is_down)
   item_read_kept awake headline =
-      kept_as (region_of after tasks waiting clock) (with_units m (after_ts_reading units.state q item)) item_read_machine
+      kept_as (region_of after tasks waiting clock is_down) (with_units m (after_ts_reading units.state q item)) item_read_machine
       (kept_item_read m at t kept.tasks there awake q item) (owned_item_read m q item kept.owned) (record { headline = headline })

@@ -1,7 +1,8 @@
 -- Task control: what a region remembers of its last looks at the waiting commands, after each of its calls.
-use Rattle.std.specs.Prelude.{◌≡◌, ℕ, Bool, true, false, not, ◌&&◌, ◌||◌, Option, Some, None, Result, Ok, Err, List, All, refl}
+use Rattle.std.specs.Prelude.{◌≡◌, ℕ, Bool, true, false, not, ◌&&◌, ◌||◌, Option, Some, None, Result, Ok, Err, List, [], All, refl}
 use Rattle.std.proofs.Common.{◌⊎◌, inl, inr, sym, ap, ◌∙◌, subst}
 use Rattle.std.proofs.lemmas.Bool.{false≢true, and_parts, or_cases}
+use Rattle.std.proofs.lemmas.List.Elements.{All-nil}
 use Rattle.cics_names.specs.Keyed.{Bytes}
 use Rattle.cics_dispatch.specs.Machine.{Machine, Task, Suspended, RegionValue, task_at}
 use Rattle.cics_dispatch.specs.Steps.{Stepped, attached, refused_or, issued}
@@ -83,6 +84,13 @@ remembered_issued m n label c outcome is_settled stays noted is_in_time bs cs un
       (mild m label c outcome is_settled stays bs unit own stayed (settled set))
       (λ w. subst (λ x. wait_of x.waiting label ≡ Some w → IsBlocked x cs w) step (blocked set w)));
   in_time = λ set. subst (λ x. All (IsInTime x) x.waiting) (sym step) (issued_in_time m c (is.in_time set) label);
+}
+
+-- where no command waits all is settled, and nobody has waited too long
+pub remembered_alone : (m : Machine) (bs : List ℕ) → m.waiting ≡ [] → IsRemembered m true true bs
+remembered_alone m bs none = record {
+  settled = λ set. subst (All (IsBlocked m bs)) (sym none) (All-nil (IsBlocked m bs));
+  in_time = λ set. subst (All (IsInTime m)) (sym none) (All-nil (IsInTime m));
 }
 
 -- where each waiting command is blocked none goes on

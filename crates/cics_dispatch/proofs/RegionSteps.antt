@@ -45,24 +45,24 @@ task_there ts at within follows = elim (slice_get_cases ts at).1 [
 pub kept_as : (r : RegionValue) (m : Machine) → r.machine ≡ m → AreTasksKept m → AreUnitsOwned m → IsHeadlineRegion r → IsRegionKept r
 kept_as r m is tasks owned headline = record { tasks = subst AreTasksKept (sym is) tasks; owned = subst AreUnitsOwned (sym is) owned; headline = headline }
 
-module _ {units : UnitsValue} {tasks : List Task} {waiting : List Suspended} {clock : ℕ} (kept : IsRegionKept (region_of units tasks waiting clock)) where
+module _ {units : UnitsValue} {tasks : List Task} {waiting : List Suspended} {clock : ℕ} {is_down : Bool} (kept : IsRegionKept (region_of units tasks waiting clock is_down)) where
   abbrev machine : Machine
-  machine = (region_of units tasks waiting clock).machine
+  machine = (region_of units tasks waiting clock is_down).machine
 
   -- the unit of a task ends
   pub closed_kept : (after : UnitsValue) (ts : List Task) (at : ℕ) (t : Task) (outcome : UnitState) (has_ended : Bool) → slice_get tasks at ≡ Some t → is_waiting waiting t.label ≡ false →
       is_open outcome ≡ false → after.state ≡ units_after units.state t.unit outcome → ts ≡ replaced tasks (record t { unit = None; browses = []; has_ended = has_ended }) →
-      IsHeadline after → IsRegionKept (region_of after ts waiting clock)
+      IsHeadline after → IsRegionKept (region_of after ts waiting clock is_down)
   closed_kept after ts at t outcome has_ended there awake shut state is headline =
-      kept_as (region_of after ts waiting clock) (unit_closed machine t outcome has_ended) (λ i. record { units = state i; tasks = is i; waiting = waiting; clock = clock })
+      kept_as (region_of after ts waiting clock is_down) (unit_closed machine t outcome has_ended) (λ i. record { units = state i; tasks = is i; waiting = waiting; clock = clock; is_down = is_down })
       (kept_closed machine at t kept.tasks there awake outcome has_ended) (owned_closed machine t at there kept.tasks.labels kept.owned outcome has_ended shut) (record { headline = headline })
 
   -- a task is abended
   pub abended_kept : (after : UnitsValue) (ts : List Task) (ws : List Suspended) (at : ℕ) (t : Task) → slice_get tasks at ≡ Some t →
       after.state ≡ units_after units.state t.unit BackedOut → ts ≡ replaced tasks (record t { unit = None; browses = []; has_ended = true }) → ws ≡ not_waiting waiting t.label →
-      IsHeadline after → IsRegionKept (region_of after ts ws clock)
+      IsHeadline after → IsRegionKept (region_of after ts ws clock is_down)
   abended_kept after ts ws at t there state is gone headline =
-      kept_as (region_of after ts ws clock) (abended machine t) (λ i. record { units = state i; tasks = is i; waiting = gone i; clock = clock })
+      kept_as (region_of after ts ws clock is_down) (abended machine t) (λ i. record { units = state i; tasks = is i; waiting = gone i; clock = clock; is_down = is_down })
       (kept_abended machine at t kept.tasks there) (owned_abended machine t at there kept.tasks.labels kept.owned) (record { headline = headline })
 
 -- a task that stands at its place stays where it is put in its own place
@@ -115,24 +115,24 @@ pub owned_now : (ts us vs : List Task) (at : ℕ) (t : Task) (unit : ℕ) → us
 owned_now ts us vs at t unit same there owned = owned t (ap (λ l. slice_get l at) same ∙ there) ∙ ap (λ l. replaced l (with_unit t unit)) same
 
 -- units that are in the state in which they were hold the store that they held
-pub same_region : {units : UnitsValue} {tasks : List Task} {waiting : List Suspended} {clock : ℕ} → IsRegionKept (region_of units tasks waiting clock) →
-    (after : UnitsValue) (ts : List Task) → after.state ≡ units.state → IsHeadline after → ts ≡ tasks → region_of after ts waiting clock ≡ region_of units tasks waiting clock
-same_region {units} {tasks} {waiting} {clock} kept after ts state headline same =
-    λ i. region_of (record { state = state i; store = (headline.store ∙ ap store_of state ∙ sym kept.headline.headline.store) i }) (same i) waiting clock
+pub same_region : {units : UnitsValue} {tasks : List Task} {waiting : List Suspended} {clock : ℕ} {is_down : Bool} → IsRegionKept (region_of units tasks waiting clock is_down) →
+    (after : UnitsValue) (ts : List Task) → after.state ≡ units.state → IsHeadline after → ts ≡ tasks → region_of after ts waiting clock is_down ≡ region_of units tasks waiting clock is_down
+same_region {units} {tasks} {waiting} {clock} {is_down} kept after ts state headline same =
+    λ i. region_of (record { state = state i; store = (headline.store ∙ ap store_of state ∙ sym kept.headline.headline.store) i }) (same i) waiting clock is_down
 
 -- ---- An updating command
-module _ {units : UnitsValue} {tasks : List Task} {waiting : List Suspended} {clock : ℕ} (kept : IsRegionKept (region_of units tasks waiting clock))
+module _ {units : UnitsValue} {tasks : List Task} {waiting : List Suspended} {clock : ℕ} {is_down : Bool} (kept : IsRegionKept (region_of units tasks waiting clock is_down))
     (at : ℕ) (t : Task) (there : slice_get tasks at ≡ Some t) (o : Op) (after : UnitsValue) (state : after.state ≡ after_execution units.state t.unit o) (headline : IsHeadline after) where
   abbrev m : Machine
-  m = (region_of units tasks waiting clock).machine
+  m = (region_of units tasks waiting clock is_down).machine
 
   -- one that is executed makes its unit the task's
   module _ (awake : is_waiting waiting t.label ≡ false) (unit : ℕ) (a : Answer) (acts : execution units.state t.unit o ≡ Answered unit a) where
-    pub acted_machine : (ts : List Task) → ts ≡ replaced tasks (with_unit t unit) → (region_of after ts waiting clock).machine ≡ with_task (with_units m (after_execution units.state t.unit o)) (with_unit t unit)
-    acted_machine ts is = λ i. record { units = state i; tasks = is i; waiting = waiting; clock = clock }
+    pub acted_machine : (ts : List Task) → ts ≡ replaced tasks (with_unit t unit) → (region_of after ts waiting clock is_down).machine ≡ with_task (with_units m (after_execution units.state t.unit o)) (with_unit t unit)
+    acted_machine ts is = λ i. record { units = state i; tasks = is i; waiting = waiting; clock = clock; is_down = is_down }
 
-    pub acted_kept : (ts : List Task) → ts ≡ replaced tasks (with_unit t unit) → IsRegionKept (region_of after ts waiting clock)
-    acted_kept ts is = kept_as (region_of after ts waiting clock) _ (acted_machine ts is)
+    pub acted_kept : (ts : List Task) → ts ≡ replaced tasks (with_unit t unit) → IsRegionKept (region_of after ts waiting clock is_down)
+    acted_kept ts is = kept_as (region_of after ts waiting clock is_down) _ (acted_machine ts is)
         (kept_executed m at t kept.tasks there awake o unit a acts) (owned_executed m t at there kept.tasks.labels kept.owned o unit a acts) (record { headline = headline })
 
     pub owner_free : t.unit ≡ None → HasNoOwner tasks unit
@@ -143,9 +143,9 @@ module _ {units : UnitsValue} {tasks : List Task} {waiting : List Suspended} {cl
 
   -- what an executed command answers, and the region that it leaves
   pub acted_step : (c : Command) (unit : ℕ) (a : Answer) → execution units.state t.unit o ≡ Answered unit a → (ts : List Task) → ts ≡ replaced tasks (with_unit t unit) → (r : Reply) → r ≡ reply_of c.verb a →
-      answered (region_of after ts waiting clock).machine (with_unit t unit) c.resp r ≡ by_op m t c (Some o)
+      answered (region_of after ts waiting clock is_down).machine (with_unit t unit) c.resp r ≡ by_op m t c (Some o)
   acted_step c unit a acts ts is r told =
-      (λ i. answered (record { units = state i; tasks = is i; waiting = waiting; clock = clock }) (with_unit t unit) c.resp (told i)) ∙ ap (executed m t c o) (sym acts)
+      (λ i. answered (record { units = state i; tasks = is i; waiting = waiting; clock = clock; is_down = is_down }) (with_unit t unit) c.resp (told i)) ∙ ap (executed m t c o) (sym acts)
 
 -- a command that has to wait for a unit is executed by no other step than its wait, or its answer with NOSUSPEND
 pub waits_for : (m : Machine) (t : Task) (c : Command) (o : Op) (holder : ℕ) → awaited m.units t.unit o ≡ Some holder →

@@ -27,7 +27,7 @@ use Rattle.cics_names.specs.declared.commands.Command.{Command}
 use Rattle.cics_names.specs.declared.commands.Verb.{Verb}
 use Rattle.cics_dispatch.specs.declared.outcomes.Outcome.{Outcome}
 use Rattle.cics_dispatch.specs.declared.outcomes.Refused.{Refused}
-use Rattle.cics_dispatch.specs.declared.outcomes.Refused.TheVariants.{NoTask, TaskEnded, TaskWaiting, DuplicateLabel, NoMemory, ClockBack}
+use Rattle.cics_dispatch.specs.declared.outcomes.Refused.TheVariants.{NoTask, TaskEnded, TaskWaiting, DuplicateLabel, NoMemory, ClockBack, RegionDown}
 use Rattle.cics_dispatch.proofs.TaskPlaces.{place_of_task, task_at-push}
 use Rattle.cics_dispatch.proofs.Blocked.{all_more}
 use Rattle.cics_dispatch.proofs.KeepsOwn.{Keeps}
@@ -43,6 +43,7 @@ refused_leaves wants old new s NoTask step = step.1
 refused_leaves wants old new s TaskEnded step = step.1
 refused_leaves wants old new s TaskWaiting step = step.1
 refused_leaves wants old new s DuplicateLabel step = step.1
+refused_leaves wants old new s RegionDown step = step.1
 refused_leaves wants old new s ClockBack step = step.1
 
 -- ---- A waiting command of another task

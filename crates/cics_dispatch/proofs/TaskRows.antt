@@ -1,5 +1,5 @@
 -- Worked examples of tasks: refusals, enqueues on values, the clock, and the order in which waiting commands go on.
-use Rattle.std.specs.Prelude.{◌≡◌, true, false, None, Ok, [], ◌∷◌, ◌++◌, refl}
+use Rattle.std.specs.Prelude.{◌≡◌, true, false, None, Ok, List, [], ◌∷◌, ◌++◌, refl}
 use Rattle.cics_names.specs.Keyed.{Bytes}
 use Rattle.cics_names.specs.declared.conditions.Condition.TheVariants.{Normal, Dsiderr, Invreq, Lengerr, Enqbusy, Qiderr}
 use Rattle.cics_history.specs.Openings.{with_record}
@@ -11,11 +11,11 @@ use Rattle.cics_names.specs.declared.commands.Verb.{Verb}
 use Rattle.cics_names.specs.declared.commands.Verb.TheVariants.{Enq, Deq, Unlock, WriteqTd, Syncpoint, Rollback, Return}
 use Rattle.cics_dispatch.specs.declared.outcomes.Outcome.{Outcome}
 use Rattle.cics_dispatch.specs.declared.outcomes.Outcome.TheVariants.{Waiting, Ended}
-use Rattle.cics_dispatch.specs.declared.outcomes.Refused.TheVariants.{NoTask, TaskWaiting, TaskEnded, DuplicateLabel, ClockBack}
-use Rattle.cics_dispatch.proofs.Examples.{acct, log, t1, t2, t3, label, key_1, key_2, record_1, record_2, record_3, both_files, files_and_queues, read, read_update, write, delete, replied, abend}
-use Rattle.cics_dispatch.proofs.Journal.{journal, at_end}
-use Rattle.cics_dispatch.proofs.Journal.Event.{attaches, does, asks, clock}
-use Rattle.cics_dispatch.proofs.Journal.Line.{began, told, refused, ticked, stopped, woke, late}
+use Rattle.cics_dispatch.specs.declared.outcomes.Refused.TheVariants.{NoTask, TaskWaiting, TaskEnded, DuplicateLabel, ClockBack, RegionDown}
+use Rattle.cics_dispatch.proofs.Examples.{acct, log, t1, t2, t3, label, key_1, key_2, key_3, record_1, record_2, record_3, both_files, files_and_queues, read, read_update, write, delete, replied, abend}
+use Rattle.cics_dispatch.proofs.Journal.{Event, journal, at_end, left}
+use Rattle.cics_dispatch.proofs.Journal.Event.{attaches, does, asks, clock, shuts}
+use Rattle.cics_dispatch.proofs.Journal.Line.{began, told, refused, ticked, stopped, down, woke, late}
 
 abbrev normal : Outcome
 normal = replied Normal
@@ -97,3 +97,24 @@ wants_not_waiting = refl
 
 wants_not_return : may_want held t1 (record { verb = Return; resp = false }) ≡ false
 wants_not_return = refl
+
+-- ---- Shutdown
+
+-- the open units are backed out, no command goes on, and every event is refused from then on
+abbrev shut : List Event
+shut =
+    does t1 (write acct key_2 record_2) ∷ does t2 (write acct key_3 record_3) ∷ does t1 (write acct key_3 record_3) ∷ shuts ∷ attaches t1 0
+    ∷ does t1 Return ∷ clock 9 ∷ shuts ∷ []
+
+shut_journal : journal both_files shut ≡ told t1 normal ∷ told t2 normal ∷ told t1 (Waiting t2) ∷ down 2 ∷ refused t1 RegionDown ∷ refused t1 RegionDown ∷ stopped RegionDown ∷ stopped RegionDown ∷ []
+shut_journal = refl
+
+shut_tasks : tasks_listed (at_end both_files shut) ≡ []
+shut_tasks = refl
+
+shut_left : (left both_files shut).files ≡ (left both_files []).files
+shut_left = refl
+
+-- a shutdown counts the units that are open, and not the tasks
+shut_idle : journal both_files (does t1 (write acct key_2 record_2) ∷ does t1 Syncpoint ∷ does t2 Return ∷ shuts ∷ []) ≡ told t1 normal ∷ told t1 normal ∷ told t2 Ended ∷ down 0 ∷ []
+shut_idle = refl

@@ -6,6 +6,8 @@ pub mod Steps
 pub mod Calls
 pub mod Waking
 pub mod Answers
+pub mod Shutdown
+pub mod Refusals
 pub mod KeptTasks
 pub mod Browses
 pub mod Tasks

@@ -32,13 +32,14 @@ pub record Suspended : Type 0 where
   pub op : Option Op
   pub since : ℕ
 
--- a region: its units, its tasks in the order of attach, its waiting commands in the order in which the waits began, and
--- the clock in seconds
+-- a region: its units, its tasks in the order of attach, its waiting commands in the order in which the waits began, the
+-- clock in seconds, and whether the region is shut down
 pub record Machine : Type 0 where
   pub units : UnitsState
   pub tasks : List Task
   pub waiting : List Suspended
   pub clock : ℕ
+  pub is_down : Bool
 
 -- a region as callers see it: the machine, and the store that its files and queues themselves hold
 pub record RegionValue : Type 0 where
@@ -47,7 +48,7 @@ pub record RegionValue : Type 0 where
 
 -- a region begins with no task, and the clock at 0
 abbrev pub beginning_region : OpeningState → Machine
-beginning_region o = record { units = beginning o; tasks = []; waiting = []; clock = 0 }
+beginning_region o = record { units = beginning o; tasks = []; waiting = []; clock = 0; is_down = false }
 
 -- the task of a label
 abbrev pub task_at : List Task → Bytes → Option Task

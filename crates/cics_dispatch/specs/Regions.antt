@@ -1,5 +1,5 @@
 -- A region as it is kept: its machine, and the store of its units.
-use Rattle.std.specs.Prelude.{ℕ, List}
+use Rattle.std.specs.Prelude.{ℕ, Bool, List}
 use Rattle.cics_history.specs.Execution.{UnitsValue}
 use Rattle.cics_dispatch.specs.Machine.{Task, Suspended, RegionValue}
 use Rattle.cics_dispatch.specs.Answers.{IsHeadlineRegion}
@@ -7,9 +7,9 @@ use Rattle.cics_dispatch.specs.KeptTasks.{AreTasksKept}
 use Rattle.cics_dispatch.specs.OwnedUnits.{AreUnitsOwned}
 
 -- the region that these parts are
-abbrev pub region_of : UnitsValue → List Task → List Suspended → ℕ → RegionValue
-region_of units tasks waiting clock =
-    record { machine = record { units = units.state; tasks = tasks; waiting = waiting; clock = clock }; store = units.store }
+abbrev pub region_of : UnitsValue → List Task → List Suspended → ℕ → Bool → RegionValue
+region_of units tasks waiting clock is_down =
+    record { machine = record { units = units.state; tasks = tasks; waiting = waiting; clock = clock; is_down = is_down }; store = units.store }
 
 -- what every call of a region keeps
 pub record IsRegionKept (r : RegionValue) : Type 0 where

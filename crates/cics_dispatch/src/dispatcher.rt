@@ -5,6 +5,7 @@ mod enqueuing;
 mod listing;
 mod performing;
 mod queues;
+mod shutdown;
 mod waking;
 
 ghost use Rattle.std.specs.Prelude.{◌≡◌, ◌<◌, ◌≤◌, true, false, Option, Some, None, length, IfOk};
@@ -53,6 +54,7 @@ pub(crate) struct Dispatcher {
     tasks: Tasks,
     waits: Waits,
     clock: u64,
+    is_down: bool,
     alloc: Global,
 }
 
@@ -62,9 +64,9 @@ impl Model for Dispatcher {
 
     ghost Value = { RegionValue };
 
-    ghost view = { λ r. region_of r.units r.tasks r.waits r.clock };
+    ghost view = { λ r. region_of r.units r.tasks r.waits r.clock r.is_down };
 
-    ghost invariant = { λ r. IsRegionKept (region_of r.units r.tasks r.waits r.clock) };
+    ghost invariant = { λ r. IsRegionKept (region_of r.units r.tasks r.waits r.clock r.is_down) };
 }
 
 // What NOSUSPEND tells in place of a wait, where a command has it.
@@ -111,8 +113,16 @@ impl Dispatcher {
             tasks: Tasks::new(alloc),
             waits: Waits::new(alloc),
             clock: 0,
+            is_down: false,
             alloc,
         })
+    }
+
+    /// Whether the region is shut down.
+    pub(crate) fn is_down(&self) -> bool
+        ensures { result ≡ self.now.machine.is_down }
+    {
+        self.is_down
     }
 
     /// The open unit of work of the task of a label, if there is one.

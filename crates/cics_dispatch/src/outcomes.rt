@@ -1,5 +1,8 @@
 //! What comes of an event.
 
+ghost use Rattle.std.specs.Prelude.{◌≡◌};
+ghost use Rattle.cics_dispatch.specs.Refusals.{refusal_number};
+
 use cics_enqueue::UnitId;
 use cics_names::{AbendCode, Condition, Name8, NoMemory, Record};
 
@@ -83,6 +86,25 @@ pub enum Refused {
     DuplicateLabel,
     /// The clock would go back.
     ClockBack,
+    /// The region is shut down. This comes before every other refusal.
+    RegionDown,
+}
+
+impl Refused {
+    /// The number of the refusal, from 1 on, by which a journal tells it.
+    pub fn number(&self) -> u64
+        ensures { result ≡ refusal_number self.now }
+    {
+        match self {
+            Refused::NoMemory => 1,
+            Refused::NoTask => 2,
+            Refused::TaskWaiting => 3,
+            Refused::TaskEnded => 4,
+            Refused::DuplicateLabel => 5,
+            Refused::ClockBack => 6,
+            Refused::RegionDown => 7,
+        }
+    }
 }
 
 impl From<NoMemory> for Refused {

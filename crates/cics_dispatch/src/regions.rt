@@ -1,10 +1,12 @@
 //! A region: tasks that share files, their waits, and their units of work.
 
-ghost use Rattle.std.specs.Prelude.{◌≡◌, ◌&&◌, ◌||◌, not, true, false, IsTrue, IfOk, IfErr};
+ghost use Rattle.std.specs.Prelude.{◌≡◌, ◌&&◌, ◌||◌, not, true, false, ℕ, IfOk, IfErr, OnOk};
+ghost use Rattle.cics_history.specs.Events.{is_live};
 ghost use Rattle.cics_dispatch.specs.Machine.{beginning_region};
 ghost use Rattle.cics_dispatch.specs.Steps.{attached, issued};
 ghost use Rattle.cics_dispatch.specs.Waking.{clock_set, woken, expired};
 ghost use Rattle.cics_dispatch.specs.Answers.{without_tasks};
+ghost use Rattle.cics_dispatch.specs.Shutdown.{IsRegionStep, shut_down};
 ghost use Rattle.cics_dispatch.specs.Answers.{IsStep, always, attach_may_want, may_want};
 ghost use Rattle.cics_dispatch.specs.Answers.{IsHeadlineRegion, region_listing, replayed_listing};
 ghost use Rattle.cics_dispatch.specs.Settled.{is_blocker, goes_on};
@@ -90,38 +92,49 @@ impl Region {
     /// Begins the task of a label: ATTACH. `dtimout` is the seconds that a command of it may wait, 0
     /// for no limit; the transaction makes no difference.
     ///
-    /// It is refused where a task has or had the label (`DuplicateLabel`), and else for want of memory
-    /// (`NoMemory`). A refusal changes nothing.
+    /// It is refused where the region is shut down (`RegionDown`), where a task has or had the label
+    /// (`DuplicateLabel`), and else for want of memory (`NoMemory`). A refusal changes nothing.
     pub fn attach(&mut self, label: Name8, transaction: Name4, dtimout: u64) -> Result<(), Refused>
-        ensures step { IsStep (attach_may_want self.old.machine label) self.old
+        ensures step { IsRegionStep (attach_may_want self.old.machine label) self.old
             (attached self.old.machine label dtimout) result self.new }
         ensures headline { IsHeadlineRegion self.new }
     {
+        if self.dispatcher.is_down() {
+            return Err(Refused::RegionDown);
+        }
         self.dispatcher.attach(label, transaction, dtimout)
     }
 
-    /// Sets the clock to so many seconds. It is refused where the clock would go back (`ClockBack`).
+    /// Sets the clock to so many seconds. It is refused where the region is shut down (`RegionDown`), and
+    /// where the clock would go back (`ClockBack`).
     pub fn set_clock(&mut self, now: u64) -> Result<(), Refused>
-        ensures step { IsStep false self.old (clock_set self.old.machine now) result self.new }
+        ensures step { IsRegionStep false self.old
+            (clock_set self.old.machine now) result self.new }
         ensures headline { IsHeadlineRegion self.new }
     {
+        if self.dispatcher.is_down() {
+            return Err(Refused::RegionDown);
+        }
         self.is_in_time = false;
         self.dispatcher.set_clock(now)
     }
 
     /// Executes a command of the task of a label: it is answered, or it waits, or its task ends.
     ///
-    /// It is refused where no task has the label (`NoTask`), where the task has ended (`TaskEnded`),
-    /// where a command of it waits (`TaskWaiting`), in this order; and once its checks have passed,
-    /// for want of memory (`NoMemory`), but for UNLOCK, RESETBR, ENDBR, DEQ, SYNCPOINT, ROLLBACK,
-    /// RETURN and ABEND, which take none. A refusal changes nothing. A condition that neither RESP
-    /// nor NOHANDLE handles abends the task with the condition's default code (chapter on the
-    /// exceptional conditions).
+    /// It is refused where the region is shut down (`RegionDown`), where no task has the label (`NoTask`),
+    /// where the task has ended (`TaskEnded`), where a command of it waits (`TaskWaiting`), in this
+    /// order; and once its checks have passed, for want of memory (`NoMemory`), but for UNLOCK, RESETBR,
+    /// ENDBR, DEQ, SYNCPOINT, ROLLBACK, RETURN and ABEND, which take none. A refusal changes nothing. A
+    /// condition that neither RESP nor NOHANDLE handles abends the task with the condition's default
+    /// code (chapter on the exceptional conditions).
     pub fn issue(&mut self, label: Name8, command: Command) -> Result<Outcome, Refused>
-        ensures step { IsStep (may_want self.old.machine label command) self.old
+        ensures step { IsRegionStep (may_want self.old.machine label command) self.old
             (issued self.old.machine label command) result self.new }
         ensures headline { IsHeadlineRegion self.new }
     {
+        if self.dispatcher.is_down() {
+            return Err(Refused::RegionDown);
+        }
         let unit = self.dispatcher.unit_of(&label);
         let blocks = is_blocker(&self.blockers, unit);
         let keeps = self.dispatcher.is_keeping(&command.verb);
@@ -179,6 +192,28 @@ impl Region {
             None => self.is_in_time = true,
         }
         expired
+    }
+
+    /// Shuts the region down, and answers how many units of work were backed out: SHUTDOWN IMMEDIATE.
+    ///
+    /// No command waits any more; then each task ends as by an abend, in the order of attach, and its open
+    /// unit of work is backed out. From then on `attach`, `issue`, `set_clock` and `shutdown` are refused,
+    /// `wake` and `expire` find nothing, and the region can be read as before; with no unit open, each
+    /// recoverable file and queue holds what the committed units' commands give. It is refused where the
+    /// region is shut down already (`RegionDown`), and takes no memory.
+    pub fn shutdown(&mut self) -> Result<u64, Refused>
+        ensures step { IsRegionStep false self.old
+            (shut_down self.old.machine) result self.new }
+        ensures none_open { OnOk result ((u : ℕ) → is_live self.new.machine.units u ≡ false) }
+        ensures headline { IsHeadlineRegion self.new }
+    {
+        if self.dispatcher.is_down() {
+            return Err(Refused::RegionDown);
+        }
+        let count = self.dispatcher.shut_down();
+        self.is_settled = true;
+        self.is_in_time = true;
+        Ok(count)
     }
 
     /// The units of work of the region, with the files and queues that they share, their history and its

@@ -10,7 +10,7 @@ use Rattle.cics_dispatch.proofs.dispatcher.Dispatcher.abend.Goals as goal
 pub end_unit-requires-clause-is_open : goal.end_unit-requires-clause-is_open
 end_unit-requires-clause-is_open c =
     let u = c.self.inside in
-    let m = (region_of u.units u.tasks u.waits u.clock).machine in
+    let m = (region_of u.units u.tasks u.waits u.clock u.is_down).machine in
     subst (IsOpenOrNone u.units.state) (sym (c.close_unit-unit.ensures.unit c.get.result.now c.get.ensures)) (acting_or_none m c.args.at c.get.result.now c.self.invariant.tasks c.get.ensures)
 
 pub invariant_of-self : goal.invariant_of-self

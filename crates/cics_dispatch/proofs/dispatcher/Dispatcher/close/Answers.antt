@@ -11,7 +11,7 @@ use Rattle.cics_dispatch.proofs.dispatcher.Dispatcher.close.Goals as goal
 pub end_unit-requires-clause-is_open : goal.end_unit-requires-clause-is_open
 end_unit-requires-clause-is_open c =
     let u = c.self.inside in
-    let m = (region_of u.units u.tasks u.waits u.clock).machine in
+    let m = (region_of u.units u.tasks u.waits u.clock u.is_down).machine in
     task_there u.tasks c.args.at (subst (λ v. c.args.at < length v.machine.tasks) (sym c.self.view_is) c.requires.within) (λ t there.
     subst (IsOpenOrNone u.units.state) (sym (c.close_unit-unit.ensures.unit t there)) (acting_or_none m c.args.at t c.self.invariant.tasks there))
 

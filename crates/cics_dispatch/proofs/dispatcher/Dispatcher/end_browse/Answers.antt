@@ -29,5 +29,5 @@ returns c =
           let changed = (c.end_browse.ensures t there) in
           then_told c.args.at t (with_browses t browses) c.args.resp c.plain_reply.result _ there
           (owner_there c.self.invariant c.args.at t there c.end_browse.new.self browses changed) (browses_kept c.self.invariant c.args.at t there c.end_browse.new.self browses (subst (λ v. IsAwake v.machine c.args.at) (sym c.self.view_is) c.requires.awake t there) changed)
-          (λ i. answered (record { units = u.units.state; tasks = changed i; waiting = u.waits; clock = u.clock }) (with_browses t browses) c.args.resp (c.plain_reply.ensures i)) c.answer.ensures.step));
+          (λ i. answered (record { units = u.units.state; tasks = changed i; waiting = u.waits; clock = u.clock; is_down = u.is_down }) (with_browses t browses) c.args.resp (c.plain_reply.ensures i)) c.answer.ensures.step));
     }

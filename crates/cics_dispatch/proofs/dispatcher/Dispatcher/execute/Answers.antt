@@ -32,7 +32,7 @@ returns-in-MustWait c =
     let holder = c.in-MustWait.holder in
     let same = same_region c.self.invariant c.execute.new.self c.make_room_for_unit.new.self (state ∙ waits_state u.units.state t.unit c.args.op.now holder waits) c.execute.ensures.headline c.make_room_for_unit.ensures in
     record {
-      attempt = subst (λ v. IsAttempt v c.args.at c.args.command.now (Some c.args.op.now) (Ok (MustWait holder)) (region_of c.execute.new.self c.make_room_for_unit.new.self u.waits u.clock)) c.self.view_is (
+      attempt = subst (λ v. IsAttempt v c.args.at c.args.command.now (Some c.args.op.now) (Ok (MustWait holder)) (region_of c.execute.new.self c.make_room_for_unit.new.self u.waits u.clock u.is_down)) c.self.view_is (
         (λ s other. ap (λ x. awaited u.units.state x.unit c.args.op.now) (one_task u.tasks c.args.at other c.get.ensures) ∙ holder_awaited u.units.state t.unit c.args.op.now holder waits),
         (subst (λ d. IfMustWait d (IsOpenUnit u.units.state)) c.in-MustWait.is c.in_ok-holder.ensures.holder_open, same),
       );
@@ -84,7 +84,7 @@ returns-in-Answered c =
     let reply = c.reply_of_answer-reply.ensures in
     record {
       attempt = subst (λ v. IsAttempt v c.args.at command (Some c.args.op.now) (Ok (Told c.answer.result)) c.answer.new.self) c.self.view_is
-          (then_told c.args.at t (with_unit t unit) command.resp c.reply_of_answer-reply.result (going_on (region_of u.units u.tasks u.waits u.clock).machine command (Some c.args.op.now)) c.get.ensures
+          (then_told c.args.at t (with_unit t unit) command.resp c.reply_of_answer-reply.result (going_on (region_of u.units u.tasks u.waits u.clock u.is_down).machine command (Some c.args.op.now)) c.get.ensures
           (owner_there c.self.invariant c.args.at t c.get.ensures c.args.op.now c.execute.new.self state c.execute.ensures.headline awake unit c.in-Answered.answer (done ∙ c.in-Answered.is) c.own_unit.new.self owned)
           (acted_kept c.self.invariant c.args.at t c.get.ensures c.args.op.now c.execute.new.self state c.execute.ensures.headline awake unit c.in-Answered.answer (done ∙ c.in-Answered.is) c.own_unit.new.self owned)
           (acted_step c.self.invariant c.args.at t c.get.ensures c.args.op.now c.execute.new.self state c.execute.ensures.headline command unit c.in-Answered.answer (done ∙ c.in-Answered.is) c.own_unit.new.self owned c.reply_of_answer-reply.result reply)

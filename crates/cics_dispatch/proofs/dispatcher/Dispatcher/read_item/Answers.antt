@@ -21,7 +21,7 @@ invariant_of-self-2 c =
 pub returns : goal.returns
 returns c =
     let u = c.self.inside in
-    let m = (region_of u.units u.tasks u.waits u.clock).machine in
+    let m = (region_of u.units u.tasks u.waits u.clock u.is_down).machine in
     let q = c.args.queue.now in
     let asked = item_asked u.units.state q c.args.item in
     let within = subst (λ v. c.args.at < length v.machine.tasks) (sym c.self.view_is) c.requires.within in

@@ -14,29 +14,29 @@ use Rattle.cics_dispatch.proofs.dispatcher.Dispatcher.suspend.Goals as goal
 pub invariant_of-self-2 : goal.invariant_of-self-2
 invariant_of-self-2 c =
     let u = c.self.inside in
-    let m = (region_of u.units u.tasks u.waits u.clock).machine in
+    let m = (region_of u.units u.tasks u.waits u.clock u.is_down).machine in
     let t = c.get.result.now in
     let ready = subst (λ v. HasReady v.machine c.args.at c.args.command.verb c.args.op) (sym c.self.view_is) c.requires.ready t c.get.ensures in
     let began = c.in_ok-begin.ensures.ok ∙ ap (λ l. u.waits ++ begins_now l m c.args.command c.args.op ∷ []) c.label-label.ensures in
-    kept_as (region_of u.units u.tasks c.begin.new.self u.clock) (with_waiting m (m.waiting ++ begins_now t.label m c.args.command c.args.op ∷ []))
+    kept_as (region_of u.units u.tasks c.begin.new.self u.clock u.is_down) (with_waiting m (m.waiting ++ begins_now t.label m c.args.command c.args.op ∷ []))
     (λ i. record m { waiting = began i }) (kept_suspended m c.args.at t c.args.command c.args.op c.self.invariant.tasks c.get.ensures ready)
     (owned_suspended m _ c.self.invariant.owned) (record { headline = c.self.invariant.headline.headline })
 
 pub invariant_of-self : goal.invariant_of-self
 invariant_of-self c =
     let u = c.self.inside in
-    let m = (region_of u.units u.tasks u.waits u.clock).machine in
-    kept_as (region_of u.units u.tasks c.begin.new.self u.clock) m (λ i. record m { waiting = c.in_err-begin.ensures.err i })
+    let m = (region_of u.units u.tasks u.waits u.clock u.is_down).machine in
+    kept_as (region_of u.units u.tasks c.begin.new.self u.clock u.is_down) m (λ i. record m { waiting = c.in_err-begin.ensures.err i })
     c.self.invariant.tasks c.self.invariant.owned (record { headline = c.self.invariant.headline.headline })
 
 pub returns : goal.returns
 returns c =
     let u = c.self.inside in
-    let m = (region_of u.units u.tasks u.waits u.clock).machine in
+    let m = (region_of u.units u.tasks u.waits u.clock u.is_down).machine in
     let t = c.get.result.now in
     let command = c.args.command in
     let op = c.args.op in
-    let new = region_of u.units u.tasks c.begin.new.self u.clock in
+    let new = region_of u.units u.tasks c.begin.new.self u.clock u.is_down in
     let ready = subst (λ v. HasReady v.machine c.args.at command.verb op) (sym c.self.view_is) c.requires.ready t c.get.ensures in
     let began = c.in_ok-begin.ensures.ok ∙ ap (λ l. u.waits ++ begins_now l m command op ∷ []) c.label-label.ensures in
     let owner = sym (ap (λ o. unwrap_or o []) c.in-Some.is) ∙ c.label_of.ensures.label in

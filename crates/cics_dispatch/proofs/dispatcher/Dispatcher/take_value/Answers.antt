@@ -53,7 +53,7 @@ returns-in-MustWait c =
     let same = same_region c.self.invariant c.enq.new.self c.make_room_for_unit.new.self (state ∙ ap (after_enqueued u.units.state t.unit value) waits) c.enq.ensures.headline c.make_room_for_unit.ensures in
     let verb = ap (λ v. awaited_by u.units.state t.unit v None) c.in-Enq.is in
     record {
-      attempt = subst (λ v. IsAttempt v c.args.at c.args.command.now None (Ok (MustWait holder)) (region_of c.enq.new.self c.make_room_for_unit.new.self u.waits u.clock)) c.self.view_is (
+      attempt = subst (λ v. IsAttempt v c.args.at c.args.command.now None (Ok (MustWait holder)) (region_of c.enq.new.self c.make_room_for_unit.new.self u.waits u.clock u.is_down)) c.self.view_is (
         (λ s other. ap (λ x. awaited_by u.units.state x.unit c.args.command.now.verb None) (one_task u.tasks c.args.at other c.get.ensures) ∙ verb ∙ enq_awaited u.units.state t.unit value holder waits),
         (subst (λ d. IfEnqMustWait d (IsOpenUnit u.units.state)) c.in-MustWait.is c.in_ok-holder.ensures.holder_open, same),
       );
@@ -78,7 +78,7 @@ returns-in-CountFull c =
     let state : c.enq.new.self.state ≡ after_enqueue u.units.state t.unit value = c.in_ok-holder.ensures.state ∙ (λ i. after_enqueue u.units.state (c.unit-unit.ensures i) (take n (c.bytes.ensures i))) in
     let done : enqueue u.units.state t.unit value ≡ c.in_ok-holder.field-0 = sym (c.in_ok-holder.ensures.done ∙ (λ i. enqueue u.units.state (c.unit-unit.ensures i) (take n (c.bytes.ensures i)))) in
     let command = c.args.command.now in
-    let m = (region_of u.units u.tasks u.waits u.clock).machine in
+    let m = (region_of u.units u.tasks u.waits u.clock u.is_down).machine in
     record {
       attempt = subst (λ v. IsAttempt v c.args.at command None (Ok (Told c.answer.result)) c.answer.new.self) c.self.view_is
           (then_told c.args.at t t command.resp c.plain_reply-reply.result (going_on m command None) c.get.ensures (ap (λ l. slice_get l c.args.at) c.make_room_for_unit.ensures ∙ c.get.ensures)
@@ -134,7 +134,7 @@ returns-in-Taken c =
     let awake = subst (λ v. IsAwake v.machine c.args.at) (sym c.self.view_is) c.requires.awake t c.get.ensures in
     let owned = owned_now u.tasks c.make_room_for_unit.new.self c.own_unit.new.self c.args.at t c.in-Taken.unit c.make_room_for_unit.ensures c.get.ensures c.own_unit.ensures in
     let command = c.args.command.now in
-    let m = (region_of u.units u.tasks u.waits u.clock).machine in
+    let m = (region_of u.units u.tasks u.waits u.clock u.is_down).machine in
     let unit = c.in-Taken.unit in
     record {
       attempt = subst (λ v. IsAttempt v c.args.at command None (Ok (Told c.answer-in-Taken.result)) c.answer-in-Taken.new.self) c.self.view_is

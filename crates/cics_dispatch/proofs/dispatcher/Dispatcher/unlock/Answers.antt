@@ -11,7 +11,7 @@ use Rattle.cics_dispatch.proofs.dispatcher.Dispatcher.unlock.Goals as goal
 pub invariant_of-self : goal.invariant_of-self
 invariant_of-self c =
     let u = c.self.inside in
-    let m = (region_of u.units u.tasks u.waits u.clock).machine in
+    let m = (region_of u.units u.tasks u.waits u.clock u.is_down).machine in
     let t = c.get.result.now in
     let there = c.get.ensures in
     unlocked_kept c.self.invariant c.args.at t there c.unlock_file.new.units c.args.name.now (subst (λ v. IsAwake v.machine c.args.at) (sym c.self.view_is) c.requires.awake t there)
@@ -20,7 +20,7 @@ invariant_of-self c =
 pub returns : goal.returns
 returns c =
     let u = c.self.inside in
-    let m = (region_of u.units u.tasks u.waits u.clock).machine in
+    let m = (region_of u.units u.tasks u.waits u.clock u.is_down).machine in
     let t = c.get.result.now in
     let there = c.get.ensures in
     let name = c.args.name.now in

@@ -1,6 +1,9 @@
-use Rattle.std.proofs.Common.{◌≡◌, ◌∙◌, subst, not, Ok}
+use Rattle.std.proofs.Common.{◌≡◌, ◌∙◌, sym, subst, not, Ok}
 use Rattle.std.specs.Prelude.{◌&&◌, ◌||◌}
 use Rattle.cics_dispatch.specs.Steps.{issued}
+use Rattle.cics_dispatch.specs.Answers.{may_want}
+use Rattle.cics_dispatch.specs.Shutdown.{IsRegionStep}
+use Rattle.cics_dispatch.proofs.RegionShutdown.{up_step}
 use Rattle.cics_dispatch.specs.Settled.{is_blocker, is_keeping, goes_on}
 use Rattle.cics_dispatch.proofs.RegionRemembers.{remembered_issued}
 use Rattle.cics_dispatch.proofs.regions.Region.issue.Goals as goal
@@ -20,4 +23,9 @@ invariant_of-self-2 c =
 
 pub returns-clause-step : goal.returns-clause-step
 returns-clause-step c =
-    subst (λ v. ((issued v.machine c.args.label c.args.command).outcome ≡ Ok c.in_ok-outcome.outcome) × (c.issue.new.self.machine ≡ (issued v.machine c.args.label c.args.command).machine)) c.self.view_is c.in_ok-outcome.ensures.step
+    let label = c.args.label in
+    let k = c.args.command in
+    let outcome = c.in_ok-outcome.outcome in
+    let d = c.self.inside.dispatcher in
+    subst (λ v. IsRegionStep (may_want v.machine label k) v (issued v.machine label k) (Ok outcome) c.issue.new.self) c.self.view_is
+    (up_step (may_want d.machine label k) d c.issue.new.self (issued d.machine label k) (Ok outcome) (sym c.is_down.ensures ∙ c.if-is_down.false) c.in_ok-outcome.ensures.step)

@@ -1,0 +1,48 @@
+use Rattle.std.proofs.Common.{◌≡◌, ◌∙◌, ◌+◌, ◌<◌, ◌≤◌, length, sym, ap, subst, arith, true, Some}
+use Rattle.std.specs.Prelude.{suc, drop, is_some, slice_get}
+use Rattle.std.proofs.lemmas.Option.{slice_get_within}
+use Rattle.cics_history.specs.declared.ops.UnitState.TheVariants.{BackedOut}
+use Rattle.cics_dispatch.specs.Machine.{unit_closed}
+use Rattle.cics_dispatch.specs.Tasks.{own_label, IsOwn}
+use Rattle.cics_dispatch.specs.Shutdown.{one_if, units_of, all_ended}
+use Rattle.cics_dispatch.proofs.RegionShutdown.{ended_long, ended_then, count_then, none_then, one_more, none_more}
+use Rattle.cics_dispatch.proofs.dispatcher.Dispatcher.end_tasks.Goals.{then-is_some, else-is_some}
+use Rattle.cics_dispatch.proofs.dispatcher.Dispatcher.end_tasks.Goals as goal
+
+pub loop-at-preserved : goal.loop-at-preserved
+loop-at-preserved c =
+    let m = c.loop-at.self.machine in
+    let at = c.loop-at.at in
+    let was = c.loop-at.invariant in
+    let t = c.get.result.now in
+    let there : slice_get m.tasks at ≡ Some t = ap (λ v. slice_get v.machine.tasks at) (sym c.self-in-loop-at.view_is) ∙ c.get.ensures in
+    let labels = subst (λ v. IsOwn own_label v.machine.tasks) c.self-in-loop-at.view_is c.self-in-loop-at.invariant.tasks.labels in
+    let now : c.close.new.self.machine ≡ unit_closed m t BackedOut true = c.close.ensures.machine t there in
+    let up : at + 1 ≡ suc at = omega arith in
+    let left = ap (λ k. c.loop-at.count + k) (count_then m at t labels there) in
+    let rest : units_of (drop (at + 1) c.close.new.self.machine.tasks) ≡ units_of (drop (suc at) (unit_closed m t BackedOut true).tasks) = λ i. units_of (drop (up i) (now i).tasks) in
+    let few = was.few in
+    record {
+      alone = ap (λ n. n.waiting) now ∙ was.alone;
+      long = ap (λ n. length n.tasks) now ∙ ended_long m at t labels there ∙ was.long;
+      rest = (λ i. all_ended (now i) (drop (up i) (now i).tasks)) ∙ sym (ended_then m at t labels there) ∙ was.rest;
+      count = elim c.if-is_some.branch [
+        | then-is_some w ↦ (λ i. w.count-is i + rest i) ∙ sym (one_more c.loop-at.count t.unit _ (sym (c.is_some.ensures ∙ ap is_some c.unit.ensures) ∙ w.if-is_some.true)) ∙ sym left ∙ was.count
+        | else-is_some w ↦ (λ i. w.count-is i + rest i) ∙ sym (none_more c.loop-at.count t.unit _ (sym (c.is_some.ensures ∙ ap is_some c.unit.ensures) ∙ w.if-is_some.false)) ∙ sym left ∙ was.count
+      ];
+      few = elim c.if-is_some.branch [
+        | then-is_some w ↦ let is = w.count-is in omega (arith, is, few)
+        | else-is_some w ↦ let is = w.count-is in omega (arith, is, few)
+      ];
+      none = λ i v before is. none_then m at t labels there was.none i v (omega (arith, before)) (ap (λ n. slice_get n.tasks i) (sym now) ∙ is);
+      kept = λ kept. c.close.ensures.kept (was.kept kept);
+    }
+
+pub returns-clause-none : goal.returns-clause-none
+returns-clause-none c = λ i t is.
+    let within = slice_get_within c.loop-at.self.machine.tasks i t is in
+    let over = c.loop-at-test.false in
+    let end = c.len-at-end.ensures in
+    let long = c.loop-at.invariant.long in
+    let seen = ap (λ v. length v.machine.tasks) c.self.view_is in
+    c.loop-at.invariant.none i t (omega (arith, within, over, end, long, seen)) is

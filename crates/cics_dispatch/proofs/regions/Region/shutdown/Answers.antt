@@ -1,0 +1,14 @@
+use Rattle.std.proofs.Common.{◌∙◌, ap}
+use Rattle.cics_dispatch.specs.Machine.{with_waiting}
+use Rattle.std.specs.Prelude.{[]}
+use Rattle.cics_dispatch.proofs.RegionShutdown.{ended_waiting}
+use Rattle.cics_dispatch.proofs.RegionRemembers.{remembered_alone}
+use Rattle.cics_dispatch.proofs.regions.Region.shutdown.Goals as goal
+
+pub invariant_of-self : goal.invariant_of-self
+invariant_of-self c =
+    let u = c.self.inside in
+    let m = u.dispatcher.machine in (
+      c.shut_down-count.ensures.kept c.self.invariant.0,
+      remembered_alone c.shut_down-count.new.self.machine u.blockers.keys (ap (λ s. s.machine.waiting) c.shut_down-count.ensures.machine ∙ ended_waiting (with_waiting m []) m.tasks),
+    )
