@@ -3,6 +3,7 @@ pub mod Copies
 pub mod TokenSteps
 pub mod OptionSteps
 pub mod Rows
+pub mod QueueRows
 pub mod Orders
 pub mod Layouts
 pub mod Written

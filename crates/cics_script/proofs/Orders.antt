@@ -5,12 +5,12 @@ use Rattle.std.specs.List.{list_any, flat_map}
 use Rattle.std.proofs.lemmas.List.Folds.{list_any-append}
 use Rattle.cics_script.specs.declared.words.Form.{Form}
 use Rattle.cics_script.specs.declared.words.OptionWord.{OptionWord}
-use Rattle.cics_script.specs.declared.words.OptionWord.TheVariants.{File, KeyLength, KeyOffset, RecordSize, Recoverable, Unrecoverable, From, Transid, Dtimout, Ridfld, Length, Into, Generic, Equal, Gteq, Update, Resource, NoSuspend, Rollback, AbCode, Cancel, NoDump, Resp, Resp2, NoHandle, EndExec}
+use Rattle.cics_script.specs.declared.words.OptionWord.TheVariants.{File, TsPrefix, TdQueue, KeyLength, KeyOffset, RecordSize, Recoverable, Unrecoverable, Logical, Physical, Unrecovered, From, Transid, Dtimout, Ridfld, Length, Into, Generic, Equal, Gteq, Update, NumRec, Queue, Item, Next, Rewrite, Main, Auxiliary, Resource, NoSuspend, Rollback, AbCode, Cancel, NoDump, Resp, Resp2, NoHandle, EndExec}
 use Rattle.cics_script.specs.declared.words.Kind.{Kind}
 use Rattle.cics_script.specs.declared.words.Kind.TheVariants.{Flag, Text, Name8, Name4, Number, Area, Last}
 use Rattle.cics_script.specs.Faults.{◌>>=◌}
 use Rattle.cics_script.specs.Tokens.{Token, word, number, literal, opening, closing, broken}
-use Rattle.cics_script.specs.Words.{lookup, option_words, commands, same, excludes, kind_in}
+use Rattle.cics_script.specs.Words.{lookup, option_words, commands, queue_words, same, excludes, kind_in}
 use Rattle.cics_script.specs.Options.{Content, Entry, Place, name8, name4, text, amount, content_in, nothing, at_option, at_value, at_closing, behind_option, moves, reads, named, entered, allowed, options}
 use Rattle.cics_script.specs.Values.{content_at, has, amount_at, text_at, name4_at, name8_at}
 use Rattle.cics_script.specs.Commands.{verb_in, is_handled}
@@ -20,21 +20,27 @@ use Rattle.cics_names.specs.declared.commands.Verb.TheVariants as verb
 use Rattle.cics_script.specs.declared.faults.LineFault.TheVariants.{BadLiteral}
 use Rattle.cics_script.specs.declared.lines.Line.TheVariants.{Issue}
 use Rattle.cics_script.specs.declared.words.CommandWord.{CommandWord}
-use Rattle.cics_script.specs.Lines.{command_line, known}
+use Rattle.cics_script.specs.Lines.{command_line, known, taken, command_at, issued}
 use Rattle.cics_script.specs.declared.lines.Line.{Line}
 use Rattle.cics_script.specs.declared.faults.LineFault.{LineFault}
 use Rattle.std.proofs.lemmas.Bool.{cases_Bool}
 use Rattle.cics_script.specs.declared.words.CommandWord.TheVariants as command
-use Rattle.cics_script.specs.Spelling.{Written, option_word, command_word, value_tokens, option_tokens, is_bare, IsValue, MayPrecede, IsWritten, AreOptions, AreApart, Stands, Gives, flag, options_of, word_of, AllGiven, Says}
+use Rattle.cics_script.specs.Spelling.{Written, option_word, command_word, value_tokens, option_tokens, is_bare, IsValue, MayPrecede, IsWritten, AreOptions, AreApart, Stands, Gives, flag, options_of, word_of, AllGiven, Says, queue_tokens, verb_tokens}
 use Rattle.cics_script.proofs.OptionSteps.{reads-opening, reads-further}
+use lib.Chars.{codes}
 
 lookup-option_word : (option : OptionWord) → Some option ≡ lookup (option_word option) option_words
 lookup-option_word File = refl
+lookup-option_word TsPrefix = refl
+lookup-option_word TdQueue = refl
 lookup-option_word KeyLength = refl
 lookup-option_word KeyOffset = refl
 lookup-option_word RecordSize = refl
 lookup-option_word Recoverable = refl
 lookup-option_word Unrecoverable = refl
+lookup-option_word Logical = refl
+lookup-option_word Physical = refl
+lookup-option_word Unrecovered = refl
 lookup-option_word From = refl
 lookup-option_word Transid = refl
 lookup-option_word Dtimout = refl
@@ -45,6 +51,13 @@ lookup-option_word Generic = refl
 lookup-option_word Equal = refl
 lookup-option_word Gteq = refl
 lookup-option_word Update = refl
+lookup-option_word NumRec = refl
+lookup-option_word Queue = refl
+lookup-option_word Item = refl
+lookup-option_word Next = refl
+lookup-option_word Rewrite = refl
+lookup-option_word Main = refl
+lookup-option_word Auxiliary = refl
 lookup-option_word Resource = refl
 lookup-option_word NoSuspend = refl
 lookup-option_word Rollback = refl
@@ -200,11 +213,16 @@ options-written form written entries are apart = reads-options form written None
 
 same-itself : (option : OptionWord) → same option option ≡ true
 same-itself File = refl
+same-itself TsPrefix = refl
+same-itself TdQueue = refl
 same-itself KeyLength = refl
 same-itself KeyOffset = refl
 same-itself RecordSize = refl
 same-itself Recoverable = refl
 same-itself Unrecoverable = refl
+same-itself Logical = refl
+same-itself Physical = refl
+same-itself Unrecovered = refl
 same-itself From = refl
 same-itself Transid = refl
 same-itself Dtimout = refl
@@ -215,6 +233,13 @@ same-itself Generic = refl
 same-itself Equal = refl
 same-itself Gteq = refl
 same-itself Update = refl
+same-itself NumRec = refl
+same-itself Queue = refl
+same-itself Item = refl
+same-itself Next = refl
+same-itself Rewrite = refl
+same-itself Main = refl
+same-itself Auxiliary = refl
 same-itself Resource = refl
 same-itself NoSuspend = refl
 same-itself Rollback = refl
@@ -288,11 +313,12 @@ module _ (entries : List Entry) (apart : AreApart entries) where
       rw (name8_at-gives File file given.0, text_at-gives Ridfld ridfld given.1.0, amount_at-gives KeyLength key_length given.1.1.0, text_at-gives From from given.1.1.1.0, amount_at-gives Length length given.1.1.1.1.0) refl
   verb_in-given (verb.Rewrite file from length) given =
       rw (name8_at-gives File file given.0, text_at-gives From from given.1.0, amount_at-gives Length length given.1.1.0) refl
-  verb_in-given (verb.Delete file None (Some key_length)) given = tt
-  verb_in-given (verb.Delete file None None) given =
-      rw (name8_at-gives File file given.0, content_at-absent Ridfld entries given.1.0, amount_at-gives KeyLength None given.1.1.0) refl
-  verb_in-given (verb.Delete file (Some ridfld) key_length) given =
-      rw (name8_at-gives File file given.0, text_at-gives Ridfld ridfld given.1.0, amount_at-gives KeyLength key_length given.1.1.0) refl
+  verb_in-given (verb.Delete file None (Some key_length) generic) given = tt
+  verb_in-given (verb.Delete file None None true) given = tt
+  verb_in-given (verb.Delete file None None false) given =
+      rw (name8_at-gives File file given.0, content_at-absent Ridfld entries given.1.0, given.1.1.0, given.1.1.1.0, given.1.1.1.1.0) refl
+  verb_in-given (verb.Delete file (Some ridfld) key_length generic) given =
+      rw (name8_at-gives File file given.0, text_at-gives Ridfld ridfld given.1.0, amount_at-gives KeyLength key_length given.1.1.0, has-gives Generic generic given.1.1.1.0) refl
   verb_in-given (verb.Unlock file) given = rw (name8_at-gives File file given.0) refl
   verb_in-given (verb.StartBr file ridfld key_length generic equal) given =
       rw (name8_at-gives File file given.0, text_at-gives Ridfld ridfld given.1.0, amount_at-gives KeyLength key_length given.1.1.0, has-gives Generic generic given.1.1.1.0, has-gives Equal equal given.1.1.1.1.0) refl
@@ -303,12 +329,18 @@ module _ (entries : List Entry) (apart : AreApart entries) where
   verb_in-given (verb.ReadPrev file length) given =
       rw (name8_at-gives File file given.0, amount_at-gives Length length given.1.0) refl
   verb_in-given (verb.EndBr file) given = rw (name8_at-gives File file given.0) refl
-  verb_in-given (verb.WriteqTs queue from length item) given = tt
-  verb_in-given (verb.ReadqTs queue length item) given = tt
-  verb_in-given (verb.DeleteqTs queue) given = tt
-  verb_in-given (verb.WriteqTd queue from length) given = tt
-  verb_in-given (verb.ReadqTd queue length nosuspend) given = tt
-  verb_in-given (verb.DeleteqTd queue) given = tt
+  verb_in-given (verb.WriteqTs queue from length None) given =
+      rw (name8_at-gives Queue queue given.0, text_at-gives From from given.1.0, amount_at-gives Length length given.1.1.0, given.1.1.1.0) refl
+  verb_in-given (verb.WriteqTs queue from length (Some item)) given =
+      rw (name8_at-gives Queue queue given.0, text_at-gives From from given.1.0, amount_at-gives Length length given.1.1.0, has-gives Rewrite true given.1.1.1.0, content_at-gives Item (Some (amount item)) given.1.1.1.1.0) refl
+  verb_in-given (verb.ReadqTs queue length item) given =
+      rw (name8_at-gives Queue queue given.0, amount_at-gives Length length given.1.0, amount_at-gives Item item given.1.1.0) refl
+  verb_in-given (verb.DeleteqTs queue) given = rw (name8_at-gives Queue queue given.0) refl
+  verb_in-given (verb.WriteqTd queue from length) given =
+      rw (name4_at-gives Queue (Some queue) given.0, text_at-gives From from given.1.0, amount_at-gives Length length given.1.1.0) refl
+  verb_in-given (verb.ReadqTd queue length nosuspend) given =
+      rw (name4_at-gives Queue (Some queue) given.0, amount_at-gives Length length given.1.0, has-gives NoSuspend nosuspend given.1.1.0) refl
+  verb_in-given (verb.DeleteqTd queue) given = rw (name4_at-gives Queue (Some queue) given.0) refl
   verb_in-given (verb.Enq resource length nosuspend) given =
       rw (text_at-gives Resource resource given.0, amount_at-gives Length (Some length) given.1.0, has-gives NoSuspend nosuspend given.1.1.0) refl
   verb_in-given (verb.Deq resource length) given =
@@ -318,7 +350,14 @@ module _ (entries : List Entry) (apart : AreApart entries) where
   verb_in-given verb.Return given = refl
   verb_in-given (verb.Abend code) given = rw (name4_at-gives AbCode code given.0) refl
 
-lookup-command_word : (first : CommandWord) → Some first ≡ lookup (command_word first) commands
+-- the command of a verb without TS or TD behind it
+abbrev verb_alone : CommandWord → CommandWord
+verb_alone command.WriteqTd = command.WriteqTs
+verb_alone command.ReadqTd = command.ReadqTs
+verb_alone command.DeleteqTd = command.DeleteqTs
+verb_alone first = first
+
+lookup-command_word : (first : CommandWord) → Some (verb_alone first) ≡ lookup (command_word first) commands
 lookup-command_word command.Read = refl
 lookup-command_word command.Write = refl
 lookup-command_word command.Rewrite = refl
@@ -329,11 +368,102 @@ lookup-command_word command.ResetBr = refl
 lookup-command_word command.ReadNext = refl
 lookup-command_word command.ReadPrev = refl
 lookup-command_word command.EndBr = refl
+lookup-command_word command.WriteqTs = refl
+lookup-command_word command.ReadqTs = refl
+lookup-command_word command.DeleteqTs = refl
+lookup-command_word command.WriteqTd = refl
+lookup-command_word command.ReadqTd = refl
+lookup-command_word command.DeleteqTd = refl
 lookup-command_word command.Enq = refl
 lookup-command_word command.Deq = refl
 lookup-command_word command.Syncpoint = refl
 lookup-command_word command.Return = refl
 lookup-command_word command.Abend = refl
+
+-- no option is written as a word that may stand right behind a verb
+no_queue_word : (ts td : CommandWord) (option : OptionWord) → lookup (option_word option) ((codes "TS", ts) ∷ (codes "TD", td) ∷ []) ≡ None
+no_queue_word ts td File = refl
+no_queue_word ts td TsPrefix = refl
+no_queue_word ts td TdQueue = refl
+no_queue_word ts td KeyLength = refl
+no_queue_word ts td KeyOffset = refl
+no_queue_word ts td RecordSize = refl
+no_queue_word ts td Recoverable = refl
+no_queue_word ts td Unrecoverable = refl
+no_queue_word ts td Logical = refl
+no_queue_word ts td Physical = refl
+no_queue_word ts td Unrecovered = refl
+no_queue_word ts td From = refl
+no_queue_word ts td Transid = refl
+no_queue_word ts td Dtimout = refl
+no_queue_word ts td Ridfld = refl
+no_queue_word ts td Length = refl
+no_queue_word ts td Into = refl
+no_queue_word ts td Generic = refl
+no_queue_word ts td Equal = refl
+no_queue_word ts td Gteq = refl
+no_queue_word ts td Update = refl
+no_queue_word ts td NumRec = refl
+no_queue_word ts td Queue = refl
+no_queue_word ts td Item = refl
+no_queue_word ts td Next = refl
+no_queue_word ts td Rewrite = refl
+no_queue_word ts td Main = refl
+no_queue_word ts td Auxiliary = refl
+no_queue_word ts td Resource = refl
+no_queue_word ts td NoSuspend = refl
+no_queue_word ts td Rollback = refl
+no_queue_word ts td AbCode = refl
+no_queue_word ts td Cancel = refl
+no_queue_word ts td NoDump = refl
+no_queue_word ts td Resp = refl
+no_queue_word ts td Resp2 = refl
+no_queue_word ts td NoHandle = refl
+no_queue_word ts td EndExec = refl
+
+-- where TS is left out the options follow the verb
+left_out_at : (verb td : CommandWord) (options : List Written) → queue_words verb ≡ (codes "TS", verb) ∷ (codes "TD", td) ∷ []
+    → command_at verb (flat_map option_tokens options) ≡ (verb, flat_map option_tokens options)
+left_out_at verb td [] words = refl
+left_out_at verb td (option ∷ options) words =
+    let rest = value_tokens option.value ++ flat_map option_tokens options in
+    ap (λ rows. taken (lookup (option_word option.option) rows) verb (option_word option.option) rest) words
+    ∙ ap (λ found. taken found verb (option_word option.option) rest) (no_queue_word verb td option.option)
+
+-- behind the other verbs too
+options_at : (verb : CommandWord) (options : List Written) → queue_words verb ≡ []
+    → command_at verb (flat_map option_tokens options) ≡ (verb, flat_map option_tokens options)
+options_at verb [] words = refl
+options_at verb (option ∷ options) words =
+    ap (λ rows. taken (lookup (option_word option.option) rows) verb (option_word option.option) (value_tokens option.value ++ flat_map option_tokens options)) words
+
+-- a command's word, and TS or TD behind it, are read as the command
+command_at-written : (first : CommandWord) (left_out : Bool) (options : List Written)
+    → command_at (verb_alone first) (queue_tokens first left_out ++ flat_map option_tokens options) ≡ (first, flat_map option_tokens options)
+command_at-written command.WriteqTs false options = refl
+command_at-written command.ReadqTs false options = refl
+command_at-written command.DeleteqTs false options = refl
+command_at-written command.WriteqTs true options = left_out_at command.WriteqTs command.WriteqTd options refl
+command_at-written command.ReadqTs true options = left_out_at command.ReadqTs command.ReadqTd options refl
+command_at-written command.DeleteqTs true options = left_out_at command.DeleteqTs command.DeleteqTd options refl
+command_at-written command.WriteqTd left_out options = refl
+command_at-written command.ReadqTd left_out options = refl
+command_at-written command.DeleteqTd left_out options = refl
+command_at-written command.Read left_out options = options_at command.Read options refl
+command_at-written command.Write left_out options = options_at command.Write options refl
+command_at-written command.Rewrite left_out options = options_at command.Rewrite options refl
+command_at-written command.Delete left_out options = options_at command.Delete options refl
+command_at-written command.Unlock left_out options = options_at command.Unlock options refl
+command_at-written command.StartBr left_out options = options_at command.StartBr options refl
+command_at-written command.ResetBr left_out options = options_at command.ResetBr options refl
+command_at-written command.ReadNext left_out options = options_at command.ReadNext options refl
+command_at-written command.ReadPrev left_out options = options_at command.ReadPrev options refl
+command_at-written command.EndBr left_out options = options_at command.EndBr options refl
+command_at-written command.Enq left_out options = options_at command.Enq options refl
+command_at-written command.Deq left_out options = options_at command.Deq options refl
+command_at-written command.Syncpoint left_out options = options_at command.Syncpoint options refl
+command_at-written command.Return left_out options = options_at command.Return options refl
+command_at-written command.Abend left_out options = options_at command.Abend options refl
 
 given-word : (found : Option CommandWord) (first : CommandWord) (P : CommandWord → Type 0) → found ≡ Some first → IfSome found P → P first
 given-word found first P is holds = subst (λ o. IfSome o P) is holds
@@ -343,11 +473,12 @@ abbrev made_of : List ℕ → CommandWord → List Entry → Result Line LineFau
 made_of label first entries = verb_in first entries >>= λ made. Ok (Issue label (record { verb = made; resp = is_handled entries }))
 
 -- the line of a command, as it is written
-pub command-written : (label : List ℕ) (asked : Command) (first : CommandWord) (written : List Written) (entries : List Entry)
+pub command-written : (label : List ℕ) (asked : Command) (first : CommandWord) (left_out : Bool) (written : List Written) (entries : List Entry)
     → word_of asked.verb ≡ Some first → AreOptions (Form.Command first) written entries → AreApart entries → Says asked entries
-    → command_line label (word (command_word first) ∷ flat_map option_tokens written) ≡ Ok (Issue label asked)
-command-written label asked first written entries is are apart says =
-    ap (λ found. known found >>= λ verb. options (Form.Command verb) (flat_map option_tokens written) >>= made_of label verb) (sym (lookup-command_word first))
+    → command_line label (verb_tokens first left_out written) ≡ Ok (Issue label asked)
+command-written label asked first left_out written entries is are apart says =
+    ap (λ found. known found >>= λ verb. issued label (command_at verb (queue_tokens first left_out ++ flat_map option_tokens written))) (sym (lookup-command_word first))
+    ∙ ap (issued label) (command_at-written first left_out written)
     ∙ ap (λ read. read >>= made_of label first) (options-written (Form.Command first) written entries are apart)
     ∙ ap (λ made. made >>= λ made. Ok (Issue label (record { verb = made; resp = is_handled entries })))
     (given-word (word_of asked.verb) first (λ first. verb_in first entries ≡ Ok asked.verb) is (verb_in-given entries apart asked.verb says.0))

@@ -15,13 +15,13 @@ use Rattle.cics_script.specs.Lines.{line}
 use lib.Chars.{codes}
 
 -- the file ACCT, the task T1 and the transaction AAAA
-abbrev acct : List ℕ
+abbrev pub acct : List ℕ
 acct = 0xC1 ∷ 0xC3 ∷ 0xC3 ∷ 0xE3 ∷ 0x40 ∷ 0x40 ∷ 0x40 ∷ 0x40 ∷ []
 
-abbrev t1 : List ℕ
+abbrev pub t1 : List ℕ
 t1 = 0xE3 ∷ 0xF1 ∷ 0x40 ∷ 0x40 ∷ 0x40 ∷ 0x40 ∷ 0x40 ∷ 0x40 ∷ []
 
-abbrev aaaa : List ℕ
+abbrev pub aaaa : List ℕ
 aaaa = 0xC1 ∷ 0xC1 ∷ 0xC1 ∷ 0xC1 ∷ []
 
 -- ---- lines that are read
@@ -102,11 +102,11 @@ row_rewrite : line (codes "T1 EXEC CICS REWRITE FILE('ACCT') FROM('0001b') LENGT
 unfolding ebcdic.code_of
 row_rewrite = refl
 
-row_delete : line (codes "T1 EXEC CICS DELETE FILE('ACCT')") ≡ Ok (Issue t1 (record { verb = Delete acct None None; resp = false }))
+row_delete : line (codes "T1 EXEC CICS DELETE FILE('ACCT')") ≡ Ok (Issue t1 (record { verb = Delete acct None None false; resp = false }))
 unfolding ebcdic.code_of
 row_delete = refl
 
-row_delete_key : line (codes "T1 EXEC CICS DELETE FILE('ACCT') KEYLENGTH(4) RIDFLD('0001')") ≡ Ok (Issue t1 (record { verb = Delete acct (Some (0xF0 ∷ 0xF0 ∷ 0xF0 ∷ 0xF1 ∷ [])) (Some 4); resp = false }))
+row_delete_key : line (codes "T1 EXEC CICS DELETE FILE('ACCT') KEYLENGTH(4) RIDFLD('0001')") ≡ Ok (Issue t1 (record { verb = Delete acct (Some (0xF0 ∷ 0xF0 ∷ 0xF0 ∷ 0xF1 ∷ [])) (Some 4) false; resp = false }))
 unfolding ebcdic.code_of
 row_delete_key = refl
 
@@ -264,25 +264,9 @@ row_unknown_literal_option : line (codes "LOAD FILE('A')X'F1'") ≡ Err UnknownW
 unfolding ebcdic.code_of
 row_unknown_literal_option = refl
 
-row_unknown_reserved : line (codes "SHUTDOWN EXEC CICS RETURN") ≡ Err UnknownWord
-unfolding ebcdic.code_of
-row_unknown_reserved = refl
-
-row_unknown_shutdown : line (codes "SHUTDOWN IMMEDIATE") ≡ Err UnknownWord
+row_unknown_shutdown : line (codes "SHUTDOWN EXEC CICS RETURN") ≡ Err UnknownWord
 unfolding ebcdic.code_of
 row_unknown_shutdown = refl
-
-row_unknown_queue_verb : line (codes "T1 EXEC CICS READQ TD QUEUE('AAAA')") ≡ Err UnknownWord
-unfolding ebcdic.code_of
-row_unknown_queue_verb = refl
-
-row_unknown_queue_option : line (codes "T1 EXEC CICS READ FILE('ACCT') ITEM(1)") ≡ Err UnknownWord
-unfolding ebcdic.code_of
-row_unknown_queue_option = refl
-
-row_unknown_numrec : line (codes "T1 EXEC CICS DELETE FILE('ACCT') NUMREC(N)") ≡ Err UnknownWord
-unfolding ebcdic.code_of
-row_unknown_numrec = refl
 
 row_unknown_option : line (codes "T1 EXEC CICS SYNCPOINT IMMEDIATE") ≡ Err UnknownWord
 unfolding ebcdic.code_of
@@ -574,10 +558,6 @@ row_not_here_keylength : line (codes "T1 EXEC CICS REWRITE FILE('ACCT') KEYLENGT
 unfolding ebcdic.code_of
 row_not_here_keylength = refl
 
-row_not_here_delete_generic : line (codes "T1 EXEC CICS DELETE FILE('ACCT') GENERIC") ≡ Err OptionNotHere
-unfolding ebcdic.code_of
-row_not_here_delete_generic = refl
-
 row_not_here_excluded_gteq : line (codes "T1 EXEC CICS READ EQUAL GTEQ") ≡ Err OptionNotHere
 unfolding ebcdic.code_of
 row_not_here_excluded_gteq = refl
@@ -612,10 +592,10 @@ row_not_here_return = refl
 
 -- ---- lines as they are written from their tokens
 
-row_written_unlock : laid_out (command_tokens (codes "T1") command.Unlock (record { option = option.File; value = Some (literal Quoted (codes "ACCT")) } ∷ [])) ≡ codes "T1 EXEC CICS UNLOCK FILE ( 'ACCT' ) "
+row_written_unlock : laid_out (command_tokens (codes "T1") command.Unlock false (record { option = option.File; value = Some (literal Quoted (codes "ACCT")) } ∷ [])) ≡ codes "T1 EXEC CICS UNLOCK FILE ( 'ACCT' ) "
 row_written_unlock = refl
 
-row_written_enq : laid_out (command_tokens (codes "T1") command.Enq (record { option = option.NoSuspend; value = None } ∷ record { option = option.Length; value = Some (number 255) } ∷ record { option = option.Resource; value = Some (literal Hexadecimal (0x00 ∷ 0xF9 ∷ [])) } ∷ [])) ≡ codes "T1 EXEC CICS ENQ NOSUSPEND LENGTH ( 255 ) RESOURCE ( X'00F9' ) "
+row_written_enq : laid_out (command_tokens (codes "T1") command.Enq false (record { option = option.NoSuspend; value = None } ∷ record { option = option.Length; value = Some (number 255) } ∷ record { option = option.Resource; value = Some (literal Hexadecimal (0x00 ∷ 0xF9 ∷ [])) } ∷ [])) ≡ codes "T1 EXEC CICS ENQ NOSUSPEND LENGTH ( 255 ) RESOURCE ( X'00F9' ) "
 unfolding digits
 row_written_enq = refl
 

@@ -1,13 +1,12 @@
 -- Each command has a spelling.
 use Rattle.std.proofs.Common.{◌≡◌, Bool, true, false, not, ◌&&◌, ◌||◌, ℕ, List, [], ◌∷◌, length, refl, sym, ◌∙◌, subst, arith, Option, Some, None, inl, inr}
 use Rattle.std.proofs.lemmas.Bool.Decides.{nat_tests}
-use Rattle.std.specs.Prelude.{Ok, Err, IsTrue, IfSome, nat_lt, if◌then◌else◌, is_some, option_map}
+use Rattle.std.specs.Prelude.{◌⊎◌, Ok, Err, IsTrue, IfSome, nat_lt, if◌then◌else◌, is_some, option_map}
 use Rattle.std.specs.Option.{option_and_then}
 use Rattle.std.specs.List.{list_any, list_all}
 use Rattle.cics_names.specs.Names.{name_of, name_of_codes}
 use Rattle.cics_names.specs.Ebcdic.{code_of, codes_of}
 use Rattle.cics_names.specs.declared.names.NameFault.TheVariants.{TooLong, BadCharacter}
-use Rattle.cics_names.specs.Commands.{asks_no_queue}
 use Rattle.cics_names.specs.declared.commands.Command.{Command}
 use Rattle.cics_names.specs.declared.commands.Verb.{Verb}
 use Rattle.cics_names.specs.declared.commands.Verb.TheVariants as verb
@@ -17,9 +16,9 @@ use Rattle.cics_script.specs.declared.words.CommandWord.TheVariants as command
 use Rattle.cics_script.specs.declared.words.Form.{Form}
 use Rattle.cics_script.specs.declared.words.Form.TheVariants as form
 use Rattle.cics_script.specs.declared.words.OptionWord.{OptionWord}
-use Rattle.cics_script.specs.declared.words.OptionWord.TheVariants.{KeyLength, Length, Generic, Equal, Gteq, Update, NoSuspend, AbCode, Resp, NoHandle}
+use Rattle.cics_script.specs.declared.words.OptionWord.TheVariants.{KeyLength, Length, Generic, Equal, Gteq, Update, Item, NoSuspend, AbCode, Resp, NoHandle}
 use Rattle.cics_script.specs.declared.words.Kind.{Kind}
-use Rattle.cics_script.specs.declared.words.Kind.TheVariants.{Flag, Text, Name8, Name4, Number}
+use Rattle.cics_script.specs.declared.words.Kind.TheVariants.{Flag, Text, Name8, Name4, Number, Area}
 use Rattle.cics_script.specs.Tokens.{Token, number, literal}
 use Rattle.cics_script.specs.Words.{same, excludes, kind_in}
 use Rattle.cics_script.specs.Options.{Content, text, name8, name4, amount, nothing, Entry}
@@ -127,6 +126,11 @@ kind_giving (name4 name) = Name4
 kind_giving (amount n) = Number
 kind_giving nothing = Flag
 
+-- what an option takes is of a kind that gives this; a number is given by an area too
+abbrev IsKind : Option Kind → Content → Type 0
+IsKind kind (amount n) = (kind ≡ Some Number) ⊎ (kind ≡ Some Area)
+IsKind kind content = kind ≡ Some (kind_giving content)
+
 -- an option of a line that gives this, as it is written
 record Spelled (kind : Option Kind) (content : Content) : Type 0 where
   value : Option Token
@@ -155,19 +159,29 @@ name-known-codes false width (Some codes) name e = refl
 name-known : (width : ℕ) (said name : List ℕ) → name_of width said ≡ Ok name → list_all (λ c. is_some (code_of c)) said ≡ true
 name-known width said name e = codes-known said (name-known-codes (nat_lt width (length said)) width (codes_of said) name e)
 
-spelled-content : (content : Content) → CanBeGiven content → Spelled (Some (kind_giving content)) content
-spelled-content (text bytes) can = record { value = Some (literal Hexadecimal bytes); is_written = λ others. (refl, tt); is_writable = can }
-spelled-content (name8 name) can =
-    record { value = Some (literal Quoted can.0); is_written = λ others. (rw can.1 refl, tt); is_writable = name-known 8 can.0 name can.1 }
-spelled-content (name4 name) can =
-    record { value = Some (literal Quoted can.0); is_written = λ others. (rw can.1 refl, tt); is_writable = name-known 4 can.0 name can.1 }
-spelled-content (amount n) can = record { value = Some (number n); is_written = λ others. (refl, tt); is_writable = can }
-spelled-content nothing can = record { value = None; is_written = λ others. ((refl, refl), tt); is_writable = tt }
+of_kind : (content : Content) (kind found : Option Kind) → found ≡ kind → Spelled kind content → Spelled found content
+of_kind content kind found is spelled = subst (λ kind. Spelled kind content) (sym is) spelled
+
+spelled-content : (kind : Option Kind) (content : Content) → IsKind kind content → CanBeGiven content → Spelled kind content
+spelled-content kind (text bytes) is can =
+    of_kind (text bytes) (Some Text) kind is (record { value = Some (literal Hexadecimal bytes); is_written = λ others. (refl, tt); is_writable = can })
+spelled-content kind (name8 name) is can =
+    of_kind (name8 name) (Some Name8) kind is
+    (record { value = Some (literal Quoted can.0); is_written = λ others. (rw can.1 refl, tt); is_writable = name-known 8 can.0 name can.1 })
+spelled-content kind (name4 name) is can =
+    of_kind (name4 name) (Some Name4) kind is
+    (record { value = Some (literal Quoted can.0); is_written = λ others. (rw can.1 refl, tt); is_writable = name-known 4 can.0 name can.1 })
+spelled-content kind (amount n) (inl is) can =
+    of_kind (amount n) (Some Number) kind is (record { value = Some (number n); is_written = λ others. (refl, tt); is_writable = can })
+spelled-content kind (amount n) (inr is) can =
+    of_kind (amount n) (Some Area) kind is (record { value = Some (number n); is_written = λ others. (refl, tt); is_writable = can })
+spelled-content kind nothing is can =
+    of_kind nothing (Some Flag) kind is (record { value = None; is_written = λ others. ((refl, refl), tt); is_writable = tt })
 
 -- options of which each that gives something is of the kind that gives it
 abbrev AreOfKind : Form → Asked → Type 0
 AreOfKind line [] = Unit {0}
-AreOfKind line (row ∷ rows) = IfSome row.1 (λ content. kind_in line row.0 ≡ Some (kind_giving content)) × AreOfKind line rows
+AreOfKind line (row ∷ rows) = IfSome row.1 (IsKind (kind_in line row.0)) × AreOfKind line rows
 
 -- options as they are written that give these
 record AllSpelled (line : Form) (entries : List Entry) : Type 0 where
@@ -180,7 +194,7 @@ all-spelled line [] of_kind can = record { options = []; are_options = tt; are_w
 all-spelled line ((option, None) ∷ rows) of_kind can = all-spelled line rows of_kind.1 can.1
 all-spelled line ((option, Some content) ∷ rows) of_kind can =
     let rest = all-spelled line rows of_kind.1 can.1 in
-    let one = subst (λ kind. Spelled kind content) (sym of_kind.0) (spelled-content content can.0) in
+    let one = spelled-content (kind_in line option) content of_kind.0 can.0 in
     record {
       options = record { option = option; value = one.value } ∷ rest.options;
       are_options = (refl, one.is_written rest.options, rest.are_options);
@@ -235,7 +249,7 @@ module _ (P : Content → Type 0) where
   name4s (Some bytes) h = h bytes
 
 abbrev OfKind : Form → OptionWord → Content → Type 0
-OfKind line option content = kind_in line option ≡ Some (kind_giving content)
+OfKind line option content = IsKind (kind_in line option) content
 
 read-plain : (resp : Bool) (file ridfld : List ℕ) (key_length length : Option ℕ) (generic gteq update : Bool) → not (update && (generic || gteq)) ≡ true
     → are_plain (asked_of (record { verb = verb.Read file ridfld key_length length generic gteq update; resp = resp })) ≡ true
@@ -248,64 +262,80 @@ read-plain resp file ridfld key_length length false true true together = let wro
 read-plain resp file ridfld key_length length false false false together = refl
 read-plain resp file ridfld key_length length false false true together = refl
 
--- each command that asks nothing of a queue and whose options go together has a spelling
-pub spelling : (asked : Verb) (resp : Bool) → IsTrue (asks_no_queue asked) → IsTrue (go_together asked) → AllCanBeGiven (options_of asked)
+-- each command whose options go together has a spelling
+pub spelling : (asked : Verb) (resp : Bool) → IsTrue (go_together asked) → AllCanBeGiven (options_of asked)
     → Spelling (record { verb = asked; resp = resp })
-spelling (verb.Read file ridfld key_length length generic gteq update) resp acts together can =
+spelling (verb.Read file ridfld key_length length generic gteq update) resp together can =
     spelling-of (record { verb = verb.Read file ridfld key_length length generic gteq update; resp = resp }) command.Read refl (read-plain resp file ridfld key_length length generic gteq update together) refl
-    (flags (OfKind (form.Command command.Read) NoHandle) resp refl, (refl, (refl, (amounts (OfKind (form.Command command.Read) KeyLength) key_length (λ x. refl), (amounts (OfKind (form.Command command.Read) Length) length (λ x. refl), (flags (OfKind (form.Command command.Read) Generic) generic refl, (flags (OfKind (form.Command command.Read) Gteq) gteq refl, (flags (OfKind (form.Command command.Read) Update) update refl, tt)))))))) can
-spelling (verb.Write file ridfld key_length from length) resp acts together can =
+    (flags (OfKind (form.Command command.Read) NoHandle) resp refl, (refl, (refl, (amounts (OfKind (form.Command command.Read) KeyLength) key_length (λ x. inl refl), (amounts (OfKind (form.Command command.Read) Length) length (λ x. inl refl), (flags (OfKind (form.Command command.Read) Generic) generic refl, (flags (OfKind (form.Command command.Read) Gteq) gteq refl, (flags (OfKind (form.Command command.Read) Update) update refl, tt)))))))) can
+spelling (verb.Write file ridfld key_length from length) resp together can =
     spelling-of (record { verb = verb.Write file ridfld key_length from length; resp = resp }) command.Write refl refl refl
-    (flags (OfKind (form.Command command.Write) NoHandle) resp refl, (refl, (refl, (amounts (OfKind (form.Command command.Write) KeyLength) key_length (λ x. refl), (refl, (amounts (OfKind (form.Command command.Write) Length) length (λ x. refl), tt)))))) can
-spelling (verb.Rewrite file from length) resp acts together can =
+    (flags (OfKind (form.Command command.Write) NoHandle) resp refl, (refl, (refl, (amounts (OfKind (form.Command command.Write) KeyLength) key_length (λ x. inl refl), (refl, (amounts (OfKind (form.Command command.Write) Length) length (λ x. inl refl), tt)))))) can
+spelling (verb.Rewrite file from length) resp together can =
     spelling-of (record { verb = verb.Rewrite file from length; resp = resp }) command.Rewrite refl refl refl
-    (flags (OfKind (form.Command command.Rewrite) NoHandle) resp refl, (refl, (refl, (amounts (OfKind (form.Command command.Rewrite) Length) length (λ x. refl), tt)))) can
-spelling (verb.Delete file None (Some key_length)) resp acts together can = let wrong : false ≡ true = together in cc
-spelling (verb.Delete file None None) resp acts together can =
-    spelling-of (record { verb = verb.Delete file None None; resp = resp }) command.Delete refl refl refl
-    (flags (OfKind (form.Command command.Delete) NoHandle) resp refl, (refl, (tt, (tt, tt)))) can
-spelling (verb.Delete file (Some ridfld) key_length) resp acts together can =
-    spelling-of (record { verb = verb.Delete file (Some ridfld) key_length; resp = resp }) command.Delete refl refl refl
-    (flags (OfKind (form.Command command.Delete) NoHandle) resp refl, (refl, (refl, (amounts (OfKind (form.Command command.Delete) KeyLength) key_length (λ x. refl), tt)))) can
-spelling (verb.Unlock file) resp acts together can =
+    (flags (OfKind (form.Command command.Rewrite) NoHandle) resp refl, (refl, (refl, (amounts (OfKind (form.Command command.Rewrite) Length) length (λ x. inl refl), tt)))) can
+spelling (verb.Delete file None (Some key_length) generic) resp together can = let wrong : false ≡ true = together in cc
+spelling (verb.Delete file None None true) resp together can = let wrong : false ≡ true = together in cc
+spelling (verb.Delete file None None false) resp together can =
+    spelling-of (record { verb = verb.Delete file None None false; resp = resp }) command.Delete refl refl refl
+    (flags (OfKind (form.Command command.Delete) NoHandle) resp refl, (refl, (tt, (tt, (tt, (tt, tt)))))) can
+spelling (verb.Delete file (Some ridfld) key_length generic) resp together can =
+    spelling-of (record { verb = verb.Delete file (Some ridfld) key_length generic; resp = resp }) command.Delete refl refl refl
+    (flags (OfKind (form.Command command.Delete) NoHandle) resp refl, (refl, (refl, (amounts (OfKind (form.Command command.Delete) KeyLength) key_length (λ x. inl refl), (flags (OfKind (form.Command command.Delete) Generic) generic refl, tt))))) can
+spelling (verb.Unlock file) resp together can =
     spelling-of (record { verb = verb.Unlock file; resp = resp }) command.Unlock refl refl refl
     (flags (OfKind (form.Command command.Unlock) NoHandle) resp refl, (refl, tt)) can
-spelling (verb.StartBr file ridfld key_length generic equal) resp acts together can =
+spelling (verb.StartBr file ridfld key_length generic equal) resp together can =
     spelling-of (record { verb = verb.StartBr file ridfld key_length generic equal; resp = resp }) command.StartBr refl refl refl
-    (flags (OfKind (form.Command command.StartBr) NoHandle) resp refl, (refl, (refl, (amounts (OfKind (form.Command command.StartBr) KeyLength) key_length (λ x. refl), (flags (OfKind (form.Command command.StartBr) Generic) generic refl, (flags (OfKind (form.Command command.StartBr) Equal) equal refl, tt)))))) can
-spelling (verb.ResetBr file ridfld key_length generic equal) resp acts together can =
+    (flags (OfKind (form.Command command.StartBr) NoHandle) resp refl, (refl, (refl, (amounts (OfKind (form.Command command.StartBr) KeyLength) key_length (λ x. inl refl), (flags (OfKind (form.Command command.StartBr) Generic) generic refl, (flags (OfKind (form.Command command.StartBr) Equal) equal refl, tt)))))) can
+spelling (verb.ResetBr file ridfld key_length generic equal) resp together can =
     spelling-of (record { verb = verb.ResetBr file ridfld key_length generic equal; resp = resp }) command.ResetBr refl refl refl
-    (flags (OfKind (form.Command command.ResetBr) NoHandle) resp refl, (refl, (refl, (amounts (OfKind (form.Command command.ResetBr) KeyLength) key_length (λ x. refl), (flags (OfKind (form.Command command.ResetBr) Generic) generic refl, (flags (OfKind (form.Command command.ResetBr) Equal) equal refl, tt)))))) can
-spelling (verb.ReadNext file length) resp acts together can =
+    (flags (OfKind (form.Command command.ResetBr) NoHandle) resp refl, (refl, (refl, (amounts (OfKind (form.Command command.ResetBr) KeyLength) key_length (λ x. inl refl), (flags (OfKind (form.Command command.ResetBr) Generic) generic refl, (flags (OfKind (form.Command command.ResetBr) Equal) equal refl, tt)))))) can
+spelling (verb.ReadNext file length) resp together can =
     spelling-of (record { verb = verb.ReadNext file length; resp = resp }) command.ReadNext refl refl refl
-    (flags (OfKind (form.Command command.ReadNext) NoHandle) resp refl, (refl, (amounts (OfKind (form.Command command.ReadNext) Length) length (λ x. refl), tt))) can
-spelling (verb.ReadPrev file length) resp acts together can =
+    (flags (OfKind (form.Command command.ReadNext) NoHandle) resp refl, (refl, (amounts (OfKind (form.Command command.ReadNext) Length) length (λ x. inl refl), tt))) can
+spelling (verb.ReadPrev file length) resp together can =
     spelling-of (record { verb = verb.ReadPrev file length; resp = resp }) command.ReadPrev refl refl refl
-    (flags (OfKind (form.Command command.ReadPrev) NoHandle) resp refl, (refl, (amounts (OfKind (form.Command command.ReadPrev) Length) length (λ x. refl), tt))) can
-spelling (verb.EndBr file) resp acts together can =
+    (flags (OfKind (form.Command command.ReadPrev) NoHandle) resp refl, (refl, (amounts (OfKind (form.Command command.ReadPrev) Length) length (λ x. inl refl), tt))) can
+spelling (verb.EndBr file) resp together can =
     spelling-of (record { verb = verb.EndBr file; resp = resp }) command.EndBr refl refl refl
     (flags (OfKind (form.Command command.EndBr) NoHandle) resp refl, (refl, tt)) can
-spelling (verb.Enq resource length nosuspend) resp acts together can =
+spelling (verb.Enq resource length nosuspend) resp together can =
     spelling-of (record { verb = verb.Enq resource length nosuspend; resp = resp }) command.Enq refl refl refl
-    (flags (OfKind (form.Command command.Enq) NoHandle) resp refl, (refl, (refl, (flags (OfKind (form.Command command.Enq) NoSuspend) nosuspend refl, tt)))) can
-spelling (verb.Deq resource length) resp acts together can =
+    (flags (OfKind (form.Command command.Enq) NoHandle) resp refl, (refl, (inl refl, (flags (OfKind (form.Command command.Enq) NoSuspend) nosuspend refl, tt)))) can
+spelling (verb.Deq resource length) resp together can =
     spelling-of (record { verb = verb.Deq resource length; resp = resp }) command.Deq refl refl refl
-    (flags (OfKind (form.Command command.Deq) NoHandle) resp refl, (refl, (refl, tt))) can
-spelling verb.Syncpoint resp acts together can =
+    (flags (OfKind (form.Command command.Deq) NoHandle) resp refl, (refl, (inl refl, tt))) can
+spelling verb.Syncpoint resp together can =
     spelling-of (record { verb = verb.Syncpoint; resp = resp }) command.Syncpoint refl refl refl
     (flags (OfKind (form.Command command.Syncpoint) NoHandle) resp refl, (tt, tt)) can
-spelling verb.Rollback resp acts together can =
+spelling verb.Rollback resp together can =
     spelling-of (record { verb = verb.Rollback; resp = resp }) command.Syncpoint refl refl refl
     (flags (OfKind (form.Command command.Syncpoint) NoHandle) resp refl, (refl, tt)) can
-spelling verb.Return resp acts together can =
+spelling verb.Return resp together can =
     spelling-of (record { verb = verb.Return; resp = resp }) command.Return refl refl refl
     (flags (OfKind (form.Command command.Return) NoHandle) resp refl, tt) can
-spelling (verb.Abend code) resp acts together can =
+spelling (verb.Abend code) resp together can =
     spelling-of (record { verb = verb.Abend code; resp = resp }) command.Abend refl refl refl
     (flags (OfKind (form.Command command.Abend) NoHandle) resp refl, (name4s (OfKind (form.Command command.Abend) AbCode) code (λ x. refl), tt)) can
-spelling (verb.WriteqTs queue from length item) resp acts together can = let wrong : false ≡ true = acts in cc
-spelling (verb.ReadqTs queue length item) resp acts together can = let wrong : false ≡ true = acts in cc
-spelling (verb.DeleteqTs queue) resp acts together can = let wrong : false ≡ true = acts in cc
-spelling (verb.WriteqTd queue from length) resp acts together can = let wrong : false ≡ true = acts in cc
-spelling (verb.ReadqTd queue length nosuspend) resp acts together can = let wrong : false ≡ true = acts in cc
-spelling (verb.DeleteqTd queue) resp acts together can = let wrong : false ≡ true = acts in cc
+spelling (verb.WriteqTs queue from length None) resp together can =
+    spelling-of (record { verb = verb.WriteqTs queue from length None; resp = resp }) command.WriteqTs refl refl refl
+    (flags (OfKind (form.Command command.WriteqTs) NoHandle) resp refl, (refl, (refl, (amounts (OfKind (form.Command command.WriteqTs) Length) length (λ x. inl refl), (tt, tt))))) can
+spelling (verb.WriteqTs queue from length (Some item)) resp together can =
+    spelling-of (record { verb = verb.WriteqTs queue from length (Some item); resp = resp }) command.WriteqTs refl refl refl
+    (flags (OfKind (form.Command command.WriteqTs) NoHandle) resp refl, (refl, (refl, (amounts (OfKind (form.Command command.WriteqTs) Length) length (λ x. inl refl), (refl, (inr refl, tt)))))) can
+spelling (verb.ReadqTs queue length item) resp together can =
+    spelling-of (record { verb = verb.ReadqTs queue length item; resp = resp }) command.ReadqTs refl refl refl
+    (flags (OfKind (form.Command command.ReadqTs) NoHandle) resp refl, (refl, (amounts (OfKind (form.Command command.ReadqTs) Length) length (λ x. inl refl), (amounts (OfKind (form.Command command.ReadqTs) Item) item (λ x. inl refl), tt)))) can
+spelling (verb.DeleteqTs queue) resp together can =
+    spelling-of (record { verb = verb.DeleteqTs queue; resp = resp }) command.DeleteqTs refl refl refl
+    (flags (OfKind (form.Command command.DeleteqTs) NoHandle) resp refl, (refl, tt)) can
+spelling (verb.WriteqTd queue from length) resp together can =
+    spelling-of (record { verb = verb.WriteqTd queue from length; resp = resp }) command.WriteqTd refl refl refl
+    (flags (OfKind (form.Command command.WriteqTd) NoHandle) resp refl, (refl, (refl, (amounts (OfKind (form.Command command.WriteqTd) Length) length (λ x. inl refl), tt)))) can
+spelling (verb.ReadqTd queue length nosuspend) resp together can =
+    spelling-of (record { verb = verb.ReadqTd queue length nosuspend; resp = resp }) command.ReadqTd refl refl refl
+    (flags (OfKind (form.Command command.ReadqTd) NoHandle) resp refl, (refl, (amounts (OfKind (form.Command command.ReadqTd) Length) length (λ x. inl refl), (flags (OfKind (form.Command command.ReadqTd) NoSuspend) nosuspend refl, tt)))) can
+spelling (verb.DeleteqTd queue) resp together can =
+    spelling-of (record { verb = verb.DeleteqTd queue; resp = resp }) command.DeleteqTd refl refl refl
+    (flags (OfKind (form.Command command.DeleteqTd) NoHandle) resp refl, (refl, tt)) can

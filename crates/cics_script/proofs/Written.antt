@@ -1,7 +1,7 @@
 -- A command's line, as it is written, is read as the command.
 use Rattle.std.proofs.Common.{◌≡◌, ◌≤◌, true, false, ℕ, List, [], ◌∷◌, ◌++◌, length, not, refl, ap, ◌∙◌, arith, Option, Some, None}
 use Rattle.std.proofs.lemmas.Bool.Decides.{nat_tests}
-use Rattle.std.specs.Prelude.{Result, Ok, Err, IsTrue, IfSome, nat_lt, if◌then◌else◌, is_some}
+use Rattle.std.specs.Prelude.{Result, Ok, Err, Bool, IsTrue, IfSome, nat_lt, if◌then◌else◌, is_some}
 use Rattle.std.specs.List.{flat_map, list_all}
 use Rattle.cics_names.specs.declared.commands.Command.{Command}
 use Rattle.cics_script.specs.declared.faults.LineFault.{LineFault}
@@ -12,25 +12,30 @@ use Rattle.cics_script.specs.declared.words.CommandWord.{CommandWord}
 use Rattle.cics_script.specs.declared.words.CommandWord.TheVariants as command
 use Rattle.cics_script.specs.declared.words.Form.TheVariants as form
 use Rattle.cics_script.specs.declared.words.OptionWord.{OptionWord}
-use Rattle.cics_script.specs.declared.words.OptionWord.TheVariants.{File, KeyLength, KeyOffset, RecordSize, Recoverable, Unrecoverable, From, Transid, Dtimout, Ridfld, Length, Into, Generic, Equal, Gteq, Update, Resource, NoSuspend, Rollback, AbCode, Cancel, NoDump, Resp, Resp2, NoHandle, EndExec}
+use Rattle.cics_script.specs.declared.words.OptionWord.TheVariants.{File, TsPrefix, TdQueue, KeyLength, KeyOffset, RecordSize, Recoverable, Unrecoverable, Logical, Physical, Unrecovered, From, Transid, Dtimout, Ridfld, Length, Into, Generic, Equal, Gteq, Update, NumRec, Queue, Item, Next, Rewrite, Main, Auxiliary, Resource, NoSuspend, Rollback, AbCode, Cancel, NoDump, Resp, Resp2, NoHandle, EndExec}
 use Rattle.cics_script.specs.Faults.{◌>>=◌}
 use Rattle.cics_script.specs.Tokens.{Token, word, tokens, after_blanks}
 use Rattle.cics_script.specs.Words.{lookup, starts}
 use Rattle.cics_script.specs.Options.{Entry}
 use Rattle.cics_script.specs.Lines.{is_script_byte, is_empty_or_comment, label_in, begun, issue, statement, line}
 use Rattle.cics_script.specs.Layout.{is_word, IsWritable, AreWritable, laid_out}
-use Rattle.cics_script.specs.Spelling.{Written, option_word, command_word, value_tokens, option_tokens, command_tokens, word_of, AreOptions, AreApart, Says, AreWritten}
+use Rattle.cics_script.specs.Spelling.{Written, option_word, command_word, value_tokens, option_tokens, queue_tokens, verb_tokens, command_tokens, word_of, AreOptions, AreApart, Says, AreWritten}
 use Rattle.cics_script.proofs.Layouts.{if-false, tokens-laid_out, script-laid_out, no_comment-word}
 use Rattle.cics_script.proofs.Orders.{command-written}
 use lib.Chars.{codes}
 
 is_word-option : (option : OptionWord) → is_word (option_word option) ≡ true
 is_word-option File = refl
+is_word-option TsPrefix = refl
+is_word-option TdQueue = refl
 is_word-option KeyLength = refl
 is_word-option KeyOffset = refl
 is_word-option RecordSize = refl
 is_word-option Recoverable = refl
 is_word-option Unrecoverable = refl
+is_word-option Logical = refl
+is_word-option Physical = refl
+is_word-option Unrecovered = refl
 is_word-option From = refl
 is_word-option Transid = refl
 is_word-option Dtimout = refl
@@ -41,6 +46,13 @@ is_word-option Generic = refl
 is_word-option Equal = refl
 is_word-option Gteq = refl
 is_word-option Update = refl
+is_word-option NumRec = refl
+is_word-option Queue = refl
+is_word-option Item = refl
+is_word-option Next = refl
+is_word-option Rewrite = refl
+is_word-option Main = refl
+is_word-option Auxiliary = refl
 is_word-option Resource = refl
 is_word-option NoSuspend = refl
 is_word-option Rollback = refl
@@ -63,6 +75,12 @@ is_word-command command.ResetBr = refl
 is_word-command command.ReadNext = refl
 is_word-command command.ReadPrev = refl
 is_word-command command.EndBr = refl
+is_word-command command.WriteqTs = refl
+is_word-command command.ReadqTs = refl
+is_word-command command.DeleteqTs = refl
+is_word-command command.WriteqTd = refl
+is_word-command command.ReadqTd = refl
+is_word-command command.DeleteqTd = refl
 is_word-command command.Enq = refl
 is_word-command command.Deq = refl
 is_word-command command.Syncpoint = refl
@@ -93,18 +111,46 @@ line-statement bytes short script begins =
     ∙ if-false (not (list_all is_script_byte bytes)) (Err NotAscii) _ (ap not script)
     ∙ if-false (is_empty_or_comment (after_blanks bytes)) (Ok Blank) _ begins
 
-pub line-written : (label padded : List ℕ) (asked : Command) (first : CommandWord) (written : List Written) (entries : List Entry)
+-- TS and TD are words
+writable-queue : (first : CommandWord) (left_out : Bool) (rest : List Token) → AreWritable rest → AreWritable (queue_tokens first left_out ++ rest)
+writable-queue command.WriteqTs true rest others = others
+writable-queue command.ReadqTs true rest others = others
+writable-queue command.DeleteqTs true rest others = others
+writable-queue command.WriteqTs false rest others = (refl, others)
+writable-queue command.ReadqTs false rest others = (refl, others)
+writable-queue command.DeleteqTs false rest others = (refl, others)
+writable-queue command.WriteqTd left_out rest others = (refl, others)
+writable-queue command.ReadqTd left_out rest others = (refl, others)
+writable-queue command.DeleteqTd left_out rest others = (refl, others)
+writable-queue command.Read left_out rest others = others
+writable-queue command.Write left_out rest others = others
+writable-queue command.Rewrite left_out rest others = others
+writable-queue command.Delete left_out rest others = others
+writable-queue command.Unlock left_out rest others = others
+writable-queue command.StartBr left_out rest others = others
+writable-queue command.ResetBr left_out rest others = others
+writable-queue command.ReadNext left_out rest others = others
+writable-queue command.ReadPrev left_out rest others = others
+writable-queue command.EndBr left_out rest others = others
+writable-queue command.Enq left_out rest others = others
+writable-queue command.Deq left_out rest others = others
+writable-queue command.Syncpoint left_out rest others = others
+writable-queue command.Return left_out rest others = others
+writable-queue command.Abend left_out rest others = others
+
+pub line-written : (label padded : List ℕ) (asked : Command) (first : CommandWord) (left_out : Bool) (written : List Written) (entries : List Entry)
     → IsTrue (is_word label) → label_in label ≡ Ok padded → word_of asked.verb ≡ Some first
     → AreOptions (form.Command first) written entries → AreApart entries → Says asked entries → AreWritten written
-    → length (laid_out (command_tokens label first written)) ≤ 70000
-    → line (laid_out (command_tokens label first written)) ≡ Ok (Issue padded asked)
-line-written label padded asked first written entries labelled is_label is are apart says can short =
-    let whole = command_tokens label first written in
-    let rest = word (codes "CICS") ∷ word (command_word first) ∷ flat_map option_tokens written in
-    let writable : AreWritable whole = (labelled, (refl, (refl, (is_word-command first, writable-options written can)))) in
+    → length (laid_out (command_tokens label first left_out written)) ≤ 70000
+    → line (laid_out (command_tokens label first left_out written)) ≡ Ok (Issue padded asked)
+line-written label padded asked first left_out written entries labelled is_label is are apart says can short =
+    let whole = command_tokens label first left_out written in
+    let rest = word (codes "CICS") ∷ verb_tokens first left_out written in
+    let options = writable-queue first left_out (flat_map option_tokens written) (writable-options written can) in
+    let writable : AreWritable whole = (labelled, (refl, (refl, (is_word-command first, options)))) in
     let behind_label = word (codes "EXEC") ∷ rest in
     line-statement (laid_out whole) short (script-laid_out whole writable) (no_comment-word label (32 ∷ laid_out behind_label) labelled)
     ∙ ap statement (tokens-laid_out whole writable)
     ∙ ap (λ found. begun found label behind_label) (known-label (lookup label starts) _ padded is_label)
     ∙ ap (λ found. found >>= λ padded. issue padded behind_label) is_label
-    ∙ command-written padded asked first written entries is are apart says
+    ∙ command-written padded asked first left_out written entries is are apart says

@@ -1,15 +1,15 @@
 -- What a command asks for, by its verb and its options.
-use Rattle.std.specs.Prelude.{ℕ, Bool, ◌||◌, if◌then◌else◌, List, Option, None, Some, Result, Ok, Err}
+use Rattle.std.specs.Prelude.{ℕ, Bool, false, ◌||◌, if◌then◌else◌, List, Option, None, Some, Result, Ok, Err}
 use Rattle.cics_names.specs.declared.commands.Verb.{Verb}
 use Rattle.cics_names.specs.declared.commands.Verb.TheVariants as verb
 use Rattle.cics_script.specs.declared.faults.LineFault.{LineFault}
 use Rattle.cics_script.specs.declared.faults.LineFault.TheVariants.{MissingOption}
 use Rattle.cics_script.specs.declared.words.CommandWord.{CommandWord}
 use Rattle.cics_script.specs.declared.words.CommandWord.TheVariants as command
-use Rattle.cics_script.specs.declared.words.OptionWord.TheVariants.{File, KeyLength, From, Ridfld, Length, Generic, Equal, Gteq, Update, Resource, NoSuspend, Rollback, AbCode, Resp, NoHandle}
+use Rattle.cics_script.specs.declared.words.OptionWord.TheVariants.{File, KeyLength, From, Ridfld, Length, Generic, Equal, Gteq, Update, NumRec, Queue, Item, Rewrite, Resource, NoSuspend, Rollback, AbCode, Resp, NoHandle}
 use Rattle.cics_script.specs.Faults.{◌>>=◌}
 use Rattle.cics_script.specs.Options.{Entry}
-use Rattle.cics_script.specs.Values.{has, text_at, name8_at, name4_at, amount_at, needed}
+use Rattle.cics_script.specs.Values.{has, content_at, as_needed_amount, text_at, name8_at, name4_at, amount_at, needed}
 
 -- the file of a command, and the key that it names
 abbrev pub keyed_in : List Entry → Result (List ℕ × List ℕ) LineFault
@@ -19,11 +19,18 @@ keyed_in entries = needed (name8_at File entries) λ file. needed (text_at Ridfl
 abbrev pub enqueued_in : List Entry → Result (List ℕ × ℕ) LineFault
 enqueued_in entries = needed (text_at Resource entries) λ resource. needed (amount_at Length entries) λ length. Ok (resource, length)
 
--- DELETE of the record of a key, or without a key of the one that was read for update; KEYLENGTH needs a key
-abbrev pub delete_of : List ℕ → Option (List ℕ) → Option ℕ → Result Verb LineFault
-delete_of file None (Some key_length) = Err MissingOption
-delete_of file None None = Ok (verb.Delete file None None)
-delete_of file (Some ridfld) key_length = Ok (verb.Delete file (Some ridfld) key_length)
+-- whether DELETE has an option that needs a key
+abbrev pub needs_key : List Entry → Bool
+needs_key entries = has KeyLength entries || has Generic entries || has NumRec entries
+
+-- DELETE of the record of a key, with GENERIC of each whose key begins with it, or without a key of the one that was read for update
+abbrev pub delete_of : List ℕ → Option (List ℕ) → List Entry → Result Verb LineFault
+delete_of file None entries = if needs_key entries then Err MissingOption else Ok (verb.Delete file None None false)
+delete_of file (Some ridfld) entries = Ok (verb.Delete file (Some ridfld) (amount_at KeyLength entries) (has Generic entries))
+
+-- the item that WRITEQ TS replaces: with REWRITE the one that ITEM numbers, else none, whatever ITEM says
+abbrev pub replaced_in : List Entry → Result (Option ℕ) LineFault
+replaced_in entries = if has Rewrite entries then (as_needed_amount (content_at Item entries) >>= λ item. Ok (Some item)) else Ok None
 
 -- what a command asks for
 abbrev pub verb_in : CommandWord → List Entry → Result Verb LineFault
@@ -36,7 +43,7 @@ verb_in command.Write entries =
 verb_in command.Rewrite entries =
     needed (name8_at File entries) λ file. needed (text_at From entries) λ from. Ok (verb.Rewrite file from (amount_at Length entries))
 verb_in command.Delete entries =
-    needed (name8_at File entries) λ file. delete_of file (text_at Ridfld entries) (amount_at KeyLength entries)
+    needed (name8_at File entries) λ file. delete_of file (text_at Ridfld entries) entries
 verb_in command.Unlock entries = needed (name8_at File entries) λ file. Ok (verb.Unlock file)
 verb_in command.StartBr entries =
     keyed_in entries >>= λ keyed.
@@ -47,6 +54,17 @@ verb_in command.ResetBr entries =
 verb_in command.ReadNext entries = needed (name8_at File entries) λ file. Ok (verb.ReadNext file (amount_at Length entries))
 verb_in command.ReadPrev entries = needed (name8_at File entries) λ file. Ok (verb.ReadPrev file (amount_at Length entries))
 verb_in command.EndBr entries = needed (name8_at File entries) λ file. Ok (verb.EndBr file)
+verb_in command.WriteqTs entries =
+    needed (name8_at Queue entries) λ queue. needed (text_at From entries) λ from. replaced_in entries >>= λ item.
+    Ok (verb.WriteqTs queue from (amount_at Length entries) item)
+verb_in command.ReadqTs entries =
+    needed (name8_at Queue entries) λ queue. Ok (verb.ReadqTs queue (amount_at Length entries) (amount_at Item entries))
+verb_in command.DeleteqTs entries = needed (name8_at Queue entries) λ queue. Ok (verb.DeleteqTs queue)
+verb_in command.WriteqTd entries =
+    needed (name4_at Queue entries) λ queue. needed (text_at From entries) λ from. Ok (verb.WriteqTd queue from (amount_at Length entries))
+verb_in command.ReadqTd entries =
+    needed (name4_at Queue entries) λ queue. Ok (verb.ReadqTd queue (amount_at Length entries) (has NoSuspend entries))
+verb_in command.DeleteqTd entries = needed (name4_at Queue entries) λ queue. Ok (verb.DeleteqTd queue)
 verb_in command.Enq entries = enqueued_in entries >>= λ value. Ok (verb.Enq value.0 value.1 (has NoSuspend entries))
 verb_in command.Deq entries = enqueued_in entries >>= λ value. Ok (verb.Deq value.0 value.1)
 verb_in command.Syncpoint entries = Ok (if has Rollback entries then verb.Rollback else verb.Syncpoint)

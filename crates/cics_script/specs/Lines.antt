@@ -1,9 +1,11 @@
 -- What the bytes of a line say.
-use Rattle.std.specs.Prelude.{ℕ, Bool, true, false, IsTrue, not, ◌&&◌, ◌||◌, ◌==◌, nat_le, nat_lt, if◌then◌else◌, List, [], ◌∷◌, length, Option, None, Some, Result, Ok, Err, unwrap_or, is_some}
+use Rattle.std.specs.Prelude.{ℕ, Bool, true, false, not, ◌&&◌, ◌||◌, ◌==◌, nat_le, nat_lt, if◌then◌else◌, List, [], ◌∷◌, length, Option, None, Some, Result, Ok, Err, unwrap_or, is_some}
 use Rattle.std.specs.List.{list_all}
 use Rattle.std.specs.Str.{bytes_eq}
 use Rattle.cics_names.specs.Names.{name_of}
 use Rattle.cics_names.specs.declared.names.NameFault.{NameFault}
+use Rattle.cics_transdata.specs.declared.queues.Recovery.{Recovery}
+use Rattle.cics_transdata.specs.declared.queues.Recovery.TheVariants as recovery
 use Rattle.cics_script.specs.declared.lines.Line.{Line}
 use Rattle.cics_script.specs.declared.lines.Line.TheVariants as line_of
 use Rattle.cics_script.specs.declared.faults.LineFault.{LineFault}
@@ -14,13 +16,13 @@ use Rattle.cics_script.specs.declared.words.DefineObject.{DefineObject}
 use Rattle.cics_script.specs.declared.words.DefineObject.TheVariants as defined
 use Rattle.cics_script.specs.declared.words.LoadObject.{LoadObject}
 use Rattle.cics_script.specs.declared.words.LoadObject.TheVariants as loaded
+use Rattle.cics_script.specs.declared.words.CommandWord.{CommandWord}
 use Rattle.cics_script.specs.declared.words.Form.TheVariants as form
-use Rattle.cics_script.specs.declared.words.OptionWord.TheVariants.{File, KeyLength, KeyOffset, RecordSize, Recoverable, Unrecoverable, From, Transid, Dtimout}
+use Rattle.cics_script.specs.declared.words.OptionWord.TheVariants.{File, TsPrefix, TdQueue, KeyLength, KeyOffset, RecordSize, Recoverable, Unrecoverable, Logical, Physical, Unrecovered, From, Transid, Dtimout}
 use Rattle.cics_script.specs.Faults.{◌>>=◌}
 use Rattle.cics_script.specs.Tokens.{Token, word, number, broken, is_capital, is_digit, after_blanks, tokens}
-use Rattle.cics_script.specs.Words.{lookup, starts, define_objects, load_objects, commands}
+use Rattle.cics_script.specs.Words.{lookup, starts, define_objects, load_objects, commands, queue_words}
 use Rattle.cics_script.specs.Values.{has, text_at, name8_at, name4_at, amount_at, needed}
-use Rattle.cics_names.specs.Commands.{asks_no_queue}
 use Rattle.cics_script.specs.Commands.{verb_in, is_handled}
 use Rattle.cics_script.specs.Options.{Entry, options}
 use lib.Chars.{codes}
@@ -28,6 +30,14 @@ use lib.Chars.{codes}
 -- RECOVERABLE or UNRECOVERABLE
 abbrev pub recovery_in : List Entry → Option Bool
 recovery_in entries = if has Recoverable entries then Some true else if has Unrecoverable entries then Some false else None
+
+-- LOGICAL, PHYSICAL or NONE
+abbrev pub queue_recovery_in : List Entry → Option Recovery
+queue_recovery_in entries =
+    if has Logical entries then Some recovery.Logical
+    else if has Physical entries then Some recovery.Physical
+    else if has Unrecovered entries then Some recovery.Unrecovered
+    else None
 
 -- what DEFINE defines: a file's keys begin at 0 and its records have up to 32,767 bytes, where the line doesn't say otherwise
 abbrev pub definition_in : DefineObject → List Entry → Result Line LineFault
@@ -39,12 +49,18 @@ definition_in defined.File entries =
       record_size = unwrap_or (amount_at RecordSize entries) 32767;
       recoverable = recoverable;
     }))
+definition_in defined.TsPrefix entries = needed (name8_at TsPrefix entries) λ prefix. Ok (line_of.DefineTsPrefix prefix)
+definition_in defined.TdQueue entries =
+    needed (name4_at TdQueue entries) λ name. needed (queue_recovery_in entries) λ undone. Ok (line_of.DefineTd name undone)
 
 -- what LOAD loads
 abbrev pub load_in : LoadObject → List Entry → Result Line LineFault
 load_in loaded.File entries =
     needed (name8_at File entries) λ name. needed (text_at From entries) λ record_bytes.
     Ok (line_of.LoadFile name record_bytes)
+load_in loaded.TdQueue entries =
+    needed (name4_at TdQueue entries) λ name. needed (text_at From entries) λ record_bytes.
+    Ok (line_of.LoadTd name record_bytes)
 
 -- what ATTACH attaches; its commands wait without a limit, where the line does not say otherwise
 abbrev pub attach_in : List ℕ → List Entry → Result Line LineFault
@@ -107,12 +123,30 @@ number_first (token ∷ rest) = Err BadNumber
 abbrev pub clock : List Token → Result Line LineFault
 clock rest = number_first rest >>= λ first. options form.Clock first.1 >>= λ entries. Ok (line_of.Clock first.0)
 
+-- SHUTDOWN, behind the word; it has no options
+abbrev pub shutdown : List Token → Result Line LineFault
+shutdown rest = behind (codes "IMMEDIATE") rest >>= λ rest. options form.Shutdown rest >>= λ entries. Ok line_of.Shutdown
+
+-- the command that a word right behind a verb makes of it, and what follows; another word is not its own, and follows
+abbrev pub taken : Option CommandWord → CommandWord → List ℕ → List Token → CommandWord × List Token
+taken (Some command) verb w rest = (command, rest)
+taken None verb w rest = (verb, word w ∷ rest)
+
+-- the command that a verb and what stands right behind it are, and what follows
+abbrev pub command_at : CommandWord → List Token → CommandWord × List Token
+command_at verb (word w ∷ rest) = taken (lookup w (queue_words verb)) verb w rest
+command_at verb rest = (verb, rest)
+
+-- a command of the task with this label, from its options on
+abbrev pub issued : List ℕ → CommandWord × List Token → Result Line LineFault
+issued label command =
+    options (form.Command command.0) command.1 >>= λ entries. verb_in command.0 entries >>= λ made.
+    Ok (line_of.Issue label (record { verb = made; resp = is_handled entries }))
+
 -- a command of the task with this label, from its verb on
 abbrev pub command_line : List ℕ → List Token → Result Line LineFault
 command_line label rest =
-    word_first rest >>= λ first. known (lookup first.0 commands) >>= λ verb.
-    options (form.Command verb) first.1 >>= λ entries. verb_in verb entries >>= λ made.
-    Ok (line_of.Issue label (record { verb = made; resp = is_handled entries }))
+    word_first rest >>= λ first. known (lookup first.0 commands) >>= λ verb. issued label (command_at verb first.1)
 
 -- a command of the task with this label, from EXEC on
 abbrev pub issue : List ℕ → List Token → Result Line LineFault
@@ -124,7 +158,7 @@ begun (Some start.Define) first rest = define rest
 begun (Some start.Load) first rest = load rest
 begun (Some start.Attach) first rest = attach rest
 begun (Some start.Clock) first rest = clock rest
-begun (Some start.Reserved) first rest = Err UnknownWord
+begun (Some start.Shutdown) first rest = shutdown rest
 begun None first rest = label_in first >>= λ label. issue label rest
 
 -- the line that these tokens are
@@ -147,8 +181,3 @@ line bytes =
     else if not (list_all is_script_byte bytes) then Err NotAscii
     else if is_empty_or_comment (after_blanks bytes) then Ok line_of.Blank
     else statement (tokens bytes)
-
--- a command that is read asks nothing of a queue
-abbrev pub AsksNoQueue : Line → Type 0
-AsksNoQueue (line_of.Issue label command) = IsTrue (asks_no_queue command.verb)
-AsksNoQueue _ = Unit {0}

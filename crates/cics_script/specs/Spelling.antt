@@ -1,5 +1,5 @@
 -- How commands can be written: the options of a command in any order.
-use Rattle.std.specs.Prelude.{◌≡◌, ◌<◌, ◌^◌, ℕ, Bool, true, false, not, ◌&&◌, ◌||◌, ◌⊎◌, IsTrue, nat_lt, List, [], ◌∷◌, Option, None, Some, option_map, Ok, IfSome}
+use Rattle.std.specs.Prelude.{◌≡◌, ◌<◌, ◌^◌, ℕ, Bool, true, false, not, ◌&&◌, ◌||◌, ◌⊎◌, IsTrue, nat_lt, if◌then◌else◌, List, [], ◌∷◌, ◌++◌, Option, None, Some, is_some, option_map, Ok, IfSome}
 use Rattle.std.specs.List.{list_any, list_all, flat_map}
 use Rattle.cics_names.specs.Names.{name_of}
 use Rattle.cics_names.specs.declared.commands.Command.{Command}
@@ -10,7 +10,7 @@ use Rattle.cics_script.specs.declared.words.CommandWord.TheVariants as command
 use Rattle.cics_script.specs.declared.words.Form.{Form}
 use Rattle.cics_script.specs.declared.words.Form.TheVariants as form
 use Rattle.cics_script.specs.declared.words.OptionWord.{OptionWord}
-use Rattle.cics_script.specs.declared.words.OptionWord.TheVariants.{File, KeyLength, KeyOffset, RecordSize, Recoverable, Unrecoverable, From, Transid, Dtimout, Ridfld, Length, Into, Generic, Equal, Gteq, Update, Resource, NoSuspend, Rollback, AbCode, Cancel, NoDump, Resp, Resp2, NoHandle, EndExec}
+use Rattle.cics_script.specs.declared.words.OptionWord.TheVariants.{File, TsPrefix, TdQueue, KeyLength, KeyOffset, RecordSize, Recoverable, Unrecoverable, Logical, Physical, Unrecovered, From, Transid, Dtimout, Ridfld, Length, Into, Generic, Equal, Gteq, Update, NumRec, Queue, Item, Next, Rewrite, Main, Auxiliary, Resource, NoSuspend, Rollback, AbCode, Cancel, NoDump, Resp, Resp2, NoHandle, EndExec}
 use Rattle.cics_script.specs.declared.words.Kind.{Kind}
 use Rattle.cics_script.specs.declared.words.Kind.TheVariants.{Flag, Last}
 use Rattle.cics_script.specs.Tokens.{Token, word, opening, closing}
@@ -24,11 +24,16 @@ use lib.Chars.{codes}
 -- the word of an option
 abbrev pub option_word : OptionWord → List ℕ
 option_word File = codes "FILE"
+option_word TsPrefix = codes "TSPREFIX"
+option_word TdQueue = codes "TDQUEUE"
 option_word KeyLength = codes "KEYLENGTH"
 option_word KeyOffset = codes "KEYOFFSET"
 option_word RecordSize = codes "RECORDSIZE"
 option_word Recoverable = codes "RECOVERABLE"
 option_word Unrecoverable = codes "UNRECOVERABLE"
+option_word Logical = codes "LOGICAL"
+option_word Physical = codes "PHYSICAL"
+option_word Unrecovered = codes "NONE"
 option_word From = codes "FROM"
 option_word Transid = codes "TRANSID"
 option_word Dtimout = codes "DTIMOUT"
@@ -39,6 +44,13 @@ option_word Generic = codes "GENERIC"
 option_word Equal = codes "EQUAL"
 option_word Gteq = codes "GTEQ"
 option_word Update = codes "UPDATE"
+option_word NumRec = codes "NUMREC"
+option_word Queue = codes "QUEUE"
+option_word Item = codes "ITEM"
+option_word Next = codes "NEXT"
+option_word Rewrite = codes "REWRITE"
+option_word Main = codes "MAIN"
+option_word Auxiliary = codes "AUXILIARY"
 option_word Resource = codes "RESOURCE"
 option_word NoSuspend = codes "NOSUSPEND"
 option_word Rollback = codes "ROLLBACK"
@@ -50,7 +62,7 @@ option_word Resp2 = codes "RESP2"
 option_word NoHandle = codes "NOHANDLE"
 option_word EndExec = codes "END-EXEC"
 
--- the word of a command
+-- the word of a command, behind which TS or TD stands where it acts on a queue
 abbrev pub command_word : CommandWord → List ℕ
 command_word command.Read = codes "READ"
 command_word command.Write = codes "WRITE"
@@ -62,6 +74,12 @@ command_word command.ResetBr = codes "RESETBR"
 command_word command.ReadNext = codes "READNEXT"
 command_word command.ReadPrev = codes "READPREV"
 command_word command.EndBr = codes "ENDBR"
+command_word command.WriteqTs = codes "WRITEQ"
+command_word command.ReadqTs = codes "READQ"
+command_word command.DeleteqTs = codes "DELETEQ"
+command_word command.WriteqTd = codes "WRITEQ"
+command_word command.ReadqTd = codes "READQ"
+command_word command.DeleteqTd = codes "DELETEQ"
 command_word command.Enq = codes "ENQ"
 command_word command.Deq = codes "DEQ"
 command_word command.Syncpoint = codes "SYNCPOINT"
@@ -131,6 +149,11 @@ abbrev pub flag : Bool → Option Content
 flag true = Some nothing
 flag false = None
 
+-- REWRITE, and ITEM with the number of the item that is replaced, where one is
+abbrev pub replacing : Option ℕ → List (OptionWord × Option Content)
+replacing None = (Rewrite, None) ∷ []
+replacing (Some item) = (Rewrite, Some nothing) ∷ (Item, Some (amount item)) ∷ []
+
 -- the options that make a command what it is, each with what it gives, or with nothing where it has to be left out
 abbrev pub options_of : Verb → List (OptionWord × Option Content)
 options_of (verb.Read file ridfld key_length length generic gteq update) =
@@ -140,8 +163,10 @@ options_of (verb.Write file ridfld key_length from length) =
     (File, Some (name8 file)) ∷ (Ridfld, Some (text ridfld)) ∷ (KeyLength, option_map amount key_length) ∷ (From, Some (text from))
     ∷ (Length, option_map amount length) ∷ []
 options_of (verb.Rewrite file from length) = (File, Some (name8 file)) ∷ (From, Some (text from)) ∷ (Length, option_map amount length) ∷ []
-options_of (verb.Delete file ridfld key_length) =
-    (File, Some (name8 file)) ∷ (Ridfld, option_map text ridfld) ∷ (KeyLength, option_map amount key_length) ∷ []
+options_of (verb.Delete file None key_length generic) =
+    (File, Some (name8 file)) ∷ (Ridfld, None) ∷ (KeyLength, option_map amount key_length) ∷ (Generic, flag generic) ∷ (NumRec, None) ∷ []
+options_of (verb.Delete file (Some ridfld) key_length generic) =
+    (File, Some (name8 file)) ∷ (Ridfld, Some (text ridfld)) ∷ (KeyLength, option_map amount key_length) ∷ (Generic, flag generic) ∷ []
 options_of (verb.Unlock file) = (File, Some (name8 file)) ∷ []
 options_of (verb.StartBr file ridfld key_length generic equal) =
     (File, Some (name8 file)) ∷ (Ridfld, Some (text ridfld)) ∷ (KeyLength, option_map amount key_length)
@@ -152,35 +177,50 @@ options_of (verb.ResetBr file ridfld key_length generic equal) =
 options_of (verb.ReadNext file length) = (File, Some (name8 file)) ∷ (Length, option_map amount length) ∷ []
 options_of (verb.ReadPrev file length) = (File, Some (name8 file)) ∷ (Length, option_map amount length) ∷ []
 options_of (verb.EndBr file) = (File, Some (name8 file)) ∷ []
+options_of (verb.WriteqTs queue from length item) =
+    (Queue, Some (name8 queue)) ∷ (From, Some (text from)) ∷ (Length, option_map amount length) ∷ replacing item
+options_of (verb.ReadqTs queue length item) =
+    (Queue, Some (name8 queue)) ∷ (Length, option_map amount length) ∷ (Item, option_map amount item) ∷ []
+options_of (verb.DeleteqTs queue) = (Queue, Some (name8 queue)) ∷ []
+options_of (verb.WriteqTd queue from length) = (Queue, Some (name4 queue)) ∷ (From, Some (text from)) ∷ (Length, option_map amount length) ∷ []
+options_of (verb.ReadqTd queue length nosuspend) =
+    (Queue, Some (name4 queue)) ∷ (Length, option_map amount length) ∷ (NoSuspend, flag nosuspend) ∷ []
+options_of (verb.DeleteqTd queue) = (Queue, Some (name4 queue)) ∷ []
 options_of (verb.Enq resource length nosuspend) =
     (Resource, Some (text resource)) ∷ (Length, Some (amount length)) ∷ (NoSuspend, flag nosuspend) ∷ []
 options_of (verb.Deq resource length) = (Resource, Some (text resource)) ∷ (Length, Some (amount length)) ∷ []
 options_of verb.Syncpoint = (Rollback, None) ∷ []
 options_of verb.Rollback = (Rollback, Some nothing) ∷ []
+options_of verb.Return = []
 options_of (verb.Abend code) = (AbCode, option_map name4 code) ∷ []
-options_of _ = []
 
--- the word of a command, where the grammar has one: it has none for the commands on queues, and DELETE takes KEYLENGTH with RIDFLD only
+-- the word of a command, where the grammar has one: DELETE takes KEYLENGTH and GENERIC with RIDFLD only
 abbrev pub word_of : Verb → Option CommandWord
 word_of (verb.Read file ridfld key_length length generic gteq update) = Some command.Read
 word_of (verb.Write file ridfld key_length from length) = Some command.Write
 word_of (verb.Rewrite file from length) = Some command.Rewrite
-word_of (verb.Delete file None (Some key_length)) = None
-word_of (verb.Delete file None None) = Some command.Delete
-word_of (verb.Delete file (Some ridfld) key_length) = Some command.Delete
+word_of (verb.Delete file None (Some key_length) generic) = None
+word_of (verb.Delete file None None true) = None
+word_of (verb.Delete file None None false) = Some command.Delete
+word_of (verb.Delete file (Some ridfld) key_length generic) = Some command.Delete
 word_of (verb.Unlock file) = Some command.Unlock
 word_of (verb.StartBr file ridfld key_length generic equal) = Some command.StartBr
 word_of (verb.ResetBr file ridfld key_length generic equal) = Some command.ResetBr
 word_of (verb.ReadNext file length) = Some command.ReadNext
 word_of (verb.ReadPrev file length) = Some command.ReadPrev
 word_of (verb.EndBr file) = Some command.EndBr
+word_of (verb.WriteqTs queue from length item) = Some command.WriteqTs
+word_of (verb.ReadqTs queue length item) = Some command.ReadqTs
+word_of (verb.DeleteqTs queue) = Some command.DeleteqTs
+word_of (verb.WriteqTd queue from length) = Some command.WriteqTd
+word_of (verb.ReadqTd queue length nosuspend) = Some command.ReadqTd
+word_of (verb.DeleteqTd queue) = Some command.DeleteqTd
 word_of (verb.Enq resource length nosuspend) = Some command.Enq
 word_of (verb.Deq resource length) = Some command.Deq
 word_of verb.Syncpoint = Some command.Syncpoint
 word_of verb.Rollback = Some command.Syncpoint
 word_of verb.Return = Some command.Return
 word_of (verb.Abend code) = Some command.Abend
-word_of _ = None
 
 -- each of these options is there with what it is to give, or left out
 abbrev pub AllGiven : List (OptionWord × Option Content) → List Entry → Type 0
@@ -191,10 +231,24 @@ AllGiven (option ∷ options) entries = Gives option.0 option.1 entries × AllGi
 abbrev pub Says : Command → List Entry → Type 0
 Says command entries = AllGiven (options_of command.verb) entries × (is_handled entries ≡ command.resp)
 
--- the tokens of a command's line: its task's label, EXEC CICS, its word and its options
-abbrev pub command_tokens : List ℕ → CommandWord → List Written → List Token
-command_tokens label first options =
-    word label ∷ word (codes "EXEC") ∷ word (codes "CICS") ∷ word (command_word first) ∷ flat_map option_tokens options
+-- what is written right behind the word of a command on a queue: TS or TD, of which TS may be left out
+abbrev pub queue_tokens : CommandWord → Bool → List Token
+queue_tokens command.WriteqTs left_out = if left_out then [] else word (codes "TS") ∷ []
+queue_tokens command.ReadqTs left_out = if left_out then [] else word (codes "TS") ∷ []
+queue_tokens command.DeleteqTs left_out = if left_out then [] else word (codes "TS") ∷ []
+queue_tokens command.WriteqTd left_out = word (codes "TD") ∷ []
+queue_tokens command.ReadqTd left_out = word (codes "TD") ∷ []
+queue_tokens command.DeleteqTd left_out = word (codes "TD") ∷ []
+queue_tokens first left_out = []
+
+-- the tokens of a command: its word, TS or TD where it acts on a queue, and its options
+abbrev pub verb_tokens : CommandWord → Bool → List Written → List Token
+verb_tokens first left_out options = word (command_word first) ∷ (queue_tokens first left_out ++ flat_map option_tokens options)
+
+-- the tokens of a command's line: its task's label, EXEC CICS, and the command
+abbrev pub command_tokens : List ℕ → CommandWord → Bool → List Written → List Token
+command_tokens label first left_out options =
+    word label ∷ word (codes "EXEC") ∷ word (codes "CICS") ∷ verb_tokens first left_out options
 
 -- options whose values can be written
 abbrev pub AreWritten : List Written → Type 0
@@ -218,10 +272,10 @@ abbrev pub AllCanBeGiven : List (OptionWord × Option Content) → Type 0
 AllCanBeGiven [] = Unit {0}
 AllCanBeGiven (option ∷ options) = IfSome option.1 CanBeGiven × AllCanBeGiven options
 
--- options that go together: UPDATE with neither GENERIC nor GTEQ, and KEYLENGTH of DELETE with RIDFLD only
+-- options that go together: UPDATE with neither GENERIC nor GTEQ, and KEYLENGTH and GENERIC of DELETE with RIDFLD only
 abbrev pub go_together : Verb → Bool
 go_together (verb.Read file ridfld key_length length generic gteq update) = not (update && (generic || gteq))
-go_together (verb.Delete file None (Some key_length)) = false
+go_together (verb.Delete file None key_length generic) = not (is_some key_length || generic)
 go_together _ = true
 
 -- the options of a command, as they are written and as they are read, that make a line of it

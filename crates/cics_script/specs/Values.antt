@@ -1,9 +1,9 @@
 -- What the options that were read give.
-use Rattle.std.specs.Prelude.{ℕ, Bool, if◌then◌else◌, List, [], ◌∷◌, Option, None, Some, Result, Err}
+use Rattle.std.specs.Prelude.{ℕ, Bool, if◌then◌else◌, List, [], ◌∷◌, Option, None, Some, Result, Ok, Err}
 use Rattle.std.specs.List.{list_any}
 use Rattle.std.specs.Option.{option_and_then}
 use Rattle.cics_script.specs.declared.faults.LineFault.{LineFault}
-use Rattle.cics_script.specs.declared.faults.LineFault.TheVariants.{MissingOption}
+use Rattle.cics_script.specs.declared.faults.LineFault.TheVariants.{BadNumber, MissingOption}
 use Rattle.cics_script.specs.declared.words.OptionWord.{OptionWord}
 use Rattle.cics_script.specs.Words.{same}
 use Rattle.cics_script.specs.Options.{Content, text, name8, name4, amount, Entry}
@@ -36,6 +36,12 @@ as_name4 content = None
 abbrev pub as_amount : Content → Option ℕ
 as_amount (amount n) = Some n
 as_amount content = None
+
+-- the number in an area that has to be one
+abbrev pub as_needed_amount : Option Content → Result ℕ LineFault
+as_needed_amount None = Err MissingOption
+as_needed_amount (Some (amount n)) = Ok n
+as_needed_amount (Some content) = Err BadNumber
 
 -- the record that an option gives
 abbrev pub text_at : OptionWord → List Entry → Option (List ℕ)

@@ -13,7 +13,7 @@ use Rattle.cics_script.specs.declared.words.CommandWord.TheVariants as command
 use Rattle.cics_script.specs.declared.words.Form.{Form}
 use Rattle.cics_script.specs.declared.words.Form.TheVariants as form
 use Rattle.cics_script.specs.declared.words.OptionWord.{OptionWord}
-use Rattle.cics_script.specs.declared.words.OptionWord.TheVariants.{File, KeyLength, KeyOffset, RecordSize, Recoverable, Unrecoverable, From, Transid, Dtimout, Ridfld, Length, Into, Generic, Equal, Gteq, Update, Resource, NoSuspend, Rollback, AbCode, Cancel, NoDump, Resp, Resp2, NoHandle, EndExec}
+use Rattle.cics_script.specs.declared.words.OptionWord.TheVariants.{File, TsPrefix, TdQueue, KeyLength, KeyOffset, RecordSize, Recoverable, Unrecoverable, Logical, Physical, Unrecovered, From, Transid, Dtimout, Ridfld, Length, Into, Generic, Equal, Gteq, Update, NumRec, Queue, Item, Next, Rewrite, Main, Auxiliary, Resource, NoSuspend, Rollback, AbCode, Cancel, NoDump, Resp, Resp2, NoHandle, EndExec}
 use Rattle.cics_script.specs.declared.words.Kind.{Kind}
 use Rattle.cics_script.specs.declared.words.Kind.TheVariants.{Flag, Text, Name8, Name4, Number, Area, Last}
 use lib.Chars.{codes}
@@ -27,34 +27,47 @@ lookup word (row ∷ rows) = if bytes_eq word row.0 then Some row.1 else lookup 
 abbrev pub starts : List (List ℕ × Start)
 starts =
     (codes "DEFINE", start.Define) ∷ (codes "LOAD", start.Load) ∷ (codes "ATTACH", start.Attach)
-    ∷ (codes "CLOCK", start.Clock) ∷ (codes "SHUTDOWN", start.Reserved) ∷ []
+    ∷ (codes "CLOCK", start.Clock) ∷ (codes "SHUTDOWN", start.Shutdown) ∷ []
 
 -- what DEFINE can define; DATASET is another word for FILE
 abbrev pub define_objects : List (List ℕ × DefineObject)
-define_objects = (codes "FILE", defined.File) ∷ (codes "DATASET", defined.File) ∷ []
+define_objects =
+    (codes "FILE", defined.File) ∷ (codes "DATASET", defined.File) ∷ (codes "TSPREFIX", defined.TsPrefix) ∷ (codes "TDQUEUE", defined.TdQueue) ∷ []
 
 -- what LOAD can load
 abbrev pub load_objects : List (List ℕ × LoadObject)
-load_objects = (codes "FILE", loaded.File) ∷ (codes "DATASET", loaded.File) ∷ []
+load_objects = (codes "FILE", loaded.File) ∷ (codes "DATASET", loaded.File) ∷ (codes "TDQUEUE", loaded.TdQueue) ∷ []
 
--- the verbs
+-- the verbs; one that acts on a queue is of temporary storage where no other word says which
 abbrev pub commands : List (List ℕ × CommandWord)
 commands =
     (codes "READ", command.Read) ∷ (codes "WRITE", command.Write) ∷ (codes "REWRITE", command.Rewrite)
     ∷ (codes "DELETE", command.Delete) ∷ (codes "UNLOCK", command.Unlock) ∷ (codes "STARTBR", command.StartBr)
     ∷ (codes "RESETBR", command.ResetBr) ∷ (codes "READNEXT", command.ReadNext) ∷ (codes "READPREV", command.ReadPrev)
-    ∷ (codes "ENDBR", command.EndBr) ∷ (codes "ENQ", command.Enq) ∷ (codes "DEQ", command.Deq)
+    ∷ (codes "ENDBR", command.EndBr) ∷ (codes "WRITEQ", command.WriteqTs) ∷ (codes "READQ", command.ReadqTs)
+    ∷ (codes "DELETEQ", command.DeleteqTs) ∷ (codes "ENQ", command.Enq) ∷ (codes "DEQ", command.Deq)
     ∷ (codes "SYNCPOINT", command.Syncpoint) ∷ (codes "RETURN", command.Return) ∷ (codes "ABEND", command.Abend) ∷ []
+
+-- what a verb is with one of the words that may stand right behind it: TS or TD behind one that acts on a queue
+abbrev pub queue_words : CommandWord → List (List ℕ × CommandWord)
+queue_words command.WriteqTs = (codes "TS", command.WriteqTs) ∷ (codes "TD", command.WriteqTd) ∷ []
+queue_words command.ReadqTs = (codes "TS", command.ReadqTs) ∷ (codes "TD", command.ReadqTd) ∷ []
+queue_words command.DeleteqTs = (codes "TS", command.DeleteqTs) ∷ (codes "TD", command.DeleteqTd) ∷ []
+queue_words verb = []
 
 -- the words that are options of some line
 abbrev pub option_words : List (List ℕ × OptionWord)
 option_words =
-    (codes "FILE", File) ∷ (codes "DATASET", File) ∷ (codes "KEYLENGTH", KeyLength)
-    ∷ (codes "KEYOFFSET", KeyOffset) ∷ (codes "RECORDSIZE", RecordSize) ∷ (codes "RECOVERABLE", Recoverable)
-    ∷ (codes "UNRECOVERABLE", Unrecoverable) ∷ (codes "FROM", From) ∷ (codes "TRANSID", Transid)
-    ∷ (codes "DTIMOUT", Dtimout) ∷ (codes "RIDFLD", Ridfld) ∷ (codes "LENGTH", Length)
-    ∷ (codes "INTO", Into) ∷ (codes "GENERIC", Generic) ∷ (codes "EQUAL", Equal)
-    ∷ (codes "GTEQ", Gteq) ∷ (codes "UPDATE", Update) ∷ (codes "RESOURCE", Resource)
+    (codes "FILE", File) ∷ (codes "DATASET", File) ∷ (codes "TSPREFIX", TsPrefix)
+    ∷ (codes "TDQUEUE", TdQueue) ∷ (codes "KEYLENGTH", KeyLength) ∷ (codes "KEYOFFSET", KeyOffset)
+    ∷ (codes "RECORDSIZE", RecordSize) ∷ (codes "RECOVERABLE", Recoverable) ∷ (codes "UNRECOVERABLE", Unrecoverable)
+    ∷ (codes "LOGICAL", Logical) ∷ (codes "PHYSICAL", Physical) ∷ (codes "NONE", Unrecovered)
+    ∷ (codes "FROM", From) ∷ (codes "TRANSID", Transid) ∷ (codes "DTIMOUT", Dtimout)
+    ∷ (codes "RIDFLD", Ridfld) ∷ (codes "LENGTH", Length) ∷ (codes "INTO", Into)
+    ∷ (codes "GENERIC", Generic) ∷ (codes "EQUAL", Equal) ∷ (codes "GTEQ", Gteq)
+    ∷ (codes "UPDATE", Update) ∷ (codes "NUMREC", NumRec) ∷ (codes "QUEUE", Queue)
+    ∷ (codes "ITEM", Item) ∷ (codes "NEXT", Next) ∷ (codes "REWRITE", Rewrite)
+    ∷ (codes "MAIN", Main) ∷ (codes "AUXILIARY", Auxiliary) ∷ (codes "RESOURCE", Resource)
     ∷ (codes "NOSUSPEND", NoSuspend) ∷ (codes "ROLLBACK", Rollback) ∷ (codes "ABCODE", AbCode)
     ∷ (codes "CANCEL", Cancel) ∷ (codes "NODUMP", NoDump) ∷ (codes "RESP", Resp)
     ∷ (codes "RESP2", Resp2) ∷ (codes "NOHANDLE", NoHandle) ∷ (codes "END-EXEC", EndExec) ∷ []
@@ -62,31 +75,43 @@ option_words =
 -- the place of an option among the options
 abbrev pub place : OptionWord → ℕ
 place File = 0
-place KeyLength = 1
-place KeyOffset = 2
-place RecordSize = 3
-place Recoverable = 4
-place Unrecoverable = 5
-place From = 6
-place Transid = 7
-place Dtimout = 8
-place Ridfld = 9
-place Length = 10
-place Into = 11
-place Generic = 12
-place Equal = 13
-place Gteq = 14
-place Update = 15
-place Resource = 16
-place NoSuspend = 17
-place Rollback = 18
-place AbCode = 19
-place Cancel = 20
-place NoDump = 21
-place Resp = 22
-place Resp2 = 23
-place NoHandle = 24
-place EndExec = 25
+place TsPrefix = 1
+place TdQueue = 2
+place KeyLength = 3
+place KeyOffset = 4
+place RecordSize = 5
+place Recoverable = 6
+place Unrecoverable = 7
+place Logical = 8
+place Physical = 9
+place Unrecovered = 10
+place From = 11
+place Transid = 12
+place Dtimout = 13
+place Ridfld = 14
+place Length = 15
+place Into = 16
+place Generic = 17
+place Equal = 18
+place Gteq = 19
+place Update = 20
+place NumRec = 21
+place Queue = 22
+place Item = 23
+place Next = 24
+place Rewrite = 25
+place Main = 26
+place Auxiliary = 27
+place Resource = 28
+place NoSuspend = 29
+place Rollback = 30
+place AbCode = 31
+place Cancel = 32
+place NoDump = 33
+place Resp = 34
+place Resp2 = 35
+place NoHandle = 36
+place EndExec = 37
 
 -- whether two options are the same
 abbrev pub same : OptionWord → OptionWord → Bool
@@ -101,10 +126,13 @@ kind_among option (row ∷ rows) = if same row.0 option then Some row.1 else kin
 abbrev pub options_of_define : DefineObject → List (OptionWord × Kind)
 options_of_define defined.File =
     (File, Name8) ∷ (KeyLength, Number) ∷ (KeyOffset, Number) ∷ (RecordSize, Number) ∷ (Recoverable, Flag) ∷ (Unrecoverable, Flag) ∷ []
+options_of_define defined.TsPrefix = (TsPrefix, Name8) ∷ []
+options_of_define defined.TdQueue = (TdQueue, Name4) ∷ (Logical, Flag) ∷ (Physical, Flag) ∷ (Unrecovered, Flag) ∷ []
 
 -- what LOAD takes, by what it loads
 abbrev pub options_of_load : LoadObject → List (OptionWord × Kind)
 options_of_load loaded.File = (File, Name8) ∷ (From, Text) ∷ []
+options_of_load loaded.TdQueue = (TdQueue, Name4) ∷ (From, Text) ∷ []
 
 -- what ATTACH takes
 abbrev pub options_of_attach : List (OptionWord × Kind)
@@ -125,13 +153,21 @@ options_of_command command.Read =
     ∷ (Generic, Flag) ∷ (Equal, Flag) ∷ (Gteq, Flag) ∷ (Update, Flag) ∷ []
 options_of_command command.Write = (File, Name8) ∷ (Ridfld, Text) ∷ (From, Text) ∷ (Length, Number) ∷ (KeyLength, Number) ∷ []
 options_of_command command.Rewrite = (File, Name8) ∷ (From, Text) ∷ (Length, Number) ∷ []
-options_of_command command.Delete = (File, Name8) ∷ (Ridfld, Text) ∷ (KeyLength, Number) ∷ []
+options_of_command command.Delete = (File, Name8) ∷ (Ridfld, Text) ∷ (KeyLength, Number) ∷ (Generic, Flag) ∷ (NumRec, Area) ∷ []
 options_of_command command.Unlock = (File, Name8) ∷ []
 options_of_command command.StartBr = options_of_browse_start
 options_of_command command.ResetBr = options_of_browse_start
 options_of_command command.ReadNext = options_of_browse_read
 options_of_command command.ReadPrev = options_of_browse_read
 options_of_command command.EndBr = (File, Name8) ∷ []
+options_of_command command.WriteqTs =
+    (Queue, Name8) ∷ (From, Text) ∷ (Length, Number) ∷ (Item, Area) ∷ (Rewrite, Flag)
+    ∷ (Main, Flag) ∷ (Auxiliary, Flag) ∷ (NoSuspend, Flag) ∷ []
+options_of_command command.ReadqTs = (Queue, Name8) ∷ (Into, Area) ∷ (Length, Number) ∷ (Item, Number) ∷ (Next, Flag) ∷ []
+options_of_command command.DeleteqTs = (Queue, Name8) ∷ []
+options_of_command command.WriteqTd = (Queue, Name4) ∷ (From, Text) ∷ (Length, Number) ∷ []
+options_of_command command.ReadqTd = (Queue, Name4) ∷ (Into, Area) ∷ (Length, Number) ∷ (NoSuspend, Flag) ∷ []
+options_of_command command.DeleteqTd = (Queue, Name4) ∷ []
 options_of_command command.Enq = (Resource, Text) ∷ (Length, Number) ∷ (NoSuspend, Flag) ∷ []
 options_of_command command.Deq = (Resource, Text) ∷ (Length, Number) ∷ []
 options_of_command command.Syncpoint = (Rollback, Flag) ∷ []
@@ -153,11 +189,14 @@ kind_in (form.Define object) option = kind_among option (options_of_define objec
 kind_in (form.Load object) option = kind_among option (options_of_load object)
 kind_in form.Attach option = kind_among option options_of_attach
 kind_in form.Clock option = None
+kind_in form.Shutdown option = None
 kind_in (form.Command verb) option = or_else (kind_among option (options_of_command verb)) (kind_among option options_of_every_command)
 
 -- the pairs of options that one line can't have both
 abbrev pub exclusions : List (OptionWord × OptionWord)
-exclusions = (Recoverable, Unrecoverable) ∷ (Equal, Gteq) ∷ (Update, Gteq) ∷ (Update, Generic) ∷ []
+exclusions =
+    (Recoverable, Unrecoverable) ∷ (Logical, Physical) ∷ (Logical, Unrecovered) ∷ (Physical, Unrecovered)
+    ∷ (Equal, Gteq) ∷ (Update, Gteq) ∷ (Update, Generic) ∷ (Item, Next) ∷ (Main, Auxiliary) ∷ []
 
 -- whether a pair, in either order, is in these rows
 abbrev pub is_pair_in : OptionWord → OptionWord → List (OptionWord × OptionWord) → Bool

@@ -1,14 +1,14 @@
 //! What a command asks for, by its verb and its options.
 
-ghost use Rattle.std.specs.Prelude.{◌≡◌, ◌||◌, Ok, IsTrue, IfOk};
+ghost use Rattle.std.specs.Prelude.{◌≡◌, ◌||◌, Ok};
 ghost use Rattle.cics_script.specs.Faults.{Reads};
 ghost use Rattle.cics_script.specs.Views.{entries};
-ghost use Rattle.cics_names.specs.Commands.{asks_no_queue};
-ghost use Rattle.cics_script.specs.Commands.{keyed_in, enqueued_in, delete_of, verb_in, is_handled};
+ghost use Rattle.cics_script.specs.Commands.{keyed_in, enqueued_in, needs_key, delete_of};
+ghost use Rattle.cics_script.specs.Commands.{replaced_in, verb_in, is_handled};
 
 use crate::faults::LineFault;
 use crate::options::{Found, has_option};
-use crate::values::{name4_of, name8_of, number_of, optional_text_of, text_of};
+use crate::values::{name4_of, name8_of, needed_number_of, number_of, optional_text_of, text_of};
 use crate::words::{CommandWord, OptionWord};
 use cics_names::{Name8, Record, Verb};
 use std::alloc::Global;
@@ -48,8 +48,7 @@ fn enqueued(alloc: Global, found: &[Found<'_>]) -> Result<(Record, u64), LineFau
 }
 
 fn read_verb(alloc: Global, found: &[Found<'_>]) -> Result<Verb, LineFault>
-    ensures made { Reads (verb_in CommandWord.Read (entries found.now)) result }
-    ensures no_queue { IfOk result (λ verb. IsTrue (asks_no_queue verb)) }
+    ensures { Reads (verb_in CommandWord.Read (entries found.now)) result }
 {
     match keyed(alloc, found) {
         Ok((file, ridfld)) => Ok(Verb::Read {
@@ -66,8 +65,7 @@ fn read_verb(alloc: Global, found: &[Found<'_>]) -> Result<Verb, LineFault>
 }
 
 fn write_verb(alloc: Global, found: &[Found<'_>]) -> Result<Verb, LineFault>
-    ensures made { Reads (verb_in CommandWord.Write (entries found.now)) result }
-    ensures no_queue { IfOk result (λ verb. IsTrue (asks_no_queue verb)) }
+    ensures { Reads (verb_in CommandWord.Write (entries found.now)) result }
 {
     let (file, ridfld) = match keyed(alloc, found) {
         Ok(keyed) => keyed,
@@ -86,8 +84,7 @@ fn write_verb(alloc: Global, found: &[Found<'_>]) -> Result<Verb, LineFault>
 }
 
 fn rewrite_verb(alloc: Global, found: &[Found<'_>]) -> Result<Verb, LineFault>
-    ensures made { Reads (verb_in CommandWord.Rewrite (entries found.now)) result }
-    ensures no_queue { IfOk result (λ verb. IsTrue (asks_no_queue verb)) }
+    ensures { Reads (verb_in CommandWord.Rewrite (entries found.now)) result }
 {
     let Some(file) = name8_of(found, OptionWord::File) else {
         return Err(LineFault::MissingOption);
@@ -102,41 +99,50 @@ fn rewrite_verb(alloc: Global, found: &[Found<'_>]) -> Result<Verb, LineFault>
     }
 }
 
-// DELETE of what its options name.
-fn delete_named(
-    file: Name8,
-    ridfld: Option<Record>,
-    key_length: Option<u64>,
-) -> Result<Verb, LineFault>
-    ensures made { result ≡ delete_of file ridfld key_length }
-    ensures no_queue { IfOk result (λ verb. IsTrue (asks_no_queue verb)) }
+// Whether DELETE has an option that needs a key.
+fn has_key_option(found: &[Found<'_>]) -> bool
+    ensures { result ≡ needs_key (entries found.now) }
 {
-    if key_length.is_some() && ridfld.is_none() {
-        return Err(LineFault::MissingOption);
+    has_option(found, OptionWord::KeyLength)
+        || has_option(found, OptionWord::Generic)
+        || has_option(found, OptionWord::NumRec)
+}
+
+// DELETE of what its options name.
+fn delete_named(file: Name8, ridfld: Option<Record>, found: &[Found<'_>]) -> Result<Verb, LineFault>
+    ensures { result ≡ delete_of file ridfld (entries found.now) }
+{
+    match ridfld {
+        Some(key) => Ok(Verb::Delete {
+            file,
+            ridfld: Some(key),
+            key_length: number_of(found, OptionWord::KeyLength),
+            generic: has_option(found, OptionWord::Generic),
+        }),
+        None if has_key_option(found) => Err(LineFault::MissingOption),
+        None => Ok(Verb::Delete {
+            file,
+            ridfld: None,
+            key_length: None,
+            generic: false,
+        }),
     }
-    Ok(Verb::Delete {
-        file,
-        ridfld,
-        key_length,
-    })
 }
 
 fn delete_verb(alloc: Global, found: &[Found<'_>]) -> Result<Verb, LineFault>
-    ensures made { Reads (verb_in CommandWord.Delete (entries found.now)) result }
-    ensures no_queue { IfOk result (λ verb. IsTrue (asks_no_queue verb)) }
+    ensures { Reads (verb_in CommandWord.Delete (entries found.now)) result }
 {
     let Some(file) = name8_of(found, OptionWord::File) else {
         return Err(LineFault::MissingOption);
     };
     match optional_text_of(alloc, found, OptionWord::Ridfld) {
-        Ok(ridfld) => delete_named(file, ridfld, number_of(found, OptionWord::KeyLength)),
+        Ok(ridfld) => delete_named(file, ridfld, found),
         Err(fault) => Err(fault),
     }
 }
 
 fn unlock_verb(found: &[Found<'_>]) -> Result<Verb, LineFault>
-    ensures made { result ≡ verb_in CommandWord.Unlock (entries found.now) }
-    ensures no_queue { IfOk result (λ verb. IsTrue (asks_no_queue verb)) }
+    ensures { result ≡ verb_in CommandWord.Unlock (entries found.now) }
 {
     match name8_of(found, OptionWord::File) {
         Some(file) => Ok(Verb::Unlock { file }),
@@ -145,8 +151,7 @@ fn unlock_verb(found: &[Found<'_>]) -> Result<Verb, LineFault>
 }
 
 fn startbr_verb(alloc: Global, found: &[Found<'_>]) -> Result<Verb, LineFault>
-    ensures made { Reads (verb_in CommandWord.StartBr (entries found.now)) result }
-    ensures no_queue { IfOk result (λ verb. IsTrue (asks_no_queue verb)) }
+    ensures { Reads (verb_in CommandWord.StartBr (entries found.now)) result }
 {
     match keyed(alloc, found) {
         Ok((file, ridfld)) => Ok(Verb::StartBr {
@@ -161,8 +166,7 @@ fn startbr_verb(alloc: Global, found: &[Found<'_>]) -> Result<Verb, LineFault>
 }
 
 fn resetbr_verb(alloc: Global, found: &[Found<'_>]) -> Result<Verb, LineFault>
-    ensures made { Reads (verb_in CommandWord.ResetBr (entries found.now)) result }
-    ensures no_queue { IfOk result (λ verb. IsTrue (asks_no_queue verb)) }
+    ensures { Reads (verb_in CommandWord.ResetBr (entries found.now)) result }
 {
     match keyed(alloc, found) {
         Ok((file, ridfld)) => Ok(Verb::ResetBr {
@@ -177,8 +181,7 @@ fn resetbr_verb(alloc: Global, found: &[Found<'_>]) -> Result<Verb, LineFault>
 }
 
 fn readnext_verb(found: &[Found<'_>]) -> Result<Verb, LineFault>
-    ensures made { result ≡ verb_in CommandWord.ReadNext (entries found.now) }
-    ensures no_queue { IfOk result (λ verb. IsTrue (asks_no_queue verb)) }
+    ensures { result ≡ verb_in CommandWord.ReadNext (entries found.now) }
 {
     match name8_of(found, OptionWord::File) {
         Some(file) => Ok(Verb::ReadNext {
@@ -190,8 +193,7 @@ fn readnext_verb(found: &[Found<'_>]) -> Result<Verb, LineFault>
 }
 
 fn readprev_verb(found: &[Found<'_>]) -> Result<Verb, LineFault>
-    ensures made { result ≡ verb_in CommandWord.ReadPrev (entries found.now) }
-    ensures no_queue { IfOk result (λ verb. IsTrue (asks_no_queue verb)) }
+    ensures { result ≡ verb_in CommandWord.ReadPrev (entries found.now) }
 {
     match name8_of(found, OptionWord::File) {
         Some(file) => Ok(Verb::ReadPrev {
@@ -203,8 +205,7 @@ fn readprev_verb(found: &[Found<'_>]) -> Result<Verb, LineFault>
 }
 
 fn endbr_verb(found: &[Found<'_>]) -> Result<Verb, LineFault>
-    ensures made { result ≡ verb_in CommandWord.EndBr (entries found.now) }
-    ensures no_queue { IfOk result (λ verb. IsTrue (asks_no_queue verb)) }
+    ensures { result ≡ verb_in CommandWord.EndBr (entries found.now) }
 {
     match name8_of(found, OptionWord::File) {
         Some(file) => Ok(Verb::EndBr { file }),
@@ -212,9 +213,102 @@ fn endbr_verb(found: &[Found<'_>]) -> Result<Verb, LineFault>
     }
 }
 
+// The item that WRITEQ TS replaces.
+fn replaced(found: &[Found<'_>]) -> Result<Option<u64>, LineFault>
+    ensures { result ≡ replaced_in (entries found.now) }
+{
+    if !has_option(found, OptionWord::Rewrite) {
+        return Ok(None);
+    }
+    match needed_number_of(found, OptionWord::Item) {
+        Ok(item) => Ok(Some(item)),
+        Err(fault) => Err(fault),
+    }
+}
+
+fn writeq_ts_verb(alloc: Global, found: &[Found<'_>]) -> Result<Verb, LineFault>
+    ensures { Reads (verb_in CommandWord.WriteqTs (entries found.now)) result }
+{
+    let Some(queue) = name8_of(found, OptionWord::Queue) else {
+        return Err(LineFault::MissingOption);
+    };
+    let from = match text_of(alloc, found, OptionWord::From) {
+        Ok(from) => from,
+        Err(fault) => return Err(fault),
+    };
+    match replaced(found) {
+        Ok(item) => Ok(Verb::WriteqTs {
+            queue,
+            from,
+            length: number_of(found, OptionWord::Length),
+            item,
+        }),
+        Err(fault) => Err(fault),
+    }
+}
+
+fn readq_ts_verb(found: &[Found<'_>]) -> Result<Verb, LineFault>
+    ensures { result ≡ verb_in CommandWord.ReadqTs (entries found.now) }
+{
+    match name8_of(found, OptionWord::Queue) {
+        Some(queue) => Ok(Verb::ReadqTs {
+            queue,
+            length: number_of(found, OptionWord::Length),
+            item: number_of(found, OptionWord::Item),
+        }),
+        None => Err(LineFault::MissingOption),
+    }
+}
+
+fn deleteq_ts_verb(found: &[Found<'_>]) -> Result<Verb, LineFault>
+    ensures { result ≡ verb_in CommandWord.DeleteqTs (entries found.now) }
+{
+    match name8_of(found, OptionWord::Queue) {
+        Some(queue) => Ok(Verb::DeleteqTs { queue }),
+        None => Err(LineFault::MissingOption),
+    }
+}
+
+fn writeq_td_verb(alloc: Global, found: &[Found<'_>]) -> Result<Verb, LineFault>
+    ensures { Reads (verb_in CommandWord.WriteqTd (entries found.now)) result }
+{
+    let Some(queue) = name4_of(found, OptionWord::Queue) else {
+        return Err(LineFault::MissingOption);
+    };
+    match text_of(alloc, found, OptionWord::From) {
+        Ok(from) => Ok(Verb::WriteqTd {
+            queue,
+            from,
+            length: number_of(found, OptionWord::Length),
+        }),
+        Err(fault) => Err(fault),
+    }
+}
+
+fn readq_td_verb(found: &[Found<'_>]) -> Result<Verb, LineFault>
+    ensures { result ≡ verb_in CommandWord.ReadqTd (entries found.now) }
+{
+    match name4_of(found, OptionWord::Queue) {
+        Some(queue) => Ok(Verb::ReadqTd {
+            queue,
+            length: number_of(found, OptionWord::Length),
+            nosuspend: has_option(found, OptionWord::NoSuspend),
+        }),
+        None => Err(LineFault::MissingOption),
+    }
+}
+
+fn deleteq_td_verb(found: &[Found<'_>]) -> Result<Verb, LineFault>
+    ensures { result ≡ verb_in CommandWord.DeleteqTd (entries found.now) }
+{
+    match name4_of(found, OptionWord::Queue) {
+        Some(queue) => Ok(Verb::DeleteqTd { queue }),
+        None => Err(LineFault::MissingOption),
+    }
+}
+
 fn enq_verb(alloc: Global, found: &[Found<'_>]) -> Result<Verb, LineFault>
-    ensures made { Reads (verb_in CommandWord.Enq (entries found.now)) result }
-    ensures no_queue { IfOk result (λ verb. IsTrue (asks_no_queue verb)) }
+    ensures { Reads (verb_in CommandWord.Enq (entries found.now)) result }
 {
     match enqueued(alloc, found) {
         Ok((resource, length)) => Ok(Verb::Enq {
@@ -227,8 +321,7 @@ fn enq_verb(alloc: Global, found: &[Found<'_>]) -> Result<Verb, LineFault>
 }
 
 fn deq_verb(alloc: Global, found: &[Found<'_>]) -> Result<Verb, LineFault>
-    ensures made { Reads (verb_in CommandWord.Deq (entries found.now)) result }
-    ensures no_queue { IfOk result (λ verb. IsTrue (asks_no_queue verb)) }
+    ensures { Reads (verb_in CommandWord.Deq (entries found.now)) result }
 {
     match enqueued(alloc, found) {
         Ok((resource, length)) => Ok(Verb::Deq { resource, length }),
@@ -237,8 +330,7 @@ fn deq_verb(alloc: Global, found: &[Found<'_>]) -> Result<Verb, LineFault>
 }
 
 fn syncpoint_verb(found: &[Found<'_>]) -> Verb
-    ensures made { Ok result ≡ verb_in CommandWord.Syncpoint (entries found.now) }
-    ensures no_queue { IsTrue (asks_no_queue result) }
+    ensures { Ok result ≡ verb_in CommandWord.Syncpoint (entries found.now) }
 {
     if has_option(found, OptionWord::Rollback) {
         Verb::Rollback
@@ -249,8 +341,7 @@ fn syncpoint_verb(found: &[Found<'_>]) -> Verb
 
 /// What a command asks for, by its verb and its options.
 pub fn verb_of(alloc: Global, command: CommandWord, found: &[Found<'_>]) -> Result<Verb, LineFault>
-    ensures made { Reads (verb_in command (entries found.now)) result }
-    ensures no_queue { IfOk result (λ verb. IsTrue (asks_no_queue verb)) }
+    ensures { Reads (verb_in command (entries found.now)) result }
 {
     match command {
         CommandWord::Read => read_verb(alloc, found),
@@ -263,6 +354,12 @@ pub fn verb_of(alloc: Global, command: CommandWord, found: &[Found<'_>]) -> Resu
         CommandWord::ReadNext => readnext_verb(found),
         CommandWord::ReadPrev => readprev_verb(found),
         CommandWord::EndBr => endbr_verb(found),
+        CommandWord::WriteqTs => writeq_ts_verb(alloc, found),
+        CommandWord::ReadqTs => readq_ts_verb(found),
+        CommandWord::DeleteqTs => deleteq_ts_verb(found),
+        CommandWord::WriteqTd => writeq_td_verb(alloc, found),
+        CommandWord::ReadqTd => readq_td_verb(found),
+        CommandWord::DeleteqTd => deleteq_td_verb(found),
         CommandWord::Enq => enq_verb(alloc, found),
         CommandWord::Deq => deq_verb(alloc, found),
         CommandWord::Syncpoint => Ok(syncpoint_verb(found)),

@@ -5,10 +5,12 @@ ghost use Rattle.std.specs.List.{list_all};
 ghost use Rattle.cics_script.specs.Faults.{Reads};
 ghost use Rattle.cics_script.specs.Tokens.{capital, tokens, after_blanks, is_capital, is_digit};
 ghost use Rattle.cics_script.specs.Views.{entries, GivesWord, GivesNumber, GivesRest};
-ghost use Rattle.cics_script.specs.Lines.{recovery_in, definition_in, load_in, attach_in};
+ghost use Rattle.cics_script.specs.Lines.{recovery_in, queue_recovery_in, definition_in};
+ghost use Rattle.cics_script.specs.Lines.{load_in, attach_in};
 ghost use Rattle.cics_script.specs.Lines.{word_first, behind, label_in, define, load, attach};
-ghost use Rattle.cics_script.specs.Lines.{number_first, clock, command_line, issue, statement};
-ghost use Rattle.cics_script.specs.Lines.{is_script_byte, is_empty_or_comment, line, AsksNoQueue};
+ghost use Rattle.cics_script.specs.Lines.{number_first, clock, shutdown, command_at, issued};
+ghost use Rattle.cics_script.specs.Lines.{command_line, issue, statement};
+ghost use Rattle.cics_script.specs.Lines.{is_script_byte, is_empty_or_comment, line};
 
 use crate::commands::{is_handled, verb_of};
 use crate::faults::LineFault;
@@ -16,11 +18,12 @@ use crate::options::{Found, has_option, read_options};
 use crate::tokens::{Token, next_token, skip_blanks};
 use crate::values::{name4_of, name8_of, number_of, text_of};
 use crate::words::{
-    DefineObject, Form, LoadObject, OptionWord, Start, capital_of, command_named, define_object,
-    is_spelled, load_object, start_of,
+    CommandWord, DefineObject, Form, LoadObject, OptionWord, Start, capital_of, command_named,
+    define_object, is_spelled, load_object, queue_command, start_of,
 };
 use cics_ksds::FileDef;
 use cics_names::{Command, Name4, Name8, Record};
+use cics_transdata::Recovery;
 use std::alloc::{AllocError, Global};
 
 const LIMIT: usize = 70_000;
@@ -34,8 +37,14 @@ pub enum Line {
     Blank,
     /// To define a file. Whether its numbers make a file is not looked at here.
     DefineFile(Name8, FileDef),
+    /// To define a prefix: the temporary storage queues whose names begin with it are recoverable.
+    DefineTsPrefix(Name8),
+    /// To define a transient data queue.
+    DefineTd(Name4, Recovery),
     /// To load one record into a file, before there are tasks.
     LoadFile(Name8, Record),
+    /// To load one record into a transient data queue, before there are tasks.
+    LoadTd(Name4, Record),
     /// To attach a task with this label and transaction. `dtimout` is how many seconds of the clock
     /// a command of it may wait; 0 is no limit.
     Attach {
@@ -47,6 +56,8 @@ pub enum Line {
     Clock(u64),
     /// To issue a command of the task with this label.
     Issue(Name8, Command),
+    /// To end the region at once, each open unit of work backed out.
+    Shutdown,
 }
 
 // Whether a file is recoverable, where the line says it.
@@ -57,6 +68,21 @@ fn recovery_of(found: &[Found<'_>]) -> Option<bool>
         Some(true)
     } else if has_option(found, OptionWord::Unrecoverable) {
         Some(false)
+    } else {
+        None
+    }
+}
+
+// How far a transient data queue's changes are undone, where the line says it.
+fn queue_recovery_of(found: &[Found<'_>]) -> Option<Recovery>
+    ensures { result ≡ queue_recovery_in (entries found.now) }
+{
+    if has_option(found, OptionWord::Logical) {
+        Some(Recovery::Logical)
+    } else if has_option(found, OptionWord::Physical) {
+        Some(Recovery::Physical)
+    } else if has_option(found, OptionWord::Unrecovered) {
+        Some(Recovery::Unrecovered)
     } else {
         None
     }
@@ -83,6 +109,27 @@ fn file_definition(found: &[Found<'_>]) -> Result<Line, LineFault>
     Ok(Line::DefineFile(name, definition))
 }
 
+fn prefix_definition(found: &[Found<'_>]) -> Result<Line, LineFault>
+    ensures { result ≡ definition_in DefineObject.TsPrefix (entries found.now) }
+{
+    match name8_of(found, OptionWord::TsPrefix) {
+        Some(prefix) => Ok(Line::DefineTsPrefix(prefix)),
+        None => Err(LineFault::MissingOption),
+    }
+}
+
+fn queue_definition(found: &[Found<'_>]) -> Result<Line, LineFault>
+    ensures { result ≡ definition_in DefineObject.TdQueue (entries found.now) }
+{
+    let Some(name) = name4_of(found, OptionWord::TdQueue) else {
+        return Err(LineFault::MissingOption);
+    };
+    match queue_recovery_of(found) {
+        Some(recovery) => Ok(Line::DefineTd(name, recovery)),
+        None => Err(LineFault::MissingOption),
+    }
+}
+
 fn file_load(alloc: Global, found: &[Found<'_>]) -> Result<Line, LineFault>
     ensures { Reads (load_in LoadObject.File (entries found.now)) result }
 {
@@ -91,6 +138,18 @@ fn file_load(alloc: Global, found: &[Found<'_>]) -> Result<Line, LineFault>
     };
     match text_of(alloc, found, OptionWord::From) {
         Ok(record) => Ok(Line::LoadFile(name, record)),
+        Err(fault) => Err(fault),
+    }
+}
+
+fn queue_load(alloc: Global, found: &[Found<'_>]) -> Result<Line, LineFault>
+    ensures { Reads (load_in LoadObject.TdQueue (entries found.now)) result }
+{
+    let Some(name) = name4_of(found, OptionWord::TdQueue) else {
+        return Err(LineFault::MissingOption);
+    };
+    match text_of(alloc, found, OptionWord::From) {
+        Ok(record) => Ok(Line::LoadTd(name, record)),
         Err(fault) => Err(fault),
     }
 }
@@ -182,6 +241,8 @@ fn read_define(alloc: Global, bytes: &[u8]) -> Result<Line, LineFault>
     match read_options(alloc, Form::Define(object), bytes) {
         Ok(found) => match object {
             DefineObject::File => file_definition(&found),
+            DefineObject::TsPrefix => prefix_definition(&found),
+            DefineObject::TdQueue => queue_definition(&found),
         },
         Err(fault) => Err(fault),
     }
@@ -201,6 +262,7 @@ fn read_load(alloc: Global, bytes: &[u8]) -> Result<Line, LineFault>
     match read_options(alloc, Form::Load(object), bytes) {
         Ok(found) => match object {
             LoadObject::File => file_load(alloc, &found),
+            LoadObject::TdQueue => queue_load(alloc, &found),
         },
         Err(fault) => Err(fault),
     }
@@ -249,19 +311,43 @@ fn read_clock(alloc: Global, bytes: &[u8]) -> Result<Line, LineFault>
     }
 }
 
-// A command behind EXEC CICS.
-fn read_command(alloc: Global, label: Name8, bytes: &[u8]) -> Result<Line, LineFault>
-    ensures made { Reads (command_line label (tokens bytes.now)) result }
-    ensures no_queue { IfOk result AsksNoQueue }
+// A SHUTDOWN line behind its first word.
+fn read_shutdown(alloc: Global, bytes: &[u8]) -> Result<Line, LineFault>
+    ensures { Reads (shutdown (tokens bytes.now)) result }
 {
-    let (word, rest) = match first_word(bytes) {
-        Ok(first) => first,
+    let rest = match skip_word(bytes, b"IMMEDIATE") {
+        Ok(rest) => rest,
         Err(fault) => return Err(fault),
     };
-    let Some(command) = command_named(word) else {
-        return Err(LineFault::UnknownWord);
-    };
-    let found = match read_options(alloc, Form::Command(command), rest) {
+    match read_options(alloc, Form::Shutdown, rest) {
+        Ok(_) => Ok(Line::Shutdown),
+        Err(fault) => Err(fault),
+    }
+}
+
+// The command that a verb and the word right behind it are, and the line behind them.
+fn placed_command(verb: CommandWord, bytes: &[u8]) -> (CommandWord, &[u8])
+    ensures { command_at verb (tokens bytes.now) ≡ (result.0, tokens result.1.now) }
+{
+    match next_token(bytes) {
+        Ok(Some((Token::Word(word), rest))) => match queue_command(verb, word) {
+            Some(command) => (command, rest),
+            None => (verb, bytes),
+        },
+        _ => (verb, bytes),
+    }
+}
+
+// A command behind its verb, and behind TS or TD where it stands there.
+fn read_issued(
+    alloc: Global,
+    label: Name8,
+    command: CommandWord,
+    bytes: &[u8],
+) -> Result<Line, LineFault>
+    ensures { Reads (issued label (command, tokens bytes.now)) result }
+{
+    let found = match read_options(alloc, Form::Command(command), bytes) {
         Ok(found) => found,
         Err(fault) => return Err(fault),
     };
@@ -274,10 +360,24 @@ fn read_command(alloc: Global, label: Name8, bytes: &[u8]) -> Result<Line, LineF
     }
 }
 
+// A command behind EXEC CICS.
+fn read_command(alloc: Global, label: Name8, bytes: &[u8]) -> Result<Line, LineFault>
+    ensures { Reads (command_line label (tokens bytes.now)) result }
+{
+    let (word, rest) = match first_word(bytes) {
+        Ok(first) => first,
+        Err(fault) => return Err(fault),
+    };
+    let Some(verb) = command_named(word) else {
+        return Err(LineFault::UnknownWord);
+    };
+    let (command, behind) = placed_command(verb, rest);
+    read_issued(alloc, label, command, behind)
+}
+
 // The command of a task behind its label.
 fn read_issue(alloc: Global, label: Name8, bytes: &[u8]) -> Result<Line, LineFault>
-    ensures made { Reads (issue label (tokens bytes.now)) result }
-    ensures no_queue { IfOk result AsksNoQueue }
+    ensures { Reads (issue label (tokens bytes.now)) result }
 {
     let behind_exec = match skip_word(bytes, b"EXEC") {
         Ok(rest) => rest,
@@ -291,8 +391,7 @@ fn read_issue(alloc: Global, label: Name8, bytes: &[u8]) -> Result<Line, LineFau
 
 // A line that is neither blank nor a comment.
 fn read_statement(alloc: Global, bytes: &[u8]) -> Result<Line, LineFault>
-    ensures made { Reads (statement (tokens bytes.now)) result }
-    ensures no_queue { IfOk result AsksNoQueue }
+    ensures { Reads (statement (tokens bytes.now)) result }
 {
     let (word, rest) = match first_word(bytes) {
         Ok(first) => first,
@@ -303,7 +402,7 @@ fn read_statement(alloc: Global, bytes: &[u8]) -> Result<Line, LineFault>
         Some(Start::Load) => read_load(alloc, rest),
         Some(Start::Attach) => read_attach(alloc, rest),
         Some(Start::Clock) => read_clock(alloc, rest),
-        Some(Start::Reserved) => Err(LineFault::UnknownWord),
+        Some(Start::Shutdown) => read_shutdown(alloc, rest),
         None => match label_of(alloc, word) {
             Ok(label) => read_issue(alloc, label, rest),
             Err(fault) => Err(fault),
@@ -339,8 +438,7 @@ fn is_blank_line(bytes: &[u8]) -> bool
 /// a line of more than 70,000 bytes is `TooLong`, and then one with a byte that is neither a tab nor
 /// printable ASCII is `NotAscii`, before all others.
 pub fn read_line(alloc: Global, bytes: &[u8]) -> Result<Line, LineFault>
-    ensures line { Reads (line bytes.now) result }
-    ensures no_queue { IfOk result AsksNoQueue }
+    ensures { Reads (line bytes.now) result }
 {
     if bytes.len() > LIMIT {
         return Err(LineFault::TooLong);

@@ -4,7 +4,7 @@ ghost use Rattle.std.specs.Prelude.{◌≡◌, Ok, option_map};
 ghost use Rattle.cics_script.specs.Faults.{Reads};
 ghost use Rattle.cics_script.specs.Views.{content, entries};
 ghost use Rattle.cics_script.specs.Values.{content_at, text_at, name8_at, name4_at, amount_at};
-ghost use Rattle.cics_script.specs.Values.{needed};
+ghost use Rattle.cics_script.specs.Values.{needed, as_needed_amount};
 
 use crate::faults::LineFault;
 use crate::options::{Found, Value};
@@ -85,5 +85,17 @@ pub fn number_of(found: &[Found<'_>], option: OptionWord) -> Option<u64>
         Some(Value::Number(number)) => Some(*number),
         Some(_) => None,
         None => None,
+    }
+}
+
+/// The number of an option that may give anything: where the option isn't there, `MissingOption`, and
+/// where it gives something else, `BadNumber`.
+pub fn needed_number_of(found: &[Found<'_>], option: OptionWord) -> Result<u64, LineFault>
+    ensures { result ≡ as_needed_amount (content_at option (entries found.now)) }
+{
+    match value_at(found, option) {
+        Some(Value::Number(number)) => Ok(*number),
+        Some(_) => Err(LineFault::BadNumber),
+        None => Err(LineFault::MissingOption),
     }
 }

@@ -4,7 +4,7 @@ ghost use Rattle.std.specs.Prelude.{◌≡◌, ◌||◌, ◌&&◌, Option, Some,
 ghost use Rattle.std.specs.List.{list_any};
 ghost use Rattle.std.specs.Str.{bytes_eq};
 ghost use Rattle.cics_script.specs.Tokens.{capital};
-ghost use Rattle.cics_script.specs.Words.{lookup, starts, define_objects, load_objects, commands};
+ghost use Rattle.cics_script.specs.Words.{lookup, starts, define_objects, load_objects, commands, queue_words};
 ghost use Rattle.cics_script.specs.Words.{option_words, same, kind_among, kind_in};
 ghost use Rattle.cics_script.specs.Words.{options_of_command, is_pair_in, excludes};
 
@@ -15,23 +15,25 @@ pub enum Start {
     Load,
     Attach,
     Clock,
-    /// A word that begins no line yet and is no label.
-    Reserved,
+    Shutdown,
 }
 
 /// What a DEFINE line defines.
 #[derive(Clone, Copy, Debug, PartialEq, Eq)]
 pub enum DefineObject {
     File,
+    TsPrefix,
+    TdQueue,
 }
 
 /// What a LOAD line loads.
 #[derive(Clone, Copy, Debug, PartialEq, Eq)]
 pub enum LoadObject {
     File,
+    TdQueue,
 }
 
-/// The verb of a command.
+/// The verb of a command, with TS or TD where it acts on a queue.
 #[derive(Clone, Copy, Debug, PartialEq, Eq)]
 pub enum CommandWord {
     Read,
@@ -44,6 +46,12 @@ pub enum CommandWord {
     ReadNext,
     ReadPrev,
     EndBr,
+    WriteqTs,
+    ReadqTs,
+    DeleteqTs,
+    WriteqTd,
+    ReadqTd,
+    DeleteqTd,
     Enq,
     Deq,
     Syncpoint,
@@ -58,6 +66,7 @@ pub enum Form {
     Load(LoadObject),
     Attach,
     Clock,
+    Shutdown,
     Command(CommandWord),
 }
 
@@ -65,11 +74,17 @@ pub enum Form {
 #[derive(Clone, Copy, Debug, PartialEq, Eq)]
 pub enum OptionWord {
     File,
+    TsPrefix,
+    TdQueue,
     KeyLength,
     KeyOffset,
     RecordSize,
     Recoverable,
     Unrecoverable,
+    Logical,
+    Physical,
+    /// NONE of DEFINE TDQUEUE.
+    Unrecovered,
     From,
     Transid,
     Dtimout,
@@ -80,6 +95,13 @@ pub enum OptionWord {
     Equal,
     Gteq,
     Update,
+    NumRec,
+    Queue,
+    Item,
+    Next,
+    Rewrite,
+    Main,
+    Auxiliary,
     Resource,
     NoSuspend,
     Rollback,
@@ -116,20 +138,23 @@ static STARTS: [(&str, Start); 5] = [
     ("LOAD", Start::Load),
     ("ATTACH", Start::Attach),
     ("CLOCK", Start::Clock),
-    ("SHUTDOWN", Start::Reserved),
+    ("SHUTDOWN", Start::Shutdown),
 ];
 
-static DEFINE_OBJECTS: [(&str, DefineObject); 2] = [
+static DEFINE_OBJECTS: [(&str, DefineObject); 4] = [
     ("FILE", DefineObject::File),
     ("DATASET", DefineObject::File),
+    ("TSPREFIX", DefineObject::TsPrefix),
+    ("TDQUEUE", DefineObject::TdQueue),
 ];
 
-static LOAD_OBJECTS: [(&str, LoadObject); 2] = [
+static LOAD_OBJECTS: [(&str, LoadObject); 3] = [
     ("FILE", LoadObject::File),
     ("DATASET", LoadObject::File),
+    ("TDQUEUE", LoadObject::TdQueue),
 ];
 
-static COMMANDS: [(&str, CommandWord); 15] = [
+static COMMANDS: [(&str, CommandWord); 18] = [
     ("READ", CommandWord::Read),
     ("WRITE", CommandWord::Write),
     ("REWRITE", CommandWord::Rewrite),
@@ -140,6 +165,9 @@ static COMMANDS: [(&str, CommandWord); 15] = [
     ("READNEXT", CommandWord::ReadNext),
     ("READPREV", CommandWord::ReadPrev),
     ("ENDBR", CommandWord::EndBr),
+    ("WRITEQ", CommandWord::WriteqTs),
+    ("READQ", CommandWord::ReadqTs),
+    ("DELETEQ", CommandWord::DeleteqTs),
     ("ENQ", CommandWord::Enq),
     ("DEQ", CommandWord::Deq),
     ("SYNCPOINT", CommandWord::Syncpoint),
@@ -147,14 +175,34 @@ static COMMANDS: [(&str, CommandWord); 15] = [
     ("ABEND", CommandWord::Abend),
 ];
 
-static OPTION_WORDS: [(&str, OptionWord); 27] = [
+static WRITEQ_WORDS: [(&str, CommandWord); 2] = [
+    ("TS", CommandWord::WriteqTs),
+    ("TD", CommandWord::WriteqTd),
+];
+
+static READQ_WORDS: [(&str, CommandWord); 2] = [
+    ("TS", CommandWord::ReadqTs),
+    ("TD", CommandWord::ReadqTd),
+];
+
+static DELETEQ_WORDS: [(&str, CommandWord); 2] = [
+    ("TS", CommandWord::DeleteqTs),
+    ("TD", CommandWord::DeleteqTd),
+];
+
+static OPTION_WORDS: [(&str, OptionWord); 39] = [
     ("FILE", OptionWord::File),
     ("DATASET", OptionWord::File),
+    ("TSPREFIX", OptionWord::TsPrefix),
+    ("TDQUEUE", OptionWord::TdQueue),
     ("KEYLENGTH", OptionWord::KeyLength),
     ("KEYOFFSET", OptionWord::KeyOffset),
     ("RECORDSIZE", OptionWord::RecordSize),
     ("RECOVERABLE", OptionWord::Recoverable),
     ("UNRECOVERABLE", OptionWord::Unrecoverable),
+    ("LOGICAL", OptionWord::Logical),
+    ("PHYSICAL", OptionWord::Physical),
+    ("NONE", OptionWord::Unrecovered),
     ("FROM", OptionWord::From),
     ("TRANSID", OptionWord::Transid),
     ("DTIMOUT", OptionWord::Dtimout),
@@ -165,6 +213,13 @@ static OPTION_WORDS: [(&str, OptionWord); 27] = [
     ("EQUAL", OptionWord::Equal),
     ("GTEQ", OptionWord::Gteq),
     ("UPDATE", OptionWord::Update),
+    ("NUMREC", OptionWord::NumRec),
+    ("QUEUE", OptionWord::Queue),
+    ("ITEM", OptionWord::Item),
+    ("NEXT", OptionWord::Next),
+    ("REWRITE", OptionWord::Rewrite),
+    ("MAIN", OptionWord::Main),
+    ("AUXILIARY", OptionWord::Auxiliary),
     ("RESOURCE", OptionWord::Resource),
     ("NOSUSPEND", OptionWord::NoSuspend),
     ("ROLLBACK", OptionWord::Rollback),
@@ -186,8 +241,22 @@ static DEFINE_FILE: [(OptionWord, Kind); 6] = [
     (OptionWord::Unrecoverable, Kind::Flag),
 ];
 
+static DEFINE_TSPREFIX: [(OptionWord, Kind); 1] = [(OptionWord::TsPrefix, Kind::Name8)];
+
+static DEFINE_TDQUEUE: [(OptionWord, Kind); 4] = [
+    (OptionWord::TdQueue, Kind::Name4),
+    (OptionWord::Logical, Kind::Flag),
+    (OptionWord::Physical, Kind::Flag),
+    (OptionWord::Unrecovered, Kind::Flag),
+];
+
 static LOAD_FILE: [(OptionWord, Kind); 2] = [
     (OptionWord::File, Kind::Name8),
+    (OptionWord::From, Kind::Text),
+];
+
+static LOAD_TDQUEUE: [(OptionWord, Kind); 2] = [
+    (OptionWord::TdQueue, Kind::Name4),
     (OptionWord::From, Kind::Text),
 ];
 
@@ -222,10 +291,12 @@ static REWRITE: [(OptionWord, Kind); 3] = [
     (OptionWord::Length, Kind::Number),
 ];
 
-static DELETE: [(OptionWord, Kind); 3] = [
+static DELETE: [(OptionWord, Kind); 5] = [
     (OptionWord::File, Kind::Name8),
     (OptionWord::Ridfld, Kind::Text),
     (OptionWord::KeyLength, Kind::Number),
+    (OptionWord::Generic, Kind::Flag),
+    (OptionWord::NumRec, Kind::Area),
 ];
 
 static FILE_ALONE: [(OptionWord, Kind); 1] = [(OptionWord::File, Kind::Name8)];
@@ -245,6 +316,42 @@ static BROWSE_READ: [(OptionWord, Kind); 4] = [
     (OptionWord::Ridfld, Kind::Area),
     (OptionWord::Length, Kind::Number),
 ];
+
+static WRITEQ_TS: [(OptionWord, Kind); 8] = [
+    (OptionWord::Queue, Kind::Name8),
+    (OptionWord::From, Kind::Text),
+    (OptionWord::Length, Kind::Number),
+    (OptionWord::Item, Kind::Area),
+    (OptionWord::Rewrite, Kind::Flag),
+    (OptionWord::Main, Kind::Flag),
+    (OptionWord::Auxiliary, Kind::Flag),
+    (OptionWord::NoSuspend, Kind::Flag),
+];
+
+static READQ_TS: [(OptionWord, Kind); 5] = [
+    (OptionWord::Queue, Kind::Name8),
+    (OptionWord::Into, Kind::Area),
+    (OptionWord::Length, Kind::Number),
+    (OptionWord::Item, Kind::Number),
+    (OptionWord::Next, Kind::Flag),
+];
+
+static DELETEQ_TS: [(OptionWord, Kind); 1] = [(OptionWord::Queue, Kind::Name8)];
+
+static WRITEQ_TD: [(OptionWord, Kind); 3] = [
+    (OptionWord::Queue, Kind::Name4),
+    (OptionWord::From, Kind::Text),
+    (OptionWord::Length, Kind::Number),
+];
+
+static READQ_TD: [(OptionWord, Kind); 4] = [
+    (OptionWord::Queue, Kind::Name4),
+    (OptionWord::Into, Kind::Area),
+    (OptionWord::Length, Kind::Number),
+    (OptionWord::NoSuspend, Kind::Flag),
+];
+
+static DELETEQ_TD: [(OptionWord, Kind); 1] = [(OptionWord::Queue, Kind::Name4)];
 
 static ENQ: [(OptionWord, Kind); 3] = [
     (OptionWord::Resource, Kind::Text),
@@ -274,11 +381,16 @@ static EVERY_COMMAND: [(OptionWord, Kind); 4] = [
     (OptionWord::EndExec, Kind::Last),
 ];
 
-static EXCLUSIONS: [(OptionWord, OptionWord); 4] = [
+static EXCLUSIONS: [(OptionWord, OptionWord); 9] = [
     (OptionWord::Recoverable, OptionWord::Unrecoverable),
+    (OptionWord::Logical, OptionWord::Physical),
+    (OptionWord::Logical, OptionWord::Unrecovered),
+    (OptionWord::Physical, OptionWord::Unrecovered),
     (OptionWord::Equal, OptionWord::Gteq),
     (OptionWord::Update, OptionWord::Gteq),
     (OptionWord::Update, OptionWord::Generic),
+    (OptionWord::Item, OptionWord::Next),
+    (OptionWord::Main, OptionWord::Auxiliary),
 ];
 
 /// A letter's capital, and any other byte as it is.
@@ -349,6 +461,19 @@ pub fn command_named(word: &[u8]) -> Option<CommandWord>
     find_row(&COMMANDS, word)
 }
 
+/// What a verb is with this word right behind it, where the word may stand there: TS or TD behind one
+/// that acts on a queue, which is of temporary storage without them.
+pub fn queue_command(verb: CommandWord, word: &[u8]) -> Option<CommandWord>
+    ensures { result ≡ lookup (map capital word.now) (queue_words verb) }
+{
+    match verb {
+        CommandWord::WriteqTs => find_row(&WRITEQ_WORDS, word),
+        CommandWord::ReadqTs => find_row(&READQ_WORDS, word),
+        CommandWord::DeleteqTs => find_row(&DELETEQ_WORDS, word),
+        _ => None,
+    }
+}
+
 /// The option of this word, whatever the line.
 pub fn option_named(word: &[u8]) -> Option<OptionWord>
     ensures { result ≡ lookup (map capital word.now) option_words }
@@ -387,6 +512,12 @@ fn options_of(command: CommandWord) -> &'static [(OptionWord, Kind)]
         CommandWord::Unlock | CommandWord::EndBr => &FILE_ALONE,
         CommandWord::StartBr | CommandWord::ResetBr => &BROWSE_START,
         CommandWord::ReadNext | CommandWord::ReadPrev => &BROWSE_READ,
+        CommandWord::WriteqTs => &WRITEQ_TS,
+        CommandWord::ReadqTs => &READQ_TS,
+        CommandWord::DeleteqTs => &DELETEQ_TS,
+        CommandWord::WriteqTd => &WRITEQ_TD,
+        CommandWord::ReadqTd => &READQ_TD,
+        CommandWord::DeleteqTd => &DELETEQ_TD,
         CommandWord::Enq => &ENQ,
         CommandWord::Deq => &DEQ,
         CommandWord::Syncpoint => &SYNCPOINT,
@@ -401,9 +532,12 @@ pub fn kind_of(form: Form, option: OptionWord) -> Option<Kind>
 {
     match form {
         Form::Define(DefineObject::File) => find_kind(&DEFINE_FILE, option),
+        Form::Define(DefineObject::TsPrefix) => find_kind(&DEFINE_TSPREFIX, option),
+        Form::Define(DefineObject::TdQueue) => find_kind(&DEFINE_TDQUEUE, option),
         Form::Load(LoadObject::File) => find_kind(&LOAD_FILE, option),
+        Form::Load(LoadObject::TdQueue) => find_kind(&LOAD_TDQUEUE, option),
         Form::Attach => find_kind(&ATTACH, option),
-        Form::Clock => find_kind(&NO_OPTIONS, option),
+        Form::Clock | Form::Shutdown => find_kind(&NO_OPTIONS, option),
         Form::Command(command) => match find_kind(options_of(command), option) {
             Some(kind) => Some(kind),
             None => find_kind(&EVERY_COMMAND, option),
