@@ -113,12 +113,15 @@ fn delete_named(file: Name8, ridfld: Option<Record>, found: &[Found<'_>]) -> Res
     ensures { result ≡ delete_of file ridfld (entries found.now) }
 {
     match ridfld {
-        Some(key) => Ok(Verb::Delete {
-            file,
-            ridfld: Some(key),
-            key_length: number_of(found, OptionWord::KeyLength),
-            generic: has_option(found, OptionWord::Generic),
-        }),
+        Some(key) => {
+            let generic = has_option(found, OptionWord::Generic);
+            Ok(Verb::Delete {
+                file,
+                ridfld: Some(key),
+                key_length: number_of(found, OptionWord::KeyLength),
+                generic,
+            })
+        }
         None if has_key_option(found) => Err(LineFault::MissingOption),
         None => Ok(Verb::Delete {
             file,
