@@ -7,4 +7,5 @@ pub mod QueueRows
 pub mod Orders
 pub mod Layouts
 pub mod Written
+pub mod NamesBack
 pub mod Spelled

@@ -25,7 +25,7 @@ use Rattle.cics_script.specs.declared.lines.Line.{Line}
 use Rattle.cics_script.specs.declared.faults.LineFault.{LineFault}
 use Rattle.std.proofs.lemmas.Bool.{cases_Bool}
 use Rattle.cics_script.specs.declared.words.CommandWord.TheVariants as command
-use Rattle.cics_script.specs.Spelling.{Written, option_word, command_word, value_tokens, option_tokens, is_bare, IsValue, MayPrecede, IsWritten, AreOptions, AreApart, Stands, Gives, flag, options_of, word_of, AllGiven, Says, queue_tokens, verb_tokens}
+use Rattle.cics_script.specs.Spelling.{Written, option_word, command_word, value_tokens, option_tokens, is_bare, IsValue, MayPrecede, IsWritten, AreOptions, AreApart, Stands, Gives, flag, options_of, word_of, AllGiven, queue_tokens, verb_tokens, Spells}
 use Rattle.cics_script.proofs.OptionSteps.{reads-opening, reads-further}
 use lib.Chars.{codes}
 
@@ -474,12 +474,11 @@ made_of label first entries = verb_in first entries >>= λ made. Ok (Issue label
 
 -- the line of a command, as it is written
 pub command-written : (label : List ℕ) (asked : Command) (first : CommandWord) (left_out : Bool) (written : List Written) (entries : List Entry)
-    → word_of asked.verb ≡ Some first → AreOptions (Form.Command first) written entries → AreApart entries → Says asked entries
-    → command_line label (verb_tokens first left_out written) ≡ Ok (Issue label asked)
-command-written label asked first left_out written entries is are apart says =
+    → Spells asked first written entries → command_line label (verb_tokens first left_out written) ≡ Ok (Issue label asked)
+command-written label asked first left_out written entries spells =
     ap (λ found. known found >>= λ verb. issued label (command_at verb (queue_tokens first left_out ++ flat_map option_tokens written))) (sym (lookup-command_word first))
     ∙ ap (issued label) (command_at-written first left_out written)
-    ∙ ap (λ read. read >>= made_of label first) (options-written (Form.Command first) written entries are apart)
+    ∙ ap (λ read. read >>= made_of label first) (options-written (Form.Command first) written entries spells.are_options spells.are_apart)
     ∙ ap (λ made. made >>= λ made. Ok (Issue label (record { verb = made; resp = is_handled entries })))
-    (given-word (word_of asked.verb) first (λ first. verb_in first entries ≡ Ok asked.verb) is (verb_in-given entries apart asked.verb says.0))
-    ∙ ap (λ resp. Ok (Issue label (record { verb = asked.verb; resp = resp }))) says.1
+    (given-word (word_of asked.verb) first (λ first. verb_in first entries ≡ Ok asked.verb) spells.word (verb_in-given entries spells.are_apart asked.verb spells.says.0))
+    ∙ ap (λ resp. Ok (Issue label (record { verb = asked.verb; resp = resp }))) spells.says.1

@@ -1,5 +1,5 @@
 -- Each command has a spelling.
-use Rattle.std.proofs.Common.{◌≡◌, Bool, true, false, not, ◌&&◌, ◌||◌, ℕ, List, [], ◌∷◌, length, refl, sym, ◌∙◌, subst, arith, Option, Some, None, inl, inr}
+use Rattle.std.proofs.Common.{◌≡◌, ◌≤◌, Bool, true, false, not, ◌&&◌, ◌||◌, ℕ, List, [], ◌∷◌, length, map, refl, ap, sym, ◌∙◌, subst, arith, Option, Some, None, inl, inr}
 use Rattle.std.proofs.lemmas.Bool.Decides.{nat_tests}
 use Rattle.std.specs.Prelude.{◌⊎◌, Ok, Err, IsTrue, IfSome, nat_lt, if◌then◌else◌, is_some, option_map}
 use Rattle.std.specs.Option.{option_and_then}
@@ -10,7 +10,6 @@ use Rattle.cics_names.specs.declared.names.NameFault.TheVariants.{TooLong, BadCh
 use Rattle.cics_names.specs.declared.commands.Command.{Command}
 use Rattle.cics_names.specs.declared.commands.Verb.{Verb}
 use Rattle.cics_names.specs.declared.commands.Verb.TheVariants as verb
-use Rattle.cics_script.specs.declared.literals.Notation.TheVariants.{Quoted, Hexadecimal}
 use Rattle.cics_script.specs.declared.words.CommandWord.{CommandWord}
 use Rattle.cics_script.specs.declared.words.CommandWord.TheVariants as command
 use Rattle.cics_script.specs.declared.words.Form.{Form}
@@ -19,14 +18,18 @@ use Rattle.cics_script.specs.declared.words.OptionWord.{OptionWord}
 use Rattle.cics_script.specs.declared.words.OptionWord.TheVariants.{KeyLength, Length, Generic, Equal, Gteq, Update, Item, NoSuspend, AbCode, Resp, NoHandle}
 use Rattle.cics_script.specs.declared.words.Kind.{Kind}
 use Rattle.cics_script.specs.declared.words.Kind.TheVariants.{Flag, Text, Name8, Name4, Number, Area}
-use Rattle.cics_script.specs.Tokens.{Token, number, literal}
 use Rattle.cics_script.specs.Words.{same, excludes, kind_in}
 use Rattle.cics_script.specs.Options.{Content, text, name8, name4, amount, nothing, Entry}
 use Rattle.cics_script.specs.Values.{has}
-use Rattle.cics_script.specs.Layout.{IsWritable}
-use Rattle.cics_script.specs.Spelling.{Written, AreOptions, IsWritten, AreApart, flag, options_of, word_of, AllGiven, AreWritten, CanBeGiven, AllCanBeGiven, go_together, Spelling}
+use Rattle.cics_script.specs.Layout.{is_word, IsWritable, laid_out}
+use Rattle.cics_script.specs.Lines.{label_in, line}
+use Rattle.cics_script.specs.declared.lines.Line.TheVariants.{Issue}
+use Rattle.cics_script.specs.WrittenOut.{character, token_of, options_written, asked_of, written_with, written_out}
+use Rattle.cics_script.specs.Spelling.{Written, command_tokens, AreOptions, IsWritten, AreApart, flag, options_of, word_of, AllGiven, AreWritten, CanBeGiven, AllCanBeGiven, go_together, Spelling}
 use Rattle.cics_script.proofs.Layouts.{both_true}
 use Rattle.cics_script.proofs.Orders.{both_false, has-gives}
+use Rattle.cics_script.proofs.NamesBack.{name-back}
+use Rattle.cics_script.proofs.Written.{line-written}
 
 -- options, each with what it is to give, or with nothing
 abbrev Asked : Type 0
@@ -131,11 +134,10 @@ abbrev IsKind : Option Kind → Content → Type 0
 IsKind kind (amount n) = (kind ≡ Some Number) ⊎ (kind ≡ Some Area)
 IsKind kind content = kind ≡ Some (kind_giving content)
 
--- an option of a line that gives this, as it is written
+-- what an option gives, as it is written where a line takes this
 record Spelled (kind : Option Kind) (content : Content) : Type 0 where
-  value : Option Token
-  is_written : (others : List Written) → IsWritten kind value content others
-  is_writable : IfSome value IsWritable
+  is_written : (others : List Written) → IsWritten kind (token_of content) content others
+  is_writable : IfSome (token_of content) IsWritable
 
 known-both : (first : Option ℕ) (others : Option (List ℕ)) → is_some (option_and_then (λ code. option_map (λ codes. code ∷ codes) others) first) ≡ true
     → (is_some first ≡ true) × (is_some others ≡ true)
@@ -163,73 +165,49 @@ of_kind : (content : Content) (kind found : Option Kind) → found ≡ kind → 
 of_kind content kind found is spelled = subst (λ kind. Spelled kind content) (sym is) spelled
 
 spelled-content : (kind : Option Kind) (content : Content) → IsKind kind content → CanBeGiven content → Spelled kind content
-spelled-content kind (text bytes) is can =
-    of_kind (text bytes) (Some Text) kind is (record { value = Some (literal Hexadecimal bytes); is_written = λ others. (refl, tt); is_writable = can })
+spelled-content kind (text bytes) is can = of_kind (text bytes) (Some Text) kind is (record { is_written = λ others. (refl, tt); is_writable = can })
 spelled-content kind (name8 name) is can =
-    of_kind (name8 name) (Some Name8) kind is
-    (record { value = Some (literal Quoted can.0); is_written = λ others. (rw can.1 refl, tt); is_writable = name-known 8 can.0 name can.1 })
+    let back = name-back 8 name can in
+    of_kind (name8 name) (Some Name8) kind is (record { is_written = λ others. (rw back refl, tt); is_writable = name-known 8 (map character name) name back })
 spelled-content kind (name4 name) is can =
-    of_kind (name4 name) (Some Name4) kind is
-    (record { value = Some (literal Quoted can.0); is_written = λ others. (rw can.1 refl, tt); is_writable = name-known 4 can.0 name can.1 })
-spelled-content kind (amount n) (inl is) can =
-    of_kind (amount n) (Some Number) kind is (record { value = Some (number n); is_written = λ others. (refl, tt); is_writable = can })
-spelled-content kind (amount n) (inr is) can =
-    of_kind (amount n) (Some Area) kind is (record { value = Some (number n); is_written = λ others. (refl, tt); is_writable = can })
-spelled-content kind nothing is can =
-    of_kind nothing (Some Flag) kind is (record { value = None; is_written = λ others. ((refl, refl), tt); is_writable = tt })
+    let back = name-back 4 name can in
+    of_kind (name4 name) (Some Name4) kind is (record { is_written = λ others. (rw back refl, tt); is_writable = name-known 4 (map character name) name back })
+spelled-content kind (amount n) (inl is) can = of_kind (amount n) (Some Number) kind is (record { is_written = λ others. (refl, tt); is_writable = can })
+spelled-content kind (amount n) (inr is) can = of_kind (amount n) (Some Area) kind is (record { is_written = λ others. (refl, tt); is_writable = can })
+spelled-content kind nothing is can = of_kind nothing (Some Flag) kind is (record { is_written = λ others. ((refl, refl), tt); is_writable = tt })
 
 -- options of which each that gives something is of the kind that gives it
 abbrev AreOfKind : Form → Asked → Type 0
 AreOfKind line [] = Unit {0}
 AreOfKind line (row ∷ rows) = IfSome row.1 (IsKind (kind_in line row.0)) × AreOfKind line rows
 
--- options as they are written that give these
-record AllSpelled (line : Form) (entries : List Entry) : Type 0 where
-  options : List Written
-  are_options : AreOptions line options entries
-  are_written : AreWritten options
-
-all-spelled : (line : Form) (rows : Asked) → AreOfKind line rows → AllCanBeGiven rows → AllSpelled line (present rows)
-all-spelled line [] of_kind can = record { options = []; are_options = tt; are_written = tt }
+-- options as they are written give what they are to give
+all-spelled : (line : Form) (rows : Asked) → AreOfKind line rows → AllCanBeGiven rows
+    → AreOptions line (options_written rows) (present rows) × AreWritten (options_written rows)
+all-spelled line [] of_kind can = (tt, tt)
 all-spelled line ((option, None) ∷ rows) of_kind can = all-spelled line rows of_kind.1 can.1
 all-spelled line ((option, Some content) ∷ rows) of_kind can =
     let rest = all-spelled line rows of_kind.1 can.1 in
     let one = spelled-content (kind_in line option) content of_kind.0 can.0 in
-    record {
-      options = record { option = option; value = one.value } ∷ rest.options;
-      are_options = (refl, one.is_written rest.options, rest.are_options);
-      are_written = (one.is_writable, rest.are_written);
-    }
+    ((refl, one.is_written (options_written rows), rest.0), (one.is_writable, rest.1))
 
 -- ---- commands
-
--- the options of a command, with NOHANDLE where its conditions are handled
-abbrev asked_of : Command → Asked
-asked_of asked = (NoHandle, flag asked.resp) ∷ options_of asked.verb
 
 flag-given : (b : Bool) → IfSome (flag b) CanBeGiven
 flag-given true = tt
 flag-given false = tt
 
-spelling-of : (asked : Command) (first : CommandWord) → word_of asked.verb ≡ Some first → are_plain (asked_of asked) ≡ true
-    → list_any (λ later. same Resp later.0) (asked_of asked) ≡ false → AreOfKind (form.Command first) (asked_of asked) → AllCanBeGiven (options_of asked.verb)
-    → Spelling asked
-spelling-of asked first is apart other of_kind can =
-    let rows = asked_of asked in
-    let all = all-spelled (form.Command first) rows of_kind (flag-given asked.resp, can) in
-    let clear = apart-present rows apart in
-    let given = given-present rows apart in
-    let handled = has-gives (present rows) clear NoHandle asked.resp given.0 in
-    record {
-      first = first;
-      options = all.options;
-      entries = present rows;
-      word = is;
-      are_options = all.are_options;
-      are_apart = clear;
-      says = (given.1, rw (has-present Resp rows other) handled);
-      are_written = all.are_written;
-    }
+-- a command whose word takes its options
+record Fits (asked : Command) : Type 0 where
+  first : CommandWord
+  word : word_of asked.verb ≡ Some first
+  plain : are_plain (asked_of asked) ≡ true
+  other : list_any (λ later. same Resp later.0) (asked_of asked) ≡ false
+  of_kind : AreOfKind (form.Command first) (asked_of asked)
+
+fits-of : (asked : Command) (first : CommandWord) → word_of asked.verb ≡ Some first → are_plain (asked_of asked) ≡ true
+    → list_any (λ later. same Resp later.0) (asked_of asked) ≡ false → AreOfKind (form.Command first) (asked_of asked) → Fits asked
+fits-of asked first is apart other of_kind = record { first = first; word = is; plain = apart; other = other; of_kind = of_kind }
 
 module _ (P : Content → Type 0) where
   flags : (b : Bool) → P nothing → IfSome (flag b) P
@@ -262,80 +240,109 @@ read-plain resp file ridfld key_length length false true true together = let wro
 read-plain resp file ridfld key_length length false false false together = refl
 read-plain resp file ridfld key_length length false false true together = refl
 
--- each command whose options go together has a spelling
-pub spelling : (asked : Verb) (resp : Bool) → IsTrue (go_together asked) → AllCanBeGiven (options_of asked)
-    → Spelling (record { verb = asked; resp = resp })
-spelling (verb.Read file ridfld key_length length generic gteq update) resp together can =
-    spelling-of (record { verb = verb.Read file ridfld key_length length generic gteq update; resp = resp }) command.Read refl (read-plain resp file ridfld key_length length generic gteq update together) refl
-    (flags (OfKind (form.Command command.Read) NoHandle) resp refl, (refl, (refl, (amounts (OfKind (form.Command command.Read) KeyLength) key_length (λ x. inl refl), (amounts (OfKind (form.Command command.Read) Length) length (λ x. inl refl), (flags (OfKind (form.Command command.Read) Generic) generic refl, (flags (OfKind (form.Command command.Read) Gteq) gteq refl, (flags (OfKind (form.Command command.Read) Update) update refl, tt)))))))) can
-spelling (verb.Write file ridfld key_length from length) resp together can =
-    spelling-of (record { verb = verb.Write file ridfld key_length from length; resp = resp }) command.Write refl refl refl
-    (flags (OfKind (form.Command command.Write) NoHandle) resp refl, (refl, (refl, (amounts (OfKind (form.Command command.Write) KeyLength) key_length (λ x. inl refl), (refl, (amounts (OfKind (form.Command command.Write) Length) length (λ x. inl refl), tt)))))) can
-spelling (verb.Rewrite file from length) resp together can =
-    spelling-of (record { verb = verb.Rewrite file from length; resp = resp }) command.Rewrite refl refl refl
-    (flags (OfKind (form.Command command.Rewrite) NoHandle) resp refl, (refl, (refl, (amounts (OfKind (form.Command command.Rewrite) Length) length (λ x. inl refl), tt)))) can
-spelling (verb.Delete file None (Some key_length) generic) resp together can = let wrong : false ≡ true = together in cc
-spelling (verb.Delete file None None true) resp together can = let wrong : false ≡ true = together in cc
-spelling (verb.Delete file None None false) resp together can =
-    spelling-of (record { verb = verb.Delete file None None false; resp = resp }) command.Delete refl refl refl
-    (flags (OfKind (form.Command command.Delete) NoHandle) resp refl, (refl, (tt, (tt, (tt, (tt, tt)))))) can
-spelling (verb.Delete file (Some ridfld) key_length generic) resp together can =
-    spelling-of (record { verb = verb.Delete file (Some ridfld) key_length generic; resp = resp }) command.Delete refl refl refl
-    (flags (OfKind (form.Command command.Delete) NoHandle) resp refl, (refl, (refl, (amounts (OfKind (form.Command command.Delete) KeyLength) key_length (λ x. inl refl), (flags (OfKind (form.Command command.Delete) Generic) generic refl, tt))))) can
-spelling (verb.Unlock file) resp together can =
-    spelling-of (record { verb = verb.Unlock file; resp = resp }) command.Unlock refl refl refl
-    (flags (OfKind (form.Command command.Unlock) NoHandle) resp refl, (refl, tt)) can
-spelling (verb.StartBr file ridfld key_length generic equal) resp together can =
-    spelling-of (record { verb = verb.StartBr file ridfld key_length generic equal; resp = resp }) command.StartBr refl refl refl
-    (flags (OfKind (form.Command command.StartBr) NoHandle) resp refl, (refl, (refl, (amounts (OfKind (form.Command command.StartBr) KeyLength) key_length (λ x. inl refl), (flags (OfKind (form.Command command.StartBr) Generic) generic refl, (flags (OfKind (form.Command command.StartBr) Equal) equal refl, tt)))))) can
-spelling (verb.ResetBr file ridfld key_length generic equal) resp together can =
-    spelling-of (record { verb = verb.ResetBr file ridfld key_length generic equal; resp = resp }) command.ResetBr refl refl refl
-    (flags (OfKind (form.Command command.ResetBr) NoHandle) resp refl, (refl, (refl, (amounts (OfKind (form.Command command.ResetBr) KeyLength) key_length (λ x. inl refl), (flags (OfKind (form.Command command.ResetBr) Generic) generic refl, (flags (OfKind (form.Command command.ResetBr) Equal) equal refl, tt)))))) can
-spelling (verb.ReadNext file length) resp together can =
-    spelling-of (record { verb = verb.ReadNext file length; resp = resp }) command.ReadNext refl refl refl
-    (flags (OfKind (form.Command command.ReadNext) NoHandle) resp refl, (refl, (amounts (OfKind (form.Command command.ReadNext) Length) length (λ x. inl refl), tt))) can
-spelling (verb.ReadPrev file length) resp together can =
-    spelling-of (record { verb = verb.ReadPrev file length; resp = resp }) command.ReadPrev refl refl refl
-    (flags (OfKind (form.Command command.ReadPrev) NoHandle) resp refl, (refl, (amounts (OfKind (form.Command command.ReadPrev) Length) length (λ x. inl refl), tt))) can
-spelling (verb.EndBr file) resp together can =
-    spelling-of (record { verb = verb.EndBr file; resp = resp }) command.EndBr refl refl refl
-    (flags (OfKind (form.Command command.EndBr) NoHandle) resp refl, (refl, tt)) can
-spelling (verb.Enq resource length nosuspend) resp together can =
-    spelling-of (record { verb = verb.Enq resource length nosuspend; resp = resp }) command.Enq refl refl refl
-    (flags (OfKind (form.Command command.Enq) NoHandle) resp refl, (refl, (inl refl, (flags (OfKind (form.Command command.Enq) NoSuspend) nosuspend refl, tt)))) can
-spelling (verb.Deq resource length) resp together can =
-    spelling-of (record { verb = verb.Deq resource length; resp = resp }) command.Deq refl refl refl
-    (flags (OfKind (form.Command command.Deq) NoHandle) resp refl, (refl, (inl refl, tt))) can
-spelling verb.Syncpoint resp together can =
-    spelling-of (record { verb = verb.Syncpoint; resp = resp }) command.Syncpoint refl refl refl
-    (flags (OfKind (form.Command command.Syncpoint) NoHandle) resp refl, (tt, tt)) can
-spelling verb.Rollback resp together can =
-    spelling-of (record { verb = verb.Rollback; resp = resp }) command.Syncpoint refl refl refl
-    (flags (OfKind (form.Command command.Syncpoint) NoHandle) resp refl, (refl, tt)) can
-spelling verb.Return resp together can =
-    spelling-of (record { verb = verb.Return; resp = resp }) command.Return refl refl refl
-    (flags (OfKind (form.Command command.Return) NoHandle) resp refl, tt) can
-spelling (verb.Abend code) resp together can =
-    spelling-of (record { verb = verb.Abend code; resp = resp }) command.Abend refl refl refl
-    (flags (OfKind (form.Command command.Abend) NoHandle) resp refl, (name4s (OfKind (form.Command command.Abend) AbCode) code (λ x. refl), tt)) can
-spelling (verb.WriteqTs queue from length None) resp together can =
-    spelling-of (record { verb = verb.WriteqTs queue from length None; resp = resp }) command.WriteqTs refl refl refl
-    (flags (OfKind (form.Command command.WriteqTs) NoHandle) resp refl, (refl, (refl, (amounts (OfKind (form.Command command.WriteqTs) Length) length (λ x. inl refl), (tt, tt))))) can
-spelling (verb.WriteqTs queue from length (Some item)) resp together can =
-    spelling-of (record { verb = verb.WriteqTs queue from length (Some item); resp = resp }) command.WriteqTs refl refl refl
-    (flags (OfKind (form.Command command.WriteqTs) NoHandle) resp refl, (refl, (refl, (amounts (OfKind (form.Command command.WriteqTs) Length) length (λ x. inl refl), (refl, (inr refl, tt)))))) can
-spelling (verb.ReadqTs queue length item) resp together can =
-    spelling-of (record { verb = verb.ReadqTs queue length item; resp = resp }) command.ReadqTs refl refl refl
-    (flags (OfKind (form.Command command.ReadqTs) NoHandle) resp refl, (refl, (amounts (OfKind (form.Command command.ReadqTs) Length) length (λ x. inl refl), (amounts (OfKind (form.Command command.ReadqTs) Item) item (λ x. inl refl), tt)))) can
-spelling (verb.DeleteqTs queue) resp together can =
-    spelling-of (record { verb = verb.DeleteqTs queue; resp = resp }) command.DeleteqTs refl refl refl
-    (flags (OfKind (form.Command command.DeleteqTs) NoHandle) resp refl, (refl, tt)) can
-spelling (verb.WriteqTd queue from length) resp together can =
-    spelling-of (record { verb = verb.WriteqTd queue from length; resp = resp }) command.WriteqTd refl refl refl
-    (flags (OfKind (form.Command command.WriteqTd) NoHandle) resp refl, (refl, (refl, (amounts (OfKind (form.Command command.WriteqTd) Length) length (λ x. inl refl), tt)))) can
-spelling (verb.ReadqTd queue length nosuspend) resp together can =
-    spelling-of (record { verb = verb.ReadqTd queue length nosuspend; resp = resp }) command.ReadqTd refl refl refl
-    (flags (OfKind (form.Command command.ReadqTd) NoHandle) resp refl, (refl, (amounts (OfKind (form.Command command.ReadqTd) Length) length (λ x. inl refl), (flags (OfKind (form.Command command.ReadqTd) NoSuspend) nosuspend refl, tt)))) can
-spelling (verb.DeleteqTd queue) resp together can =
-    spelling-of (record { verb = verb.DeleteqTd queue; resp = resp }) command.DeleteqTd refl refl refl
-    (flags (OfKind (form.Command command.DeleteqTd) NoHandle) resp refl, (refl, tt)) can
+-- each command whose options go together has a word that takes them
+fits : (asked : Verb) (resp : Bool) → IsTrue (go_together asked) → Fits (record { verb = asked; resp = resp })
+fits (verb.Read file ridfld key_length length generic gteq update) resp together =
+    fits-of (record { verb = verb.Read file ridfld key_length length generic gteq update; resp = resp }) command.Read refl (read-plain resp file ridfld key_length length generic gteq update together) refl
+    (flags (OfKind (form.Command command.Read) NoHandle) resp refl, (refl, (refl, (amounts (OfKind (form.Command command.Read) KeyLength) key_length (λ x. inl refl), (amounts (OfKind (form.Command command.Read) Length) length (λ x. inl refl), (flags (OfKind (form.Command command.Read) Generic) generic refl, (flags (OfKind (form.Command command.Read) Gteq) gteq refl, (flags (OfKind (form.Command command.Read) Update) update refl, tt))))))))
+fits (verb.Write file ridfld key_length from length) resp together =
+    fits-of (record { verb = verb.Write file ridfld key_length from length; resp = resp }) command.Write refl refl refl
+    (flags (OfKind (form.Command command.Write) NoHandle) resp refl, (refl, (refl, (amounts (OfKind (form.Command command.Write) KeyLength) key_length (λ x. inl refl), (refl, (amounts (OfKind (form.Command command.Write) Length) length (λ x. inl refl), tt))))))
+fits (verb.Rewrite file from length) resp together =
+    fits-of (record { verb = verb.Rewrite file from length; resp = resp }) command.Rewrite refl refl refl
+    (flags (OfKind (form.Command command.Rewrite) NoHandle) resp refl, (refl, (refl, (amounts (OfKind (form.Command command.Rewrite) Length) length (λ x. inl refl), tt))))
+fits (verb.Delete file None (Some key_length) generic) resp together = let wrong : false ≡ true = together in cc
+fits (verb.Delete file None None true) resp together = let wrong : false ≡ true = together in cc
+fits (verb.Delete file None None false) resp together =
+    fits-of (record { verb = verb.Delete file None None false; resp = resp }) command.Delete refl refl refl
+    (flags (OfKind (form.Command command.Delete) NoHandle) resp refl, (refl, (tt, (tt, (tt, (tt, tt))))))
+fits (verb.Delete file (Some ridfld) key_length generic) resp together =
+    fits-of (record { verb = verb.Delete file (Some ridfld) key_length generic; resp = resp }) command.Delete refl refl refl
+    (flags (OfKind (form.Command command.Delete) NoHandle) resp refl, (refl, (refl, (amounts (OfKind (form.Command command.Delete) KeyLength) key_length (λ x. inl refl), (flags (OfKind (form.Command command.Delete) Generic) generic refl, tt)))))
+fits (verb.Unlock file) resp together =
+    fits-of (record { verb = verb.Unlock file; resp = resp }) command.Unlock refl refl refl
+    (flags (OfKind (form.Command command.Unlock) NoHandle) resp refl, (refl, tt))
+fits (verb.StartBr file ridfld key_length generic equal) resp together =
+    fits-of (record { verb = verb.StartBr file ridfld key_length generic equal; resp = resp }) command.StartBr refl refl refl
+    (flags (OfKind (form.Command command.StartBr) NoHandle) resp refl, (refl, (refl, (amounts (OfKind (form.Command command.StartBr) KeyLength) key_length (λ x. inl refl), (flags (OfKind (form.Command command.StartBr) Generic) generic refl, (flags (OfKind (form.Command command.StartBr) Equal) equal refl, tt))))))
+fits (verb.ResetBr file ridfld key_length generic equal) resp together =
+    fits-of (record { verb = verb.ResetBr file ridfld key_length generic equal; resp = resp }) command.ResetBr refl refl refl
+    (flags (OfKind (form.Command command.ResetBr) NoHandle) resp refl, (refl, (refl, (amounts (OfKind (form.Command command.ResetBr) KeyLength) key_length (λ x. inl refl), (flags (OfKind (form.Command command.ResetBr) Generic) generic refl, (flags (OfKind (form.Command command.ResetBr) Equal) equal refl, tt))))))
+fits (verb.ReadNext file length) resp together =
+    fits-of (record { verb = verb.ReadNext file length; resp = resp }) command.ReadNext refl refl refl
+    (flags (OfKind (form.Command command.ReadNext) NoHandle) resp refl, (refl, (amounts (OfKind (form.Command command.ReadNext) Length) length (λ x. inl refl), tt)))
+fits (verb.ReadPrev file length) resp together =
+    fits-of (record { verb = verb.ReadPrev file length; resp = resp }) command.ReadPrev refl refl refl
+    (flags (OfKind (form.Command command.ReadPrev) NoHandle) resp refl, (refl, (amounts (OfKind (form.Command command.ReadPrev) Length) length (λ x. inl refl), tt)))
+fits (verb.EndBr file) resp together =
+    fits-of (record { verb = verb.EndBr file; resp = resp }) command.EndBr refl refl refl
+    (flags (OfKind (form.Command command.EndBr) NoHandle) resp refl, (refl, tt))
+fits (verb.Enq resource length nosuspend) resp together =
+    fits-of (record { verb = verb.Enq resource length nosuspend; resp = resp }) command.Enq refl refl refl
+    (flags (OfKind (form.Command command.Enq) NoHandle) resp refl, (refl, (inl refl, (flags (OfKind (form.Command command.Enq) NoSuspend) nosuspend refl, tt))))
+fits (verb.Deq resource length) resp together =
+    fits-of (record { verb = verb.Deq resource length; resp = resp }) command.Deq refl refl refl
+    (flags (OfKind (form.Command command.Deq) NoHandle) resp refl, (refl, (inl refl, tt)))
+fits verb.Syncpoint resp together =
+    fits-of (record { verb = verb.Syncpoint; resp = resp }) command.Syncpoint refl refl refl
+    (flags (OfKind (form.Command command.Syncpoint) NoHandle) resp refl, (tt, tt))
+fits verb.Rollback resp together =
+    fits-of (record { verb = verb.Rollback; resp = resp }) command.Syncpoint refl refl refl
+    (flags (OfKind (form.Command command.Syncpoint) NoHandle) resp refl, (refl, tt))
+fits verb.Return resp together =
+    fits-of (record { verb = verb.Return; resp = resp }) command.Return refl refl refl
+    (flags (OfKind (form.Command command.Return) NoHandle) resp refl, tt)
+fits (verb.Abend code) resp together =
+    fits-of (record { verb = verb.Abend code; resp = resp }) command.Abend refl refl refl
+    (flags (OfKind (form.Command command.Abend) NoHandle) resp refl, (name4s (OfKind (form.Command command.Abend) AbCode) code (λ x. refl), tt))
+fits (verb.WriteqTs queue from length None) resp together =
+    fits-of (record { verb = verb.WriteqTs queue from length None; resp = resp }) command.WriteqTs refl refl refl
+    (flags (OfKind (form.Command command.WriteqTs) NoHandle) resp refl, (refl, (refl, (amounts (OfKind (form.Command command.WriteqTs) Length) length (λ x. inl refl), (tt, tt)))))
+fits (verb.WriteqTs queue from length (Some item)) resp together =
+    fits-of (record { verb = verb.WriteqTs queue from length (Some item); resp = resp }) command.WriteqTs refl refl refl
+    (flags (OfKind (form.Command command.WriteqTs) NoHandle) resp refl, (refl, (refl, (amounts (OfKind (form.Command command.WriteqTs) Length) length (λ x. inl refl), (refl, (inr refl, tt))))))
+fits (verb.ReadqTs queue length item) resp together =
+    fits-of (record { verb = verb.ReadqTs queue length item; resp = resp }) command.ReadqTs refl refl refl
+    (flags (OfKind (form.Command command.ReadqTs) NoHandle) resp refl, (refl, (amounts (OfKind (form.Command command.ReadqTs) Length) length (λ x. inl refl), (amounts (OfKind (form.Command command.ReadqTs) Item) item (λ x. inl refl), tt))))
+fits (verb.DeleteqTs queue) resp together =
+    fits-of (record { verb = verb.DeleteqTs queue; resp = resp }) command.DeleteqTs refl refl refl
+    (flags (OfKind (form.Command command.DeleteqTs) NoHandle) resp refl, (refl, tt))
+fits (verb.WriteqTd queue from length) resp together =
+    fits-of (record { verb = verb.WriteqTd queue from length; resp = resp }) command.WriteqTd refl refl refl
+    (flags (OfKind (form.Command command.WriteqTd) NoHandle) resp refl, (refl, (refl, (amounts (OfKind (form.Command command.WriteqTd) Length) length (λ x. inl refl), tt))))
+fits (verb.ReadqTd queue length nosuspend) resp together =
+    fits-of (record { verb = verb.ReadqTd queue length nosuspend; resp = resp }) command.ReadqTd refl refl refl
+    (flags (OfKind (form.Command command.ReadqTd) NoHandle) resp refl, (refl, (amounts (OfKind (form.Command command.ReadqTd) Length) length (λ x. inl refl), (flags (OfKind (form.Command command.ReadqTd) NoSuspend) nosuspend refl, tt))))
+fits (verb.DeleteqTd queue) resp together =
+    fits-of (record { verb = verb.DeleteqTd queue; resp = resp }) command.DeleteqTd refl refl refl
+    (flags (OfKind (form.Command command.DeleteqTd) NoHandle) resp refl, (refl, tt))
+
+-- and has a spelling
+pub spelling : (asked : Command) → IsTrue (go_together asked.verb) → AllCanBeGiven (options_of asked.verb) → Spelling asked
+spelling asked together can =
+    let fit = fits asked.verb asked.resp together in
+    let rows = asked_of asked in
+    let all = all-spelled (form.Command fit.first) rows fit.of_kind (flag-given asked.resp, can) in
+    let clear = apart-present rows fit.plain in
+    let given = given-present rows fit.plain in
+    let handled = has-gives (present rows) clear NoHandle asked.resp given.0 in
+    record {
+      first = fit.first;
+      options = options_written rows;
+      entries = present rows;
+      spells = record { word = fit.word; are_options = all.0; are_apart = clear; says = (given.1, rw (has-present Resp rows fit.other) handled) };
+      are_written = all.1;
+    }
+
+-- a command that is written out is read back
+pub written-back : (label padded : List ℕ) (asked : Command) → IsTrue (is_word label) → label_in label ≡ Ok padded
+    → IsTrue (go_together asked.verb) → AllCanBeGiven (options_of asked.verb) → length (written_out label asked) ≤ 70000
+    → line (written_out label asked) ≡ Ok (Issue padded asked)
+unfolding spelling
+written-back label padded asked labelled is_label together can short =
+    let spelled = spelling asked together can in
+    let same_bytes : written_out label asked ≡ laid_out (command_tokens label spelled.first false spelled.options) =
+    ap (written_with label (options_written (asked_of asked))) spelled.spells.word in
+    ap line same_bytes
+    ∙ line-written label padded asked spelled.first false spelled.options spelled.entries labelled is_label spelled.spells spelled.are_written
+    (subst (λ bytes. length bytes ≤ 70000) same_bytes short)

@@ -10,7 +10,6 @@ use Rattle.cics_script.specs.declared.lines.Line.TheVariants.{Blank, Issue}
 use Rattle.cics_script.specs.declared.words.Start.{Start}
 use Rattle.cics_script.specs.declared.words.CommandWord.{CommandWord}
 use Rattle.cics_script.specs.declared.words.CommandWord.TheVariants as command
-use Rattle.cics_script.specs.declared.words.Form.TheVariants as form
 use Rattle.cics_script.specs.declared.words.OptionWord.{OptionWord}
 use Rattle.cics_script.specs.declared.words.OptionWord.TheVariants.{File, TsPrefix, TdQueue, KeyLength, KeyOffset, RecordSize, Recoverable, Unrecoverable, Logical, Physical, Unrecovered, From, Transid, Dtimout, Ridfld, Length, Into, Generic, Equal, Gteq, Update, NumRec, Queue, Item, Next, Rewrite, Main, Auxiliary, Resource, NoSuspend, Rollback, AbCode, Cancel, NoDump, Resp, Resp2, NoHandle, EndExec}
 use Rattle.cics_script.specs.Faults.{◌>>=◌}
@@ -19,7 +18,7 @@ use Rattle.cics_script.specs.Words.{lookup, starts}
 use Rattle.cics_script.specs.Options.{Entry}
 use Rattle.cics_script.specs.Lines.{is_script_byte, is_empty_or_comment, label_in, begun, issue, statement, line}
 use Rattle.cics_script.specs.Layout.{is_word, IsWritable, AreWritable, laid_out}
-use Rattle.cics_script.specs.Spelling.{Written, option_word, command_word, value_tokens, option_tokens, queue_tokens, verb_tokens, command_tokens, word_of, AreOptions, AreApart, Says, AreWritten}
+use Rattle.cics_script.specs.Spelling.{Written, option_word, command_word, value_tokens, option_tokens, queue_tokens, verb_tokens, command_tokens, AreWritten, Spells}
 use Rattle.cics_script.proofs.Layouts.{if-false, tokens-laid_out, script-laid_out, no_comment-word}
 use Rattle.cics_script.proofs.Orders.{command-written}
 use lib.Chars.{codes}
@@ -139,11 +138,10 @@ writable-queue command.Return left_out rest others = others
 writable-queue command.Abend left_out rest others = others
 
 pub line-written : (label padded : List ℕ) (asked : Command) (first : CommandWord) (left_out : Bool) (written : List Written) (entries : List Entry)
-    → IsTrue (is_word label) → label_in label ≡ Ok padded → word_of asked.verb ≡ Some first
-    → AreOptions (form.Command first) written entries → AreApart entries → Says asked entries → AreWritten written
+    → IsTrue (is_word label) → label_in label ≡ Ok padded → Spells asked first written entries → AreWritten written
     → length (laid_out (command_tokens label first left_out written)) ≤ 70000
     → line (laid_out (command_tokens label first left_out written)) ≡ Ok (Issue padded asked)
-line-written label padded asked first left_out written entries labelled is_label is are apart says can short =
+line-written label padded asked first left_out written entries labelled is_label spells can short =
     let whole = command_tokens label first left_out written in
     let rest = word (codes "CICS") ∷ verb_tokens first left_out written in
     let options = writable-queue first left_out (flat_map option_tokens written) (writable-options written can) in
@@ -153,4 +151,4 @@ line-written label padded asked first left_out written entries labelled is_label
     ∙ ap statement (tokens-laid_out whole writable)
     ∙ ap (λ found. begun found label behind_label) (known-label (lookup label starts) _ padded is_label)
     ∙ ap (λ found. found >>= λ padded. issue padded behind_label) is_label
-    ∙ command-written padded asked first left_out written entries is are apart says
+    ∙ command-written padded asked first left_out written entries spells

@@ -9,3 +9,4 @@ pub mod Commands
 pub mod Lines
 pub mod Layout
 pub mod Spelling
+pub mod WrittenOut

@@ -278,13 +278,17 @@ go_together (verb.Read file ridfld key_length length generic gteq update) = not 
 go_together (verb.Delete file None key_length generic) = not (is_some key_length || generic)
 go_together _ = true
 
--- the options of a command, as they are written and as they are read, that make a line of it
+-- options, as they are written and as they are read, that say a command behind its word
+pub record Spells (asked : Command) (first : CommandWord) (written : List Written) (entries : List Entry) : Type 0 where
+  pub word : word_of asked.verb ≡ Some first
+  pub are_options : AreOptions (form.Command first) written entries
+  pub are_apart : AreApart entries
+  pub says : Says asked entries
+
+-- options that say a command, and that can be written
 pub record Spelling (asked : Command) : Type 0 where
   pub first : CommandWord
   pub options : List Written
   pub entries : List Entry
-  pub word : word_of asked.verb ≡ Some first
-  pub are_options : AreOptions (form.Command first) options entries
-  pub are_apart : AreApart entries
-  pub says : Says asked entries
+  pub spells : Spells asked first options entries
   pub are_written : AreWritten options

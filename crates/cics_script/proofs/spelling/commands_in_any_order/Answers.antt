@@ -1,6 +1,6 @@
 use Rattle.cics_script.proofs.Orders.{command-written}
 use Rattle.cics_script.proofs.Written.{line-written}
-use Rattle.cics_script.proofs.Spelled.{spelling}
+use Rattle.cics_script.proofs.Spelled.{spelling, written-back}
 use Rattle.cics_script.proofs.spelling.commands_in_any_order.Goals as goal
 
 pub returns-clause-read : goal.returns-clause-read
@@ -11,3 +11,6 @@ returns-clause-bytes c = line-written
 
 pub returns-clause-each : goal.returns-clause-each
 returns-clause-each c = spelling
+
+pub returns-clause-back : goal.returns-clause-back
+returns-clause-back c = written-back
