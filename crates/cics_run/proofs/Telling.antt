@@ -5,7 +5,7 @@ use Rattle.cics_dispatch.specs.Machine.{RegionValue}
 use Rattle.cics_dispatch.specs.Steps.{Stepped}
 use Rattle.cics_dispatch.specs.Answers.{IsStep}
 use Rattle.cics_dispatch.specs.declared.outcomes.Refused.{Refused}
-use Rattle.cics_dispatch.specs.declared.outcomes.Refused.TheVariants.{NoMemory, NoTask, TaskWaiting, TaskEnded, DuplicateLabel, ClockBack}
+use Rattle.cics_dispatch.specs.declared.outcomes.Refused.TheVariants.{NoMemory, NoTask, TaskWaiting, TaskEnded, DuplicateLabel, ClockBack, RegionDown}
 use Rattle.cics_run.specs.Stages.{answered, event, told_line, IsAnswered, Happens}
 
 -- the lines of an event's answers, for a machine and the step that the event is of it
@@ -22,6 +22,7 @@ module _ {X : Type 0} (answer : X → List ℕ) (refusal : Refused → List ℕ)
   answered-event (Err TaskEnded) (is, kept) all = refused TaskEnded is kept
   answered-event (Err DuplicateLabel) (is, kept) all = refused DuplicateLabel is kept
   answered-event (Err ClockBack) (is, kept) all = refused ClockBack is kept
+  answered-event (Err RegionDown) (is, kept) all = refused RegionDown is kept
 
   -- what happens behind the event's line is what its step says
   pub happens-answered : {E : Type 0} (r : Result X Refused) (region : RegionValue) (before now : List ℕ) (result : Result (Unit {0}) E) → IsStep wants old s r new → IsAnswered r

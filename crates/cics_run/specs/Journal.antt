@@ -4,8 +4,9 @@ use Rattle.std.specs.Fmt.{decimal}
 use Rattle.cics_names.specs.Conditions.{number_of, title_of}
 use Rattle.cics_names.specs.declared.conditions.Condition.{Condition}
 use Rattle.cics_names.specs.declared.conditions.AbendCode.{AbendCode}
+use Rattle.cics_dispatch.specs.Refusals.{refusal_number}
 use Rattle.cics_dispatch.specs.declared.outcomes.Number.{Number}
-use Rattle.cics_dispatch.specs.declared.outcomes.Number.TheVariants.{Item}
+use Rattle.cics_dispatch.specs.declared.outcomes.Number.TheVariants.{Item, Numrec}
 use Rattle.cics_dispatch.specs.declared.outcomes.Reply.{Reply}
 use Rattle.cics_dispatch.specs.declared.outcomes.Outcome.{Outcome}
 use Rattle.cics_dispatch.specs.declared.outcomes.Outcome.TheVariants.{Replied, Waiting, Abended, Ended}
@@ -40,6 +41,7 @@ part title (Some bytes) = title ++ text_of bytes
 abbrev pub number_part : Option Number → List ℕ
 number_part None = []
 number_part (Some (Item n)) = codes " ITEM " ++ decimal n
+number_part (Some (Numrec n)) = codes " NUMREC " ++ decimal n
 
 -- A reply is the condition, then what it carries: key, number, content.
 abbrev pub reply_text : Reply → List ℕ
@@ -83,15 +85,6 @@ expired_line expired = task_line expired.label (abend_text expired.code None)
 abbrev pub clock_line : ℕ → List ℕ
 clock_line now = line (codes "CLOCK " ++ decimal now)
 
--- the numbers of the refusals
-abbrev pub refusal_number : Refused → ℕ
-refusal_number refused.NoMemory = 1
-refusal_number refused.NoTask = 2
-refusal_number refused.TaskWaiting = 3
-refusal_number refused.TaskEnded = 4
-refusal_number refused.DuplicateLabel = 5
-refusal_number refused.ClockBack = 6
-
 -- the names of the refusals
 abbrev pub refusal_title : Refused → List ℕ
 refusal_title refused.NoMemory = codes "NoMemory"
@@ -100,6 +93,7 @@ refusal_title refused.TaskWaiting = codes "TaskWaiting"
 refusal_title refused.TaskEnded = codes "TaskEnded"
 refusal_title refused.DuplicateLabel = codes "DuplicateLabel"
 refusal_title refused.ClockBack = codes "ClockBack"
+refusal_title refused.RegionDown = codes "RegionDown"
 
 -- a refusal, with its number
 abbrev pub refusal_text : Refused → List ℕ
@@ -112,6 +106,14 @@ refused_line label refusal = task_line label (refusal_text refusal)
 -- a setting of the clock was refused
 abbrev pub clock_refused_line : Refused → List ℕ
 clock_refused_line refusal = line (codes "CLOCK " ++ refusal_text refusal)
+
+-- the region was shut down, and so many units of work were backed out
+abbrev pub shutdown_line : ℕ → List ℕ
+shutdown_line units = line (codes "SHUTDOWN " ++ decimal units)
+
+-- a shutdown was refused
+abbrev pub shutdown_refused_line : Refused → List ℕ
+shutdown_refused_line refusal = line (codes "SHUTDOWN " ++ refusal_text refusal)
 
 -- the numbers of the faults of definitions
 abbrev pub define_number : DefineFault → ℕ

@@ -1,23 +1,25 @@
 -- What the lines of a script lead to: at first to definitions, and from the first line that is none to a region.
 use Rattle.std.specs.Prelude.{◌≡◌, ℕ, Bool, true, false, List, [], ◌++◌, length, Option, Some, None, Result, Ok, Err, MatchResult, OnOk}
-use Rattle.cics_names.specs.Keyed.{Bytes, value_at}
+use Rattle.cics_names.specs.Keyed.{Bytes, value_at, has_key, is_key_in}
+use Rattle.cics_transdata.specs.declared.queues.Recovery.{Recovery}
 use Rattle.cics_ksds.specs.declared.definition.FileDef.{FileDef}
-use Rattle.cics_history.specs.Openings.{OpeningState, nothing_defined, with_file, with_record}
-use Rattle.cics_units.specs.Faults.{file_fault, load_fault}
+use Rattle.cics_history.specs.Openings.{OpeningState, nothing_defined, with_file, with_record, with_prefix, with_queue, with_td_record}
+use Rattle.cics_units.specs.Faults.{file_fault, load_fault, load_td_fault, fault_if}
 use Rattle.cics_units.specs.declared.opening.DefineFault.{DefineFault}
 use Rattle.cics_dispatch.specs.Machine.{Machine, RegionValue, beginning_region}
 use Rattle.cics_dispatch.specs.Steps.{attached, issued}
 use Rattle.cics_dispatch.specs.Waking.{clock_set}
+use Rattle.cics_dispatch.specs.Shutdown.{unless_down, shut_down}
 use Rattle.cics_dispatch.specs.Answers.{region_listing, replayed_listing}
 use Rattle.cics_names.specs.declared.commands.Command.{Command}
 use Rattle.cics_dispatch.specs.declared.outcomes.Refused.{Refused}
 use Rattle.cics_dispatch.specs.declared.outcomes.Refused.TheVariants.{NoMemory}
 use Rattle.cics_script.specs.Lines.{line}
 use Rattle.cics_script.specs.declared.lines.Line.{Line}
-use Rattle.cics_script.specs.declared.lines.Line.TheVariants.{Blank, DefineFile, LoadFile, Attach, Clock, Issue}
+use Rattle.cics_script.specs.declared.lines.Line.TheVariants.{Blank, DefineFile, DefineTsPrefix, DefineTd, LoadFile, LoadTd, Attach, Clock, Issue, Shutdown}
 use Rattle.cics_script.specs.declared.faults.LineFault.{LineFault}
 use Rattle.cics_script.specs.declared.faults.LineFault.TheVariants.{DefineTooLate}
-use Rattle.cics_run.specs.Journal.{attached_line, outcome_line, refused_line, clock_line, clock_refused_line, line_fault_line, define_fault_line}
+use Rattle.cics_run.specs.Journal.{attached_line, outcome_line, refused_line, clock_line, clock_refused_line, shutdown_line, shutdown_refused_line, line_fault_line, define_fault_line}
 use Rattle.cics_run.specs.Listings.{listing_text, replay_text}
 use Rattle.cics_run.specs.Settling.{region_at, Settled, settled}
 use Rattle.cics_run.specs.declared.stage.Stage.{Stage}
@@ -60,10 +62,25 @@ abbrev pub file_defined : ℕ → Stage → Bytes → FileDef → Step
 file_defined number (Opening o) name d = defined number o (file_fault o name d) (with_file o name d)
 file_defined number (Running r) name d = too_late number r
 
+-- DEFINE TSPREFIX
+abbrev pub prefix_defined : ℕ → Stage → Bytes → Step
+prefix_defined number (Opening o) prefix = defined number o (fault_if (is_key_in prefix o.prefixes)) (with_prefix o prefix)
+prefix_defined number (Running r) prefix = too_late number r
+
+-- DEFINE TDQUEUE
+abbrev pub queue_defined : ℕ → Stage → Bytes → Recovery → Step
+queue_defined number (Opening o) name recovery = defined number o (fault_if (has_key name o.queues)) (with_queue o name recovery)
+queue_defined number (Running r) name recovery = too_late number r
+
 -- LOAD FILE
 abbrev pub file_loaded : ℕ → Stage → Bytes → Bytes → Step
 file_loaded number (Opening o) name content = defined number o (load_fault (value_at name o.files) content) (with_record o name content)
 file_loaded number (Running r) name content = too_late number r
+
+-- LOAD TDQUEUE
+abbrev pub queue_loaded : ℕ → Stage → Bytes → Bytes → Step
+queue_loaded number (Opening o) name content = defined number o (load_td_fault (value_at name o.queues) content) (with_td_record o name content)
+queue_loaded number (Running r) name content = too_late number r
 
 -- the line of an event, and then what the region prints while it settles
 abbrev pub told : List ℕ → Settled → Step
@@ -91,24 +108,32 @@ answered m answer refusal (Err e) next = event (refusal e) m
 -- ATTACH
 abbrev pub task_attached : Machine → Bytes → Bytes → ℕ → Step
 task_attached m label transaction dtimout =
-    let s = attached m label dtimout in answered m (λ _. attached_line label transaction) (refused_line label) s.outcome s.machine
+    let s = unless_down m (attached m label dtimout) in answered m (λ _. attached_line label transaction) (refused_line label) s.outcome s.machine
 
 -- CLOCK
 abbrev pub clock_moved : Machine → ℕ → Step
-clock_moved m seconds = let s = clock_set m seconds in answered m (λ _. clock_line seconds) clock_refused_line s.outcome s.machine
+clock_moved m seconds = let s = unless_down m (clock_set m seconds) in answered m (λ _. clock_line seconds) clock_refused_line s.outcome s.machine
 
 -- a command of a task
 abbrev pub command_issued : Machine → Bytes → Command → Step
-command_issued m label command = let s = issued m label command in answered m (outcome_line label) (refused_line label) s.outcome s.machine
+command_issued m label command = let s = unless_down m (issued m label command) in answered m (outcome_line label) (refused_line label) s.outcome s.machine
+
+-- SHUTDOWN IMMEDIATE
+abbrev pub region_shut : Machine → Step
+region_shut m = let s = unless_down m (shut_down m) in answered m shutdown_line shutdown_refused_line s.outcome s.machine
 
 -- a line that was read. The first one that is neither blank nor a definition makes the region
 abbrev pub followed : ℕ → Stage → Result Line LineFault → Step
 followed number stage (Ok Blank) = silent stage
 followed number stage (Ok (DefineFile name d)) = file_defined number stage name d
+followed number stage (Ok (DefineTsPrefix prefix)) = prefix_defined number stage prefix
+followed number stage (Ok (DefineTd name recovery)) = queue_defined number stage name recovery
 followed number stage (Ok (LoadFile name content)) = file_loaded number stage name content
+followed number stage (Ok (LoadTd name content)) = queue_loaded number stage name content
 followed number stage (Ok (Attach label transaction dtimout)) = task_attached (region_of stage).machine label transaction dtimout
 followed number stage (Ok (Clock seconds)) = clock_moved (region_of stage).machine seconds
 followed number stage (Ok (Issue label command)) = command_issued (region_of stage).machine label command
+followed number stage (Ok Shutdown) = region_shut (region_of stage).machine
 followed number stage (Err fault) = faulty stage (line_fault_line number fault)
 
 -- the bytes of a line, whose number is given

@@ -3,9 +3,9 @@
 ghost use Rattle.std.specs.Prelude.{◌≡◌, ◌++◌, OnOk, codes};
 ghost use Rattle.cics_run.specs.Journal.{numbered, condition_text, part, number_part, reply_text};
 ghost use Rattle.cics_run.specs.Journal.{abend_text, outcome_text, attached_line, outcome_line};
-ghost use Rattle.cics_run.specs.Journal.{woken_line, expired_line, clock_line, refusal_number};
-ghost use Rattle.cics_run.specs.Journal.{refusal_title, refusal_text, refused_line};
-ghost use Rattle.cics_run.specs.Journal.{clock_refused_line, define_number, define_title};
+ghost use Rattle.cics_run.specs.Journal.{woken_line, expired_line, clock_line, clock_refused_line};
+ghost use Rattle.cics_run.specs.Journal.{shutdown_line, shutdown_refused_line, refusal_title};
+ghost use Rattle.cics_run.specs.Journal.{refusal_text, refused_line, define_number, define_title};
 ghost use Rattle.cics_run.specs.Journal.{define_fault_line, line_fault_line};
 ghost use Rattle.cics_run.specs.Texts.{text_of, name_text, bare};
 
@@ -83,6 +83,24 @@ pub fn push_clock_refused(out: &mut Vec<u8>, refusal: Refused) -> Result<(), NoM
     push_str(out, "\n")
 }
 
+/// The region was shut down, and so many units of work were backed out.
+pub fn push_shutdown(out: &mut Vec<u8>, units: u64) -> Result<(), NoMemory>
+    ensures { OnOk result (out.new.items ≡ out.old.items ++ shutdown_line units) }
+{
+    push_str(out, "SHUTDOWN ")?;
+    push_number(out, units)?;
+    push_str(out, "\n")
+}
+
+/// A shutdown was refused.
+pub fn push_shutdown_refused(out: &mut Vec<u8>, refusal: Refused) -> Result<(), NoMemory>
+    ensures { OnOk result (out.new.items ≡ out.old.items ++ shutdown_refused_line refusal) }
+{
+    push_str(out, "SHUTDOWN ")?;
+    push_refusal(out, refusal)?;
+    push_str(out, "\n")
+}
+
 /// A definition or a load was refused, at this line of the script.
 pub fn push_define_fault(out: &mut Vec<u8>, at: u64, fault: DefineFault) -> Result<(), NoMemory>
     ensures { OnOk result (out.new.items ≡ out.old.items ++ define_fault_line at fault) }
@@ -135,11 +153,17 @@ fn push_part(out: &mut Vec<u8>, title: &str, bytes: &Option<Record>) -> Result<(
 fn push_number_part(out: &mut Vec<u8>, number: Option<Number>) -> Result<(), NoMemory>
     ensures { OnOk result (out.new.items ≡ out.old.items ++ number_part number) }
 {
-    if let Some(Number::Item(item)) = number {
-        push_str(out, " ITEM ")?;
-        push_number(out, item)?;
+    match number {
+        Some(Number::Item(item)) => {
+            push_str(out, " ITEM ")?;
+            push_number(out, item)
+        }
+        Some(Number::Numrec(records)) => {
+            push_str(out, " NUMREC ")?;
+            push_number(out, records)
+        }
+        None => Ok(()),
     }
-    Ok(())
 }
 
 fn push_reply(out: &mut Vec<u8>, reply: &Reply) -> Result<(), NoMemory>
@@ -182,20 +206,7 @@ fn push_refusal(out: &mut Vec<u8>, refusal: Refused) -> Result<(), NoMemory>
     ensures { OnOk result (out.new.items ≡ out.old.items ++ refusal_text refusal) }
 {
     push_str(out, "REFUSED ")?;
-    push_numbered(out, refusal_number(refusal), refusal_title(refusal))
-}
-
-fn refusal_number(refusal: Refused) -> u64
-    ensures { result ≡ refusal_number refusal }
-{
-    match refusal {
-        Refused::NoMemory => 1,
-        Refused::NoTask => 2,
-        Refused::TaskWaiting => 3,
-        Refused::TaskEnded => 4,
-        Refused::DuplicateLabel => 5,
-        Refused::ClockBack => 6,
-    }
+    push_numbered(out, refusal.number(), refusal_title(refusal))
 }
 
 fn refusal_title(refusal: Refused) -> &'static str
@@ -208,6 +219,7 @@ fn refusal_title(refusal: Refused) -> &'static str
         Refused::TaskEnded => "TaskEnded",
         Refused::DuplicateLabel => "DuplicateLabel",
         Refused::ClockBack => "ClockBack",
+        Refused::RegionDown => "RegionDown",
     }
 }
 

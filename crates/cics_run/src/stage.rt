@@ -4,24 +4,26 @@ ghost use Rattle.std.specs.Prelude.{◌≡◌, ◌++◌, List, ℕ, OnOk, OnErr,
 ghost use Rattle.cics_history.specs.Openings.{OpeningState};
 ghost use Rattle.cics_units.specs.Faults.{AnswersFault};
 ghost use Rattle.cics_units.specs.declared.opening.DefineFault.{DefineFault};
-ghost use Rattle.cics_names.specs.Commands.{asks_no_queue};
-ghost use Rattle.cics_script.specs.Lines.{AsksNoQueue};
 ghost use Rattle.cics_run.specs.Journal.{line_fault_line, attached_line, outcome_line};
 ghost use Rattle.cics_run.specs.Journal.{refused_line, clock_line, clock_refused_line};
-ghost use Rattle.cics_run.specs.Stages.{first_stage, region_of, file_defined, file_loaded, event};
-ghost use Rattle.cics_run.specs.Stages.{task_attached, clock_moved, command_issued, followed, step};
+ghost use Rattle.cics_run.specs.Journal.{shutdown_line, shutdown_refused_line};
+ghost use Rattle.cics_run.specs.Stages.{first_stage, region_of, file_defined, prefix_defined};
+ghost use Rattle.cics_run.specs.Stages.{queue_defined, file_loaded, queue_loaded, event};
+ghost use Rattle.cics_run.specs.Stages.{task_attached, clock_moved, command_issued, region_shut};
+ghost use Rattle.cics_run.specs.Stages.{followed, step};
 ghost use Rattle.cics_run.specs.Stages.{defined, told_line, IsAnswered, Leads, Happens};
 ghost use Rattle.cics_run.specs.declared.stage.Stage.TheVariants.{Opening as OpeningStage, Running};
 
 use crate::journal::{
     push_attached, push_clock, push_clock_refused, push_define_fault, push_line_fault,
-    push_outcome, push_refused,
+    push_outcome, push_refused, push_shutdown, push_shutdown_refused,
 };
 use crate::settling::settle;
 use cics_dispatch::{Outcome, Refused, Region};
 use cics_ksds::FileDef;
 use cics_names::{Command, Name4, Name8, NoMemory, Record};
 use cics_script::{Line, LineFault, read_line};
+use cics_transdata::Recovery;
 use cics_units::{DefineFault, Opening};
 use std::alloc::Global;
 use std::mem::replace;
@@ -60,13 +62,15 @@ impl Stage {
 
     // Runs a line that was read.
     fn follow(&mut self, number: u64, line: Line, out: &mut Vec<u8>) -> Result<bool, NoMemory>
-        requires { AsksNoQueue line }
         ensures { Leads (followed number self.old (Ok line)) self.new out.old.items out.new.items result }
     {
         match line {
             Line::Blank => Ok(false),
             Line::DefineFile(name, definition) => self.define_file(number, name, definition, out),
+            Line::DefineTsPrefix(prefix) => self.define_prefix(number, prefix, out),
+            Line::DefineTd(name, recovery) => self.define_queue(number, name, recovery, out),
             Line::LoadFile(name, content) => self.load_file(number, name, content, out),
+            Line::LoadTd(name, content) => self.load_queue(number, name, content, out),
             Line::Attach {
                 label,
                 transaction,
@@ -74,6 +78,7 @@ impl Stage {
             } => self.attach(label, transaction, dtimout, out),
             Line::Clock(seconds) => self.set_clock(seconds, out),
             Line::Issue(label, command) => self.issue(label, command, out),
+            Line::Shutdown => self.shutdown(out),
         }
     }
 
@@ -95,6 +100,41 @@ impl Stage {
         }
     }
 
+    fn define_prefix(
+        &mut self,
+        number: u64,
+        prefix: Name8,
+        out: &mut Vec<u8>,
+    ) -> Result<bool, NoMemory>
+        ensures { Leads (prefix_defined number self.old prefix) self.new out.old.items out.new.items
+            result }
+    {
+        match self {
+            Stage::Opening(opening) => {
+                print_definition(number, opening.define_ts_prefix(prefix), out)
+            }
+            Stage::Running(_) => print_fault(number, LineFault::DefineTooLate, out),
+        }
+    }
+
+    fn define_queue(
+        &mut self,
+        number: u64,
+        name: Name4,
+        recovery: Recovery,
+        out: &mut Vec<u8>,
+    ) -> Result<bool, NoMemory>
+        ensures { Leads (queue_defined number self.old name recovery) self.new out.old.items
+            out.new.items result }
+    {
+        match self {
+            Stage::Opening(opening) => {
+                print_definition(number, opening.define_td(name, recovery), out)
+            }
+            Stage::Running(_) => print_fault(number, LineFault::DefineTooLate, out),
+        }
+    }
+
     fn load_file(
         &mut self,
         number: u64,
@@ -108,6 +148,24 @@ impl Stage {
         match self {
             Stage::Opening(opening) => {
                 print_definition(number, opening.load_file(name, content), out)
+            }
+            Stage::Running(_) => print_fault(number, LineFault::DefineTooLate, out),
+        }
+    }
+
+    fn load_queue(
+        &mut self,
+        number: u64,
+        name: Name4,
+        content: Record,
+        out: &mut Vec<u8>,
+    ) -> Result<bool, NoMemory>
+        ensures { Leads (queue_loaded number self.old name content) self.new out.old.items
+            out.new.items result }
+    {
+        match self {
+            Stage::Opening(opening) => {
+                print_definition(number, opening.load_td(name, content), out)
             }
             Stage::Running(_) => print_fault(number, LineFault::DefineTooLate, out),
         }
@@ -144,13 +202,24 @@ impl Stage {
     }
 
     fn issue(&mut self, label: Name8, command: Command, out: &mut Vec<u8>) -> Result<bool, NoMemory>
-        requires { asks_no_queue command.verb ≡ true }
         ensures { Leads (command_issued (region_of self.old).machine label command) self.new
             out.old.items out.new.items result }
     {
         self.open()?;
         match self {
             Stage::Running(region) => issue(region, label, command, out)?,
+            Stage::Opening(_) => unreachable!(),
+        }
+        Ok(false)
+    }
+
+    fn shutdown(&mut self, out: &mut Vec<u8>) -> Result<bool, NoMemory>
+        ensures { Leads (region_shut (region_of self.old).machine) self.new out.old.items out.new.items
+            result }
+    {
+        self.open()?;
+        match self {
+            Stage::Running(region) => shutdown(region, out)?,
             Stage::Opening(_) => unreachable!(),
         }
         Ok(false)
@@ -269,7 +338,6 @@ fn issue(
     command: Command,
     out: &mut Vec<u8>,
 ) -> Result<(), NoMemory>
-    requires { asks_no_queue command.verb ≡ true }
     ensures { Happens (command_issued region.old.machine label command) region.new out.old.items
         out.new.items result }
 {
@@ -291,6 +359,27 @@ fn tell_issued(
         Ok(outcome) => push_outcome(out, label, outcome),
         Err(Refused::NoMemory) => Err(NoMemory),
         Err(refusal) => push_refused(out, label, *refusal),
+    }
+}
+
+// Shuts the region down, and prints what comes of it.
+fn shutdown(region: &mut Region, out: &mut Vec<u8>) -> Result<(), NoMemory>
+    ensures { Happens (region_shut region.old.machine) region.new out.old.items out.new.items result }
+{
+    let answer = region.shutdown();
+    tell_shutdown(answer, out)?;
+    go_on(region, out)
+}
+
+fn tell_shutdown(answer: Result<u64, Refused>, out: &mut Vec<u8>) -> Result<(), NoMemory>
+    ensures text { OnOk result (out.new.items
+        ≡ out.old.items ++ told_line shutdown_line shutdown_refused_line answer) }
+    ensures answered { OnOk result (IsAnswered answer) }
+{
+    match answer {
+        Ok(units) => push_shutdown(out, units),
+        Err(Refused::NoMemory) => Err(NoMemory),
+        Err(refusal) => push_shutdown_refused(out, refusal),
     }
 }
 

@@ -1,10 +1,11 @@
 use Rattle.cics_dispatch.specs.Steps.{attached}
+use Rattle.cics_dispatch.specs.Shutdown.{unless_down}
 use Rattle.cics_run.specs.Journal.{attached_line, refused_line}
 use Rattle.cics_run.proofs.Telling.{happens-answered}
 use Rattle.cics_run.proofs.stage.attach.Goals as goal
 
 pub returns : goal.returns
 returns c =
-    happens-answered (λ _. attached_line c.args.label c.args.transaction) (refused_line c.args.label) _ c.args.region.now (attached c.args.region.now.machine c.args.label c.args.dtimout)
+    happens-answered (λ _. attached_line c.args.label c.args.transaction) (refused_line c.args.label) _ c.args.region.now (unless_down c.args.region.now.machine (attached c.args.region.now.machine c.args.label c.args.dtimout))
     c.attach-answer.new.self c.attach-answer.result c.go_on.new.region c.args.out.now.items c.go_on.new.out.items c.go_on.result
     c.attach-answer.ensures.step c.in_ok-tell_attached.ensures.answered (c.go_on.ensures _ _ c.in_ok-tell_attached.ensures.text)
