@@ -226,8 +226,9 @@ module _ (P : Content → Type 0) where
   name4s None h = tt
   name4s (Some bytes) h = h bytes
 
-abbrev OfKind : Form → OptionWord → Content → Type 0
-OfKind line option content = IsKind (kind_in line option) content
+-- what an option of a command gives is of the kind that it takes
+abbrev Takes : CommandWord → OptionWord → Content → Type 0
+Takes first option content = IsKind (kind_in (form.Command first) option) content
 
 read-plain : (resp : Bool) (file ridfld : List ℕ) (key_length length : Option ℕ) (generic gteq update : Bool) → not (update && (generic || gteq)) ≡ true
     → are_plain (asked_of (record { verb = verb.Read file ridfld key_length length generic gteq update; resp = resp })) ≡ true
@@ -244,78 +245,78 @@ read-plain resp file ridfld key_length length false false true together = refl
 fits : (asked : Verb) (resp : Bool) → IsTrue (go_together asked) → Fits (record { verb = asked; resp = resp })
 fits (verb.Read file ridfld key_length length generic gteq update) resp together =
     fits-of (record { verb = verb.Read file ridfld key_length length generic gteq update; resp = resp }) command.Read refl (read-plain resp file ridfld key_length length generic gteq update together) refl
-    (flags (OfKind (form.Command command.Read) NoHandle) resp refl, (refl, (refl, (amounts (OfKind (form.Command command.Read) KeyLength) key_length (λ x. inl refl), (amounts (OfKind (form.Command command.Read) Length) length (λ x. inl refl), (flags (OfKind (form.Command command.Read) Generic) generic refl, (flags (OfKind (form.Command command.Read) Gteq) gteq refl, (flags (OfKind (form.Command command.Read) Update) update refl, tt))))))))
+    (flags (Takes command.Read NoHandle) resp refl, (refl, (refl, (amounts (Takes command.Read KeyLength) key_length (λ x. inl refl), (amounts (Takes command.Read Length) length (λ x. inl refl), (flags (Takes command.Read Generic) generic refl, (flags (Takes command.Read Gteq) gteq refl, (flags (Takes command.Read Update) update refl, tt))))))))
 fits (verb.Write file ridfld key_length from length) resp together =
     fits-of (record { verb = verb.Write file ridfld key_length from length; resp = resp }) command.Write refl refl refl
-    (flags (OfKind (form.Command command.Write) NoHandle) resp refl, (refl, (refl, (amounts (OfKind (form.Command command.Write) KeyLength) key_length (λ x. inl refl), (refl, (amounts (OfKind (form.Command command.Write) Length) length (λ x. inl refl), tt))))))
+    (flags (Takes command.Write NoHandle) resp refl, (refl, (refl, (amounts (Takes command.Write KeyLength) key_length (λ x. inl refl), (refl, (amounts (Takes command.Write Length) length (λ x. inl refl), tt))))))
 fits (verb.Rewrite file from length) resp together =
     fits-of (record { verb = verb.Rewrite file from length; resp = resp }) command.Rewrite refl refl refl
-    (flags (OfKind (form.Command command.Rewrite) NoHandle) resp refl, (refl, (refl, (amounts (OfKind (form.Command command.Rewrite) Length) length (λ x. inl refl), tt))))
+    (flags (Takes command.Rewrite NoHandle) resp refl, (refl, (refl, (amounts (Takes command.Rewrite Length) length (λ x. inl refl), tt))))
 fits (verb.Delete file None (Some key_length) generic) resp together = let wrong : false ≡ true = together in cc
 fits (verb.Delete file None None true) resp together = let wrong : false ≡ true = together in cc
 fits (verb.Delete file None None false) resp together =
     fits-of (record { verb = verb.Delete file None None false; resp = resp }) command.Delete refl refl refl
-    (flags (OfKind (form.Command command.Delete) NoHandle) resp refl, (refl, (tt, (tt, (tt, (tt, tt))))))
+    (flags (Takes command.Delete NoHandle) resp refl, (refl, (tt, (tt, (tt, (tt, tt))))))
 fits (verb.Delete file (Some ridfld) key_length generic) resp together =
     fits-of (record { verb = verb.Delete file (Some ridfld) key_length generic; resp = resp }) command.Delete refl refl refl
-    (flags (OfKind (form.Command command.Delete) NoHandle) resp refl, (refl, (refl, (amounts (OfKind (form.Command command.Delete) KeyLength) key_length (λ x. inl refl), (flags (OfKind (form.Command command.Delete) Generic) generic refl, tt)))))
+    (flags (Takes command.Delete NoHandle) resp refl, (refl, (refl, (amounts (Takes command.Delete KeyLength) key_length (λ x. inl refl), (flags (Takes command.Delete Generic) generic refl, tt)))))
 fits (verb.Unlock file) resp together =
     fits-of (record { verb = verb.Unlock file; resp = resp }) command.Unlock refl refl refl
-    (flags (OfKind (form.Command command.Unlock) NoHandle) resp refl, (refl, tt))
+    (flags (Takes command.Unlock NoHandle) resp refl, (refl, tt))
 fits (verb.StartBr file ridfld key_length generic equal) resp together =
     fits-of (record { verb = verb.StartBr file ridfld key_length generic equal; resp = resp }) command.StartBr refl refl refl
-    (flags (OfKind (form.Command command.StartBr) NoHandle) resp refl, (refl, (refl, (amounts (OfKind (form.Command command.StartBr) KeyLength) key_length (λ x. inl refl), (flags (OfKind (form.Command command.StartBr) Generic) generic refl, (flags (OfKind (form.Command command.StartBr) Equal) equal refl, tt))))))
+    (flags (Takes command.StartBr NoHandle) resp refl, (refl, (refl, (amounts (Takes command.StartBr KeyLength) key_length (λ x. inl refl), (flags (Takes command.StartBr Generic) generic refl, (flags (Takes command.StartBr Equal) equal refl, tt))))))
 fits (verb.ResetBr file ridfld key_length generic equal) resp together =
     fits-of (record { verb = verb.ResetBr file ridfld key_length generic equal; resp = resp }) command.ResetBr refl refl refl
-    (flags (OfKind (form.Command command.ResetBr) NoHandle) resp refl, (refl, (refl, (amounts (OfKind (form.Command command.ResetBr) KeyLength) key_length (λ x. inl refl), (flags (OfKind (form.Command command.ResetBr) Generic) generic refl, (flags (OfKind (form.Command command.ResetBr) Equal) equal refl, tt))))))
+    (flags (Takes command.ResetBr NoHandle) resp refl, (refl, (refl, (amounts (Takes command.ResetBr KeyLength) key_length (λ x. inl refl), (flags (Takes command.ResetBr Generic) generic refl, (flags (Takes command.ResetBr Equal) equal refl, tt))))))
 fits (verb.ReadNext file length) resp together =
     fits-of (record { verb = verb.ReadNext file length; resp = resp }) command.ReadNext refl refl refl
-    (flags (OfKind (form.Command command.ReadNext) NoHandle) resp refl, (refl, (amounts (OfKind (form.Command command.ReadNext) Length) length (λ x. inl refl), tt)))
+    (flags (Takes command.ReadNext NoHandle) resp refl, (refl, (amounts (Takes command.ReadNext Length) length (λ x. inl refl), tt)))
 fits (verb.ReadPrev file length) resp together =
     fits-of (record { verb = verb.ReadPrev file length; resp = resp }) command.ReadPrev refl refl refl
-    (flags (OfKind (form.Command command.ReadPrev) NoHandle) resp refl, (refl, (amounts (OfKind (form.Command command.ReadPrev) Length) length (λ x. inl refl), tt)))
+    (flags (Takes command.ReadPrev NoHandle) resp refl, (refl, (amounts (Takes command.ReadPrev Length) length (λ x. inl refl), tt)))
 fits (verb.EndBr file) resp together =
     fits-of (record { verb = verb.EndBr file; resp = resp }) command.EndBr refl refl refl
-    (flags (OfKind (form.Command command.EndBr) NoHandle) resp refl, (refl, tt))
+    (flags (Takes command.EndBr NoHandle) resp refl, (refl, tt))
 fits (verb.Enq resource length nosuspend) resp together =
     fits-of (record { verb = verb.Enq resource length nosuspend; resp = resp }) command.Enq refl refl refl
-    (flags (OfKind (form.Command command.Enq) NoHandle) resp refl, (refl, (inl refl, (flags (OfKind (form.Command command.Enq) NoSuspend) nosuspend refl, tt))))
+    (flags (Takes command.Enq NoHandle) resp refl, (refl, (inl refl, (flags (Takes command.Enq NoSuspend) nosuspend refl, tt))))
 fits (verb.Deq resource length) resp together =
     fits-of (record { verb = verb.Deq resource length; resp = resp }) command.Deq refl refl refl
-    (flags (OfKind (form.Command command.Deq) NoHandle) resp refl, (refl, (inl refl, tt)))
+    (flags (Takes command.Deq NoHandle) resp refl, (refl, (inl refl, tt)))
 fits verb.Syncpoint resp together =
     fits-of (record { verb = verb.Syncpoint; resp = resp }) command.Syncpoint refl refl refl
-    (flags (OfKind (form.Command command.Syncpoint) NoHandle) resp refl, (tt, tt))
+    (flags (Takes command.Syncpoint NoHandle) resp refl, (tt, tt))
 fits verb.Rollback resp together =
     fits-of (record { verb = verb.Rollback; resp = resp }) command.Syncpoint refl refl refl
-    (flags (OfKind (form.Command command.Syncpoint) NoHandle) resp refl, (refl, tt))
+    (flags (Takes command.Syncpoint NoHandle) resp refl, (refl, tt))
 fits verb.Return resp together =
     fits-of (record { verb = verb.Return; resp = resp }) command.Return refl refl refl
-    (flags (OfKind (form.Command command.Return) NoHandle) resp refl, tt)
+    (flags (Takes command.Return NoHandle) resp refl, tt)
 fits (verb.Abend code) resp together =
     fits-of (record { verb = verb.Abend code; resp = resp }) command.Abend refl refl refl
-    (flags (OfKind (form.Command command.Abend) NoHandle) resp refl, (name4s (OfKind (form.Command command.Abend) AbCode) code (λ x. refl), tt))
+    (flags (Takes command.Abend NoHandle) resp refl, (name4s (Takes command.Abend AbCode) code (λ x. refl), tt))
 fits (verb.WriteqTs queue from length None) resp together =
     fits-of (record { verb = verb.WriteqTs queue from length None; resp = resp }) command.WriteqTs refl refl refl
-    (flags (OfKind (form.Command command.WriteqTs) NoHandle) resp refl, (refl, (refl, (amounts (OfKind (form.Command command.WriteqTs) Length) length (λ x. inl refl), (tt, tt)))))
+    (flags (Takes command.WriteqTs NoHandle) resp refl, (refl, (refl, (amounts (Takes command.WriteqTs Length) length (λ x. inl refl), (tt, tt)))))
 fits (verb.WriteqTs queue from length (Some item)) resp together =
     fits-of (record { verb = verb.WriteqTs queue from length (Some item); resp = resp }) command.WriteqTs refl refl refl
-    (flags (OfKind (form.Command command.WriteqTs) NoHandle) resp refl, (refl, (refl, (amounts (OfKind (form.Command command.WriteqTs) Length) length (λ x. inl refl), (refl, (inr refl, tt))))))
+    (flags (Takes command.WriteqTs NoHandle) resp refl, (refl, (refl, (amounts (Takes command.WriteqTs Length) length (λ x. inl refl), (refl, (inr refl, tt))))))
 fits (verb.ReadqTs queue length item) resp together =
     fits-of (record { verb = verb.ReadqTs queue length item; resp = resp }) command.ReadqTs refl refl refl
-    (flags (OfKind (form.Command command.ReadqTs) NoHandle) resp refl, (refl, (amounts (OfKind (form.Command command.ReadqTs) Length) length (λ x. inl refl), (amounts (OfKind (form.Command command.ReadqTs) Item) item (λ x. inl refl), tt))))
+    (flags (Takes command.ReadqTs NoHandle) resp refl, (refl, (amounts (Takes command.ReadqTs Length) length (λ x. inl refl), (amounts (Takes command.ReadqTs Item) item (λ x. inl refl), tt))))
 fits (verb.DeleteqTs queue) resp together =
     fits-of (record { verb = verb.DeleteqTs queue; resp = resp }) command.DeleteqTs refl refl refl
-    (flags (OfKind (form.Command command.DeleteqTs) NoHandle) resp refl, (refl, tt))
+    (flags (Takes command.DeleteqTs NoHandle) resp refl, (refl, tt))
 fits (verb.WriteqTd queue from length) resp together =
     fits-of (record { verb = verb.WriteqTd queue from length; resp = resp }) command.WriteqTd refl refl refl
-    (flags (OfKind (form.Command command.WriteqTd) NoHandle) resp refl, (refl, (refl, (amounts (OfKind (form.Command command.WriteqTd) Length) length (λ x. inl refl), tt))))
+    (flags (Takes command.WriteqTd NoHandle) resp refl, (refl, (refl, (amounts (Takes command.WriteqTd Length) length (λ x. inl refl), tt))))
 fits (verb.ReadqTd queue length nosuspend) resp together =
     fits-of (record { verb = verb.ReadqTd queue length nosuspend; resp = resp }) command.ReadqTd refl refl refl
-    (flags (OfKind (form.Command command.ReadqTd) NoHandle) resp refl, (refl, (amounts (OfKind (form.Command command.ReadqTd) Length) length (λ x. inl refl), (flags (OfKind (form.Command command.ReadqTd) NoSuspend) nosuspend refl, tt))))
+    (flags (Takes command.ReadqTd NoHandle) resp refl, (refl, (amounts (Takes command.ReadqTd Length) length (λ x. inl refl), (flags (Takes command.ReadqTd NoSuspend) nosuspend refl, tt))))
 fits (verb.DeleteqTd queue) resp together =
     fits-of (record { verb = verb.DeleteqTd queue; resp = resp }) command.DeleteqTd refl refl refl
-    (flags (OfKind (form.Command command.DeleteqTd) NoHandle) resp refl, (refl, tt))
+    (flags (Takes command.DeleteqTd NoHandle) resp refl, (refl, tt))
 
 -- and has a spelling
 pub spelling : (asked : Command) → IsTrue (go_together asked.verb) → AllCanBeGiven (options_of asked.verb) → Spelling asked

@@ -5,7 +5,7 @@ use Rattle.std.specs.Str.{bytes_eq}
 use Rattle.cics_names.specs.Names.{name_of}
 use Rattle.cics_names.specs.declared.names.NameFault.{NameFault}
 use Rattle.cics_transdata.specs.declared.queues.Recovery.{Recovery}
-use Rattle.cics_transdata.specs.declared.queues.Recovery.TheVariants as recovery
+use Rattle.cics_transdata.specs.declared.queues.Recovery.TheVariants as queue_recovery
 use Rattle.cics_script.specs.declared.lines.Line.{Line}
 use Rattle.cics_script.specs.declared.lines.Line.TheVariants as line_of
 use Rattle.cics_script.specs.declared.faults.LineFault.{LineFault}
@@ -34,9 +34,9 @@ recovery_in entries = if has Recoverable entries then Some true else if has Unre
 -- LOGICAL, PHYSICAL or NONE
 abbrev pub queue_recovery_in : List Entry → Option Recovery
 queue_recovery_in entries =
-    if has Logical entries then Some recovery.Logical
-    else if has Physical entries then Some recovery.Physical
-    else if has Unrecovered entries then Some recovery.Unrecovered
+    if has Logical entries then Some queue_recovery.Logical
+    else if has Physical entries then Some queue_recovery.Physical
+    else if has Unrecovered entries then Some queue_recovery.Unrecovered
     else None
 
 -- what DEFINE defines: a file's keys begin at 0 and its records have up to 32,767 bytes, where the line doesn't say otherwise
@@ -51,7 +51,7 @@ definition_in defined.File entries =
     }))
 definition_in defined.TsPrefix entries = needed (name8_at TsPrefix entries) λ prefix. Ok (line_of.DefineTsPrefix prefix)
 definition_in defined.TdQueue entries =
-    needed (name4_at TdQueue entries) λ name. needed (queue_recovery_in entries) λ undone. Ok (line_of.DefineTd name undone)
+    needed (name4_at TdQueue entries) λ name. needed (queue_recovery_in entries) λ recovery. Ok (line_of.DefineTd name recovery)
 
 -- what LOAD loads
 abbrev pub load_in : LoadObject → List Entry → Result Line LineFault
@@ -127,7 +127,7 @@ clock rest = number_first rest >>= λ first. options form.Clock first.1 >>= λ e
 abbrev pub shutdown : List Token → Result Line LineFault
 shutdown rest = behind (codes "IMMEDIATE") rest >>= λ rest. options form.Shutdown rest >>= λ entries. Ok line_of.Shutdown
 
--- the command that a word right behind a verb makes of it, and what follows; another word is not its own, and follows
+-- the command that a verb and the word right behind it are, and what follows them; where they are none, that word follows the verb
 abbrev pub taken : Option CommandWord → CommandWord → List ℕ → List Token → CommandWord × List Token
 taken (Some command) verb w rest = (command, rest)
 taken None verb w rest = (verb, word w ∷ rest)

@@ -88,8 +88,8 @@ pub fn number_of(found: &[Found<'_>], option: OptionWord) -> Option<u64>
     }
 }
 
-/// The number of an option that may give anything: where the option isn't there, `MissingOption`, and
-/// where it gives something else, `BadNumber`.
+/// The number of an option that may give anything: where the option isn't there, `MissingOption`,
+/// and where it gives something else, `BadNumber`.
 pub fn needed_number_of(found: &[Found<'_>], option: OptionWord) -> Result<u64, LineFault>
     ensures { result ≡ as_needed_amount (content_at option (entries found.now)) }
 {

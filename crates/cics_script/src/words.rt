@@ -4,7 +4,8 @@ ghost use Rattle.std.specs.Prelude.{◌≡◌, ◌||◌, ◌&&◌, Option, Some,
 ghost use Rattle.std.specs.List.{list_any};
 ghost use Rattle.std.specs.Str.{bytes_eq};
 ghost use Rattle.cics_script.specs.Tokens.{capital};
-ghost use Rattle.cics_script.specs.Words.{lookup, starts, define_objects, load_objects, commands, queue_words};
+ghost use Rattle.cics_script.specs.Words.{lookup, starts, define_objects, load_objects};
+ghost use Rattle.cics_script.specs.Words.{commands, queue_words};
 ghost use Rattle.cics_script.specs.Words.{option_words, same, kind_among, kind_in};
 ghost use Rattle.cics_script.specs.Words.{options_of_command, is_pair_in, excludes};
 
@@ -461,8 +462,8 @@ pub fn command_named(word: &[u8]) -> Option<CommandWord>
     find_row(&COMMANDS, word)
 }
 
-/// What a verb is with this word right behind it, where the word may stand there: TS or TD behind one
-/// that acts on a queue, which is of temporary storage without them.
+/// What a verb is with this word right behind it, where the word may stand there: TS or TD behind
+/// one that acts on a queue, which is of temporary storage without them.
 pub fn queue_command(verb: CommandWord, word: &[u8]) -> Option<CommandWord>
     ensures { result ≡ lookup (map capital word.now) (queue_words verb) }
 {
