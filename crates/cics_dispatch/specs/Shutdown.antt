@@ -16,11 +16,12 @@ unless_down m s = if m.is_down then record { outcome = Err RegionDown; machine =
 abbrev pub IsRegionStep : {X : Type 0} → Bool → RegionValue → Stepped (Result X Refused) → Result X Refused → RegionValue → Type 0
 IsRegionStep wants old s result new = IsStep (not old.machine.is_down && wants) old (unless_down old.machine s) result new
 
--- how many of these tasks have a unit
+-- a unit counts one more
 abbrev pub one_if : Option ℕ → ℕ → ℕ
 one_if None n = n
 one_if (Some u) n = suc n
 
+-- how many of these tasks have a unit
 abbrev pub units_of : List Task → ℕ
 units_of [] = 0
 units_of (t ∷ ts) = one_if t.unit (units_of ts)

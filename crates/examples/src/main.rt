@@ -6,12 +6,16 @@ use std::process::ExitCode;
 use std::{fs, io};
 
 /// The examples: each is a script `NAME.cics` with its journal and listing `NAME.journal`.
-const NAMES: [&str; 5] = [
+const NAMES: [&str; 9] = [
     "first-path",
     "lost-update",
     "deadlock",
     "rollback",
     "browse",
+    "work-queue",
+    "scratchpad",
+    "generic-delete",
+    "shutdown",
 ];
 
 // Whether the script of an example, run with its listing, writes what its journal has.
