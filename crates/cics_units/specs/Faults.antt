@@ -1,12 +1,20 @@
 -- When a definition or a record of an opening is refused: for its first fault, and where it has none for want of memory
 -- alone.
-use Rattle.std.specs.Prelude.{◌≡◌, Bool, not, if◌then◌else◌, Option, Some, None, Result, Ok, Err, length}
+use Rattle.std.specs.Prelude.{◌≡◌, ℕ, Bool, not, if◌then◌else◌, Option, Some, None, Result, Ok, Err, length}
 use Rattle.cics_names.specs.Keyed.{Bytes, has_key}
 use Rattle.cics_ksds.specs.Files.{key_of, fits_file}
 use Rattle.cics_ksds.specs.declared.definition.FileDef.{FileDef}
 use Rattle.cics_history.specs.Openings.{OpeningState, FileOpening, QueueOpening, is_record_size, is_key}
 use Rattle.cics_units.specs.declared.opening.DefineFault.{DefineFault}
 use Rattle.cics_units.specs.declared.opening.DefineFault.TheVariants.{Duplicate, BadKey, BadLength, NotThere, NoMemory}
+
+-- the number of a fault
+abbrev pub fault_number : DefineFault → ℕ
+fault_number Duplicate = 1
+fault_number BadKey = 2
+fault_number BadLength = 3
+fault_number NotThere = 4
+fault_number NoMemory = 5
 
 -- the first fault of a file's definition: its name is defined already, its record size, its key
 abbrev pub file_fault : OpeningState → Bytes → FileDef → Option DefineFault

@@ -5,6 +5,7 @@ ghost use Rattle.std.specs.Prelude.{IsSome};
 ghost use Rattle.cics_names.specs.Keyed.{value_at};
 ghost use Rattle.cics_images.specs.NamedValues.{changed_at};
 ghost use Rattle.cics_history.specs.Openings.{is_record_size, is_key};
+ghost use Rattle.cics_units.specs.Faults.{fault_number};
 ghost use Rattle.cics_units.specs.RegionFiles.{IsFitFor, written_in};
 ghost use Rattle.cics_units.specs.RegionQueues.{loaded_with};
 
@@ -32,6 +33,21 @@ pub enum DefineFault {
     NotThere,
     /// Memory was refused.
     NoMemory,
+}
+
+impl DefineFault {
+    /// The number of the fault, from 1 on, by which a journal tells it.
+    pub fn number(&self) -> u64
+        ensures { result ≡ fault_number self.now }
+    {
+        match self {
+            DefineFault::Duplicate => 1,
+            DefineFault::BadKey => 2,
+            DefineFault::BadLength => 3,
+            DefineFault::NotThere => 4,
+            DefineFault::NoMemory => 5,
+        }
+    }
 }
 
 impl From<NoMemory> for DefineFault {
