@@ -84,7 +84,7 @@ name_held : journal files_and_queues (does t1 (write_ts rq one) ∷ does t1 (wri
     ∷ told t1 normal ∷ woke t2 normal ∷ []
 name_held = refl
 
--- LENGERR moves the NEXT task_there, ITEM(n) too; a length that is wrong comes before a queue that is absent
+-- LENGERR moves the NEXT place, ITEM(n) too; a length that is wrong comes before a queue that is absent
 places : journal files_and_queues (
     asks t1 (rewrite_ts rq [] 1) ∷ asks t1 (rewrite_ts rq one 1) ∷ does t1 (write_ts rq one) ∷ does t1 (write_ts rq two)
     ∷ asks t2 (ReadqTs rq (Some 1) None) ∷ does t2 (next rq) ∷ does t2 (ReadqTs rq None (Some 1)) ∷ does t2 (next rq) ∷ asks t2 (ReadqTs rq None (Some 0)) ∷ []

@@ -10,7 +10,7 @@ use Rattle.cics_dispatch.specs.Answers.{task_state}
 abbrev pub rows_of : Machine → List Task → List (Bytes × TaskState)
 rows_of m ts = map (λ t. (t.label, task_state m t)) (filter (λ t. not t.has_ended) ts)
 
--- the tasks up to a task_there, with the one at the place
+-- the tasks up to a place, with the one at the place
 take_there : (ts : List Task) (at : ℕ) (t : Task) → slice_get ts at ≡ Some t → take (suc at) ts ≡ take at ts ++ t ∷ []
 take_there [] at t there = cc
 take_there (s ∷ ts) zero t there = let same : s ≡ t = cc in ap (λ x. x ∷ []) same
@@ -40,7 +40,7 @@ rows_append m (x ∷ xs) ys =
     rows_first m x (xs ++ ys) ∙ ap (row_and m x x.has_ended) (rows_append m xs ys)
     ∙ row_before m x x.has_ended (rows_of m xs) (rows_of m ys) ∙ ap (λ l. l ++ rows_of m ys) (sym (rows_first m x xs))
 
--- the rows of the tasks up to a task_there, with that of the one at the place
+-- the rows of the tasks up to a place, with that of the one at the place
 rows_there : (m : Machine) (ts : List Task) (at : ℕ) (t : Task) → slice_get ts at ≡ Some t → rows_of m (take (at + 1) ts) ≡ rows_of m (take at ts) ++ row_and m t t.has_ended []
 rows_there m ts at t there =
     let next : at + 1 ≡ suc at = omega arith in

@@ -55,7 +55,7 @@ set_same [] at t placed = cc
 set_same (u ∷ us) zero t placed = let same : t ≡ u = cc in ap (λ x. x ∷ us) same
 set_same (u ∷ us) (suc at) t placed = ap (λ r. u ∷ r) (set_same us at t placed)
 
--- no two tasks have one after a task is put in a task_there, where no other place had what it has
+-- no two tasks have one after a task is put in a place, where no other place had what it has
 pub IsOwn-set : {X : Type 0} (own : Task → Option X) (ts : List Task) (at : ℕ) (owner : Task) → IsOwn own ts →
     ((i : ℕ) (v : Task) (x : X) → slice_get ts i ≡ Some v → own v ≡ Some x → own owner ≡ Some x → i ≡ at) →
     IsOwn own (slice_set ts at owner)
@@ -93,7 +93,7 @@ task_at-place (u ∷ us) (suc n) t own placed =
     ap (λ b. cond b (Some u) (task_at us t.label)) (is_same-other u.label t.label (first_other u t us n own placed))
     ∙ task_at-place us n t (IsOwn-tail own_label u us own) placed
 
--- the task of a label stands at a task_there, and has the label
+-- the task of a label stands at a place, and has the label
 pub place_of_task : (ts : List Task) (label : Bytes) (t : Task) → task_at ts label ≡ Some t →
     (i : ℕ) × (slice_get ts i ≡ Some t) × (t.label ≡ label)
 place_of_task [] label t is = cc

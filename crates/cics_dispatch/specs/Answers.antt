@@ -17,7 +17,7 @@ use Rattle.cics_names.specs.declared.commands.Verb.TheVariants.{Unlock, ResetBr,
 use Rattle.cics_dispatch.specs.declared.outcomes.Refused.{Refused}
 use Rattle.cics_dispatch.specs.declared.outcomes.Refused.TheVariants.{NoMemory}
 
--- the verbs that take memory: all but those that only give something up
+-- the verbs that take memory: all but those that only give something up, and RESETBR, which moves a browse that is there
 abbrev pub is_growing : Verb → Bool
 is_growing (Unlock f) = false
 is_growing (ResetBr f key given generic equal) = false

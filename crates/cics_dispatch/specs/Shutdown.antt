@@ -1,5 +1,5 @@
 -- SHUTDOWN IMMEDIATE: no command waits any more, every task ends and its unit of work is backed out, in the order of attach,
--- and from then on every other event is refused.
+-- and from then on every event that could be refused is.
 use Rattle.std.specs.Prelude.{ℕ, suc, Bool, true, not, ◌&&◌, if◌then◌else◌, Option, Some, None, Result, Ok, Err, List, [], ◌∷◌}
 use Rattle.cics_history.specs.declared.ops.UnitState.TheVariants.{BackedOut}
 use Rattle.cics_dispatch.specs.Machine.{Machine, RegionValue, Task, with_waiting, unit_closed}

@@ -1,4 +1,4 @@
-//! The parts of a region, and each of its steps: tasks that share files, their waits, and their units of work.
+//! The parts of a region, and each of its steps: tasks that share files and queues, their waits, and their units of work.
 
 mod browsing;
 mod enqueuing;
@@ -44,7 +44,7 @@ use cics_units::{Done, Op, Opening, UnitState, Units};
 use std::alloc::Global;
 use std::marker::Model;
 
-/// The parts of a region: its tasks, their waiting commands, and the files and units of work that they share.
+/// The parts of a region: its tasks, their waiting commands, and the files, queues and units of work that they share.
 ///
 /// Each call is a step of the region's machine: its answer and the state that it leaves are those of the
 /// step. It remembers nothing of a call but that state; what `wake` and `expire` found is remembered by `Region`.

@@ -1,7 +1,7 @@
 //! The tasks of a region and their commands.
 //!
-//! `specs/Machine`, `Checks`, `Steps`, `Waking` and `Answers` define a region: the order of checks, what
-//! each command answers and leaves, waiting, waking, time-out and abends. Each call of `Region` is one step
+//! `specs/Machine`, `Checks`, `Steps`, `Waking`, `Shutdown` and `Answers` define a region: the order of checks,
+//! what each command answers and leaves, waiting, waking, time-out, abends and the shutdown. Each call of `Region` is one step
 //! of that.
 #![tactic(auto)]
 

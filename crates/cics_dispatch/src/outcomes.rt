@@ -25,7 +25,7 @@ pub struct Reply {
     pub key: Option<Record>,
     /// The record or item that was read, at LENGERR its first bytes.
     pub content: Option<Record>,
-    /// The number of the item that was read or written.
+    /// The number of the item that was read or written, or of the records that DELETE GENERIC deleted.
     pub number: Option<Number>,
 }
 

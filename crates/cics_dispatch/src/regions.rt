@@ -1,4 +1,4 @@
-//! A region: tasks that share files, their waits, and their units of work.
+//! A region: tasks that share files and queues, their waits, and their units of work.
 
 ghost use Rattle.std.specs.Prelude.{◌≡◌, ◌&&◌, ◌||◌, not, true, false, ℕ, IfOk, IfErr, OnOk};
 ghost use Rattle.cics_history.specs.Events.{is_live};
@@ -19,12 +19,12 @@ use cics_units::{Listing, Opening, Units};
 use indexmap::IndexSet;
 use std::marker::Model;
 
-/// The tasks of a region, their waiting commands, and the files and units of work that they share.
+/// The tasks of a region, their waiting commands, and the files, queues and units of work that they share.
 ///
 /// Each call is one step of the region's machine: its answer and the state that it leaves are those of
-/// the step. After each call the files hold what replaying the executed commands gives, those left out
-/// by which a unit that was backed out acted on a recoverable file, and each command of the replay has
-/// the answer that it was executed with; LENGTH may have cut what its task was told.
+/// the step. After each call the files and queues hold what replaying the executed commands gives, those
+/// left out by which a unit that was backed out acted on a recoverable file or queue, and each command of
+/// the replay has the answer that it was executed with; LENGTH may have cut what its task was told.
 ///
 /// The region remembers what it found when it last looked at the waiting commands, so that `wake` and
 /// `expire` needn't look at each of them again where nothing has changed for them.

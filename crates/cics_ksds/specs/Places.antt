@@ -177,7 +177,7 @@ pub record IsPlaceOf (d : FileDef) (areas : List (List (List Place))) (key : Byt
   pub at_most : length (interval_at areas at) ≤ 16
   pub is_at : IsAt d (places_in areas) key (index_of areas at)
 
--- the key has no place, and would go to this position: into the interval whose first key is the greatest one not above it, else into the first
+-- the key has no place, and would go to this position: into the last interval whose first key isn't above it, or where there is none into the first of all
 pub record IsGapAt (d : FileDef) (areas : List (List (List Place))) (key : Bytes) (at : Position) : Type 0 where
   pub there : 0 < length areas → IsThere areas at
   pub place : at.place ≤ length (interval_at areas at)

@@ -11,9 +11,8 @@ use crate::{Name4, Name8, NoMemory, Record};
 pub struct Command {
     /// What the command asks for.
     pub verb: Verb,
-    /// Whether the task is told each condition (RESP or NOHANDLE). Where it is false a condition other
-    /// than NORMAL abends the task with the condition's default code (chapter on the exceptional
-    /// conditions).
+    /// Whether the task is told each condition (RESP or NOHANDLE). Where it is false a condition abends the
+    /// task with its default code, if it has one (chapter on the exceptional conditions).
     pub resp: bool,
 }
 

@@ -3,8 +3,9 @@
 ghost use Rattle.std.specs.Prelude.{◌≡◌};
 ghost use Rattle.cics_script.specs.Faults.{number_of, title_of};
 
-/// Why a line can't be read. But for `NoMemory` it is the fault of the first token at which the
-/// line can't be read on, and a journal prints its number and its name.
+/// Why a line can't be read: the fault of the first token at which it can't be read on, unless it is one of
+/// the whole line (`TooLong`, `NotAscii`, `MissingOption`, `DefineTooLate`) or `NoMemory`. But for
+/// `NoMemory` a journal prints its number and its name.
 #[derive(Clone, Copy, Debug, PartialEq, Eq)]
 pub enum LineFault {
     /// The line has more than 70,000 bytes.
@@ -13,9 +14,10 @@ pub enum LineFault {
     NotAscii,
     /// No word, or none that can stand here, or a token that no line has.
     UnknownWord,
-    /// A literal, a name or a flag's parenthesis that is wrong or missing.
+    /// A literal or a name that is wrong or missing, or a parenthesis of an option that takes no number.
     BadLiteral,
-    /// A number that is wrong or missing, or above 18,446,744,073,709,551,615.
+    /// A number that is wrong or missing, or above 18,446,744,073,709,551,615, or a parenthesis of an option
+    /// that takes one.
     BadNumber,
     /// The line ends, and an option that it needs was not there.
     MissingOption,
