@@ -1,7 +1,9 @@
 mod Characters
+mod QueueScripts
 mod ScriptRows
 mod Unfilled
 pub mod Known
+pub mod Scripts
 pub mod Playing
 pub mod Printing
 pub mod Steps

@@ -1,29 +1,12 @@
 -- Worked scripts: what a run writes, computed from the bytes of the script.
-use Rattle.std.proofs.Common.{◌≡◌, ◌∷◌, [], true, false, refl, List, ℕ}
-use Rattle.std.specs.List.{flat_map}
+use Rattle.std.proofs.Common.{◌≡◌, ◌∷◌, [], refl}
 use Rattle.std.specs.Fmt.{digits}
 use Rattle.cics_names.specs.Ebcdic.{code_of, character_of}
 use Rattle.cics_run.specs.Journal.{line}
 use Rattle.cics_run.specs.Running.{output}
 use Rattle.cics_run.specs.Settling.{turn, settled}
-use Rattle.cics_run.specs.declared.running.Options.{Options}
+use Rattle.cics_run.proofs.Scripts.{Writes, listed, replayed}
 use lib.Chars.{codes}
-
--- lines, each with its LF
-abbrev lines : List (List ℕ) → List ℕ
-lines texts = flat_map line texts
-
--- a run of a script of these lines writes these lines
-abbrev Writes : Options → List (List ℕ) → List (List ℕ) → Type 0
-Writes options script written = output options (lines script) ≡ lines written
-
--- the listing stands behind the journal
-abbrev listed : Options
-listed = record { no_list = false; replay = false }
-
--- and the replay behind the listing
-abbrev replayed : Options
-replayed = record { no_list = false; replay = true }
 
 -- a browse gives the records in the order of the codes of their keys
 keys_come_in_the_order_of_their_codes : Writes listed
