@@ -16,12 +16,12 @@ The script comes from standard input: it defines and loads files, attaches
 tasks, issues their commands and sets the clock. What comes of each line, the
 journal, goes to standard output: the answer, and then the waiting commands that
 go on and the tasks that have waited too long. Behind it comes a listing of the
-files and of the tasks that have not ended.";
+files and queues and of the tasks that have not ended.";
 
 const MORE: &str = "\
 The replay is the listing again, made by applying the history to what was loaded,
-without what the units that were backed out did to recoverable files. It has no
-tasks.
+without what the units that were backed out did to recoverable files and queues.
+It has no tasks.
 
 Exit status:
   0  the whole script was run, or this help was printed
@@ -30,8 +30,18 @@ Exit status:
   3  there is no memory
   4  a read or a write failed, or the script has more than 16,777,216 bytes
 
-Example, from the root of the repository:
-  printf \"ATTACH T1 TRANSID('AAAA')\\nT1 EXEC CICS RETURN\\n\" | bin/cicsrun";
+Example, from the root of the repository. T2 waits for the record until T1 has
+taken its delete back by a rollback:
+
+bin/cicsrun <<END
+DEFINE FILE('ACCT') KEYLENGTH(4) RECOVERABLE
+LOAD FILE('ACCT') FROM('0001 100')
+ATTACH T1 TRANSID('MOVE')
+ATTACH T2 TRANSID('LOOK')
+T1 EXEC CICS DELETE FILE('ACCT') RIDFLD('0001')
+T2 EXEC CICS READ FILE('ACCT') RIDFLD('0001') UPDATE
+T1 EXEC CICS SYNCPOINT ROLLBACK
+END";
 
 /// What a command line asks for.
 ///
