@@ -1,5 +1,5 @@
 -- What a read adds to the bytes that were read.
-use Rattle.std.proofs.Common.{◌≡◌, ℕ, true, ◌+◌, ◌≤◌, ◌<◌, List, [], ◌∷◌, ◌++◌, length, take, refl, arith, sym, subst, append-nil, Option, length-append, inl, inr, ◌==◌, ◌≢◌}
+use Rattle.std.proofs.Common.{◌≡◌, ℕ, true, false, ◌+◌, ◌≤◌, ◌<◌, List, [], ◌∷◌, ◌++◌, length, take, refl, arith, sym, subst, append-nil, Option, length-append, inl, inr, ◌==◌}
 use Rattle.std.proofs.lemmas.List.{take-append-le, length-map, length-take-le}
 use Rattle.std.proofs.lemmas.Bool.{cases_Bool}
 use Rattle.std.proofs.Math.Seq.{take-append_seam}
@@ -8,7 +8,7 @@ use Rattle.std.specs.Prelude.{Result, Ok, Err}
 use Rattle.std.specs.Io.KnownBytes.{Appends, Consumes, IsAtEnd}
 use Rattle.std.specs.Io.BufRead.{strip_last}
 use Rattle.cics_run.specs.Lines.{Pieces, pieces, with_first, completed}
-use Rattle.cics_run.specs.Running.{Played, next, start, journal, output, is_faulty, Answers}
+use Rattle.cics_run.specs.Running.{Played, next, start, journal, output, is_faulty, is_stopped, Answers, ReadsOn, RunsOver}
 use Rattle.cics_run.specs.Printing.{AppendsFront}
 use Rattle.cics_run.specs.Standing.{Stands, Stopped, Finishes, fault_of, ended}
 use Rattle.cics_run.specs.declared.writing.Stop.{Stop}
@@ -16,6 +16,7 @@ use Rattle.cics_run.specs.declared.writing.Stop.TheVariants as stops
 use Rattle.cics_run.specs.declared.running.Status.{Status}
 use Rattle.cics_run.specs.declared.running.Status.TheVariants as status
 use Rattle.cics_run.specs.declared.running.Options.{Options}
+use Rattle.cics_run.specs.declared.running.TheConstants.{LIMIT, CHUNK}
 use Rattle.cics_run.specs.declared.session.Session.{Session}
 use Rattle.cics_run.proofs.Known.{consumes-append}
 use Rattle.cics_run.proofs.Printing.{front-longer}
@@ -48,13 +49,24 @@ number-bound bytes before now s at = omega (arith, at.number, fold-number (compl
 pub front-of : (n : ℕ) (got rest : List ℕ) → n ≤ length got → take n (got ++ rest) ≡ take n got
 front-of n got rest fits = take-append-le n got rest fits
 
-pub stopped-output : (options : Options) (bytes : List ℕ) (before now : Option (List ℕ)) → Stopped bytes before now → Appends before now (output options bytes) × (is_faulty bytes ≡ true)
-stopped-output options bytes before now stop =
-    let (same, faulty) = fault-output options bytes stop.fault in
-    (subst (λ t. Appends before now t) (sym same) stop.written, faulty)
+pub chunk-length : (n : ℕ) (got rest : List ℕ) → n ≤ length got → length (take n (got ++ rest)) ≡ n
+chunk-length n got rest fits = rw (front-of n got rest fits) (length-take-le n got fits)
 
-pub front-journal : (options : Options) (bytes : List ℕ) (before now : Option (List ℕ)) → AppendsFront before now (journal bytes) → AppendsFront before now (output options bytes)
-front-journal options bytes before now front = front-longer before now (journal bytes) (output options bytes) (output-front options bytes) front
+pub within-chunk : (bytes chunk : List ℕ) (n room : ℕ) → length chunk ≡ n → n ≤ room → length bytes + room ≡ LIMIT → length (bytes ++ chunk) ≤ LIMIT
+within-chunk bytes chunk n room count fits full = rw length-append (omega (arith, count, fits, full))
+
+-- no line of these bytes is a fault, and so no line before them
+pub reads-going : (bytes : List ℕ) → is_stopped bytes ≡ false → ReadsOn bytes
+reads-going bytes going = (bytes, [], sym (append-nil bytes), omega arith, going)
+
+-- a chunk came behind them
+pub reads-chunk : (bytes chunk : List ℕ) → is_stopped bytes ≡ false → length chunk ≤ CHUNK → ReadsOn (bytes ++ chunk)
+reads-chunk bytes chunk going fits = (bytes, chunk, refl, fits, going)
+
+pub stopped-output : (options : Options) (bytes : List ℕ) (rest before now : Option (List ℕ)) → Stopped bytes before now → Answers options bytes rest before now (Ok status.LineFault)
+stopped-output options bytes rest before now stop =
+    let (same, faulty) = fault-output options bytes stop.fault in
+    (subst (λ t. Appends before now t) (sym same) stop.written, faulty, inl stop.fault)
 
 -- one chunk more
 pub read_more : (a b c : Option (List ℕ)) (bytes got rest : List ℕ) (n : ℕ) → n ≤ length got → Consumes a b bytes → Consumes b c (take n got)
@@ -65,18 +77,20 @@ pub read_nothing : (a b c : Option (List ℕ)) (bytes got : List ℕ) (n : ℕ) 
 read_nothing a b c bytes got n zero p q = rw append-nil at (consumes-append a b c bytes [] p (rw zero at q))
 
 -- the bytes are one more than may come
-pub one_more : (bytes got : List ℕ) (n limit : ℕ) → length bytes ≡ limit → n ≢ 0 → n ≤ length got → (limit < length (bytes ++ take n got)) × (take limit (bytes ++ take n got) ≡ bytes)
-one_more bytes got n limit full some fits =
-    (simp (length-append, length-take-le n got fits) (omega arith), rw (← full) (take-append_seam bytes (take n got)))
+pub one_more : (bytes got : List ℕ) (n limit : ℕ) → length bytes ≡ limit → n ≡ 1 → n ≤ length got → (length (bytes ++ take n got) ≡ limit + 1) × (take limit (bytes ++ take n got) ≡ bytes)
+one_more bytes got n limit full one fits =
+    (simp (length-append, length-take-le n got fits) (omega (arith, full, one)), rw (← full) (take-append_seam bytes (take n got)))
 
--- the answers of a run that printing stopped
-pub answers-stop : (options : Options) (bytes : List ℕ) (rest before now : Option (List ℕ)) (stop : Stop) → AppendsFront before now (journal bytes) → Answers options bytes rest before now (Err (fault_of stop))
-answers-stop options bytes rest before now stops.NoMemory front = front-journal options bytes before now front
-answers-stop options bytes rest before now stops.WriteFault front = front-journal options bytes before now front
+-- a run that printing stopped
+pub runs-stop : (options : Options) (bytes : List ℕ) (input rest before now : Option (List ℕ)) (stop : Stop) → Consumes input rest bytes → length bytes ≤ LIMIT → ReadsOn bytes
+    → AppendsFront before now (journal bytes) → RunsOver options input rest before now (Err (fault_of stop))
+runs-stop options bytes input rest before now stops.NoMemory read within on front = (bytes, read, within, on, inl front)
+runs-stop options bytes input rest before now stops.WriteFault read within on front = (bytes, read, within, on, inl front)
 
--- the answers of a run that came to the input's end
-pub answers-ended : (options : Options) (bytes : List ℕ) (rest before now : Option (List ℕ)) (answer : Result Status Stop) → IsAtEnd rest → Finishes options bytes before now answer → Answers options bytes rest before now (ended answer)
-answers-ended options bytes rest before now (Ok status.Done) end (wrote, going) = (wrote, going, end)
-answers-ended options bytes rest before now (Ok status.LineFault) end wrote = wrote
-answers-ended options bytes rest before now (Err stops.NoMemory) end front = front
-answers-ended options bytes rest before now (Err stops.WriteFault) end front = front
+-- a run that came to the input's end
+pub runs-ended : (options : Options) (bytes : List ℕ) (input rest before now : Option (List ℕ)) (answer : Result Status Stop) → Consumes input rest bytes → length bytes ≤ LIMIT → ReadsOn bytes
+    → IsAtEnd rest → Finishes options bytes before now answer → RunsOver options input rest before now (ended answer)
+runs-ended options bytes input rest before now (Ok status.Done) read within on end (wrote, going) = (bytes, read, within, on, (wrote, going, end))
+runs-ended options bytes input rest before now (Ok status.LineFault) read within on end (wrote, faulty) = (bytes, read, within, on, (wrote, faulty, inr end))
+runs-ended options bytes input rest before now (Err stops.NoMemory) read within on end front = (bytes, read, within, on, inr (end, front))
+runs-ended options bytes input rest before now (Err stops.WriteFault) read within on end front = (bytes, read, within, on, inr (end, front))

@@ -1,11 +1,11 @@
 -- What a run of a script writes.
-use Rattle.std.specs.Prelude.{◌≡◌, ℕ, Bool, true, false, ◌+◌, ◌<◌, if◌then◌else◌, List, [], ◌++◌, length, take, Option, Result, Ok, Err}
+use Rattle.std.specs.Prelude.{◌≡◌, ℕ, Bool, true, false, ◌+◌, ◌≤◌, ◌⊎◌, if◌then◌else◌, List, [], ◌++◌, length, take, Option, Result, Ok, Err}
 use Rattle.std.specs.List.{fold}
 use Rattle.std.specs.Io.KnownBytes.{Appends, Consumes, IsAtEnd}
 use Rattle.cics_run.specs.Lines.{completed, all_lines}
 use Rattle.cics_run.specs.Stages.{step, Step, first_stage, listing_at, replay_at}
 use Rattle.cics_run.specs.Printing.{AppendsFront}
-use Rattle.cics_run.specs.declared.running.TheConstants.{LIMIT}
+use Rattle.cics_run.specs.declared.running.TheConstants.{LIMIT, CHUNK}
 use Rattle.cics_run.specs.declared.stage.Stage.{Stage}
 use Rattle.cics_run.specs.declared.running.Status.{Status}
 use Rattle.cics_run.specs.declared.running.Status.TheVariants as status
@@ -52,24 +52,47 @@ whole options p = if p.has_fault then p.journal else p.journal ++ ending options
 abbrev pub output : Options → List ℕ → List ℕ
 output options bytes = whole options (play (all_lines bytes))
 
--- whether a fault is printed
+-- whether a fault is printed by a run over a whole script
 abbrev pub is_faulty : List ℕ → Bool
 is_faulty bytes = (play (all_lines bytes)).has_fault
 
+-- whether one of the lines that these bytes complete is a fault
+abbrev pub is_stopped : List ℕ → Bool
+is_stopped bytes = (play (completed bytes)).has_fault
+
+-- A front is written of what these bytes call for: the journal of the lines that they complete, and only at the input's end,
+-- where the last line may lack its LF, the whole output.
+abbrev pub WritesFront : Options → List ℕ → Option (List ℕ) → Option (List ℕ) → Option (List ℕ) → Type 0
+WritesFront options bytes rest old new = AppendsFront old new (journal bytes) ⊎ (IsAtEnd rest × AppendsFront old new (output options bytes))
+
 -- What a run has done at each answer, where bytes are the bytes that it read:
 -- - Done: the input is at its end, no fault was printed, and the whole output is written;
--- - LineFault: a fault was printed, and the output is written up to its end, the fault;
--- - InputTooLong: more bytes came than a script may have, and the journal of the lines that the first of them complete is written;
--- - ReadFault: the journal of the lines that the bytes complete is written;
--- - WriteFault and NoMemory: a front of the output is written.
+-- - LineFault: a fault was printed, of a line that is complete, or at the input's end of the last line; the output is written up to
+--   its end, the fault;
+-- - InputTooLong: one byte more came than a script may have; none of the lines that those before it complete is a fault, and their
+--   journal is written;
+-- - ReadFault: none of the lines that the bytes complete is a fault, and their journal is written;
+-- - WriteFault and NoMemory: a front is written.
 abbrev pub Answers : Options → List ℕ → Option (List ℕ) → Option (List ℕ) → Option (List ℕ) → Result Status RunFault → Type 0
 Answers options bytes rest old new (Ok status.Done) = Appends old new (output options bytes) × (is_faulty bytes ≡ false) × IsAtEnd rest
-Answers options bytes rest old new (Ok status.LineFault) = Appends old new (output options bytes) × (is_faulty bytes ≡ true)
-Answers options bytes rest old new (Err faults.InputTooLong) = (LIMIT < length bytes) × Appends old new (journal (take LIMIT bytes))
-Answers options bytes rest old new (Err faults.ReadFault) = Appends old new (journal bytes)
-Answers options bytes rest old new (Err faults.WriteFault) = AppendsFront old new (output options bytes)
-Answers options bytes rest old new (Err faults.NoMemory) = AppendsFront old new (output options bytes)
+Answers options bytes rest old new (Ok status.LineFault) =
+    Appends old new (output options bytes) × (is_faulty bytes ≡ true) × ((is_stopped bytes ≡ true) ⊎ IsAtEnd rest)
+Answers options bytes rest old new (Err faults.InputTooLong) =
+    (length bytes ≡ LIMIT + 1) × (is_stopped (take LIMIT bytes) ≡ false) × Appends old new (journal (take LIMIT bytes))
+Answers options bytes rest old new (Err faults.ReadFault) = (is_stopped bytes ≡ false) × Appends old new (journal bytes)
+Answers options bytes rest old new (Err faults.WriteFault) = WritesFront options bytes rest old new
+Answers options bytes rest old new (Err faults.NoMemory) = WritesFront options bytes rest old new
 
--- some bytes were read, and what was written is what they call for
+-- how many bytes a run reads at most: as many as a script may have, and one more where it tells that there are more
+abbrev pub most : Result Status RunFault → ℕ
+most (Err faults.InputTooLong) = LIMIT + 1
+most _ = LIMIT
+
+-- A run reads no more behind a fault: before the last bytes, which came at once, no complete line is one.
+abbrev pub ReadsOn : List ℕ → Type 0
+ReadsOn bytes = (front : List ℕ) × (last : List ℕ) × (bytes ≡ front ++ last) × (length last ≤ CHUNK) × (is_stopped front ≡ false)
+
+-- Some bytes were read, no more than may be, and none behind a fault that was printed; and what was written is what they call for.
 abbrev pub RunsOver : Options → Option (List ℕ) → Option (List ℕ) → Option (List ℕ) → Option (List ℕ) → Result Status RunFault → Type 0
-RunsOver options input rest old new result = (bytes : List ℕ) × Consumes input rest bytes × Answers options bytes rest old new result
+RunsOver options input rest old new result =
+    (bytes : List ℕ) × Consumes input rest bytes × (length bytes ≤ most result) × ReadsOn bytes × Answers options bytes rest old new result

@@ -12,4 +12,4 @@ mod texts;
 mod writing;
 
 pub use command_line::{Asked, arguments, exit_status};
-pub use running::{LIMIT, Options, RunFault, Status, run};
+pub use running::{CHUNK, LIMIT, Options, RunFault, Status, run};

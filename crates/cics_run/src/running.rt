@@ -15,7 +15,7 @@ use thiserror::Error;
 pub const LIMIT: usize = 16_777_216;
 
 /// How many bytes are asked for at once.
-const CHUNK: usize = 65_536;
+pub const CHUNK: usize = 65_536;
 
 /// How a run ended that wrote all that it had to.
 #[derive(Clone, Copy, Debug, PartialEq, Eq)]
@@ -45,13 +45,16 @@ pub struct Options {
 }
 
 /// Runs the script that the reader gives, and writes its journal and what follows it.
+///
+/// It reads at most `LIMIT` bytes, and one more to see whether there are more. Once it has printed a fault it reads no
+/// more.
 pub fn run<R: Read, W: Write>(
     alloc: Global,
     reader: &mut R,
     writer: &mut W,
     options: Options,
 ) -> Result<Status, RunFault>
-    ensures { RunsOver options (R.remaining reader.old) (R.remaining reader.new) (W.contents writer.old)
+    ensures whole_run { RunsOver options (R.remaining reader.old) (R.remaining reader.new) (W.contents writer.old)
         (W.contents writer.new) result }
 {
     let mut session = Session::new(alloc);
