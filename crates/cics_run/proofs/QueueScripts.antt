@@ -1,5 +1,5 @@
 -- Worked scripts of queues, of a generic delete and of a shutdown: what a run writes, computed from the bytes of the script.
-use Rattle.std.proofs.Common.{◌≡◌, ◌∷◌, [], refl}
+use Rattle.std.proofs.Common.{◌∷◌, [], refl}
 use Rattle.std.specs.Fmt.{digits}
 use Rattle.cics_names.specs.Ebcdic.{code_of, character_of}
 use Rattle.cics_run.specs.Settling.{turn, settled}

@@ -1,5 +1,5 @@
 -- What a read adds to the bytes that were read.
-use Rattle.std.proofs.Common.{◌≡◌, ℕ, true, false, ◌+◌, ◌≤◌, ◌<◌, List, [], ◌∷◌, ◌++◌, length, take, refl, arith, sym, subst, append-nil, Option, length-append, inl, inr, ◌==◌}
+use Rattle.std.proofs.Common.{◌≡◌, ℕ, false, ◌+◌, ◌≤◌, List, [], ◌∷◌, ◌++◌, length, take, refl, arith, sym, subst, append-nil, Option, length-append, inl, inr, ◌==◌}
 use Rattle.std.proofs.lemmas.List.{take-append-le, length-map, length-take-le}
 use Rattle.std.proofs.lemmas.Bool.{cases_Bool}
 use Rattle.std.proofs.Math.Seq.{take-append_seam}
@@ -8,7 +8,7 @@ use Rattle.std.specs.Prelude.{Result, Ok, Err}
 use Rattle.std.specs.Io.KnownBytes.{Appends, Consumes, IsAtEnd}
 use Rattle.std.specs.Io.BufRead.{strip_last}
 use Rattle.cics_run.specs.Lines.{Pieces, pieces, with_first, completed}
-use Rattle.cics_run.specs.Running.{Played, next, start, journal, output, is_faulty, is_stopped, Answers, ReadsOn, RunsOver}
+use Rattle.cics_run.specs.Running.{Played, next, start, journal, output, is_stopped, WritesFront, Answers, ReadsOn, RunsOver}
 use Rattle.cics_run.specs.Printing.{AppendsFront}
 use Rattle.cics_run.specs.Standing.{Stands, Stopped, Finishes, fault_of, ended}
 use Rattle.cics_run.specs.declared.writing.Stop.{Stop}
@@ -80,6 +80,11 @@ read_nothing a b c bytes got n zero p q = rw append-nil at (consumes-append a b 
 pub one_more : (bytes got : List ℕ) (n limit : ℕ) → length bytes ≡ limit → n ≡ 1 → n ≤ length got → (length (bytes ++ take n got) ≡ limit + 1) × (take limit (bytes ++ take n got) ≡ bytes)
 one_more bytes got n limit full one fits =
     (simp (length-append, length-take-le n got fits) (omega (arith, full, one)), rw (← full) (take-append_seam bytes (take n got)))
+
+-- whether or not the input is at its end, a front of the whole output is written
+pub front-written : (options : Options) (bytes : List ℕ) (rest before now : Option (List ℕ)) → WritesFront options bytes rest before now → AppendsFront before now (output options bytes)
+front-written options bytes rest before now (inl front) = front-longer before now (journal bytes) (output options bytes) (output-front options bytes) front
+front-written options bytes rest before now (inr (end, front)) = front
 
 -- a run that printing stopped
 pub runs-stop : (options : Options) (bytes : List ℕ) (input rest before now : Option (List ℕ)) (stop : Stop) → Consumes input rest bytes → length bytes ≤ LIMIT → ReadsOn bytes

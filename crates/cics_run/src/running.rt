@@ -14,7 +14,7 @@ use thiserror::Error;
 /// The greatest number of bytes that a script may have.
 pub const LIMIT: usize = 16_777_216;
 
-/// How many bytes are asked for at once.
+/// The greatest number of bytes that are asked for at once.
 pub const CHUNK: usize = 65_536;
 
 /// How a run ended that wrote all that it had to.
@@ -46,16 +46,16 @@ pub struct Options {
 
 /// Runs the script that the reader gives, and writes its journal and what follows it.
 ///
-/// It reads at most `LIMIT` bytes, and one more to see whether there are more. Once it has printed a fault it reads no
-/// more.
+/// It reads at most `LIMIT` bytes, and one more to see whether there are more. Once it has printed
+/// a fault it reads no more. A last line that lacks its LF is run at the input's end.
 pub fn run<R: Read, W: Write>(
     alloc: Global,
     reader: &mut R,
     writer: &mut W,
     options: Options,
 ) -> Result<Status, RunFault>
-    ensures whole_run { RunsOver options (R.remaining reader.old) (R.remaining reader.new) (W.contents writer.old)
-        (W.contents writer.new) result }
+    ensures whole_run { RunsOver options (R.remaining reader.old) (R.remaining reader.new)
+        (W.contents writer.old) (W.contents writer.new) result }
 {
     let mut session = Session::new(alloc);
     run_from(&mut session, reader, writer, options)
@@ -72,8 +72,8 @@ fn run_from<R: Read, W: Write>(
     requires number { session.old.number ≡ 0 }
     requires line { session.old.line.items ≡ [] }
     requires pending { session.old.pending.items ≡ [] }
-    ensures { RunsOver options (R.remaining reader.old) (R.remaining reader.new) (W.contents writer.old)
-        (W.contents writer.new) result }
+    ensures { RunsOver options (R.remaining reader.old) (R.remaining reader.new)
+        (W.contents writer.old) (W.contents writer.new) result }
 {
     let mut buffer = [0u8; CHUNK];
     let mut room = LIMIT;

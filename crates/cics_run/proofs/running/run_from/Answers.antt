@@ -1,7 +1,7 @@
-use Rattle.std.proofs.Common.{arith, ◌≡◌, false, ◌++◌, ◌+◌, ◌<◌, ◌≤◌, length, take, drop, length-append, subst, sym, length-take-le, length-take, length-drop}
+use Rattle.std.proofs.Common.{arith, ◌≡◌, false, ◌++◌, ◌<◌, ◌≤◌, length, take, drop, length-append, subst, sym, length-take-le, length-take, length-drop}
 use Rattle.std.specs.Io.KnownBytes.{Appends}
-use Rattle.cics_run.specs.Running.{journal, is_stopped, ReadsOn}
-use Rattle.cics_run.specs.declared.running.TheConstants.{LIMIT, CHUNK}
+use Rattle.cics_run.specs.Running.{journal, is_stopped}
+use Rattle.cics_run.specs.declared.running.TheConstants.{LIMIT}
 use Rattle.cics_run.proofs.Known.{consumes-append, consumes-keeps}
 use Rattle.cics_run.proofs.Reading.{number-bound, front-of, chunk-length, within-chunk, reads-going, reads-chunk, stopped-output, read_more, read_nothing, one_more, runs-stop, runs-ended}
 use Rattle.cics_run.proofs.running.run_from.Goals as goal
