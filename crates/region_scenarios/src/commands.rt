@@ -1,5 +1,5 @@
-//! Commands as a line of a scenario writes them: the label of a task, the command, its file and what
-//! else it takes, and then its options.
+//! Commands as a line of a scenario writes them: the label of a task, the command, its file or queue and
+//! what else it takes, and then its options.
 
 use cics_names::{Command, Name4, Name8, NameFault, NoMemory, Record, Verb};
 use cics_units::DefineFault;
@@ -67,6 +67,15 @@ pub(crate) fn name(text: &str) -> Result<Name8, NameFault> {
     }
 }
 
+/// A name of four characters; NONE where the text has none.
+pub(crate) fn name4(text: &str) -> Result<Name4, NameFault> {
+    if text.is_empty() {
+        Name4::new(b"NONE")
+    } else {
+        Name4::new(text.as_bytes())
+    }
+}
+
 // A key or a record: `high` is four bytes X'FF', two quotes are no byte, and else the text stands for itself.
 fn record(alloc: Global, text: &str) -> Result<Record, NoMemory> {
     match text {
@@ -118,6 +127,7 @@ fn delete(alloc: Global, line: &str, file: Name8) -> Result<Verb, NoMemory> {
         file,
         ridfld,
         key_length: number(line, "keylength="),
+        generic: has(line, "generic"),
     })
 }
 
@@ -138,6 +148,51 @@ fn resetbr(alloc: Global, line: &str, file: Name8) -> Result<Verb, NoMemory> {
         key_length: number(line, "keylength="),
         generic: has(line, "generic"),
         equal: has(line, "equal"),
+    })
+}
+
+fn writeq_ts(alloc: Global, line: &str) -> Result<Verb, NotPlayed> {
+    Ok(Verb::WriteqTs {
+        queue: name(word(line, 2))?,
+        from: record(alloc, word(line, 3))?,
+        length: number(line, "length="),
+        item: number(line, "item="),
+    })
+}
+
+fn readq_ts(line: &str) -> Result<Verb, NameFault> {
+    Ok(Verb::ReadqTs {
+        queue: name(word(line, 2))?,
+        length: number(line, "length="),
+        item: number(line, "item="),
+    })
+}
+
+fn deleteq_ts(line: &str) -> Result<Verb, NameFault> {
+    Ok(Verb::DeleteqTs {
+        queue: name(word(line, 2))?,
+    })
+}
+
+fn writeq_td(alloc: Global, line: &str) -> Result<Verb, NotPlayed> {
+    Ok(Verb::WriteqTd {
+        queue: name4(word(line, 2))?,
+        from: record(alloc, word(line, 3))?,
+        length: number(line, "length="),
+    })
+}
+
+fn readq_td(line: &str) -> Result<Verb, NameFault> {
+    Ok(Verb::ReadqTd {
+        queue: name4(word(line, 2))?,
+        length: number(line, "length="),
+        nosuspend: has(line, "nosuspend"),
+    })
+}
+
+fn deleteq_td(line: &str) -> Result<Verb, NameFault> {
+    Ok(Verb::DeleteqTd {
+        queue: name4(word(line, 2))?,
     })
 }
 
@@ -167,6 +222,19 @@ fn abend(line: &str) -> Result<Verb, NameFault> {
     })
 }
 
+// A command on a queue, `writeq-ts QUEUE FROM` and so on.
+fn queue_verb(alloc: Global, line: &str) -> Result<Verb, NotPlayed> {
+    match word(line, 1) {
+        "writeq-ts" => writeq_ts(alloc, line),
+        "readq-ts" => Ok(readq_ts(line)?),
+        "deleteq-ts" => Ok(deleteq_ts(line)?),
+        "writeq-td" => writeq_td(alloc, line),
+        "readq-td" => Ok(readq_td(line)?),
+        "deleteq-td" => Ok(deleteq_td(line)?),
+        _ => Err(NotPlayed),
+    }
+}
+
 // A command that names no file.
 fn other_verb(alloc: Global, line: &str) -> Result<Verb, NotPlayed> {
     match word(line, 1) {
@@ -176,7 +244,7 @@ fn other_verb(alloc: Global, line: &str) -> Result<Verb, NotPlayed> {
         "rollback" => Ok(Verb::Rollback),
         "return" => Ok(Verb::Return),
         "abend" => Ok(abend(line)?),
-        _ => Err(NotPlayed),
+        _ => queue_verb(alloc, line),
     }
 }
 

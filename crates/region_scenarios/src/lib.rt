@@ -7,6 +7,8 @@
 #[cfg(test)]
 mod commands;
 #[cfg(test)]
+mod generic;
+#[cfg(test)]
 mod journals;
 #[cfg(test)]
 mod lines;
@@ -19,4 +21,10 @@ mod regions;
 #[cfg(test)]
 mod scripts;
 #[cfg(test)]
+mod shutdowns;
+#[cfg(test)]
+mod temp_storage;
+#[cfg(test)]
 mod told;
+#[cfg(test)]
+mod trans_data;

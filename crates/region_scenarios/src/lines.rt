@@ -69,11 +69,14 @@ fn first_faults(rt: HostRuntime) -> Result<(), Fail> {
         // names
         ("DEFINE FILE('A        ') KEYLENGTH(4) RECOVERABLE", literal),
         ("DEFINE FILE('   ') KEYLENGTH(4) RECOVERABLE", literal),
-        // what no line has yet
-        ("T1 EXEC CICS READQ TS QUEUE('A')", unknown),
-        ("T1 EXEC CICS READ QUEUE('A')", unknown),
-        ("T1 EXEC CICS DELETE FILE('A') NUMREC(N)", unknown),
+        // a line of its own, which is no task's
         ("SHUTDOWN EXEC CICS RETURN", unknown),
+        ("SHUTDOWN", unknown),
+        ("SHUTDOWN IMMEDIATE RESP(R)", elsewhere),
+        // TS and TD stand right behind their verb
+        ("T1 EXEC CICS READQ QUEUE('A') TS", unknown),
+        ("T1 EXEC CICS TS READQ QUEUE('A')", unknown),
+        ("LOAD TSPREFIX('R')", unknown),
     ];
     for (text, want) in rows {
         assert_eq!(rt; fault_in(&rt, text.as_bytes()), want, "at {text}");
@@ -109,12 +112,40 @@ fn faults_of_commands(rt: HostRuntime) -> Result<(), Fail> {
         ("T1 EXEC CICS READ EQUAL GTEQ '", elsewhere),
         ("T1 EXEC CICS READ GENERIC UPDATE", elsewhere),
         ("T1 EXEC CICS RESETBR GTEQ EQUAL", elsewhere),
-        ("T1 EXEC CICS DELETE GENERIC", elsewhere),
+        ("T1 EXEC CICS READ QUEUE('A')", elsewhere),
+        ("T1 EXEC CICS WRITEQ TS MAIN AUXILIARY", elsewhere),
+        ("T1 EXEC CICS READQ TS ITEM(1) NEXT", elsewhere),
+        ("T1 EXEC CICS READQ TS NOSUSPEND", elsewhere),
+        ("T1 EXEC CICS WRITEQ TD ITEM", elsewhere),
+        ("DEFINE TDQUEUE('A') LOGICAL PHYSICAL", elsewhere),
+        ("DEFINE TDQUEUE('A') NONE NONE", doubled),
         ("T1 EXEC CICS DEQ NOSUSPEND", elsewhere),
         ("T1 EXEC CICS SYNCPOINT ROLLBACK ROLLBACK", doubled),
         ("T1 EXEC CICS SYNCPOINT ROLLBACK(", literal),
         // what a command can't do without
         ("T1 EXEC CICS DELETE FILE('A') KEYLENGTH(4)", missing),
+        ("T1 EXEC CICS DELETE FILE('A') GENERIC", missing),
+        ("T1 EXEC CICS DELETE FILE('A') NUMREC(N)", missing),
+        ("T1 EXEC CICS WRITEQ TS QUEUE('A')", missing),
+        (
+            "T1 EXEC CICS WRITEQ TS QUEUE('A') FROM('x') REWRITE",
+            missing,
+        ),
+        (
+            "T1 EXEC CICS WRITEQ TS QUEUE('A') FROM('x') ITEM(N) REWRITE",
+            number,
+        ),
+        ("T1 EXEC CICS WRITEQ TS REWRITE ITEM(N)", missing),
+        ("T1 EXEC CICS READQ", missing),
+        ("T1 EXEC CICS DELETEQ TD", missing),
+        ("DEFINE TDQUEUE('A')", missing),
+        ("LOAD TDQUEUE('A')", missing),
+        // names of four characters
+        ("DEFINE TDQUEUE('ABCDE') LOGICAL", literal),
+        ("T1 EXEC CICS READQ TD QUEUE('ABCDE')", literal),
+        // an item is a number, but any area with WRITEQ until the line's end
+        ("T1 EXEC CICS READQ TS ITEM('1')", number),
+        ("T1 EXEC CICS WRITEQ TS REWRITE ITEM()", literal),
         ("T1 EXEC CICS READPREV", missing),
         ("T1 EXEC CICS DEQ RESOURCE('A')", missing),
         ("T1 EXEC CICS ENQ RESOURCE('A') LENGTH('1')", number),
@@ -239,19 +270,21 @@ fn asked_of_record(verb: &Verb) -> Option<Asked<'_>> {
             file,
             ridfld: Some(ridfld),
             key_length,
+            generic,
         } if is_name8(*file, "ACCT") => {
             Some((
                 "DELETE of a key",
                 ridfld.bytes(),
                 none,
                 (*key_length, None),
-                no,
+                (*generic, false, false),
             ))
         }
         Verb::Delete {
             file,
             ridfld: None,
             key_length,
+            generic: false,
         } if is_name8(*file, "ACCT") => Some(("DELETE", none, none, (*key_length, None), no)),
         _ => None,
     }

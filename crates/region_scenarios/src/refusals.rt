@@ -62,11 +62,11 @@ fn told_again(alloc: Global, came: &Came) -> Result<String, NoMemory> {
     }
 }
 
-// The files, the tasks and the units of the region.
+// The files, the queues, the tasks and the units of the region.
 fn shown(region: &Region, alloc: Global) -> Result<String, NoMemory> {
     let mut text = String::new(alloc);
-    for what in ["files", "tasks", "units"] {
-        push_look(&mut text, region, what)?;
+    for line in ["stored", "place RQ", "tasks", "units"] {
+        push_look(&mut text, region, line)?;
     }
     Ok(text)
 }
@@ -80,10 +80,10 @@ fn shown_again(region: &Region, alloc: Global) -> Result<String, NoMemory> {
 }
 
 // What a look shows, where memory for it may be refused once.
-fn look_again(alloc: Global, region: &Region, what: &str) -> Result<String, NoMemory> {
-    match look(alloc, region, what) {
+fn look_again(alloc: Global, region: &Region, line: &str) -> Result<String, NoMemory> {
+    match look(alloc, region, line) {
         Ok(text) => Ok(text),
-        Err(_) => look(alloc, region, what),
+        Err(_) => look(alloc, region, line),
     }
 }
 

@@ -1,6 +1,6 @@
 //! What comes of a call as text, as a scenario expects it.
 
-use cics_dispatch::{Expired, Outcome, Refused, Reply, Woken};
+use cics_dispatch::{Expired, Number, Outcome, Refused, Reply, Woken};
 use cics_names::{NoMemory, Record, from_ebcdic};
 use std::alloc::Global;
 
@@ -15,6 +15,8 @@ pub(crate) enum Came {
     Woke(Result<Option<Woken>, Refused>),
     /// The look for a task that has waited too long.
     TimedOut(Option<Expired>),
+    /// The end of the region.
+    ShutDown(Result<u64, Refused>),
 }
 
 /// Whether a call was refused for want of memory.
@@ -51,11 +53,29 @@ pub(crate) fn push_record(text: &mut String, record: &Record) -> Result<(), NoMe
     Ok(())
 }
 
+/// Adds a blank and a number.
+pub(crate) fn push_number(text: &mut String, number: u64) -> Result<(), NoMemory> {
+    Ok(write!(text, " {number}")?)
+}
+
+// Adds the number that a reply carries, with a word of which number it is.
+fn push_counted(text: &mut String, number: Number) -> Result<(), NoMemory> {
+    let (title, number) = match number {
+        Number::Item(number) => (" ITEM", number),
+        Number::Numrec(number) => (" NUMREC", number),
+    };
+    text.push_str(title)?;
+    push_number(text, number)
+}
+
 fn push_reply(text: &mut String, reply: &Reply) -> Result<(), NoMemory> {
     text.push(' ')?;
     text.push_str(reply.condition.name())?;
     if let Some(key) = &reply.key {
         push_record(text, key)?;
+    }
+    if let Some(number) = reply.number {
+        push_counted(text, number)?;
     }
     if let Some(content) = &reply.content {
         push_record(text, content)?;
@@ -82,15 +102,23 @@ fn push_outcome(text: &mut String, outcome: &Outcome) -> Result<(), NoMemory> {
     }
 }
 
-fn refused(refusal: &Refused) -> &'static str {
-    match refusal {
-        Refused::NoMemory => " refused NoMemory",
-        Refused::NoTask => " refused NoTask",
-        Refused::TaskWaiting => " refused TaskWaiting",
-        Refused::TaskEnded => " refused TaskEnded",
-        Refused::DuplicateLabel => " refused DuplicateLabel",
-        Refused::ClockBack => " refused ClockBack",
+fn refusal(refused: Refused) -> &'static str {
+    match refused {
+        Refused::NoMemory => " NoMemory",
+        Refused::NoTask => " NoTask",
+        Refused::TaskWaiting => " TaskWaiting",
+        Refused::TaskEnded => " TaskEnded",
+        Refused::DuplicateLabel => " DuplicateLabel",
+        Refused::ClockBack => " ClockBack",
+        Refused::RegionDown => " RegionDown",
     }
+}
+
+// Adds why a call was refused, by its number and its name.
+fn push_refused(text: &mut String, refused: Refused) -> Result<(), NoMemory> {
+    text.push_str(" refused")?;
+    push_number(text, refused.number())?;
+    Ok(text.push_str(refusal(refused))?)
 }
 
 fn push_woken(text: &mut String, woken: &Option<Woken>) -> Result<(), NoMemory> {
@@ -119,9 +147,14 @@ fn push_came(text: &mut String, came: &Came) -> Result<(), NoMemory> {
         Came::Told(Ok(outcome)) => push_outcome(text, outcome),
         Came::Woke(Ok(woken)) => push_woken(text, woken),
         Came::TimedOut(expired) => push_expired(text, expired),
-        Came::Made(Err(refusal)) | Came::Told(Err(refusal)) | Came::Woke(Err(refusal)) => {
-            Ok(text.push_str(refused(refusal))?)
+        Came::ShutDown(Ok(units)) => {
+            text.push_str(" down")?;
+            push_number(text, *units)
         }
+        Came::Made(Err(refused))
+        | Came::Told(Err(refused))
+        | Came::Woke(Err(refused))
+        | Came::ShutDown(Err(refused)) => push_refused(text, *refused),
     }
 }
 
