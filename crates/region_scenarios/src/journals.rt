@@ -1,6 +1,8 @@
 //! Scripts from bytes to bytes, over readers and writers that give and take little, or fail.
 
+use crate::queue_scripts::{RUNS, Run};
 use crate::scripts::{ROLLBACK, ROLLBACK_JOURNAL, ROLLBACK_LISTING, ROLLBACK_REPLAY, SCRIPTS};
+use cics_names::NoMemory;
 use cics_run::{Asked, LIMIT, Options, RunFault, Status, arguments, exit_status, run};
 use std::alloc::Global;
 use std::io;
@@ -249,6 +251,41 @@ fn prints(alloc: Global, script: &str, output: &str, options: Options) -> Result
 fn tasks_wait_go_on_and_end(rt: HostRuntime) -> Result<(), Fail> {
     for (script, output) in SCRIPTS {
         assert!(rt; prints(rt.alloc(), script, output, LISTED)?, "{script}");
+    }
+    Ok(())
+}
+
+// All that a script prints, its listing and its replay too.
+fn whole(alloc: Global, of: &Run) -> Result<String, NoMemory> {
+    let mut text = String::new(alloc);
+    for part in [
+        of.journal,
+        "LISTING\n",
+        of.stored,
+        of.tasks,
+        "REPLAY\n",
+        of.stored,
+    ] {
+        text.push_str(part)?;
+    }
+    Ok(text)
+}
+
+#[test]
+fn queues_generic_deletes_and_a_shutdown_are_printed_and_replayed(
+    rt: HostRuntime,
+) -> Result<(), Fail> {
+    let options = Options {
+        no_list: false,
+        replay: true,
+    };
+    for of in RUNS {
+        let output = whole(rt.alloc(), &of)?;
+        assert!(rt;
+            prints(rt.alloc(), of.script, &output, options)?,
+            "{}",
+            of.shows
+        );
     }
     Ok(())
 }

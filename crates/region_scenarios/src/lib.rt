@@ -15,6 +15,10 @@ mod lines;
 #[cfg(test)]
 mod playing;
 #[cfg(test)]
+mod queue_lines;
+#[cfg(test)]
+mod queue_scripts;
+#[cfg(test)]
 mod refusals;
 #[cfg(test)]
 mod regions;

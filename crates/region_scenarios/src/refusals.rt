@@ -15,6 +15,7 @@ use std::test::Fail;
 const LINES: &str = "\
 load ACCT 0001aa
 load ACCT 0002bb
+fill LOGQ r1
 attach T1 = ok
 attach T2 dtimout=5 = ok
 attach T3 dtimout=5 = ok
@@ -27,15 +28,33 @@ T1 startbr ACCT 0002 = NORMAL
 T1 readprev ACCT length=5 = LENGERR 0002 0002b
 T1 read ACCT 0001 length=5 = LENGERR 0001c
 T1 write ACCT 0003 0003dd = NORMAL
+T1 writeq-ts RQ one = NORMAL ITEM 1
+T1 readq-ts RQ length=2 = LENGERR ITEM 1 on
+T1 writeq-ts RQ uno item=1 = NORMAL ITEM 1
+T1 deleteq-ts RQ = NORMAL
+T1 writeq-ts RQ two = NORMAL ITEM 1
+T1 writeq-td LOGQ r2 = NORMAL
+T1 readq-td LOGQ length=1 = LENGERR r
+T1 deleteq-td LOGQ = NORMAL
+T1 writeq-td PHYQ p1 = NORMAL
+T1 readq-td PHYQ = NORMAL p1
 T1 syncpoint = NORMAL
 wake = T2 NORMAL
 clock 5 = ok
 expire = T3 AKCS
+T1 delete ACCT 0003 generic = NORMAL NUMREC 1
 T1 write ACCT 0002 0002zz unhandled = ABEND AEIN DUPREC
 T2 rollback = NORMAL
 files = ACCT 0001cc 0002bb 0003dd LOG
+ts = RQ recoverable two
+td = LOGQ logical NONQ none PHYQ physical
 tasks = T2 idle
 units = committed backed-out backed-out
+T2 writeq-td LOGQ r3 = NORMAL
+shutdown = down 1
+ts = RQ recoverable two
+td = LOGQ logical NONQ none PHYQ physical
+units = committed backed-out backed-out backed-out
 ";
 
 // The region, where memory for it may be refused once.
