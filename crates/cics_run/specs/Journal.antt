@@ -14,6 +14,7 @@ use Rattle.cics_dispatch.specs.declared.outcomes.Woken.{Woken}
 use Rattle.cics_dispatch.specs.declared.outcomes.Expired.{Expired}
 use Rattle.cics_dispatch.specs.declared.outcomes.Refused.{Refused}
 use Rattle.cics_dispatch.specs.declared.outcomes.Refused.TheVariants as refused
+use Rattle.cics_units.specs.Faults.{fault_number}
 use Rattle.cics_units.specs.declared.opening.DefineFault.{DefineFault}
 use Rattle.cics_units.specs.declared.opening.DefineFault.TheVariants as define
 use Rattle.cics_script.specs.Faults as script
@@ -115,14 +116,6 @@ shutdown_line units = line (codes "SHUTDOWN " ++ decimal units)
 abbrev pub shutdown_refused_line : Refused → List ℕ
 shutdown_refused_line refusal = line (codes "SHUTDOWN " ++ refusal_text refusal)
 
--- the numbers of the faults of definitions
-abbrev pub define_number : DefineFault → ℕ
-define_number define.Duplicate = 1
-define_number define.BadKey = 2
-define_number define.BadLength = 3
-define_number define.NotThere = 4
-define_number define.NoMemory = 5
-
 -- the names of the faults of definitions
 abbrev pub define_title : DefineFault → List ℕ
 define_title define.Duplicate = codes "Duplicate"
@@ -134,7 +127,7 @@ define_title define.NoMemory = codes "NoMemory"
 -- a definition or a load was refused, at a line of the script
 abbrev pub define_fault_line : ℕ → DefineFault → List ℕ
 define_fault_line at fault =
-    line (codes "LINE " ++ (decimal at ++ (codes " DEFINE " ++ numbered (define_number fault) (define_title fault))))
+    line (codes "LINE " ++ (decimal at ++ (codes " DEFINE " ++ numbered (fault_number fault) (define_title fault))))
 
 -- a line of the script can't be read, or stands where it may not
 abbrev pub line_fault_line : ℕ → LineFault → List ℕ

@@ -5,7 +5,7 @@ use Rattle.std.specs.Io.KnownBytes.{Appends, Consumes, IsAtEnd}
 use Rattle.cics_run.specs.Lines.{completed, all_lines}
 use Rattle.cics_run.specs.Stages.{step, Step, first_stage, listing_at, replay_at}
 use Rattle.cics_run.specs.Printing.{AppendsFront}
-use Rattle.cics_run.specs.declared.running.TheConstants.{LIMIT, CHUNK}
+use Rattle.cics_run.specs.declared.running.TheConstants.{CHUNK}
 use Rattle.cics_run.specs.declared.stage.Stage.{Stage}
 use Rattle.cics_run.specs.declared.running.Status.{Status}
 use Rattle.cics_run.specs.declared.running.Status.TheVariants as status
@@ -27,6 +27,10 @@ stepped number journal s = record { stage = s.stage; number = number; journal = 
 -- One line more. Lines are numbered from 1, and behind a fault no line counts.
 abbrev pub next : Played → List ℕ → Played
 next p line = if p.has_fault then p else stepped (p.number + 1) p.journal (step (p.number + 1) p.stage line)
+
+-- how many bytes a script may have
+abbrev pub most_bytes : ℕ
+most_bytes = 16777216
 
 -- before the first line
 abbrev pub start : Played
@@ -78,15 +82,15 @@ Answers options bytes rest old new (Ok status.Done) = Appends old new (output op
 Answers options bytes rest old new (Ok status.LineFault) =
     Appends old new (output options bytes) × (is_faulty bytes ≡ true) × ((is_stopped bytes ≡ true) ⊎ IsAtEnd rest)
 Answers options bytes rest old new (Err faults.InputTooLong) =
-    (length bytes ≡ LIMIT + 1) × (is_stopped (take LIMIT bytes) ≡ false) × Appends old new (journal (take LIMIT bytes))
+    (length bytes ≡ most_bytes + 1) × (is_stopped (take most_bytes bytes) ≡ false) × Appends old new (journal (take most_bytes bytes))
 Answers options bytes rest old new (Err faults.ReadFault) = (is_stopped bytes ≡ false) × Appends old new (journal bytes)
 Answers options bytes rest old new (Err faults.WriteFault) = WritesFront options bytes rest old new
 Answers options bytes rest old new (Err faults.NoMemory) = WritesFront options bytes rest old new
 
 -- how many bytes a run reads at most: as many as a script may have, and one more where it tells that there are more
 abbrev pub most : Result Status RunFault → ℕ
-most (Err faults.InputTooLong) = LIMIT + 1
-most _ = LIMIT
+most (Err faults.InputTooLong) = most_bytes + 1
+most _ = most_bytes
 
 -- A run reads no more behind a fault: before the last bytes, which came at once, no complete line is one.
 abbrev pub ReadsOn : List ℕ → Type 0

@@ -5,7 +5,7 @@ ghost use Rattle.cics_run.specs.Journal.{numbered, condition_text, part, number_
 ghost use Rattle.cics_run.specs.Journal.{abend_text, outcome_text, attached_line, outcome_line};
 ghost use Rattle.cics_run.specs.Journal.{woken_line, expired_line, clock_line, clock_refused_line};
 ghost use Rattle.cics_run.specs.Journal.{shutdown_line, shutdown_refused_line, refusal_title};
-ghost use Rattle.cics_run.specs.Journal.{refusal_text, refused_line, define_number, define_title};
+ghost use Rattle.cics_run.specs.Journal.{refusal_text, refused_line, define_title};
 ghost use Rattle.cics_run.specs.Journal.{define_fault_line, line_fault_line};
 ghost use Rattle.cics_run.specs.Texts.{text_of, name_text, bare};
 
@@ -108,7 +108,7 @@ pub fn push_define_fault(out: &mut Vec<u8>, at: u64, fault: DefineFault) -> Resu
     push_str(out, "LINE ")?;
     push_number(out, at)?;
     push_str(out, " DEFINE ")?;
-    push_numbered(out, define_number(fault), define_title(fault))?;
+    push_numbered(out, fault.number(), define_title(fault))?;
     push_str(out, "\n")
 }
 
@@ -220,18 +220,6 @@ fn refusal_title(refusal: Refused) -> &'static str
         Refused::DuplicateLabel => "DuplicateLabel",
         Refused::ClockBack => "ClockBack",
         Refused::RegionDown => "RegionDown",
-    }
-}
-
-fn define_number(fault: DefineFault) -> u64
-    ensures { result ≡ define_number fault }
-{
-    match fault {
-        DefineFault::Duplicate => 1,
-        DefineFault::BadKey => 2,
-        DefineFault::BadLength => 3,
-        DefineFault::NotThere => 4,
-        DefineFault::NoMemory => 5,
     }
 }
 
