@@ -1,4 +1,5 @@
 mod Characters
+mod EarlyFault
 mod QueueScripts
 mod ScriptRows
 mod Unfilled

@@ -92,11 +92,11 @@ abbrev pub most : Result Status RunFault → ℕ
 most (Err faults.InputTooLong) = most_bytes + 1
 most _ = most_bytes
 
--- A run reads no more behind a fault: before the last bytes, which came at once, no complete line is one.
+-- No more is read behind a fault: without the last bytes, no more than are asked for at once, no complete line is one.
 abbrev pub ReadsOn : List ℕ → Type 0
 ReadsOn bytes = (front : List ℕ) × (last : List ℕ) × (bytes ≡ front ++ last) × (length last ≤ CHUNK) × (is_stopped front ≡ false)
 
--- Some bytes were read, no more than may be, and none behind a fault that was printed; and what was written is what they call for.
+-- Some bytes were read, not too many and no more behind a fault, and what was written is what they call for.
 abbrev pub RunsOver : Options → Option (List ℕ) → Option (List ℕ) → Option (List ℕ) → Option (List ℕ) → Result Status RunFault → Type 0
 RunsOver options input rest old new result =
     (bytes : List ℕ) × Consumes input rest bytes × (length bytes ≤ most result) × ReadsOn bytes × Answers options bytes rest old new result
