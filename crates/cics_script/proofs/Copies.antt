@@ -1,12 +1,17 @@
 -- Literals, one byte further.
-use Rattle.std.proofs.Common.{◌≡◌, ℕ, List, [], ◌∷◌, ◌++◌, refl, ap, sym, ◌∙◌, Some, None, append_assoc}
-use Rattle.std.specs.Prelude.{option_map}
+use Rattle.std.proofs.Common.{◌≡◌, ℕ, true, false, List, [], ◌∷◌, ◌++◌, take, drop, refl, ap, sym, ◌∙◌, Some, None, append_assoc, append-nil, inl, inr}
+use Rattle.std.proofs.lemmas.Bool.{cases_Bool}
+use Rattle.std.proofs.lemmas.List.{map-append}
+use Rattle.std.proofs.Math.Numerals.{one-add}
+use Rattle.std.specs.List.{prefix_len}
+use Rattle.std.specs.Prelude.{option_map, is_some}
+use Rattle.cics_names.specs.Ebcdic.{code_of}
 use Rattle.cics_script.specs.declared.literals.Encoding.{Encoding}
 use Rattle.cics_script.specs.declared.literals.Encoding.TheVariants.{AsWritten, Ebcdic}
 use Rattle.cics_script.specs.declared.literals.Notation.{Notation}
 use Rattle.cics_script.specs.declared.literals.Notation.TheVariants.{Quoted, Hexadecimal}
-use Rattle.cics_script.specs.Tokens.{Text, with_byte}
-use Rattle.cics_script.specs.Literals.{said, encoded, encoded_text, recorded}
+use Rattle.cics_script.specs.Tokens.{Text, with_byte, characters_from, is_quote}
+use Rattle.cics_script.specs.Literals.{said, encoded, encoded_text, recorded, ebcdic, is_plain}
 
 -- bytes in front of a text
 abbrev pub with_front : List ℕ → Text → Text
@@ -70,3 +75,68 @@ rest-with_byte byte (Some t) = refl
 pub rest-more : (byte : ℕ) (whole here after : Text) → option_map (λ t. t.1) here ≡ option_map (λ t. t.1) whole → here ≡ with_byte byte after
     → option_map (λ t. t.1) after ≡ option_map (λ t. t.1) whole
 rest-more byte whole here after so_far step = sym (rest-with_byte byte after) ∙ ap (option_map (λ t. t.1)) (sym step) ∙ so_far
+
+-- characters that stand for themselves, in front of a text
+with_front-nil : (t : Text) → with_front [] t ≡ t
+with_front-nil None = refl
+with_front-nil (Some t) = refl
+
+with_front-cons : (c : ℕ) (front : List ℕ) (t : Text) → with_front (c ∷ front) t ≡ with_byte c (with_front front t)
+with_front-cons c front None = refl
+with_front-cons c front (Some t) = refl
+
+with_front-append : (a b : List ℕ) (t : Text) → with_front (a ++ b) t ≡ with_front a (with_front b t)
+with_front-append a b None = refl
+with_front-append a b (Some t) = ap (λ x. Some (x, t.1)) (append_assoc a b t.0)
+
+pub characters-plain : (bytes : List ℕ) → characters_from false bytes ≡ with_front (take (prefix_len is_plain bytes) bytes) (characters_from false (drop (prefix_len is_plain bytes) bytes))
+characters-plain [] = refl
+characters-plain (c ∷ bytes) =
+    elim (cases_Bool (is_quote c)) [
+      | inl quote ↦ rw (quote, quote) (sym (with_front-nil (characters_from true bytes)))
+      | inr other ↦ rw other (
+          elim (cases_Bool (is_some (code_of c))) [
+            | inl code ↦ rw (code, one-add) (ap (with_byte c) (characters-plain bytes) ∙ sym (with_front-cons c _ _))
+            | inr none ↦ rw (none, other, none) refl
+          ])
+    ]
+
+-- a text with characters that stand for themselves in front is copied with them
+coded-with_front : (encoding : Encoding) (front : List ℕ) (t : Text) → coded encoding (with_front front t) ≡ with_front (encoded_text encoding front) (coded encoding t)
+coded-with_front encoding front None = refl
+coded-with_front AsWritten front (Some t) = refl
+coded-with_front Ebcdic front (Some t) = ap (λ x. Some (x, t.1)) (map-append ebcdic front t.0)
+
+pub copied-plain : (encoding : Encoding) (front plain : List ℕ) (whole here behind : Text)
+    → with_front front (coded encoding here) ≡ whole → here ≡ with_front plain behind
+    → with_front (front ++ encoded_text encoding plain) (coded encoding behind) ≡ whole
+copied-plain encoding front plain whole here behind so_far step =
+    with_front-append front (encoded_text encoding plain) (coded encoding behind)
+    ∙ ap (with_front front) (sym (coded-with_front encoding plain behind) ∙ ap (coded encoding) (sym step))
+    ∙ so_far
+
+-- what follows a literal, behind characters that stand for themselves
+rest-with_front : (front : List ℕ) (t : Text) → option_map (λ t. t.1) (with_front front t) ≡ option_map (λ t. t.1) t
+rest-with_front front None = refl
+rest-with_front front (Some t) = refl
+
+pub rest-plain : (front : List ℕ) (whole here behind : Text) → option_map (λ t. t.1) here ≡ option_map (λ t. t.1) whole → here ≡ with_front front behind
+    → option_map (λ t. t.1) behind ≡ option_map (λ t. t.1) whole
+rest-plain front whole here behind so_far step = sym (rest-with_front front behind) ∙ ap (option_map (λ t. t.1)) (sym step) ∙ so_far
+
+-- a literal of such characters alone
+pub said-plain : (front rest : List ℕ) (whole behind : Text) → whole ≡ with_front front behind → behind ≡ Some ([], rest) → said whole ≡ front
+said-plain front rest whole behind step end = ap said step ∙ ap (λ t. said (with_front front t)) end ∙ append-nil front
+
+-- the characters in front, and the text behind them
+pub characters-front : (bytes plain behind : List ℕ) (n : ℕ) → n ≡ prefix_len is_plain bytes → plain ≡ take n bytes → behind ≡ drop n bytes
+    → characters_from false bytes ≡ with_front plain (characters_from false behind)
+characters-front bytes plain behind n count front rest = rw (front, rest, count) (characters-plain bytes)
+
+-- what follows a literal that ends here, or is none
+pub rest-ends : (rest : List ℕ) (whole here : Text) → option_map (λ t. t.1) here ≡ option_map (λ t. t.1) whole → here ≡ Some ([], rest)
+    → Some rest ≡ option_map (λ t. t.1) whole
+rest-ends rest whole here so_far end = sym (ap (option_map (λ t. t.1)) end) ∙ so_far
+
+pub rest-none : (whole here : Text) → option_map (λ t. t.1) here ≡ option_map (λ t. t.1) whole → here ≡ None → None ≡ option_map (λ t. t.1) whole
+rest-none whole here so_far bad = sym (ap (option_map (λ t. t.1)) bad) ∙ so_far

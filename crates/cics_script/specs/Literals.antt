@@ -1,8 +1,8 @@
 -- What a literal says, and the record that it writes.
-use Rattle.std.specs.Prelude.{◌≡◌, ◌<◌, ℕ, List, [], map, length, Some, None, unwrap_or}
+use Rattle.std.specs.Prelude.{◌≡◌, ◌<◌, ◌&&◌, ℕ, Bool, not, List, [], map, length, Some, None, unwrap_or, is_some}
 use Rattle.cics_names.specs.Ebcdic.{code_of}
 use Rattle.cics_names.specs.Names.{blank}
-use Rattle.cics_script.specs.Tokens.{Text, with_byte}
+use Rattle.cics_script.specs.Tokens.{Text, with_byte, is_quote, text_in}
 use Rattle.cics_script.specs.declared.literals.Notation.{Notation}
 use Rattle.cics_script.specs.declared.literals.Notation.TheVariants.{Quoted, Hexadecimal}
 use Rattle.cics_script.specs.declared.literals.Encoding.{Encoding}
@@ -39,3 +39,11 @@ abbrev pub Begins : (List ℕ → Text) → List ℕ → Piece → Type 0
 Begins read bytes (End rest) = read bytes ≡ Some ([], rest.now)
 Begins read bytes (Byte byte rest) = (read bytes ≡ with_byte byte (read rest.now)) × (length rest.now < length bytes)
 Begins read bytes Bad = read bytes ≡ None
+
+-- a character that stands for itself in a quoted literal: it has a code, and is no quote
+abbrev pub is_plain : ℕ → Bool
+is_plain c = not (is_quote c) && is_some (code_of c)
+
+-- a quoted literal says what stands between its quotes
+abbrev pub IsWrittenAs : Notation → List ℕ → List ℕ → Type 0
+IsWrittenAs notation bytes text = (notation ≡ Quoted) × (said (text_in notation bytes) ≡ text)

@@ -1,6 +1,6 @@
 //! The lines of a script.
 
-ghost use Rattle.std.specs.Prelude.{◌≡◌, ◌||◌, Ok, IsTrue, map, option_map, IfOk};
+ghost use Rattle.std.specs.Prelude.{◌≡◌, ◌≤◌, ◌||◌, Ok, IsTrue, length, map, option_map, take};
 ghost use Rattle.std.specs.List.{list_all};
 ghost use Rattle.cics_script.specs.Faults.{Reads};
 ghost use Rattle.cics_script.specs.Tokens.{capital, tokens, after_blanks, is_capital, is_digit};
@@ -24,11 +24,14 @@ use crate::words::{
 use cics_ksds::FileDef;
 use cics_names::{Command, Name4, Name8, Record};
 use cics_transdata::Recovery;
-use std::alloc::{AllocError, Global};
+use std::alloc::Global;
 
 const LIMIT: usize = 70_000;
 
 const RECORD_SIZE: u64 = 32_767;
+
+// How many characters a label may have.
+const LABEL: usize = 8;
 
 /// What a line of a script says.
 #[derive(Drop)]
@@ -194,10 +197,14 @@ fn skip_word<'a>(bytes: &'a [u8], wanted: &[u8]) -> Result<&'a [u8], LineFault>
     }
 }
 
-fn capitals(alloc: Global, word: &[u8]) -> Result<Vec<u8>, AllocError>
-    ensures { IfOk result (λ text. text.items ≡ map capital word.now) }
+// Writes the capitals of a word over the front of a text.
+fn put_capitals(text: &mut [u8; LABEL], word: &[u8])
+    requires { length word.now ≤ 8 }
+    ensures { take (length word.now) text.new ≡ map capital word.now }
 {
-    word.iter().map(|byte| capital_of(*byte)).collect(alloc)
+    for (i, byte) in word.iter().enumerate() {
+        text[i] = capital_of(*byte);
+    }
 }
 
 fn are_letters_and_digits(text: &[u8]) -> bool
@@ -208,20 +215,19 @@ fn are_letters_and_digits(text: &[u8]) -> bool
 }
 
 // The label that a word is.
-fn label_of(alloc: Global, word: &[u8]) -> Result<Name8, LineFault>
-    ensures { Reads (label_in (map capital word.now)) result }
+fn label_of(word: &[u8]) -> Result<Name8, LineFault>
+    ensures { result ≡ label_in (map capital word.now) }
 {
-    if start_of(word).is_some() {
+    if word.len() > LABEL || start_of(word).is_some() {
         return Err(LineFault::UnknownWord);
     }
-    let text = match capitals(alloc, word) {
-        Ok(text) => text,
-        Err(_) => return Err(LineFault::NoMemory),
-    };
-    if !are_letters_and_digits(&text) {
+    let mut capitals = [0; LABEL];
+    put_capitals(&mut capitals, word);
+    let text = &capitals[..word.len()];
+    if !are_letters_and_digits(text) {
         return Err(LineFault::UnknownWord);
     }
-    match Name8::new(&text) {
+    match Name8::new(text) {
         Ok(label) => Ok(label),
         Err(_) => Err(LineFault::UnknownWord),
     }
@@ -276,7 +282,7 @@ fn read_attach(alloc: Global, bytes: &[u8]) -> Result<Line, LineFault>
         Ok(first) => first,
         Err(fault) => return Err(fault),
     };
-    let label = match label_of(alloc, word) {
+    let label = match label_of(word) {
         Ok(label) => label,
         Err(fault) => return Err(fault),
     };
@@ -403,7 +409,7 @@ fn read_statement(alloc: Global, bytes: &[u8]) -> Result<Line, LineFault>
         Some(Start::Attach) => read_attach(alloc, rest),
         Some(Start::Clock) => read_clock(alloc, rest),
         Some(Start::Shutdown) => read_shutdown(alloc, rest),
-        None => match label_of(alloc, word) {
+        None => match label_of(word) {
             Ok(label) => read_issue(alloc, label, rest),
             Err(fault) => Err(fault),
         },
@@ -419,7 +425,11 @@ fn is_in_script(byte: u8) -> bool
 fn are_in_script(bytes: &[u8]) -> bool
     ensures { result ≡ list_all is_script_byte bytes.now }
 {
-    bytes.iter().all(|byte| is_in_script(*byte))
+    let mut all = true;
+    for byte in bytes {
+        all &= is_in_script(*byte);
+    }
+    all
 }
 
 fn is_blank_line(bytes: &[u8]) -> bool

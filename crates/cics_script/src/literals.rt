@@ -1,8 +1,10 @@
 //! Literals of a line: `'characters'`, with `''` for a quote, and `X'hexadecimal digits'`.
 
-ghost use Rattle.std.specs.Prelude.{◌≡◌, IfOk, option_map};
+ghost use Rattle.std.specs.Prelude.{◌≡◌, ◌≤◌, ◌++◌, IfOk, IfSome, OnOk, length, option_map};
+ghost use Rattle.std.specs.List.{prefix_len};
 ghost use Rattle.cics_script.specs.Tokens.{is_quote, hex_value, text_in};
-ghost use Rattle.cics_script.specs.Literals.{Begins, said, encoded, encoded_text, recorded};
+ghost use Rattle.cics_script.specs.Literals.{Begins, is_plain, said, encoded, encoded_text};
+ghost use Rattle.cics_script.specs.Literals.{recorded, IsWrittenAs};
 
 use cics_names::{NoMemory, Record, to_ebcdic};
 use std::alloc::{AllocError, Global};
@@ -94,13 +96,22 @@ fn next_pair(bytes: &[u8]) -> Piece<'_>
     }
 }
 
-fn next_piece(notation: Notation, bytes: &[u8]) -> Piece<'_>
-    ensures { Begins (text_in notation) bytes.now result }
+// Whether a character stands for itself: it has a code, and is no quote.
+fn is_plain_byte(byte: u8) -> bool
+    ensures { result ≡ is_plain byte }
 {
-    match notation {
-        Notation::Quoted => next_character(bytes),
-        Notation::Hexadecimal => next_pair(bytes),
-    }
+    !is_quote_byte(byte) && to_ebcdic(char::from(byte)).is_some()
+}
+
+// How many characters in front stand for themselves.
+fn plain_len(bytes: &[u8]) -> usize
+    ensures value { result ≡ prefix_len is_plain bytes.now }
+    ensures within { result ≤ length bytes.now }
+{
+    bytes
+        .iter()
+        .take_while(|byte| is_plain_byte(**byte))
+        .count()
 }
 
 // A character as its code, where the code is asked for.
@@ -113,19 +124,114 @@ fn encoded_byte(encoding: Encoding, byte: u8) -> u8
     }
 }
 
+// Puts characters that stand for themselves behind a text.
+fn push_plain(text: &mut Vec<u8>, encoding: Encoding, plain: &[u8]) -> Result<(), AllocError>
+    ensures { OnOk result (text.new.items ≡ text.old.items ++ encoded_text encoding plain.now) }
+{
+    match encoding {
+        Encoding::AsWritten => text.extend_from_slice(plain),
+        Encoding::Ebcdic => text.extend(
+            plain
+                .iter()
+                .map(|byte| encoded_byte(Encoding::Ebcdic, *byte)),
+        ),
+    }
+}
+
+// What follows a quoted literal, from behind its first quote.
+fn behind_characters(bytes: &[u8]) -> Option<&[u8]>
+    ensures { option_map (λ rest. rest.now) result
+        ≡ option_map (λ t. t.1) (text_in Notation.Quoted bytes.now) }
+{
+    let mut rest = bytes;
+    'pieces: loop {
+        let (_, behind) = rest.split_at(plain_len(rest));
+        match next_character(behind) {
+            Piece::Byte(_, after) => rest = after,
+            Piece::End(after) => return Some(after),
+            Piece::Bad => return None,
+        }
+    }
+}
+
+// What follows a hexadecimal literal, from behind its first quote.
+fn behind_pairs(bytes: &[u8]) -> Option<&[u8]>
+    ensures { option_map (λ rest. rest.now) result
+        ≡ option_map (λ t. t.1) (text_in Notation.Hexadecimal bytes.now) }
+{
+    let mut rest = bytes;
+    'pieces: loop {
+        match next_pair(rest) {
+            Piece::Byte(_, after) => rest = after,
+            Piece::End(after) => return Some(after),
+            Piece::Bad => return None,
+        }
+    }
+}
+
+// What a quoted literal says, from behind its first quote.
+fn copy_characters(alloc: Global, encoding: Encoding, bytes: &[u8]) -> Result<Vec<u8>, AllocError>
+    ensures { IfOk result (λ text. text.items
+        ≡ encoded_text encoding (said (text_in Notation.Quoted bytes.now))) }
+{
+    let mut text = Vec::new(alloc);
+    let mut rest = bytes;
+    'pieces: loop {
+        let (plain, behind) = rest.split_at(plain_len(rest));
+        push_plain(&mut text, encoding, plain)?;
+        match next_character(behind) {
+            Piece::Byte(byte, after) => {
+                text.push(encoded_byte(encoding, byte))?;
+                rest = after;
+            }
+            Piece::End(_) => return Ok(text),
+            Piece::Bad => return Ok(Vec::new(alloc)),
+        }
+    }
+}
+
+// What a hexadecimal literal says, from behind its first quote.
+fn copy_pairs(alloc: Global, encoding: Encoding, bytes: &[u8]) -> Result<Vec<u8>, AllocError>
+    ensures { IfOk result (λ text. text.items
+        ≡ encoded_text encoding (said (text_in Notation.Hexadecimal bytes.now))) }
+{
+    let mut text = Vec::new(alloc);
+    let mut rest = bytes;
+    'pieces: loop {
+        match next_pair(rest) {
+            Piece::Byte(byte, after) => {
+                text.push(encoded_byte(encoding, byte))?;
+                rest = after;
+            }
+            Piece::End(_) => return Ok(text),
+            Piece::Bad => return Ok(Vec::new(alloc)),
+        }
+    }
+}
+
 impl<'a> Literal<'a> {
     /// The line behind the literal, or nothing where the bytes behind the quote are no literal.
     pub fn rest(self) -> Option<&'a [u8]>
         ensures { option_map (λ rest. rest.now) result
             ≡ option_map (λ t. t.1) (text_in self.entry.notation self.entry.behind_quote.now) }
     {
-        let mut rest = self.behind_quote;
-        'pieces: loop {
-            match next_piece(self.notation, rest) {
-                Piece::Byte(_, after) => rest = after,
-                Piece::End(after) => return Some(after),
-                Piece::Bad => return None,
-            }
+        match self.notation {
+            Notation::Quoted => behind_characters(self.behind_quote),
+            Notation::Hexadecimal => behind_pairs(self.behind_quote),
+        }
+    }
+
+    /// The characters of a quoted literal that are written one by one, with no quote among them.
+    pub fn plain(self) -> Option<&'a [u8]>
+        ensures { IfSome result (λ text. IsWrittenAs self.entry.notation self.entry.behind_quote.now text.now) }
+    {
+        let Notation::Quoted = self.notation else {
+            return None;
+        };
+        let (text, behind) = self.behind_quote.split_at(plain_len(self.behind_quote));
+        match next_character(behind) {
+            Piece::End(_) => Some(text),
+            Piece::Byte(_, _) | Piece::Bad => None,
         }
     }
 
@@ -135,17 +241,9 @@ impl<'a> Literal<'a> {
             ≡ encoded_text encoding
             (said (text_in self.entry.notation self.entry.behind_quote.now))) }
     {
-        let mut text = Vec::new(alloc);
-        let mut rest = self.behind_quote;
-        'pieces: loop {
-            match next_piece(self.notation, rest) {
-                Piece::Byte(byte, after) => {
-                    text.push(encoded_byte(encoding, byte))?;
-                    rest = after;
-                }
-                Piece::End(_) => return Ok(text),
-                Piece::Bad => return Ok(Vec::new(alloc)),
-            }
+        match self.notation {
+            Notation::Quoted => copy_characters(alloc, encoding, self.behind_quote),
+            Notation::Hexadecimal => copy_pairs(alloc, encoding, self.behind_quote),
         }
     }
 

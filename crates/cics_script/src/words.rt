@@ -405,6 +405,9 @@ pub fn capital_of(byte: u8) -> u8
 pub fn is_spelled(word: &[u8], name: &[u8]) -> bool
     ensures { result ≡ bytes_eq (map capital word.now) name.now }
 {
+    if word.len() != name.len() {
+        return false;
+    }
     let mut written = word;
     let mut wanted = name;
     'letters: loop {
