@@ -1,5 +1,6 @@
 pub mod Numbers
 pub mod Copies
+pub mod Digits
 pub mod TokenSteps
 pub mod OptionSteps
 pub mod Rows
