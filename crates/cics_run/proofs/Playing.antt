@@ -1,15 +1,21 @@
 -- Lines and journals, one byte or one line further.
 use Rattle.std.proofs.Common.{◌≡◌, ℕ, Bool, true, false, ◌==◌, ◌+◌, cond, List, [], ◌∷◌, ◌++◌, map, refl, ap, sym, ◌∙◌, subst, append_assoc, append-nil, inl, inr}
 use Rattle.std.proofs.lemmas.List.Sums.{fold-append}
-use Rattle.std.proofs.lemmas.Bool.{cases_Bool, eqb-true}
+use Rattle.std.proofs.lemmas.Bool.{cases_Bool, eqb-true, and_parts}
 use Rattle.std.proofs.lemmas.List.{map-append}
-use Rattle.std.specs.List.{fold}
+use Rattle.std.specs.List.{fold, list_all}
+use Rattle.std.specs.Prelude.{not}
 use Rattle.std.specs.Io.BufRead.{strip_last}
-use Rattle.cics_run.specs.Lines.{Pieces, pieces, with_first, completed, unfinished, last_line, all_lines}
+use Rattle.cics_run.specs.Lines.{Pieces, pieces, with_first, completed, unfinished, last_line, all_lines, is_in_line}
 use Rattle.cics_run.specs.Stages.{step}
 use Rattle.cics_run.specs.Running.{Played, next, stepped, play, start, journal, output, whole, ending, is_faulty}
 use Rattle.cics_run.specs.Printing.{IsFront}
 use Rattle.cics_run.specs.declared.running.Options.{Options}
+
+-- what isn't so is false
+pub not-true : (b : Bool) → not b ≡ true → b ≡ false
+not-true true e = sym e
+not-true false e = refl
 
 -- a line that gained its LF
 with_first-complete : (c : ℕ) (p : Pieces) → with_first c (p.0 ++ p.1 ∷ [], []) ≡ ((with_first c p).0 ++ (with_first c p).1 ∷ [], [])
@@ -35,6 +41,16 @@ pieces-byte (c ∷ bytes) d other =
       | inl here ↦ rw (here, pieces-byte bytes d other) refl
       | inr past ↦ rw (past, pieces-byte bytes d other) (with_first-byte c d (pieces bytes))
     ]
+
+-- more bytes, none of which is an LF
+pub pieces-bytes : (bytes more : List ℕ) → list_all is_in_line more ≡ true → pieces (bytes ++ more) ≡ ((pieces bytes).0, (pieces bytes).1 ++ more)
+pieces-bytes bytes [] all = rw (append-nil bytes, append-nil (pieces bytes).1) refl
+pieces-bytes bytes (d ∷ more) all =
+    let parts = and_parts (is_in_line d) (list_all is_in_line more) all in
+    ap pieces (sym (append_assoc bytes (d ∷ []) more))
+    ∙ pieces-bytes (bytes ++ d ∷ []) more parts.1
+    ∙ ap (λ (p : Pieces). (p.0, p.1 ++ more)) (pieces-byte bytes d (not-true (d == 10) parts.0))
+    ∙ ap (λ (x : List ℕ). ((pieces bytes).0, x)) (append_assoc (pieces bytes).1 (d ∷ []) more)
 
 -- one byte more
 pieces-grow : (bytes : List ℕ) (c : ℕ) → (lines : List (List ℕ)) × ((pieces (bytes ++ c ∷ [])).0 ≡ (pieces bytes).0 ++ lines)

@@ -1,5 +1,5 @@
 -- The lines of a script's bytes.
-use Rattle.std.specs.Prelude.{ℕ, ◌==◌, if◌then◌else◌, List, [], ◌∷◌, ◌++◌, map}
+use Rattle.std.specs.Prelude.{ℕ, Bool, not, ◌==◌, if◌then◌else◌, List, [], ◌∷◌, ◌++◌, map}
 use Rattle.std.specs.Io.BufRead.{strip_last}
 
 -- the bytes before each LF, and the bytes behind the last one
@@ -32,3 +32,7 @@ last_line (c ∷ bytes) = (c ∷ bytes) ∷ []
 -- the lines of a whole script
 abbrev pub all_lines : List ℕ → List (List ℕ)
 all_lines bytes = completed bytes ++ last_line (unfinished bytes)
+
+-- whether a byte ends no line
+abbrev pub is_in_line : ℕ → Bool
+is_in_line c = not (c == 10)

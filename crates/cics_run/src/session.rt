@@ -1,8 +1,10 @@
 //! A run between two reads.
 
-ghost use Rattle.std.specs.Prelude.{◌≡◌, ℕ, true, List, [], ◌++◌, ◌+◌, ◌<◌, ◌^◌, Option, length};
+ghost use Rattle.std.specs.Prelude.{◌≡◌, ℕ, true, List, [], ◌++◌, ◌+◌, ◌<◌, ◌≤◌, ◌^◌, Option, length};
 ghost use Rattle.std.specs.Prelude.{IfOk, OnOk, OnErr};
+ghost use Rattle.std.specs.List.{prefix_len};
 ghost use Rattle.std.specs.Io.BufRead.{strip_last};
+ghost use Rattle.cics_run.specs.Lines.{is_in_line};
 ghost use Rattle.cics_run.specs.Stages.{step, first_stage};
 ghost use Rattle.cics_run.specs.declared.stage.Stage.TheVariants.{Running};
 ghost use Rattle.cics_run.specs.Printing.{AppendsFront, Prints};
@@ -42,6 +44,14 @@ fn without_cr(line: &[u8]) -> &[u8]
     } else {
         line
     }
+}
+
+// How many bytes stand before the first LF, or before the end where there is none.
+fn line_len(bytes: &[u8]) -> usize
+    ensures value { result ≡ prefix_len is_in_line bytes.now }
+    ensures within { result ≤ length bytes.now }
+{
+    bytes.iter().take_while(|byte| **byte != LF).count()
 }
 
 // Runs a line and prints what comes of it, and tells whether that is a fault. A fault is written
@@ -130,21 +140,22 @@ impl Session {
         ensures { (bytes : List ℕ) (before : Option (List ℕ)) → Stands bytes before (W.contents writer.old) self.old
             → Feeds (bytes ++ chunk.now) before (W.contents writer.new) self.new result }
     {
-        for byte in chunk {
-            if *byte == LF {
-                match self.end_line(writer) {
-                    Ok(false) => {}
-                    Ok(true) => return Ok(true),
-                    Err(stop) => return Err(stop),
-                }
-            } else {
-                match self.line.push(*byte) {
-                    Ok(()) => {}
-                    Err(_) => return Err(Stop::NoMemory),
-                }
+        let mut rest = chunk;
+        'lines: loop {
+            let (front, behind) = rest.split_at(line_len(rest));
+            match self.line.extend_from_slice(front) {
+                Ok(()) => {}
+                Err(_) => return Err(Stop::NoMemory),
+            }
+            let Some((_, after)) = behind.split_first() else {
+                return Ok(false);
+            };
+            match self.end_line(writer) {
+                Ok(false) => rest = after,
+                Ok(true) => return Ok(true),
+                Err(stop) => return Err(stop),
             }
         }
-        Ok(false)
     }
 
     // Runs the last line where it lacks its LF.
