@@ -140,3 +140,8 @@ rest-ends rest whole here so_far end = sym (ap (option_map (λ t. t.1)) end) ∙
 
 pub rest-none : (whole here : Text) → option_map (λ t. t.1) here ≡ option_map (λ t. t.1) whole → here ≡ None → None ≡ option_map (λ t. t.1) whole
 rest-none whole here so_far bad = sym (ap (option_map (λ t. t.1)) bad) ∙ so_far
+
+-- what follows a literal whose characters in front stand for themselves, and whose next one is two quotes
+pub rest-behind : (front : List ℕ) (byte : ℕ) (whole here after : Text) → whole ≡ with_front front here → here ≡ with_byte byte after
+    → option_map (λ t. t.1) after ≡ option_map (λ t. t.1) whole
+rest-behind front byte whole here after step next = rest-more byte whole here after (rest-plain front whole whole here refl step) next

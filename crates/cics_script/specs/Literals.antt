@@ -44,6 +44,6 @@ Begins read bytes Bad = read bytes ≡ None
 abbrev pub is_plain : ℕ → Bool
 is_plain c = not (is_quote c) && is_some (code_of c)
 
--- a quoted literal says what stands between its quotes
+-- a literal says these bytes
 abbrev pub IsWrittenAs : Notation → List ℕ → List ℕ → Type 0
-IsWrittenAs notation bytes text = (notation ≡ Quoted) × (said (text_in notation bytes) ≡ text)
+IsWrittenAs notation bytes text = said (text_in notation bytes) ≡ text

@@ -2,6 +2,7 @@
 
 ghost use Rattle.std.specs.Prelude.{◌≡◌, ◌≤◌, ◌++◌, IfOk, IfSome, OnOk, length, option_map};
 ghost use Rattle.std.specs.List.{prefix_len};
+ghost use Rattle.std.specs.Option.{ForSome};
 ghost use Rattle.cics_script.specs.Tokens.{is_quote, hex_value, text_in};
 ghost use Rattle.cics_script.specs.Literals.{Begins, is_plain, said, encoded, encoded_text};
 ghost use Rattle.cics_script.specs.Literals.{recorded, IsWrittenAs};
@@ -26,6 +27,9 @@ pub struct Literal<'a> {
     pub notation: Notation,
     /// The line behind the literal's first quote, up to the line's end.
     pub behind_quote: &'a [u8],
+    // What stands between the quotes of a quoted literal, where each character stands for itself.
+    plain: Option<&'a [u8]>,
+    ghost as_written: { ForSome plain (λ text. IsWrittenAs notation behind_quote.now text.now) },
 }
 
 /// In which code a literal's bytes are copied.
@@ -149,6 +153,15 @@ fn push_plain(text: &mut Vec<u8>, encoding: Encoding, plain: &[u8]) -> Result<()
     }
 }
 
+// A copy of characters that stand for themselves.
+fn copy_plain(alloc: Global, encoding: Encoding, plain: &[u8]) -> Result<Vec<u8>, AllocError>
+    ensures { IfOk result (λ text. text.items ≡ encoded_text encoding plain.now) }
+{
+    let mut text = Vec::new(alloc);
+    push_plain(&mut text, encoding, plain)?;
+    Ok(text)
+}
+
 // What follows a quoted literal, from behind its first quote.
 fn behind_characters(bytes: &[u8]) -> Option<&[u8]>
     ensures { option_map (λ rest. rest.now) result
@@ -220,30 +233,81 @@ fn copy_pairs(alloc: Global, encoding: Encoding, bytes: &[u8]) -> Result<Vec<u8>
     }
 }
 
-impl<'a> Literal<'a> {
-    /// The line behind the literal, or nothing where the bytes behind the quote are no literal.
-    pub fn rest(self) -> Option<&'a [u8]>
-        ensures { option_map (λ rest. rest.now) result
-            ≡ option_map (λ t. t.1) (text_in self.entry.notation self.entry.behind_quote.now) }
-    {
-        match self.notation {
-            Notation::Quoted => behind_characters(self.behind_quote),
-            Notation::Hexadecimal => behind_pairs(self.behind_quote),
+// The quoted literal behind a first quote, and the line behind it.
+fn quoted_at(behind_quote: &[u8]) -> Option<(Literal<'_>, &[u8])>
+    ensures rest { option_map (λ found. found.1.now) result
+        ≡ option_map (λ t. t.1) (text_in Notation.Quoted behind_quote.now) }
+    ensures literal { IfSome result (λ found. (found.0.notation ≡ Notation.Quoted)
+        × (found.0.behind_quote.now ≡ behind_quote.now)) }
+{
+    let notation = Notation::Quoted;
+    let (text, behind) = behind_quote.split_at(plain_len(behind_quote));
+    match next_character(behind) {
+        Piece::End(rest) => {
+            let plain = Some(text);
+            Some((
+                Literal {
+                    notation,
+                    behind_quote,
+                    plain,
+                },
+                rest,
+            ))
         }
+        Piece::Byte(_, after) => match behind_characters(after) {
+            Some(rest) => Some((
+                Literal {
+                    notation,
+                    behind_quote,
+                    plain: None,
+                },
+                rest,
+            )),
+            None => None,
+        },
+        Piece::Bad => None,
     }
+}
 
+// The hexadecimal literal behind a first quote, and the line behind it.
+fn hexadecimal_at(behind_quote: &[u8]) -> Option<(Literal<'_>, &[u8])>
+    ensures rest { option_map (λ found. found.1.now) result
+        ≡ option_map (λ t. t.1) (text_in Notation.Hexadecimal behind_quote.now) }
+    ensures literal { IfSome result (λ found. (found.0.notation ≡ Notation.Hexadecimal)
+        × (found.0.behind_quote.now ≡ behind_quote.now)) }
+{
+    match behind_pairs(behind_quote) {
+        Some(rest) => Some((
+            Literal {
+                notation: Notation::Hexadecimal,
+                behind_quote,
+                plain: None,
+            },
+            rest,
+        )),
+        None => None,
+    }
+}
+
+/// The literal behind a first quote, and the line behind it, or nothing where the bytes are no literal.
+pub fn literal_at(notation: Notation, behind_quote: &[u8]) -> Option<(Literal<'_>, &[u8])>
+    ensures rest { option_map (λ found. found.1.now) result
+        ≡ option_map (λ t. t.1) (text_in notation behind_quote.now) }
+    ensures literal { IfSome result (λ found. (found.0.notation ≡ notation)
+        × (found.0.behind_quote.now ≡ behind_quote.now)) }
+{
+    match notation {
+        Notation::Quoted => quoted_at(behind_quote),
+        Notation::Hexadecimal => hexadecimal_at(behind_quote),
+    }
+}
+
+impl<'a> Literal<'a> {
     /// The characters of a quoted literal that are written one by one, with no quote among them.
     pub fn plain(self) -> Option<&'a [u8]>
         ensures { IfSome result (λ text. IsWrittenAs self.entry.notation self.entry.behind_quote.now text.now) }
     {
-        let Notation::Quoted = self.notation else {
-            return None;
-        };
-        let (text, behind) = self.behind_quote.split_at(plain_len(self.behind_quote));
-        match next_character(behind) {
-            Piece::End(_) => Some(text),
-            Piece::Byte(_, _) | Piece::Bad => None,
-        }
+        self.plain
     }
 
     /// What the literal says: its characters with `''` once, or the bytes that its digits make.
@@ -253,7 +317,10 @@ impl<'a> Literal<'a> {
             (said (text_in self.entry.notation self.entry.behind_quote.now))) }
     {
         match self.notation {
-            Notation::Quoted => copy_characters(alloc, encoding, self.behind_quote),
+            Notation::Quoted => match self.plain {
+                Some(text) => copy_plain(alloc, encoding, text),
+                None => copy_characters(alloc, encoding, self.behind_quote),
+            },
             Notation::Hexadecimal => copy_pairs(alloc, encoding, self.behind_quote),
         }
     }

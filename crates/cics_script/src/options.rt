@@ -66,42 +66,42 @@ fn surplus_fault(last: Option<Kind>) -> LineFault
 fn name8_of(alloc: Global, literal: Literal<'_>) -> Result<Value<'_>, LineFault>
     ensures { GivesContent (content_in Kind.Name8 (view (Token.Literal literal.entry))) result }
 {
+    let Notation::Quoted = literal.notation else {
+        return Err(LineFault::BadLiteral);
+    };
     if let Some(text) = literal.plain() {
         return match Name8::new(text) {
             Ok(name) => Ok(Value::Name8(name)),
             Err(_) => Err(LineFault::BadLiteral),
         };
     }
-    match literal.notation {
-        Notation::Quoted => match literal.copy(alloc, Encoding::AsWritten) {
-            Ok(text) => match Name8::new(&text) {
-                Ok(name) => Ok(Value::Name8(name)),
-                Err(_) => Err(LineFault::BadLiteral),
-            },
-            Err(_) => Err(LineFault::NoMemory),
+    match literal.copy(alloc, Encoding::AsWritten) {
+        Ok(text) => match Name8::new(&text) {
+            Ok(name) => Ok(Value::Name8(name)),
+            Err(_) => Err(LineFault::BadLiteral),
         },
-        Notation::Hexadecimal => Err(LineFault::BadLiteral),
+        Err(_) => Err(LineFault::NoMemory),
     }
 }
 
 fn name4_of(alloc: Global, literal: Literal<'_>) -> Result<Value<'_>, LineFault>
     ensures { GivesContent (content_in Kind.Name4 (view (Token.Literal literal.entry))) result }
 {
+    let Notation::Quoted = literal.notation else {
+        return Err(LineFault::BadLiteral);
+    };
     if let Some(text) = literal.plain() {
         return match Name4::new(text) {
             Ok(name) => Ok(Value::Name4(name)),
             Err(_) => Err(LineFault::BadLiteral),
         };
     }
-    match literal.notation {
-        Notation::Quoted => match literal.copy(alloc, Encoding::AsWritten) {
-            Ok(text) => match Name4::new(&text) {
-                Ok(name) => Ok(Value::Name4(name)),
-                Err(_) => Err(LineFault::BadLiteral),
-            },
-            Err(_) => Err(LineFault::NoMemory),
+    match literal.copy(alloc, Encoding::AsWritten) {
+        Ok(text) => match Name4::new(&text) {
+            Ok(name) => Ok(Value::Name4(name)),
+            Err(_) => Err(LineFault::BadLiteral),
         },
-        Notation::Hexadecimal => Err(LineFault::BadLiteral),
+        Err(_) => Err(LineFault::NoMemory),
     }
 }
 

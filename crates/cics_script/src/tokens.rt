@@ -9,7 +9,7 @@ ghost use Rattle.cics_script.specs.Tokens.{word_at, as_literal, behind_x};
 ghost use Rattle.cics_script.specs.Views.{GivesToken, Takes};
 
 use crate::faults::LineFault;
-use crate::literals::{Literal, Notation, is_quote_byte};
+use crate::literals::{Literal, Notation, is_quote_byte, literal_at};
 
 /// A token where it stands in its line.
 #[derive(Clone, Copy, Debug)]
@@ -120,12 +120,8 @@ fn read_word(bytes: &[u8]) -> (Token<'_>, &[u8])
 fn read_literal(notation: Notation, behind_quote: &[u8]) -> Result<(Token<'_>, &[u8]), LineFault>
     ensures { GivesToken result (as_literal notation (text_in notation behind_quote.now)) }
 {
-    let literal = Literal {
-        notation,
-        behind_quote,
-    };
-    match literal.rest() {
-        Some(rest) => Ok((Token::Literal(literal), rest)),
+    match literal_at(notation, behind_quote) {
+        Some((literal, rest)) => Ok((Token::Literal(literal), rest)),
         None => Err(LineFault::BadLiteral),
     }
 }
