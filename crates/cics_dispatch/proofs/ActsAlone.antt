@@ -2,7 +2,6 @@
 -- other tasks with what they hold.
 use Rattle.std.specs.Prelude.{◌≡◌, ◌≢◌, ℕ, Bool, true, false, if◌then◌else◌, nat_le, Option, Some, None, [], ◌∷◌, ◌++◌, take, refl}
 use Rattle.std.proofs.Common.{◌⊎◌, inl, inr, sym, ◌∙◌, subst}
-use Rattle.std.proofs.lemmas.Bool.{false≢true}
 use Rattle.cics_names.specs.Keyed.{Bytes, value_at, without}
 use Rattle.cics_names.specs.Conditions.{default_abend_of}
 use Rattle.cics_names.specs.declared.conditions.AbendCode.{AbendCode}
@@ -275,7 +274,7 @@ module _ (m : Machine) (t : Task) where
     other_alone (ReadqTd q n nosuspend) = answered_alone c.resp _
     other_alone (DeleteqTd q) = answered_alone c.resp _
 
-    by_op_alone : (o : Option Op) → ActsAlone t.label t.unit m (by_op m t c o).machine
+    pub by_op_alone : (o : Option Op) → ActsAlone t.label t.unit m (by_op m t c o).machine
     by_op_alone None = other_alone c.verb
     by_op_alone (Some o) = executed_alone o
 

@@ -16,7 +16,6 @@ use Rattle.cics_history.specs.declared.ops.Op.{Op}
 use Rattle.cics_history.specs.declared.ops.Enqueued.TheVariants.{Taken, CountFull}
 use Rattle.cics_dispatch.specs.Machine.{Machine, Task, Suspended, task_at, is_waiting, not_waiting, with_waiting, with_units, with_task, with_unit, with_browses, records_in}
 use Rattle.cics_dispatch.specs.Replies.{plain, cut, read_reply}
-use Rattle.cics_names.specs.Commands.{length_of}
 use Rattle.cics_dispatch.specs.Steps.{unhandled, answered, reply_of, executed, enqueued, unlocked, dequeued, browse_reply, with_browse, started, reset, browsed, other_command, by_op}
 use Rattle.cics_dispatch.specs.Waking.{awaited_by, may_go_on, first_free, went_on, woken_first, woken, is_late, first_late, expired_task, expired}
 use Rattle.cics_names.specs.declared.commands.Command.{Command}
@@ -155,7 +154,7 @@ module _ (m : Machine) (t : Task) (c : Command) where
   other_none (Abend (Some code)) free = not_more m.waiting t.label
   other_none verb free = answered_none m t c.resp (plain Invreq)
 
-  by_op_none : (o : Option Op) → awaited_by m.units t.unit c.verb o ≡ None → length (by_op m t c o).machine.waiting ≤ length m.waiting
+  pub by_op_none : (o : Option Op) → awaited_by m.units t.unit c.verb o ≡ None → length (by_op m t c o).machine.waiting ≤ length m.waiting
   by_op_none (Some o) free = executed_none o free
   by_op_none None free = other_none c.verb free
 

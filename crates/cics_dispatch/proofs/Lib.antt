@@ -26,6 +26,9 @@ pub mod ActsAlone
 pub mod KeepsOwn
 pub mod KeptHeld
 pub mod Remembered
+pub mod NoteRows
+pub mod Noted
+pub mod Looks
 mod RegionRemembers
 pub mod FewerWaits
 pub mod Elements

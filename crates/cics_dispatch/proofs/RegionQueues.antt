@@ -1,6 +1,5 @@
 -- READQ TS leaves what a region keeps, and the task stands where it stood.
-use Rattle.std.specs.Prelude.{◌≡◌, ℕ, Bool, false, Option, Some, slice_get, List}
-use Rattle.std.proofs.Common.{ap, ◌∙◌}
+use Rattle.std.specs.Prelude.{◌≡◌, ℕ, Bool, false, Some, slice_get, List}
 use Rattle.cics_names.specs.Keyed.{Bytes}
 use Rattle.cics_history.specs.Execution.{UnitsValue, after_ts_reading}
 use Rattle.cics_history.specs.Headline.{IsHeadline}

@@ -1,21 +1,33 @@
 -- Task control: what a region remembers of its last looks at the waiting commands, after each of its calls.
-use Rattle.std.specs.Prelude.{◌≡◌, ℕ, Bool, true, false, not, ◌&&◌, ◌||◌, Option, Some, None, Result, Ok, Err, List, [], All, refl}
-use Rattle.std.proofs.Common.{◌⊎◌, inl, inr, sym, ap, ◌∙◌, subst}
-use Rattle.std.proofs.lemmas.Bool.{false≢true, and_parts, or_cases}
+use Rattle.std.specs.Prelude.{◌≡◌, ℕ, ◌+◌, ◌≤◌, Bool, true, false, not, if◌then◌else◌, ◌&&◌, cond, Option, Some, None, is_some, Result, Ok, Err, List, [], ◌∷◌, ◌++◌, All, map, filter, length, refl}
+use Rattle.std.proofs.Common.{inl, inr, sym, ap, ◌∙◌, subst, arith}
+use Rattle.std.proofs.lemmas.Bool.{false≢true, and_parts}
 use Rattle.std.proofs.lemmas.List.Elements.{All-nil}
-use Rattle.cics_names.specs.Keyed.{Bytes}
-use Rattle.cics_dispatch.specs.Machine.{Machine, Task, Suspended, RegionValue, task_at}
-use Rattle.cics_dispatch.specs.Steps.{Stepped, attached, refused_or, issued}
-use Rattle.cics_dispatch.specs.Waits.{wait_of}
-use Rattle.cics_dispatch.specs.Waking.{clock_refusal, clock_set, woken, woken_first, first_late, expired, expired_task}
+use Rattle.std.proofs.lemmas.List.{length-append}
+use Rattle.cics_names.specs.Keyed.{Bytes, is_same}
+use Rattle.cics_enqueue.specs.declared.resources.Resource.{Resource}
+use Rattle.cics_dispatch.specs.declared.notes.Note.{Note}
+use Rattle.cics_dispatch.specs.Machine.{Machine, Task, Suspended, RegionValue, task_at, is_waiting, not_waiting, with_waiting, abended, timed_out}
+use Rattle.cics_dispatch.specs.Checks.{fault_of}
+use Rattle.cics_dispatch.specs.Steps.{Stepped, with_outcome, attach_refusal, attached, with_new_task, new_task, refused_or, checked, issue_refusal, issued_by, issued, by_op}
+use Rattle.cics_dispatch.specs.Waking.{clock_refusal, clock_set, may_go_on, first_free, went_on, woken, woken_first, first_late, expired, expired_task}
 use Rattle.cics_dispatch.specs.Answers.{IsStep}
 use Rattle.cics_dispatch.specs.KeptTasks.{AreTasksKept}
-use Rattle.cics_dispatch.specs.Settled.{is_among, is_blocker, is_keeping, goes_on, AreAmong, IsBlocked, IsInTime, IsRemembered}
+use Rattle.cics_dispatch.specs.Settled.{is_keeping, goes_on, IsInTime}
+use Rattle.cics_dispatch.specs.Notes.{NotesValue, forgotten, new_note, AreClosed, AreNoted, AreNotedNow, IsFirstFree, IsRemembered}
 use Rattle.cics_names.specs.declared.commands.Command.{Command}
 use Rattle.cics_dispatch.specs.declared.outcomes.Outcome.{Outcome}
 use Rattle.cics_dispatch.specs.declared.outcomes.Refused.{Refused}
-use Rattle.cics_dispatch.proofs.Blocked.{none_free, none_late, all_in_time}
-use Rattle.cics_dispatch.proofs.Remembered.{refused_leaves, issued_blocked, issued_in_time, attached_blocked, attached_in_time, clock_blocked}
+use Rattle.cics_dispatch.specs.declared.outcomes.Expired.{Expired}
+use Rattle.cics_dispatch.proofs.TaskPlaces.{place_of_task, task_at-push}
+use Rattle.cics_dispatch.proofs.KeptTasks.{begins_now, not_waiting_then}
+use Rattle.cics_dispatch.proofs.KeptHeld.{checked_keeps}
+use Rattle.cics_dispatch.proofs.ActsAlone.{Waits, abended_leaves, by_op_alone, checked_alone}
+use Rattle.cics_dispatch.proofs.FewerWaits.{by_op_none}
+use Rattle.cics_dispatch.proofs.RegionWaking.{first_free-goes, first_free_awaits, not_waiting_twice}
+use Rattle.cics_dispatch.proofs.Blocked.{blocked_stays, none_late, all_in_time}
+use Rattle.cics_dispatch.proofs.Remembered.{refused_leaves, not_refused, issued_in_time, attached_in_time}
+use Rattle.cics_dispatch.proofs.Noted.{noted_without, noted_others, noted_kept, noted_forgot, noted_waits, noted_same}
 
 -- what is true of the machine and of the one that the step leaves is true after the call
 pub after_step : {X : Type 0} (P : Machine → Type 0) (wants : Bool) (old new : RegionValue) (s : Stepped (Result X Refused)) (r : Result X Refused) →
@@ -24,91 +36,266 @@ after_step P wants old new s (Ok x) step before after = subst P (sym step.1) aft
 after_step P wants old new s (Err e) step before after = subst (λ v. P v.machine) (sym (refused_leaves wants old new s e step)) before
 
 -- a task is attached
-pub remembered_attached : (m : Machine) (label : Bytes) (dtimout : ℕ) (is_settled is_in_time : Bool) (bs : List ℕ) → AreTasksKept m → IsRemembered m is_settled is_in_time bs →
-    IsRemembered (attached m label dtimout).machine is_settled is_in_time bs
-remembered_attached m label dtimout is_settled is_in_time bs kept is = record {
-  settled = λ set. attached_blocked m label dtimout bs (is.settled set);
+pub remembered_attached : (m : Machine) (label : Bytes) (dtimout : ℕ) (notes : NotesValue) (is_noted is_settled is_in_time : Bool) → AreTasksKept m → IsRemembered m notes is_noted is_settled is_in_time →
+    IsRemembered (attached m label dtimout).machine notes is_noted is_settled is_in_time
+remembered_attached m label dtimout notes is_noted is_settled is_in_time kept is = record {
+  noted = λ set. by (attach_refusal m label) (is.noted set);
+  settled = is.settled;
   in_time = λ set. attached_in_time m label dtimout kept (is.in_time set);
 }
+  where
+    by : (refusal : Option Refused) → AreNotedNow m notes → AreNotedNow (refused_or m refusal (record { outcome = tt {0}; machine = with_new_task m label dtimout })).machine notes
+    by None noted =
+        noted_same m (with_new_task m label dtimout) refl (λ l t there. task_at-push m.tasks (new_task label dtimout) l t there) notes.needs notes.rows m.waiting noted
+    by (Some refusal) noted = noted
 
 -- the clock is set, and it isn't known any more that no task has waited too long
-pub remembered_clock : (m : Machine) (now : ℕ) (is_settled is_in_time : Bool) (bs : List ℕ) → IsRemembered m is_settled is_in_time bs → IsRemembered (clock_set m now).machine is_settled false bs
-remembered_clock m now is_settled is_in_time bs is = record {
-  settled = λ set. by (clock_refusal m now) (is.settled set);
+pub remembered_clock : (m : Machine) (now : ℕ) (notes : NotesValue) (is_noted is_settled is_in_time : Bool) → IsRemembered m notes is_noted is_settled is_in_time →
+    IsRemembered (clock_set m now).machine notes is_noted is_settled false
+remembered_clock m now notes is_noted is_settled is_in_time is = record {
+  noted = λ set. by (clock_refusal m now) (is.noted set);
+  settled = is.settled;
   in_time = λ set. absurd (false≢true set);
 }
   where
-    by : (refusal : Option Refused) → All (IsBlocked m bs) m.waiting →
-        All (IsBlocked (refused_or m refusal (record { outcome = tt {0}; machine = record m { clock = now } })).machine bs) (refused_or m refusal (record { outcome = tt {0}; machine = record m { clock = now } })).machine.waiting
-    by None all = clock_blocked m now bs all
-    by (Some refusal) all = all
+    by : (refusal : Option Refused) → AreNotedNow m notes → AreNotedNow (refused_or m refusal (record { outcome = tt {0}; machine = record m { clock = now } })).machine notes
+    by None noted = noted_same m (record m { clock = now }) refl (λ l t there. there) notes.needs notes.rows m.waiting noted
+    by (Some refusal) noted = noted
 
 -- the same where the time isn't looked at
-pub remembered_late : (m : Machine) (is_settled is_in_time : Bool) (bs : List ℕ) → IsRemembered m is_settled is_in_time bs → IsRemembered m is_settled false bs
-remembered_late m is_settled is_in_time bs is = record { settled = is.settled; in_time = λ set. absurd (false≢true set) }
+pub remembered_late : (m : Machine) (notes : NotesValue) (is_noted is_settled is_in_time : Bool) → IsRemembered m notes is_noted is_settled is_in_time → IsRemembered m notes is_noted is_settled false
+remembered_late m notes is_noted is_settled is_in_time is = record { noted = is.noted; settled = is.settled; in_time = λ set. absurd (false≢true set) }
 
--- the unit of a task is no blocker
-no_blocker : (bs : List ℕ) (o : Option ℕ) (v : ℕ) → is_blocker bs o ≡ false → o ≡ Some v → is_among bs v ≡ false
-no_blocker bs o v free own = ap (is_blocker bs) (sym own) ∙ free
+-- ---- Commands
 
-opposite : (b : Bool) → not b ≡ true → b ≡ false
-opposite true is = cc
-opposite false is = refl
+-- the notes after a command of a task: what its unit may have given up is forgotten, and a command that begins to wait has a
+-- note
+abbrev pub noted_then : Machine → Bytes → List Resource → List Note → Type 0
+noted_then n label needs ns =
+    (is_waiting n.waiting label ≡ false → AreNoted n needs ns n.waiting) × (is_waiting n.waiting label ≡ true → AreNoted n needs (ns ++ new_note label ∷ []) n.waiting)
 
--- a command is executed
-module _ (m : Machine) (label : Bytes) (c : Command) (outcome : Outcome) (is_settled stays : Bool) (bs : List ℕ) (unit : Option ℕ) (own : (t : Task) → task_at m.tasks label ≡ Some t → unit ≡ t.unit)
-    (stayed : stays ≡ (is_settled && (not (is_blocker bs unit) || (is_keeping m.units.opening c.verb && goes_on outcome)))) (set : stays ≡ true) where
-  parts : (is_settled ≡ true) × ((not (is_blocker bs unit) || (is_keeping m.units.opening c.verb && goes_on outcome)) ≡ true)
-  parts = and_parts is_settled _ (sym stayed ∙ set)
+module _ (m : Machine) (c : Command) (needs : List Resource) (ns : List Note) (noted : AreNoted m needs ns m.waiting) where
+  checked_noted : (t : Task) (unit : Option ℕ) (outcome : Outcome) → unit ≡ t.unit → is_waiting m.waiting t.label ≡ false → (checked m t c (fault_of m t c.verb)).outcome ≡ outcome →
+      noted_then (checked m t c (fault_of m t c.verb)).machine t.label needs (map (forgotten (if is_keeping m.units.opening c.verb && goes_on outcome then None else unit)) ns)
+  checked_noted t unit outcome own awake told =
+      let n = (checked m t c (fault_of m t c.verb)).machine in
+      let alone = checked_alone m t c in
+      noted_waits m n needs t.label _ alone.waits awake (by (is_keeping m.units.opening c.verb && goes_on outcome) refl)
+    where
+      by : (b : Bool) → (is_keeping m.units.opening c.verb && goes_on outcome) ≡ b →
+          AreNoted (checked m t c (fault_of m t c.verb)).machine needs (map (forgotten (if b then None else unit)) ns) m.waiting
+      by true keeps =
+          let parts = and_parts (is_keeping m.units.opening c.verb) (goes_on outcome) keeps in
+          noted_others m (checked m t c (fault_of m t c.verb)).machine needs t.label (forgotten None)
+          (noted_kept m (checked m t c (fault_of m t c.verb)).machine needs t (checked_alone m t c).others (λ v of_t. checked_keeps m t v c parts.0 (ap goes_on told ∙ parts.1))) ns m.waiting awake noted
+      by false gives =
+          subst (λ o. AreNoted (checked m t c (fault_of m t c.verb)).machine needs (map (forgotten o) ns) m.waiting) (sym own)
+          (noted_others m (checked m t c (fault_of m t c.verb)).machine needs t.label (forgotten t.unit) (noted_forgot m (checked m t c (fault_of m t c.verb)).machine needs t (checked_alone m t c).others) ns m.waiting awake noted)
 
-  was_settled : is_settled ≡ true
-  was_settled = parts.0
+  pub issued_noted : (label : Bytes) (unit : Option ℕ) (outcome : Outcome) → ((t : Task) → task_at m.tasks label ≡ Some t → unit ≡ t.unit) → (issued m label c).outcome ≡ Ok outcome →
+      noted_then (issued m label c).machine label needs (map (forgotten (if is_keeping m.units.opening c.verb && goes_on outcome then None else unit)) ns)
+  issued_noted label unit outcome own told = by (task_at m.tasks label) refl told
+    where
+      forgot : List Note
+      forgot = map (forgotten (if is_keeping m.units.opening c.verb && goes_on outcome then None else unit)) ns
 
-  -- the task's unit is no blocker, or gives up nothing
-  mild : (t : Task) (v : ℕ) → task_at m.tasks label ≡ Some t → t.unit ≡ Some v → (is_among bs v ≡ false) ⊎ ((is_keeping m.units.opening c.verb ≡ true) × (goes_on outcome ≡ true))
-  mild t v there of_t = elim (or_cases (not (is_blocker bs unit)) (is_keeping m.units.opening c.verb && goes_on outcome) parts.1) [
-    | inl free ↦ inl (no_blocker bs unit v (opposite (is_blocker bs unit) free) (own t there ∙ of_t))
-    | inr keeps ↦ inr (and_parts (is_keeping m.units.opening c.verb) (goes_on outcome) keeps)
+      by_refusal : (t : Task) → t.label ≡ label → task_at m.tasks label ≡ Some t → (refusal : Option Refused) → issue_refusal m (Some t) ≡ refusal →
+          (refused_or m refusal (checked m t c (fault_of m t c.verb))).outcome ≡ Ok outcome → noted_then (refused_or m refusal (checked m t c (fault_of m t c.verb))).machine label needs forgot
+      by_refusal t same is (Some refusal) refused told = cc
+      by_refusal t same is None refused told =
+          let one : (checked m t c (fault_of m t c.verb)).outcome ≡ outcome = cc in
+          subst (λ l. noted_then (checked m t c (fault_of m t c.verb)).machine l needs forgot) same
+          (checked_noted t unit outcome (own t is) (not_refused t.has_ended (is_waiting m.waiting t.label) refused) one)
+
+      by : (o : Option Task) → task_at m.tasks label ≡ o → (issued_by m c o).outcome ≡ Ok outcome → noted_then (issued_by m c o).machine label needs forgot
+      by None is told = cc
+      by (Some t) is told = by_refusal t (place_of_task m.tasks label t is).2 is (issue_refusal m (Some t)) refl told
+
+-- ---- Commands that go on
+
+-- waits that stand aside make no difference to the notes
+noted_aside : (m : Machine) (needs : List Resource) (ns : List Note) (ws : List Suspended) → AreNoted m needs ns ws → AreNoted (with_waiting m ws) needs ns ws
+noted_aside m needs ns ws = noted_same m (with_waiting m ws) refl (λ l t there. there) needs ns ws
+
+-- without the note of a label
+abbrev pub without_note : Bytes → List Note → List Note
+without_note label ns = filter (λ n. not (is_same n.label label)) ns
+
+-- a command that needn't wait adds none to those that wait
+none_added : (m n : Machine) (label : Bytes) → Waits label m n → length n.waiting ≤ length m.waiting → not_waiting m.waiting label ≡ m.waiting → n.waiting ≡ m.waiting
+none_added m n label waits fewer awake = elim waits [
+  | inl same ↦ same
+  | inr changed ↦ elim changed [
+    | inl more ↦
+        let grown : length n.waiting ≡ length m.waiting + 1 = ap length more.2 ∙ length-append m.waiting (begins_now label m more.0 more.1 ∷ []) in
+        absurd (never grown)
+    | inr less ↦ less ∙ awake
   ]
+]
+  where
+    never : length n.waiting ≡ length m.waiting + 1 → ⊥
+    never grown = omega (arith, fewer, grown)
 
-pub remembered_issued : (m n : Machine) (label : Bytes) (c : Command) (outcome : Outcome) (is_settled stays noted is_in_time : Bool) (bs cs : List ℕ) (unit : Option ℕ) →
-    IsRemembered m is_settled is_in_time bs →
-    ((t : Task) → task_at m.tasks label ≡ Some t → unit ≡ t.unit) →
-    stays ≡ (is_settled && (not (is_blocker bs unit) || (is_keeping m.units.opening c.verb && goes_on outcome))) → (noted ≡ true → stays ≡ true) → AreAmong bs cs →
-    (noted ≡ true → (w : Suspended) → wait_of n.waiting label ≡ Some w → IsBlocked n cs w) → (issued m label c).outcome ≡ Ok outcome → n ≡ (issued m label c).machine →
-    IsRemembered n noted is_in_time cs
-remembered_issued m n label c outcome is_settled stays noted is_in_time bs cs unit is own stayed settled more blocked told step = record {
-  settled = λ set.
-      subst (λ x. All (IsBlocked x cs) x.waiting) (sym step)
-      (issued_blocked m c bs cs more (is.settled (was_settled m label c outcome is_settled stays bs unit own stayed (settled set))) label outcome told
-      (mild m label c outcome is_settled stays bs unit own stayed (settled set))
-      (λ w. subst (λ x. wait_of x.waiting label ≡ Some w → IsBlocked x cs w) step (blocked set w)));
-  in_time = λ set. subst (λ x. All (IsInTime x) x.waiting) (sym step) (issued_in_time m c (is.in_time set) label);
-}
+pub woken_noted : (m : Machine) (needs : List Resource) (ns : List Note) (label : Bytes) (unit : Option ℕ) → AreNoted m needs ns m.waiting → IsFirstFree m label →
+    ((t : Task) → task_at m.tasks label ≡ Some t → unit ≡ t.unit) → AreNoted (woken m).machine needs (map (forgotten unit) (without_note label ns)) (woken m).machine.waiting
+woken_noted m needs ns label unit noted free own =
+    subst (λ o. AreNoted (woken_first m o).machine needs (map (forgotten unit) (without_note label ns)) (woken_first m o).machine.waiting) (sym free.first) (by (task_at m.tasks w.label) refl)
+  where
+    w : Suspended
+    w = free.wait
+
+    by : (o : Option Task) → task_at m.tasks w.label ≡ o → AreNoted (went_on m w o).machine needs (map (forgotten unit) (without_note label ns)) (went_on m w o).machine.waiting
+    by None is = absurd (false≢true (sym (ap (may_go_on m w) is) ∙ first_free-goes m w m.waiting free.first))
+    by (Some t) is =
+        let same : t.label ≡ label = (place_of_task m.tasks w.label t is).2 ∙ free.own in
+        let ws = not_waiting m.waiting w.label in
+        let a = with_waiting m ws in
+        let n = (by_op a t w.command w.op).machine in
+        let alone = by_op_alone a t w.command w.op in
+        let none = by_op_none a t w.command w.op (first_free_awaits m w m.waiting t free.first is) in
+        let twice : not_waiting ws t.label ≡ ws = ap (not_waiting ws) (same ∙ sym free.own) ∙ not_waiting_twice m.waiting w.label in
+        let left : n.waiting ≡ ws = none_added a n t.label alone.waits none twice in
+        let awake : is_waiting ws t.label ≡ false = ap (is_waiting ws) (same ∙ sym free.own) ∙ not_waiting_then m.waiting w.label in
+        let rest : AreNoted m needs (without_note label ns) ws =
+        subst (λ l. AreNoted m needs (without_note label ns) (not_waiting m.waiting l)) (sym free.own) (noted_without m needs label ns m.waiting noted) in
+        subst (AreNoted n needs (map (forgotten unit) (without_note label ns))) (sym left)
+        (subst (λ o. AreNoted n needs (map (forgotten o) (without_note label ns)) ws) (sym (own t (ap (task_at m.tasks) (sym free.own) ∙ is)))
+        (noted_others a n needs t.label (forgotten t.unit) (noted_forgot a n needs t alone.others) (without_note label ns) ws awake (noted_aside m needs (without_note label ns) ws rest)))
+
+-- ---- Time-out
+
+pub expired_noted : (m : Machine) (needs : List Resource) (ns : List Note) (t : Task) (label : Bytes) (unit : Option ℕ) → AreNoted m needs ns m.waiting → first_late m m.waiting ≡ Some t →
+    label ≡ t.label → unit ≡ t.unit → AreNoted (expired m).machine needs (map (forgotten unit) (without_note label ns)) (expired m).machine.waiting
+expired_noted m needs ns t label unit noted first named own =
+    subst (λ o. AreNoted (expired_task m o).machine needs (map (forgotten unit) (without_note label ns)) (expired_task m o).machine.waiting) (sym first)
+    (subst (λ l. AreNoted (abended m t) needs (map (forgotten unit) (without_note l ns)) (abended m t).waiting) (sym named)
+    (subst (λ o. AreNoted (abended m t) needs (map (forgotten o) (without_note t.label ns)) (abended m t).waiting) (sym own)
+    (noted_others m (abended m t) needs t.label (forgotten t.unit) (noted_forgot m (abended m t) needs t (abended_leaves m t)) (without_note t.label ns) (not_waiting m.waiting t.label)
+    (not_waiting_then m.waiting t.label) (noted_without m needs t.label ns m.waiting noted))))
+
+-- ---- What is remembered
 
 -- where no command waits all is settled, and nobody has waited too long
-pub remembered_alone : (m : Machine) (bs : List ℕ) → m.waiting ≡ [] → IsRemembered m true true bs
-remembered_alone m bs none = record {
-  settled = λ set. subst (All (IsBlocked m bs)) (sym none) (All-nil (IsBlocked m bs));
+pub remembered_alone : (m : Machine) (notes : NotesValue) → notes.rows ≡ [] → m.waiting ≡ [] → IsRemembered m notes true true true
+remembered_alone m notes nothing none = record {
+  noted = λ set. subst (λ ns. AreNoted m notes.needs ns m.waiting) (sym nothing) (subst (AreNoted m notes.needs []) (sym none) tt);
+  settled = λ set. (refl, subst AreClosed (sym nothing) tt);
   in_time = λ set. subst (All (IsInTime m)) (sym none) (All-nil (IsInTime m));
 }
 
 -- where each waiting command is blocked none goes on
-pub woken_settled : (m : Machine) (is_settled is_in_time : Bool) (bs : List ℕ) → IsRemembered m is_settled is_in_time bs → is_settled ≡ true → woken m ≡ record { outcome = None; machine = m }
-woken_settled m is_settled is_in_time bs is set = ap (woken_first m) (none_free m bs m.waiting (is.settled set))
+closed_blocker : (o : Option ℕ) → is_some o ≡ true → (u : ℕ) × (o ≡ Some u)
+closed_blocker None is = absurd (false≢true is)
+closed_blocker (Some u) is = (u, refl)
+
+pub none_free : (m : Machine) (needs : List Resource) (ns : List Note) (ws : List Suspended) → AreNoted m needs ns ws → AreClosed ns → first_free m ws ≡ None
+none_free m needs [] [] noted closed = refl
+none_free m needs [] (w ∷ ws) noted closed = absurd noted
+none_free m needs (n ∷ ns) [] noted closed = absurd noted
+none_free m needs (n ∷ ns) (w ∷ ws) noted closed =
+    let blocker = closed_blocker n.blocker closed.0 in
+    ap (λ b. cond b (Some w) (first_free m ws)) (blocked_stays m blocker.0 w (noted.0.blocked blocker.0 blocker.1)) ∙ none_free m needs ns ws noted.1 closed.1
+
+pub woken_settled : (m : Machine) (notes : NotesValue) (is_noted is_settled is_in_time : Bool) → IsRemembered m notes is_noted is_settled is_in_time → is_settled ≡ true → woken m ≡ record { outcome = None; machine = m }
+woken_settled m notes is_noted is_settled is_in_time is set =
+    let settled = is.settled set in
+    ap (woken_first m) (none_free m notes.needs notes.rows m.waiting (is.noted settled.0) settled.1)
 
 -- where no task has waited too long none is abended
-pub expired_in_time : (m : Machine) (is_settled is_in_time : Bool) (bs : List ℕ) → IsRemembered m is_settled is_in_time bs → is_in_time ≡ true → expired m ≡ record { outcome = None; machine = m }
-expired_in_time m is_settled is_in_time bs is set = ap (expired_task m) (none_late m m.waiting (is.in_time set))
+pub expired_in_time : (m : Machine) (notes : NotesValue) (is_noted is_settled is_in_time : Bool) → IsRemembered m notes is_noted is_settled is_in_time → is_in_time ≡ true → expired m ≡ record { outcome = None; machine = m }
+expired_in_time m notes is_noted is_settled is_in_time is set = ap (expired_task m) (none_late m m.waiting (is.in_time set))
 
--- where none is abended no task has waited too long, and the region is as it was
-none_expired : (m : Machine) (o : Option Task) → (expired_task m o).outcome ≡ None → (o ≡ None) × ((expired_task m o).machine ≡ m)
-none_expired m None none = (refl, refl)
-none_expired m (Some t) none = cc
+-- after a command
+pub remembered_issued : (m n : Machine) (label : Bytes) (c : Command) (outcome : Outcome) (notes mid new : NotesValue) (is_noted is_settled is_in_time was waits settled noted : Bool) (unit forgot : Option ℕ) →
+    IsRemembered m notes is_noted is_settled is_in_time → ((t : Task) → task_at m.tasks label ≡ Some t → unit ≡ t.unit) → (issued m label c).outcome ≡ Ok outcome → n ≡ (issued m label c).machine →
+    forgot ≡ (if is_keeping m.units.opening c.verb && goes_on outcome then None else unit) →
+    mid.rows ≡ map (forgotten forgot) notes.rows → (was ≡ false → mid.rows ≡ notes.rows) → mid.needs ≡ notes.needs → waits ≡ is_waiting n.waiting label →
+    settled ≡ (is_settled && (not was && not waits)) →
+    (noted ≡ true → (is_noted ≡ true) × (new.rows ≡ (if waits then mid.rows ++ new_note label ∷ [] else mid.rows))) → (waits ≡ false → (noted ≡ is_noted) × (new.rows ≡ mid.rows)) → new.needs ≡ mid.needs →
+    IsRemembered n new noted settled is_in_time
+remembered_issued m n label c outcome notes mid new is_noted is_settled is_in_time was waits settled noted unit forgot is own told step forgets rows same needs waited stays noting none more = record {
+  noted = λ set.
+      let was_noted = noting set in
+      let pair = issued_noted m c notes.needs notes.rows (is.noted was_noted.0) label unit outcome own told in
+      subst (λ x. AreNoted x new.needs new.rows x.waiting) (sym step)
+      (subst (λ rs. AreNoted (issued m label c).machine rs new.rows (issued m label c).machine.waiting) (sym (more ∙ needs))
+      (by waits (waited ∙ ap (λ x. is_waiting x.waiting label) step) was_noted.1 _
+      (rows ∙ ap (λ o. map (forgotten o) notes.rows) forgets) pair));
+  settled = λ set.
+      let parts = and_parts is_settled (not was && not waits) (sym stays ∙ set) in
+      let both = and_parts (not was) (not waits) parts.1 in
+      let before = is.settled parts.0 in
+      let left = none (opposite waits both.1) in (
+        left.0 ∙ before.0,
+        subst AreClosed (sym (left.1 ∙ same (opposite was both.0))) before.1,
+      );
+  in_time = λ set. subst (λ x. All (IsInTime x) x.waiting) (sym step) (issued_in_time m c (is.in_time set) label);
+}
+  where
+    opposite : (b : Bool) → not b ≡ true → b ≡ false
+    opposite true is = cc
+    opposite false is = refl
 
-pub remembered_expired : (m n : Machine) (is_settled is_in_time : Bool) (bs : List ℕ) → IsRemembered m is_settled is_in_time bs → None ≡ (expired m).outcome → n ≡ (expired m).machine →
-    IsRemembered n is_settled true bs
-remembered_expired m n is_settled is_in_time bs is none step =
-    let nobody = none_expired m (first_late m m.waiting) (sym none) in
-    subst (λ x. IsRemembered x is_settled true bs) (sym (step ∙ nobody.1))
-    (record { settled = is.settled; in_time = λ set. all_in_time m m.waiting nobody.0 })
+    k : Machine
+    k = (issued m label c).machine
+
+    by : (b : Bool) → b ≡ is_waiting k.waiting label → new.rows ≡ (if b then mid.rows ++ new_note label ∷ [] else mid.rows) → (l : List Note) → mid.rows ≡ l → noted_then k label notes.needs l →
+        AreNoted k notes.needs new.rows k.waiting
+    by true waits is l rows pair = subst (λ r. AreNoted k notes.needs r k.waiting) (sym (is ∙ ap (λ r. r ++ new_note label ∷ []) rows)) (pair.1 (sym waits))
+    by false waits is l rows pair = subst (λ r. AreNoted k notes.needs r k.waiting) (sym (is ∙ rows)) (pair.0 (sym waits))
+
+-- ---- Waking and time-out
+
+-- where the notes are known anew, or memory for them was refused
+pub remembered_anew : (m : Machine) (notes : NotesValue) (is_noted is_settled is_in_time : Bool) → is_settled ≡ false → (is_noted ≡ true → AreNotedNow m notes) → (is_in_time ≡ true → All (IsInTime m) m.waiting) →
+    IsRemembered m notes is_noted is_settled is_in_time
+remembered_anew m notes is_noted is_settled is_in_time open_yet noted in_time = record {
+  noted = noted;
+  settled = λ set. absurd (false≢true (sym open_yet ∙ set));
+  in_time = in_time;
+}
+
+-- where none may go on, and it is known whether one has to be looked at
+pub remembered_looked : (m : Machine) (notes : NotesValue) (is_settled is_in_time : Bool) → AreNotedNow m notes → (is_settled ≡ true → AreClosed notes.rows) → (is_in_time ≡ true → All (IsInTime m) m.waiting) →
+    IsRemembered m notes true is_settled is_in_time
+remembered_looked m notes is_settled is_in_time noted closed in_time = record { noted = λ set. noted; settled = λ set. (refl, closed set); in_time = in_time }
+
+-- where a command has gone on
+pub remembered_woken : (m n : Machine) (notes mid new : NotesValue) (label : Bytes) (unit : Option ℕ) → AreNotedNow m notes → IsFirstFree m label → ((t : Task) → task_at m.tasks label ≡ Some t → unit ≡ t.unit) →
+    n ≡ (woken m).machine → mid.rows ≡ without_note label notes.rows → mid.needs ≡ notes.needs → new.rows ≡ map (forgotten unit) mid.rows → new.needs ≡ mid.needs → (is_settled : Bool) → is_settled ≡ false →
+    IsRemembered n new true is_settled false
+remembered_woken m n notes mid new label unit noted free own step without needs forgets more is_settled open_yet = record {
+  noted = λ set.
+      subst (λ x. AreNoted x new.needs new.rows x.waiting) (sym step)
+      (subst (λ rs. AreNoted (woken m).machine rs new.rows (woken m).machine.waiting) (sym (more ∙ needs))
+      (subst (λ ns. AreNoted (woken m).machine notes.needs ns (woken m).machine.waiting) (sym (forgets ∙ ap (map (forgotten unit)) without))
+      (woken_noted m notes.needs notes.rows label unit noted free own)));
+  settled = λ set. absurd (false≢true (sym open_yet ∙ set));
+  in_time = λ set. absurd (false≢true set);
+}
+
+-- where a task has been abended for its time
+pub remembered_expired : (m n : Machine) (notes mid new : NotesValue) (is_noted is_settled is_in_time : Bool) (t : Task) (label : Bytes) (unit : Option ℕ) → IsRemembered m notes is_noted is_settled is_in_time →
+    first_late m m.waiting ≡ Some t → label ≡ t.label → unit ≡ t.unit → n ≡ (expired m).machine → mid.rows ≡ without_note label notes.rows → mid.needs ≡ notes.needs →
+    new.rows ≡ map (forgotten unit) mid.rows → new.needs ≡ mid.needs → is_in_time ≡ false → IsRemembered n new is_noted false is_in_time
+remembered_expired m n notes mid new is_noted is_settled is_in_time t label unit is first named own step without needs forgets more late = record {
+  noted = λ set.
+      subst (λ x. AreNoted x new.needs new.rows x.waiting) (sym step)
+      (subst (λ rs. AreNoted (expired m).machine rs new.rows (expired m).machine.waiting) (sym (more ∙ needs))
+      (subst (λ ns. AreNoted (expired m).machine notes.needs ns (expired m).machine.waiting) (sym (forgets ∙ ap (map (forgotten unit)) without))
+      (expired_noted m notes.needs notes.rows t label unit (is.noted set) first named own)));
+  settled = λ set. absurd (false≢true set);
+  in_time = λ set. absurd (false≢true (sym late ∙ set));
+}
+
+-- the label that is told is the task's
+pub told_label : (m n : Machine) (e : Expired) (t : Task) → with_outcome (Some e) n ≡ expired m → first_late m m.waiting ≡ Some t → e.label ≡ t.label
+told_label m n e t step first = by (ap (λ s. s.outcome) (step ∙ ap (expired_task m) first))
+  where
+    by : Some e ≡ Some (record { label = t.label; code = timed_out }) → e.label ≡ t.label
+    by is = let same : e ≡ record { label = t.label; code = timed_out } = cc in ap (λ x. x.label) same
+
+-- where no task has waited too long
+pub remembered_early : (m : Machine) (notes : NotesValue) (is_noted is_settled is_in_time : Bool) → IsRemembered m notes is_noted is_settled is_in_time → first_late m m.waiting ≡ None →
+    IsRemembered m notes is_noted is_settled true
+remembered_early m notes is_noted is_settled is_in_time is none = record { noted = is.noted; settled = is.settled; in_time = λ set. all_in_time m m.waiting none }

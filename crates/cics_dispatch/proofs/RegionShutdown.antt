@@ -1,12 +1,12 @@
 -- A region that is shut down: its tasks end one after the other, and no unit is open then; a step of one that isn't.
-use Rattle.std.specs.Prelude.{◌≡◌, ℕ, ◌+◌, ◌<◌, suc, zero, Bool, true, false, not, ◌&&◌, if◌then◌else◌, Option, Some, None, is_some, Result, Ok, Err, List, [], ◌∷◌, drop, slice_get, slice_set, length, refl}
+use Rattle.std.specs.Prelude.{◌≡◌, ℕ, ◌+◌, ◌<◌, suc, zero, Bool, true, false, not, ◌&&◌, if◌then◌else◌, Option, Some, None, is_some, Result, Err, List, [], ◌∷◌, drop, slice_get, slice_set, length, refl}
 use Rattle.std.proofs.Common.{◌∙◌, sym, ap, subst, arith, inl, inr}
 use Rattle.std.proofs.lemmas.Bool.{true≢false, false_from_ne_true}
 use Rattle.std.proofs.lemmas.List.{length-set}
 use Rattle.cics_history.specs.Events.{is_live}
 use Rattle.cics_history.specs.declared.ops.UnitState.TheVariants.{BackedOut}
 use Rattle.cics_dispatch.specs.Machine.{Machine, Task, RegionValue, replaced, unit_closed}
-use Rattle.cics_dispatch.specs.Tasks.{own_label, IsOwn, HasNoOwner}
+use Rattle.cics_dispatch.specs.Tasks.{own_label, IsOwn}
 use Rattle.cics_dispatch.specs.OwnedUnits.{AreUnitsOwned}
 use Rattle.cics_dispatch.specs.Steps.{Stepped}
 use Rattle.cics_dispatch.specs.Answers.{IsStep}

@@ -3,7 +3,6 @@ use Rattle.std.specs.Prelude.{◌≡◌, ℕ, Bool, true, false, not, cond, if�
 use Rattle.std.proofs.Common.{◌∙◌, sym, ap, subst}
 use Rattle.std.proofs.lemmas.List.Elements.{All-head, All-tail}
 use Rattle.cics_names.specs.Keyed.{Bytes, is_same}
-use Rattle.cics_names.specs.Commands.{length_of}
 use Rattle.cics_names.specs.Conditions.{default_abend_of}
 use Rattle.cics_names.specs.declared.conditions.AbendCode.{AbendCode}
 use Rattle.cics_names.specs.declared.conditions.Condition.TheVariants.{Normal, Invreq}
@@ -51,7 +50,7 @@ first_free_has P m w (v ∷ ws) all is =
     ] is
 
 -- it needn't wait
-first_free-goes : (m : Machine) (w : Suspended) (ws : List Suspended) → first_free m ws ≡ Some w → may_go_on m w (task_at m.tasks w.label) ≡ true
+pub first_free-goes : (m : Machine) (w : Suspended) (ws : List Suspended) → first_free m ws ≡ Some w → may_go_on m w (task_at m.tasks w.label) ≡ true
 first_free-goes m w [] is = cc
 first_free-goes m w (v ∷ ws) is =
     elim (may_go_on m v (task_at m.tasks v.label)) as (λ b. may_go_on m v (task_at m.tasks v.label) ≡ b → cond b (Some v) (first_free m ws) ≡ Some w → may_go_on m w (task_at m.tasks w.label) ≡ true) [
@@ -138,7 +137,7 @@ may_aside : (m : Machine) (w : Suspended) (o : Option Task) → may_go_on (with_
 may_aside m w None = refl
 may_aside m w (Some t) = refl
 
-free_aside : (m : Machine) (ws : List Suspended) → first_free (with_waiting m []) ws ≡ first_free m ws
+pub free_aside : (m : Machine) (ws : List Suspended) → first_free (with_waiting m []) ws ≡ first_free m ws
 free_aside m [] = refl
 free_aside m (w ∷ ws) = λ i. cond (may_aside m w (task_at m.tasks w.label) i) (Some w) (free_aside m ws i)
 

@@ -1,37 +1,31 @@
 -- Task control: what is remembered of the last looks at the waiting commands stays true over a step.
-use Rattle.std.specs.Prelude.{take, ◌≡◌, ◌≢◌, ℕ, ◌==◌, ◌-◌, ◌<◌, ◌≤◌, Bool, true, false, not, cond, if◌then◌else◌, ◌&&◌, nat_lt, nat_le, Option, Some, None, is_some, Result, Ok, Err, List, [], ◌∷◌, ◌++◌, All, refl}
+use Rattle.std.specs.Prelude.{◌≡◌, ◌≢◌, ℕ, ◌==◌, ◌-◌, ◌<◌, ◌≤◌, Bool, true, false, not, cond, if◌then◌else◌, ◌&&◌, nat_lt, nat_le, Option, Some, None, is_some, Result, Err, List, [], ◌∷◌, ◌++◌, All, refl}
 use Rattle.std.specs.List.{list_any}
 use Rattle.std.proofs.Common.{◌⊎◌, inl, inr, sym, ap, ◌∙◌, subst, arith}
-use Rattle.std.proofs.lemmas.Bool.{false≢true, true≢false, and_parts, ltb-true, leb-true, false_from_ne_true, eqb-true, eq-eqb}
+use Rattle.std.proofs.lemmas.Bool.{false≢true, and_parts, ltb-true, leb-true, false_from_ne_true, eqb-true, eq-eqb}
 use Rattle.std.proofs.lemmas.List.Elements.{All-nil, All-cons, All-head, All-tail, All-filter, All-append}
 use Rattle.cics_names.specs.Keyed.{Bytes, is_same}
 use Rattle.cics_names.specs.KeyedLaws.{is_same-self}
 use Rattle.cics_enqueue.specs.declared.resources.Resource.{Resource}
 use Rattle.cics_history.specs.Events.{is_live}
-use Rattle.cics_enqueue.specs.Resources.{bytes_of, overlaps}
-use Rattle.cics_enqueue.specs.declared.resources.Resource.TheVariants.{User}
-use Rattle.cics_names.specs.declared.commands.Verb.TheVariants.{Enq}
+use Rattle.cics_enqueue.specs.Resources.{overlaps}
 use Rattle.cics_history.specs.declared.ops.Op.{Op}
 use Rattle.cics_dispatch.proofs.KeptTasks.{begins_now}
-use Rattle.cics_history.specs.Holding.{UnitsState, uses_of, held_by}
+use Rattle.cics_history.specs.Holding.{UnitsState, held_by}
 use Rattle.cics_history.proofs.Waiting.{any_more}
 use Rattle.cics_dispatch.specs.Machine.{Machine, Task, Suspended, RegionValue, task_at, is_waiting}
 use Rattle.cics_dispatch.specs.Checks.{fault_of}
 use Rattle.cics_dispatch.specs.Steps.{Stepped, with_new_task, attach_refusal, attached, new_task, checked, issue_refusal, refused_or, issued_by, issued}
-use Rattle.cics_dispatch.specs.Waits.{wait_of}
 use Rattle.cics_dispatch.specs.Waking.{is_late}
 use Rattle.cics_dispatch.specs.Answers.{IsStep}
 use Rattle.cics_dispatch.specs.KeptTasks.{IsWaitKept, AreTasksKept}
-use Rattle.cics_dispatch.specs.Settled.{is_among, AreAmong, holds_back, is_keeping, goes_on, IsBlocked, IsInTime}
+use Rattle.cics_dispatch.specs.Settled.{needed_by, holds_one, holds_back, IsBlocked, IsInTime}
 use Rattle.cics_names.specs.declared.commands.Command.{Command}
 use Rattle.cics_names.specs.declared.commands.Verb.{Verb}
-use Rattle.cics_dispatch.specs.declared.outcomes.Outcome.{Outcome}
 use Rattle.cics_dispatch.specs.declared.outcomes.Refused.{Refused}
 use Rattle.cics_dispatch.specs.declared.outcomes.Refused.TheVariants.{NoTask, TaskEnded, TaskWaiting, DuplicateLabel, NoMemory, ClockBack, RegionDown}
-use Rattle.cics_dispatch.proofs.TaskPlaces.{place_of_task, task_at-push}
-use Rattle.cics_dispatch.proofs.Blocked.{all_more}
+use Rattle.cics_dispatch.proofs.TaskPlaces.{task_at-push}
 use Rattle.cics_dispatch.proofs.KeepsOwn.{Keeps}
-use Rattle.cics_dispatch.proofs.KeptHeld.{checked_keeps}
 use Rattle.cics_dispatch.proofs.ActsAlone.{LeavesTasks, Waits, checked_alone}
 
 -- ---- A call that is refused
@@ -51,47 +45,43 @@ refused_leaves wants old new s ClockBack step = step.1
 -- a unit that holds what it held and more holds a command back yet
 holds_yet : (s n : UnitsState) (h : ℕ) (verb : Verb) (o : Option Op) → n.opening ≡ s.opening →
     ((p : Resource → Bool) → list_any p (held_by s h) ≡ true → list_any p (held_by n h) ≡ true) → holds_back s h verb o ≡ true → holds_back n h verb o ≡ true
-holds_yet s n h verb (Some o) opening holds is =
-    (λ i. list_any (λ r. list_any (overlaps r) (held_by n h)) (uses_of (opening i) o))
-    ∙ any_more (λ r. list_any (overlaps r) (held_by s h)) (λ r. list_any (overlaps r) (held_by n h)) (λ r. holds (overlaps r)) (uses_of s.opening o) is
-holds_yet s n h (Enq value k nosuspend) None opening holds is = holds (overlaps (User (bytes_of (take k value)))) is
-holds_yet s n h verb None opening holds is = absurd (false≢true is)
+holds_yet s n h verb o opening holds is =
+    (λ i. holds_one n h (needed_by (opening i) verb o))
+    ∙ any_more (λ r. list_any (overlaps r) (held_by s h)) (λ r. list_any (overlaps r) (held_by n h)) (λ r. holds (overlaps r)) (needed_by s.opening verb o) is
 
--- a task acts whose unit is none of the blockers, or holds what it held
-module _ (m n : Machine) (t : Task) (bs : List ℕ) (others : LeavesTasks t.label t.unit m n)
-    (free : (v : ℕ) → t.unit ≡ Some v → (is_among bs v ≡ false) ⊎ Keeps m.units n.units v) (w : Suspended) (other : t.label ≢ w.label) (is : IsBlocked m bs w) where
+-- a task acts whose unit is another than the blocker, or holds what it held
+module _ (m n : Machine) (t : Task) (h : ℕ) (others : LeavesTasks t.label t.unit m n)
+    (free : (v : ℕ) → t.unit ≡ Some v → (v ≢ h) ⊎ Keeps m.units n.units v) (w : Suspended) (other : t.label ≢ w.label) (is : IsBlocked m h w) where
   -- the blocker is open, and holds what it held that is needed
-  holder_yet : ((p : Resource → Bool) → list_any p (held_by m.units is.holder) ≡ true → list_any p (held_by n.units is.holder) ≡ true) → is_live n.units is.holder ≡ true → IsBlocked n bs w
+  holder_yet : ((p : Resource → Bool) → list_any p (held_by m.units h) ≡ true → list_any p (held_by n.units h) ≡ true) → is_live n.units h ≡ true → IsBlocked n h w
   holder_yet holds live = record {
     task = is.task;
     of_task = others.tasks w.label other ∙ is.of_task;
-    holder = is.holder;
-    among = is.among;
     is_open = live;
     other = is.other;
-    holds = holds_yet m.units n.units is.holder w.command.verb w.op others.units.opening holds is.holds;
+    holds = holds_yet m.units n.units h w.command.verb w.op others.units.opening holds is.holds;
   }
 
   -- another unit than the one that acts
-  apart : (t.unit ≡ Some is.holder → ⊥) → IsBlocked n bs w
+  apart : (t.unit ≡ Some h → ⊥) → IsBlocked n h w
   apart elsewhere =
-      holder_yet (λ p. subst (λ rs. list_any p rs ≡ true) (sym (others.held.held is.holder elsewhere is.is_open))) (others.units.live is.holder elsewhere is.is_open)
+      holder_yet (λ p. subst (λ rs. list_any p rs ≡ true) (sym (others.held.held h elsewhere is.is_open))) (others.units.live h elsewhere is.is_open)
 
   -- the one that acts
-  own : t.unit ≡ Some is.holder → IsBlocked n bs w
-  own acts = elim (free is.holder acts) [
-    | inl none ↦ absurd (true≢false (sym is.among ∙ none))
+  own : t.unit ≡ Some h → IsBlocked n h w
+  own acts = elim (free h acts) [
+    | inl another ↦ absurd (another refl)
     | inr keeps ↦ holder_yet keeps.held (keeps.live is.is_open)
   ]
 
-  pub blocked_yet : IsBlocked n bs w
+  pub blocked_yet : IsBlocked n h w
   blocked_yet = by t.unit refl
     where
-      by : (o : Option ℕ) → t.unit ≡ o → IsBlocked n bs w
-      by None none = apart (λ acts. let both : None ≡ Some is.holder = sym none ∙ acts in cc)
-      by (Some u) acts = elim (u == is.holder) as (λ b. (u == is.holder) ≡ b → IsBlocked n bs w) [
-        | true ↦ λ same. own (acts ∙ ap Some (eqb-true u is.holder same))
-        | false ↦ λ differs. apart (λ is_own. let both : Some u ≡ Some is.holder = sym acts ∙ is_own in let same : u ≡ is.holder = cc in false≢true (sym differs ∙ eq-eqb u is.holder same))
+      by : (o : Option ℕ) → t.unit ≡ o → IsBlocked n h w
+      by None none = apart (λ acts. let both : None ≡ Some h = sym none ∙ acts in cc)
+      by (Some u) acts = elim (u == h) as (λ b. (u == h) ≡ b → IsBlocked n h w) [
+        | true ↦ λ same. own (acts ∙ ap Some (eqb-true u h same))
+        | false ↦ λ differs. apart (λ is_own. let both : Some u ≡ Some h = sym acts ∙ is_own in let same : u ≡ h = cc in false≢true (sym differs ∙ eq-eqb u h same))
       ] refl
 
 -- ---- The waits after a step of a task
@@ -120,70 +110,13 @@ waits_all label m n Q waits all begins = elim waits [
   ]
 ]
 
--- the wait of a task that is the last, where no command of the task waited
-wait_of-last : (ws : List Suspended) (label : Bytes) (w : Suspended) → is_waiting ws label ≡ false → w.label ≡ label → wait_of (ws ++ w ∷ []) label ≡ Some w
-wait_of-last [] label w none own = ap (λ b. cond b (Some w) None) (ap (is_same w.label) (sym own) ∙ is_same-self w.label)
-wait_of-last (v ∷ vs) label w none own =
-    elim (is_same v.label label) as (λ b. cond b true (is_waiting vs label) ≡ false → cond b (Some v) (wait_of (vs ++ w ∷ []) label) ≡ Some w) [
-      | true ↦ λ wrong. absurd (false≢true (sym wrong))
-      | false ↦ λ rest. wait_of-last vs label w rest own
-    ] none
-
 -- ---- Commands
 
 -- a command that isn't refused is one of a task of which no command waits
-not_refused : (has_ended waits : Bool) → (if has_ended then Some TaskEnded else if waits then Some TaskWaiting else None) ≡ None → waits ≡ false
+pub not_refused : (has_ended waits : Bool) → (if has_ended then Some TaskEnded else if waits then Some TaskWaiting else None) ≡ None → waits ≡ false
 not_refused true waits is = cc
 not_refused false true is = cc
 not_refused false false is = refl
-
--- after a command each waiting command is blocked yet, where the task's unit is none of the blockers, and the task's own
--- command is blocked if it waits now
-module _ (m : Machine) (c : Command) (bs cs : List ℕ) (more : AreAmong bs cs) (all : All (IsBlocked m bs) m.waiting) where
-  checked_blocked : (t : Task) →
-      ((v : ℕ) → t.unit ≡ Some v → (is_among bs v ≡ false) ⊎ Keeps m.units (checked m t c (fault_of m t c.verb)).machine.units v) → is_waiting m.waiting t.label ≡ false →
-      ((w : Suspended) → wait_of (checked m t c (fault_of m t c.verb)).machine.waiting t.label ≡ Some w → IsBlocked (checked m t c (fault_of m t c.verb)).machine cs w) →
-      All (IsBlocked (checked m t c (fault_of m t c.verb)).machine cs) (checked m t c (fault_of m t c.verb)).machine.waiting
-  checked_blocked t free awake own =
-      let n = (checked m t c (fault_of m t c.verb)).machine in
-      let alone = checked_alone m t c in
-      waits_all t.label m n (IsBlocked n cs) alone.waits
-      (all_more n bs cs m.waiting more
-      (others_all t.label (IsBlocked m bs) (IsBlocked n bs) (λ w other blocked. blocked_yet m n t bs alone.others free w other blocked) m.waiting awake all))
-      (λ d o begins.
-      let last = begins_now t.label m d o in
-      own last (ap (λ ws. wait_of ws t.label) begins ∙ wait_of-last m.waiting t.label last awake refl))
-
-  pub issued_blocked : (label : Bytes) (outcome : Outcome) → (issued m label c).outcome ≡ Ok outcome →
-      ((t : Task) (v : ℕ) → task_at m.tasks label ≡ Some t → t.unit ≡ Some v → (is_among bs v ≡ false) ⊎ ((is_keeping m.units.opening c.verb ≡ true) × (goes_on outcome ≡ true))) →
-      ((w : Suspended) → wait_of (issued m label c).machine.waiting label ≡ Some w → IsBlocked (issued m label c).machine cs w) →
-      All (IsBlocked (issued m label c).machine cs) (issued m label c).machine.waiting
-  issued_blocked label outcome told free own = by (task_at m.tasks label) refl told own
-    where
-      stays : All (IsBlocked m cs) m.waiting
-      stays = all_more m bs cs m.waiting more all
-
-      by_refusal : (t : Task) (label : Bytes) → t.label ≡ label → task_at m.tasks label ≡ Some t →
-          ((v : ℕ) → t.unit ≡ Some v → (is_among bs v ≡ false) ⊎ ((is_keeping m.units.opening c.verb ≡ true) × (goes_on outcome ≡ true))) →
-          (refusal : Option Refused) → issue_refusal m (Some t) ≡ refusal → (refused_or m refusal (checked m t c (fault_of m t c.verb))).outcome ≡ Ok outcome →
-          ((w : Suspended) → wait_of (refused_or m refusal (checked m t c (fault_of m t c.verb))).machine.waiting label ≡ Some w → IsBlocked (refused_or m refusal (checked m t c (fault_of m t c.verb))).machine cs w) →
-          All (IsBlocked (refused_or m refusal (checked m t c (fault_of m t c.verb))).machine cs) (refused_or m refusal (checked m t c (fault_of m t c.verb))).machine.waiting
-      by_refusal t label same is free (Some refusal) refused told own = stays
-      by_refusal t label same is free None refused told own =
-          let one : (checked m t c (fault_of m t c.verb)).outcome ≡ outcome = cc in
-          checked_blocked t
-          (λ v own_v. elim (free v own_v) [
-            | inl none ↦ inl none
-            | inr keeps ↦ inr (checked_keeps m t v c keeps.0 (ap goes_on one ∙ keeps.1))
-          ])
-          (not_refused t.has_ended (is_waiting m.waiting t.label) refused)
-          (λ w there. own w (ap (wait_of (checked m t c (fault_of m t c.verb)).machine.waiting) (sym same) ∙ there))
-
-      by : (o : Option Task) → task_at m.tasks label ≡ o → (issued_by m c o).outcome ≡ Ok outcome →
-          ((w : Suspended) → wait_of (issued_by m c o).machine.waiting label ≡ Some w → IsBlocked (issued_by m c o).machine cs w) →
-          All (IsBlocked (issued_by m c o).machine cs) (issued_by m c o).machine.waiting
-      by None is told own = stays
-      by (Some t) is told own = by_refusal t label (place_of_task m.tasks label t is).2 is (λ v of_t. free t v is of_t) (issue_refusal m (Some t)) refl told own
 
 -- ---- The time
 
@@ -244,25 +177,6 @@ both_all P R Q follows [] ps rs = All-nil Q
 both_all P R Q follows (w ∷ ws) ps rs =
     All-cons Q w ws (follows w (All-head P w ws ps) (All-head R w ws rs)) (both_all P R Q follows ws (All-tail P w ws ps) (All-tail R w ws rs))
 
-pub attached_blocked : (m : Machine) (label : Bytes) (dtimout : ℕ) (bs : List ℕ) → All (IsBlocked m bs) m.waiting → All (IsBlocked (attached m label dtimout).machine bs) (attached m label dtimout).machine.waiting
-attached_blocked m label dtimout bs all = by (attach_refusal m label)
-  where
-    one : (w : Suspended) → IsBlocked m bs w → IsBlocked m bs w → IsBlocked (with_new_task m label dtimout) bs w
-    one w is same = record {
-      task = is.task;
-      of_task = task_at-push m.tasks (new_task label dtimout) w.label is.task is.of_task;
-      holder = is.holder;
-      among = is.among;
-      is_open = is.is_open;
-      other = is.other;
-      holds = is.holds;
-    }
-
-    by : (refusal : Option Refused) →
-        All (IsBlocked (refused_or m refusal (record { outcome = tt {0}; machine = with_new_task m label dtimout })).machine bs) (refused_or m refusal (record { outcome = tt {0}; machine = with_new_task m label dtimout })).machine.waiting
-    by None = both_all (IsBlocked m bs) (IsBlocked m bs) (IsBlocked (with_new_task m label dtimout) bs) one m.waiting all all
-    by (Some refusal) = all
-
 pub attached_in_time : (m : Machine) (label : Bytes) (dtimout : ℕ) → AreTasksKept m → All (IsInTime m) m.waiting → All (IsInTime (attached m label dtimout).machine) (attached m label dtimout).machine.waiting
 attached_in_time m label dtimout kept all = by (attach_refusal m label)
   where
@@ -275,18 +189,3 @@ attached_in_time m label dtimout kept all = by (attach_refusal m label)
         All (IsInTime (refused_or m refusal (record { outcome = tt {0}; machine = with_new_task m label dtimout })).machine) (refused_or m refusal (record { outcome = tt {0}; machine = with_new_task m label dtimout })).machine.waiting
     by None = both_all (IsWaitKept m) (IsInTime m) (IsInTime (with_new_task m label dtimout)) one m.waiting kept.waits all
     by (Some refusal) = all
-
--- the clock makes no difference to what is blocked
-pub clock_blocked : (m : Machine) (clock : ℕ) (bs : List ℕ) → All (IsBlocked m bs) m.waiting → All (IsBlocked (record m { clock = clock }) bs) m.waiting
-clock_blocked m clock bs all = both_all (IsBlocked m bs) (IsBlocked m bs) (IsBlocked (record m { clock = clock }) bs) one m.waiting all all
-  where
-    one : (w : Suspended) → IsBlocked m bs w → IsBlocked m bs w → IsBlocked (record m { clock = clock }) bs w
-    one w is same = record {
-      task = is.task;
-      of_task = is.of_task;
-      holder = is.holder;
-      among = is.among;
-      is_open = is.is_open;
-      other = is.other;
-      holds = is.holds;
-    }

@@ -1,7 +1,7 @@
 -- What is checked of a command before it looks at what other units hold. The order is: the file or queue that it names is
 -- defined; the length of its key; the length of its FROM or RESOURCE; the update read and the browse of its task; the key
 -- in its record. The first check that fails is answered, and takes no memory.
-use Rattle.std.specs.Prelude.{ℕ, Bool, false, not, ◌&&◌, ◌||◌, Option, Some, None, is_some, is_none, nat_le, length, [], ◌∷◌}
+use Rattle.std.specs.Prelude.{ℕ, Bool, not, ◌&&◌, ◌||◌, Option, Some, None, is_some, is_none, nat_le, length, [], ◌∷◌}
 use Rattle.cics_names.specs.Commands.{file_named}
 use Rattle.cics_names.specs.Keyed.{Bytes, value_at, has_key}
 use Rattle.cics_names.specs.declared.conditions.Condition.{Condition}

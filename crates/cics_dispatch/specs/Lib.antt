@@ -15,3 +15,4 @@ pub mod Regions
 pub mod Waits
 pub mod OwnedUnits
 pub mod Settled
+pub mod Notes

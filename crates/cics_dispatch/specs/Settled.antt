@@ -1,7 +1,8 @@
--- Waiting commands that were looked at: each still has the unit that it waits for, and no task has waited too long.
-use Rattle.std.specs.Prelude.{◌≡◌, ℕ, ◌==◌, Bool, true, false, Option, Some, None, List, All, take}
+-- Waiting commands that were looked at: whom they still have to wait for, and whether their tasks have waited too long.
+use Rattle.std.specs.Prelude.{◌≡◌, ℕ, ◌==◌, Bool, true, false, Option, Some, None, List, [], ◌∷◌, take}
 use Rattle.std.specs.List.{list_any}
 use Rattle.cics_enqueue.specs.Resources.{bytes_of, overlaps, is_other}
+use Rattle.cics_enqueue.specs.declared.resources.Resource.{Resource}
 use Rattle.cics_enqueue.specs.declared.resources.Resource.TheVariants.{User}
 use Rattle.cics_history.specs.Openings.{OpeningState, file_recoverable}
 use Rattle.cics_history.specs.Holding.{UnitsState, uses_of, held_by}
@@ -19,36 +20,32 @@ use Rattle.cics_dispatch.specs.declared.outcomes.Outcome.TheVariants.{Replied, W
 abbrev pub is_among : List ℕ → ℕ → Bool
 is_among units u = list_any (λ v. u == v) units
 
--- a unit, if there is one, is one of these
-abbrev pub is_blocker : List ℕ → Option ℕ → Bool
-is_blocker units None = false
-is_blocker units (Some u) = is_among units u
-
--- each of these units is one of those
-pub record AreAmong (these those : List ℕ) : Type 0 where
-  pub among : (u : ℕ) → is_among these u ≡ true → is_among those u ≡ true
-
 -- READQ TD, which may have to wait for a unit that holds nothing of what it uses: the writer of its queue
 abbrev pub reads_queue : Option Op → Bool
 reads_queue (Some (TdRead q)) = true
 reads_queue o = false
 
--- a unit holds what keeps a command waiting: something that its updating command uses, or as of an ENQ its value
-abbrev pub holds_back : UnitsState → ℕ → Verb → Option Op → Bool
-holds_back s u verb (Some op) = list_any (λ r. list_any (overlaps r) (held_by s u)) (uses_of s.opening op)
-holds_back s u (Enq value n nosuspend) None = list_any (overlaps (User (bytes_of (take n value)))) (held_by s u)
-holds_back s u _ None = false
+-- what a waiting command uses: its updating command, or as an ENQ its value
+abbrev pub needed_by : OpeningState → Verb → Option Op → List Resource
+needed_by o verb (Some op) = uses_of o op
+needed_by o (Enq value n nosuspend) None = User (bytes_of (take n value)) ∷ []
+needed_by o verb None = []
 
--- a waiting command still has the unit that it waits for: one of the blockers, open and another than its task's, holds
--- what it needs
-pub record IsBlocked (m : Machine) (blockers : List ℕ) (w : Suspended) : Type 0 where
+-- a unit holds something of this
+abbrev pub holds_one : UnitsState → ℕ → List Resource → Bool
+holds_one s u rs = list_any (λ r. list_any (overlaps r) (held_by s u)) rs
+
+-- a unit holds what keeps a command waiting
+abbrev pub holds_back : UnitsState → ℕ → Verb → Option Op → Bool
+holds_back s u verb op = holds_one s u (needed_by s.opening verb op)
+
+-- a waiting command has to wait for a unit: it is open, another than its task's, and holds what the command uses
+pub record IsBlocked (m : Machine) (u : ℕ) (w : Suspended) : Type 0 where
   pub task : Task
   pub of_task : task_at m.tasks w.label ≡ Some task
-  pub holder : ℕ
-  pub among : is_among blockers holder ≡ true
-  pub is_open : is_live m.units holder ≡ true
-  pub other : is_other task.unit holder ≡ true
-  pub holds : holds_back m.units holder w.command.verb w.op ≡ true
+  pub is_open : is_live m.units u ≡ true
+  pub other : is_other task.unit u ≡ true
+  pub holds : holds_back m.units u w.command.verb w.op ≡ true
 
 -- a command ends no unit of work and no enqueue, and an update read only of a recoverable file, where the read itself holds
 -- nothing: so its unit holds what it held, unless the task is abended
@@ -82,9 +79,3 @@ goes_on Ended = false
 -- the task of a waiting command hasn't waited too long
 abbrev pub IsInTime : Machine → Suspended → Type 0
 IsInTime m w = is_late m w (task_at m.tasks w.label) ≡ false
-
--- what is remembered of the last looks at the waiting commands: where they are settled each is blocked by one of the
--- blockers, and where they are in time no task has waited too long
-pub record IsRemembered (m : Machine) (is_settled is_in_time : Bool) (blockers : List ℕ) : Type 0 where
-  pub settled : is_settled ≡ true → All (IsBlocked m blockers) m.waiting
-  pub in_time : is_in_time ≡ true → All (IsInTime m) m.waiting

@@ -1,8 +1,8 @@
 -- Task control: the commands that wait as they are kept, each under a number.
-use Rattle.std.specs.Prelude.{◌≡◌, ◌<◌, ℕ, if◌then◌else◌, Option, Some, None, List, [], ◌∷◌}
+use Rattle.std.specs.Prelude.{◌≡◌, ◌<◌, ℕ, false, if◌then◌else◌, Option, Some, None, List, [], ◌∷◌}
 use Rattle.std.specs.Map.{lookup}
 use Rattle.cics_names.specs.Keyed.{Bytes, is_same}
-use Rattle.cics_dispatch.specs.Machine.{Suspended}
+use Rattle.cics_dispatch.specs.Machine.{Suspended, is_waiting}
 
 -- the waits under their numbers
 abbrev pub Rows : Type 0
@@ -12,6 +12,11 @@ Rows = List (ℕ × Suspended)
 abbrev pub wait_of : List Suspended → Bytes → Option Suspended
 wait_of [] label = None
 wait_of (w ∷ ws) label = if is_same w.label label then Some w else wait_of ws label
+
+-- no two are of one task
+abbrev pub AreApart : List Suspended → Type 0
+AreApart [] = Unit {0}
+AreApart (w ∷ ws) = (is_waiting ws w.label ≡ false) × AreApart ws
 
 -- the number of the wait of a label's task
 abbrev pub number_of : Rows → Bytes → Option ℕ

@@ -13,7 +13,7 @@ ghost use Rattle.std.specs.Prelude.{IfErr, IfSome, IfNone, if◌then◌else◌, 
 ghost use Rattle.std.specs.Option.{option_copied};
 ghost use Rattle.cics_history.specs.declared.ops.UnitState.TheVariants.{Committed, BackedOut};
 ghost use Rattle.cics_dispatch.specs.Machine.{units_after, definition_of, Task as TaskValue};
-ghost use Rattle.cics_dispatch.specs.Machine.{RegionValue, beginning_region, task_at, abended};
+ghost use Rattle.cics_dispatch.specs.Machine.{RegionValue, beginning_region, task_at, abended, is_waiting};
 ghost use Rattle.cics_dispatch.specs.Machine.{unit_closed};
 ghost use Rattle.cics_dispatch.specs.Checks.{fault_of, open_key};
 ghost use Rattle.cics_history.specs.Execution.{IsOpenUnit, IsOpenOrNone};
@@ -125,12 +125,27 @@ impl Dispatcher {
         self.is_down
     }
 
+    /// Whether a command of a label's task waits.
+    pub(crate) fn is_waiting(&self, label: &Name8) -> bool
+        ensures { result ≡ is_waiting self.now.machine.waiting label.now }
+    {
+        self.waits.is_waiting(label)
+    }
+
     /// The open unit of work of the task of a label, if there is one.
     pub(crate) fn unit_of(&self, label: &Name8) -> Option<UnitId>
         ensures { (t : TaskValue) →
             task_at self.now.machine.tasks label.now ≡ Some t → result ≡ t.unit }
     {
         let at = self.tasks.find(label)?;
+        self.tasks.get(at).unit()
+    }
+
+    /// The open unit of work of the task at a place, if there is one.
+    pub(crate) fn unit_at(&self, at: usize) -> Option<UnitId>
+        requires within { at < length self.now.machine.tasks }
+        ensures unit { OfTask self.now.machine.tasks at (λ t. result ≡ t.unit) }
+    {
         self.tasks.get(at).unit()
     }
 

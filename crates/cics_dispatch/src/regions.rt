@@ -1,6 +1,6 @@
 //! A region: tasks that share files and queues, their waits, and their units of work.
 
-ghost use Rattle.std.specs.Prelude.{◌≡◌, ◌&&◌, ◌||◌, not, true, false, ℕ, IfOk, IfErr, OnOk};
+ghost use Rattle.std.specs.Prelude.{◌≡◌, ◌&&◌, not, [], ◌∷◌, ◌++◌, if◌then◌else◌, None, true, false, ℕ, IfOk, IfErr, OnOk};
 ghost use Rattle.cics_history.specs.Events.{is_live};
 ghost use Rattle.cics_dispatch.specs.Machine.{beginning_region};
 ghost use Rattle.cics_dispatch.specs.Steps.{attached, issued};
@@ -9,14 +9,15 @@ ghost use Rattle.cics_dispatch.specs.Answers.{without_tasks};
 ghost use Rattle.cics_dispatch.specs.Shutdown.{IsRegionStep, shut_down};
 ghost use Rattle.cics_dispatch.specs.Answers.{IsStep, always, attach_may_want, may_want};
 ghost use Rattle.cics_dispatch.specs.Answers.{IsHeadlineRegion, region_listing, replayed_listing};
-ghost use Rattle.cics_dispatch.specs.Settled.{is_blocker, goes_on};
+ghost use Rattle.cics_dispatch.specs.Settled.{goes_on};
+ghost use Rattle.cics_dispatch.specs.Notes.{new_note};
 
 use crate::dispatcher::Dispatcher;
+use crate::notes::Notes;
 use crate::outcomes::{Expired, Outcome, Refused, Woken};
 use cics_enqueue::UnitId;
 use cics_names::{Command, Name4, Name8, NoMemory};
 use cics_units::{Listing, Opening, Units};
-use indexmap::IndexSet;
 use std::marker::Model;
 
 /// The tasks of a region, their waiting commands, and the files, queues and units of work that they share.
@@ -26,49 +27,69 @@ use std::marker::Model;
 /// left out by which a unit that was backed out acted on a recoverable file or queue, and each command of
 /// the replay has the answer that it was executed with; LENGTH may have cut what its task was told.
 ///
-/// The region remembers what it found when it last looked at the waiting commands, so that `wake` and
-/// `expire` needn't look at each of them again where nothing has changed for them.
+/// The region remembers whom each waiting command had to wait for when it was looked at last. So `wake` looks
+/// again at those alone that had to wait for a unit which may have given something up since, and of those that
+/// wait for the same record, name or value at one.
 #[derive(Drop)]
 pub struct Region {
     dispatcher: Dispatcher,
-    // Each waiting command has to wait yet, for one of `blockers`.
+    // What is known of each waiting command, where `is_noted`.
+    notes: Notes,
+    // Each waiting command has its note.
+    is_noted: bool,
+    // Each waiting command has its note, and none has to be looked at.
     is_settled: bool,
     // No task has waited too long yet.
     is_in_time: bool,
-    // The units that the waiting commands wait for, and perhaps others.
-    blockers: IndexSet<UnitId>,
 }
 
 impl Model for Region {
     ghost use Rattle.cics_dispatch.specs.Machine.{RegionValue};
     ghost use Rattle.cics_dispatch.specs.Regions.{IsRegionKept};
-    ghost use Rattle.cics_dispatch.specs.Settled.{IsRemembered};
+    ghost use Rattle.cics_dispatch.specs.Notes.{IsRemembered};
 
     ghost Value = { RegionValue };
 
     ghost view = { λ r. r.dispatcher };
 
     ghost invariant = { λ r. IsRegionKept r.dispatcher
-        × IsRemembered r.dispatcher.machine r.is_settled r.is_in_time r.blockers.keys };
+        × IsRemembered r.dispatcher.machine r.notes r.is_noted r.is_settled r.is_in_time };
 }
 
-// Whether what was settled stays settled after a command: its task's unit is no blocker, or the command gives up nothing
-// and its task goes on.
-fn stays_settled(is_settled: bool, blocks: bool, keeps: bool, outcome: &Outcome) -> bool
-    ensures { result ≡ is_settled && (not blocks || (keeps && goes_on outcome.now)) }
+// The unit of a command's task, if there is one, where the command may have given something up that the unit held: it is one
+// that does, or it has ended its task.
+fn giving_up(keeps: bool, outcome: &Outcome, unit: Option<UnitId>) -> Option<UnitId>
+    ensures { result ≡ (if keeps && goes_on outcome.now then None else unit) }
 {
-    let goes_on = matches!(outcome, Outcome::Replied(_) | Outcome::Waiting(_));
-    is_settled && (!blocks || (keeps && goes_on))
-}
-
-// Whether a unit, if there is one, is a blocker.
-fn is_blocker(blockers: &IndexSet<UnitId>, unit: Option<UnitId>) -> bool
-    ensures { result ≡ is_blocker blockers.now.keys unit }
-{
-    match unit {
-        Some(unit) => blockers.contains(&unit),
-        None => false,
+    if keeps && matches!(outcome, Outcome::Replied(_) | Outcome::Waiting(_)) {
+        None
+    } else {
+        unit
     }
+}
+
+// Whether what was settled stays settled after a command: its task's unit has kept nobody waiting, and it doesn't wait.
+fn stays_settled(is_settled: bool, was_blocker: bool, waits: bool) -> bool
+    ensures { result ≡ is_settled && (not was_blocker && not waits) }
+{
+    is_settled && !was_blocker && !waits
+}
+
+// Notes that a command of a label's task waits, if it does, where the others are noted. `false` where they aren't, memory is
+// refused, or much stands in the notes that no waiting command needs: then `wake` notes all anew.
+fn note_if(is_noted: bool, notes: &mut Notes, waits: bool, label: Name8) -> bool
+    ensures rows { result ≡ true → (is_noted ≡ true)
+        × (notes.new.rows ≡ (if waits then notes.old.rows ++ new_note label ∷ [] else notes.old.rows)) }
+    ensures none { waits ≡ false → (result ≡ is_noted) × (notes.new.rows ≡ notes.old.rows) }
+    ensures needs { notes.new.needs ≡ notes.old.needs }
+{
+    if !waits {
+        return is_noted;
+    }
+    if !is_noted || notes.have_grown() {
+        return false;
+    }
+    notes.push(label).is_ok()
 }
 
 impl Region {
@@ -83,9 +104,10 @@ impl Region {
         let dispatcher = Dispatcher::new(opening)?;
         Ok(Region {
             dispatcher,
+            notes: Notes::new(alloc),
+            is_noted: false,
             is_settled: false,
             is_in_time: false,
-            blockers: IndexSet::new(alloc),
         })
     }
 
@@ -136,12 +158,12 @@ impl Region {
             return Err(Refused::RegionDown);
         }
         let unit = self.dispatcher.unit_of(&label);
-        let blocks = is_blocker(&self.blockers, unit);
         let keeps = self.dispatcher.is_keeping(&command.verb);
         let outcome = self.dispatcher.issue(label, command)?;
-        let stays = stays_settled(self.is_settled, blocks, keeps, &outcome);
-        let noted = &mut self.blockers;
-        self.is_settled = self.dispatcher.note_blocker(stays, &label, noted);
+        let was_blocker = self.notes.forget(giving_up(keeps, &outcome, unit));
+        let waits = self.dispatcher.is_waiting(&label);
+        self.is_settled = stays_settled(self.is_settled, was_blocker, waits);
+        self.is_noted = note_if(self.is_noted, &mut self.notes, waits, label);
         Ok(outcome)
     }
 
@@ -151,8 +173,7 @@ impl Region {
     /// The order is that in which the waits began. The command goes on from the look at what other
     /// units hold, and doesn't wait again. It is refused for want of memory alone (`NoMemory`), and
     /// changes nothing then: the command waits as it did. Where it answered `None`, and no unit that
-    /// a command waits for may have given up anything since, it looks at no wait; unless it had no
-    /// memory to note these units.
+    /// a command waits for may have given up anything since, it looks at no wait.
     pub fn wake(&mut self) -> Result<Option<Woken>, Refused>
         ensures step { IsStep true self.old (always (woken self.old.machine)) result self.new }
         ensures headline { IsHeadlineRegion self.new }
@@ -160,15 +181,18 @@ impl Region {
         if self.is_settled {
             return Ok(None);
         }
-        let woken = self.dispatcher.wake()?;
-        match woken {
-            Some(_) => self.is_in_time = false,
-            None => {
-                self.blockers.clear();
-                self.is_settled = self.dispatcher.note_blockers(&mut self.blockers);
-            }
-        }
-        Ok(woken)
+        self.dispatcher.note_all(self.is_noted, &mut self.notes)?;
+        self.is_noted = true;
+        let Some(label) = self.dispatcher.first_free(&mut self.notes) else {
+            self.is_settled = self.notes.are_closed();
+            return Ok(None);
+        };
+        let unit = self.dispatcher.unit_of(&label);
+        let woken = self.dispatcher.wake(label)?;
+        self.notes.remove(&label);
+        self.notes.forget(unit);
+        self.is_in_time = false;
+        Ok(Some(woken))
     }
 
     /// Abends the first task that has waited too long, by the code AKCS, and answers its label; `None`
@@ -186,12 +210,16 @@ impl Region {
         if self.is_in_time {
             return None;
         }
-        let expired = self.dispatcher.expire();
-        match expired {
-            Some(_) => self.is_settled = false,
-            None => self.is_in_time = true,
-        }
-        expired
+        let Some(at) = self.dispatcher.first_late() else {
+            self.is_in_time = true;
+            return None;
+        };
+        let unit = self.dispatcher.unit_at(at);
+        let expired = self.dispatcher.time_out(at);
+        self.notes.remove(&expired.label);
+        self.notes.forget(unit);
+        self.is_settled = false;
+        Some(expired)
     }
 
     /// Shuts the region down, and answers how many units of work were backed out: SHUTDOWN IMMEDIATE.
@@ -211,6 +239,8 @@ impl Region {
             return Err(Refused::RegionDown);
         }
         let count = self.dispatcher.shut_down();
+        self.notes.clear();
+        self.is_noted = true;
         self.is_settled = true;
         self.is_in_time = true;
         Ok(count)

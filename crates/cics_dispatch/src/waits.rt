@@ -6,7 +6,7 @@ ghost use Rattle.std.specs.Option.{option_copied};
 ghost use Rattle.std.specs.Map.Iter.{ShowsInOrder, deref};
 ghost use Rattle.cics_dispatch.specs.Machine.{is_waiting, not_waiting};
 ghost use Rattle.cics_dispatch.specs.Settled.{reads_queue};
-ghost use Rattle.cics_dispatch.specs.Waits.{wait_of, AreBelow};
+ghost use Rattle.cics_dispatch.specs.Waits.{wait_of, AreBelow, AreApart};
 
 use cics_names::{Command, Name8, NoMemory};
 use cics_units::Op;
@@ -154,7 +154,8 @@ impl Waits {
 
     /// The wait of a label's task, or `None` where no command of it waits.
     pub(crate) fn get(&self, label: &Name8) -> Option<&Suspended>
-        ensures { option_copied result ≡ wait_of self.now label.now }
+        ensures wait { option_copied result ≡ wait_of self.now label.now }
+        ensures once { AreApart self.now }
     {
         let number = self.numbers.get(label)?;
         self.rows.get(number)

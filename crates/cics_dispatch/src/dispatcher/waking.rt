@@ -1,28 +1,27 @@
 //! Waiting commands: which one goes on, and which one's time is over.
 
-ghost use Rattle.std.specs.Prelude.{◌≡◌, ◌<◌, [], ◌∷◌, All, Some, None, true, false, length};
-ghost use Rattle.std.specs.Prelude.{slice_get, IfOk, OnErr, IfSome, IfNone};
-ghost use Rattle.std.specs.Option.{option_copied};
+ghost use Rattle.std.specs.Prelude.{◌≡◌, ◌<◌, ◌≤◌, [], ◌∷◌, All, Some, None, true, false, length};
+ghost use Rattle.std.specs.Prelude.{slice_get, IfOk, OnOk, OnErr, IfSome, IfNone};
 ghost use Rattle.cics_history.specs.Execution.{IsOpenUnit};
+ghost use Rattle.cics_history.specs.Records.{key_of};
 ghost use Rattle.cics_dispatch.specs.Machine.{task_at, timed_out};
-ghost use Rattle.cics_dispatch.specs.Machine.{Suspended as SuspendedValue};
 ghost use Rattle.cics_dispatch.specs.KeptTasks.{IsWaitKept};
 ghost use Rattle.cics_dispatch.specs.Waking.{expired, woken, woken_first, first_free, first_late};
-ghost use Rattle.cics_dispatch.specs.Waking.{is_late, may_go_on, awaited_by};
+ghost use Rattle.cics_dispatch.specs.Waking.{is_late, awaited_by};
 ghost use Rattle.cics_dispatch.specs.Steps.{with_outcome};
-ghost use Rattle.cics_dispatch.specs.Settled.{AreAmong, IsBlocked};
-ghost use Rattle.cics_dispatch.specs.Waits.{wait_of};
-ghost use Rattle.cics_dispatch.specs.Answers.{IsStep, always};
+ghost use Rattle.cics_dispatch.specs.Notes.{OfWait, IsFound, IsOnlyUse, IsOnlyNeed, OwnerIsAwake};
+ghost use Rattle.cics_dispatch.specs.Notes.{AreNotedNow, IsBlockedAt, IsFirstFree, IsFirstFreeOf};
 ghost use Rattle.cics_dispatch.specs.Calls.{OfTask, IsAwake, HasReady, KeepsRegion};
 ghost use Rattle.cics_dispatch.specs.Calls.{IsStepOrRefused};
 ghost use Rattle.cics_dispatch.specs.Calls.{IsAttempt, going_on};
 
 use crate::dispatcher::Dispatcher;
-use crate::outcomes::{Attempt, Expired, Outcome, Refused, Woken};
+use crate::notes::{Look, Notes};
+use crate::outcomes::{Attempt, Expired, Outcome, Woken};
 use crate::waits::{Suspended, Waits};
-use cics_enqueue::UnitId;
+use cics_enqueue::{Resource, UnitId};
 use cics_names::{AbendCode, Name4, Name8, NoMemory, Verb};
-use indexmap::IndexSet;
+use cics_units::Op;
 use std::mem;
 
 // The code of a task that has waited too long: AKCS.
@@ -32,6 +31,36 @@ fn time_out_code() -> AbendCode
     match Name4::new(b"AKCS") {
         Ok(name) => AbendCode(name),
         Err(_) => unreachable!(),
+    }
+}
+
+// Whether a command's key has no more bytes than a key may have. One that names no file has no key.
+fn has_short_key(op: &Op) -> bool
+    ensures { result ≡ true → length (key_of op.now) ≤ 255 }
+{
+    match op.record() {
+        Some((_, key)) => key.bytes().len() <= 255,
+        None => true,
+    }
+}
+
+// The one resource that an updating command uses if it uses any, where it uses no two, and may have to wait for nothing
+// but a unit that holds it.
+fn need_of(op: &Op) -> Option<Resource>
+    requires { length (key_of op.now) ≤ 255 }
+    ensures { IfSome result (λ r. IsOnlyUse r op.now) }
+{
+    match op {
+        Op::Write { file, key, .. } => Some(Resource::record(*file, key.bytes())),
+        Op::Rewrite { file, key, .. } => Some(Resource::record(*file, key.bytes())),
+        Op::Delete { file, key } => Some(Resource::record(*file, key.bytes())),
+        Op::DeleteGeneric { file, prefix } => Some(Resource::prefix(*file, prefix.bytes())),
+        Op::ReadUpdate { file, key } => Some(Resource::record(*file, key.bytes())),
+        Op::TsWrite { queue, .. } => Some(Resource::TsQueue(*queue)),
+        Op::TsRewrite { queue, .. } => Some(Resource::TsQueue(*queue)),
+        Op::TsDelete { queue } => Some(Resource::TsQueue(*queue)),
+        Op::TdWrite { queue, .. } => Some(Resource::TdWrite(*queue)),
+        Op::TdRead { .. } | Op::TdDelete { .. } => None,
     }
 }
 
@@ -60,88 +89,113 @@ impl Dispatcher {
             .value_holder(asking, &resource.bytes()[..*length as usize])
     }
 
-    // Whether a waiting command needn't wait any more.
-    fn may_go_on(&self, wait: &Suspended) -> bool
-        requires kept { IsWaitKept self.now.machine wait.now }
-        ensures { result
-            ≡ may_go_on self.now.machine wait.now (task_at self.now.machine.tasks wait.now.label) }
+    /// Looks at the waiting command of a label's task: whether it has to wait, and for whom.
+    pub(crate) fn look(&self, label: &Name8) -> Look
+        ensures { OfWait self.now.machine.waiting label.now (λ w. IsFound self.now.machine w result) }
     {
-        let Some(at) = self.tasks.find(&wait.label()) else {
-            return false;
+        let Some(wait) = self.waits.get(label) else {
+            return Look::HasToWait;
         };
-        self.awaited(at, wait).is_none()
+        let Some(at) = self.tasks.find(label) else {
+            return Look::HasToWait;
+        };
+        match self.awaited(at, wait) {
+            None => Look::MayGoOn,
+            Some(_) if wait.reads_queue() => Look::HasToWait,
+            Some(unit) => Look::IsBlocked(unit),
+        }
     }
 
-    // The first of these waiting commands that may go on.
-    fn first_free<'w>(&self, waits: &'w Waits) -> Option<&'w Suspended>
-        requires kept { All (IsWaitKept self.now.machine) waits.now }
-        ensures { option_copied result ≡ first_free self.now.machine waits.now }
+    // The one resource that the waiting command of a label's task uses, where it is one.
+    fn need(&self, label: &Name8) -> Option<Resource>
+        ensures { OfWait self.now.machine.waiting label.now (λ w. IfSome result (λ r.
+            IsOnlyNeed r w.command.verb w.op)) }
     {
-        for wait in waits.iter() {
-            if self.may_go_on(wait) {
-                return Some(wait);
+        let wait = self.waits.get(label)?;
+        if let Some(op) = wait.op() {
+            return if has_short_key(op) { need_of(op) } else { None };
+        }
+        match &wait.command().verb {
+            Verb::Enq {
+                resource,
+                length,
+                ..
+            } => Some(Resource::value(&resource.bytes()[..*length as usize])),
+            _ => None,
+        }
+    }
+
+    // Whether the task of a unit has a command that waits.
+    fn owner_waits(&self, unit: UnitId) -> bool
+        ensures { result ≡ false → OwnerIsAwake self.now.machine unit }
+    {
+        match self.tasks.label_of(unit) {
+            Some(label) => self.waits.is_waiting(&label),
+            None => false,
+        }
+    }
+
+    // Notes that the waiting command of a place has to wait for a unit; and with it all that use what it uses.
+    fn file(&self, notes: &mut Notes, at: usize, unit: UnitId)
+        requires within { at < length notes.old.rows }
+        requires kept { All (IsWaitKept self.now.machine) self.now.machine.waiting }
+        requires noted { AreNotedNow self.now.machine notes.old }
+        requires blocked { IsBlockedAt self.now.machine at unit }
+        ensures noted { AreNotedNow self.now.machine notes.new }
+    {
+        if self.owner_waits(unit) {
+            let _ = notes.set_blocker(at, unit);
+            return;
+        }
+        let Some(resource) = self.need(&notes.get(at).label) else {
+            let _ = notes.set_blocker(at, unit);
+            return;
+        };
+        let Some(need) = notes.place_of(resource) else {
+            return;
+        };
+        notes.set_need(at, need);
+        let _ = notes.file(need, unit);
+    }
+
+    /// Looks at the waiting commands whose notes don't say whom they have to wait for, up to the first that needn't wait,
+    /// and answers its task's label. What it finds is noted.
+    pub(crate) fn first_free(&self, notes: &mut Notes) -> Option<Name8>
+        requires kept { All (IsWaitKept self.now.machine) self.now.machine.waiting }
+        requires noted { AreNotedNow self.now.machine notes.old }
+        ensures noted { AreNotedNow self.now.machine notes.new }
+        ensures first { IfSome result (λ label. IsFirstFree self.now.machine label) }
+        ensures none { IfNone result
+            (first_free self.now.machine self.now.machine.waiting ≡ None) }
+    {
+        for at in 0..notes.len() {
+            let note = notes.get(at);
+            if note.blocker.is_some() {
+                continue;
+            }
+            match self.look(&note.label) {
+                Look::MayGoOn => return Some(note.label),
+                Look::IsBlocked(unit) => self.file(notes, at, unit),
+                Look::HasToWait => {}
             }
         }
         None
     }
 
-    // The unit that a waiting command has to wait for, if it has to wait for what that unit holds. None of READQ TD,
-    // which may have to wait for the writer of its queue until something is committed.
-    fn blocker(&self, wait: &Suspended) -> Option<UnitId>
-        requires kept { IsWaitKept self.now.machine wait.now }
-        ensures { IfSome result (λ unit. IsBlocked self.now.machine (unit ∷ []) wait.now) }
+    /// Notes each waiting command anew, as one that has to be looked at, unless they are noted.
+    pub(crate) fn note_all(&self, are_noted: bool, notes: &mut Notes) -> Result<(), NoMemory>
+        requires noted { are_noted ≡ true → AreNotedNow self.now.machine notes.old }
+        ensures ok { OnOk result (AreNotedNow self.now.machine notes.new) }
+        ensures err { OnErr result (are_noted ≡ false) }
     {
-        if wait.reads_queue() {
-            return None;
+        if are_noted {
+            return Ok(());
         }
-        let at = self.tasks.find(&wait.label())?;
-        self.awaited(at, wait)
-    }
-
-    /// Adds to `blockers` the unit that each waiting command has to wait for. `false` where one needn't wait, or memory
-    /// is refused.
-    pub(crate) fn note_blockers(&self, blockers: &mut IndexSet<UnitId>) -> bool
-        ensures { result ≡ true →
-            All (IsBlocked self.now.machine blockers.new.keys) self.now.machine.waiting }
-    {
+        notes.clear();
         for wait in self.waits.iter() {
-            let Some(unit) = self.blocker(wait) else {
-                return false;
-            };
-            let Ok(_) = blockers.insert(unit) else {
-                return false;
-            };
+            notes.push(wait.label())?;
         }
-        true
-    }
-
-    /// Adds to `blockers` the unit that the command of a label's task has to wait for, if one waits, where `is_settled`
-    /// is true. `false` where it isn't, the command needn't wait, or memory is refused.
-    pub(crate) fn note_blocker(
-        &self,
-        is_settled: bool,
-        label: &Name8,
-        blockers: &mut IndexSet<UnitId>,
-    ) -> bool
-        ensures settled { result ≡ true → is_settled ≡ true }
-        ensures own { result ≡ true → (w : SuspendedValue) →
-            wait_of self.now.machine.waiting label.now ≡ Some w →
-            IsBlocked self.now.machine blockers.new.keys w }
-        ensures more { AreAmong blockers.old.keys blockers.new.keys }
-    {
-        if !is_settled {
-            return false;
-        }
-        let Some(wait) = self.waits.get(label) else {
-            return true;
-        };
-        let Some(unit) = self.blocker(wait) else {
-            return false;
-        };
-        let Ok(_) = blockers.insert(unit) else {
-            return false;
-        };
-        true
+        Ok(())
     }
 
     // Tries a waiting command of the task at a place again, with what it asked for when it was issued.
@@ -173,51 +227,48 @@ impl Dispatcher {
         }
     }
 
-    // Lets the first of these commands go on that needn't wait, where no other command waits.
-    fn wake_first(&mut self, waits: &Waits) -> Result<Option<Woken>, NoMemory>
+    // Lets the waiting command of a label's task go on that is the first of these, where no other command waits.
+    fn go_on_first(&mut self, waits: &Waits, label: Name8) -> Result<Woken, NoMemory>
         requires alone { self.old.machine.waiting ≡ [] }
         requires kept { All (IsWaitKept self.old.machine) waits.now }
-        ensures step { IfOk result (λ woken. with_outcome woken self.new.machine
+        requires first { IsFirstFreeOf self.old.machine waits.now label }
+        ensures step { IfOk result (λ woken. with_outcome (Some woken) self.new.machine
             ≡ woken_first self.old.machine (first_free self.old.machine waits.now)) }
         ensures kept { KeepsRegion self.old self.new }
         ensures err { OnErr result (self.new ≡ self.old) }
     {
-        let Some(wait) = self.first_free(waits) else {
-            return Ok(None);
+        let Some(wait) = waits.get(&label) else {
+            unreachable!();
         };
-        let label = wait.label();
         let Some(at) = self.tasks.find(&label) else {
-            return Ok(None);
+            unreachable!();
         };
         let outcome = self.go_on(at, wait)?;
-        Ok(Some(Woken { label, outcome }))
+        Ok(Woken { label, outcome })
     }
 
-    /// Lets the first waiting command go on that needn't wait any more, and answers its task's label
-    /// with what came of it; `None` where each has to wait.
+    /// Lets the waiting command of a label's task go on, which is the first that needn't wait any more, and answers
+    /// what came of it.
     ///
-    /// The order is that in which the waits began. The command goes on from the look at what other
-    /// units hold, and doesn't wait again. It is refused for want of memory alone (`NoMemory`), and
-    /// changes nothing then: the command waits as it did.
-    pub fn wake(&mut self) -> Result<Option<Woken>, Refused>
-        ensures step { IsStep true self.old (always (woken self.old.machine)) result self.new }
+    /// It goes on from the look at what other units hold, and doesn't wait again. It is refused for want of memory alone
+    /// (`NoMemory`), and changes nothing then: the command waits as it did.
+    pub(crate) fn wake(&mut self, label: Name8) -> Result<Woken, NoMemory>
+        requires first { IsFirstFree self.old.machine label }
+        ensures step { IfOk result (λ w. with_outcome (Some w) self.new.machine ≡ woken self.old.machine) }
         ensures kept { KeepsRegion self.old self.new }
+        ensures err { OnErr result (self.new ≡ self.old) }
     {
         // The waits stand aside, whole, so that a command that wants memory waits as it did.
         let mut waits = mem::replace(&mut self.waits, Waits::new(self.alloc));
-        match self.wake_first(&waits) {
-            Ok(Some(woken)) => {
-                waits.remove(&woken.label);
+        match self.go_on_first(&waits, label) {
+            Ok(woken) => {
+                waits.remove(&label);
                 self.waits = waits;
-                Ok(Some(woken))
+                Ok(woken)
             }
-            Ok(None) => {
+            Err(refused) => {
                 self.waits = waits;
-                Ok(None)
-            }
-            Err(_) => {
-                self.waits = waits;
-                Err(Refused::NoMemory)
+                Err(refused)
             }
         }
     }
@@ -244,8 +295,9 @@ impl Dispatcher {
         }
     }
 
-    // The place of the first task that has waited too long, in the order in which the waits began.
-    fn first_late(&self) -> Option<usize>
+    /// The place of the first task that has waited too long, in the order in which the waits began. A task has waited too
+    /// long once the clock is its `dtimout` past the begin of its wait; a `dtimout` of 0 is no limit.
+    pub(crate) fn first_late(&self) -> Option<usize>
         ensures task { IfSome result (λ at. slice_get self.now.machine.tasks at
             ≡ first_late self.now.machine self.now.machine.waiting) }
         ensures within { IfSome result (λ at. at < length self.now.machine.tasks) }
@@ -259,23 +311,20 @@ impl Dispatcher {
         None
     }
 
-    /// Abends the first task that has waited too long, by the code AKCS, and answers its label; `None`
-    /// where no task has.
-    ///
-    /// The order is that in which the waits began. A task has waited too long once the clock is its
-    /// `dtimout` past the begin of its wait; a `dtimout` of 0 is no limit. Its unit of work is backed
-    /// out, its wait ends, and so does the task. Takes no memory.
-    pub fn expire(&mut self) -> Option<Expired>
-        ensures outcome { result ≡ (expired self.old.machine).outcome }
-        ensures machine { self.new.machine ≡ (expired self.old.machine).machine }
+    /// Abends the task at a place, which is the first that has waited too long, by the code AKCS. Its unit of work is
+    /// backed out, its wait ends, and so does the task. Takes no memory.
+    pub(crate) fn time_out(&mut self, at: usize) -> Expired
+        requires within { at < length self.old.machine.tasks }
+        requires first { slice_get self.old.machine.tasks at
+            ≡ first_late self.old.machine self.old.machine.waiting }
+        ensures step { with_outcome (Some result) self.new.machine ≡ expired self.old.machine }
         ensures kept { KeepsRegion self.old self.new }
     {
-        let at = self.first_late()?;
         let label = self.tasks.get(at).label();
         self.abend(at);
-        Some(Expired {
+        Expired {
             label,
             code: time_out_code(),
-        })
+        }
     }
 }

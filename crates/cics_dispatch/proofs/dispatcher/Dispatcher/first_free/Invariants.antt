@@ -1,8 +1,11 @@
-use Rattle.std.proofs.Common.{◌≡◌, All}
-use Rattle.cics_dispatch.specs.KeptTasks.{IsWaitKept}
+use Rattle.std.proofs.Common.{◌≡◌, drop}
 use Rattle.cics_dispatch.specs.Waking.{first_free}
+use Rattle.cics_dispatch.specs.Notes.{AreNotedNow}
 use Rattle.cics_dispatch.proofs.dispatcher.Dispatcher.first_free.Given as goal
 
--- none of those that were passed may go on, and those that are left have passed their checks
-abbrev pub invariant-loop-wait : goal.invariant-loop-wait
-invariant-loop-wait l = (first_free l.self.machine l.wait-iterator ≡ first_free l.self.machine l.waits) × All (IsWaitKept l.self.machine) l.wait-iterator
+-- none of those that were passed may go on, and each has its note
+abbrev pub invariant-loop-at : goal.invariant-loop-at
+invariant-loop-at l = record {
+  passed : first_free l.self.machine (drop l.at l.self.machine.waiting) ≡ first_free l.self.machine l.self.machine.waiting;
+  noted : AreNotedNow l.self.machine l.notes;
+}

@@ -1,4 +1,4 @@
-use Rattle.std.proofs.Common.{◌≡◌, ◌∙◌, ◌≤◌, length, sym, ap, subst, arith, refl, true, None}
+use Rattle.std.proofs.Common.{◌≡◌, ◌∙◌, ◌≤◌, length, sym, ap, subst, arith, refl, None}
 use Rattle.std.proofs.lemmas.List.{length-take-le}
 use Rattle.cics_names.specs.declared.conditions.Condition.TheVariants.{Invreq}
 use Rattle.cics_names.specs.Commands.{file_named}

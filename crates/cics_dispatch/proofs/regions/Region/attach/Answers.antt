@@ -1,5 +1,5 @@
 use Rattle.cics_dispatch.specs.Steps.{attached}
-use Rattle.cics_dispatch.specs.Settled.{IsRemembered}
+use Rattle.cics_dispatch.specs.Notes.{IsRemembered}
 use Rattle.cics_dispatch.proofs.RegionRemembers.{after_step, remembered_attached}
 use Rattle.cics_dispatch.proofs.regions.Region.attach.Goals as goal
 
@@ -8,6 +8,6 @@ invariant_of-self c =
     let u = c.self.inside in
     let m = u.dispatcher.machine in (
       c.attach.ensures.kept c.self.invariant.0,
-      after_step (λ m. IsRemembered m u.is_settled u.is_in_time u.blockers.keys) _ u.dispatcher c.attach.new.self (attached m c.args.label c.args.dtimout) c.attach.result c.attach.ensures.step c.self.invariant.1
-          (remembered_attached m c.args.label c.args.dtimout u.is_settled u.is_in_time u.blockers.keys c.self.invariant.0.tasks c.self.invariant.1),
+      after_step (λ m. IsRemembered m u.notes u.is_noted u.is_settled u.is_in_time) _ u.dispatcher c.attach.new.self (attached m c.args.label c.args.dtimout) c.attach.result c.attach.ensures.step c.self.invariant.1
+          (remembered_attached m c.args.label c.args.dtimout u.notes u.is_noted u.is_settled u.is_in_time c.self.invariant.0.tasks c.self.invariant.1),
     )

@@ -1,6 +1,6 @@
 use Rattle.std.proofs.Common.{false}
 use Rattle.cics_dispatch.specs.Waking.{clock_set}
-use Rattle.cics_dispatch.specs.Settled.{IsRemembered}
+use Rattle.cics_dispatch.specs.Notes.{IsRemembered}
 use Rattle.cics_dispatch.proofs.RegionRemembers.{after_step, remembered_late, remembered_clock}
 use Rattle.cics_dispatch.proofs.regions.Region.set_clock.Goals as goal
 
@@ -9,6 +9,6 @@ invariant_of-self c =
     let u = c.self.inside in
     let m = u.dispatcher.machine in (
       c.set_clock.ensures.kept c.self.invariant.0,
-      after_step (λ m. IsRemembered m u.is_settled false u.blockers.keys) _ u.dispatcher c.set_clock.new.self (clock_set m c.args.now) c.set_clock.result c.set_clock.ensures.step
-          (remembered_late m u.is_settled u.is_in_time u.blockers.keys c.self.invariant.1) (remembered_clock m c.args.now u.is_settled u.is_in_time u.blockers.keys c.self.invariant.1),
+      after_step (λ m. IsRemembered m u.notes u.is_noted u.is_settled false) _ u.dispatcher c.set_clock.new.self (clock_set m c.args.now) c.set_clock.result c.set_clock.ensures.step
+          (remembered_late m u.notes u.is_noted u.is_settled u.is_in_time c.self.invariant.1) (remembered_clock m c.args.now u.notes u.is_noted u.is_settled u.is_in_time c.self.invariant.1),
     )

@@ -10,5 +10,5 @@ invariant_of-self c =
     let u = c.self.inside in
     let m = u.dispatcher.machine in (
       c.shut_down-count.ensures.kept c.self.invariant.0,
-      remembered_alone c.shut_down-count.new.self.machine u.blockers.keys (ap (λ s. s.machine.waiting) c.shut_down-count.ensures.machine ∙ ended_waiting (with_waiting m []) m.tasks),
+      remembered_alone c.shut_down-count.new.self.machine c.clear.new.self c.clear.ensures (ap (λ s. s.machine.waiting) c.shut_down-count.ensures.machine ∙ ended_waiting (with_waiting m []) m.tasks),
     )

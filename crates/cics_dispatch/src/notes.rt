@@ -1,0 +1,243 @@
+//! What is known of the commands that wait: whom each had to wait for when it was looked at last.
+
+ghost use Rattle.std.specs.Prelude.{◌≡◌, ◌<◌, [], ◌∷◌, ◌++◌, None, Some, false, length, filter, map, not};
+ghost use Rattle.cics_dispatch.specs.declared.notes.Note.{Note as NoteValue};
+ghost use Rattle.std.specs.Prelude.{slice_get, slice_set, OnOk, OnErr, IfSome, if◌then◌else◌, true};
+ghost use Rattle.cics_names.specs.Keyed.{is_same};
+ghost use Rattle.cics_dispatch.specs.Notes.{forgotten, filed, with_need, with_blocker};
+ghost use Rattle.cics_dispatch.specs.Notes.{AreClosed, KeepsNeeds};
+
+use cics_enqueue::{Resource, UnitId};
+use cics_names::{Name8, NoMemory};
+use indexmap::IndexSet;
+use std::alloc::Global;
+use std::marker::Model;
+
+/// What is known of a command that waits.
+#[derive(Clone, Copy)]
+pub(crate) struct Note {
+    /// The label of its task.
+    pub(crate) label: Name8,
+    /// The place among the needs of the one resource that it uses; `None` where that isn't known, or it is none or two.
+    pub(crate) need: Option<usize>,
+    /// The unit that it had to wait for when it was looked at last, which has given up nothing since; `None` where it
+    /// has to be looked at.
+    pub(crate) blocker: Option<UnitId>,
+}
+
+/// What a look at a waiting command finds.
+pub(crate) enum Look {
+    /// It needn't wait any more.
+    MayGoOn,
+    /// It has to wait as long as this unit gives up nothing.
+    IsBlocked(UnitId),
+    /// It has to wait, for what more than one unit may change.
+    HasToWait,
+}
+
+/// What is known of the commands that wait, in the order in which the waits began.
+#[derive(Drop)]
+pub(crate) struct Notes {
+    rows: Vec<Note>,
+    // What commands wait for that use one resource each.
+    needs: IndexSet<Resource>,
+    // The units that are the blocker of a command, and perhaps others.
+    blockers: IndexSet<UnitId>,
+}
+
+impl Model for Notes {
+    ghost use Rattle.cics_dispatch.specs.Notes.{NotesValue, AreBlockersAmong};
+
+    ghost Value = { NotesValue };
+
+    ghost view = { λ n. record { rows = n.rows.items; needs = n.needs.keys } };
+
+    ghost invariant = { λ n. AreBlockersAmong n.blockers.keys n.rows.items };
+}
+
+// Changes each note of a need so that its command has to wait for a unit.
+fn file_all(rows: &mut [Note], need: usize, unit: UnitId)
+    ensures { rows.new ≡ map (filed need unit) rows.old }
+{
+    for at in 0..rows.len() {
+        let mut note = rows[at];
+        if note.need == Some(need) {
+            note.blocker = Some(unit);
+        }
+        rows[at] = note;
+    }
+}
+
+// Changes each note so that its command has to be looked at if it had to wait for a unit.
+fn forget_all(rows: &mut [Note], unit: UnitId)
+    ensures { rows.new ≡ map (forgotten (Some unit)) rows.old }
+{
+    for at in 0..rows.len() {
+        let mut note = rows[at];
+        if note.blocker == Some(unit) {
+            note.blocker = None;
+        }
+        rows[at] = note;
+    }
+}
+
+// Whether no command has to be looked at.
+fn are_closed(rows: &[Note]) -> bool
+    ensures { result ≡ true → AreClosed rows.now }
+{
+    for note in rows {
+        if note.blocker.is_none() {
+            return false;
+        }
+    }
+    true
+}
+
+impl Notes {
+    /// Nothing is known, as no command waits. `alloc` gives the memory for notes.
+    pub(crate) fn new(alloc: Global) -> Notes
+        ensures { result.rows ≡ [] }
+    {
+        Notes {
+            rows: Vec::new(alloc),
+            needs: IndexSet::new(alloc),
+            blockers: IndexSet::new(alloc),
+        }
+    }
+
+    /// How many commands there are notes of.
+    pub(crate) fn len(&self) -> usize
+        ensures { result ≡ length self.now.rows }
+    {
+        self.rows.len()
+    }
+
+    /// The note at a place.
+    pub(crate) fn get(&self, at: usize) -> Note
+        requires { at < length self.now.rows }
+        ensures { slice_get self.now.rows at ≡ Some result }
+    {
+        self.rows[at]
+    }
+
+    /// Whether no command waits.
+    pub(crate) fn is_empty(&self) -> bool
+        ensures { result ≡ true → self.now.rows ≡ [] }
+    {
+        self.rows.is_empty()
+    }
+
+    /// Whether no command has to be looked at.
+    pub(crate) fn are_closed(&self) -> bool
+        ensures { result ≡ true → AreClosed self.now.rows }
+    {
+        are_closed(self.rows.as_slice())
+    }
+
+    /// Whether much more stands here of commands that wait no more than of those that wait.
+    pub(crate) fn have_grown(&self) -> bool {
+        let most = self.rows.len() + 1000;
+        self.needs.len() / 2 > most || self.blockers.len() / 2 > most
+    }
+
+    /// Forgets everything, as no command waits.
+    pub(crate) fn clear(&mut self)
+        ensures { self.new.rows ≡ [] }
+    {
+        self.rows.clear();
+        self.needs.clear();
+        self.blockers.clear();
+    }
+
+    /// Notes that a command of a label's task waits, last of all; it has to be looked at.
+    pub(crate) fn push(&mut self, label: Name8) -> Result<(), NoMemory>
+        ensures rows { OnOk result (self.new.rows ≡ self.old.rows
+            ++ record { label = label; need = None; blocker = None } ∷ []) }
+        ensures needs { self.new.needs ≡ self.old.needs }
+        ensures err { OnErr result (self.new.rows ≡ self.old.rows) }
+    {
+        let note = Note {
+            label,
+            need: None,
+            blocker: None,
+        };
+        self.rows.push(note)?;
+        Ok(())
+    }
+
+    /// Drops the note of a label's task. Takes no memory.
+    pub(crate) fn remove(&mut self, label: &Name8)
+        ensures rows { self.new.rows
+            ≡ filter (λ n. not (is_same n.label label.now)) self.old.rows }
+        ensures needs { self.new.needs ≡ self.old.needs }
+    {
+        self.rows.retain(|note| note.label != *label);
+    }
+
+    /// Forgets whom the commands have to wait for that a unit, if there is one, has kept waiting: it may have given
+    /// something up. Answers whether there may be any. Takes no memory.
+    pub(crate) fn forget(&mut self, unit: Option<UnitId>) -> bool
+        ensures rows { self.new.rows ≡ map (forgotten unit) self.old.rows }
+        ensures none { result ≡ false → self.new.rows ≡ self.old.rows }
+        ensures needs { self.new.needs ≡ self.old.needs }
+    {
+        let Some(unit) = unit else {
+            return false;
+        };
+        if !self.blockers.contains(&unit) {
+            return false;
+        }
+        forget_all(&mut self.rows, unit);
+        true
+    }
+
+    /// The place of a resource among the needs, or `None` where it is new and memory for it is refused.
+    pub(crate) fn place_of(&mut self, resource: Resource) -> Option<usize>
+        ensures place { IfSome result (λ at. slice_get self.new.needs at ≡ Some resource) }
+        ensures needs { KeepsNeeds self.old.needs self.new.needs }
+        ensures rows { self.new.rows ≡ self.old.rows }
+    {
+        match self.needs.insert_full(resource) {
+            Ok((at, _)) => Some(at),
+            Err(_) => None,
+        }
+    }
+
+    /// Notes the place of the one resource that a command uses.
+    pub(crate) fn set_need(&mut self, at: usize, need: usize)
+        requires { at < length self.old.rows }
+        ensures rows { (n : NoteValue) → slice_get self.old.rows at ≡ Some n →
+            self.new.rows ≡ slice_set self.old.rows at (with_need need n) }
+        ensures needs { self.new.needs ≡ self.old.needs }
+    {
+        self.rows[at].need = Some(need);
+    }
+
+    /// Notes the unit that a command has to wait for. `false` where memory is refused; then the note stays as it is.
+    pub(crate) fn set_blocker(&mut self, at: usize, unit: UnitId) -> bool
+        requires { at < length self.old.rows }
+        ensures rows { (n : NoteValue) → slice_get self.old.rows at ≡ Some n → self.new.rows
+            ≡ (if result then slice_set self.old.rows at (with_blocker unit n) else self.old.rows) }
+        ensures needs { self.new.needs ≡ self.old.needs }
+    {
+        if self.blockers.insert(unit).is_err() {
+            return false;
+        }
+        self.rows[at].blocker = Some(unit);
+        true
+    }
+
+    /// Notes the unit that all commands have to wait for that use the one resource of a place among the needs. `false`
+    /// where memory is refused; then all notes stay as they are.
+    pub(crate) fn file(&mut self, need: usize, unit: UnitId) -> bool
+        ensures rows { self.new.rows
+            ≡ (if result then map (filed need unit) self.old.rows else self.old.rows) }
+        ensures needs { self.new.needs ≡ self.old.needs }
+    {
+        if self.blockers.insert(unit).is_err() {
+            return false;
+        }
+        file_all(&mut self.rows, need, unit);
+        true
+    }
+}
