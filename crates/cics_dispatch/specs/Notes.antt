@@ -1,4 +1,4 @@
--- What is known of the commands that wait: whom each had to wait for when it was looked at last.
+-- What is known of the commands that wait: for which unit each has to wait as long as that gives nothing up.
 use Rattle.std.specs.Prelude.{◌≡◌, ℕ, Bool, true, false, if◌then◌else◌, Option, Some, None, is_some, List, [], ◌∷◌, All, slice_get}
 use Rattle.std.specs.List.{list_any}
 use Rattle.cics_names.specs.Keyed.{Bytes}
@@ -49,21 +49,23 @@ AreClosed (n ∷ ns) = (is_some n.blocker ≡ true) × AreClosed ns
 pub record HasBlockerAmong (us : List ℕ) (n : Note) : Type 0 where
   pub among : (u : ℕ) → n.blocker ≡ Some u → is_among us u ≡ true
 
+-- and so it is of each
 abbrev pub AreBlockersAmong : List ℕ → List Note → Type 0
 AreBlockersAmong us [] = Unit {0}
 AreBlockersAmong us (n ∷ ns) = HasBlockerAmong us n × AreBlockersAmong us ns
 
--- what had its place has it yet
+-- what had its place still has it
 pub record KeepsNeeds (old new : List Resource) : Type 0 where
   pub kept : (i : ℕ) (r : Resource) → slice_get old i ≡ Some r → slice_get new i ≡ Some r
 
--- the command at a place of the needs uses that resource, and nothing else
+-- the command uses the resource at this place of the needs, and nothing else
 pub record IsNeed (o : OpeningState) (needs : List Resource) (w : Suspended) (g : ℕ) : Type 0 where
   pub resource : Resource
   pub there : slice_get needs g ≡ Some resource
   pub needed : needed_by o w.command.verb w.op ≡ resource ∷ []
 
--- a note is right: it is of that command, whom it has to wait for keeps it waiting yet, and it uses what is noted
+-- a note is right: it has the label of the command's task, the command has to wait for the unit that is noted, and it uses
+-- the resource that is noted and nothing else
 pub record IsNoted (m : Machine) (needs : List Resource) (n : Note) (w : Suspended) : Type 0 where
   pub label : n.label ≡ w.label
   pub blocked : (u : ℕ) → n.blocker ≡ Some u → IsBlocked m u w
@@ -93,15 +95,18 @@ IsFound m w HasToWait = may_go_on m w (task_at m.tasks w.label) ≡ false
 
 -- an updating command uses this resource and nothing else, if it uses any
 pub record IsOnlyUse (r : Resource) (op : Op) : Type 0 where
-  pub only : (o : OpeningState) (p : Resource → Bool) → list_any p (uses_of o op) ≡ true → uses_of o op ≡ r ∷ []
+  pub only : (o : OpeningState) (p : Resource → Bool) →
+      list_any p (uses_of o op) ≡ true → uses_of o op ≡ r ∷ []
 
 -- and so does a waiting command
 pub record IsOnlyNeed (r : Resource) (verb : Verb) (op : Option Op) : Type 0 where
-  pub only : (o : OpeningState) (p : Resource → Bool) → list_any p (needed_by o verb op) ≡ true → needed_by o verb op ≡ r ∷ []
+  pub only : (o : OpeningState) (p : Resource → Bool) →
+      list_any p (needed_by o verb op) ≡ true → needed_by o verb op ≡ r ∷ []
 
 -- no command waits of the task whose unit this is
 abbrev pub OwnerIsAwake : Machine → ℕ → Type 0
-OwnerIsAwake m u = (i : ℕ) (t : Task) → slice_get m.tasks i ≡ Some t → t.unit ≡ Some u → is_waiting m.waiting t.label ≡ false
+OwnerIsAwake m u = (i : ℕ) (t : Task) →
+    slice_get m.tasks i ≡ Some t → t.unit ≡ Some u → is_waiting m.waiting t.label ≡ false
 
 -- the waiting command at a place has to wait for a unit
 abbrev pub IsBlockedAt : Machine → ℕ → ℕ → Type 0
@@ -113,6 +118,7 @@ pub record IsFirstFreeOf (m : Machine) (ws : List Suspended) (label : Bytes) : T
   pub first : first_free m ws ≡ Some wait
   pub own : wait.label ≡ label
 
+-- the first of all waiting commands that may go on is the one of a label's task
 abbrev pub IsFirstFree : Machine → Bytes → Type 0
 IsFirstFree m label = IsFirstFreeOf m m.waiting label
 
@@ -120,7 +126,8 @@ IsFirstFree m label = IsFirstFreeOf m m.waiting label
 
 -- what is remembered of the last looks at the waiting commands: where it is noted, each has its note; where they are
 -- settled none has to be looked at, and where they are in time no task has waited too long
-pub record IsRemembered (m : Machine) (notes : NotesValue) (is_noted is_settled is_in_time : Bool) : Type 0 where
-  pub noted : is_noted ≡ true → AreNoted m notes.needs notes.rows m.waiting
+pub record IsRemembered (m : Machine) (notes : NotesValue) (is_noted is_settled is_in_time : Bool) :
+    Type 0 where
+  pub noted : is_noted ≡ true → AreNotedNow m notes
   pub settled : is_settled ≡ true → (is_noted ≡ true) × AreClosed notes.rows
   pub in_time : is_in_time ≡ true → All (IsInTime m) m.waiting

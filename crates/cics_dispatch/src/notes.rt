@@ -1,4 +1,4 @@
-//! What is known of the commands that wait: whom each had to wait for when it was looked at last.
+//! What is known of the commands that wait: for which unit each has to wait as long as that gives nothing up.
 
 ghost use Rattle.std.specs.Prelude.{◌≡◌, ◌<◌, [], ◌∷◌, ◌++◌, None, Some, false, length, filter, map, not};
 ghost use Rattle.cics_dispatch.specs.declared.notes.Note.{Note as NoteValue};
@@ -18,10 +18,10 @@ use std::marker::Model;
 pub(crate) struct Note {
     /// The label of its task.
     pub(crate) label: Name8,
-    /// The place among the needs of the one resource that it uses; `None` where that isn't known, or it is none or two.
+    /// The place among the needs of the one resource that it uses; `None` where it uses two or none, or wasn't looked at
+    /// yet.
     pub(crate) need: Option<usize>,
-    /// The unit that it had to wait for when it was looked at last, which has given up nothing since; `None` where it
-    /// has to be looked at.
+    /// The unit that it has to wait for as long as that gives nothing up; `None` where it has to be looked at.
     pub(crate) blocker: Option<UnitId>,
 }
 
@@ -31,7 +31,7 @@ pub(crate) enum Look {
     MayGoOn,
     /// It has to wait as long as this unit gives up nothing.
     IsBlocked(UnitId),
-    /// It has to wait, for what more than one unit may change.
+    /// It has to wait, and no unit is known that keeps it waiting by what it holds: READQ TD.
     HasToWait,
 }
 
@@ -120,13 +120,6 @@ impl Notes {
         self.rows[at]
     }
 
-    /// Whether no command waits.
-    pub(crate) fn is_empty(&self) -> bool
-        ensures { result ≡ true → self.now.rows ≡ [] }
-    {
-        self.rows.is_empty()
-    }
-
     /// Whether no command has to be looked at.
     pub(crate) fn are_closed(&self) -> bool
         ensures { result ≡ true → AreClosed self.now.rows }
@@ -134,13 +127,14 @@ impl Notes {
         are_closed(self.rows.as_slice())
     }
 
-    /// Whether much more stands here of commands that wait no more than of those that wait.
+    /// Whether the needs or the blockers are more than twice the notes, and 2,000 more. Then most of them are of commands
+    /// that wait no more, and it is time to note all anew.
     pub(crate) fn have_grown(&self) -> bool {
         let most = self.rows.len() + 1000;
         self.needs.len() / 2 > most || self.blockers.len() / 2 > most
     }
 
-    /// Forgets everything, as no command waits.
+    /// Forgets all notes, needs and blockers. Takes no memory.
     pub(crate) fn clear(&mut self)
         ensures { self.new.rows ≡ [] }
     {
@@ -174,8 +168,8 @@ impl Notes {
         self.rows.retain(|note| note.label != *label);
     }
 
-    /// Forgets whom the commands have to wait for that a unit, if there is one, has kept waiting: it may have given
-    /// something up. Answers whether there may be any. Takes no memory.
+    /// The commands that wait for a unit, if there is one, have to be looked at again: it may have given something up.
+    /// `false` where there are none. Takes no memory.
     pub(crate) fn forget(&mut self, unit: Option<UnitId>) -> bool
         ensures rows { self.new.rows ≡ map (forgotten unit) self.old.rows }
         ensures none { result ≡ false → self.new.rows ≡ self.old.rows }

@@ -27,9 +27,9 @@ use std::marker::Model;
 /// left out by which a unit that was backed out acted on a recoverable file or queue, and each command of
 /// the replay has the answer that it was executed with; LENGTH may have cut what its task was told.
 ///
-/// The region remembers whom each waiting command had to wait for when it was looked at last. So `wake` looks
-/// again at those alone that had to wait for a unit which may have given something up since, and of those that
-/// wait for the same record, name or value at one.
+/// The region remembers for which unit each waiting command has to wait. So `wake` looks only at those that began to
+/// wait since, those whose unit may have given something up since, and each READQ TD; of commands that use the same
+/// record, prefix, queue name or value, and nothing else, it looks at the first alone that must wait.
 #[derive(Drop)]
 pub struct Region {
     dispatcher: Dispatcher,
@@ -68,7 +68,7 @@ fn giving_up(keeps: bool, outcome: &Outcome, unit: Option<UnitId>) -> Option<Uni
     }
 }
 
-// Whether what was settled stays settled after a command: its task's unit has kept nobody waiting, and it doesn't wait.
+// Whether what was settled stays settled after a command: it gave up nothing that another waits for, and doesn't wait.
 fn stays_settled(is_settled: bool, was_blocker: bool, waits: bool) -> bool
     ensures { result ≡ is_settled && (not was_blocker && not waits) }
 {
@@ -79,7 +79,8 @@ fn stays_settled(is_settled: bool, was_blocker: bool, waits: bool) -> bool
 // refused, or much stands in the notes that no waiting command needs: then `wake` notes all anew.
 fn note_if(is_noted: bool, notes: &mut Notes, waits: bool, label: Name8) -> bool
     ensures rows { result ≡ true → (is_noted ≡ true)
-        × (notes.new.rows ≡ (if waits then notes.old.rows ++ new_note label ∷ [] else notes.old.rows)) }
+        × (notes.new.rows
+        ≡ (if waits then notes.old.rows ++ new_note label ∷ [] else notes.old.rows)) }
     ensures none { waits ≡ false → (result ≡ is_noted) × (notes.new.rows ≡ notes.old.rows) }
     ensures needs { notes.new.needs ≡ notes.old.needs }
 {
@@ -172,8 +173,8 @@ impl Region {
     ///
     /// The order is that in which the waits began. The command goes on from the look at what other
     /// units hold, and doesn't wait again. It is refused for want of memory alone (`NoMemory`), and
-    /// changes nothing then: the command waits as it did. Where it answered `None`, and no unit that
-    /// a command waits for may have given up anything since, it looks at no wait.
+    /// changes nothing then: the command waits as it did. Where it answered `None`, no READQ TD waits, and since then no
+    /// command began to wait and no unit that one waits for may have given up anything, it looks at no wait.
     pub fn wake(&mut self) -> Result<Option<Woken>, Refused>
         ensures step { IsStep true self.old (always (woken self.old.machine)) result self.new }
         ensures headline { IsHeadlineRegion self.new }

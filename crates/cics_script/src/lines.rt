@@ -425,6 +425,7 @@ fn is_in_script(byte: u8) -> bool
 fn are_in_script(bytes: &[u8]) -> bool
     ensures { result ≡ list_all is_script_byte bytes.now }
 {
+    // Each byte is tested, also behind one that is none: without an early end many are tested at once.
     let mut all = true;
     for byte in bytes {
         all &= is_in_script(*byte);

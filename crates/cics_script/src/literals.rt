@@ -53,7 +53,8 @@ pub fn is_quote_byte(byte: u8) -> bool
     byte == QUOTE
 }
 
-// The value of each hexadecimal digit, capital or small, and 16 for a byte that is none.
+// The value of each hexadecimal digit, capital or small, and 16 for a byte that is none. A table, as the ranges of digits
+// and letters would be a branch each that nobody foresees.
 static DIGITS: [u8; 256] = [
     16, 16, 16, 16, 16, 16, 16, 16, 16, 16, 16, 16, 16, 16, 16, 16, 16, 16, 16, 16, 16, 16, 16, 16,
     16, 16, 16, 16, 16, 16, 16, 16, 16, 16, 16, 16, 16, 16, 16, 16, 16, 16, 16, 16, 16, 16, 16, 16,
@@ -303,9 +304,10 @@ pub fn literal_at(notation: Notation, behind_quote: &[u8]) -> Option<(Literal<'_
 }
 
 impl<'a> Literal<'a> {
-    /// The characters of a quoted literal that are written one by one, with no quote among them.
+    /// What stands between the quotes, where the literal is quoted and has no doubled quote; else `None`.
     pub fn plain(self) -> Option<&'a [u8]>
-        ensures { IfSome result (λ text. IsWrittenAs self.entry.notation self.entry.behind_quote.now text.now) }
+        ensures { IfSome result (λ text.
+            IsWrittenAs self.entry.notation self.entry.behind_quote.now text.now) }
     {
         self.plain
     }

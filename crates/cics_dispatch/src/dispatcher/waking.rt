@@ -91,7 +91,8 @@ impl Dispatcher {
 
     /// Looks at the waiting command of a label's task: whether it has to wait, and for whom.
     pub(crate) fn look(&self, label: &Name8) -> Look
-        ensures { OfWait self.now.machine.waiting label.now (λ w. IsFound self.now.machine w result) }
+        ensures { OfWait self.now.machine.waiting label.now
+            (λ w. IsFound self.now.machine w result) }
     {
         let Some(wait) = self.waits.get(label) else {
             return Look::HasToWait;
@@ -135,7 +136,7 @@ impl Dispatcher {
         }
     }
 
-    // Notes that the waiting command of a place has to wait for a unit; and with it all that use what it uses.
+    // Notes that the waiting command at a place has to wait for a unit, and so have all that use the same resource.
     fn file(&self, notes: &mut Notes, at: usize, unit: UnitId)
         requires within { at < length notes.old.rows }
         requires kept { All (IsWaitKept self.now.machine) self.now.machine.waiting }
@@ -182,7 +183,7 @@ impl Dispatcher {
         None
     }
 
-    /// Notes each waiting command anew, as one that has to be looked at, unless they are noted.
+    /// Makes a new note of each waiting command, as one that has to be looked at, where `are_noted` is false.
     pub(crate) fn note_all(&self, are_noted: bool, notes: &mut Notes) -> Result<(), NoMemory>
         requires noted { are_noted ≡ true → AreNotedNow self.now.machine notes.old }
         ensures ok { OnOk result (AreNotedNow self.now.machine notes.new) }
@@ -254,11 +255,12 @@ impl Dispatcher {
     /// (`NoMemory`), and changes nothing then: the command waits as it did.
     pub(crate) fn wake(&mut self, label: Name8) -> Result<Woken, NoMemory>
         requires first { IsFirstFree self.old.machine label }
-        ensures step { IfOk result (λ w. with_outcome (Some w) self.new.machine ≡ woken self.old.machine) }
+        ensures step { IfOk result (λ w.
+            with_outcome (Some w) self.new.machine ≡ woken self.old.machine) }
         ensures kept { KeepsRegion self.old self.new }
         ensures err { OnErr result (self.new ≡ self.old) }
     {
-        // The waits stand aside, whole, so that a command that wants memory waits as it did.
+        // The waits are taken out whole, so that a command that wants memory waits as it did.
         let mut waits = mem::replace(&mut self.waits, Waits::new(self.alloc));
         match self.go_on_first(&waits, label) {
             Ok(woken) => {
