@@ -16,7 +16,7 @@ pub record Position : Type 0 where
   pub place : Place
   pub generic : Bool
 
--- a full key of X'FF' bytes stands for the file's end
+-- a key that isn't generic and has nothing but bytes X'FF' means the end of the file
 abbrev pub is_end : Bytes → Bool → Bool
 is_end key generic = not generic && list_all (λ b. b == 255) key
 

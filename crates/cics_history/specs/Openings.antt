@@ -38,7 +38,7 @@ unpadded (b ∷ bs) = without_blank b (unpadded bs) where
   without_blank b [] = if b == blank then [] else b ∷ []
   without_blank b (c ∷ cs) = b ∷ c ∷ cs
 
--- a temporary storage queue is recoverable where its name begins with a defined prefix
+-- a temporary storage queue is recoverable where one of the defined prefixes begins its name
 abbrev pub has_prefix_in : List Bytes → Bytes → Bool
 has_prefix_in [] q = false
 has_prefix_in (p ∷ ps) q = starts_with nat_eq q (unpadded p) || has_prefix_in ps q

@@ -163,8 +163,8 @@ fn area_of(definition: FileDef, areas: &[Area], key: &[u8]) -> usize
     low
 }
 
-/// Where a key's place is, or else where it would be put in: into the interval whose first key is
-/// the greatest one not above it, or else into the first.
+/// Where a key's place is, or else where it would be put in: into the last interval that doesn't begin
+/// above the key, or into the first one where all do.
 pub(crate) fn find(definition: FileDef, places: &Dataset, key: &[u8]) -> Result<Position, Position>
     requires { ArePlaces definition (places_in places.now) }
     ensures found { IfOk result (IsPlaceOf definition places.now key.now) }

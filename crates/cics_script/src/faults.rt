@@ -3,7 +3,7 @@
 ghost use Rattle.std.specs.Prelude.{◌≡◌};
 ghost use Rattle.cics_script.specs.Faults.{number_of, title_of};
 
-/// Why a line can't be read: the fault of the first token at which it can't be read on, unless it is one of
+/// Why a line can't be read: what is wrong with the first token that can't stand where it stands, unless it is one of
 /// the whole line (`TooLong`, `NotAscii`, `MissingOption`, `DefineTooLate`) or `NoMemory`. But for
 /// `NoMemory` a journal prints its number and its name.
 #[derive(Clone, Copy, Debug, PartialEq, Eq)]

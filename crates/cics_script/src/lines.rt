@@ -445,7 +445,7 @@ fn is_blank_line(bytes: &[u8]) -> bool
 /// What one line of a script says. `bytes` is the line without its LF, and without the CR right before
 /// that. `alloc` gives the memory of the records in the line; `NoMemory` is answered only where it was
 /// refused, and every other answer depends on the bytes alone. Of a line that can't be read the answer is
-/// the fault of the first token at which it can't be read on, and `MissingOption` where it is read to its end
+/// the one that its first wrong token has, and `MissingOption` where it is read to its end
 /// and lacks an option;
 /// a line of more than 70,000 bytes is `TooLong`, and then one with a byte that is neither a tab nor
 /// printable ASCII is `NotAscii`, before all others.

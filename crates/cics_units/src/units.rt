@@ -291,8 +291,8 @@ impl Units {
     }
 
     /// The NEXT place of a temporary storage queue: the number of the item that the last READQ TS gave, by
-    /// whichever task. DELETEQ TS and the WRITEQ TS that makes the queue set it to 0, and an absent
-    /// queue's is 0; a backout doesn't change it.
+    /// whichever task. It is 0 again after DELETEQ TS and once WRITEQ TS has made the queue anew, and of
+    /// an absent queue; a backout leaves it as it is.
     pub fn next_place(&self, queue: &Name8) -> u16
         ensures { result ≡ place_at self.now.state queue.now }
     {
