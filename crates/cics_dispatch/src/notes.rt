@@ -41,6 +41,8 @@ pub(crate) struct Notes {
     rows: Vec<Note>,
     // What commands wait for that use one resource each.
     needs: IndexSet<Resource>,
+    // The places of the needs that two commands have, or more.
+    shared: IndexSet<usize>,
     // The units that are the blocker of a command, and perhaps others.
     blockers: IndexSet<UnitId>,
 }
@@ -101,6 +103,7 @@ impl Notes {
         Notes {
             rows: Vec::new(alloc),
             needs: IndexSet::new(alloc),
+            shared: IndexSet::new(alloc),
             blockers: IndexSet::new(alloc),
         }
     }
@@ -140,6 +143,7 @@ impl Notes {
     {
         self.rows.clear();
         self.needs.clear();
+        self.shared.clear();
         self.blockers.clear();
     }
 
@@ -185,16 +189,20 @@ impl Notes {
         true
     }
 
-    /// The place of a resource among the needs, or `None` where it is new and memory for it is refused.
-    pub(crate) fn place_of(&mut self, resource: Resource) -> Option<usize>
+    /// The place of a resource among the needs, or `None` where it is new and memory for it is refused. `is_noted` says
+    /// whether the note of the command that uses it has that place.
+    pub(crate) fn place_of(&mut self, resource: Resource, is_noted: bool) -> Option<usize>
         ensures place { IfSome result (λ at. slice_get self.new.needs at ≡ Some resource) }
         ensures needs { KeepsNeeds self.old.needs self.new.needs }
         ensures rows { self.new.rows ≡ self.old.rows }
     {
-        match self.needs.insert_full(resource) {
-            Ok((at, _)) => Some(at),
-            Err(_) => None,
+        let Ok((at, is_new)) = self.needs.insert_full(resource) else {
+            return None;
+        };
+        if !is_new && !is_noted {
+            let _ = self.shared.insert(at);
         }
+        Some(at)
     }
 
     /// Notes the place of the one resource that a command uses.
@@ -222,12 +230,15 @@ impl Notes {
     }
 
     /// Notes the unit that all commands have to wait for that use the one resource of a place among the needs. `false`
-    /// where memory is refused; then all notes stay as they are.
+    /// where it is one command alone, or memory is refused; then all notes stay as they are.
     pub(crate) fn file(&mut self, need: usize, unit: UnitId) -> bool
         ensures rows { self.new.rows
             ≡ (if result then map (filed need unit) self.old.rows else self.old.rows) }
         ensures needs { self.new.needs ≡ self.old.needs }
     {
+        if !self.shared.contains(&need) {
+            return false;
+        }
         if self.blockers.insert(unit).is_err() {
             return false;
         }

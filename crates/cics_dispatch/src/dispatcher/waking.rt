@@ -148,15 +148,18 @@ impl Dispatcher {
             let _ = notes.set_blocker(at, unit);
             return;
         }
-        let Some(resource) = self.need(&notes.get(at).label) else {
+        let note = notes.get(at);
+        let Some(resource) = self.need(&note.label) else {
             let _ = notes.set_blocker(at, unit);
             return;
         };
-        let Some(need) = notes.place_of(resource) else {
+        let Some(need) = notes.place_of(resource, note.need.is_some()) else {
             return;
         };
         notes.set_need(at, need);
-        let _ = notes.file(need, unit);
+        if !notes.file(need, unit) {
+            let _ = notes.set_blocker(at, unit);
+        }
     }
 
     /// Looks at the waiting commands whose notes don't say whom they have to wait for, up to the first that needn't wait,
