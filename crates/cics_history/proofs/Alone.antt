@@ -10,7 +10,7 @@ use Rattle.cics_history.specs.Store.{Store, apply, is_recoverable, initial_store
 use Rattle.cics_history.specs.History.{outcome_of, is_open, is_backed_out, kept, replay}
 use Rattle.cics_history.specs.Holding.{store_of}
 use Rattle.cics_history.specs.Execution.{UnitsValue, after_end}
-use Rattle.cics_history.specs.Headline.{IsSameRecoverable, LeavesNoTrace}
+use Rattle.cics_history.specs.Headline.{IsSameRecoverable, LeftNoTrace, LeavesNoTrace}
 use Rattle.cics_history.specs.Events.{is_live}
 use Rattle.cics_history.specs.declared.ops.Entry.{Entry}
 use Rattle.cics_history.specs.declared.ops.UnitState.{UnitState}
@@ -84,7 +84,18 @@ no_trace o outcomes u before own c gone h =
       td = λ q r. at (Td q) r;
     }
 
--- so the call that backs out a unit leaves no trace of it, where the store is the replay
+-- so a unit that was backed out left no trace, where the store is the replay
+pub left_no_trace : (v : UnitsValue) → IsOpeningInOrder v.state.opening → v.store ≡ store_of v.state →
+    (u : ℕ) → is_backed_out (outcome_of v.state.outcomes u) ≡ true → LeftNoTrace v u
+left_no_trace v order same u gone before own split each =
+    let o : OpeningState = v.state.opening in
+    let outcomes : List UnitState = v.state.outcomes in
+    let given : Store = replay (initial_store o) (kept o before outcomes) in
+    subst (λ t. IsSameRecoverable o t given) (sym same)
+    (subst (λ h. IsSameRecoverable o (replay (initial_store o) (kept o h outcomes)) given) (sym split)
+    (no_trace o outcomes u before own (initial-canonical o order) gone each))
+
+-- and the call that backs out a unit leaves no trace of it
 module _ (old : UnitsValue) (u : ℕ) where
   abbrev opened : OpeningState
   opened = old.state.opening
@@ -102,8 +113,5 @@ module _ (old : UnitsValue) (u : ℕ) where
   pub leaves_no_trace : (store : Store) → IsOpeningInOrder opened → is_live old.state u ≡ true →
       store ≡ store_of (after_end old.state u BackedOut) →
       LeavesNoTrace old (record { state = after_end old.state u BackedOut; store = store }) u
-  leaves_no_trace store order live same before own split each =
-      subst (λ t. IsSameRecoverable opened t (replay (initial_store opened) (kept opened before outcomes_then))) (sym same)
-      (subst (λ h. IsSameRecoverable opened (replay (initial_store opened) (kept opened h outcomes_then))
-      (replay (initial_store opened) (kept opened before outcomes_then))) (sym split)
-      (no_trace opened outcomes_then u before own (initial-canonical opened order) (gone live) each))
+  leaves_no_trace store order live same =
+      left_no_trace (record { state = after_end old.state u BackedOut; store = store }) order same u (gone live)

@@ -1,22 +1,14 @@
 -- Recovery: after any calls, the store holds what replaying the kept history from the opening gives, and in that replay
--- each kept command has the answer that it was given.
-use Rattle.std.specs.Prelude.{◌≡◌, ℕ, List, [], ◌++◌, All, IsTrue}
+-- each kept command has the answer that it was given; where the last commands are all of one backed-out unit, what is
+-- recoverable holds what the kept ones before them give.
+use Rattle.std.specs.Prelude.{◌≡◌, ℕ, true, List, [], ◌++◌, All, IsTrue}
 use Rattle.cics_names.specs.Keyed.{Bytes, value_at}
 use Rattle.cics_history.specs.declared.ops.Entry.{Entry}
 use Rattle.cics_history.specs.Openings.{OpeningState, file_recoverable, has_prefix_in, queue_logical}
 use Rattle.cics_history.specs.Store.{Store, initial_store}
-use Rattle.cics_history.specs.History.{kept, replay, Agrees}
+use Rattle.cics_history.specs.History.{kept, replay, outcome_of, is_backed_out, Agrees}
 use Rattle.cics_history.specs.Holding.{UnitsState}
 use Rattle.cics_history.specs.Execution.{UnitsValue}
-
--- the store of the parts is the replay of the kept history, and each kept entry has the answer that its place gives
-pub record IsHeadline (u : UnitsValue) : Type 0 where
-  pub store : u.store ≡ replay (initial_store u.state.opening) (kept u.state.opening u.state.trace u.state.outcomes)
-  pub agrees : Agrees (initial_store u.state.opening) (kept u.state.opening u.state.trace u.state.outcomes)
-
--- an opening begins with no command executed, no unit, and nothing held
-abbrev pub beginning : OpeningState → UnitsState
-beginning o = record { opening = o; trace = []; outcomes = []; reads = []; counts = []; next = [] }
 
 -- two stores hold the same in each recoverable file and queue
 pub record IsSameRecoverable (o : OpeningState) (s t : Store) : Type 0 where
@@ -24,7 +16,25 @@ pub record IsSameRecoverable (o : OpeningState) (s t : Store) : Type 0 where
   pub ts : (q : Bytes) → IsTrue (has_prefix_in o.prefixes q) → value_at q s.ts ≡ value_at q t.ts
   pub td : (q : Bytes) → IsTrue (queue_logical o q) → value_at q s.td ≡ value_at q t.td
 
--- a unit that ran alone from some entry on and is backed out leaves what the entries before it give
+-- a unit whose entries are the last ones left no trace: each recoverable file and queue holds what the kept entries before
+-- them give
+abbrev pub LeftNoTrace : UnitsValue → ℕ → Type 0
+LeftNoTrace v u =
+    (before own : List Entry) → v.state.trace ≡ before ++ own → All (λ e. e.unit ≡ u) own →
+    IsSameRecoverable v.state.opening v.store (replay (initial_store v.state.opening) (kept v.state.opening before v.state.outcomes))
+
+-- the store of the parts is the replay of the kept history, and each kept entry has the answer that its place gives; so
+-- where the last entries are all of a unit that was backed out, it left no trace
+pub record IsHeadline (v : UnitsValue) : Type 0 where
+  pub store : v.store ≡ replay (initial_store v.state.opening) (kept v.state.opening v.state.trace v.state.outcomes)
+  pub agrees : Agrees (initial_store v.state.opening) (kept v.state.opening v.state.trace v.state.outcomes)
+  pub alone : (u : ℕ) → is_backed_out (outcome_of v.state.outcomes u) ≡ true → LeftNoTrace v u
+
+-- an opening begins with no command executed, no unit, and nothing held
+abbrev pub beginning : OpeningState → UnitsState
+beginning o = record { opening = o; trace = []; outcomes = []; reads = []; counts = []; next = [] }
+
+-- a unit that ran alone from some entry on and is backed out by a call leaves what the kept entries before it give
 abbrev pub LeavesNoTrace : UnitsValue → UnitsValue → ℕ → Type 0
 LeavesNoTrace old new u =
     (before own : List Entry) → old.state.trace ≡ before ++ own → All (λ e. e.unit ≡ u) own →

@@ -14,7 +14,8 @@
 
 ghost use Rattle.std.specs.Prelude.{◌≡◌, ◌≤◌, ℕ, ◌==◌, Bool, true, false, not, ◌&&◌, length};
 ghost use Rattle.std.specs.Prelude.{slice_get};
-ghost use Rattle.std.specs.Prelude.{if◌then◌else◌, Option, Some, None, is_some, List, [], ◌∷◌, ◌++◌, All};
+ghost use Rattle.std.specs.Prelude.{if◌then◌else◌, Option, Some, None, is_some, List, [], ◌∷◌};
+ghost use Rattle.std.specs.Prelude.{◌++◌, All};
 ghost use Rattle.std.specs.Prelude.{IsPermutation};
 ghost use Rattle.std.specs.List.{list_any};
 ghost use Rattle.cics_names.specs.Keyed.{Bytes, Map, value_at};
@@ -34,7 +35,8 @@ ghost use Rattle.cics_history.specs.History.{outcome_of, is_open, is_backed_out,
 ghost use Rattle.cics_history.specs.History.{Agrees};
 ghost use Rattle.cics_history.specs.Holding.{UnitsState, store_of, held_by, held_table, first_held};
 ghost use Rattle.cics_history.specs.Holding.{first_holder, committed_for, is_nothing, awaited};
-ghost use Rattle.cics_history.specs.Execution.{UnitsValue, unit_or_next, after_execution, after_end};
+ghost use Rattle.cics_history.specs.Execution.{UnitsValue, unit_or_next, after_execution};
+ghost use Rattle.cics_history.specs.Execution.{after_end};
 ghost use Rattle.cics_history.specs.Execution.{after_enqueue, after_dequeue, after_unlock};
 ghost use Rattle.cics_history.specs.Execution.{after_ts_reading};
 ghost use Rattle.cics_history.specs.Headline.{beginning, IsSameRecoverable, LeavesNoTrace};
@@ -44,7 +46,8 @@ ghost use Rattle.cics_history.specs.declared.ops.Op.TheVariants.{TdDelete};
 ghost use Rattle.cics_history.specs.declared.ops.Entry.{Entry};
 ghost use Rattle.cics_history.specs.declared.ops.UnitState.{UnitState};
 ghost use Rattle.cics_history.specs.declared.ops.UnitState.TheVariants.{Committed, BackedOut};
-ghost use Rattle.cics_history.specs.Cells.{Cell, Key, Td, content, is_generic, cell_of, touches, effect};
+ghost use Rattle.cics_history.specs.Cells.{Cell, Key, Td, content, is_generic, cell_of, touches};
+ghost use Rattle.cics_history.specs.Cells.{effect};
 ghost use Rattle.cics_history.specs.Cells.{End, Reading, Writing, recovers, IsOrdered, IsCanonical};
 ghost use Rattle.cics_history.specs.Events.{Event, is_live, may_act, run};
 ghost use Rattle.cics_history.specs.Holders.{end_of, IsHeldByOne, IsLeastHeld};
@@ -88,14 +91,19 @@ pub fn answers_stay()
 ///   read.
 pub fn parts_stay()
     ensures cells { (o : OpeningState) (events : List Event) (x : Cell) → IsOpeningInOrder o →
-        content_in_place o (run_in_place (beginning o) (parts_opened o) events) x ≡ content (store_of (run (beginning o) events)) x }
-    ensures whole { (o : OpeningState) (events : List Event) (held : Store) → IsOpeningInOrder o → IsCanonical held →
-        ((x : Cell) → content held x ≡ content_in_place o (run_in_place (beginning o) (parts_opened o) events) x) →
+        content_in_place o (run_in_place (beginning o) (parts_opened o) events) x
+        ≡ content (store_of (run (beginning o) events)) x }
+    ensures whole { (o : OpeningState) (events : List Event) (held : Store) → IsOpeningInOrder o →
+        IsCanonical held →
+        ((x : Cell) → content held x ≡ content_in_place o
+        (run_in_place (beginning o) (parts_opened o) events) x) →
         held ≡ store_of (run (beginning o) events) }
-    ensures images { (o : OpeningState) (events : List Event) (unit : ℕ) → IsOpeningInOrder o → is_live (run (beginning o) events) unit ≡ true →
+    ensures images { (o : OpeningState) (events : List Event) (unit : ℕ) → IsOpeningInOrder o →
+        is_live (run (beginning o) events) unit ≡ true →
         let p = run_in_place (beginning o) (parts_opened o) events in
         AllReady p.place.cells (p.place.images unit) }
-    ensures marks { (o : OpeningState) (events : List Event) (unit : ℕ) → IsOpeningInOrder o → is_live (run (beginning o) events) unit ≡ true →
+    ensures marks { (o : OpeningState) (events : List Event) (unit : ℕ) → IsOpeningInOrder o →
+        is_live (run (beginning o) events) unit ≡ true →
         let p = run_in_place (beginning o) (parts_opened o) events in
         AllMarksReady p.marks.queues (p.marks.images unit) }
 {}
@@ -107,13 +115,17 @@ pub fn parts_stay()
 /// - `alone`: so it is in the history, whenever it runs.
 /// - `call`: so it is for the call that backs the unit out, where the store is the replay.
 pub fn runs_alone()
-    ensures alone { (o : OpeningState) (outcomes : List UnitState) (unit : ℕ) (before own : List Entry) →
-        IsCanonical (initial_store o) → is_backed_out (outcome_of outcomes unit) ≡ true → All (λ e. e.unit ≡ unit) own →
+    ensures alone { (o : OpeningState) (outcomes : List UnitState) (unit : ℕ)
+        (before own : List Entry) →
+        IsCanonical (initial_store o) → is_backed_out (outcome_of outcomes unit) ≡ true →
+        All (λ e. e.unit ≡ unit) own →
         IsSameRecoverable o (replay (initial_store o) (kept o (before ++ own) outcomes))
         (replay (initial_store o) (kept o before outcomes)) }
-    ensures call { (old : UnitsValue) (unit : ℕ) (store : Store) → IsOpeningInOrder old.state.opening →
-        is_live old.state unit ≡ true → store ≡ store_of (after_end old.state unit BackedOut) →
-        LeavesNoTrace old (record { state = after_end old.state unit BackedOut; store = store }) unit }
+    ensures call { (old : UnitsValue) (unit : ℕ) (store : Store) →
+        IsOpeningInOrder old.state.opening →
+        is_live old.state unit ≡ true →
+        let new = after_end old.state unit BackedOut in
+        store ≡ store_of new → LeavesNoTrace old (record { state = new; store = store }) unit }
 {}
 
 /// What interleaved units did to recoverable files and queues is what they would have done one
@@ -136,24 +148,32 @@ pub fn runs_alone()
 pub fn units_take_turns()
     ensures order { (o : OpeningState) (events : List Event) → IsOpeningInOrder o →
         IsCommitOrder (run (beginning o) events) (commit_order (beginning o) events) }
-    ensures commands { (o : OpeningState) (events : List Event) → IsOpeningInOrder o → (later : List ℕ) →
+    ensures commands { (o : OpeningState) (events : List Event) → IsOpeningInOrder o →
+        (later : List ℕ) →
         let s = run (beginning o) events in
         let units = commit_order (beginning o) events ++ later in
         AreOpen s later → IsPermutation (done_by_any o s.trace units) (one_by_one o s.trace units) }
-    ensures answers { (o : OpeningState) (events : List Event) → IsOpeningInOrder o → (later : List ℕ) →
+    ensures answers { (o : OpeningState) (events : List Event) → IsOpeningInOrder o →
+        (later : List ℕ) →
         let s = run (beginning o) events in
-        AreOpen s later → Agrees (initial_store o) (one_by_one o s.trace (commit_order (beginning o) events ++ later)) }
-    ensures stores { (o : OpeningState) (events : List Event) → IsOpeningInOrder o → (later : List ℕ) →
+        AreOpen s later → Agrees (initial_store o)
+        (one_by_one o s.trace (commit_order (beginning o) events ++ later)) }
+    ensures stores { (o : OpeningState) (events : List Event) → IsOpeningInOrder o →
+        (later : List ℕ) →
         let s = run (beginning o) events in
         AreOpen s later →
-        IsSameRecoverable o (store_without_others s later) (serial_store s (commit_order (beginning o) events ++ later)) }
-    ensures whole { (o : OpeningState) (events : List Event) → IsOpeningInOrder o → (later : List ℕ) →
+        IsSameRecoverable o (store_without_others s later)
+        (serial_store s (commit_order (beginning o) events ++ later)) }
+    ensures whole { (o : OpeningState) (events : List Event) → IsOpeningInOrder o →
+        (later : List ℕ) →
         let s = run (beginning o) events in
         AreOpen s later → AreAllOpen s later →
-        IsSameRecoverable o (store_of s) (serial_store s (commit_order (beginning o) events ++ later)) }
+        IsSameRecoverable o (store_of s) (serial_store s
+        (commit_order (beginning o) events ++ later)) }
     ensures closed { (o : OpeningState) (events : List Event) → IsOpeningInOrder o →
         let s = run (beginning o) events in
-        NoneIsOpen s → IsSameRecoverable o (store_of s) (serial_store s (commit_order (beginning o) events)) }
+        NoneIsOpen s → IsSameRecoverable o (store_of s)
+        (serial_store s (commit_order (beginning o) events)) }
 {}
 
 /// Each call keeps the units in the order in which they committed, where the list of those that
@@ -161,21 +181,29 @@ pub fn units_take_turns()
 /// `answers`, `whole` and `closed` are what this gives.
 pub fn calls_keep_the_order()
     ensures begins { (o : OpeningState) → IsOpeningInOrder o → IsInOrder (beginning o) [] }
-    ensures executes { (s : UnitsState) (unit : Option ℕ) (op : Op) (order : List ℕ) → IsSound s → IsInOrder s order →
+    ensures executes { (s : UnitsState) (unit : Option ℕ) (op : Op) (order : List ℕ) → IsSound s →
+        IsInOrder s order →
         may_act s unit ≡ true → IsInOrder (after_execution s unit op) order }
-    ensures commits { (s : UnitsState) (unit : ℕ) (order : List ℕ) → IsInOrder s order → is_live s unit ≡ true →
+    ensures commits { (s : UnitsState) (unit : ℕ) (order : List ℕ) → IsInOrder s order →
+        is_live s unit ≡ true →
         IsInOrder (after_end s unit Committed) (order ++ unit ∷ []) }
-    ensures backs_out { (s : UnitsState) (unit : ℕ) (order : List ℕ) → IsInOrder s order → is_live s unit ≡ true →
+    ensures backs_out { (s : UnitsState) (unit : ℕ) (order : List ℕ) → IsInOrder s order →
+        is_live s unit ≡ true →
         IsInOrder (after_end s unit BackedOut) order }
-    ensures enqueues { (s : UnitsState) (unit : Option ℕ) (value : Bytes) (order : List ℕ) → IsInOrder s order →
+    ensures enqueues { (s : UnitsState) (unit : Option ℕ) (value : Bytes) (order : List ℕ) →
+        IsInOrder s order →
         IsInOrder (after_enqueue s unit value) order }
-    ensures dequeues { (s : UnitsState) (unit : ℕ) (value : Bytes) (order : List ℕ) → IsInOrder s order →
+    ensures dequeues { (s : UnitsState) (unit : ℕ) (value : Bytes) (order : List ℕ) →
+        IsInOrder s order →
         IsInOrder (after_dequeue s unit value) order }
-    ensures unlocks { (s : UnitsState) (unit : ℕ) (file : Bytes) (order : List ℕ) → IsInOrder s order →
+    ensures unlocks { (s : UnitsState) (unit : ℕ) (file : Bytes) (order : List ℕ) →
+        IsInOrder s order →
         IsInOrder (after_unlock s unit file) order }
-    ensures reads { (s : UnitsState) (queue : Bytes) (item : ℕ) (order : List ℕ) → IsInOrder s order →
+    ensures reads { (s : UnitsState) (queue : Bytes) (item : ℕ) (order : List ℕ) →
+        IsInOrder s order →
         IsInOrder (after_ts_reading s queue item) order }
-    ensures answers { (s : UnitsState) (order later : List ℕ) → IsInOrder s order → AreOpen s later →
+    ensures answers { (s : UnitsState) (order later : List ℕ) → IsInOrder s order →
+        AreOpen s later →
         Agrees (initial_store s.opening) (one_by_one s.opening s.trace (order ++ later)) }
     ensures whole { (s : UnitsState) (order later : List ℕ) → IsSound s → IsInOrder s order →
         IsCanonical (initial_store s.opening) → AreOpen s later → AreAllOpen s later →
@@ -200,20 +228,24 @@ pub fn calls_keep_the_order()
 pub fn each_resource_has_one_holder()
     ensures one { (o : OpeningState) (events : List Event) → IsOpeningInOrder o →
         IsHeldByOne (run (beginning o) events) }
-    ensures ends { (s : UnitsState) → IsSound s → IsOneAtEachEnd s.opening s.trace (outcome_of s.outcomes) }
-    ensures found { (s : UnitsState) (asking : Option ℕ) (r : Resource) (holder : ℕ) → IsSound s → is_prefix r ≡ false →
+    ensures ends { (s : UnitsState) → IsSound s →
+        IsOneAtEachEnd s.opening s.trace (outcome_of s.outcomes) }
+    ensures found { (s : UnitsState) (asking : Option ℕ) (r : Resource) (holder : ℕ) → IsSound s →
+        is_prefix r ≡ false →
         is_other asking holder ≡ true → list_any (overlaps r) (held_by s holder) ≡ true →
         first_holder (held_table s) asking r ≡ Some holder }
     ensures holds { (s : UnitsState) (asking : Option ℕ) (r : Resource) (holder : ℕ) →
         first_holder (held_table s) asking r ≡ Some holder →
         (is_other asking holder ≡ true) × (list_any (overlaps r) (held_by s holder) ≡ true) }
-    ensures least { (s : UnitsState) (asking : Option ℕ) (r : Resource) (e : Resource × Held) → IsSound s →
+    ensures least { (s : UnitsState) (asking : Option ℕ) (r : Resource) (e : Resource × Held)
+        → IsSound s →
         first_held (held_table s) asking r ≡ Some e → IsLeastHeld s asking r e }
     ensures somebody { (s : UnitsState) (asking : Option ℕ) (r : Resource) (unit : ℕ) → IsSound s →
         is_other asking unit ≡ true → list_any (overlaps r) (held_by s unit) ≡ true →
         is_some (first_holder (held_table s) asking r) ≡ true }
     ensures none { (s : UnitsState) (asking : Option ℕ) (r : Resource) →
-        ((unit : ℕ) → is_other asking unit ≡ true → list_any (overlaps r) (held_by s unit) ≡ false) →
+        ((unit : ℕ) → is_other asking unit ≡ true →
+        list_any (overlaps r) (held_by s unit) ≡ false) →
         first_holder (held_table s) asking r ≡ None }
 {}
 
@@ -239,10 +271,12 @@ pub fn ends_are_held_by_use()
 /// - `initial`: the store of an opening in order is in order.
 /// - `replayed`: replaying keeps a store in order.
 pub fn stores_are_their_cells()
-    ensures equal { (s t : Store) → IsCanonical s → IsCanonical t → ((x : Cell) → content s x ≡ content t x) →
+    ensures equal { (s t : Store) → IsCanonical s → IsCanonical t →
+        ((x : Cell) → content s x ≡ content t x) →
         s ≡ t }
     ensures initial { (o : OpeningState) → IsOpeningInOrder o → IsCanonical (initial_store o) }
-    ensures replayed { (s : Store) (entries : List Entry) → IsCanonical s → IsCanonical (replay s entries) }
+    ensures replayed { (s : Store) (entries : List Entry) → IsCanonical s →
+        IsCanonical (replay s entries) }
 {}
 
 /// A command acts by cells.
@@ -255,12 +289,15 @@ pub fn stores_are_their_cells()
 /// - `ordered`: the keys of each file go on rising.
 pub fn commands_act_by_cells()
     ensures cells { (s : Store) (op : Op) (x : Cell) →
-        content (apply s op).store x ≡ (if touches op x then (effect op (content s x)).cell else content s x) }
+        content (apply s op).store x ≡ (if touches op x then (effect op (content s x)).cell
+        else content s x) }
     ensures answer { (s : Store) (op : Op) → is_generic op ≡ false →
         (apply s op).answer ≡ (effect op (content s (cell_of op))).answer }
-    ensures generic { (s : Store) (file prefix : Bytes) (records : Map Bytes) → value_at file s.files ≡ Some records →
+    ensures generic { (s : Store) (file prefix : Bytes) (records : Map Bytes) →
+        value_at file s.files ≡ Some records →
         (apply s (DeleteGeneric file prefix)).answer ≡ counted_answer (under prefix records) }
-    ensures local { (op : Op) (s t : Store) → IsOrdered s → IsOrdered t → ((x : Cell) → touches op x ≡ true → content s x ≡ content t x) →
+    ensures local { (op : Op) (s t : Store) → IsOrdered s → IsOrdered t →
+        ((x : Cell) → touches op x ≡ true → content s x ≡ content t x) →
         (apply s op).answer ≡ (apply t op).answer }
     ensures ordered { (s : Store) (op : Op) → IsOrdered s → IsOrdered (apply s op).store }
 {}
@@ -269,11 +306,14 @@ pub fn commands_act_by_cells()
 /// gives. The unit that is handed in is open.
 pub fn calls_keep_apart()
     ensures begins { (o : OpeningState) → IsOpeningInOrder o → IsSound (beginning o) }
-    ensures executes { (s : UnitsState) (unit : Option ℕ) (op : Op) → IsSound s → may_act s unit ≡ true →
+    ensures executes { (s : UnitsState) (unit : Option ℕ) (op : Op) → IsSound s →
+        may_act s unit ≡ true →
         IsSound (after_execution s unit op) }
-    ensures ends { (s : UnitsState) (unit : ℕ) (outcome : UnitState) → IsSound s → is_live s unit ≡ true →
+    ensures ends { (s : UnitsState) (unit : ℕ) (outcome : UnitState) → IsSound s →
+        is_live s unit ≡ true →
         IsSound (after_end s unit outcome) }
-    ensures enqueues { (s : UnitsState) (unit : Option ℕ) (value : Bytes) → IsSound s → may_act s unit ≡ true →
+    ensures enqueues { (s : UnitsState) (unit : Option ℕ) (value : Bytes) → IsSound s →
+        may_act s unit ≡ true →
         IsSound (after_enqueue s unit value) }
     ensures dequeues { (s : UnitsState) (unit : ℕ) (value : Bytes) → IsSound s →
         IsSound (after_dequeue s unit value) }
@@ -296,12 +336,15 @@ pub fn calls_keep_apart()
 ///   key the newest, in cells that hold at each key what a store does.
 pub fn calls_keep_places()
     ensures begins { (o : OpeningState) → IsPlaceOf (beginning o) (placed o) }
-    ensures executes { (s : UnitsState) (p : Place) (unit : Option ℕ) (op : Op) (new : List Image) → IsSound s → IsPlaceOf s p →
+    ensures executes { (s : UnitsState) (p : Place) (unit : Option ℕ) (op : Op) (new : List Image) →
+        IsSound s → IsPlaceOf s p →
         may_act s unit ≡ true → awaited s unit op ≡ None → AreImages op p.cells new →
         IsPlaceOf (after_execution s unit op) (place_executed s p unit op new) }
-    ensures commits { (s : UnitsState) (p : Place) (unit : ℕ) → IsPlaceOf s p → is_live s unit ≡ true →
+    ensures commits { (s : UnitsState) (p : Place) (unit : ℕ) → IsPlaceOf s p →
+        is_live s unit ≡ true →
         IsPlaceOf (after_end s unit Committed) (place_committed p unit) }
-    ensures backs_out { (s : UnitsState) (p : Place) (unit : ℕ) → IsPlaceOf s p → is_live s unit ≡ true →
+    ensures backs_out { (s : UnitsState) (p : Place) (unit : ℕ) → IsPlaceOf s p →
+        is_live s unit ≡ true →
         IsPlaceOf (after_end s unit BackedOut) (place_undone p unit) }
     ensures enqueues { (s : UnitsState) (p : Place) (unit : Option ℕ) (value : Bytes) →
         IsPlaceOf s p → IsPlaceOf (after_enqueue s unit value) p }
@@ -331,11 +374,15 @@ pub fn calls_keep_places()
 ///   one; so its read marks what a read of all that is shown marks.
 pub fn calls_keep_marks()
     ensures begins { (o : OpeningState) → AreMarksOf (beginning o) (marks_opened o) }
-    ensures executes { (s : UnitsState) (p : Marks) (unit : Option ℕ) (op : Op) → IsSound s → AreMarksOf s p →
-        may_act s unit ≡ true → awaited s unit op ≡ None → AreMarksOf (after_execution s unit op) (marks_executed s p unit op) }
-    ensures commits { (s : UnitsState) (p : Marks) (unit : ℕ) → IsSound s → AreMarksOf s p → is_live s unit ≡ true →
+    ensures executes { (s : UnitsState) (p : Marks) (unit : Option ℕ) (op : Op) → IsSound s →
+        AreMarksOf s p →
+        may_act s unit ≡ true → awaited s unit op ≡ None →
+        AreMarksOf (after_execution s unit op) (marks_executed s p unit op) }
+    ensures commits { (s : UnitsState) (p : Marks) (unit : ℕ) → IsSound s → AreMarksOf s p →
+        is_live s unit ≡ true →
         AreMarksOf (after_end s unit Committed) (marks_committed s p unit) }
-    ensures backs_out { (s : UnitsState) (p : Marks) (unit : ℕ) → IsSound s → AreMarksOf s p → is_live s unit ≡ true →
+    ensures backs_out { (s : UnitsState) (p : Marks) (unit : ℕ) → IsSound s → AreMarksOf s p →
+        is_live s unit ≡ true →
         AreMarksOf (after_end s unit BackedOut) (marks_backed_out p unit) }
     ensures enqueues { (s : UnitsState) (p : Marks) (unit : Option ℕ) (value : Bytes) →
         AreMarksOf s p → AreMarksOf (after_enqueue s unit value) p }
@@ -345,13 +392,16 @@ pub fn calls_keep_marks()
         AreMarksOf s p → AreMarksOf (after_unlock s unit file) p }
     ensures reads { (s : UnitsState) (p : Marks) (queue : Bytes) (item : ℕ) →
         AreMarksOf s p → AreMarksOf (after_ts_reading s queue item) p }
-    ensures shown { (s : UnitsState) (p : Marks) → AreMarksOf s p → (queue : Bytes) → queue_logical s.opening queue ≡ true →
+    ensures shown { (s : UnitsState) (p : Marks) → AreMarksOf s p → (queue : Bytes) →
+        queue_logical s.opening queue ≡ true →
         content (store_of s) (Td queue) ≡ Some (shown (p.queues queue)) }
-    ensures committed { (s : UnitsState) (asking : Option ℕ) (p : Marks) (queue : Bytes) → IsSound s → AreMarksOf s p →
+    ensures committed { (s : UnitsState) (asking : Option ℕ) (p : Marks) (queue : Bytes) →
+        IsSound s → AreMarksOf s p →
         may_act s asking ≡ true → queue_logical s.opening queue ≡ true →
         first_holder (held_table s) asking (ReadingEnd queue) ≡ None →
         committed_for s asking queue
-        ≡ seen false (not (used s.trace (unit_or_next asking s.outcomes) (Td queue) Writing)) (p.queues queue) }
+        ≡ seen false (not (used s.trace (unit_or_next asking s.outcomes) (Td queue) Writing))
+        (p.queues queue) }
     ensures sees { (s : UnitsState) (asking : Option ℕ) (p : Marks) (queue : Bytes) →
         IsSound s → AreMarksOf s p → queue_logical s.opening queue ≡ true →
         awaited s asking (TdRead queue) ≡ None →
@@ -368,16 +418,21 @@ pub fn calls_keep_marks()
 /// - `unmarks`, `marks_ready`: the images of the ends of LOGICAL queues; undone, they clear the
 ///   ends that the unit holds and leave the other end to its holder.
 pub fn images_lead_back()
-    ensures leads { (s : UnitsState) (p : Place) (unit : ℕ) (x : Cell) → IsPlaceOf s p → is_live s unit ≡ true →
+    ensures leads { (s : UnitsState) (p : Place) (unit : ℕ) (x : Cell) → IsPlaceOf s p →
+        is_live s unit ≡ true →
         is_plain s.opening x ≡ true → recovers s.opening x ≡ true →
         Leads (p.images unit) x (p.cells x) (content (store_of (after_end s unit BackedOut)) x) }
-    ensures ready { (s : UnitsState) (p : Place) (unit : ℕ) → IsPlaceOf s p → is_live s unit ≡ true →
+    ensures ready { (s : UnitsState) (p : Place) (unit : ℕ) → IsPlaceOf s p →
+        is_live s unit ≡ true →
         AllReady p.cells (p.images unit) }
-    ensures unmarks { (s : UnitsState) (p : Marks) (unit : ℕ) → IsSound s → AreMarksOf s p → is_live s unit ≡ true →
+    ensures unmarks { (s : UnitsState) (p : Marks) (unit : ℕ) → IsSound s → AreMarksOf s p →
+        is_live s unit ≡ true →
         (queue : Bytes) → queue_logical s.opening queue ≡ true →
         marks_undone p.queues (p.images unit) queue
-        ≡ queue_backed_out (used s.trace unit (Td queue) Reading) (used s.trace unit (Td queue) Writing) (p.queues queue) }
-    ensures marks_ready { (s : UnitsState) (p : Marks) (unit : ℕ) → IsSound s → AreMarksOf s p → is_live s unit ≡ true →
+        ≡ queue_backed_out (used s.trace unit (Td queue) Reading)
+        (used s.trace unit (Td queue) Writing) (p.queues queue) }
+    ensures marks_ready { (s : UnitsState) (p : Marks) (unit : ℕ) → IsSound s → AreMarksOf s p →
+        is_live s unit ≡ true →
         AllMarksReady p.queues (p.images unit) }
 {}
 
@@ -396,7 +451,8 @@ pub fn queues_carry_their_marks()
     ensures shown { (s : TransState) → queue_of s ≡ shown (marks_of s) }
     ensures first { (s : TransState) (past_fresh : Bool) →
         first_of s past_fresh ≡ slice_get (seen false (not past_fresh) (marks_of s)) 0 }
-    ensures written { (s : TransState) (queue from : Bytes) → IsMarked s → is_logical s.kind ≡ true →
+    ensures written { (s : TransState) (queue from : Bytes) → IsMarked s →
+        is_logical s.kind ≡ true →
         marks_of (trans_written s from) ≡ marked (TdWrite queue from) (marks_of s) }
     ensures read { (s : TransState) (queue : Bytes) (past_fresh : Bool) → is_logical s.kind ≡ true →
         is_nothing (seen false (not past_fresh) (marks_of s)) ≡ is_nothing (shown (marks_of s)) →
@@ -405,7 +461,8 @@ pub fn queues_carry_their_marks()
         marks_of (trans_deleted s) ≡ marked (TdDelete queue) (marks_of s) }
     ensures reader_commits { (s : TransState) → IsMarked s → s.read ≤ length (marks_of s).settled →
         marks_of (reader_committed s) ≡ reader_settled true (marks_of s) }
-    ensures writer_commits { (s : TransState) → marks_of (writer_committed s) ≡ writer_settled true (marks_of s) }
+    ensures writer_commits { (s : TransState) →
+        marks_of (writer_committed s) ≡ writer_settled true (marks_of s) }
 {}
 
 /// The before images that a LOGICAL queue gives are images of its marks, and to undo the one is to

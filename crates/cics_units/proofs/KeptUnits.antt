@@ -19,6 +19,7 @@ use Rattle.cics_history.specs.Openings.{OpeningState, FileOpening, QueueOpening,
 use Rattle.cics_history.specs.Store.{Store, apply, is_recoverable, initial_store}
 use Rattle.cics_history.specs.History.{is_open, kept}
 use Rattle.cics_history.specs.Holding.{UnitsState, store_of, awaited}
+use Rattle.cics_history.proofs.Alone.{left_no_trace}
 use Rattle.cics_history.proofs.Ready.{ready_short}
 use Rattle.cics_history.specs.Execution.{unit_or_next, outcomes_with, next_after, entered, state_of, after_execution, after_unlock, after_end, read_at, is_fit_for, is_ready_op}
 use Rattle.cics_history.specs.Headline.{IsHeadline, beginning}
@@ -211,7 +212,11 @@ module _ (s : UnitsState) (st : UndoableValue) (t : Table) (is : AreKept s st t)
 
   -- and the history's answers are those that were given
   pub kept_headline : IsHeadline (record { state = s; store = shown_store st.store })
-  kept_headline = record { store = store_is; agrees = agrees_of s is.sound }
+  kept_headline = record {
+    store = store_is;
+    agrees = agrees_of s is.sound;
+    alone = left_no_trace (record { state = s; store = shown_store st.store }) is.in_order store_is;
+  }
 
   -- ---- Room for more images
   -- images in longer lists that keep the same

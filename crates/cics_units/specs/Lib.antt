@@ -21,3 +21,4 @@ pub mod QueueChanges
 pub mod StorePlaces
 pub mod StoreEnds
 pub mod HeldBack
+pub mod Submitting

@@ -21,4 +21,4 @@ pub use listings::{Listing, TaskState};
 pub use opening::{DefineFault, Opening};
 pub use replay::plain_replay;
 pub use serial_units::SerialUnits;
-pub use units::Units;
+pub use units::{Submitted, Units};

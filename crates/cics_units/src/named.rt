@@ -120,9 +120,11 @@ impl<M: Undoable + Drop> Undoable for Named<M> {
 
     ghost determined = { λ i. M.determined i.image };
 
-    ghost undone_leads = { laws.undone_leads M.content M.cell M.leads M.IsReady M.undone M.undone_leads };
+    ghost undone_leads = { laws.undone_leads M.content M.cell M.leads M.IsReady M.undone
+        M.undone_leads };
 
-    ghost undone_keeps = { laws.undone_keeps M.Keeps M.keeps_itself M.keeps_fewer M.cell M.IsReady M.undone M.undone_keeps };
+    ghost undone_keeps = { laws.undone_keeps M.Keeps M.keeps_itself M.keeps_fewer M.cell M.IsReady
+        M.undone M.undone_keeps };
 
     ghost undone_fixed = { laws.undone_fixed M.fixed M.undone M.undone_fixed };
 
@@ -130,7 +132,8 @@ impl<M: Undoable + Drop> Undoable for Named<M> {
 
     ghost swept_content = { laws.swept_content M.content M.swept M.swept_content };
 
-    ghost swept_keeps = { laws.swept_keeps M.Keeps M.keeps_itself M.keeps_fewer M.swept M.swept_keeps };
+    ghost swept_keeps = { laws.swept_keeps M.Keeps M.keeps_itself M.keeps_fewer M.swept
+        M.swept_keeps };
 
     ghost swept_fixed = { laws.swept_fixed M.fixed M.swept M.swept_fixed };
 
@@ -140,7 +143,8 @@ impl<M: Undoable + Drop> Undoable for Named<M> {
 
     ghost keeps_ready = { laws.keeps_ready M.Keeps M.cell M.IsReady M.keeps_ready };
 
-    ghost keeps_undone = { laws.keeps_undone M.Keeps M.cell M.IsReady M.keeps_ready M.undone M.keeps_undone };
+    ghost keeps_undone = { laws.keeps_undone M.Keeps M.cell M.IsReady M.keeps_ready M.undone
+        M.keeps_undone };
 
     ghost keeps_itself = { laws.keeps_itself M.Keeps M.keeps_itself };
 

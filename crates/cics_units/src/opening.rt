@@ -241,7 +241,8 @@ impl Opening {
     /// defined (`NotThere`), the record isn't 1 to 32,767 bytes long (`BadLength`), memory is refused
     /// (`NoMemory`).
     pub fn load_td(&mut self, name: Name4, content: Record) -> Result<(), DefineFault>
-        ensures fault { AnswersFault result (load_td_fault (value_at name self.old.queues) content) }
+        ensures fault { AnswersFault result (load_td_fault
+            (value_at name self.old.queues) content) }
         ensures ok { OnOk result (self.new ≡ with_td_record self.old name content) }
         ensures err { OnErr result (self.new ≡ self.old) }
     {

@@ -140,7 +140,8 @@ impl Undoable for Queues {
     ghost use Rattle.cics_images.specs.NamedValues.{NamedKeep, named_fixed};
     ghost use Rattle.cics_images.specs.NamedLaws as laws;
     ghost use Rattle.cics_transdata.specs.declared.queues.Recovery.{Recovery};
-    ghost use Rattle.cics_transdata.specs.Undo.{content_at as end_content, end_of, Leads as EndLeads};
+    ghost use Rattle.cics_transdata.specs.Undo.{content_at as end_content, end_of};
+    ghost use Rattle.cics_transdata.specs.Undo.{Leads as EndLeads};
     ghost use Rattle.cics_transdata.specs.Undo.{IsReadyImage as IsEndReady, undone as queue_undone};
     ghost use Rattle.cics_transdata.specs.Undo.{KeepsEnds};
     ghost use Rattle.cics_transdata.specs.UndoLaws as ends;
@@ -169,9 +170,11 @@ impl Undoable for Queues {
 
     ghost determined = { λ i. ends.determined i.image };
 
-    ghost undone_leads = { laws.undone_leads end_content end_of EndLeads IsEndReady queue_undone ends.undone_leads };
+    ghost undone_leads = { laws.undone_leads end_content end_of EndLeads IsEndReady queue_undone
+        ends.undone_leads };
 
-    ghost undone_keeps = { laws.undone_keeps KeepsEnds ends.keeps_itself ends.keeps_fewer end_of IsEndReady queue_undone ends.undone_keeps };
+    ghost undone_keeps = { laws.undone_keeps KeepsEnds ends.keeps_itself ends.keeps_fewer end_of
+        IsEndReady queue_undone ends.undone_keeps };
 
     ghost undone_fixed = { laws.undone_fixed (λ q. q.kind) queue_undone ends.undone_fixed };
 
@@ -189,7 +192,8 @@ impl Undoable for Queues {
 
     ghost keeps_ready = { laws.keeps_ready KeepsEnds end_of IsEndReady ends.keeps_ready };
 
-    ghost keeps_undone = { laws.keeps_undone KeepsEnds end_of IsEndReady ends.keeps_ready queue_undone ends.keeps_undone };
+    ghost keeps_undone = { laws.keeps_undone KeepsEnds end_of IsEndReady ends.keeps_ready
+        queue_undone ends.keeps_undone };
 
     ghost keeps_itself = { laws.keeps_itself KeepsEnds ends.keeps_itself };
 

@@ -4,7 +4,8 @@ ghost use Rattle.std.specs.Prelude.{◌≡◌, ◌≤◌, ◌+◌, ◌∷◌, �
 ghost use Rattle.std.specs.Prelude.{IfOk, IfErr, OnOk, OnErr};
 ghost use Rattle.cics_history.specs.Execution.{IfMustWait, IfEnqMustWait, IsOpenUnit, IsOpenOrNone};
 ghost use Rattle.cics_history.specs.Execution.{is_ready_op, execution, after_execution, enqueue};
-ghost use Rattle.cics_history.specs.Execution.{after_enqueue, after_dequeue, after_unlock, after_end};
+ghost use Rattle.cics_history.specs.Execution.{after_enqueue, after_dequeue, after_unlock};
+ghost use Rattle.cics_history.specs.Execution.{after_end};
 ghost use Rattle.cics_history.specs.Headline.{IsHeadline, LeavesNoTrace, beginning};
 ghost use Rattle.cics_units.specs.SerialKept.{TakeTurns};
 ghost use Rattle.cics_history.specs.declared.ops.UnitState.TheVariants.{Committed, BackedOut};
@@ -88,8 +89,8 @@ impl SerialUnits {
     }
 
     /// Executes a command for a unit, or for the next one, which begins with it, or answers
-    /// the unit to wait for, as `Units::execute` does, with what has to hold there. Where memory is
-    /// refused nothing changes.
+    /// the unit to wait for, as `Units::execute` does, with what has to hold for `Units::submit`. Where
+    /// memory is refused nothing changes.
     pub fn execute(&mut self, unit: Option<UnitId>, op: &Op) -> Result<Done, NoMemory>
         requires is_open { IsOpenOrNone self.old.units.state unit }
         requires ready { IsTrue (is_ready_op self.old.units.state unit op.now) }

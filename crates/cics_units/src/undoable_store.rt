@@ -2,7 +2,8 @@
 
 mod queue_commands;
 
-ghost use Rattle.std.specs.Prelude.{◌≡◌, ◌<◌, ◌≤◌, ◌++◌, ℕ, true, [], length, fold, List, T, IfOk, IfSome};
+ghost use Rattle.std.specs.Prelude.{◌≡◌, ◌<◌, ◌≤◌, ◌++◌, ℕ, true, [], length, fold, List, T, IfOk};
+ghost use Rattle.std.specs.Prelude.{IfSome};
 ghost use Rattle.std.specs.Prelude.{OnOk, OnErr, reverse};
 ghost use Rattle.cics_images.specs.Cells.{AreReadyInTurn, LeadBack, images_of, is_unnamed};
 ghost use Rattle.cics_images.specs.Cells.{all_swept};
@@ -27,7 +28,8 @@ ghost use Rattle.cics_ksds.specs.Files.{IsContent};
 ghost use Rattle.cics_history.specs.Store.{counted_answer};
 ghost use Rattle.cics_units.specs.RegionFiles.{IsThere};
 ghost use Rattle.cics_names.specs.Keyed.{value_at, is_rising};
-ghost use Rattle.cics_history.specs.declared.ops.Op.TheVariants.{Write, Rewrite, Delete, DeleteGeneric};
+ghost use Rattle.cics_history.specs.declared.ops.Op.TheVariants.{Write, Rewrite, Delete};
+ghost use Rattle.cics_history.specs.declared.ops.Op.TheVariants.{DeleteGeneric};
 
 use crate::files::{Files, FilesImage};
 use crate::queues::{QueueImage, Queues};

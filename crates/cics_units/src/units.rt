@@ -9,12 +9,14 @@ ghost use Rattle.cics_history.specs.Openings.{IsOpeningInOrder, is_key};
 ghost use Rattle.cics_history.specs.History.{outcome_of};
 ghost use Rattle.cics_history.specs.Holding.{awaited, value_holder};
 ghost use Rattle.cics_history.specs.Execution.{IfMustWait, IfEnqMustWait, unit_or_next};
-ghost use Rattle.cics_history.specs.Execution.{outcomes_with, IsOpenUnit, IsOpenOrNone, is_ready_op};
+ghost use Rattle.cics_history.specs.Execution.{outcomes_with, IsOpenUnit, IsOpenOrNone};
+ghost use Rattle.cics_history.specs.Execution.{is_ready_op};
 ghost use Rattle.cics_history.specs.Execution.{execution, after_execution, enqueue, after_enqueue};
 ghost use Rattle.cics_history.specs.Execution.{after_dequeue, after_unlock, read_at, after_end};
 ghost use Rattle.cics_history.specs.Execution.{place_at, item_asked, ts_reading, after_ts_reading};
 ghost use Rattle.cics_history.specs.Headline.{IsHeadline, LeavesNoTrace, beginning};
 ghost use Rattle.cics_units.specs.Listings.{listing_of, replayed_listing};
+ghost use Rattle.cics_units.specs.Submitting.{as_done, IsBackIfItWaits};
 ghost use Rattle.cics_history.specs.declared.ops.UnitState.TheVariants.{Committed, BackedOut};
 
 use crate::listings::Listing;
@@ -30,6 +32,15 @@ use cics_tempstor::TempStore;
 use cics_transdata::Recovery;
 use std::alloc::Global;
 use std::marker::Model;
+
+/// What came of a command that was handed over.
+#[derive(Drop)]
+pub enum Submitted {
+    /// It was executed by this unit, which may have begun with it, and is answered so.
+    Answered(UnitId, Answer),
+    /// It wasn't executed, as it has to wait for this other unit, and comes back.
+    MustWait(UnitId, Op),
+}
 
 /// The units of work of a region, with its files and queues.
 ///
@@ -61,7 +72,8 @@ impl Model for Units {
     } };
 
     ghost invariant = { λ u.
-        AreKept (state_shown u.opening u.trace.items u.outcomes.items u.parts) u.parts.stores u.parts.table };
+        AreKept (state_shown u.opening u.trace.items u.outcomes.items u.parts) u.parts.stores
+        u.parts.table };
 }
 
 // The unit that acts: the one that is handed in, or the next one to begin.
@@ -130,13 +142,14 @@ impl Units {
 
     /// The unit that a command has to wait for, if any: another one that holds what it uses, else for
     /// READQ TD the writer of the queue, where that has no record that the task may read. `asking` is
-    /// None for a task without a unit. What `execute` asks of the unit and the command has to hold, and
+    /// None for a task without a unit. What `submit` asks of the unit and the command has to hold, and
     /// it takes no memory.
     pub fn awaited(&self, asking: Option<UnitId>, op: &Op) -> Option<UnitId>
         requires is_open { IsOpenOrNone self.now.state asking }
         requires ready { IsTrue (is_ready_op self.now.state asking op.now) }
         ensures awaited { result ≡ awaited self.now.state asking op.now }
         ensures is_open { IfSome result (IsOpenUnit self.now.state) }
+        ensures headline { IsHeadline self.now }
     {
         // A copy for each call that the unit is handed to.
         let acts = asking;
@@ -146,13 +159,9 @@ impl Units {
     }
 
     /// Executes a command for a unit, or for the next one, which begins with it, or answers the unit to
-    /// wait for; then nothing changes.
+    /// wait for; then nothing changes. What `submit` asks of the unit and the command has to hold.
     ///
-    /// An executed command is entered in the trace with its answer. The unit has to be open, the file
-    /// or the transient data queue defined, a record that is written to a file has to fit it under the
-    /// command's key, an item or a record of a queue has 1 to 32,767 bytes, REWRITE has to be of the
-    /// record that the unit has read for update, READ UPDATE needs that the unit has none open in the
-    /// file, and a key or a prefix has at most 255 bytes. Where memory is refused nothing changes.
+    /// The command is copied for the trace, unless it has to wait. Where memory is refused nothing changes.
     pub fn execute(&mut self, unit: Option<UnitId>, op: &Op) -> Result<Done, NoMemory>
         requires is_open { IsOpenOrNone self.old.state unit }
         requires ready { IsTrue (is_ready_op self.old.state unit op.now) }
@@ -162,23 +171,52 @@ impl Units {
         ensures headline { IsHeadline self.new }
         ensures err { OnErr result (self.new ≡ self.old) }
     {
+        let asking = unit;
+        if let Some(holder) = self.awaited(asking, op) {
+            return Ok(Done::MustWait(holder));
+        }
+        match self.submit(unit, op.copy()?)? {
+            Submitted::Answered(unit, answer) => Ok(Done::Answered(unit, answer)),
+            Submitted::MustWait(holder, _) => Ok(Done::MustWait(holder)),
+        }
+    }
+
+    /// Executes a command for a unit, or for the next one, which begins with it, as `execute` does; but
+    /// the command moves into the trace, and comes back where it has to wait.
+    ///
+    /// An executed command is entered in the trace with its answer. The unit has to be open, the file
+    /// or the transient data queue defined, a record that is written to a file has to fit it under the
+    /// command's key, an item or a record of a queue has 1 to 32,767 bytes, REWRITE has to be of the
+    /// record that the unit has read for update, READ UPDATE needs that the unit has none open in the
+    /// file, and a key or a prefix has at most 255 bytes. Where memory is refused nothing changes, and
+    /// the command goes.
+    pub fn submit(&mut self, unit: Option<UnitId>, op: Op) -> Result<Submitted, NoMemory>
+        requires is_open { IsOpenOrNone self.old.state unit }
+        requires ready { IsTrue (is_ready_op self.old.state unit op) }
+        ensures done { IfOk result (λ done. as_done done ≡ execution self.old.state unit op) }
+        ensures back { IfOk result (IsBackIfItWaits op) }
+        ensures holder_open { IfOk result (λ done.
+            IfMustWait (as_done done) (IsOpenUnit self.old.state)) }
+        ensures state { OnOk result (self.new.state ≡ after_execution self.old.state unit op) }
+        ensures headline { IsHeadline self.new }
+        ensures err { OnErr result (self.new ≡ self.old) }
+    {
         // A copy for each call that the unit is handed to.
         let asking = unit;
         let begins = unit;
-        let recoverable = self.opening.is_recoverable(op);
-        let uses = uses_of(op, recoverable);
+        let recoverable = self.opening.is_recoverable(&op);
+        let uses = uses_of(&op, recoverable);
         let acting = unit_or_next(unit, self.outcomes.as_slice());
-        if let Some(holder) = self.parts.awaited(asking, acting, op, &uses) {
-            return Ok(Done::MustWait(holder));
+        if let Some(holder) = self.parts.awaited(asking, acting, &op, &uses) {
+            return Ok(Submitted::MustWait(holder, op));
         }
-        let content = self.parts.given_record(acting, op)?;
-        let op_copy = op.copy()?;
+        let content = self.parts.given_record(acting, &op)?;
         self.trace.reserve(1)?;
         self.outcomes.reserve(1)?;
-        let answer = self.parts.execute(acting, op, &uses, recoverable)?;
+        let answer = self.parts.execute(acting, &op, &uses, recoverable)?;
         let entry = Entry {
             unit: acting,
-            op: op_copy,
+            op,
             answer: Answer {
                 condition: answer.condition,
                 content,
@@ -186,7 +224,7 @@ impl Units {
             },
         };
         enter(&mut self.trace, &mut self.outcomes, begins, entry);
-        Ok(Done::Answered(acting, answer))
+        Ok(Submitted::Answered(acting, answer))
     }
 
     /// Enqueues on a value for a unit, or for the next one, which begins with it: ENQ.
@@ -325,7 +363,7 @@ impl Units {
     /// nothing, and the unit holds nothing more. It takes no memory.
     ///
     /// - `alone`: where a unit ran alone from some command on, each recoverable file and queue holds what the
-    ///   commands before that one give.
+    ///   kept commands before that one give.
     pub fn back_out(&mut self, unit: UnitId)
         requires is_open { IsOpenUnit self.old.state unit }
         ensures state { self.new.state ≡ after_end self.old.state unit BackedOut }

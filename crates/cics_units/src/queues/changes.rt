@@ -1,6 +1,7 @@
 //! Changes of one transient data queue of a region, with the images that undo them.
 
-ghost use Rattle.std.specs.Prelude.{◌≡◌, Bool, true, IfOk, IfSome, IfNone, IsSome, OnOk, OnErr, option_map};
+ghost use Rattle.std.specs.Prelude.{◌≡◌, Bool, true, IfOk, IfSome, IfNone, IsSome, OnOk, OnErr};
+ghost use Rattle.std.specs.Prelude.{option_map};
 ghost use Rattle.cics_names.specs.Keyed.{value_at};
 ghost use Rattle.cics_names.specs.declared.conditions.Condition.{Condition};
 ghost use Rattle.cics_images.specs.Cells.{is_other};

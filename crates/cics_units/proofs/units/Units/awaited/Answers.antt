@@ -8,6 +8,8 @@ use Rattle.cics_units.specs.KeptUnits.{state_shown}
 use Rattle.cics_units.specs.Uses.{uses_if}
 use Rattle.cics_units.specs.Awaiting.{unit_in_way}
 use Rattle.cics_units.proofs.ShownUnits.{acts_of, if_open, in_way, awaited_is, waits_open}
+use Rattle.cics_history.specs.Headline.{IsHeadline}
+use Rattle.cics_units.proofs.KeptUnits.{kept_headline}
 use Rattle.cics_units.proofs.units.Units.awaited.Goals as goal
 
 pub uses_of-uses-requires : goal.uses_of-uses-requires
@@ -43,3 +45,8 @@ returns-clause-is_open c =
     (c.unit_or_next-acting.ensures ∙ ap (unit_or_next c.args.asking) c.as_slice.ensures.value) in
     if_open c.awaited.result (λ h is. subst (λ v. IsOpenUnit v.state h) c.self.view_is
     (waits_open u.opening u.trace.items u.outcomes.items u.parts u.parts c.self.invariant c.args.asking op acts h (sym way ∙ is)))
+
+pub returns-clause-headline : goal.returns-clause-headline
+returns-clause-headline c =
+    let u = c.self.inside in
+    subst IsHeadline c.self.view_is (kept_headline (state_shown u.opening u.trace.items u.outcomes.items u.parts) u.parts.stores u.parts.table c.self.invariant)
