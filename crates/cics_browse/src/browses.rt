@@ -77,7 +77,8 @@ impl Browse {
     /// without `equal` it is found in every file.
     pub fn start<F: Ordered>(file: &F, key: Record, generic: bool, equal: bool) -> Option<Browse>
         ensures { result
-            ≡ (if finds_start (F.file_records file.now) key generic equal then Some (start_at key generic) else None) }
+            ≡ (if finds_start (F.file_records file.now) key generic equal
+            then Some (start_at key generic) else None) }
     {
         if finds(file, key.bytes(), generic, equal) {
             Some(Browse {
@@ -107,7 +108,8 @@ impl Browse {
         equal: bool,
     ) -> Condition
         ensures condition { result ≡ reset_condition (F.file_records file.now) key generic equal }
-        ensures position { self.new ≡ after_reset (F.file_records file.now) self.old key generic equal }
+        ensures position { self.new ≡ after_reset (F.file_records file.now) self.old key
+            generic equal }
     {
         if !finds(file, key.bytes(), generic, equal) {
             return Condition::Notfnd;
@@ -124,7 +126,8 @@ impl Browse {
     ///
     /// `Err` comes only where memory for the copies is refused, and then the position stays.
     pub fn next<F: Ordered>(&mut self, file: &F) -> Result<Browsed, NoMemory>
-        ensures reply { IfOk result (λ reply. reply ≡ read_next (F.file_records file.now) self.old) }
+        ensures reply { IfOk result (λ reply. reply
+            ≡ read_next (F.file_records file.now) self.old) }
         ensures position { OnOk result (self.new ≡ after_next (F.file_records file.now) self.old) }
         ensures err { OnErr result (self.new ≡ self.old) }
     {
@@ -142,7 +145,8 @@ impl Browse {
     ///
     /// `Err` comes only where memory for the copies is refused, and then the position stays.
     pub fn prev<F: Ordered>(&mut self, file: &F) -> Result<Browsed, NoMemory>
-        ensures reply { IfOk result (λ reply. reply ≡ read_prev (F.file_records file.now) self.old) }
+        ensures reply { IfOk result (λ reply. reply
+            ≡ read_prev (F.file_records file.now) self.old) }
         ensures position { OnOk result (self.new ≡ after_prev (F.file_records file.now) self.old) }
         ensures err { OnErr result (self.new ≡ self.old) }
     {
@@ -166,7 +170,8 @@ impl Browse {
         ensures reply { IfOk result (λ reply. reply
             ≡ reply_of none (option_map (entry_of definition) (option_copied found.entry))) }
         ensures position { OnOk result (self.new
-            ≡ position_after self.old place (option_map (entry_of definition) (option_copied found.entry))) }
+            ≡ position_after self.old place (option_map (entry_of definition)
+            (option_copied found.entry))) }
         ensures err { OnErr result (self.new ≡ self.old) }
     {
         let Some(from) = found else {

@@ -7,6 +7,7 @@ pub mod Asked
 pub mod Ready
 mod Browsing
 mod TaskTable
+pub mod TaskOwners
 mod WaitTable
 pub mod KeptTasks
 pub mod OtherUnits
@@ -32,3 +33,4 @@ pub mod Looks
 mod RegionRemembers
 pub mod FewerWaits
 pub mod Elements
+pub mod FirstWaits

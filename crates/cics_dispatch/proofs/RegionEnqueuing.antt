@@ -81,14 +81,14 @@ module _ {units : UnitsValue} {tasks : List Task} {waiting : List Suspended} {cl
   m = (region_of units tasks waiting clock is_down).machine
 
   -- one of a value that the unit holds the most times leaves the units, and is told so
-  pub full_step : (ts : List Task) → ts ≡ tasks → (c : Command) (r : Reply) → enqueue units.state t.unit value ≡ CountFull → r ≡ plain Invreq →
-      answered (region_of after ts waiting clock is_down).machine t c.resp r ≡ enqueued m t c value (enqueue units.state t.unit value)
-  full_step ts same c r full told =
-      (λ i. answered (record m { units = (state ∙ ap (after_enqueued units.state t.unit value) full) i; tasks = same i }) t c.resp (told i)) ∙ ap (enqueued m t c value) (sym full)
+  pub full_step : (c : Command) (r : Reply) → enqueue units.state t.unit value ≡ CountFull → r ≡ plain Invreq →
+      answered (region_of after tasks waiting clock is_down).machine t c.resp r ≡ enqueued m t c value (enqueue units.state t.unit value)
+  full_step c r full told =
+      (λ i. answered (with_units m ((state ∙ ap (after_enqueued units.state t.unit value) full) i)) t c.resp (told i)) ∙ ap (enqueued m t c value) (sym full)
 
-  pub full_kept : (ts : List Task) → ts ≡ tasks → enqueue units.state t.unit value ≡ CountFull → IsHeadline after → IsRegionKept (region_of after ts waiting clock is_down)
-  full_kept ts same full headline =
-      kept_as (region_of after ts waiting clock is_down) m (λ i. record m { units = (state ∙ ap (after_enqueued units.state t.unit value) full) i; tasks = same i })
+  pub full_kept : enqueue units.state t.unit value ≡ CountFull → IsHeadline after → IsRegionKept (region_of after tasks waiting clock is_down)
+  full_kept full headline =
+      kept_as (region_of after tasks waiting clock is_down) m (λ i. with_units m ((state ∙ ap (after_enqueued units.state t.unit value) full) i))
       kept.tasks kept.owned (record { headline = headline })
 
   -- one that takes its value makes its unit the task's

@@ -26,7 +26,7 @@ use Rattle.cics_dispatch.proofs.ActsAlone.{Waits, abended_leaves, by_op_alone, c
 use Rattle.cics_dispatch.proofs.FewerWaits.{by_op_none}
 use Rattle.cics_dispatch.proofs.RegionWaking.{first_free-goes, first_free_awaits, not_waiting_twice}
 use Rattle.cics_dispatch.proofs.Blocked.{blocked_stays, none_late, all_in_time}
-use Rattle.cics_dispatch.proofs.Remembered.{refused_leaves, not_refused, issued_in_time, attached_in_time}
+use Rattle.cics_dispatch.proofs.Remembered.{refused_leaves, not_refused, issued_in_time, woken_in_time, attached_in_time}
 use Rattle.cics_dispatch.proofs.Noted.{noted_without, noted_others, noted_kept, noted_forgot, noted_waits, noted_same}
 
 -- what is true of the machine and of the one that the step leaves is true after the call
@@ -262,16 +262,16 @@ remembered_looked m notes is_settled is_in_time noted closed in_time = record { 
 
 -- where a command has gone on
 pub remembered_woken : (m n : Machine) (notes mid new : NotesValue) (label : Bytes) (unit : Option ℕ) → AreNotedNow m notes → IsFirstFree m label → ((t : Task) → task_at m.tasks label ≡ Some t → unit ≡ t.unit) →
-    n ≡ (woken m).machine → mid.rows ≡ without_note label notes.rows → mid.needs ≡ notes.needs → new.rows ≡ map (forgotten unit) mid.rows → new.needs ≡ mid.needs → (is_settled : Bool) → is_settled ≡ false →
-    IsRemembered n new true is_settled false
-remembered_woken m n notes mid new label unit noted free own step without needs forgets more is_settled open_yet = record {
+    n ≡ (woken m).machine → mid.rows ≡ without_note label notes.rows → mid.needs ≡ notes.needs → new.rows ≡ map (forgotten unit) mid.rows → new.needs ≡ mid.needs → (is_settled is_in_time : Bool) → is_settled ≡ false →
+    (is_in_time ≡ true → All (IsInTime m) m.waiting) → IsRemembered n new true is_settled is_in_time
+remembered_woken m n notes mid new label unit noted free own step without needs forgets more is_settled is_in_time open_yet in_time = record {
   noted = λ set.
       subst (λ x. AreNoted x new.needs new.rows x.waiting) (sym step)
       (subst (λ rs. AreNoted (woken m).machine rs new.rows (woken m).machine.waiting) (sym (more ∙ needs))
       (subst (λ ns. AreNoted (woken m).machine notes.needs ns (woken m).machine.waiting) (sym (forgets ∙ ap (map (forgotten unit)) without))
       (woken_noted m notes.needs notes.rows label unit noted free own)));
   settled = λ set. absurd (false≢true (sym open_yet ∙ set));
-  in_time = λ set. absurd (false≢true set);
+  in_time = λ set. subst (λ x. All (IsInTime x) x.waiting) (sym step) (woken_in_time m label free (in_time set));
 }
 
 -- where a task has been abended for its time

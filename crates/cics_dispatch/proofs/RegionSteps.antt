@@ -19,7 +19,7 @@ use Rattle.cics_dispatch.specs.OwnedUnits.{AreUnitsOwned}
 use Rattle.cics_dispatch.specs.Regions.{region_of, IsRegionKept}
 use Rattle.cics_dispatch.specs.Tasks.{own_label, IsOwn, HasNoOwner}
 use Rattle.cics_dispatch.specs.Steps.{Stepped, executed, by_op, answered, reply_of}
-use Rattle.cics_dispatch.specs.Calls.{OfTask, HasChanged, IsStepOf, IsStepOrRefused, IsAttempt, going_on, waiting_for}
+use Rattle.cics_dispatch.specs.Calls.{OfTask, IsStepOf, IsStepOrRefused, IsAttempt, going_on, waiting_for}
 use Rattle.cics_names.specs.declared.records.NoMemory.{NoMemory}
 use Rattle.cics_dispatch.specs.Waking.{awaited_by}
 use Rattle.cics_dispatch.specs.declared.outcomes.Attempt.{Attempt}
@@ -110,15 +110,11 @@ acts_in s u o unit a = by (awaited s u o)
         never e = cc
     by None is = cc
 
--- the task that has its unit now stands in its own place
-pub owned_now : (ts us vs : List Task) (at : ℕ) (t : Task) (unit : ℕ) → us ≡ ts → slice_get ts at ≡ Some t → HasChanged us at (λ s. with_unit s unit) vs → vs ≡ replaced ts (with_unit t unit)
-owned_now ts us vs at t unit same there owned = owned t (ap (λ l. slice_get l at) same ∙ there) ∙ ap (λ l. replaced l (with_unit t unit)) same
-
 -- units that are in the state in which they were hold the store that they held
 pub same_region : {units : UnitsValue} {tasks : List Task} {waiting : List Suspended} {clock : ℕ} {is_down : Bool} → IsRegionKept (region_of units tasks waiting clock is_down) →
-    (after : UnitsValue) (ts : List Task) → after.state ≡ units.state → IsHeadline after → ts ≡ tasks → region_of after ts waiting clock is_down ≡ region_of units tasks waiting clock is_down
-same_region {units} {tasks} {waiting} {clock} {is_down} kept after ts state headline same =
-    λ i. region_of (record { state = state i; store = (headline.store ∙ ap store_of state ∙ sym kept.headline.headline.store) i }) (same i) waiting clock is_down
+    (after : UnitsValue) → after.state ≡ units.state → IsHeadline after → region_of after tasks waiting clock is_down ≡ region_of units tasks waiting clock is_down
+same_region {units} {tasks} {waiting} {clock} {is_down} kept after state headline =
+    λ i. region_of (record { state = state i; store = (headline.store ∙ ap store_of state ∙ sym kept.headline.headline.store) i }) tasks waiting clock is_down
 
 -- ---- An updating command
 module _ {units : UnitsValue} {tasks : List Task} {waiting : List Suspended} {clock : ℕ} {is_down : Bool} (kept : IsRegionKept (region_of units tasks waiting clock is_down))
@@ -196,9 +192,9 @@ may_told_as old new (Err e) at f g same step = step
 pub tried_told : (old new : RegionValue) (at : ℕ) (c : Command) (o : Option Op) (a : Attempt) (x : Outcome) → a ≡ Told x → IsAttempt old at c o (Ok a) new → IsStepOrRefused old at (going_on old.machine c o) (Ok x) new
 tried_told old new at c o a x is tried = subst (λ b. IsAttempt old at c o (Ok b) new) is tried
 
-pub tried_waits : (old new : RegionValue) (at : ℕ) (c : Command) (o : Option Op) (a : Attempt) (h : ℕ) → a ≡ Waits h → IsAttempt old at c o (Ok a) new →
-    OfTask old.machine.tasks at (λ t. awaited_by old.machine.units t.unit c.verb o ≡ Some h) × (IsOpenUnit old.machine.units h × (new ≡ old))
-tried_waits old new at c o a h is tried = subst (λ b. IsAttempt old at c o (Ok b) new) is tried
+pub tried_waits : (old new : RegionValue) (at : ℕ) (c : Command) (o : Option Op) (a : Attempt) (h : ℕ) (back : Option Op) → a ≡ Waits h back → IsAttempt old at c o (Ok a) new →
+    (OfTask old.machine.tasks at (λ t. awaited_by old.machine.units t.unit c.verb o ≡ Some h) × (back ≡ o)) × (IsOpenUnit old.machine.units h × (new ≡ old))
+tried_waits old new at c o a h back is tried = subst (λ b. IsAttempt old at c o (Ok b) new) is tried
 
 -- what comes of a call on a region that is as it was, comes of it
 pub seen_may : (old now new : RegionValue) (r : Result Outcome NoMemory) (at : ℕ) (f : Machine → Task → Stepped Outcome) → old ≡ now → IsStepOrRefused old at (f old.machine) r new → IsStepOrRefused now at (f now.machine) r new

@@ -10,13 +10,14 @@ use Rattle.cics_enqueue.specs.declared.resources.Resource.{Resource}
 use Rattle.cics_history.specs.Events.{is_live}
 use Rattle.cics_enqueue.specs.Resources.{overlaps}
 use Rattle.cics_history.specs.declared.ops.Op.{Op}
-use Rattle.cics_dispatch.proofs.KeptTasks.{begins_now}
+use Rattle.cics_dispatch.proofs.KeptTasks.{begins_now, not_waiting_then}
 use Rattle.cics_history.specs.Holding.{UnitsState, held_by}
 use Rattle.cics_history.proofs.Waiting.{any_more}
-use Rattle.cics_dispatch.specs.Machine.{Machine, Task, Suspended, RegionValue, task_at, is_waiting}
+use Rattle.cics_dispatch.specs.Machine.{Machine, Task, Suspended, RegionValue, task_at, is_waiting, not_waiting, with_waiting}
 use Rattle.cics_dispatch.specs.Checks.{fault_of}
-use Rattle.cics_dispatch.specs.Steps.{Stepped, with_new_task, attach_refusal, attached, new_task, checked, issue_refusal, refused_or, issued_by, issued}
-use Rattle.cics_dispatch.specs.Waking.{is_late}
+use Rattle.cics_dispatch.specs.Steps.{Stepped, with_new_task, attach_refusal, attached, new_task, checked, issue_refusal, refused_or, issued_by, issued, by_op}
+use Rattle.cics_dispatch.specs.Waking.{is_late, may_go_on, went_on, woken_first, woken}
+use Rattle.cics_dispatch.specs.Notes.{IsFirstFree}
 use Rattle.cics_dispatch.specs.Answers.{IsStep}
 use Rattle.cics_dispatch.specs.KeptTasks.{IsWaitKept, AreTasksKept}
 use Rattle.cics_dispatch.specs.Settled.{needed_by, holds_one, holds_back, IsBlocked, IsInTime}
@@ -24,9 +25,10 @@ use Rattle.cics_names.specs.declared.commands.Command.{Command}
 use Rattle.cics_names.specs.declared.commands.Verb.{Verb}
 use Rattle.cics_dispatch.specs.declared.outcomes.Refused.{Refused}
 use Rattle.cics_dispatch.specs.declared.outcomes.Refused.TheVariants.{NoTask, TaskEnded, TaskWaiting, DuplicateLabel, NoMemory, ClockBack, RegionDown}
-use Rattle.cics_dispatch.proofs.TaskPlaces.{task_at-push}
+use Rattle.cics_dispatch.proofs.TaskPlaces.{place_of_task, task_at-push}
 use Rattle.cics_dispatch.proofs.KeepsOwn.{Keeps}
-use Rattle.cics_dispatch.proofs.ActsAlone.{LeavesTasks, Waits, checked_alone}
+use Rattle.cics_dispatch.proofs.ActsAlone.{LeavesTasks, Waits, by_op_alone, checked_alone}
+use Rattle.cics_dispatch.proofs.RegionWaking.{first_free-goes}
 
 -- ---- A call that is refused
 
@@ -160,6 +162,30 @@ module _ (m : Machine) (c : Command) (all : All (IsInTime m) m.waiting) where
       by : (o : Option Task) → All (IsInTime (issued_by m c o).machine) (issued_by m c o).machine.waiting
       by None = all
       by (Some t) = by_refusal t (issue_refusal m (Some t)) refl
+
+-- ---- Commands that go on
+
+-- and none has after a waiting command has gone on
+pub woken_in_time : (m : Machine) (label : Bytes) → IsFirstFree m label → All (IsInTime m) m.waiting → All (IsInTime (woken m).machine) (woken m).machine.waiting
+woken_in_time m label free all =
+    subst (λ o. All (IsInTime (woken_first m o).machine) (woken_first m o).machine.waiting) (sym free.first) (by (task_at m.tasks w.label) refl)
+  where
+    w : Suspended
+    w = free.wait
+
+    by : (o : Option Task) → task_at m.tasks w.label ≡ o → All (IsInTime (went_on m w o).machine) (went_on m w o).machine.waiting
+    by None is = absurd (false≢true (sym (ap (may_go_on m w) is) ∙ first_free-goes m w m.waiting free.first))
+    by (Some t) is =
+        let ws = not_waiting m.waiting w.label in
+        let a = with_waiting m ws in
+        let n = (by_op a t w.command w.op).machine in
+        let alone = by_op_alone a t w.command w.op in
+        let awake : is_waiting ws t.label ≡ false = ap (is_waiting ws) (place_of_task m.tasks w.label t is).2 ∙ not_waiting_then m.waiting w.label in
+        waits_all t.label a n (IsInTime n) alone.waits
+        (others_all t.label (IsInTime m) (IsInTime n)
+        (λ v other early. ap (is_late n v) (alone.others.tasks v.label other) ∙ same_clock m n v (task_at m.tasks v.label) alone.others.clock ∙ early) ws awake
+        (All-filter (λ v. not (is_same v.label w.label)) (IsInTime m) m.waiting all))
+        (λ d o begins. begun_late n (begins_now t.label a d o) (task_at n.tasks t.label) alone.others.clock)
 
 -- ---- Tasks that are attached, and the clock
 

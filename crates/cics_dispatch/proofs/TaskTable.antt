@@ -91,7 +91,7 @@ module _ (t : Task) where
   labelled-append (e ∷ es) labelled = (labelled.0, labelled-append es labelled.1)
 
   module _ {X : Type 0} (own : Task → Option X) where
-    had_at-append : (ts : List Task) (i : ℕ) (x : X) → had_at own (ts ++ t ∷ []) i ≡ Some x → (had_at own ts i ≡ Some x) ⊎ ((i ≡ length ts) × (own t ≡ Some x))
+    pub had_at-append : (ts : List Task) (i : ℕ) (x : X) → had_at own (ts ++ t ∷ []) i ≡ Some x → (had_at own ts i ≡ Some x) ⊎ ((i ≡ length ts) × (own t ≡ Some x))
     had_at-append [] zero x e = inr (refl, e)
     had_at-append [] (suc i) x e = inl e
     had_at-append (s ∷ ts) zero x e = inl e

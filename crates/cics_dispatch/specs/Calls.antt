@@ -93,11 +93,11 @@ going_on m c o t = by_op m t c o
 abbrev pub waiting_for : Machine → Command → Option Op → ℕ → Task → Stepped Outcome
 waiting_for m c o holder t = made_to_wait m t c o holder (busy_of c.verb)
 
--- what comes of trying a command of the task: it is told what its step answers; or it must wait for an open unit, or it is
--- refused for want of memory, and then the region is as it was
+-- what comes of trying a command of the task: it is told what its step answers; or it must wait for an open unit, and what it
+-- asked for comes back, or it is refused for want of memory, and then the region is as it was
 abbrev pub IsAttempt : RegionValue → ℕ → Command → Option Op → Result Attempt NoMemory → RegionValue → Type 0
 IsAttempt old at c o (Ok (Told outcome)) new = IsStepOf old at (going_on old.machine c o) outcome new
-IsAttempt old at c o (Ok (MustWait holder)) new =
-    OfTask old.machine.tasks at (λ t. awaited_by old.machine.units t.unit c.verb o ≡ Some holder)
+IsAttempt old at c o (Ok (MustWait holder back)) new =
+    (OfTask old.machine.tasks at (λ t. awaited_by old.machine.units t.unit c.verb o ≡ Some holder) × (back ≡ o))
     × (IsOpenUnit old.machine.units holder × (new ≡ old))
 IsAttempt old at c o (Err e) new = new ≡ old

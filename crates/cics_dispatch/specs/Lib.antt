@@ -16,3 +16,4 @@ pub mod Waits
 pub mod OwnedUnits
 pub mod Settled
 pub mod Notes
+pub mod First

@@ -1,6 +1,7 @@
 -- Task control: the tasks of a region as they are kept, each under its label, and no two with one label or one unit.
-use Rattle.std.specs.Prelude.{◌≡◌, ℕ, Option, Some, None, List, [], ◌∷◌, slice_get}
-use Rattle.std.specs.Map.{values_of}
+use Rattle.std.specs.Prelude.{◌≡◌, ◌≤◌, ◌+◌, ℕ, Option, Some, None, List, [], ◌∷◌, length, nat_eq, slice_get}
+use Rattle.std.specs.Map.{lookup, values_of}
+use Rattle.indexmap.specs.IndexMap.{IndexMap, index_map_len, spare}
 use Rattle.cics_names.specs.Keyed.{Bytes}
 use Rattle.cics_dispatch.specs.Machine.{Task}
 
@@ -39,3 +40,13 @@ pub record AreTaskRowsKept (es : List (Bytes × Task)) : Type 0 where
 -- no task has the unit
 pub record HasNoOwner (ts : List Task) (u : ℕ) : Type 0 where
   pub other : (i : ℕ) (t : Task) → slice_get ts i ≡ Some t → t.unit ≡ Some u → ⊥
+
+-- there is room for the unit of each task, and for almost as many more
+pub record HasRoomForUnits {S : Type 0} (ts : List Task) (owners : IndexMap ℕ (Option ℕ) S) : Type 0 where
+  pub room : length ts + length ts ≤ index_map_len owners + spare owners + 1
+
+-- each task's open unit is found at the task's place, what is found at a place is such a unit, and there is room
+pub record AreOwnersKept {S : Type 0} (ts : List Task) (owners : IndexMap ℕ (Option ℕ) S) : Type 0 where
+  pub found : (i u : ℕ) → had_at own_unit ts i ≡ Some u → lookup (nat_eq u) owners.entries ≡ Some (Some i)
+  pub owned : (i u : ℕ) → lookup (nat_eq u) owners.entries ≡ Some (Some i) → had_at own_unit ts i ≡ Some u
+  pub room : HasRoomForUnits ts owners

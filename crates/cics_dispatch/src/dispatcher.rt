@@ -40,7 +40,7 @@ use crate::waits::Waits;
 use cics_enqueue::UnitId;
 use cics_ksds::FileDef;
 use cics_names::{Command, Condition, Name4, Name8, NoMemory, Verb};
-use cics_units::{Done, Op, Opening, UnitState, Units};
+use cics_units::{Op, Opening, Submitted, UnitState, Units};
 use std::alloc::Global;
 use std::marker::Model;
 
@@ -138,7 +138,7 @@ impl Dispatcher {
             task_at self.now.machine.tasks label.now ≡ Some t → result ≡ t.unit }
     {
         let at = self.tasks.find(label)?;
-        self.tasks.get(at).unit()
+        self.unit_at(at)
     }
 
     /// The open unit of work of the task at a place, if there is one.
@@ -341,18 +341,18 @@ impl Dispatcher {
         }
     }
 
-    // Executes an updating command that a command of the task at a place asks for, unless it has to wait.
-    fn execute(&mut self, at: usize, command: &Command, op: &Op) -> Result<Attempt, NoMemory>
+    // Executes an updating command that a command of the task at a place asks for, unless it has to wait; then it comes
+    // back.
+    fn execute(&mut self, at: usize, command: &Command, op: Op) -> Result<Attempt, NoMemory>
         requires within { at < length self.old.machine.tasks }
         requires awake { IsAwake self.old.machine at }
-        requires ready { HasReady self.old.machine at command.now.verb (Some op.now) }
-        ensures attempt { IsAttempt self.old at command.now (Some op.now) result self.new }
+        requires ready { HasReady self.old.machine at command.now.verb (Some op) }
+        ensures attempt { IsAttempt self.old at command.now (Some op) result self.new }
     {
         let unit = self.tasks.get(at).unit();
-        self.tasks.make_room_for_unit()?;
-        match self.units.execute(unit, op)? {
-            Done::MustWait(holder) => Ok(Attempt::MustWait(holder)),
-            Done::Answered(unit, answer) => {
+        match self.units.submit(unit, op)? {
+            Submitted::MustWait(holder, op) => Ok(Attempt::MustWait(holder, Some(op))),
+            Submitted::Answered(unit, answer) => {
                 self.tasks.own_unit(at, unit);
                 let reply = reply_of_answer(answer, &command.verb);
                 Ok(Attempt::Told(self.answer(at, command.resp, reply)))
@@ -369,9 +369,9 @@ impl Dispatcher {
         ensures step { IsStepOrRefused self.old at
             (going_on self.old.machine command (Some op)) result self.new }
     {
-        match self.execute(at, &command, &op)? {
+        match self.execute(at, &command, op)? {
             Attempt::Told(outcome) => Ok(outcome),
-            Attempt::MustWait(holder) => self.make_wait(at, command, Some(op), holder),
+            Attempt::MustWait(holder, op) => self.make_wait(at, command, op, holder),
         }
     }
 }

@@ -5,6 +5,7 @@ ghost use Rattle.cics_dispatch.specs.Refusals.{refusal_number};
 
 use cics_enqueue::UnitId;
 use cics_names::{AbendCode, Condition, Name8, NoMemory, Record};
+use cics_units::Op;
 
 /// The number that a reply carries.
 #[derive(Clone, Copy, Debug, PartialEq, Eq)]
@@ -49,8 +50,8 @@ pub enum Outcome {
 pub(crate) enum Attempt {
     /// What the task is told.
     Told(Outcome),
-    /// An open unit that the command has to wait for.
-    MustWait(UnitId),
+    /// An open unit that the command has to wait for, and the updating command that it asks for, which comes back.
+    MustWait(UnitId, Option<Op>),
 }
 
 /// A waiting command that went on.

@@ -1,16 +1,19 @@
 //! A region: tasks that share files and queues, their waits, and their units of work.
 
-ghost use Rattle.std.specs.Prelude.{◌≡◌, ◌&&◌, not, [], ◌∷◌, ◌++◌, if◌then◌else◌, None, true, false, ℕ, IfOk, IfErr, OnOk};
+ghost use Rattle.std.specs.Prelude.{◌≡◌, ◌&&◌, not, [], ◌∷◌, ◌++◌, if◌then◌else◌, None, true, false, ℕ};
+ghost use Rattle.std.specs.Prelude.{IfOk, IfErr, IfSome, OnOk};
 ghost use Rattle.cics_history.specs.Events.{is_live};
 ghost use Rattle.cics_dispatch.specs.Machine.{beginning_region};
 ghost use Rattle.cics_dispatch.specs.Steps.{attached, issued};
 ghost use Rattle.cics_dispatch.specs.Waking.{clock_set, woken, expired};
+ghost use Rattle.cics_dispatch.specs.First.{IsFirstToGoOn, IsFirstTooLate};
 ghost use Rattle.cics_dispatch.specs.Answers.{without_tasks};
 ghost use Rattle.cics_dispatch.specs.Shutdown.{IsRegionStep, shut_down};
 ghost use Rattle.cics_dispatch.specs.Answers.{IsStep, always, attach_may_want, may_want};
 ghost use Rattle.cics_dispatch.specs.Answers.{IsHeadlineRegion, region_listing, replayed_listing};
 ghost use Rattle.cics_dispatch.specs.Settled.{goes_on};
 ghost use Rattle.cics_dispatch.specs.Notes.{new_note};
+ghost use Rattle.cics_dispatch.specs.declared.outcomes.Refused.TheVariants.{RegionDown};
 
 use crate::dispatcher::Dispatcher;
 use crate::notes::Notes;
@@ -112,6 +115,18 @@ impl Region {
         })
     }
 
+    // Refuses what a region that is shut down does no more.
+    fn refuse_if_down(&self) -> Result<(), Refused>
+        ensures up { OnOk result (self.now.machine.is_down ≡ false) }
+        ensures down { IfErr result (λ refused. (refused ≡ RegionDown)
+            × (self.now.machine.is_down ≡ true)) }
+    {
+        if self.dispatcher.is_down() {
+            return Err(Refused::RegionDown);
+        }
+        Ok(())
+    }
+
     /// Begins the task of a label: ATTACH. `dtimout` is the seconds that a command of it may wait, 0
     /// for no limit; the transaction makes no difference.
     ///
@@ -122,9 +137,7 @@ impl Region {
             (attached self.old.machine label dtimout) result self.new }
         ensures headline { IsHeadlineRegion self.new }
     {
-        if self.dispatcher.is_down() {
-            return Err(Refused::RegionDown);
-        }
+        self.refuse_if_down()?;
         self.dispatcher.attach(label, transaction, dtimout)
     }
 
@@ -135,9 +148,7 @@ impl Region {
             (clock_set self.old.machine now) result self.new }
         ensures headline { IsHeadlineRegion self.new }
     {
-        if self.dispatcher.is_down() {
-            return Err(Refused::RegionDown);
-        }
+        self.refuse_if_down()?;
         self.is_in_time = false;
         self.dispatcher.set_clock(now)
     }
@@ -155,9 +166,8 @@ impl Region {
             (issued self.old.machine label command) result self.new }
         ensures headline { IsHeadlineRegion self.new }
     {
-        if self.dispatcher.is_down() {
-            return Err(Refused::RegionDown);
-        }
+        // First of all: after a shutdown a label is told nothing else, not even that it has no task.
+        self.refuse_if_down()?;
         let unit = self.dispatcher.unit_of(&label);
         let keeps = self.dispatcher.is_keeping(&command.verb);
         let outcome = self.dispatcher.issue(label, command)?;
@@ -177,6 +187,8 @@ impl Region {
     /// command began to wait and no unit that one waits for may have given up anything, it looks at no wait.
     pub fn wake(&mut self) -> Result<Option<Woken>, Refused>
         ensures step { IsStep true self.old (always (woken self.old.machine)) result self.new }
+        ensures first { IfOk result (λ woken.
+            IfSome woken (λ w. IsFirstToGoOn self.old.machine w.label)) }
         ensures headline { IsHeadlineRegion self.new }
     {
         if self.is_settled {
@@ -192,7 +204,6 @@ impl Region {
         let woken = self.dispatcher.wake(label)?;
         self.notes.remove(&label);
         self.notes.forget(unit);
-        self.is_in_time = false;
         Ok(Some(woken))
     }
 
@@ -202,10 +213,11 @@ impl Region {
     /// The order is that in which the waits began. A task has waited too long once the clock is its
     /// `dtimout` past the begin of its wait; a `dtimout` of 0 is no limit. Its unit of work is backed
     /// out, its wait ends, and so does the task. Takes no memory. Where it answered `None`, and since
-    /// then nobody asked to set the clock and no waiting command went on, it looks at no wait.
+    /// then nobody asked to set the clock, it looks at no wait.
     pub fn expire(&mut self) -> Option<Expired>
         ensures outcome { result ≡ (expired self.old.machine).outcome }
         ensures machine { self.new.machine ≡ (expired self.old.machine).machine }
+        ensures first { IfSome result (λ e. IsFirstTooLate self.old.machine e.label) }
         ensures headline { IsHeadlineRegion self.new }
     {
         if self.is_in_time {
@@ -236,9 +248,7 @@ impl Region {
         ensures none_open { OnOk result ((u : ℕ) → is_live self.new.machine.units u ≡ false) }
         ensures headline { IsHeadlineRegion self.new }
     {
-        if self.dispatcher.is_down() {
-            return Err(Refused::RegionDown);
-        }
+        self.refuse_if_down()?;
         let count = self.dispatcher.shut_down();
         self.notes.clear();
         self.is_noted = true;

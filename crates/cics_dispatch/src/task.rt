@@ -5,7 +5,7 @@ ghost use Rattle.std.specs.Option.{option_copied};
 ghost use Rattle.cics_names.specs.Keyed.{value_at, with_value, without};
 ghost use Rattle.cics_dispatch.specs.Browses.{reset_told, reset_moved, next_told, next_moved};
 ghost use Rattle.cics_dispatch.specs.Browses.{prev_told, prev_moved};
-ghost use Rattle.cics_dispatch.specs.Machine.{is_unit, with_unit, with_browses};
+ghost use Rattle.cics_dispatch.specs.Machine.{with_unit, with_browses};
 ghost use Rattle.cics_dispatch.specs.Steps.{new_task};
 
 use crate::browses::Browses;
@@ -88,16 +88,6 @@ impl Task {
         ensures { option_copied result ≡ value_at file.now self.now.browses }
     {
         self.browses.get(file)
-    }
-
-    /// Whether this is its unit.
-    pub(crate) fn has_unit(&self, unit: UnitId) -> bool
-        ensures { result ≡ is_unit self.now.unit unit }
-    {
-        match self.unit {
-            Some(own) => own.number() == unit.number(),
-            None => false,
-        }
     }
 
     /// Gives it a unit.

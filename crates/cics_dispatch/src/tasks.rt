@@ -2,13 +2,15 @@
 
 ghost use Rattle.std.specs.Prelude.{◌≡◌, ◌<◌, ℕ, [], ◌∷◌, ◌++◌, Some, None, length, slice_get};
 ghost use Rattle.std.specs.Prelude.{unwrap_or, OnOk, OnErr, IfOk, IfSome, IfNone};
+ghost use Rattle.std.specs.Map.{values_of};
 ghost use Rattle.cics_names.specs.Keyed.{with_value, without};
 ghost use Rattle.cics_dispatch.specs.Browses.{reset_told, reset_moved, next_told, next_moved};
 ghost use Rattle.cics_dispatch.specs.Browses.{prev_told, prev_moved};
 ghost use Rattle.cics_dispatch.specs.Machine.{Task as TaskValue, task_at, replaced, label_of};
 ghost use Rattle.cics_dispatch.specs.Machine.{with_unit, with_browses};
 ghost use Rattle.cics_dispatch.specs.Steps.{new_task};
-ghost use Rattle.cics_dispatch.specs.Tasks.{HasNoOwner};
+ghost use Rattle.cics_dispatch.specs.Tasks.{own_unit, IsOwn, HasNoOwner};
+ghost use Rattle.cics_dispatch.specs.Tasks.{HasRoomForUnits, AreOwnersKept};
 ghost use Rattle.cics_dispatch.specs.Calls.{OfTask, HasChanged};
 
 use crate::task::Task;
@@ -27,9 +29,10 @@ use std::marker::Model;
 #[derive(Drop)]
 pub(crate) struct Tasks {
     rows: IndexMap<Name8, Task>,
-    // The place of the task that has a unit. An entry may be missing, and is then found by looking at all tasks, and
-    // one may be out of date: so what it says is looked at before it is believed.
-    owners: IndexMap<UnitId, usize>,
+    // The place of the task of each open unit. A unit that has ended may still stand here, without a place: a map that an
+    // entry is taken from doesn't tell that its room is free again, so those that have ended go all at once, when the map
+    // is full. It has room for almost twice as many units as there are tasks, so that this comes seldom.
+    owners: IndexMap<UnitId, Option<usize>>,
     alloc: Global,
 }
 
@@ -37,13 +40,31 @@ impl Model for Tasks {
     ghost use Rattle.std.specs.Prelude.{List};
     ghost use Rattle.std.specs.Map.{values_of};
     ghost use Rattle.cics_dispatch.specs.Machine.{Task as TaskValue};
-    ghost use Rattle.cics_dispatch.specs.Tasks.{AreTaskRowsKept};
+    ghost use Rattle.cics_dispatch.specs.Tasks.{AreTaskRowsKept, AreOwnersKept};
 
     ghost Value = { List TaskValue };
 
     ghost view = { λ t. values_of t.rows.entries };
 
-    ghost invariant = { λ t. AreTaskRowsKept t.rows.entries };
+    ghost invariant = { λ t. AreTaskRowsKept t.rows.entries
+        × AreOwnersKept (values_of t.rows.entries) t.owners };
+}
+
+// Enters the units of all tasks anew. It takes no memory.
+fn enter_all(rows: &IndexMap<Name8, Task>, owners: &mut IndexMap<UnitId, Option<usize>>)
+    requires units { IsOwn own_unit (values_of rows.now.entries) }
+    requires room { HasRoomForUnits (values_of rows.now.entries) owners.old }
+    ensures { AreOwnersKept (values_of rows.now.entries) owners.new }
+{
+    owners.clear();
+    for at in 0..rows.len() {
+        let Some(unit) = rows[at].unit() else {
+            continue;
+        };
+        let Ok(_) = owners.insert(unit, Some(at)) else {
+            unreachable!();
+        };
+    }
 }
 
 impl Tasks {
@@ -66,12 +87,15 @@ impl Tasks {
     }
 
     /// Begins a task, last of all, where no task has its label. `dtimout` is the seconds that it may wait, 0 for no
-    /// limit.
+    /// limit. It takes the memory for the task's units too.
     pub(crate) fn attach(&mut self, label: Name8, dtimout: u64) -> Result<(), NoMemory>
         requires { task_at self.old label ≡ None }
         ensures ok { OnOk result (self.new ≡ self.old ++ new_task label dtimout ∷ []) }
         ensures err { OnErr result (self.new ≡ self.old) }
     {
+        let tasks = self.rows.len();
+        let room = (tasks + tasks + 1).saturating_sub(self.owners.len());
+        self.owners.reserve(room)?;
         let task = Task::new(self.alloc, label, dtimout);
         self.rows.insert(label, task)?;
         Ok(())
@@ -99,47 +123,11 @@ impl Tasks {
         ensures label { unwrap_or result [] ≡ label_of self.now unit }
         ensures none { IfNone result (HasNoOwner self.now unit) }
     {
-        if let Some(at) = self.owners.get(&unit) {
-            if *at < self.len() {
-                let task = self.get(*at);
-                if task.has_unit(unit) {
-                    return Some(task.label());
-                }
-            }
-        }
-        for at in 0..self.len() {
-            let task = self.get(at);
-            if task.has_unit(unit) {
-                return Some(task.label());
-            }
-        }
-        None
+        let at = (*self.owners.get(&unit)?)?;
+        Some(self.get(at).label())
     }
 
-    /// Makes room for the unit of one more task, so that the next `begin_unit` takes no memory.
-    pub(crate) fn make_room_for_unit(&mut self) -> Result<(), NoMemory>
-        ensures { self.new ≡ self.old }
-    {
-        self.owners.reserve(1)?;
-        Ok(())
-    }
-
-    /// Gives the task at a place a unit that no task has.
-    ///
-    /// It takes no memory after `make_room_for_unit`. Without room, and where memory is refused, the unit is the
-    /// task's all the same; `label_of` then looks at all tasks to find it.
-    pub(crate) fn begin_unit(&mut self, at: usize, unit: UnitId)
-        requires within { at < length self.old }
-        requires free { HasNoOwner self.old unit }
-        ensures { HasChanged self.old at (λ t. with_unit t unit) self.new }
-    {
-        self.rows[at].begin_unit(unit);
-        let _ = self.owners.insert(unit, at);
-    }
-
-    /// Gives the task at a place a unit, unless it is its unit already; no other task has it.
-    ///
-    /// It takes no memory after `make_room_for_unit`.
+    /// Gives the task at a place a unit, unless it is its unit already; no other task has it. Takes no memory.
     pub(crate) fn own_unit(&mut self, at: usize, unit: UnitId)
         requires within { at < length self.old }
         requires free { OfTask self.old at (λ t. t.unit ≡ None → HasNoOwner self.old unit) }
@@ -147,9 +135,19 @@ impl Tasks {
             slice_get self.old at ≡ Some t → t.unit ≡ Some u → u ≡ unit }
         ensures { HasChanged self.old at (λ t. with_unit t unit) self.new }
     {
-        if self.rows[at].unit().is_none() {
-            self.begin_unit(at, unit);
+        if self.rows[at].unit().is_some() {
+            return;
         }
+        self.rows[at].begin_unit(unit);
+        // A unit begins once, but that isn't known here; nor is it that the room stays as it is where what stands there
+        // is entered again.
+        if self.owners.len() == self.owners.capacity() || self.owners.contains_key(&unit) {
+            enter_all(&self.rows, &mut self.owners);
+            return;
+        }
+        let Ok(_) = self.owners.insert(unit, Some(at)) else {
+            unreachable!();
+        };
     }
 
     /// Takes the unit of the task at a place, if it has one, and all its browses away; `has_ended` says whether the
@@ -160,11 +158,12 @@ impl Tasks {
         ensures task { HasChanged self.old at
             (λ t. record t { unit = None; browses = []; has_ended = has_ended }) self.new }
     {
-        let unit = self.rows[at].close_unit(has_ended);
-        if let Some(ended) = unit {
-            self.owners.swap_remove(&ended);
-        }
-        unit
+        let unit = self.rows[at].close_unit(has_ended)?;
+        let Some(owner) = self.owners.get_mut(&unit) else {
+            unreachable!();
+        };
+        *owner = None;
+        Some(unit)
     }
 
     /// Puts a browse of a file into the task at a place, in the place of the one that was open.

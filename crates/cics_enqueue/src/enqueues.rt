@@ -86,7 +86,8 @@ fn raise(holding: &mut Holding, user: bool) -> Result<(), TakeFault>
     ensures unit { holding.new.unit ≡ holding.old.unit }
     ensures count { OnOk result (holding.new.count ≡ count_after user holding.old) }
     ensures room { OnOk result (is_held_full user holding.old ≡ false) }
-    ensures full { IfErr result (λ fault. (fault ≡ TakeFault.Full) × (is_held_full user holding.old ≡ true)) }
+    ensures full { IfErr result (λ fault. (fault ≡ TakeFault.Full)
+        × (is_held_full user holding.old ≡ true)) }
     ensures err { OnErr result (holding.new ≡ holding.old) }
 {
     if user {
@@ -162,8 +163,10 @@ impl Enqueues {
     ) -> Option<UnitId>
         requires most { length prefix.now ≤ 255 }
         ensures value { result ≡ held_with_prefix file prefix.now but_not self.now }
-        ensures free { IfNone result (IsFreeBut self.now (FilePrefix file (bytes_of prefix.now)) but_not) }
-        ensures least { IfSome result (HoldsLeast self.now (FilePrefix file (bytes_of prefix.now)) but_not) }
+        ensures free { IfNone result (IsFreeBut self.now
+            (FilePrefix file (bytes_of prefix.now)) but_not) }
+        ensures least { IfSome result (HoldsLeast self.now
+            (FilePrefix file (bytes_of prefix.now)) but_not) }
     {
         let shorter = shorter_holder(&self.table, file, prefix, &but_not);
         if shorter.is_some() {
@@ -199,7 +202,8 @@ impl Enqueues {
         requires free { IsFreeFor self.old resource unit }
         ensures taken { OnOk result (self.new ≡ taken self.old resource unit) }
         ensures room { OnOk result (is_full resource self.old ≡ false) }
-        ensures full { IfErr result (λ fault. fault ≡ TakeFault.Full ↔ IsTrue (is_full resource self.old)) }
+        ensures full { IfErr result (λ fault. fault ≡ TakeFault.Full
+            ↔ IsTrue (is_full resource self.old)) }
         ensures err { OnErr result (self.new ≡ self.old) }
     {
         let user = resource.is_user();

@@ -56,9 +56,11 @@ pub(crate) fn remove(owned: &mut IndexMap<UnitId, BTreeSet<Vec<u8>>>, unit: Unit
 
 // Takes one of a unit's keys, if it has any.
 pub(crate) fn pop(owned: &mut IndexMap<UnitId, BTreeSet<Vec<u8>>>, unit: UnitId) -> Option<Vec<u8>>
-    ensures fewer { IfSome result (λ key. own_count owned.new.entries unit < own_count owned.old.entries unit) }
+    ensures fewer { IfSome result (λ key. own_count owned.new.entries unit
+        < own_count owned.old.entries unit) }
     ensures had { IfSome result (λ key. owns owned.old.entries unit key ≡ true) }
-    ensures taken { IfSome result (λ key. Sets false unit key.items owned.old.entries owned.new.entries) }
+    ensures taken { IfSome result (λ key. Sets false unit key.items owned.old.entries
+        owned.new.entries) }
     ensures none { IfNone result ((k : Vec ℕ) → owns owned.old.entries unit k ≡ false) }
     ensures stays { IfNone result (OwnsSame owned.old.entries owned.new.entries) }
 {

@@ -47,9 +47,8 @@ impl Dispatcher {
             unreachable!();
         };
         let unit = self.tasks.get(at).unit();
-        self.tasks.make_room_for_unit()?;
         match self.units.enq(unit, &resource.bytes()[..*length as usize])? {
-            Enqueued::MustWait(holder) => Ok(Attempt::MustWait(holder)),
+            Enqueued::MustWait(holder) => Ok(Attempt::MustWait(holder, None)),
             Enqueued::CountFull => {
                 let reply = plain_reply(Condition::Invreq);
                 Ok(Attempt::Told(self.answer(at, command.resp, reply)))
@@ -72,7 +71,7 @@ impl Dispatcher {
     {
         match self.take_value(at, &command)? {
             Attempt::Told(outcome) => Ok(outcome),
-            Attempt::MustWait(holder) => self.make_wait(at, command, None, holder),
+            Attempt::MustWait(holder, op) => self.make_wait(at, command, op, holder),
         }
     }
 

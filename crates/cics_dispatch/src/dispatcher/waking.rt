@@ -210,7 +210,7 @@ impl Dispatcher {
         ensures attempt { IsAttempt self.old at wait.now.command wait.now.op result self.new }
     {
         match wait.op() {
-            Some(op) => self.execute(at, wait.command(), op),
+            Some(op) => self.execute(at, wait.command(), op.copy()?),
             None => self.take_value(at, wait.command()),
         }
     }
@@ -227,7 +227,7 @@ impl Dispatcher {
     {
         match self.attempt(at, wait)? {
             Attempt::Told(outcome) => Ok(outcome),
-            Attempt::MustWait(_) => unreachable!(),
+            Attempt::MustWait(_, _) => unreachable!(),
         }
     }
 

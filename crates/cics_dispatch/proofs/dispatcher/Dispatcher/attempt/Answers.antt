@@ -5,16 +5,16 @@ use Rattle.cics_dispatch.proofs.dispatcher.Dispatcher.attempt.Goals as goal
 
 pub execute-requires-clause-ready : goal.execute-requires-clause-ready
 execute-requires-clause-ready c =
-    let op : c.args.wait.now.op ≡ Some c.in-Some.op.now = sym c.op.ensures ∙ ap option_copied c.in-Some.is in
+    let op : c.args.wait.now.op ≡ Some c.in_ok-copy-in-Some.field-0 = sym c.op.ensures ∙ ap option_copied c.in-Some.is ∙ ap Some (sym c.in_ok-copy-in-Some.ensures) in
     λ t there. subst (λ o. HasReady c.args.self.now.machine c.args.at c.command.result.now.verb o) op
     (subst (λ k. HasReady c.args.self.now.machine c.args.at k.verb c.args.wait.now.op) (sym c.command.ensures) c.requires.ready) t there
 
-pub returns-in-Some : goal.returns-in-Some
-returns-in-Some c =
-    let op : c.args.wait.now.op ≡ Some c.in-Some.op.now = sym c.op.ensures ∙ ap option_copied c.in-Some.is in
+pub returns-in_ok-copy-in-Some : goal.returns-in_ok-copy-in-Some
+returns-in_ok-copy-in-Some c =
+    let op : c.args.wait.now.op ≡ Some c.in_ok-copy-in-Some.field-0 = sym c.op.ensures ∙ ap option_copied c.in-Some.is ∙ ap Some (sym c.in_ok-copy-in-Some.ensures) in
     record {
       attempt = subst (λ o. IsAttempt c.args.self.now c.args.at c.args.wait.now.command o c.execute.result c.execute.new.self) (sym op)
-          (subst (λ k. IsAttempt c.args.self.now c.args.at k (Some c.in-Some.op.now) c.execute.result c.execute.new.self) c.command.ensures c.execute.ensures.attempt);
+          (subst (λ k. IsAttempt c.args.self.now c.args.at k (Some c.in_ok-copy-in-Some.field-0) c.execute.result c.execute.new.self) c.command.ensures c.execute.ensures.attempt);
     }
 
 pub take_value-requires-clause-ready : goal.take_value-requires-clause-ready

@@ -1,5 +1,5 @@
-use Rattle.std.proofs.Common.{◌≡◌, ◌∙◌, sym, ap, subst, None, Ok, length}
-use Rattle.std.specs.Prelude.{slice_get, take}
+use Rattle.std.proofs.Common.{refl, ◌≡◌, ◌∙◌, sym, ap, subst, None, Ok, length}
+use Rattle.std.specs.Prelude.{take}
 use Rattle.cics_dispatch.specs.Regions.{region_of, IsRegionKept}
 use Rattle.cics_dispatch.specs.Calls.{IsAwake, IsAttempt, going_on}
 use Rattle.std.proofs.Common.{◌≤◌, arith}
@@ -10,7 +10,7 @@ use Rattle.cics_dispatch.specs.Steps.{other_command}
 use Rattle.cics_dispatch.specs.Waking.{awaited_by}
 use Rattle.cics_dispatch.specs.declared.outcomes.Attempt.TheVariants.{Told, MustWait}
 use Rattle.cics_dispatch.proofs.Ready.{value_ready, only_enq}
-use Rattle.cics_dispatch.proofs.RegionSteps.{then_told, same_region, owned_now, placed_within, one_task}
+use Rattle.cics_dispatch.proofs.RegionSteps.{then_told, same_region, placed_within, one_task}
 use Rattle.cics_dispatch.proofs.RegionEnqueuing.{enq_awaited, full_kept, full_step, owner_free, owner_there, taken_kept, taken_step}
 use Rattle.cics_dispatch.proofs.dispatcher.Dispatcher.take_value.Goals as goal
 
@@ -37,7 +37,7 @@ invariant_of-self-in-MustWait c =
     let value = take n c.in-Enq.resource in
     let state : c.enq.new.self.state ≡ after_enqueue u.units.state t.unit value = c.in_ok-holder.ensures.state ∙ (λ i. after_enqueue u.units.state (c.unit-unit.ensures i) (take n (c.bytes.ensures i))) in
     let done : enqueue u.units.state t.unit value ≡ c.in_ok-holder.field-0 = sym (c.in_ok-holder.ensures.done ∙ (λ i. enqueue u.units.state (c.unit-unit.ensures i) (take n (c.bytes.ensures i)))) in
-    let same = same_region c.self.invariant c.enq.new.self c.make_room_for_unit.new.self (state ∙ ap (after_enqueued u.units.state t.unit value) (done ∙ c.in-MustWait.is)) c.enq.ensures.headline c.make_room_for_unit.ensures in
+    let same = same_region c.self.invariant c.enq.new.self (state ∙ ap (after_enqueued u.units.state t.unit value) (done ∙ c.in-MustWait.is)) c.enq.ensures.headline in
     subst IsRegionKept (sym same) c.self.invariant
 
 pub returns-in-MustWait : goal.returns-in-MustWait
@@ -50,11 +50,11 @@ returns-in-MustWait c =
     let done : enqueue u.units.state t.unit value ≡ c.in_ok-holder.field-0 = sym (c.in_ok-holder.ensures.done ∙ (λ i. enqueue u.units.state (c.unit-unit.ensures i) (take n (c.bytes.ensures i)))) in
     let holder = c.in-MustWait.holder in
     let waits = done ∙ c.in-MustWait.is in
-    let same = same_region c.self.invariant c.enq.new.self c.make_room_for_unit.new.self (state ∙ ap (after_enqueued u.units.state t.unit value) waits) c.enq.ensures.headline c.make_room_for_unit.ensures in
+    let same = same_region c.self.invariant c.enq.new.self (state ∙ ap (after_enqueued u.units.state t.unit value) waits) c.enq.ensures.headline in
     let verb = ap (λ v. awaited_by u.units.state t.unit v None) c.in-Enq.is in
     record {
-      attempt = subst (λ v. IsAttempt v c.args.at c.args.command.now None (Ok (MustWait holder)) (region_of c.enq.new.self c.make_room_for_unit.new.self u.waits u.clock u.is_down)) c.self.view_is (
-        (λ s other. ap (λ x. awaited_by u.units.state x.unit c.args.command.now.verb None) (one_task u.tasks c.args.at other c.get.ensures) ∙ verb ∙ enq_awaited u.units.state t.unit value holder waits),
+      attempt = subst (λ v. IsAttempt v c.args.at c.args.command.now None (Ok (MustWait holder None)) (region_of c.enq.new.self u.tasks u.waits u.clock u.is_down)) c.self.view_is (
+        (λ s other. ap (λ x. awaited_by u.units.state x.unit c.args.command.now.verb None) (one_task u.tasks c.args.at other c.get.ensures) ∙ verb ∙ enq_awaited u.units.state t.unit value holder waits, refl),
         (subst (λ d. IfEnqMustWait d (IsOpenUnit u.units.state)) c.in-MustWait.is c.in_ok-holder.ensures.holder_open, same),
       );
     }
@@ -67,7 +67,7 @@ invariant_of-self-in-CountFull c =
     let value = take n c.in-Enq.resource in
     let state : c.enq.new.self.state ≡ after_enqueue u.units.state t.unit value = c.in_ok-holder.ensures.state ∙ (λ i. after_enqueue u.units.state (c.unit-unit.ensures i) (take n (c.bytes.ensures i))) in
     let done : enqueue u.units.state t.unit value ≡ c.in_ok-holder.field-0 = sym (c.in_ok-holder.ensures.done ∙ (λ i. enqueue u.units.state (c.unit-unit.ensures i) (take n (c.bytes.ensures i)))) in
-    full_kept c.self.invariant c.args.at t c.get.ensures value c.enq.new.self state c.make_room_for_unit.new.self c.make_room_for_unit.ensures (done ∙ c.in-CountFull.is) c.enq.ensures.headline
+    full_kept c.self.invariant c.args.at t c.get.ensures value c.enq.new.self state (done ∙ c.in-CountFull.is) c.enq.ensures.headline
 
 pub returns-in-CountFull : goal.returns-in-CountFull
 returns-in-CountFull c =
@@ -81,9 +81,9 @@ returns-in-CountFull c =
     let m = (region_of u.units u.tasks u.waits u.clock u.is_down).machine in
     record {
       attempt = subst (λ v. IsAttempt v c.args.at command None (Ok (Told c.answer.result)) c.answer.new.self) c.self.view_is
-          (then_told c.args.at t t command.resp c.plain_reply-reply.result (going_on m command None) c.get.ensures (ap (λ l. slice_get l c.args.at) c.make_room_for_unit.ensures ∙ c.get.ensures)
-          (full_kept c.self.invariant c.args.at t c.get.ensures value c.enq.new.self state c.make_room_for_unit.new.self c.make_room_for_unit.ensures (done ∙ c.in-CountFull.is) c.enq.ensures.headline)
-          (full_step c.self.invariant c.args.at t c.get.ensures value c.enq.new.self state c.make_room_for_unit.new.self c.make_room_for_unit.ensures command c.plain_reply-reply.result (done ∙ c.in-CountFull.is) c.plain_reply-reply.ensures ∙ ap (other_command m t command) (sym c.in-Enq.is))
+          (then_told c.args.at t t command.resp c.plain_reply-reply.result (going_on m command None) c.get.ensures c.get.ensures
+          (full_kept c.self.invariant c.args.at t c.get.ensures value c.enq.new.self state (done ∙ c.in-CountFull.is) c.enq.ensures.headline)
+          (full_step c.self.invariant c.args.at t c.get.ensures value c.enq.new.self state command c.plain_reply-reply.result (done ∙ c.in-CountFull.is) c.plain_reply-reply.ensures ∙ ap (other_command m t command) (sym c.in-Enq.is))
           c.answer.ensures.step);
     }
 
@@ -95,8 +95,8 @@ own_unit-requires-clause-free c = λ s there none.
     let value = take n c.in-Enq.resource in
     let state : c.enq.new.self.state ≡ after_enqueue u.units.state t.unit value = c.in_ok-holder.ensures.state ∙ (λ i. after_enqueue u.units.state (c.unit-unit.ensures i) (take n (c.bytes.ensures i))) in
     let done : enqueue u.units.state t.unit value ≡ c.in_ok-holder.field-0 = sym (c.in_ok-holder.ensures.done ∙ (λ i. enqueue u.units.state (c.unit-unit.ensures i) (take n (c.bytes.ensures i)))) in
-    let same : s ≡ t = one_task u.tasks c.args.at (ap (λ l. slice_get l c.args.at) (sym c.make_room_for_unit.ensures) ∙ there) c.get.ensures in
-    rw c.make_room_for_unit.ensures (owner_free c.self.invariant c.args.at t c.get.ensures value c.enq.new.self state c.in-Taken.unit (done ∙ c.in-Taken.is) (ap (λ x. x.unit) (sym same) ∙ none))
+    let same : s ≡ t = one_task u.tasks c.args.at there c.get.ensures in
+    owner_free c.self.invariant c.args.at t c.get.ensures value c.enq.new.self state c.in-Taken.unit (done ∙ c.in-Taken.is) (ap (λ x. x.unit) (sym same) ∙ none)
 
 pub invariant_of-self-in-Taken : goal.invariant_of-self-in-Taken
 invariant_of-self-in-Taken c =
@@ -107,7 +107,7 @@ invariant_of-self-in-Taken c =
     let state : c.enq.new.self.state ≡ after_enqueue u.units.state t.unit value = c.in_ok-holder.ensures.state ∙ (λ i. after_enqueue u.units.state (c.unit-unit.ensures i) (take n (c.bytes.ensures i))) in
     let done : enqueue u.units.state t.unit value ≡ c.in_ok-holder.field-0 = sym (c.in_ok-holder.ensures.done ∙ (λ i. enqueue u.units.state (c.unit-unit.ensures i) (take n (c.bytes.ensures i)))) in
     let awake = subst (λ v. IsAwake v.machine c.args.at) (sym c.self.view_is) c.requires.awake t c.get.ensures in
-    let owned = owned_now u.tasks c.make_room_for_unit.new.self c.own_unit.new.self c.args.at t c.in-Taken.unit c.make_room_for_unit.ensures c.get.ensures c.own_unit.ensures in
+    let owned = c.own_unit.ensures t c.get.ensures in
     taken_kept c.self.invariant c.args.at t c.get.ensures value c.enq.new.self state c.in-Taken.unit (done ∙ c.in-Taken.is) c.own_unit.new.self owned awake c.enq.ensures.headline
 
 pub answer-requires-in-Taken : goal.answer-requires-in-Taken
@@ -118,7 +118,7 @@ answer-requires-in-Taken c =
     let value = take n c.in-Enq.resource in
     let state : c.enq.new.self.state ≡ after_enqueue u.units.state t.unit value = c.in_ok-holder.ensures.state ∙ (λ i. after_enqueue u.units.state (c.unit-unit.ensures i) (take n (c.bytes.ensures i))) in
     let done : enqueue u.units.state t.unit value ≡ c.in_ok-holder.field-0 = sym (c.in_ok-holder.ensures.done ∙ (λ i. enqueue u.units.state (c.unit-unit.ensures i) (take n (c.bytes.ensures i)))) in
-    let owned = owned_now u.tasks c.make_room_for_unit.new.self c.own_unit.new.self c.args.at t c.in-Taken.unit c.make_room_for_unit.ensures c.get.ensures c.own_unit.ensures in
+    let owned = c.own_unit.ensures t c.get.ensures in
     record {
       within = placed_within c.own_unit.new.self c.args.at (with_unit t c.in-Taken.unit) (owner_there c.self.invariant c.args.at t c.get.ensures value c.enq.new.self state c.in-Taken.unit (done ∙ c.in-Taken.is) c.own_unit.new.self owned);
     }
@@ -132,7 +132,7 @@ returns-in-Taken c =
     let state : c.enq.new.self.state ≡ after_enqueue u.units.state t.unit value = c.in_ok-holder.ensures.state ∙ (λ i. after_enqueue u.units.state (c.unit-unit.ensures i) (take n (c.bytes.ensures i))) in
     let done : enqueue u.units.state t.unit value ≡ c.in_ok-holder.field-0 = sym (c.in_ok-holder.ensures.done ∙ (λ i. enqueue u.units.state (c.unit-unit.ensures i) (take n (c.bytes.ensures i)))) in
     let awake = subst (λ v. IsAwake v.machine c.args.at) (sym c.self.view_is) c.requires.awake t c.get.ensures in
-    let owned = owned_now u.tasks c.make_room_for_unit.new.self c.own_unit.new.self c.args.at t c.in-Taken.unit c.make_room_for_unit.ensures c.get.ensures c.own_unit.ensures in
+    let owned = c.own_unit.ensures t c.get.ensures in
     let command = c.args.command.now in
     let m = (region_of u.units u.tasks u.waits u.clock u.is_down).machine in
     let unit = c.in-Taken.unit in

@@ -3,6 +3,8 @@ use Rattle.cics_dispatch.specs.Waking.{expired, first_late}
 use Rattle.cics_dispatch.specs.Answers.{IsHeadlineRegion}
 use Rattle.cics_dispatch.proofs.RegionSteps.{task_there}
 use Rattle.cics_dispatch.proofs.RegionRemembers.{expired_in_time, remembered_early, remembered_expired, told_label}
+use Rattle.cics_dispatch.specs.First.{IsFirstTooLate}
+use Rattle.cics_dispatch.proofs.FirstWaits.{first_expired}
 use Rattle.cics_dispatch.proofs.regions.Region.expire.Goals as goal
 
 pub returns-then-self-clause-outcome : goal.returns-then-self-clause-outcome
@@ -38,3 +40,9 @@ invariant_of-self-2 c =
           first (told_label m n e t c.time_out-expired.ensures.step first) (c.unit_at-unit.ensures.unit t there) (ap (λ s. s.machine) c.time_out-expired.ensures.step)
           c.remove.ensures.rows c.remove.ensures.needs c.forget.ensures.rows c.forget.ensures.needs c.if-self.false),
     )
+
+pub returns-clause-first : goal.returns-clause-first
+returns-clause-first c =
+    let u = c.self.inside in
+    let e = c.time_out-expired.result in
+    subst (λ v. IsFirstTooLate v.machine e.label) c.self.view_is (first_expired u.dispatcher.machine c.time_out-expired.new.self.machine e c.time_out-expired.ensures.step)

@@ -1,4 +1,4 @@
-use Rattle.std.proofs.Common.{◌∙◌, sym, subst, Ok}
+use Rattle.std.proofs.Common.{◌∙◌, ap, subst, Ok}
 use Rattle.std.specs.Prelude.{◌&&◌, if◌then◌else◌, None}
 use Rattle.cics_dispatch.specs.Steps.{issued}
 use Rattle.cics_dispatch.specs.Answers.{may_want}
@@ -15,7 +15,8 @@ returns-clause-step c =
     let outcome = c.in_ok-outcome.outcome in
     let d = c.self.inside.dispatcher in
     subst (λ v. IsRegionStep (may_want v.machine label k) v (issued v.machine label k) (Ok outcome) c.issue.new.self) c.self.view_is
-    (up_step (may_want d.machine label k) d c.issue.new.self (issued d.machine label k) (Ok outcome) (sym c.is_down.ensures ∙ c.if-is_down.false) c.in_ok-outcome.ensures.step)
+    (up_step (may_want d.machine label k) d c.issue.new.self (issued d.machine label k) (Ok outcome)
+    (ap (λ v. v.machine.is_down) c.self.view_is ∙ c.in_ok-refuse_if_down.ensures.up) c.in_ok-outcome.ensures.step)
 
 pub invariant_of-self-2 : goal.invariant_of-self-2
 invariant_of-self-2 c =

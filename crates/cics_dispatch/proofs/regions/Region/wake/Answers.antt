@@ -4,6 +4,7 @@ use Rattle.cics_dispatch.specs.Notes.{IsRemembered}
 use Rattle.cics_dispatch.specs.Waking.{woken, woken_first}
 use Rattle.cics_dispatch.specs.Answers.{IsHeadlineRegion, always}
 use Rattle.std.proofs.lemmas.Bool.{false≢true}
+use Rattle.cics_dispatch.proofs.FirstWaits.{first_woken, never_told}
 use Rattle.cics_dispatch.proofs.RegionPerforming.{refused_memory}
 use Rattle.cics_dispatch.proofs.RegionRemembers.{woken_settled, remembered_anew, remembered_looked, remembered_woken}
 use Rattle.cics_dispatch.proofs.regions.Region.wake.Goals as goal
@@ -44,6 +45,7 @@ returns c =
     let step = c.in_ok-woken.ensures.step ∙ ap (λ v. woken v.machine) c.self.view_is in
     record {
       step = (sym (ap (λ s. Ok s.outcome) step), ap (λ s. s.machine) step);
+      first = first_woken c.args.self.now.machine c.wake.new.self.machine c.in_ok-woken.woken step;
       headline = (c.in_ok-woken.ensures.kept c.self.invariant.0).headline;
     }
 
@@ -52,7 +54,7 @@ invariant_of-self-2 c =
     let u = c.self.inside in (
       c.in_ok-woken.ensures.kept c.self.invariant.0,
       remembered_woken u.dispatcher.machine c.wake.new.self.machine c.first_free.new.notes c.remove.new.self c.forget.new.self c.in-Some.label c.unit_of-unit.result c.first_free.ensures.noted c.in-Some.ensures.first
-          (λ t there. c.unit_of-unit.ensures t there) (ap (λ s. s.machine) c.in_ok-woken.ensures.step) c.remove.ensures.rows c.remove.ensures.needs c.forget.ensures.rows c.forget.ensures.needs u.is_settled c.if-self.false,
+          (λ t there. c.unit_of-unit.ensures t there) (ap (λ s. s.machine) c.in_ok-woken.ensures.step) c.remove.ensures.rows c.remove.ensures.needs c.forget.ensures.rows c.forget.ensures.needs u.is_settled u.is_in_time c.if-self.false c.self.invariant.1.in_time,
     )
 
 pub returns-in_default : goal.returns-in_default
@@ -63,6 +65,7 @@ returns-in_default c =
         ap (λ v. Ok (woken v.machine).outcome) (sym c.self.view_is) ∙ ap (λ s. Ok s.outcome) none,
         sym (ap (λ s. s.machine) none) ∙ ap (λ v. (woken v.machine).machine) c.self.view_is,
       );
+      first = tt;
       headline = c.self.invariant.0.headline;
     }
 
@@ -80,5 +83,6 @@ returns-in_err-woken c =
     let same = c.in_err-woken.ensures.err ∙ c.self.view_is in
     record {
       step = refused_memory true c.args.self.now (always (woken c.args.self.now.machine)) c.from_residual-in_err-woken.result c.wake.new.self c.from_residual-in_err-woken.ensures refl same;
+      first = never_told c.from_residual-in_err-woken.result _ c.from_residual-in_err-woken.ensures.0;
       headline = subst IsHeadlineRegion (sym c.in_err-woken.ensures.err) c.self.invariant.0.headline;
     }

@@ -5,9 +5,9 @@ use Rattle.cics_dispatch.proofs.tasks.Tasks.find.Goals as goal
 pub returns-clause-task : goal.returns-clause-task
 returns-clause-task c =
     found_at c.args.self.now c.args.label.now _ _ c.get_index_of.result c.self.view_is
-    (task_at-lookup _ pointwise-is_same c.args.label.now c.self.inside.rows.entries c.self.invariant.labelled) c.get_index_of.ensures.value
+    (task_at-lookup _ pointwise-is_same c.args.label.now c.self.inside.rows.entries c.self.invariant.0.labelled) c.get_index_of.ensures.value
 
 pub returns-clause-none : goal.returns-clause-none
 returns-clause-none c =
     found_none c.args.self.now c.args.label.now _ _ c.get_index_of.result c.self.view_is
-    (task_at-lookup _ pointwise-is_same c.args.label.now c.self.inside.rows.entries c.self.invariant.labelled) c.get_index_of.ensures.found
+    (task_at-lookup _ pointwise-is_same c.args.label.now c.self.inside.rows.entries c.self.invariant.0.labelled) c.get_index_of.ensures.found

@@ -1,27 +1,41 @@
-use Rattle.std.proofs.Common.{◌∙◌, sym, subst, arith}
-use Rattle.std.proofs.lemmas.Option.{slice_get_within}
-use Rattle.cics_dispatch.specs.Tasks.{HasNoOwner, IsOwn, own_unit}
-use Rattle.cics_dispatch.proofs.TaskTable.{label_of-owner, label_of-none, is_unit-has}
+use Rattle.std.proofs.Common.{◌∙◌, sym, ap, subst, Some}
+use Rattle.std.specs.Option.{option_copied}
+use Rattle.cics_dispatch.specs.Tasks.{IsOwn, AreOwnersKept, own_unit}
+use Rattle.cics_dispatch.proofs.TaskTable.{label_of-none}
+use Rattle.cics_dispatch.proofs.TaskOwners.{no_owner, placeless_owner, found_within, found_label}
 use Rattle.cics_dispatch.proofs.tasks.Tasks.label_of.Goals as goal
 
--- after the loop all tasks were passed
-passed : (c : goal.After-loop-at) → HasNoOwner c.args.self.now c.args.unit
-passed c = record {
-  other = λ i t there has. let within = slice_get_within c.args.self.now i t there in c.loop-at.invariant i t (omega arith) there has;
-}
+pub returns-in_err-get-clause-label : goal.returns-in_err-get-clause-label
+returns-in_err-get-clause-label c =
+    let kept = subst (λ ts. AreOwnersKept ts c.self.inside.owners) c.self.view_is c.self.invariant.1 in
+    let none = no_owner c.args.self.now c.self.inside.owners kept c.args.unit (sym c.get.ensures.value ∙ ap option_copied c.in_err-get.was) in
+    rw c.from_residual.ensures (sym (label_of-none c.args.self.now c.args.unit none))
 
-pub returns-then-has_unit-clause-label : goal.returns-then-has_unit-clause-label
-returns-then-has_unit-clause-label c =
-    c.label.ensures ∙ sym (label_of-owner c.args.self.now c.args.unit _ _ (subst (IsOwn own_unit) c.self.view_is c.self.invariant.units) c.get-task.ensures
-    (is_unit-has _ _ (sym c.has_unit.ensures ∙ c.if-has_unit.true)))
+pub returns-in_err-get-clause-none : goal.returns-in_err-get-clause-none
+returns-in_err-get-clause-none c =
+    let kept = subst (λ ts. AreOwnersKept ts c.self.inside.owners) c.self.view_is c.self.invariant.1 in
+    rw c.from_residual.ensures (no_owner c.args.self.now c.self.inside.owners kept c.args.unit (sym c.get.ensures.value ∙ ap option_copied c.in_err-get.was))
 
-pub returns-then-has_unit-2-clause-label : goal.returns-then-has_unit-2-clause-label
-returns-then-has_unit-2-clause-label c =
-    c.label-then-has_unit-2.ensures ∙ sym (label_of-owner c.args.self.now c.args.unit _ _ (subst (IsOwn own_unit) c.self.view_is c.self.invariant.units) c.get-task-in-loop-at.ensures
-    (is_unit-has _ _ (sym c.has_unit-in-loop-at.ensures ∙ c.if-has_unit-2.true)))
+pub returns-in_err-at-clause-label : goal.returns-in_err-at-clause-label
+returns-in_err-at-clause-label c =
+    let kept = subst (λ ts. AreOwnersKept ts c.self.inside.owners) c.self.view_is c.self.invariant.1 in
+    let none = placeless_owner c.args.self.now c.self.inside.owners kept c.args.unit (sym c.get.ensures.value ∙ ap option_copied c.in_ok-get.was ∙ ap Some c.in_err-at.was) in
+    rw c.from_residual-in_err-at.ensures (sym (label_of-none c.args.self.now c.args.unit none))
+
+pub returns-in_err-at-clause-none : goal.returns-in_err-at-clause-none
+returns-in_err-at-clause-none c =
+    let kept = subst (λ ts. AreOwnersKept ts c.self.inside.owners) c.self.view_is c.self.invariant.1 in
+    rw c.from_residual-in_err-at.ensures
+    (placeless_owner c.args.self.now c.self.inside.owners kept c.args.unit (sym c.get.ensures.value ∙ ap option_copied c.in_ok-get.was ∙ ap Some c.in_err-at.was))
+
+pub get-requires-2 : goal.get-requires-2
+get-requires-2 c =
+    let kept = subst (λ ts. AreOwnersKept ts c.self.inside.owners) c.self.view_is c.self.invariant.1 in
+    found_within c.args.self.now c.self.inside.owners kept c.args.unit c.in_ok-at.at (sym c.get.ensures.value ∙ ap option_copied c.in_ok-get.was ∙ ap Some c.in_ok-at.was)
 
 pub returns-clause-label : goal.returns-clause-label
-returns-clause-label c = sym (label_of-none c.args.self.now c.args.unit (passed c))
-
-pub returns-clause-none : goal.returns-clause-none
-returns-clause-none c = passed c
+returns-clause-label c =
+    let kept = subst (λ ts. AreOwnersKept ts c.self.inside.owners) c.self.view_is c.self.invariant.1 in
+    let found = sym c.get.ensures.value ∙ ap option_copied c.in_ok-get.was ∙ ap Some c.in_ok-at.was in
+    let apart = subst (IsOwn own_unit) c.self.view_is c.self.invariant.0.units in
+    c.label.ensures ∙ sym (found_label c.args.self.now c.self.inside.owners kept c.args.unit c.in_ok-at.at found c.get-2.result.now c.get-2.ensures apart)

@@ -5,20 +5,24 @@ use Rattle.cics_history.proofs.Entries.{OnOk-more, OnErr-more}
 use Rattle.cics_dispatch.specs.Machine.{with_browses}
 use Rattle.cics_dispatch.specs.Browses.{moved}
 use Rattle.cics_dispatch.proofs.TaskTable.{changed, unchanged, kept-either}
+use Rattle.cics_dispatch.proofs.TaskOwners.{owners_either}
 use Rattle.cics_dispatch.proofs.tasks.Tasks.prev.Goals as goal
 
 pub invariant_of-self : goal.invariant_of-self
-invariant_of-self c =
-    kept-either c.self.inside.rows.entries c.args.self.now c.args.at c.index_mut.result.now c.prev.new.self c.self.invariant c.self.view_is c.index_mut.ensures.value
-    c.prev.result _ c.prev.ensures.task c.prev.ensures.err
+invariant_of-self c = (
+  kept-either c.self.inside.rows.entries c.args.self.now c.args.at c.index_mut.result.now c.prev.new.self c.self.invariant.0 c.self.view_is c.index_mut.ensures.value
+      c.prev.result _ c.prev.ensures.task c.prev.ensures.err,
+  owners_either c.self.inside.rows.entries c.args.at c.index_mut.result.now c.prev.new.self c.self.inside.owners c.self.invariant.1 c.index_mut.ensures.value
+      c.prev.result _ c.prev.ensures.task c.prev.ensures.err,
+)
 
 pub returns-clause-position : goal.returns-clause-position
 returns-clause-position c t is = OnOk-more c.prev.result (λ by.
-    changed c.self.inside.rows.entries c.args.self.now c.args.at c.index_mut.result.now c.prev.new.self c.self.invariant c.self.view_is c.index_mut.ensures.value
+    changed c.self.inside.rows.entries c.args.self.now c.args.at c.index_mut.result.now c.prev.new.self c.self.invariant.0 c.self.view_is c.index_mut.ensures.value
     (ap (λ s. s.label) by) (λ t. with_browses t (moved (after_prev c.args.records.now.records) c.args.file.now (value_at c.args.file.now t.browses) t.browses)) by t is
     ) c.prev.ensures.task
 
 pub returns-clause-err : goal.returns-clause-err
 returns-clause-err c = OnErr-more c.prev.result (λ same.
-    unchanged c.self.inside.rows.entries c.args.self.now c.args.at c.index_mut.result.now c.prev.new.self c.self.invariant c.self.view_is c.index_mut.ensures.value same
+    unchanged c.self.inside.rows.entries c.args.self.now c.args.at c.index_mut.result.now c.prev.new.self c.self.invariant.0 c.self.view_is c.index_mut.ensures.value same
     ) c.prev.ensures.err
