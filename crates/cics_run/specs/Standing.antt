@@ -28,6 +28,10 @@ pub record Stands (bytes : List ℕ) (before now : Option (List ℕ)) (session :
   pub going : (play (completed bytes)).has_fault ≡ false
   pub printed : Prints before now [] session.pending.items (journal bytes)
 
+-- a call leads to this from each place where its session may stand, behind whatever bytes
+abbrev pub WhereverStands : Option (List ℕ) → Session → (List ℕ → Option (List ℕ) → Type 0) → Type 0
+WhereverStands now session LeadsTo = (bytes : List ℕ) (before : Option (List ℕ)) → Stands bytes before now session → LeadsTo bytes before
+
 -- A line of these bytes was a fault, and their journal is written.
 pub record Stopped (bytes : List ℕ) (before now : Option (List ℕ)) : Type 0 where
   pub fault : (play (completed bytes)).has_fault ≡ true

@@ -58,9 +58,9 @@ pub enum Asked {
 
 /// Reads the words of a command line, of which the first is the program's name.
 ///
-/// The options are `--no-list`, which leaves out the listing, `--replay`, which asks for the replay behind
-/// it, and `--help` (or `-h`). An option that is given twice is bad, and so is every other word but a `--`,
-/// behind which no option may stand. It is refused for want of memory alone.
+/// The options are `--no-list`, which leaves out the listing, `--replay`, which asks for the replay
+/// behind it, and `--help` (or `-h`). An option that is given twice is bad, and so is every other
+/// word but a `--`, behind which no option may stand. It is refused for want of memory alone.
 pub fn arguments(alloc: Global, words: Vec<String>) -> Result<Asked, NoMemory> {
     match options(alloc, &words) {
         Ok(options) => Ok(Asked::Run(options)),
@@ -93,8 +93,8 @@ fn options(alloc: Global, words: &[String]) -> Result<Options, Error> {
     })
 }
 
-/// The exit status that tells the answer of a run: 0 done, 1 a fault of a line or a definition, 3 no
-/// memory, 4 a fault in reading or writing or too long a script.
+/// The exit status that tells the answer of a run: 0 done, 1 a fault of a line or a definition, 3
+/// no memory, 4 a fault in reading or writing or too long a script.
 pub fn exit_status(answer: &Result<Status, RunFault>) -> u8
     ensures { result ≡ status_of answer.now }
 {

@@ -1,13 +1,12 @@
 //! The lines of the journal.
 
-ghost use Rattle.std.specs.Prelude.{◌≡◌, ◌++◌, OnOk, codes};
+ghost use Rattle.std.specs.Prelude.{◌≡◌, ◌++◌, OnOk};
 ghost use Rattle.cics_run.specs.Journal.{numbered, condition_text, part, number_part, reply_text};
 ghost use Rattle.cics_run.specs.Journal.{abend_text, outcome_text, attached_line, outcome_line};
 ghost use Rattle.cics_run.specs.Journal.{woken_line, expired_line, clock_line, clock_refused_line};
 ghost use Rattle.cics_run.specs.Journal.{shutdown_line, shutdown_refused_line, refusal_title};
 ghost use Rattle.cics_run.specs.Journal.{refusal_text, refused_line, define_title};
 ghost use Rattle.cics_run.specs.Journal.{define_fault_line, line_fault_line};
-ghost use Rattle.cics_run.specs.Texts.{text_of, name_text, bare};
 
 use crate::texts::{push_bare, push_name, push_number, push_str, push_text};
 use cics_dispatch::{Expired, Number, Outcome, Refused, Reply, Woken};

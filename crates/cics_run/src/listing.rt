@@ -1,6 +1,6 @@
 //! The listings.
 
-ghost use Rattle.std.specs.Prelude.{◌≡◌, ◌++◌, OnOk, length};
+ghost use Rattle.std.specs.Prelude.{◌≡◌, ◌++◌, OnOk};
 ghost use Rattle.std.specs.List.{flat_map};
 ghost use Rattle.cics_run.specs.Listings.{heading, recoverable_title, recovery_title, record_line};
 ghost use Rattle.cics_run.specs.Listings.{file_text, storage_text, transient_text, state_title};

@@ -61,7 +61,8 @@ pub fn run<R: Read, W: Write>(
     run_from(&mut session, reader, writer, options)
 }
 
-// Runs the script from a session before its first byte, and leaves the session to its owner, who alone drops it.
+// Runs the script from a session before its first byte, and leaves the session to its owner, who
+// alone drops it.
 fn run_from<R: Read, W: Write>(
     session: &mut Session,
     reader: &mut R,

@@ -1,6 +1,6 @@
 //! A run between two reads.
 
-ghost use Rattle.std.specs.Prelude.{◌≡◌, ℕ, true, List, [], ◌++◌, ◌+◌, ◌<◌, ◌≤◌, ◌^◌, Option, length};
+ghost use Rattle.std.specs.Prelude.{◌≡◌, true, [], ◌++◌, ◌+◌, ◌<◌, ◌≤◌, ◌^◌, length};
 ghost use Rattle.std.specs.Prelude.{IfOk, OnOk, OnErr};
 ghost use Rattle.std.specs.List.{prefix_len};
 ghost use Rattle.std.specs.Io.BufRead.{strip_last};
@@ -10,7 +10,8 @@ ghost use Rattle.cics_run.specs.declared.stage.Stage.TheVariants.{Running};
 ghost use Rattle.cics_run.specs.Printing.{AppendsFront, Prints};
 ghost use Rattle.std.specs.Io.KnownBytes.{Appends};
 ghost use Rattle.cics_run.specs.Running.{ending};
-ghost use Rattle.cics_run.specs.Standing.{line_step, Stands, Feeds, Writes, Closes, Finishes};
+ghost use Rattle.cics_run.specs.Standing.{line_step, WhereverStands, Feeds, Writes, Closes};
+ghost use Rattle.cics_run.specs.Standing.{Finishes};
 
 use crate::listing::{push_listing, push_replay};
 use crate::running::{Options, Status};
@@ -99,8 +100,8 @@ impl Session {
 
     /// Writes all that was printed.
     pub fn write<W: Write>(&mut self, writer: &mut W) -> Result<(), Stop>
-        ensures { (bytes : List ℕ) (before : Option (List ℕ)) → Stands bytes before (W.contents writer.old) self.old
-            → Writes bytes before (W.contents writer.new) self.new result }
+        ensures { WhereverStands (W.contents writer.old) self.old (λ bytes before.
+            Writes bytes before (W.contents writer.new) self.new result) }
     {
         write_pending(&mut self.pending, writer)
     }
@@ -137,8 +138,8 @@ impl Session {
     /// one: what was printed up to it is then written.
     pub fn feed<W: Write>(&mut self, chunk: &[u8], writer: &mut W) -> Result<bool, Stop>
         requires { self.old.number + length chunk.now < 2 ^ 64 }
-        ensures { (bytes : List ℕ) (before : Option (List ℕ)) → Stands bytes before (W.contents writer.old) self.old
-            → Feeds (bytes ++ chunk.now) before (W.contents writer.new) self.new result }
+        ensures { WhereverStands (W.contents writer.old) self.old (λ bytes before.
+            Feeds (bytes ++ chunk.now) before (W.contents writer.new) self.new result) }
     {
         let mut rest = chunk;
         'lines: loop {
@@ -161,8 +162,9 @@ impl Session {
     // Runs the last line where it lacks its LF.
     fn end_input<W: Write>(&mut self, writer: &mut W) -> Result<bool, Stop>
         requires { self.old.number + 1 < 2 ^ 64 }
-        ensures closes { (bytes : List ℕ) (before : Option (List ℕ)) → Stands bytes before (W.contents writer.old) self.old
-            → Closes bytes before (W.contents writer.new) self.new.pending.items self.new.stage result }
+        ensures closes { WhereverStands (W.contents writer.old) self.old (λ bytes before.
+            Closes bytes before (W.contents writer.new) self.new.pending.items self.new.stage
+            result) }
         ensures left { IfOk result (λ fault. fault ≡ true → self.new.pending.items ≡ []) }
     {
         if self.line.is_empty() {
@@ -181,8 +183,8 @@ impl Session {
     /// Runs the last line where it lacks its LF, and where no line was a fault, writes the listing.
     pub fn finish<W: Write>(&mut self, options: Options, writer: &mut W) -> Result<Status, Stop>
         requires { self.old.number + 1 < 2 ^ 64 }
-        ensures { (bytes : List ℕ) (before : Option (List ℕ)) → Stands bytes before (W.contents writer.old) self.old
-            → Finishes options bytes before (W.contents writer.new) result }
+        ensures { WhereverStands (W.contents writer.old) self.old (λ bytes before.
+            Finishes options bytes before (W.contents writer.new) result) }
     {
         match self.end_input(writer) {
             Ok(false) => {}
@@ -215,7 +217,8 @@ fn write_end<W: Write>(
     }
 }
 
-// Prints what is asked for of the listing and the replay. Where no line has made the region yet, it is made here.
+// Prints what is asked for of the listing and the replay. Where no line has made the region yet, it
+// is made here.
 fn push_ending(stage: &mut Stage, options: Options, out: &mut Vec<u8>) -> Result<(), NoMemory>
     ensures { OnOk result (out.new.items ≡ out.old.items ++ ending options stage.old) }
 {

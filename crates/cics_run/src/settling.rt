@@ -10,8 +10,8 @@ use cics_names::NoMemory;
 /// Lets each waiting command go on that needn't wait any more, abends each task that has waited too
 /// long, and prints what comes of it, until nothing more comes by itself.
 ///
-/// A command that may go on comes before a task whose time is over. It is refused for want of memory
-/// alone.
+/// A command that may go on comes before a task whose time is over. It is refused for want of
+/// memory alone.
 pub fn settle(region: &mut Region, out: &mut Vec<u8>) -> Result<(), NoMemory>
     ensures region { OnOk result (region.new
         ≡ region_at (settled (length region.old.machine.waiting) region.old.machine).machine) }

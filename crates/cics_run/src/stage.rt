@@ -51,7 +51,8 @@ impl Stage {
         line: &[u8],
         out: &mut Vec<u8>,
     ) -> Result<bool, NoMemory>
-        ensures { Leads (step number self.old line.now) self.new out.old.items out.new.items result }
+        ensures { Leads (step number self.old line.now) self.new out.old.items out.new.items
+            result }
     {
         match read_line(*out.allocator(), line) {
             Ok(line) => self.follow(number, line, out),
@@ -62,7 +63,8 @@ impl Stage {
 
     // Runs a line that was read.
     fn follow(&mut self, number: u64, line: Line, out: &mut Vec<u8>) -> Result<bool, NoMemory>
-        ensures { Leads (followed number self.old (Ok line)) self.new out.old.items out.new.items result }
+        ensures { Leads (followed number self.old (Ok line)) self.new out.old.items
+            out.new.items result }
     {
         match line {
             Line::Blank => Ok(false),
@@ -142,8 +144,8 @@ impl Stage {
         content: Record,
         out: &mut Vec<u8>,
     ) -> Result<bool, NoMemory>
-        ensures { Leads (file_loaded number self.old name content) self.new out.old.items out.new.items
-            result }
+        ensures { Leads (file_loaded number self.old name content) self.new out.old.items
+            out.new.items result }
     {
         match self {
             Stage::Opening(opening) => {
@@ -178,8 +180,8 @@ impl Stage {
         dtimout: u64,
         out: &mut Vec<u8>,
     ) -> Result<bool, NoMemory>
-        ensures { Leads (task_attached (region_of self.old).machine label transaction dtimout) self.new
-            out.old.items out.new.items result }
+        ensures { Leads (task_attached (region_of self.old).machine label transaction dtimout)
+            self.new out.old.items out.new.items result }
     {
         self.open()?;
         match self {
@@ -214,8 +216,8 @@ impl Stage {
     }
 
     fn shutdown(&mut self, out: &mut Vec<u8>) -> Result<bool, NoMemory>
-        ensures { Leads (region_shut (region_of self.old).machine) self.new out.old.items out.new.items
-            result }
+        ensures { Leads (region_shut (region_of self.old).machine) self.new out.old.items
+            out.new.items result }
     {
         self.open()?;
         match self {
@@ -225,9 +227,11 @@ impl Stage {
         Ok(false)
     }
 
-    /// Makes the region of the definitions, where there is none yet. Without memory the definitions stay.
+    /// Makes the region of the definitions, where there is none yet. Without memory the definitions
+    /// stay.
     pub fn open(&mut self) -> Result<(), NoMemory>
-        ensures { OnOk result (self.new ≡ Running (region_of self.old)) }
+        ensures ok { OnOk result (self.new ≡ Running (region_of self.old)) }
+        ensures err { OnErr result (self.new ≡ self.old) }
     {
         let Stage::Opening(opening) = self else {
             return Ok(());
@@ -255,15 +259,17 @@ fn print_fault(number: u64, fault: LineFault, out: &mut Vec<u8>) -> Result<bool,
     Ok(true)
 }
 
-// Prints the fault of a definition, if it has one, and tells whether it has. The clause speaks of the opening that the
-// definition left, `now`.
+// Prints the fault of a definition, if it has one, and tells whether it has. The clause speaks of
+// the opening that the definition left, `now`.
 fn print_definition(
     number: u64,
     answer: Result<(), DefineFault>,
     out: &mut Vec<u8>,
 ) -> Result<bool, NoMemory>
-    ensures { (o next now : OpeningState) (fault : Option DefineFault) → AnswersFault answer fault → OnOk answer (now ≡ next) → OnErr answer (now ≡ o)
-        → Leads (defined number o fault next) (OpeningStage now) out.old.items out.new.items result }
+    ensures { (o next now : OpeningState) (fault : Option DefineFault)
+        → AnswersFault answer fault → OnOk answer (now ≡ next) → OnErr answer (now ≡ o)
+        → Leads (defined number o fault next) (OpeningStage now) out.old.items out.new.items
+        result }
 {
     match answer {
         Ok(()) => Ok(false),
@@ -311,8 +317,8 @@ fn tell_attached(
 
 // Sets the clock of the region, and prints what comes of it.
 fn set_clock(region: &mut Region, seconds: u64, out: &mut Vec<u8>) -> Result<(), NoMemory>
-    ensures { Happens (clock_moved region.old.machine seconds) region.new out.old.items out.new.items
-        result }
+    ensures { Happens (clock_moved region.old.machine seconds) region.new out.old.items
+        out.new.items result }
 {
     let answer = region.set_clock(seconds);
     tell_clock(seconds, answer, out)?;
@@ -364,7 +370,8 @@ fn tell_issued(
 
 // Shuts the region down, and prints what comes of it.
 fn shutdown(region: &mut Region, out: &mut Vec<u8>) -> Result<(), NoMemory>
-    ensures { Happens (region_shut region.old.machine) region.new out.old.items out.new.items result }
+    ensures { Happens (region_shut region.old.machine) region.new out.old.items out.new.items
+        result }
 {
     let answer = region.shutdown();
     tell_shutdown(answer, out)?;

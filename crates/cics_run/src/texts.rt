@@ -1,9 +1,9 @@
 //! The texts of byte strings, names and numbers, each put at the end of what was printed before.
 
-ghost use Rattle.std.specs.Prelude.{◌≡◌, ◌++◌, ◌<◌, OnOk, codes};
+ghost use Rattle.std.specs.Prelude.{◌≡◌, ◌++◌, ◌<◌, OnOk};
 ghost use Rattle.std.specs.List.{flat_map, list_all};
 ghost use Rattle.std.specs.Fmt.{decimal};
-ghost use Rattle.cics_run.specs.Texts.{has_character, doubled, quoted, digit, hexadecimal, text_of};
+ghost use Rattle.cics_run.specs.Texts.{has_character, quoted, digit, hexadecimal, text_of};
 ghost use Rattle.cics_run.specs.Texts.{unfilled, name_text, bare, shown};
 
 use cics_names::{NoMemory, from_ebcdic};
@@ -26,7 +26,8 @@ pub fn push_number(out: &mut Vec<u8>, number: u64) -> Result<(), NoMemory>
     push_str(out, &digits)
 }
 
-/// Puts a byte string at the end, in quotes: in characters where each byte has one, else in hexadecimal.
+/// Puts a byte string at the end, in quotes: in characters where each byte has one, else in
+/// hexadecimal.
 pub fn push_text(out: &mut Vec<u8>, bytes: &[u8]) -> Result<(), NoMemory>
     ensures { OnOk result (out.new.items ≡ out.old.items ++ text_of bytes.now) }
 {

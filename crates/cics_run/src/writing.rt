@@ -28,7 +28,8 @@ impl From<NoMemory> for Stop {
 // Writes all the bytes. A write of no byte is a fault, and nothing is tried again.
 fn write_all<W: Write>(writer: &mut W, bytes: &[u8]) -> Result<(), Stop>
     ensures ok { OnOk result (Appends (W.contents writer.old) (W.contents writer.new) bytes.now) }
-    ensures err { OnErr result (AppendsFront (W.contents writer.old) (W.contents writer.new) bytes.now) }
+    ensures err { OnErr result
+        (AppendsFront (W.contents writer.old) (W.contents writer.new) bytes.now) }
 {
     let mut at = 0;
     while at < bytes.len() {
@@ -43,7 +44,8 @@ fn write_all<W: Write>(writer: &mut W, bytes: &[u8]) -> Result<(), Stop>
 
 /// Writes what is pending.
 pub fn write_pending<W: Write>(pending: &mut Vec<u8>, writer: &mut W) -> Result<(), Stop>
-    ensures ok { OnOk result (Appends (W.contents writer.old) (W.contents writer.new) pending.old.items) }
+    ensures ok { OnOk result
+        (Appends (W.contents writer.old) (W.contents writer.new) pending.old.items) }
     ensures err { OnErr result
         (AppendsFront (W.contents writer.old) (W.contents writer.new) pending.old.items) }
     ensures left { OnOk result (pending.new.items ≡ []) }

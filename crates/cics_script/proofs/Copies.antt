@@ -1,7 +1,6 @@
 -- Literals, one byte further.
 use Rattle.std.proofs.Common.{◌≡◌, ℕ, true, false, List, [], ◌∷◌, ◌++◌, take, drop, refl, ap, sym, ◌∙◌, Some, None, append_assoc, append-nil, inl, inr}
 use Rattle.std.proofs.lemmas.Bool.{cases_Bool}
-use Rattle.std.proofs.lemmas.List.{map-append}
 use Rattle.std.proofs.Math.Numerals.{one-add}
 use Rattle.std.specs.List.{prefix_len}
 use Rattle.std.specs.Prelude.{option_map, is_some}
@@ -11,7 +10,7 @@ use Rattle.cics_script.specs.declared.literals.Encoding.TheVariants.{AsWritten, 
 use Rattle.cics_script.specs.declared.literals.Notation.{Notation}
 use Rattle.cics_script.specs.declared.literals.Notation.TheVariants.{Quoted, Hexadecimal}
 use Rattle.cics_script.specs.Tokens.{Text, with_byte, characters_from, is_quote}
-use Rattle.cics_script.specs.Literals.{said, encoded, encoded_text, recorded, ebcdic, is_plain}
+use Rattle.cics_script.specs.Literals.{said, encoded, encoded_text, recorded, is_plain}
 
 -- bytes in front of a text
 abbrev pub with_front : List ℕ → Text → Text
@@ -85,10 +84,6 @@ with_front-cons : (c : ℕ) (front : List ℕ) (t : Text) → with_front (c ∷ 
 with_front-cons c front None = refl
 with_front-cons c front (Some t) = refl
 
-with_front-append : (a b : List ℕ) (t : Text) → with_front (a ++ b) t ≡ with_front a (with_front b t)
-with_front-append a b None = refl
-with_front-append a b (Some t) = ap (λ x. Some (x, t.1)) (append_assoc a b t.0)
-
 pub characters-plain : (bytes : List ℕ) → characters_from false bytes ≡ with_front (take (prefix_len is_plain bytes) bytes) (characters_from false (drop (prefix_len is_plain bytes) bytes))
 characters-plain [] = refl
 characters-plain (c ∷ bytes) =
@@ -100,20 +95,6 @@ characters-plain (c ∷ bytes) =
             | inr none ↦ rw (none, other, none) refl
           ])
     ]
-
--- a text with characters that stand for themselves in front is copied with them
-coded-with_front : (encoding : Encoding) (front : List ℕ) (t : Text) → coded encoding (with_front front t) ≡ with_front (encoded_text encoding front) (coded encoding t)
-coded-with_front encoding front None = refl
-coded-with_front AsWritten front (Some t) = refl
-coded-with_front Ebcdic front (Some t) = ap (λ x. Some (x, t.1)) (map-append ebcdic front t.0)
-
-pub copied-plain : (encoding : Encoding) (front plain : List ℕ) (whole here behind : Text)
-    → with_front front (coded encoding here) ≡ whole → here ≡ with_front plain behind
-    → with_front (front ++ encoded_text encoding plain) (coded encoding behind) ≡ whole
-copied-plain encoding front plain whole here behind so_far step =
-    with_front-append front (encoded_text encoding plain) (coded encoding behind)
-    ∙ ap (with_front front) (sym (coded-with_front encoding plain behind) ∙ ap (coded encoding) (sym step))
-    ∙ so_far
 
 -- what follows a literal, behind characters that stand for themselves
 rest-with_front : (front : List ℕ) (t : Text) → option_map (λ t. t.1) (with_front front t) ≡ option_map (λ t. t.1) t

@@ -3,6 +3,7 @@ pub mod Copies
 pub mod Digits
 pub mod TokenSteps
 pub mod OptionSteps
+pub mod OptionRoom
 pub mod Rows
 pub mod QueueRows
 pub mod Orders

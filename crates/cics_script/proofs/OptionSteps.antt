@@ -64,7 +64,7 @@ first-word bytes result next w takes is word_is =
     (here.0 ∙ ap (λ t. view t ∷ tokens next.1.now) word_is, here.1)
 
 -- one option more
-entries-more : (found : List Found) (one : Found) → entries (found ++ one ∷ []) ≡ entries found ++ (one.option, content one.value) ∷ []
+pub entries-more : (found : List Found) (one : Found) → entries (found ++ one ∷ []) ≡ entries found ++ (one.option, content one.value) ∷ []
 entries-more found one = map-append (λ f. (f.option, content f.value)) found (one ∷ [])
 
 -- what is still to be read from the place behind an option that was read

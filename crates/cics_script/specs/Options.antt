@@ -40,6 +40,12 @@ abbrev pub fault_of : Kind → LineFault
 fault_of Number = BadNumber
 fault_of kind = BadLiteral
 
+-- what a quoted literal says; no other token writes a name
+abbrev pub quoted : Token → Result (List ℕ) LineFault
+quoted (broken fault) = Err fault
+quoted (literal Quoted t) = Ok t
+quoted token = Err BadLiteral
+
 -- the name that a text is, or a bad literal
 abbrev pub lawful : Result (List ℕ) NameFault → Result (List ℕ) LineFault
 lawful (Ok bytes) = Ok bytes
@@ -49,8 +55,8 @@ lawful (Err fault) = Err BadLiteral
 abbrev pub content_in : Kind → Token → Result Content LineFault
 content_in kind (broken fault) = Err fault
 content_in Text (literal notation t) = Ok (text (recorded notation t))
-content_in Name8 (literal Quoted t) = lawful (name_of 8 t) >>= λ bytes. Ok (name8 bytes)
-content_in Name4 (literal Quoted t) = lawful (name_of 4 t) >>= λ bytes. Ok (name4 bytes)
+content_in Name8 token = quoted token >>= λ t. lawful (name_of 8 t) >>= λ bytes. Ok (name8 bytes)
+content_in Name4 token = quoted token >>= λ t. lawful (name_of 4 t) >>= λ bytes. Ok (name4 bytes)
 content_in Number (number n) = Ok (amount n)
 content_in Area (literal notation t) = Ok nothing
 content_in Area (number n) = Ok (amount n)

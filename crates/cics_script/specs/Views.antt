@@ -1,8 +1,10 @@
 -- What a reading of the program says in the words of the grammar.
 use Rattle.std.specs.Prelude.{◌≡◌, ◌<◌, ◌≤◌, ℕ, List, [], ◌∷◌, ◌++◌, map, length, Option, None, Some, Result, Ok, Err}
 use Rattle.std.specs.Borrow.{Bor}
-use Rattle.std.specs.declared.vec.Vec.{Vec}
+use Rattle.std.specs.Cow.{cow_slice_items}
 use Rattle.std.specs.declared.alloc.Global.{Global}
+use Rattle.std.specs.declared.borrow.CowSlice.{CowSlice}
+use Rattle.arrayvec.specs.ArrayVec.{ArrayVec}
 use Rattle.cics_script.specs.declared.faults.LineFault.{LineFault}
 use Rattle.cics_script.specs.declared.tokens.Token as made
 use Rattle.cics_script.specs.declared.tokens.Token.TheVariants as token
@@ -11,11 +13,12 @@ use Rattle.cics_script.specs.declared.options.Value.TheVariants as value
 use Rattle.cics_script.specs.declared.options.Found.{Found}
 use Rattle.cics_script.specs.declared.options.Next.{Next}
 use Rattle.cics_script.specs.declared.words.Form.{Form}
+use Rattle.cics_script.specs.declared.words.OptionWord.{OptionWord}
 use Rattle.cics_script.specs.declared.words.Kind.{Kind}
 use Rattle.cics_script.specs.Faults.{Refuses}
 use Rattle.cics_script.specs.Literals.{said, recorded}
 use Rattle.cics_script.specs.Tokens.{Token, word, number, literal, opening, closing, broken, capital, text_in, tokens}
-use Rattle.cics_script.specs.Options.{Content, text, name8, name4, amount, nothing, Entry, Place, at_option, at_end, behind_option, reads}
+use Rattle.cics_script.specs.Options.{Content, text, name8, name4, amount, nothing, Entry, Place, at_option, at_opening, at_value, at_closing, at_end, behind_option, reads}
 
 -- a token that lies in its line
 abbrev pub view : made.Token → Token
@@ -63,6 +66,11 @@ content value.Nothing = nothing
 abbrev pub entries : List Found → List Entry
 entries found = map (λ one. (one.option, content one.value)) found
 
+-- what reading a text gave
+abbrev pub GivesText : Result (List ℕ) LineFault → Result (CowSlice ℕ Global) LineFault → Type 0
+GivesText read (Ok made) = read ≡ Ok (cow_slice_items made)
+GivesText read (Err fault) = Refuses read fault
+
 -- what reading a value gave
 abbrev pub GivesContent : Result Content LineFault → Result Value LineFault → Type 0
 GivesContent read (Ok value) = read ≡ Ok (content value)
@@ -73,6 +81,26 @@ abbrev pub Steps : {X : Type 0} → Form → List Entry → Place → List ℕ �
 Steps form found place bytes after (Ok x) =
     (reads form place found (tokens bytes) ≡ reads form (after x).0 (after x).1 (tokens (after x).2)) × (length (after x).2 < length bytes)
 Steps form found place bytes after (Err fault) = Refuses (reads form place found (tokens bytes)) fault
+
+-- what reading an opening parenthesis gave, whichever option it belongs to
+abbrev pub Opens : Kind → List ℕ → Result (Bor (List ℕ)) LineFault → Type 0
+Opens kind bytes result = (f : Form) (found : List Entry) (w : OptionWord)
+    → Steps f found (at_opening w kind) bytes (λ rest. (at_value w kind, found, rest.now)) result
+
+-- what reading the content of parentheses gave
+abbrev pub Fills : Kind → List ℕ → Result (Value × Bor (List ℕ)) LineFault → Type 0
+Fills kind bytes result = (f : Form) (found : List Entry) (w : OptionWord)
+    → Steps f found (at_value w kind) bytes (λ x. (at_closing w kind (content x.0), found, x.1.now)) result
+
+-- what reading a closing parenthesis gave, behind whatever content
+abbrev pub Shuts : Kind → List ℕ → Result (Bor (List ℕ)) LineFault → Type 0
+Shuts kind bytes result = (f : Form) (found : List Entry) (w : OptionWord) (c : Content)
+    → Steps f found (at_closing w kind c) bytes (λ rest. (at_option (Some kind), found ++ (w, c) ∷ [], rest.now)) result
+
+-- what reading a value with its parentheses gave
+abbrev pub HasValue : Kind → List ℕ → Result (Value × Bor (List ℕ)) LineFault → Type 0
+HasValue kind bytes result = (f : Form) (found : List Entry) (w : OptionWord)
+    → Steps f found (at_opening w kind) bytes (λ x. (at_option (Some kind), found ++ (w, content x.0) ∷ [], x.1.now)) result
 
 -- what reading an option behind its word gave
 abbrev pub Enters : Form → Option Kind → List Entry → List ℕ → List ℕ → Result Next LineFault → Type 0
@@ -87,6 +115,6 @@ Ends bytes (Ok end) = (form : Form) (found : List Entry) → reads form at_end f
 Ends bytes (Err fault) = (form : Form) (found : List Entry) → Refuses (reads form at_end found (tokens bytes)) fault
 
 -- what reading all options gave
-abbrev pub GivesEntries : Result (List Entry) LineFault → Result (Vec Found Global) LineFault → Type 0
+abbrev pub GivesEntries : Result (List Entry) LineFault → Result (ArrayVec Found) LineFault → Type 0
 GivesEntries read (Ok found) = read ≡ Ok (entries found.items)
 GivesEntries read (Err fault) = Refuses read fault

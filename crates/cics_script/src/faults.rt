@@ -3,9 +3,9 @@
 ghost use Rattle.std.specs.Prelude.{◌≡◌};
 ghost use Rattle.cics_script.specs.Faults.{number_of, title_of};
 
-/// Why a line can't be read: what is wrong with the first token that can't stand where it stands, unless it is one of
-/// the whole line (`TooLong`, `NotAscii`, `MissingOption`, `DefineTooLate`) or `NoMemory`. But for
-/// `NoMemory` a journal prints its number and its name.
+/// Why a line can't be read: what is wrong with the first token that can't stand where it stands,
+/// unless it is one of the whole line (`TooLong`, `NotAscii`, `MissingOption`, `DefineTooLate`) or
+/// `NoMemory`. But for `NoMemory` a journal prints its number and its name.
 #[derive(Clone, Copy, Debug, PartialEq, Eq)]
 pub enum LineFault {
     /// The line has more than 70,000 bytes.
@@ -14,10 +14,11 @@ pub enum LineFault {
     NotAscii,
     /// No word, or none that can stand here, or a token that no line has.
     UnknownWord,
-    /// A literal or a name that is wrong or missing, or a parenthesis of an option that takes no number.
+    /// A literal or a name that is wrong or missing, or a parenthesis of an option that takes no
+    /// number.
     BadLiteral,
-    /// A number that is wrong or missing, or above 18,446,744,073,709,551,615, or a parenthesis of an option
-    /// that takes one.
+    /// A number that is wrong or missing, or above 18,446,744,073,709,551,615, or a parenthesis of
+    /// an option that takes one.
     BadNumber,
     /// The line ends, and an option that it needs was not there.
     MissingOption,

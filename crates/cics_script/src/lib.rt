@@ -1,8 +1,8 @@
 //! The reader of a script's lines.
 //!
-//! `read_line` makes of the bytes of one line the `Line` that they say, or the `LineFault` of the first
-//! token at which the line can't be read on. The grammar is a table of words (`words`): which word begins
-//! which line, and which options a line or a command takes.
+//! `read_line` makes of the bytes of one line the `Line` that they say, or the `LineFault` of the
+//! first token at which the line can't be read on. The grammar is a table of words (`words`): which
+//! word begins which line, and which options a line or a command takes.
 #![tactic(auto)]
 
 mod commands;

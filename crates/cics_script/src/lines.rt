@@ -1,6 +1,6 @@
 //! The lines of a script.
 
-ghost use Rattle.std.specs.Prelude.{◌≡◌, ◌≤◌, ◌||◌, Ok, IsTrue, length, map, option_map, take};
+ghost use Rattle.std.specs.Prelude.{◌≡◌, ◌≤◌, ◌||◌, Ok, length, map, take};
 ghost use Rattle.std.specs.List.{list_all};
 ghost use Rattle.cics_script.specs.Faults.{Reads};
 ghost use Rattle.cics_script.specs.Tokens.{capital, tokens, after_blanks, is_capital, is_digit};
@@ -425,7 +425,8 @@ fn is_in_script(byte: u8) -> bool
 fn are_in_script(bytes: &[u8]) -> bool
     ensures { result ≡ list_all is_script_byte bytes.now }
 {
-    // Each byte is tested, also behind one that is none: without an early end many are tested at once.
+    // Each byte is tested, also behind one that is none: without an early end many are tested at
+    // once.
     let mut all = true;
     for byte in bytes {
         all &= is_in_script(*byte);
@@ -442,13 +443,12 @@ fn is_blank_line(bytes: &[u8]) -> bool
     }
 }
 
-/// What one line of a script says. `bytes` is the line without its LF, and without the CR right before
-/// that. `alloc` gives the memory of the records in the line; `NoMemory` is answered only where it was
-/// refused, and every other answer depends on the bytes alone. Of a line that can't be read the answer is
-/// the one that its first wrong token has, and `MissingOption` where it is read to its end
-/// and lacks an option;
-/// a line of more than 70,000 bytes is `TooLong`, and then one with a byte that is neither a tab nor
-/// printable ASCII is `NotAscii`, before all others.
+/// What one line of a script says. `bytes` is the line without its LF, and without the CR right
+/// before that. `alloc` gives the memory of the records in the line; `NoMemory` is answered only
+/// where it was refused, and every other answer depends on the bytes alone. Of a line that can't be
+/// read the answer is the one that its first wrong token has, and `MissingOption` where it is read
+/// to its end and lacks an option; a line of more than 70,000 bytes is `TooLong`, and then one with
+/// a byte that is neither a tab nor printable ASCII is `NotAscii`, before all others.
 pub fn read_line(alloc: Global, bytes: &[u8]) -> Result<Line, LineFault>
     ensures { Reads (line bytes.now) result }
 {

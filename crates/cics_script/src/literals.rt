@@ -53,8 +53,8 @@ pub fn is_quote_byte(byte: u8) -> bool
     byte == QUOTE
 }
 
-// The value of each hexadecimal digit, capital or small, and 16 for a byte that is none. A table, as the ranges of digits
-// and letters would be a branch each that nobody foresees.
+// The value of each hexadecimal digit, capital or small, and 16 for a byte that is none. A table,
+// as the ranges of digits and letters would be a branch each that nobody foresees.
 static DIGITS: [u8; 256] = [
     16, 16, 16, 16, 16, 16, 16, 16, 16, 16, 16, 16, 16, 16, 16, 16, 16, 16, 16, 16, 16, 16, 16, 16,
     16, 16, 16, 16, 16, 16, 16, 16, 16, 16, 16, 16, 16, 16, 16, 16, 16, 16, 16, 16, 16, 16, 16, 16,
@@ -112,6 +112,16 @@ fn next_pair(bytes: &[u8]) -> Piece<'_>
     }
 }
 
+// The next piece of a literal of either notation.
+fn next_piece(notation: Notation, bytes: &[u8]) -> Piece<'_>
+    ensures { Begins (text_in notation) bytes.now result }
+{
+    match notation {
+        Notation::Quoted => next_character(bytes),
+        Notation::Hexadecimal => next_pair(bytes),
+    }
+}
+
 // Whether a character stands for itself: it has a code, and is no quote.
 fn is_plain_byte(byte: u8) -> bool
     ensures { result ≡ is_plain byte }
@@ -163,15 +173,14 @@ fn copy_plain(alloc: Global, encoding: Encoding, plain: &[u8]) -> Result<Vec<u8>
     Ok(text)
 }
 
-// What follows a quoted literal, from behind its first quote.
-fn behind_characters(bytes: &[u8]) -> Option<&[u8]>
+// What follows a literal, from behind its first quote.
+fn behind_pieces(notation: Notation, bytes: &[u8]) -> Option<&[u8]>
     ensures { option_map (λ rest. rest.now) result
-        ≡ option_map (λ t. t.1) (text_in Notation.Quoted bytes.now) }
+        ≡ option_map (λ t. t.1) (text_in notation bytes.now) }
 {
     let mut rest = bytes;
     'pieces: loop {
-        let (_, behind) = rest.split_at(plain_len(rest));
-        match next_character(behind) {
+        match next_piece(notation, rest) {
             Piece::Byte(_, after) => rest = after,
             Piece::End(after) => return Some(after),
             Piece::Bad => return None,
@@ -179,51 +188,20 @@ fn behind_characters(bytes: &[u8]) -> Option<&[u8]>
     }
 }
 
-// What follows a hexadecimal literal, from behind its first quote.
-fn behind_pairs(bytes: &[u8]) -> Option<&[u8]>
-    ensures { option_map (λ rest. rest.now) result
-        ≡ option_map (λ t. t.1) (text_in Notation.Hexadecimal bytes.now) }
-{
-    let mut rest = bytes;
-    'pieces: loop {
-        match next_pair(rest) {
-            Piece::Byte(_, after) => rest = after,
-            Piece::End(after) => return Some(after),
-            Piece::Bad => return None,
-        }
-    }
-}
-
-// What a quoted literal says, from behind its first quote.
-fn copy_characters(alloc: Global, encoding: Encoding, bytes: &[u8]) -> Result<Vec<u8>, AllocError>
+// What a literal says, from behind its first quote.
+fn copy_pieces(
+    alloc: Global,
+    encoding: Encoding,
+    notation: Notation,
+    bytes: &[u8],
+) -> Result<Vec<u8>, AllocError>
     ensures { IfOk result (λ text. text.items
-        ≡ encoded_text encoding (said (text_in Notation.Quoted bytes.now))) }
+        ≡ encoded_text encoding (said (text_in notation bytes.now))) }
 {
     let mut text = Vec::new(alloc);
     let mut rest = bytes;
     'pieces: loop {
-        let (plain, behind) = rest.split_at(plain_len(rest));
-        push_plain(&mut text, encoding, plain)?;
-        match next_character(behind) {
-            Piece::Byte(byte, after) => {
-                text.push(encoded_byte(encoding, byte))?;
-                rest = after;
-            }
-            Piece::End(_) => return Ok(text),
-            Piece::Bad => return Ok(Vec::new(alloc)),
-        }
-    }
-}
-
-// What a hexadecimal literal says, from behind its first quote.
-fn copy_pairs(alloc: Global, encoding: Encoding, bytes: &[u8]) -> Result<Vec<u8>, AllocError>
-    ensures { IfOk result (λ text. text.items
-        ≡ encoded_text encoding (said (text_in Notation.Hexadecimal bytes.now))) }
-{
-    let mut text = Vec::new(alloc);
-    let mut rest = bytes;
-    'pieces: loop {
-        match next_pair(rest) {
+        match next_piece(notation, rest) {
             Piece::Byte(byte, after) => {
                 text.push(encoded_byte(encoding, byte))?;
                 rest = after;
@@ -255,7 +233,7 @@ fn quoted_at(behind_quote: &[u8]) -> Option<(Literal<'_>, &[u8])>
                 rest,
             ))
         }
-        Piece::Byte(_, after) => match behind_characters(after) {
+        Piece::Byte(_, after) => match behind_pieces(notation, after) {
             Some(rest) => Some((
                 Literal {
                     notation,
@@ -277,10 +255,11 @@ fn hexadecimal_at(behind_quote: &[u8]) -> Option<(Literal<'_>, &[u8])>
     ensures literal { IfSome result (λ found. (found.0.notation ≡ Notation.Hexadecimal)
         × (found.0.behind_quote.now ≡ behind_quote.now)) }
 {
-    match behind_pairs(behind_quote) {
+    let notation = Notation::Hexadecimal;
+    match behind_pieces(notation, behind_quote) {
         Some(rest) => Some((
             Literal {
-                notation: Notation::Hexadecimal,
+                notation,
                 behind_quote,
                 plain: None,
             },
@@ -290,7 +269,8 @@ fn hexadecimal_at(behind_quote: &[u8]) -> Option<(Literal<'_>, &[u8])>
     }
 }
 
-/// The literal behind a first quote, and the line behind it, or nothing where the bytes are no literal.
+/// The literal behind a first quote, and the line behind it, or nothing where the bytes are no
+/// literal.
 pub fn literal_at(notation: Notation, behind_quote: &[u8]) -> Option<(Literal<'_>, &[u8])>
     ensures rest { option_map (λ found. found.1.now) result
         ≡ option_map (λ t. t.1) (text_in notation behind_quote.now) }
@@ -304,7 +284,8 @@ pub fn literal_at(notation: Notation, behind_quote: &[u8]) -> Option<(Literal<'_
 }
 
 impl<'a> Literal<'a> {
-    /// What stands between the quotes, where the literal is quoted and has no doubled quote; else `None`.
+    /// What stands between the quotes, where the literal is quoted and has no doubled quote; else
+    /// `None`.
     pub fn plain(self) -> Option<&'a [u8]>
         ensures { IfSome result (λ text.
             IsWrittenAs self.entry.notation self.entry.behind_quote.now text.now) }
@@ -318,12 +299,9 @@ impl<'a> Literal<'a> {
             ≡ encoded_text encoding
             (said (text_in self.entry.notation self.entry.behind_quote.now))) }
     {
-        match self.notation {
-            Notation::Quoted => match self.plain {
-                Some(text) => copy_plain(alloc, encoding, text),
-                None => copy_characters(alloc, encoding, self.behind_quote),
-            },
-            Notation::Hexadecimal => copy_pairs(alloc, encoding, self.behind_quote),
+        match self.plain {
+            Some(text) => copy_plain(alloc, encoding, text),
+            None => copy_pieces(alloc, encoding, self.notation, self.behind_quote),
         }
     }
 

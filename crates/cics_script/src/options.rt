@@ -1,21 +1,29 @@
 //! Reads the options of a line.
 
-ghost use Rattle.std.specs.Prelude.{◌≡◌, ◌++◌, ◌∷◌, [], ◌<◌, List, Option, Some, None, length};
+ghost use Rattle.std.specs.Prelude.{◌≡◌, Option, Ok, IfOk, map};
 ghost use Rattle.std.specs.List.{list_any};
 ghost use Rattle.cics_script.specs.Words.{same, excludes, kind_in};
 ghost use Rattle.cics_script.specs.Tokens.{tokens, capital};
-ghost use Rattle.cics_script.specs.Options.{Content, Entry, fault_of, content_in, surplus, allowed};
-ghost use Rattle.cics_script.specs.Options.{at_option, at_opening, at_value, at_closing, options};
-ghost use Rattle.cics_script.specs.Views.{view, content, entries, GivesContent, Steps, Enters};
-ghost use Rattle.cics_script.specs.Views.{Ends, GivesEntries};
-ghost use Rattle.std.specs.Prelude.{map};
+ghost use Rattle.cics_script.specs.Options.{fault_of, quoted, content_in, surplus, allowed};
+ghost use Rattle.cics_script.specs.Options.{options};
+ghost use Rattle.cics_script.specs.Views.{view, entries, GivesText, GivesContent, GivesEntries};
+ghost use Rattle.cics_script.specs.Views.{Opens, Fills, Shuts, HasValue, Enters, Ends};
 
 use crate::faults::LineFault;
 use crate::literals::{Encoding, Literal, Notation};
 use crate::tokens::{Token, next_token};
 use crate::words::{Form, Kind, OptionWord, is_excluded, is_same, kind_of, option_named};
+use arrayvec::ArrayVec;
 use cics_names::{Name4, Name8};
 use std::alloc::Global;
+use std::borrow::CowSlice;
+
+// No line has more options, as each stands once: READ has nine rows of its own, more than any other, and every command
+// four.
+const MOST: usize = 13;
+
+/// The options of a line.
+pub type Options<'a> = ArrayVec<Found<'a>, MOST>;
 
 /// What stood in an option's parentheses.
 #[derive(Clone, Copy, Debug)]
@@ -33,6 +41,16 @@ pub enum Value<'a> {
 pub struct Found<'a> {
     pub option: OptionWord,
     pub value: Value<'a>,
+}
+
+// What lies in the places of `Options` that have no option yet.
+impl Default for Found<'_> {
+    fn default() -> Self {
+        Found {
+            option: OptionWord::EndExec,
+            value: Value::Nothing,
+        }
+    }
 }
 
 /// An option that was read, and the line behind it.
@@ -63,45 +81,43 @@ fn surplus_fault(last: Option<Kind>) -> LineFault
     }
 }
 
-fn name8_of(alloc: Global, literal: Literal<'_>) -> Result<Value<'_>, LineFault>
-    ensures { GivesContent (content_in Kind.Name8 (view (Token.Literal literal.entry))) result }
+// What a quoted literal says: a copy only where a quote is doubled in it.
+fn quoted_text(alloc: Global, literal: Literal<'_>) -> Result<CowSlice<'_, u8, Global>, LineFault>
+    ensures { GivesText (quoted (view (Token.Literal literal.entry))) result }
 {
     let Notation::Quoted = literal.notation else {
         return Err(LineFault::BadLiteral);
     };
     if let Some(text) = literal.plain() {
-        return match Name8::new(text) {
-            Ok(name) => Ok(Value::Name8(name)),
-            Err(_) => Err(LineFault::BadLiteral),
-        };
+        return Ok(CowSlice::Borrowed(text));
     }
     match literal.copy(alloc, Encoding::AsWritten) {
+        Ok(text) => Ok(CowSlice::Owned(text)),
+        Err(_) => Err(LineFault::NoMemory),
+    }
+}
+
+fn name8_of(alloc: Global, literal: Literal<'_>) -> Result<Value<'_>, LineFault>
+    ensures { GivesContent (content_in Kind.Name8 (view (Token.Literal literal.entry))) result }
+{
+    match quoted_text(alloc, literal) {
         Ok(text) => match Name8::new(&text) {
             Ok(name) => Ok(Value::Name8(name)),
             Err(_) => Err(LineFault::BadLiteral),
         },
-        Err(_) => Err(LineFault::NoMemory),
+        Err(fault) => Err(fault),
     }
 }
 
 fn name4_of(alloc: Global, literal: Literal<'_>) -> Result<Value<'_>, LineFault>
     ensures { GivesContent (content_in Kind.Name4 (view (Token.Literal literal.entry))) result }
 {
-    let Notation::Quoted = literal.notation else {
-        return Err(LineFault::BadLiteral);
-    };
-    if let Some(text) = literal.plain() {
-        return match Name4::new(text) {
-            Ok(name) => Ok(Value::Name4(name)),
-            Err(_) => Err(LineFault::BadLiteral),
-        };
-    }
-    match literal.copy(alloc, Encoding::AsWritten) {
+    match quoted_text(alloc, literal) {
         Ok(text) => match Name4::new(&text) {
             Ok(name) => Ok(Value::Name4(name)),
             Err(_) => Err(LineFault::BadLiteral),
         },
-        Err(_) => Err(LineFault::NoMemory),
+        Err(fault) => Err(fault),
     }
 }
 
@@ -121,8 +137,7 @@ fn value_of<'a>(alloc: Global, kind: Kind, token: Token<'a>) -> Result<Value<'a>
 
 // The line behind an opening parenthesis.
 fn read_opening(kind: Kind, bytes: &[u8]) -> Result<&[u8], LineFault>
-    ensures { (f : Form) (found : List Entry) (w : OptionWord)
-        → Steps f found (at_opening w kind) bytes.now (λ rest. (at_value w kind, found, rest.now)) result }
+    ensures { Opens kind bytes.now result }
 {
     match next_token(bytes) {
         Ok(Some((Token::Opening, rest))) => Ok(rest),
@@ -133,8 +148,7 @@ fn read_opening(kind: Kind, bytes: &[u8]) -> Result<&[u8], LineFault>
 
 // An option's value, and the line behind it.
 fn read_content(alloc: Global, kind: Kind, bytes: &[u8]) -> Result<(Value<'_>, &[u8]), LineFault>
-    ensures { (f : Form) (found : List Entry) (w : OptionWord)
-        → Steps f found (at_value w kind) bytes.now (λ x. (at_closing w kind (content x.0), found, x.1.now)) result }
+    ensures { Fills kind bytes.now result }
 {
     match next_token(bytes) {
         Ok(Some((token, rest))) => match value_of(alloc, kind, token) {
@@ -148,8 +162,7 @@ fn read_content(alloc: Global, kind: Kind, bytes: &[u8]) -> Result<(Value<'_>, &
 
 // The line behind a closing parenthesis.
 fn read_closing(kind: Kind, bytes: &[u8]) -> Result<&[u8], LineFault>
-    ensures { (f : Form) (found : List Entry) (w : OptionWord) (c : Content)
-        → Steps f found (at_closing w kind c) bytes.now (λ rest. (at_option (Some kind), found ++ (w, c) ∷ [], rest.now)) result }
+    ensures { Shuts kind bytes.now result }
 {
     match next_token(bytes) {
         Ok(Some((Token::Closing, rest))) => Ok(rest),
@@ -160,8 +173,7 @@ fn read_closing(kind: Kind, bytes: &[u8]) -> Result<&[u8], LineFault>
 
 // An option's value with its parentheses, and the line behind them.
 fn read_value(alloc: Global, kind: Kind, bytes: &[u8]) -> Result<(Value<'_>, &[u8]), LineFault>
-    ensures { (f : Form) (found : List Entry) (w : OptionWord)
-        → Steps f found (at_opening w kind) bytes.now (λ x. (at_option (Some kind), found ++ (w, content x.0) ∷ [], x.1.now)) result }
+    ensures { HasValue kind bytes.now result }
 {
     let inside = match read_opening(kind, bytes) {
         Ok(inside) => inside,
@@ -224,7 +236,10 @@ fn read_option<'a>(
     word: &[u8],
     bytes: &'a [u8],
 ) -> Result<Next<'a>, LineFault>
-    ensures { (last : Option Kind) →
+    ensures allowed { IfOk result (λ next.
+        allowed (entries found.now) next.one.option (kind_in form next.one.option)
+        ≡ Ok next.kind) }
+    ensures reading { (last : Option Kind) →
         Enters form last (entries found.now) (map capital word.now) bytes.entry.now result }
 {
     let Some(option) = option_named(word) else {
@@ -266,10 +281,10 @@ fn read_end(bytes: &[u8]) -> Result<(), LineFault>
 }
 
 /// The options of a line behind its fixed part.
-pub fn read_options(alloc: Global, form: Form, bytes: &[u8]) -> Result<Vec<Found<'_>>, LineFault>
+pub fn read_options(alloc: Global, form: Form, bytes: &[u8]) -> Result<Options<'_>, LineFault>
     ensures { GivesEntries (options form (tokens bytes.now)) result }
 {
-    let mut found = Vec::new(alloc);
+    let mut found = ArrayVec::new();
     let mut last = None;
     let mut rest = bytes;
     'options: loop {
@@ -285,10 +300,7 @@ pub fn read_options(alloc: Global, form: Form, bytes: &[u8]) -> Result<Vec<Found
         };
         match read_option(alloc, form, &found, word, behind) {
             Ok(next) => {
-                match found.push(next.one) {
-                    Ok(()) => {}
-                    Err(_) => return Err(LineFault::NoMemory),
-                }
+                found.push(next.one);
                 match next.kind {
                     Kind::Last => match read_end(next.rest) {
                         Ok(()) => return Ok(found),

@@ -20,9 +20,9 @@ use cics_names::Command;
 /// does without is not, and RESP or NOHANDLE is there where its conditions are handled. The options
 /// that are read without effect may stand among them or not. That holds of the tokens (`read`), and
 /// of the bytes of a whole line in which each token is written with a blank behind it (`bytes`).
-/// Each command has such options, if those that it needs go together and can be written (`each`), and is
-/// read back from the bytes of the line that it is written out as, if they are no more than a line may
-/// have (`back`).
+/// Each command has such options, if those that it needs go together and can be written (`each`),
+/// and is read back from the bytes of the line that it is written out as, if they are no more than
+/// a line may have (`back`).
 pub fn commands_in_any_order()
     ensures read { (label : List ℕ) (command : Command)
         (first : CommandWord) (left_out : Bool) (written : List Written) (entries : List Entry)

@@ -14,7 +14,8 @@ use std::alloc::Global;
 
 // What stands in an option's parentheses.
 fn value_at<'a, 'l>(found: &'a [Found<'l>], option: OptionWord) -> Option<&'a Value<'l>>
-    ensures { option_map (λ value. content value.now) result ≡ content_at option (entries found.now) }
+    ensures { option_map (λ value. content value.now) result
+        ≡ content_at option (entries found.now) }
 {
     for one in found {
         if is_same(one.option, option) {

@@ -1,7 +1,6 @@
 //! The words of the grammar: which word begins which line, and what each line and command takes.
 
 ghost use Rattle.std.specs.Prelude.{◌≡◌, ◌||◌, ◌&&◌, Option, Some, None, map};
-ghost use Rattle.std.specs.List.{list_any};
 ghost use Rattle.std.specs.Str.{bytes_eq};
 ghost use Rattle.cics_script.specs.Tokens.{capital};
 ghost use Rattle.cics_script.specs.Words.{lookup, starts, define_objects, load_objects};

@@ -4,13 +4,13 @@ use Rattle.cics_script.specs.Views.{entries}
 use Rattle.cics_script.proofs.OptionSteps.{refuses_behind, reads-opening, reads-further}
 use Rattle.cics_script.proofs.options.read_option.Goals as goal
 
-pub returns-in-Ok-read_value : goal.returns-in-Ok-read_value
-returns-in-Ok-read_value c last =
+pub returns-in-Ok-read_value-clause-reading : goal.returns-in-Ok-read_value-clause-reading
+returns-in-Ok-read_value-clause-reading c last =
     let step = c.in-Ok-read_value.ensures c.args.form (entries c.args.found.now) c.in-Some.option in
     (reads-opening c.args.form last (entries c.args.found.now) (map capital c.args.word.now) c.in-Some.option c.in-Ok.kind _ c.in-Some.ensures c.in-Ok.ensures c.in_default-kind.not-Flag c.in_default-kind.not-Last ∙ step.0 ∙ reads-further c.args.form c.in-Ok.kind _ _ c.in_default-kind.not-Last, omega (arith, step.1))
 
-pub returns-in-Err-read_value : goal.returns-in-Err-read_value
-returns-in-Err-read_value c last =
+pub returns-in-Err-read_value-clause-reading : goal.returns-in-Err-read_value-clause-reading
+returns-in-Err-read_value-clause-reading c last =
     refuses_behind _ _ c.in-Err-read_value.fault
     (reads-opening c.args.form last (entries c.args.found.now) (map capital c.args.word.now) c.in-Some.option c.in-Ok.kind _ c.in-Some.ensures c.in-Ok.ensures c.in_default-kind.not-Flag c.in_default-kind.not-Last)
     (c.in-Err-read_value.ensures c.args.form (entries c.args.found.now) c.in-Some.option)

@@ -1,6 +1,6 @@
 use Rattle.std.proofs.Common.{sym, ◌∙◌, append-nil}
 use Rattle.cics_script.proofs.Copies.{copied-more, copied-all, copied-none}
-use Rattle.cics_script.proofs.literals.copy_pairs.Goals as goal
+use Rattle.cics_script.proofs.literals.copy_pieces.Goals as goal
 
 pub pieces-preserved : goal.pieces-preserved
 pieces-preserved c = rw (c.in_ok-push-in-Byte.ensures.items, c.encoded_byte.ensures) (copied-more _ _ _ _ _ _ c.pieces.invariant c.in-Byte.ensures.0)

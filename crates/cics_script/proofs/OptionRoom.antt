@@ -1,0 +1,134 @@
+-- A line has each of its options once, so it has no more of them than its form has rows: 13 at most.
+use Rattle.std.proofs.Common.{◌≡◌, ◌<◌, ◌≤◌, true, false, List, [], ◌∷◌, ◌++◌, length, refl, ap, sym, ◌∙◌, subst, arith, Option, Some, None, ◌⊎◌, inl, inr}
+use Rattle.std.specs.Prelude.{Ok}
+use Rattle.std.specs.Cmp.{IsEquivalence, nat_eq_equiv, on_equiv}
+use Rattle.std.specs.List.{IsDistinct, list_any}
+use Rattle.std.specs.Map.{keys_of}
+use Rattle.std.proofs.lemmas.Bool.{cases_Bool, or_cases, false≢true}
+use Rattle.std.proofs.lemmas.List.{map-append, length-append}
+use Rattle.std.proofs.lemmas.List.Folds.{list_any-append}
+use Rattle.std.proofs.lemmas.Map.Entries.{length-keys_of}
+use Rattle.std.proofs.lemmas.Map.Keys.{IsDistinct-push}
+use Rattle.std.proofs.lemmas.Map.Made.{length-le_from_is_member}
+use Rattle.std.proofs.lemmas.Map.Steps.{list_any_congr}
+use Rattle.cics_script.specs.declared.words.DefineObject.TheVariants as defined
+use Rattle.cics_script.specs.declared.words.LoadObject.TheVariants as loaded
+use Rattle.cics_script.specs.declared.words.CommandWord.{CommandWord}
+use Rattle.cics_script.specs.declared.words.CommandWord.TheVariants as command
+use Rattle.cics_script.specs.declared.words.Form.{Form}
+use Rattle.cics_script.specs.declared.words.Form.TheVariants as form
+use Rattle.cics_script.specs.declared.words.OptionWord.{OptionWord}
+use Rattle.cics_script.specs.declared.words.Kind.{Kind}
+use Rattle.cics_script.specs.Words.{place, same, excludes, kind_among, kind_in, or_else, options_of_define, options_of_load, options_of_attach, options_of_command, options_of_every_command}
+use Rattle.cics_script.specs.Options.{Content, Entry, allowed}
+
+-- what a line of this form may have
+abbrev pub rows_of : Form → List (OptionWord × Kind)
+rows_of (form.Define object) = options_of_define object
+rows_of (form.Load object) = options_of_load object
+rows_of form.Attach = options_of_attach
+rows_of form.Clock = []
+rows_of form.Shutdown = []
+rows_of (form.Command verb) = options_of_command verb ++ options_of_every_command
+
+-- options that a line of this form may have, each of them once
+pub record AreOnce (f : Form) (found : List Entry) : Type 0 where
+  pub apart : IsDistinct same (keys_of found)
+  pub here : (q : OptionWord) → list_any (same q) (keys_of found) ≡ true → list_any (same q) (keys_of (rows_of f)) ≡ true
+
+laws : IsEquivalence same
+laws = on_equiv place nat_eq_equiv
+
+rows-most-command : (verb : CommandWord) → length (options_of_command verb ++ options_of_every_command) ≤ 13
+rows-most-command command.Read = omega arith
+rows-most-command verb = omega arith
+
+rows-most : (f : Form) → length (rows_of f) ≤ 13
+rows-most (form.Define defined.File) = omega arith
+rows-most (form.Define defined.TsPrefix) = omega arith
+rows-most (form.Define defined.TdQueue) = omega arith
+rows-most (form.Load loaded.File) = omega arith
+rows-most (form.Load loaded.TdQueue) = omega arith
+rows-most form.Attach = omega arith
+rows-most form.Clock = omega arith
+rows-most form.Shutdown = omega arith
+rows-most (form.Command verb) = rows-most-command verb
+
+once-most : (f : Form) (found : List Entry) → AreOnce f found → length found ≤ 13
+once-most f found once =
+    omega (arith, length-keys_of found, length-keys_of (rows_of f), rows-most f, length-le_from_is_member laws (keys_of found) (keys_of (rows_of f)) once.apart once.here)
+
+-- the row that says what an option takes
+kind_among-append : (option : OptionWord) (rows more : List (OptionWord × Kind)) → kind_among option (rows ++ more) ≡ or_else (kind_among option rows) (kind_among option more)
+kind_among-append option [] more = refl
+kind_among-append option (row ∷ rows) more =
+    elim (cases_Bool (same row.0 option)) [ inl here ↦ rw here refl | inr other ↦ rw other (kind_among-append option rows more) ]
+
+among_rows : (option : OptionWord) (rows : List (OptionWord × Kind)) (kind : Kind) → kind_among option rows ≡ Some kind → list_any (same option) (keys_of rows) ≡ true
+among_rows option [] kind is = absurd (cc)
+among_rows option (row ∷ rows) kind is =
+    elim (cases_Bool (same row.0 option)) [
+      | inl here ↦ rw (laws.symm option row.0, here) refl
+      | inr other ↦ rw (laws.symm option row.0, other) (among_rows option rows kind (rw other at is))
+    ]
+
+in_form : (f : Form) (option : OptionWord) (kind : Kind) → kind_in f option ≡ Some kind → list_any (same option) (keys_of (rows_of f)) ≡ true
+in_form (form.Define object) option kind is = among_rows option (options_of_define object) kind is
+in_form (form.Load object) option kind is = among_rows option (options_of_load object) kind is
+in_form form.Attach option kind is = among_rows option options_of_attach kind is
+in_form form.Clock option kind is = absurd (cc)
+in_form form.Shutdown option kind is = absurd (cc)
+in_form (form.Command verb) option kind is =
+    among_rows option (options_of_command verb ++ options_of_every_command) kind (kind_among-append option (options_of_command verb) options_of_every_command ∙ is)
+
+-- an option that may stand is one of the form's, and not yet there
+allowed_parts : (found : List Entry) (option : OptionWord) (k : Option Kind) (kind : Kind) → allowed found option k ≡ Ok kind
+    → (k ≡ Some kind) × (list_any (λ entry. same entry.0 option) found ≡ false)
+allowed_parts found option None kind may = absurd (cc)
+allowed_parts found option (Some k) kind may =
+    elim (cases_Bool (list_any (λ entry. same entry.0 option) found)) [
+      | inl doubled ↦ absurd (let wrong = rw doubled at may in cc)
+      | inr fresh ↦ elim (cases_Bool (list_any (λ entry. excludes entry.0 option) found)) [
+        | inl excluded ↦ absurd (let wrong = rw (fresh, excluded) at may in cc)
+        | inr alone ↦ (let is = rw (fresh, alone) at may in cc, fresh)
+      ]
+    ]
+
+not_there : (found : List Entry) (option : OptionWord) → list_any (same option) (keys_of found) ≡ list_any (λ entry. same entry.0 option) found
+not_there [] option = refl
+not_there (entry ∷ found) option = rw (laws.symm option entry.0, not_there found option) refl
+
+keys-more : (found : List Entry) (option : OptionWord) (content : Content) → keys_of (found ++ (option, content) ∷ []) ≡ keys_of found ++ option ∷ []
+keys-more found option content = map-append (λ entry. entry.0) found ((option, content) ∷ [])
+
+among_more : (q option : OptionWord) (options : List OptionWord) → list_any (same q) (options ++ option ∷ []) ≡ true
+    → (list_any (same q) options ≡ true) ⊎ (same q option ≡ true)
+among_more q option options is =
+    elim (or_cases _ _ (sym (list_any-append (same q) options (option ∷ [])) ∙ is)) [
+      | inl before ↦ inl before
+      | inr last ↦ elim (or_cases _ _ last) [ inl it ↦ inr it | inr none ↦ absurd (false≢true none) ]
+    ]
+
+pub once-none : (f : Form) → AreOnce f []
+unfolding IsDistinct
+once-none f = record { apart = tt; here = λ q is. absurd (false≢true is) }
+
+pub once-more : (f : Form) (found : List Entry) (option : OptionWord) (content : Content) (kind : Kind) → AreOnce f found
+    → allowed found option (kind_in f option) ≡ Ok kind → AreOnce f (found ++ (option, content) ∷ [])
+once-more f found option content kind once may =
+    let parts = allowed_parts found option (kind_in f option) kind may in
+    let keys = keys-more found option content in
+    record {
+      apart = subst (IsDistinct same) (sym keys) (IsDistinct-push laws (keys_of found) option once.apart (not_there found option ∙ parts.1));
+      here = λ q is. elim (among_more q option (keys_of found) (ap (list_any (same q)) (sym keys) ∙ is)) [
+        | inl before ↦ once.here q before
+        | inr it ↦ list_any_congr laws q option (keys_of (rows_of f)) it ∙ in_form f option kind parts.0
+      ];
+    }
+
+-- where an option may stand, there is room for it
+pub once-room : (f : Form) (found : List Entry) (option : OptionWord) (kind : Kind) → AreOnce f found
+    → allowed found option (kind_in f option) ≡ Ok kind → length found < 13
+once-room f found option kind once may =
+    let most = once-most f (found ++ (option, Content.nothing) ∷ []) (once-more f found option Content.nothing kind once may) in
+    omega (arith, length-append found ((option, Content.nothing) ∷ []))
