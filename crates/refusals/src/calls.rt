@@ -1,6 +1,7 @@
 //! Calls on units of work, read from lines as `0 write ACCT 0001aa = NORMAL 0`: the unit, or `-` for a
-//! task without one, the call, what it names, and what is to come of it. Lines that begin with `+` or `#`
-//! are no calls: those define and load, and these are read by people.
+//! task without one, the call, what it names, and what is to come of it. A command behind `hand` is handed
+//! over, and comes back where it has to wait. Lines that begin with `+` or `#` are no calls: those define
+//! and load, and these are read by people.
 
 use crate::texts::cut;
 use cics_enqueue::UnitId;
@@ -15,6 +16,8 @@ pub(crate) const KEY_LENGTH: usize = 4;
 #[derive(Drop)]
 pub(crate) enum Call {
     Execute(Option<UnitId>, Op),
+    /// A command that is handed over.
+    Submit(Option<UnitId>, Op),
     Enqueue(Option<UnitId>, Record),
     ReadTs(Name8, Option<u64>),
     Listing,
@@ -79,8 +82,10 @@ fn on_td(alloc: Global, word: &str, queue: Name4, rest: &[u8]) -> Result<Option<
     })
 }
 
-// The updating command of a word, if it is one, on the file or the queue of a name.
-fn command(alloc: Global, word: &str, name: &str, rest: &str) -> Result<Option<Op>, NoMemory> {
+// The updating command of a text, if it is one: a word, the name of a file or of a queue, and the rest.
+fn command(alloc: Global, text: &str) -> Result<Option<Op>, NoMemory> {
+    let (word, rest) = cut(text);
+    let (name, rest) = cut(rest);
     if word.starts_with("td-") {
         return match Name4::new(name.as_bytes()) {
             Ok(queue) => on_td(alloc, word, queue, rest.as_bytes()),
@@ -119,10 +124,15 @@ fn other_call(alloc: Global, unit: &str, word: &str, rest: &str) -> Result<Optio
 
 // The call of a line; None for a text that is no call.
 fn call_of(alloc: Global, text: &str) -> Result<Option<Call>, NoMemory> {
-    let (unit, rest) = cut(text);
-    let (word, rest) = cut(rest);
-    let (name, behind) = cut(rest);
-    match command(alloc, word, name, behind)? {
+    let (unit, call) = cut(text);
+    let (word, rest) = cut(call);
+    if word == "hand" {
+        return Ok(match command(alloc, rest)? {
+            Some(op) => Some(Call::Submit(unit_of(unit), op)),
+            None => None,
+        });
+    }
+    match command(alloc, call)? {
         Some(op) => Ok(Some(Call::Execute(unit_of(unit), op))),
         None => other_call(alloc, unit, word, rest),
     }

@@ -10,13 +10,14 @@ ghost use Rattle.cics_units.specs.OpenReads.{is_read_key};
 use crate::calls::Call;
 use cics_enqueue::UnitId;
 use cics_names::{Name4, Name8, NoMemory, Record};
-use cics_units::{Answer, Done, Enqueued, Listing, Op, UnitState, Units, plain_replay};
+use cics_units::{Answer, Done, Enqueued, Listing, Op, Submitted, UnitState, Units, plain_replay};
 use std::alloc::Global;
 
 /// What came of a call.
 #[derive(Drop)]
 pub(crate) enum Told {
     Executed(Done),
+    Submitted(Submitted),
     Enqueued(Enqueued),
     Read(Answer),
     Listed(Listing),
@@ -132,6 +133,14 @@ fn execute(units: &mut Units, unit: Option<UnitId>, op: &Op) -> Result<Told, NoM
     Ok(Told::Executed(units.execute(unit, op)?))
 }
 
+// Hands a copy of a command over.
+fn submit(units: &mut Units, unit: Option<UnitId>, op: &Op) -> Result<Told, NoMemory> {
+    if !is_open_or_none(units, unit) || !is_ready(units, unit, op) {
+        return Ok(Told::MayNot);
+    }
+    Ok(Told::Submitted(units.submit(unit, op.copy()?)?))
+}
+
 fn enqueue(units: &mut Units, unit: Option<UnitId>, value: &[u8]) -> Result<Told, NoMemory> {
     if value.len() > 255 || !is_open_or_none(units, unit) {
         return Ok(Told::MayNot);
@@ -171,6 +180,7 @@ fn end(units: &mut Units, unit: UnitId, commits: bool) -> Told {
 pub(crate) fn make(units: &mut Units, alloc: Global, call: &Call) -> Result<Told, NoMemory> {
     match call {
         Call::Execute(unit, op) => execute(units, *unit, op),
+        Call::Submit(unit, op) => submit(units, *unit, op),
         Call::Enqueue(unit, value) => enqueue(units, *unit, value.bytes()),
         Call::ReadTs(queue, item) => Ok(Told::Read(units.read_ts(queue, *item)?)),
         Call::Listing => Ok(Told::Listed(units.listing()?)),

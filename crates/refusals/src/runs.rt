@@ -64,7 +64,8 @@ impl End {
 // What becomes of the requests of a call: one that answers no want of memory may make none.
 fn requests_of(call: &Call) -> Requests {
     match call {
-        Call::Execute(_, _) | Call::Enqueue(_, _) | Call::ReadTs(_, _) => Requests::Counted,
+        Call::Execute(_, _) | Call::Submit(_, _) => Requests::Counted,
+        Call::Enqueue(_, _) | Call::ReadTs(_, _) => Requests::Counted,
         Call::Listing | Call::Replay => Requests::Counted,
         Call::Dequeue(_, _) | Call::Unlock(_, _) => Requests::Forbidden,
         Call::Commit(_) | Call::BackOut(_) => Requests::Forbidden,

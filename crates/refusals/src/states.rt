@@ -19,8 +19,20 @@ fn awaited(units: &Units, asking: Option<UnitId>, call: &Call) -> Option<UnitId>
         return None;
     }
     match call {
-        Call::Execute(_, op) if is_ready(units, acts, op) => units.awaited(asks, op),
+        Call::Execute(_, op) | Call::Submit(_, op) if is_ready(units, acts, op) => {
+            units.awaited(asks, op)
+        }
         Call::Enqueue(_, value) if value.len() <= 255 => units.value_holder(asks, value.bytes()),
+        _ => None,
+    }
+}
+
+// The temporary storage queue that a command changes, if it does.
+fn changed_ts_queue(op: &Op) -> Option<&Name8> {
+    match op {
+        Op::TsWrite { queue, .. } => Some(queue),
+        Op::TsRewrite { queue, .. } => Some(queue),
+        Op::TsDelete { queue } => Some(queue),
         _ => None,
     }
 }
@@ -29,9 +41,7 @@ fn awaited(units: &Units, asking: Option<UnitId>, call: &Call) -> Option<UnitId>
 fn ts_queue(call: &Call) -> Option<&Name8> {
     match call {
         Call::ReadTs(queue, _) => Some(queue),
-        Call::Execute(_, Op::TsWrite { queue, .. }) => Some(queue),
-        Call::Execute(_, Op::TsRewrite { queue, .. }) => Some(queue),
-        Call::Execute(_, Op::TsDelete { queue }) => Some(queue),
+        Call::Execute(_, op) | Call::Submit(_, op) => changed_ts_queue(op),
         _ => None,
     }
 }

@@ -3,7 +3,7 @@
 use crate::guarded_calls::Told;
 use cics_names::{Items, Name8, NoMemory, Record, from_ebcdic};
 use cics_transdata::Recovery;
-use cics_units::{Answer, Done, Enqueued, Entry, Listing, Op, UnitState};
+use cics_units::{Answer, Done, Enqueued, Entry, Listing, Op, Submitted, UnitState};
 use std::alloc::Global;
 use std::fmt::Write;
 
@@ -170,6 +170,13 @@ pub(crate) fn told_text(alloc: Global, told: &Told) -> Result<String, NoMemory> 
             push_answer(&mut text, answer, Some(unit.number()))?;
         }
         Told::Executed(Done::MustWait(holder)) => write!(text, "waits {}", holder.number())?,
+        Told::Submitted(Submitted::Answered(unit, answer)) => {
+            push_answer(&mut text, answer, Some(unit.number()))?;
+        }
+        Told::Submitted(Submitted::MustWait(holder, op)) => {
+            write!(text, "waits {} with", holder.number())?;
+            push_op(&mut text, op)?;
+        }
         Told::Enqueued(Enqueued::Taken(unit)) => write!(text, "taken {}", unit.number())?,
         Told::Enqueued(Enqueued::MustWait(holder)) => write!(text, "waits {}", holder.number())?,
         Told::Enqueued(Enqueued::CountFull) => text.push_str("full")?,
