@@ -1,6 +1,6 @@
 -- Task control: a command of a task leaves the waiting commands of the other tasks as they are, and the open units of the
 -- other tasks with what they hold.
-use Rattle.std.specs.Prelude.{◌≡◌, ◌≢◌, ℕ, Bool, true, false, if◌then◌else◌, nat_le, Option, Some, None, [], ◌∷◌, ◌++◌, take, refl}
+use Rattle.std.specs.Prelude.{◌≡◌, ◌≢◌, ℕ, Bool, true, false, if◌then◌else◌, nat_le, Option, Some, None, [], ◌∷◌, ◌++◌, length, take, refl}
 use Rattle.std.proofs.Common.{◌⊎◌, inl, inr, sym, ◌∙◌, subst}
 use Rattle.cics_names.specs.Keyed.{Bytes, value_at, without}
 use Rattle.cics_names.specs.Conditions.{default_abend_of}
@@ -30,16 +30,16 @@ use Rattle.cics_names.specs.declared.commands.Verb.{Verb}
 use Rattle.cics_names.specs.declared.commands.Verb.TheVariants.{Read, Write, Rewrite, Delete, Unlock, StartBr, ResetBr, ReadNext, ReadPrev, EndBr, WriteqTs, ReadqTs, DeleteqTs, WriteqTd, ReadqTd, DeleteqTd, Enq, Deq, Syncpoint, Rollback, Return, Abend}
 use Rattle.cics_dispatch.specs.declared.outcomes.Reply.{Reply}
 use Rattle.cics_dispatch.proofs.KeptTasks.{begins_now}
-use Rattle.cics_dispatch.proofs.KeptTasks.{begins_now}
-use Rattle.cics_dispatch.proofs.TaskPlaces.{task_at-replaced}
+use Rattle.cics_dispatch.proofs.TaskPlaces.{task_at-replaced, replaced_long}
 use Rattle.cics_dispatch.proofs.OtherUnits.{LeavesOthers, leaves_all, acting_other, entered_leaves, counted_leaves, dequeued_leaves, unlocked_leaves, item_read_leaves, closed_leaves}
 use Rattle.cics_dispatch.proofs.OthersHold.{LeavesHeld, held_all, entered_held, counted_held, dequeued_held, unlocked_held, item_read_held, closed_held}
 use Rattle.cics_dispatch.proofs.RegionSteps.{acts_in}
 
--- a step of the task of a label, in a unit or without one, leaves the clock, the tasks of other labels, and the other
--- open units with their update reads and what they hold
+-- a step of the task of a label, in a unit or without one, leaves the clock, how many tasks there are, the tasks of other
+-- labels, and the other open units with their update reads and what they hold
 pub record LeavesTasks (label : Bytes) (u : Option ℕ) (m n : Machine) : Type 0 where
   pub clock : n.clock ≡ m.clock
+  pub count : length n.tasks ≡ length m.tasks
   pub tasks : (x : Bytes) → label ≢ x → task_at n.tasks x ≡ task_at m.tasks x
   pub units : LeavesOthers m.units n.units u
   pub held : LeavesHeld m.units n.units u
@@ -62,11 +62,12 @@ pub record ActsAlone (label : Bytes) (u : Option ℕ) (m n : Machine) : Type 0 w
 -- ---- Steps one after the other
 
 pub leaves_same : (label : Bytes) (u : Option ℕ) (m : Machine) → LeavesTasks label u m m
-leaves_same label u m = record { clock = refl; tasks = λ x other. refl; units = leaves_all m.units u; held = held_all m.units u }
+leaves_same label u m = record { clock = refl; count = refl; tasks = λ x other. refl; units = leaves_all m.units u; held = held_all m.units u }
 
 leaves_then : (label : Bytes) (u v : Option ℕ) (m n k : Machine) → LeavesTasks label u m n → ActsIn m u v → LeavesTasks label v n k → LeavesTasks label u m k
 leaves_then label u v m n k first acts second = record {
   clock = second.clock ∙ first.clock;
+  count = second.count ∙ first.count;
   tasks = λ x other. second.tasks x other ∙ first.tasks x other;
   units = record {
     opening = second.units.opening ∙ first.units.opening;
@@ -91,6 +92,7 @@ leaves_with : (m : Machine) (units : UnitsState) (owner : Task) (u : Option ℕ)
     LeavesTasks owner.label u m (with_task (with_units m units) owner)
 leaves_with m units owner u others held = record {
   clock = refl;
+  count = replaced_long m.tasks owner;
   tasks = λ x other. task_at-replaced m.tasks owner x other;
   units = others;
   held = held;
@@ -99,7 +101,7 @@ leaves_with m units owner u others held = record {
 -- only the units change
 leaves_units : (label : Bytes) (m : Machine) (units : UnitsState) (u : Option ℕ) → LeavesOthers m.units units u → LeavesHeld m.units units u →
     LeavesTasks label u m (with_units m units)
-leaves_units label m units u others held = record { clock = refl; tasks = λ x other. refl; units = others; held = held }
+leaves_units label m units u others held = record { clock = refl; count = refl; tasks = λ x other. refl; units = others; held = held }
 
 -- ---- Answers
 
@@ -107,6 +109,7 @@ leaves_units label m units u others held = record { clock = refl; tasks = λ x o
 pub abended_leaves : (m : Machine) (t : Task) → LeavesTasks t.label t.unit m (abended m t)
 abended_leaves m t = record {
   clock = refl;
+  count = replaced_long m.tasks (record t { unit = None; browses = []; has_ended = true });
   tasks = λ x other. task_at-replaced m.tasks (record t { unit = None; browses = []; has_ended = true }) x other;
   units = closed_leaves m.units t.unit BackedOut;
   held = closed_held m.units t.unit BackedOut;
@@ -209,7 +212,7 @@ module _ (m : Machine) (t : Task) where
 
   module _ (c : Command) where
     waits_alone : (o : Option Op) (holder : ℕ) (busy : Option Condition) → ActsAlone t.label t.unit m (made_to_wait m t c o holder busy).machine
-    waits_alone o holder None = record { others = record { clock = refl; tasks = λ x other. refl; units = leaves_all m.units t.unit; held = held_all m.units t.unit }; waits = inr (inl (c, o, refl)) }
+    waits_alone o holder None = record { others = record { clock = refl; count = refl; tasks = λ x other. refl; units = leaves_all m.units t.unit; held = held_all m.units t.unit }; waits = inr (inl (c, o, refl)) }
     waits_alone o holder (Some condition) = answered_alone c.resp _
 
     -- the task's own unit, or the one that begins, has the units' change

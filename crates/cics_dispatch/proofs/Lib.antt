@@ -28,6 +28,7 @@ pub mod KeepsOwn
 pub mod KeptHeld
 pub mod Remembered
 pub mod NoteRows
+pub mod NotesRoom
 pub mod Noted
 pub mod Looks
 mod RegionRemembers

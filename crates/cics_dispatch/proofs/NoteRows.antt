@@ -1,5 +1,5 @@
 -- The notes of the waiting commands: what a change of one or of all makes of them, and one more or fewer.
-use Rattle.std.specs.Prelude.{◌≡◌, ℕ, ◌+◌, ◌==◌, Bool, true, false, cond, Option, Some, None, is_some, is_none, Result, Ok, Err, is_err, IfOk, List, [], ◌∷◌, ◌++◌, length, map, filter, nat_eq, slice_get, slice_set, refl}
+use Rattle.std.specs.Prelude.{◌≡◌, ℕ, ◌+◌, ◌==◌, Bool, true, false, cond, Option, Some, None, is_some, is_none, List, [], ◌∷◌, ◌++◌, length, map, filter, nat_eq, slice_get, slice_set, refl}
 use Rattle.std.proofs.Common.{zero, suc, sym, ap, ◌∙◌, subst, arith, take, drop}
 use Rattle.std.specs.List.{list_any}
 use Rattle.std.specs.Option.{option_eq}
@@ -48,11 +48,6 @@ module _ (eq : ℕ → ℕ → Bool) (same : (a b : ℕ) → eq a b ≡ (a == b)
         | true ↦ there
         | false ↦ list_any-append (λ v. u == v) us (k ∷ []) ∙ or_left (is_among us u) (is_among (k ∷ []) u) there
       ]
-
--- what holds of a result that is no error
-pub was_ok : {A E : Type 0} (Q : Type 0) (r : Result A E) → is_err r ≡ false → IfOk r (λ a. Q) → Q
-was_ok Q (Ok a) ok q = q
-was_ok Q (Err e) ok q = cc
 
 -- ---- Another list of notes
 

@@ -158,7 +158,7 @@ module _ (m n : Machine) (needs : List Resource) (t : Task) (others : LeavesTask
       }
 
 -- a label that isn't a waiting command's
-apart_label : (w : Suspended) (label : Bytes) → is_same w.label label ≡ false → label ≢ w.label
+pub apart_label : (w : Suspended) (label : Bytes) → is_same w.label label ≡ false → label ≢ w.label
 apart_label w label differs e = false≢true (sym differs ∙ ap (is_same w.label) e ∙ is_same-self w.label)
 
 -- the notes of the other tasks' commands

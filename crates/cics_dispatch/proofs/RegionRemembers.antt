@@ -1,5 +1,5 @@
 -- Task control: what a region remembers of its last looks at the waiting commands, after each of its calls.
-use Rattle.std.specs.Prelude.{◌≡◌, ℕ, ◌+◌, ◌≤◌, Bool, true, false, not, if◌then◌else◌, ◌&&◌, cond, Option, Some, None, is_some, Result, Ok, Err, List, [], ◌∷◌, ◌++◌, All, map, filter, length, refl}
+use Rattle.std.specs.Prelude.{◌≡◌, ℕ, ◌+◌, ◌<◌, ◌≤◌, Bool, true, false, not, if◌then◌else◌, ◌&&◌, cond, Option, Some, None, is_some, Result, Ok, Err, List, [], ◌∷◌, ◌++◌, All, map, filter, length, refl}
 use Rattle.std.proofs.Common.{inl, inr, sym, ap, ◌∙◌, subst, arith}
 use Rattle.std.proofs.lemmas.Bool.{false≢true, and_parts}
 use Rattle.std.proofs.lemmas.List.Elements.{All-nil}
@@ -14,7 +14,7 @@ use Rattle.cics_dispatch.specs.Waking.{clock_refusal, clock_set, may_go_on, firs
 use Rattle.cics_dispatch.specs.Answers.{IsStep}
 use Rattle.cics_dispatch.specs.KeptTasks.{AreTasksKept}
 use Rattle.cics_dispatch.specs.Settled.{is_keeping, goes_on, IsInTime}
-use Rattle.cics_dispatch.specs.Notes.{NotesValue, forgotten, new_note, AreClosed, AreNoted, AreNotedNow, IsFirstFree, IsRemembered}
+use Rattle.cics_dispatch.specs.Notes.{NotesValue, forgotten, new_note, AreClosed, AreNoted, AreNotedNow, IsFirstFree, IsRemembered, HasRoomForNotes}
 use Rattle.cics_names.specs.declared.commands.Command.{Command}
 use Rattle.cics_dispatch.specs.declared.outcomes.Outcome.{Outcome}
 use Rattle.cics_dispatch.specs.declared.outcomes.Refused.{Refused}
@@ -27,6 +27,7 @@ use Rattle.cics_dispatch.proofs.FewerWaits.{by_op_none}
 use Rattle.cics_dispatch.proofs.RegionWaking.{first_free-goes, first_free_awaits, not_waiting_twice}
 use Rattle.cics_dispatch.proofs.Blocked.{blocked_stays, none_late, all_in_time}
 use Rattle.cics_dispatch.proofs.Remembered.{refused_leaves, not_refused, issued_in_time, woken_in_time, attached_in_time}
+use Rattle.cics_dispatch.proofs.NotesRoom.{issued_count, room_kept, room_for_one}
 use Rattle.cics_dispatch.proofs.Noted.{noted_without, noted_others, noted_kept, noted_forgot, noted_waits, noted_same}
 
 -- what is true of the machine and of the one that the step leaves is true after the call
@@ -34,6 +35,15 @@ pub after_step : {X : Type 0} (P : Machine → Type 0) (wants : Bool) (old new :
     IsStep wants old s r new → P old.machine → P s.machine → P new.machine
 after_step P wants old new s (Ok x) step before after = subst P (sym step.1) after
 after_step P wants old new s (Err e) step before after = subst (λ v. P v.machine) (sym (refused_leaves wants old new s e step)) before
+
+-- notes that say the same
+pub remembered_alike : (m : Machine) (notes new : NotesValue) (is_noted is_settled is_in_time : Bool) → IsRemembered m notes is_noted is_settled is_in_time → new.rows ≡ notes.rows → new.needs ≡ notes.needs →
+    IsRemembered m new is_noted is_settled is_in_time
+remembered_alike m notes new is_noted is_settled is_in_time is rows needs = record {
+  noted = λ set. subst (λ ns. AreNoted m new.needs ns m.waiting) (sym rows) (subst (λ rs. AreNoted m rs notes.rows m.waiting) (sym needs) (is.noted set));
+  settled = λ set. ((is.settled set).0, subst AreClosed (sym rows) (is.settled set).1);
+  in_time = is.in_time;
+}
 
 -- a task is attached
 pub remembered_attached : (m : Machine) (label : Bytes) (dtimout : ℕ) (notes : NotesValue) (is_noted is_settled is_in_time : Bool) → AreTasksKept m → IsRemembered m notes is_noted is_settled is_in_time →
@@ -243,6 +253,19 @@ remembered_issued m n label c outcome notes mid new is_noted is_settled is_in_ti
         AreNoted k notes.needs new.rows k.waiting
     by true waits is l rows pair = subst (λ r. AreNoted k notes.needs r k.waiting) (sym (is ∙ ap (λ r. r ++ new_note label ∷ []) rows)) (pair.1 (sym waits))
     by false waits is l rows pair = subst (λ r. AreNoted k notes.needs r k.waiting) (sym (is ∙ rows)) (pair.0 (sym waits))
+
+-- there is room for the note of a command that waits
+pub issued_room : (m n : Machine) (label : Bytes) (c : Command) (outcome : Outcome) (notes mid : NotesValue) (unit forgot : Option ℕ) → HasRoomForNotes m notes → AreNotedNow m notes →
+    ((t : Task) → task_at m.tasks label ≡ Some t → unit ≡ t.unit) → (issued m label c).outcome ≡ Ok outcome → n ≡ (issued m label c).machine →
+    forgot ≡ (if is_keeping m.units.opening c.verb && goes_on outcome then None else unit) → mid.rows ≡ map (forgotten forgot) notes.rows → mid.room ≡ notes.room → length n.waiting ≤ length n.tasks →
+    is_waiting n.waiting label ≡ true → length mid.rows < mid.room
+issued_room m n label c outcome notes mid unit forgot room noted own told step forgets rows same few waits =
+    room_for_one k mid notes.needs label (room_kept m k notes mid room (issued_count m label c) same) (subst (λ x. length x.waiting ≤ length x.tasks) step few)
+    (subst (λ r. AreNoted k notes.needs (r ++ new_note label ∷ []) k.waiting) (sym (rows ∙ ap (λ o. map (forgotten o) notes.rows) forgets))
+    ((issued_noted m c notes.needs notes.rows noted label unit outcome own told).1 (ap (λ x. is_waiting x.waiting label) (sym step) ∙ waits)))
+  where
+    k : Machine
+    k = (issued m label c).machine
 
 -- ---- Waking and time-out
 

@@ -117,6 +117,12 @@ replaced-set (u ∷ us) (suc n) t owner own placed label =
     (ap (is_same u.label) label ∙ is_same-other u.label t.label (first_other u t us n own placed))
     ∙ ap (λ r. u ∷ r) (replaced-set us n t owner (IsOwn-tail own_label u us own) placed label)
 
+-- there are as many tasks as before
+pub replaced_long : (ts : List Task) (owner : Task) → length (replaced ts owner) ≡ length ts
+replaced_long [] owner = refl
+replaced_long (u ∷ us) owner =
+    elim (is_same u.label owner.label) as (λ b. length (cond b (owner ∷ us) (u ∷ replaced us owner)) ≡ suc (length us)) [ true ↦ refl | false ↦ ap suc (replaced_long us owner) ]
+
 -- and the tasks of other labels are as they were
 pub task_at-replaced : (ts : List Task) (owner : Task) (label : Bytes) → owner.label ≢ label → task_at (replaced ts owner) label ≡ task_at ts label
 task_at-replaced [] owner label other = refl

@@ -1,5 +1,5 @@
 -- What is known of the commands that wait: for which unit each has to wait as long as that gives nothing up.
-use Rattle.std.specs.Prelude.{◌≡◌, ℕ, Bool, true, false, if◌then◌else◌, Option, Some, None, is_some, List, [], ◌∷◌, All, slice_get}
+use Rattle.std.specs.Prelude.{◌≡◌, ◌≤◌, ℕ, length, Bool, true, false, if◌then◌else◌, Option, Some, None, is_some, List, [], ◌∷◌, All, slice_get}
 use Rattle.std.specs.List.{list_any}
 use Rattle.cics_names.specs.Keyed.{Bytes}
 use Rattle.cics_names.specs.declared.commands.Verb.{Verb}
@@ -14,10 +14,12 @@ use Rattle.cics_dispatch.specs.Machine.{Machine, Task, Suspended, is_unit, is_wa
 use Rattle.cics_dispatch.specs.Waking.{may_go_on, first_free}
 use Rattle.cics_dispatch.specs.Settled.{is_among, needed_by, IsBlocked, IsInTime}
 
--- the notes of the waiting commands, in their order, and what those use that use one resource each
+-- the notes of the waiting commands, in their order, what those use that use one resource each, and how many notes there is
+-- room for
 pub record NotesValue : Type 0 where
   pub rows : List Note
   pub needs : List Resource
+  pub room : ℕ
 
 -- a note once a unit, if there is one, may have given something up: a command that had to wait for it has to be looked at
 abbrev pub forgotten : Option ℕ → Note → Note
@@ -123,6 +125,10 @@ abbrev pub IsFirstFree : Machine → Bytes → Type 0
 IsFirstFree m label = IsFirstFreeOf m m.waiting label
 
 -- ---- What is remembered
+
+-- there is room for a note of each task
+pub record HasRoomForNotes (m : Machine) (notes : NotesValue) : Type 0 where
+  pub room : length m.tasks ≤ notes.room
 
 -- what is remembered of the last looks at the waiting commands: where it is noted, each has its note; where they are
 -- settled none has to be looked at, and where they are in time no task has waited too long

@@ -1,8 +1,9 @@
 //! What is known of the commands that wait: for which unit each has to wait as long as that gives nothing up.
 
-ghost use Rattle.std.specs.Prelude.{◌≡◌, ◌<◌, [], ◌∷◌, ◌++◌, None, Some, false, length, filter, map, not};
+ghost use Rattle.std.specs.Prelude.{◌≡◌, ◌<◌, ◌≤◌, [], ◌∷◌, ◌++◌, None, Some, false, length, filter};
+ghost use Rattle.std.specs.Prelude.{map, not, is_ok, OnOk, IfOk};
 ghost use Rattle.cics_dispatch.specs.declared.notes.Note.{Note as NoteValue};
-ghost use Rattle.std.specs.Prelude.{slice_get, slice_set, OnOk, OnErr, IfSome, if◌then◌else◌, true};
+ghost use Rattle.std.specs.Prelude.{slice_get, slice_set, if◌then◌else◌, true};
 ghost use Rattle.cics_names.specs.Keyed.{is_same};
 ghost use Rattle.cics_dispatch.specs.Notes.{forgotten, filed, with_need, with_blocker};
 ghost use Rattle.cics_dispatch.specs.Notes.{AreClosed, KeepsNeeds};
@@ -48,11 +49,16 @@ pub(crate) struct Notes {
 }
 
 impl Model for Notes {
+    ghost use Rattle.std.specs.Prelude.{vec_capacity};
     ghost use Rattle.cics_dispatch.specs.Notes.{NotesValue, AreBlockersAmong};
 
     ghost Value = { NotesValue };
 
-    ghost view = { λ n. record { rows = n.rows.items; needs = n.needs.keys } };
+    ghost view = { λ n. record {
+      rows = n.rows.items;
+      needs = n.needs.keys;
+      room = vec_capacity n.rows;
+    } };
 
     ghost invariant = { λ n. AreBlockersAmong n.blockers.keys n.rows.items };
 }
@@ -137,9 +143,21 @@ impl Notes {
         self.needs.len() / 2 > most || self.blockers.len() / 2 > most
     }
 
-    /// Forgets all notes, needs and blockers. Takes no memory.
+    /// Makes room for this many notes in all, so that `push` needs no memory up to there.
+    pub(crate) fn reserve(&mut self, all: usize) -> Result<(), NoMemory>
+        ensures ok { OnOk result (all ≤ self.new.room) }
+        ensures room { self.old.room ≤ self.new.room }
+        ensures rows { self.new.rows ≡ self.old.rows }
+        ensures needs { self.new.needs ≡ self.old.needs }
+    {
+        self.rows.reserve(all.saturating_sub(self.rows.len()))?;
+        Ok(())
+    }
+
+    /// Forgets all notes, needs and blockers, and keeps their room. Takes no memory.
     pub(crate) fn clear(&mut self)
-        ensures { self.new.rows ≡ [] }
+        ensures rows { self.new.rows ≡ [] }
+        ensures room { self.new.room ≡ self.old.room }
     {
         self.rows.clear();
         self.needs.clear();
@@ -147,20 +165,20 @@ impl Notes {
         self.blockers.clear();
     }
 
-    /// Notes that a command of a label's task waits, last of all; it has to be looked at.
-    pub(crate) fn push(&mut self, label: Name8) -> Result<(), NoMemory>
-        ensures rows { OnOk result (self.new.rows ≡ self.old.rows
-            ++ record { label = label; need = None; blocker = None } ∷ []) }
+    /// Notes that a command of a label's task waits, last of all; it has to be looked at. Takes no memory: there has to
+    /// be room.
+    pub(crate) fn push(&mut self, label: Name8)
+        requires { length self.old.rows < self.old.room }
+        ensures rows { self.new.rows ≡ self.old.rows
+            ++ record { label = label; need = None; blocker = None } ∷ [] }
         ensures needs { self.new.needs ≡ self.old.needs }
-        ensures err { OnErr result (self.new.rows ≡ self.old.rows) }
+        ensures room { self.new.room ≡ self.old.room }
     {
-        let note = Note {
+        self.rows.push_reserved(Note {
             label,
             need: None,
             blocker: None,
-        };
-        self.rows.push(note)?;
-        Ok(())
+        });
     }
 
     /// Drops the note of a label's task. Takes no memory.
@@ -168,6 +186,7 @@ impl Notes {
         ensures rows { self.new.rows
             ≡ filter (λ n. not (is_same n.label label.now)) self.old.rows }
         ensures needs { self.new.needs ≡ self.old.needs }
+        ensures room { self.new.room ≡ self.old.room }
     {
         self.rows.retain(|note| note.label != *label);
     }
@@ -178,6 +197,7 @@ impl Notes {
         ensures rows { self.new.rows ≡ map (forgotten unit) self.old.rows }
         ensures none { result ≡ false → self.new.rows ≡ self.old.rows }
         ensures needs { self.new.needs ≡ self.old.needs }
+        ensures room { self.new.room ≡ self.old.room }
     {
         let Some(unit) = unit else {
             return false;
@@ -189,20 +209,19 @@ impl Notes {
         true
     }
 
-    /// The place of a resource among the needs, or `None` where it is new and memory for it is refused. `is_noted` says
-    /// whether the note of the command that uses it has that place.
-    pub(crate) fn place_of(&mut self, resource: Resource, is_noted: bool) -> Option<usize>
-        ensures place { IfSome result (λ at. slice_get self.new.needs at ≡ Some resource) }
+    /// The place of a resource among the needs; `is_noted` says whether the note of the command that uses it has that
+    /// place. Where memory is refused all notes stay as they are.
+    pub(crate) fn place_of(&mut self, resource: Resource, is_noted: bool) -> Result<usize, NoMemory>
+        ensures place { IfOk result (λ at. slice_get self.new.needs at ≡ Some resource) }
         ensures needs { KeepsNeeds self.old.needs self.new.needs }
         ensures rows { self.new.rows ≡ self.old.rows }
+        ensures room { self.new.room ≡ self.old.room }
     {
-        let Ok((at, is_new)) = self.needs.insert_full(resource) else {
-            return None;
-        };
+        let (at, is_new) = self.needs.insert_full(resource)?;
         if !is_new && !is_noted {
-            let _ = self.shared.insert(at);
+            self.shared.insert(at)?;
         }
-        Some(at)
+        Ok(at)
     }
 
     /// Notes the place of the one resource that a command uses.
@@ -211,38 +230,39 @@ impl Notes {
         ensures rows { (n : NoteValue) → slice_get self.old.rows at ≡ Some n →
             self.new.rows ≡ slice_set self.old.rows at (with_need need n) }
         ensures needs { self.new.needs ≡ self.old.needs }
+        ensures room { self.new.room ≡ self.old.room }
     {
         self.rows[at].need = Some(need);
     }
 
-    /// Notes the unit that a command has to wait for. `false` where memory is refused; then the note stays as it is.
-    pub(crate) fn set_blocker(&mut self, at: usize, unit: UnitId) -> bool
+    /// Notes the unit that a command has to wait for. Where memory is refused the note stays as it is.
+    pub(crate) fn set_blocker(&mut self, at: usize, unit: UnitId) -> Result<(), NoMemory>
         requires { at < length self.old.rows }
         ensures rows { (n : NoteValue) → slice_get self.old.rows at ≡ Some n → self.new.rows
-            ≡ (if result then slice_set self.old.rows at (with_blocker unit n) else self.old.rows) }
+            ≡ (if is_ok result then slice_set self.old.rows at (with_blocker unit n) else self.old.rows) }
         ensures needs { self.new.needs ≡ self.old.needs }
+        ensures room { self.new.room ≡ self.old.room }
     {
-        if self.blockers.insert(unit).is_err() {
-            return false;
-        }
+        self.blockers.insert(unit)?;
         self.rows[at].blocker = Some(unit);
-        true
+        Ok(())
     }
 
-    /// Notes the unit that all commands have to wait for that use the one resource of a place among the needs. `false`
-    /// where it is one command alone, or memory is refused; then all notes stay as they are.
-    pub(crate) fn file(&mut self, need: usize, unit: UnitId) -> bool
+    /// Whether two commands or more use the one resource of a place among the needs.
+    pub(crate) fn is_shared(&self, need: usize) -> bool {
+        self.shared.contains(&need)
+    }
+
+    /// Notes the unit that all commands have to wait for that use the one resource of a place among the needs. Where
+    /// memory is refused all notes stay as they are.
+    pub(crate) fn file(&mut self, need: usize, unit: UnitId) -> Result<(), NoMemory>
         ensures rows { self.new.rows
-            ≡ (if result then map (filed need unit) self.old.rows else self.old.rows) }
+            ≡ (if is_ok result then map (filed need unit) self.old.rows else self.old.rows) }
         ensures needs { self.new.needs ≡ self.old.needs }
+        ensures room { self.new.room ≡ self.old.room }
     {
-        if !self.shared.contains(&need) {
-            return false;
-        }
-        if self.blockers.insert(unit).is_err() {
-            return false;
-        }
+        self.blockers.insert(unit)?;
         file_all(&mut self.rows, need, unit);
-        true
+        Ok(())
     }
 }

@@ -1,7 +1,7 @@
 //! A region: tasks that share files and queues, their waits, and their units of work.
 
 ghost use Rattle.std.specs.Prelude.{◌≡◌, ◌&&◌, not, [], ◌∷◌, ◌++◌, if◌then◌else◌, None, true, false, ℕ};
-ghost use Rattle.std.specs.Prelude.{IfOk, IfErr, IfSome, OnOk};
+ghost use Rattle.std.specs.Prelude.{◌<◌, length, IfOk, IfErr, IfSome, OnOk};
 ghost use Rattle.cics_history.specs.Events.{is_live};
 ghost use Rattle.cics_dispatch.specs.Machine.{beginning_region};
 ghost use Rattle.cics_dispatch.specs.Steps.{attached, issued};
@@ -49,14 +49,15 @@ pub struct Region {
 impl Model for Region {
     ghost use Rattle.cics_dispatch.specs.Machine.{RegionValue};
     ghost use Rattle.cics_dispatch.specs.Regions.{IsRegionKept};
-    ghost use Rattle.cics_dispatch.specs.Notes.{IsRemembered};
+    ghost use Rattle.cics_dispatch.specs.Notes.{IsRemembered, HasRoomForNotes};
 
     ghost Value = { RegionValue };
 
     ghost view = { λ r. r.dispatcher };
 
     ghost invariant = { λ r. IsRegionKept r.dispatcher
-        × IsRemembered r.dispatcher.machine r.notes r.is_noted r.is_settled r.is_in_time };
+        × IsRemembered r.dispatcher.machine r.notes r.is_noted r.is_settled r.is_in_time
+        × HasRoomForNotes r.dispatcher.machine r.notes };
 }
 
 // The unit of a command's task, if there is one, where the command may have given something up that the unit held: it is one
@@ -78,14 +79,16 @@ fn stays_settled(is_settled: bool, was_blocker: bool, waits: bool) -> bool
     is_settled && !was_blocker && !waits
 }
 
-// Notes that a command of a label's task waits, if it does, where the others are noted. `false` where they aren't, memory is
-// refused, or much stands in the notes that no waiting command needs: then `wake` notes all anew.
+// Notes that a command of a label's task waits, if it does, where the others are noted. `false` where they aren't, or much
+// stands in the notes that no waiting command needs: then `wake` notes all anew.
 fn note_if(is_noted: bool, notes: &mut Notes, waits: bool, label: Name8) -> bool
+    requires room { is_noted ≡ true → waits ≡ true → length notes.old.rows < notes.old.room }
     ensures rows { result ≡ true → (is_noted ≡ true)
         × (notes.new.rows
         ≡ (if waits then notes.old.rows ++ new_note label ∷ [] else notes.old.rows)) }
     ensures none { waits ≡ false → (result ≡ is_noted) × (notes.new.rows ≡ notes.old.rows) }
     ensures needs { notes.new.needs ≡ notes.old.needs }
+    ensures room { notes.new.room ≡ notes.old.room }
 {
     if !waits {
         return is_noted;
@@ -93,7 +96,8 @@ fn note_if(is_noted: bool, notes: &mut Notes, waits: bool, label: Name8) -> bool
     if !is_noted || notes.have_grown() {
         return false;
     }
-    notes.push(label).is_ok()
+    notes.push(label);
+    true
 }
 
 impl Region {
@@ -138,7 +142,8 @@ impl Region {
         ensures headline { IsHeadlineRegion self.new }
     {
         self.refuse_if_down()?;
-        self.dispatcher.attach(label, transaction, dtimout)
+        self.dispatcher
+            .attach(label, transaction, dtimout, &mut self.notes)
     }
 
     /// Sets the clock to so many seconds. It is refused where the region is shut down (`RegionDown`), and
@@ -194,9 +199,10 @@ impl Region {
         if self.is_settled {
             return Ok(None);
         }
-        self.dispatcher.note_all(self.is_noted, &mut self.notes)?;
+        self.dispatcher.note_all(self.is_noted, &mut self.notes);
         self.is_noted = true;
-        let Some(label) = self.dispatcher.first_free(&mut self.notes) else {
+        let first = self.dispatcher.first_free(&mut self.notes)?;
+        let Some(label) = first else {
             self.is_settled = self.notes.are_closed();
             return Ok(None);
         };

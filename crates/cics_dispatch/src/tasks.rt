@@ -79,9 +79,10 @@ impl Tasks {
         }
     }
 
-    /// How many tasks were attached.
+    /// How many tasks were attached. One more could still be counted.
     pub(crate) fn len(&self) -> usize
-        ensures { result ≡ length self.now }
+        ensures length { result ≡ length self.now }
+        ensures fits { length self.now < 0xFFFFFFFFFFFFFFFF }
     {
         self.rows.len()
     }

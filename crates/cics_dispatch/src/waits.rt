@@ -163,7 +163,8 @@ impl Waits {
 
     /// Whether a command of a label's task waits.
     pub(crate) fn is_waiting(&self, label: &Name8) -> bool
-        ensures { result ≡ is_waiting self.now label.now }
+        ensures waiting { result ≡ is_waiting self.now label.now }
+        ensures once { AreApart self.now }
     {
         self.numbers.contains_key(label)
     }
@@ -172,6 +173,7 @@ impl Waits {
     pub(crate) fn iter(&self) -> Values<'_, u64, Suspended>
         ensures rest { result ≡ self.now }
         ensures runs { ShowsInOrder (deref {X = Suspended}) }
+        ensures once { AreApart self.now }
     {
         self.rows.values()
     }

@@ -11,6 +11,7 @@ ghost use Rattle.cics_dispatch.specs.Waking.{is_late, awaited_by};
 ghost use Rattle.cics_dispatch.specs.Steps.{with_outcome};
 ghost use Rattle.cics_dispatch.specs.Notes.{OfWait, IsFound, IsOnlyUse, IsOnlyNeed, OwnerIsAwake};
 ghost use Rattle.cics_dispatch.specs.Notes.{AreNotedNow, IsBlockedAt, IsFirstFree, IsFirstFreeOf};
+ghost use Rattle.cics_dispatch.specs.Notes.{HasRoomForNotes};
 ghost use Rattle.cics_dispatch.specs.Calls.{OfTask, IsAwake, HasReady, KeepsRegion};
 ghost use Rattle.cics_dispatch.specs.Calls.{IsStepOrRefused};
 ghost use Rattle.cics_dispatch.specs.Calls.{IsAttempt, going_on};
@@ -136,41 +137,42 @@ impl Dispatcher {
         }
     }
 
-    // Notes that the waiting command at a place has to wait for a unit, and so have all that use the same resource.
-    fn file(&self, notes: &mut Notes, at: usize, unit: UnitId)
+    // Notes that the waiting command at a place has to wait for a unit, and so have all that use the same resource. Where
+    // memory is refused less is noted.
+    fn file(&self, notes: &mut Notes, at: usize, unit: UnitId) -> Result<(), NoMemory>
         requires within { at < length notes.old.rows }
         requires kept { All (IsWaitKept self.now.machine) self.now.machine.waiting }
         requires noted { AreNotedNow self.now.machine notes.old }
         requires blocked { IsBlockedAt self.now.machine at unit }
         ensures noted { AreNotedNow self.now.machine notes.new }
+        ensures room { notes.new.room ≡ notes.old.room }
     {
         if self.owner_waits(unit) {
-            let _ = notes.set_blocker(at, unit);
-            return;
+            return notes.set_blocker(at, unit);
         }
         let note = notes.get(at);
         let Some(resource) = self.need(&note.label) else {
-            let _ = notes.set_blocker(at, unit);
-            return;
+            return notes.set_blocker(at, unit);
         };
-        let Some(need) = notes.place_of(resource, note.need.is_some()) else {
-            return;
-        };
+        let need = notes.place_of(resource, note.need.is_some())?;
         notes.set_need(at, need);
-        if !notes.file(need, unit) {
-            let _ = notes.set_blocker(at, unit);
+        if notes.is_shared(need) {
+            return notes.file(need, unit);
         }
+        notes.set_blocker(at, unit)
     }
 
     /// Looks at the waiting commands whose notes don't say whom they have to wait for, up to the first that needn't wait,
-    /// and answers its task's label. What it finds is noted.
-    pub(crate) fn first_free(&self, notes: &mut Notes) -> Option<Name8>
+    /// and answers its task's label. What it finds is noted; where memory for that is refused it looks no further.
+    pub(crate) fn first_free(&self, notes: &mut Notes) -> Result<Option<Name8>, NoMemory>
         requires kept { All (IsWaitKept self.now.machine) self.now.machine.waiting }
         requires noted { AreNotedNow self.now.machine notes.old }
         ensures noted { AreNotedNow self.now.machine notes.new }
-        ensures first { IfSome result (λ label. IsFirstFree self.now.machine label) }
-        ensures none { IfNone result
-            (first_free self.now.machine self.now.machine.waiting ≡ None) }
+        ensures room { notes.new.room ≡ notes.old.room }
+        ensures first { IfOk result (λ found.
+            IfSome found (λ label. IsFirstFree self.now.machine label)) }
+        ensures none { IfOk result (λ found. IfNone found
+            (first_free self.now.machine self.now.machine.waiting ≡ None)) }
     {
         for at in 0..notes.len() {
             let note = notes.get(at);
@@ -178,28 +180,29 @@ impl Dispatcher {
                 continue;
             }
             match self.look(&note.label) {
-                Look::MayGoOn => return Some(note.label),
-                Look::IsBlocked(unit) => self.file(notes, at, unit),
+                Look::MayGoOn => return Ok(Some(note.label)),
+                Look::IsBlocked(unit) => self.file(notes, at, unit)?,
                 Look::HasToWait => {}
             }
         }
-        None
+        Ok(None)
     }
 
-    /// Makes a new note of each waiting command, as one that has to be looked at, where `are_noted` is false.
-    pub(crate) fn note_all(&self, are_noted: bool, notes: &mut Notes) -> Result<(), NoMemory>
+    /// Makes a new note of each waiting command, as one that has to be looked at, where `are_noted` is false. Takes no
+    /// memory: there has to be room.
+    pub(crate) fn note_all(&self, are_noted: bool, notes: &mut Notes)
         requires noted { are_noted ≡ true → AreNotedNow self.now.machine notes.old }
-        ensures ok { OnOk result (AreNotedNow self.now.machine notes.new) }
-        ensures err { OnErr result (are_noted ≡ false) }
+        requires room { HasRoomForNotes self.now.machine notes.old }
+        ensures noted { AreNotedNow self.now.machine notes.new }
+        ensures room { notes.new.room ≡ notes.old.room }
     {
         if are_noted {
-            return Ok(());
+            return;
         }
         notes.clear();
         for wait in self.waits.iter() {
-            notes.push(wait.label())?;
+            notes.push(wait.label());
         }
-        Ok(())
     }
 
     // Tries a waiting command of the task at a place again, with what it asked for when it was issued.

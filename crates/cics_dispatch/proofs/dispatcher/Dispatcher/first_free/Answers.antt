@@ -1,8 +1,8 @@
-use Rattle.std.proofs.Common.{◌∙◌, sym, subst, arith}
+use Rattle.std.proofs.Common.{◌∙◌, ap, sym, subst, arith}
 use Rattle.cics_dispatch.specs.Notes.{AreNotedNow}
 use Rattle.cics_dispatch.proofs.Blocked.{blocked_stays}
 use Rattle.cics_dispatch.proofs.Noted.{noted_length, label_there, look_passed, look_first, known_blocker, all_passed}
-use Rattle.cics_dispatch.proofs.dispatcher.Dispatcher.first_free.Goals.{in-IsBlocked, in-HasToWait}
+use Rattle.cics_dispatch.proofs.dispatcher.Dispatcher.first_free.Goals.{in-IsBlocked+in_ok-file-in-IsBlocked as is_noted, in-HasToWait}
 use Rattle.cics_dispatch.proofs.dispatcher.Dispatcher.first_free.Goals as goal
 
 pub get-note-requires : goal.get-note-requires
@@ -20,6 +20,7 @@ loop-at-preserved-then-is_some c =
       passed = look_passed m c.loop-at.notes c.loop-at.at c.get-note.result c.loop-at.invariant.noted c.get-note.ensures c.loop-at.invariant.passed
           (λ w there noted. blocked_stays m blocker.0 w (noted.blocked blocker.0 blocker.1));
       noted = c.loop-at.invariant.noted;
+      room = c.loop-at.invariant.room;
     }
 
 pub returns-in-MayGoOn-clause-first : goal.returns-in-MayGoOn-clause-first
@@ -44,15 +45,17 @@ loop-at-preserved c =
     let m = c.args.self.now.machine in
     let at = c.loop-at.at in
     elim c.match-look.branch [
-      | in-IsBlocked w ↦ record {
+      | is_noted w ↦ record {
         passed = look_passed m c.loop-at.notes at c.get-note.result c.loop-at.invariant.noted c.get-note.ensures c.loop-at.invariant.passed
             (λ v there noted. blocked_stays m w.in-IsBlocked.unit v (w.in-IsBlocked.ensures at v there (sym noted.label)));
         noted = subst (AreNotedNow m) (sym w.notes-is) w.file.ensures.noted;
+        room = ap (λ n. n.room) w.notes-is ∙ w.file.ensures.room ∙ c.loop-at.invariant.room;
       }
       | in-HasToWait w ↦ record {
         passed = look_passed m c.loop-at.notes at c.get-note.result c.loop-at.invariant.noted c.get-note.ensures c.loop-at.invariant.passed
             (λ v there noted. w.in-HasToWait.ensures at v there (sym noted.label));
         noted = subst (AreNotedNow m) (sym w.notes-is) c.loop-at.invariant.noted;
+        room = ap (λ n. n.room) w.notes-is ∙ c.loop-at.invariant.room;
       }
     ]
 
@@ -61,3 +64,6 @@ returns-clause-none c =
     let m = c.args.self.now.machine in
     let first = noted_length m c.args.notes.now.needs c.args.notes.now.rows m.waiting c.requires.noted in
     all_passed m c.loop-at.at (omega (arith, c.loop-at-test.false, c.len-at-end.ensures, first)) c.loop-at.invariant.passed
+
+pub returns-in_err-file-in-IsBlocked-clause-room : goal.returns-in_err-file-in-IsBlocked-clause-room
+returns-in_err-file-in-IsBlocked-clause-room c = c.file.ensures.room ∙ c.loop-at.invariant.room

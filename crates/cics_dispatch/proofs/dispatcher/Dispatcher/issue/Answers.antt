@@ -16,7 +16,7 @@ returns-then-is_waiting-clause-step c =
     let t = c.get.result.now in
     let label = c.args.label in
     let is : task_at m.tasks label ≡ Some t = ap (λ r. task_at r.machine.tasks label) (sym c.self.view_is) ∙ sym c.in-Some.ensures.task ∙ c.get.ensures in
-    let waits : is_waiting m.waiting label ≡ true = ap (λ r. is_waiting r.machine.waiting label) (sym c.self.view_is) ∙ sym c.is_waiting.ensures ∙ c.if-is_waiting.true in
+    let waits : is_waiting m.waiting label ≡ true = ap (λ r. is_waiting r.machine.waiting label) (sym c.self.view_is) ∙ sym c.is_waiting.ensures.waiting ∙ c.if-is_waiting.true in
     (issued_waiting m label c.args.command t is (sym c.has_ended.ensures ∙ c.if-has_ended.false) waits, refl)
 
 pub perform-requires-clause-may : goal.perform-requires-clause-may
@@ -27,7 +27,7 @@ perform-requires-clause-may c = record {
       let label = c.args.label in
       let is : task_at m.tasks label ≡ Some t = ap (λ r. task_at r.machine.tasks label) (sym c.self.view_is) ∙ sym c.in-Some.ensures.task ∙ c.get.ensures in
       let there : slice_get m.tasks c.in-Some.at ≡ Some t = ap (λ r. slice_get r.machine.tasks c.in-Some.at) (sym c.self.view_is) ∙ c.get.ensures in
-      let awake : is_waiting m.waiting label ≡ false = ap (λ r. is_waiting r.machine.waiting label) (sym c.self.view_is) ∙ sym c.is_waiting.ensures ∙ c.if-is_waiting.false in
+      let awake : is_waiting m.waiting label ≡ false = ap (λ r. is_waiting r.machine.waiting label) (sym c.self.view_is) ∙ sym c.is_waiting.ensures.waiting ∙ c.if-is_waiting.false in
       ap (λ x. is_waiting m.waiting x.label) (one_task m.tasks c.in-Some.at here there) ∙ ap (is_waiting m.waiting) (place_of_task m.tasks label t is).2 ∙ awake;
   passed = λ s here. sym (c.fault.ensures.fault s here) ∙ c.in-None.is;
   short =
@@ -42,7 +42,7 @@ returns-in_err-perform-in-None-clause-step c =
     let label = c.args.label in
     let is : task_at m.tasks label ≡ Some t = ap (λ r. task_at r.machine.tasks label) (sym c.self.view_is) ∙ sym c.in-Some.ensures.task ∙ c.get.ensures in
     let there : slice_get m.tasks c.in-Some.at ≡ Some t = ap (λ r. slice_get r.machine.tasks c.in-Some.at) (sym c.self.view_is) ∙ c.get.ensures in
-    let awake : is_waiting m.waiting label ≡ false = ap (λ r. is_waiting r.machine.waiting label) (sym c.self.view_is) ∙ sym c.is_waiting.ensures ∙ c.if-is_waiting.false in
+    let awake : is_waiting m.waiting label ≡ false = ap (λ r. is_waiting r.machine.waiting label) (sym c.self.view_is) ∙ sym c.is_waiting.ensures.waiting ∙ c.if-is_waiting.false in
     refused_memory _ _ _ c.from_residual.result _ c.from_residual.ensures
     (wants_memory m label c.args.command t is (sym c.has_ended.ensures ∙ c.if-has_ended.false) awake (sym (c.fault.ensures.fault t there) ∙ c.in-None.is) c.in_err-perform-in-None.ensures.growing)
     c.in_err-perform-in-None.ensures.step
@@ -54,7 +54,7 @@ returns-in-Some-fault-clause-step c =
     let label = c.args.label in
     let is : task_at m.tasks label ≡ Some t = ap (λ r. task_at r.machine.tasks label) (sym c.self.view_is) ∙ sym c.in-Some.ensures.task ∙ c.get.ensures in
     let there : slice_get m.tasks c.in-Some.at ≡ Some t = ap (λ r. slice_get r.machine.tasks c.in-Some.at) (sym c.self.view_is) ∙ c.get.ensures in
-    let awake : is_waiting m.waiting label ≡ false = ap (λ r. is_waiting r.machine.waiting label) (sym c.self.view_is) ∙ sym c.is_waiting.ensures ∙ c.if-is_waiting.false in
+    let awake : is_waiting m.waiting label ≡ false = ap (λ r. is_waiting r.machine.waiting label) (sym c.self.view_is) ∙ sym c.is_waiting.ensures.waiting ∙ c.if-is_waiting.false in
     let step = issued_checked m label c.args.command t is (Some c.in-Some-fault.fault) (sym c.has_ended.ensures ∙ c.if-has_ended.false) awake (sym (c.fault.ensures.fault t there) ∙ c.in-Some-fault.is) in
     let told = c.answer.ensures.step.0 t there ∙ ap (answered m t c.args.command.resp) c.plain_reply.ensures in
     (ap (λ s. s.outcome) step ∙ sym (ap (λ s. Ok s.outcome) told), ap (λ s. s.machine) told ∙ sym (ap (λ s. s.machine) step))
@@ -66,7 +66,7 @@ returns-in_ok-perform-in-None-clause-step c =
     let label = c.args.label in
     let is : task_at m.tasks label ≡ Some t = ap (λ r. task_at r.machine.tasks label) (sym c.self.view_is) ∙ sym c.in-Some.ensures.task ∙ c.get.ensures in
     let there : slice_get m.tasks c.in-Some.at ≡ Some t = ap (λ r. slice_get r.machine.tasks c.in-Some.at) (sym c.self.view_is) ∙ c.get.ensures in
-    let awake : is_waiting m.waiting label ≡ false = ap (λ r. is_waiting r.machine.waiting label) (sym c.self.view_is) ∙ sym c.is_waiting.ensures ∙ c.if-is_waiting.false in
+    let awake : is_waiting m.waiting label ≡ false = ap (λ r. is_waiting r.machine.waiting label) (sym c.self.view_is) ∙ sym c.is_waiting.ensures.waiting ∙ c.if-is_waiting.false in
     let step = issued_checked m label c.args.command t is None (sym c.has_ended.ensures ∙ c.if-has_ended.false) awake (sym (c.fault.ensures.fault t there) ∙ c.in-None.is) in
     let told = c.in_ok-perform-in-None.ensures.step.0 t there in
     (ap (λ s. s.outcome) step ∙ sym (ap (λ s. Ok s.outcome) told), ap (λ s. s.machine) told ∙ sym (ap (λ s. s.machine) step))

@@ -10,4 +10,4 @@ returns-in-Some c = λ awake.
     let label = c.in-Some.label in
     owner_awake v.machine c.args.unit label (subst IsRegionKept c.self.view_is c.self.invariant).tasks.owners
     (c.in-Some.ensures.label ∙ ap (λ v. label_of v.machine.tasks c.args.unit) c.self.view_is)
-    (ap (λ v. is_waiting v.machine.waiting label) (sym c.self.view_is) ∙ sym c.is_waiting.ensures ∙ awake)
+    (ap (λ v. is_waiting v.machine.waiting label) (sym c.self.view_is) ∙ sym c.is_waiting.ensures.waiting ∙ awake)

@@ -3,14 +3,14 @@ use Rattle.std.proofs.lemmas.Option.{slice_get_read}
 use Rattle.indexmap.specs.IndexSet.{insert_key}
 use Rattle.std.proofs.Common.{ℕ, nat_eq, List}
 use Rattle.cics_dispatch.specs.Notes.{with_blocker, AreBlockersAmong}
-use Rattle.cics_dispatch.proofs.NoteRows.{was_ok, inserted, kept_among, among-more, among-set_blocked}
+use Rattle.cics_dispatch.proofs.NoteRows.{inserted, kept_among, among-more, among-set_blocked}
 use Rattle.cics_dispatch.proofs.notes.Notes.set_blocker.Goals as goal
 
 pub invariant_of-self-2 : goal.invariant_of-self-2
 invariant_of-self-2 c =
     let us : List ℕ = c.self.inside.blockers.keys in
     let put : c.insert.new.self.keys ≡ insert_key nat_eq us c.args.unit =
-    was_ok (c.insert.new.self.keys ≡ insert_key nat_eq us c.args.unit) c.insert.result (sym c.is_err.ensures.value ∙ c.if-is_err.false) c.insert.ensures.keys in
+    c.in_ok-insert.ensures.keys in
     subst (λ ks. AreBlockersAmong ks (slice_set c.self.inside.rows.items c.args.at (with_blocker c.args.unit c.index_mut.result.now))) (sym put)
     (among-set_blocked (insert_key nat_eq us c.args.unit) c.self.inside.rows.items c.args.at (with_blocker c.args.unit c.index_mut.result.now) c.args.unit refl
     (inserted nat_eq (λ a b. refl) us c.args.unit)
