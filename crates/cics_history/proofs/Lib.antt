@@ -23,6 +23,7 @@ pub mod States
 pub mod Stores
 pub mod SerialTurns
 pub mod SerialRuns
+pub mod Committing
 mod SerialRows
 pub mod Undoing
 pub mod Places

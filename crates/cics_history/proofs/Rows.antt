@@ -380,7 +380,7 @@ other_value = refl
 
 -- a value that a unit has enqueued on 65,535 times is full for it
 abbrev enqueued_often : UnitsState
-enqueued_often = record { opening = defined; trace = []; outcomes = Open ∷ []; reads = []; counts = record { value = codes "X"; unit = 0; count = 65535 } ∷ []; next = [] }
+enqueued_often = record { opening = defined; trace = []; outcomes = Open ∷ []; commits = []; reads = []; counts = record { value = codes "X"; unit = 0; count = 65535 } ∷ []; next = [] }
 
 full : enqueue enqueued_often (Some 0) (codes "X") ≡ CountFull
 full = refl

@@ -1,6 +1,7 @@
 -- ENQ, DEQ, UNLOCK and READQ TS add no entry to the history and end no unit: what is said of the opening, the history and the
 -- outcomes alone stays through each of them.
-use Rattle.std.proofs.Common.{ℕ, Option, List, subst}
+use Rattle.std.proofs.Common.{◌≡◌, ℕ, true, false, Option, List, refl, subst}
+use Rattle.std.specs.Prelude.{if◌then◌else◌}
 use Rattle.std.proofs.lemmas.Bool.{cond_both}
 use Rattle.cics_names.specs.Keyed.{Bytes, with_value}
 use Rattle.cics_tempstor.specs.Queues.{has_item}
@@ -47,7 +48,23 @@ module _ (P : OpeningState → List Entry → Outcomes → Type 0) (s : UnitsSta
         opening = s.opening;
         trace = s.trace;
         outcomes = s.outcomes;
+        commits = s.commits;
         reads = s.reads;
         counts = s.counts;
         next = with_value q n s.next;
       }) s IsSaidOf (λ t. h) (λ f. h)
+
+-- nor does a unit commit by one of them
+enqueued-commits : (s : UnitsState) (u : Option ℕ) (v : Bytes) (e : Enqueued) → (after_enqueued s u v e).commits ≡ s.commits
+enqueued-commits s u v (Taken unit) = refl
+enqueued-commits s u v (EnqMustWait holder) = refl
+enqueued-commits s u v CountFull = refl
+
+pub enqueue-commits : (s : UnitsState) (u : Option ℕ) (v : Bytes) → (after_enqueue s u v).commits ≡ s.commits
+enqueue-commits s u v = enqueued-commits s u v (enqueue s u v)
+
+pub ts_reading-commits : (s : UnitsState) (q : Bytes) (n : ℕ) → (after_ts_reading s q n).commits ≡ s.commits
+ts_reading-commits s q n = elim (has_item (ts_queue (store_of s) q) n) as (λ b. (if b then record s { next = with_value q n s.next } else s).commits ≡ s.commits) [
+  | true ↦ refl
+  | false ↦ refl
+]

@@ -46,8 +46,12 @@ opening = record {
 abbrev after : List Event → UnitsState
 after events = run (beginning opening) events
 
+-- the list of those that committed, as the state keeps it, and as the events say
 abbrev order : List Event → List ℕ
-order events = commit_order (beginning opening) events
+order events = (after events).commits
+
+abbrev committing : List Event → List ℕ
+committing events = commit_order (beginning opening) events
 
 -- the conditions that the tasks were given
 abbrev given : List Entry → List Condition
@@ -92,6 +96,9 @@ deposits =
 deposits_order : order deposits ≡ 1 ∷ 0 ∷ []
 deposits_order = refl
 
+deposits_committing : committing deposits ≡ 1 ∷ 0 ∷ []
+deposits_committing = refl
+
 deposits_answers : by_turns deposits (1 ∷ 0 ∷ []) ≡ Normal ∷ Normal ∷ Normal ∷ Normal ∷ Normal ∷ []
 deposits_answers = refl
 
@@ -132,6 +139,33 @@ waited_stores = (refl, refl, refl, refl)
 
 waited_turned : in_turn waited (1 ∷ 0 ∷ []) (Key acct (1 ∷ [])) ≡ Some ((1 ∷ 11 ∷ []) ∷ [])
 waited_turned = refl
+
+-- ---- Two records of a file: unit 0 writes one and unit 1 rewrites the other, and either commits first
+
+abbrev two_records : List Event → List Event
+two_records rest =
+    Execute None (Write acct (2 ∷ []) (2 ∷ 20 ∷ []))
+    ∷ Execute None (ReadUpdate acct (1 ∷ []))
+    ∷ Execute (Some 1) (Rewrite acct (1 ∷ []) (1 ∷ 11 ∷ []))
+    ∷ rest
+
+either_order :
+    (order (two_records (Commit 0 ∷ Commit 1 ∷ [])) ≡ 0 ∷ 1 ∷ [])
+    × (order (two_records (Commit 1 ∷ Commit 0 ∷ [])) ≡ 1 ∷ 0 ∷ [])
+either_order = (refl, refl)
+
+-- each order gives every command its answer, and both give what stands
+either_answers :
+    (by_turns (two_records (Commit 0 ∷ Commit 1 ∷ [])) (0 ∷ 1 ∷ []) ≡ Normal ∷ Normal ∷ Normal ∷ [])
+    × (by_turns (two_records (Commit 1 ∷ Commit 0 ∷ [])) (1 ∷ 0 ∷ []) ≡ Normal ∷ Normal ∷ Normal ∷ [])
+either_answers = (refl, refl)
+
+either_stores :
+    (in_turn (two_records (Commit 0 ∷ Commit 1 ∷ [])) (0 ∷ 1 ∷ []) (Key acct (1 ∷ [])) ≡ Some ((1 ∷ 11 ∷ []) ∷ []))
+    × (in_turn (two_records (Commit 1 ∷ Commit 0 ∷ [])) (1 ∷ 0 ∷ []) (Key acct (1 ∷ [])) ≡ Some ((1 ∷ 11 ∷ []) ∷ []))
+    × (in_turn (two_records (Commit 0 ∷ Commit 1 ∷ [])) (0 ∷ 1 ∷ []) (Key acct (2 ∷ [])) ≡ Some ((2 ∷ 20 ∷ []) ∷ []))
+    × (in_turn (two_records (Commit 1 ∷ Commit 0 ∷ [])) (1 ∷ 0 ∷ []) (Key acct (2 ∷ [])) ≡ Some ((2 ∷ 20 ∷ []) ∷ []))
+either_stores = (refl, refl, refl, refl)
 
 -- ---- A temporary storage queue: the number of an item depends on the order
 
@@ -239,8 +273,12 @@ some_open =
     ∷ BackOut 2
     ∷ []
 
+-- neither of the open ones is told, nor the one that was backed out
 some_open_order : order some_open ≡ 1 ∷ []
 some_open_order = refl
+
+some_open_committing : committing some_open ≡ 1 ∷ []
+some_open_committing = refl
 
 -- with both of them backed out, one, and none
 committed_alone :

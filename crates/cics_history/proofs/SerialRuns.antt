@@ -1,6 +1,6 @@
 -- Every call of the units keeps them in serial order, so every run does.
-use Rattle.std.proofs.Common.{arith, ◌≡◌, ℕ, true, false, not, ◌||◌, Option, Some, None, List, [], ◌∷◌, ◌++◌, length, refl, ap, sym, subst, ◌∙◌, ◌<◌, eqb, ltb, inl, inr, ◌⊎◌}
-use Rattle.std.specs.Prelude.{if◌then◌else◌, unwrap_or, slice_set, IsPermutation}
+use Rattle.std.proofs.Common.{arith, ◌≡◌, ℕ, Bool, true, false, not, ◌||◌, Option, Some, None, List, [], ◌∷◌, ◌++◌, length, refl, ap, sym, subst, ◌∙◌, ◌<◌, eqb, ltb, inl, inr, ◌⊎◌}
+use Rattle.std.specs.Prelude.{if◌then◌else◌, unwrap_or, slice_set}
 use Rattle.std.proofs.Math.Bool.{or-false}
 use Rattle.std.proofs.lemmas.Bool.{true≢false, false≢true, cases_Bool, cond_both, and_parts, and_from, not-true, lt-ltb, ltb-true, eqb-true, eq-eqb, or_left, or_right}
 use Rattle.std.proofs.lemmas.Option.{unwrap_or-slice_get, slice_get_past}
@@ -11,8 +11,8 @@ use Rattle.cics_history.specs.Openings.{OpeningState, IsOpeningInOrder}
 use Rattle.cics_history.specs.Store.{Store, apply, initial_store}
 use Rattle.cics_history.specs.History.{outcome_of, is_open, is_backed_out, replay, Agrees}
 use Rattle.cics_history.specs.Holding.{UnitsState, store_of, awaited}
-use Rattle.cics_history.specs.Execution.{unit_or_next, outcomes_with, entered, state_of, after_execution, after_end, after_enqueue, after_dequeue, after_unlock, after_ts_reading}
-use Rattle.cics_history.specs.Headline.{beginning, IsSameRecoverable}
+use Rattle.cics_history.specs.Execution.{UnitsValue, unit_or_next, outcomes_with, entered, state_of, after_execution, after_end, after_enqueue, after_dequeue, after_unlock, after_ts_reading}
+use Rattle.cics_history.specs.Headline.{beginning, IsSameRecoverable, TakeTurns}
 use Rattle.cics_history.specs.declared.ops.Op.{Op}
 use Rattle.cics_history.specs.declared.ops.Entry.{Entry}
 use Rattle.cics_history.specs.declared.ops.UnitState.{UnitState}
@@ -20,14 +20,14 @@ use Rattle.cics_history.specs.declared.ops.UnitState.TheVariants.{Open, Committe
 use Rattle.cics_history.specs.Cells.{Cell, Key, Ts, Td, content, recovers, IsOrdered, IsCanonical}
 use Rattle.cics_history.specs.Events.{Event, Execute, Commit, BackOut, Enqueue, Dequeue, Unlock, ReadItem, is_live, may_act, happens, run}
 use Rattle.cics_history.specs.Isolation.{Outcomes, Extends, left_by, AreKnown, IsSound}
-use Rattle.cics_history.specs.Serial.{among, committed_by, commit_order, is_committed, are_distinct, IsCommitOrder, done_by_any, one_by_one, AreOpen, are_backed_out_but, store_without_others, AreAllOpen, NoneIsOpen, serial_store, IsSerial, OrderIsSerial, EachCanBeLast, IsInOrder}
+use Rattle.cics_history.specs.Serial.{among, committed_by, commit_order, is_committed, are_distinct, IsCommitOrder, one_by_one, AreOpen, are_backed_out_but, store_without_others, AreAllOpen, NoneIsOpen, serial_store, IsSerial, OrderIsSerial, EachCanBeLast, IsInOrder}
 use Rattle.cics_history.proofs.Executes.{open_kept}
 use Rattle.cics_history.proofs.Replays.{Each_more}
 use Rattle.cics_history.proofs.Stores.{same_file, same_queue, initial-canonical, replay-canonical}
 use Rattle.cics_history.proofs.Outcomes.{outcome_of-with, outcome_of-set}
 use Rattle.cics_history.proofs.Waiting.{MayRun_from}
 use Rattle.cics_history.proofs.States.{acting_open, happens-IsSound, beginning-IsSound, run-IsSound, run-opening}
-use Rattle.cics_history.proofs.SameHistory.{enqueue-same, dequeue-same, unlock-same, ts_reading-same}
+use Rattle.cics_history.proofs.SameHistory.{enqueue-same, ts_reading-same, enqueue-commits, ts_reading-commits}
 use Rattle.cics_history.proofs.SerialLists.{eqb-turned, or_neither}
 use Rattle.cics_history.proofs.SerialTurns.{turns_permute, distinct_behind}
 use Rattle.cics_history.proofs.Serial.{same_left, executes-last, executes-serial, open_last, ends-last, ends-serial, commits-serial}
@@ -40,9 +40,9 @@ uncommitted Committed h = absurd (false≢true h)
 uncommitted BackedOut h = refl
 
 -- an open unit has not committed
-pub open_absent : (s : UnitsState) (order : List ℕ) → IsCommitOrder s order → (u : ℕ) →
-    is_open (outcome_of s.outcomes u) ≡ true → among u order ≡ false
-open_absent s order c u live = c.committed u ∙ uncommitted (outcome_of s.outcomes u) live
+pub open_absent : (s : UnitsState) → IsCommitOrder s → (u : ℕ) →
+    is_open (outcome_of s.outcomes u) ≡ true → among u s.commits ≡ false
+open_absent s c u live = c.committed u ∙ uncommitted (outcome_of s.outcomes u) live
 
 -- one unit more
 among-push : (n u : ℕ) (order : List ℕ) → among n (order ++ u ∷ []) ≡ (among n order || (eqb u n || false))
@@ -81,88 +81,82 @@ module _ (s : UnitsState) (u : ℕ) (live : is_live s u ≡ true) where
     | inr other ↦ set_other oc n other
   ]
 
-  commit-order : (order : List ℕ) → IsCommitOrder s order → IsCommitOrder (after_end s u Committed) (order ++ u ∷ [])
-  commit-order order c = record {
-    committed = λ n. among-push n u order ∙ elim (cases_Bool (eqb n u)) [
+  commit-order : IsCommitOrder s → IsCommitOrder (after_end s u Committed)
+  commit-order c = record {
+    committed = λ n. among-push n u s.commits ∙ elim (cases_Bool (eqb n u)) [
       | inl y ↦
-          subst (λ k. (among k order || (eqb u k || false)) ≡ is_committed (outcome_of (slice_set s.outcomes u Committed) k))
+          subst (λ k. (among k s.commits || (eqb u k || false)) ≡ is_committed (outcome_of (slice_set s.outcomes u Committed) k))
           (sym (eqb-true n u y))
           (or_right _ _ (or_left _ _ (eq-eqb u u refl)) ∙ sym (ap is_committed (set_own Committed)))
       | inr other ↦
           rw (eqb-turned u n other)
-          (or-false (among n order) ∙ (c.committed n ∙ ap is_committed (sym (set_other Committed n other))))
+          (or-false (among n s.commits) ∙ (c.committed n ∙ ap is_committed (sym (set_other Committed n other))))
     ];
-    once = distinct-push order u c.once (open_absent s order c u live_open);
+    once = distinct-push s.commits u c.once (open_absent s c u live_open);
   }
 
-  backout-order : (order : List ℕ) → IsCommitOrder s order → IsCommitOrder (after_end s u BackedOut) order
-  backout-order order c = record {
+  backout-order : IsCommitOrder s → IsCommitOrder (after_end s u BackedOut)
+  backout-order c = record {
     committed = λ n. elim (cases_Bool (eqb n u)) [
       | inl y ↦
-          subst (λ k. among k order ≡ is_committed (outcome_of (slice_set s.outcomes u BackedOut) k)) (sym (eqb-true n u y))
-          (open_absent s order c u live_open ∙ sym (ap is_committed (set_own BackedOut)))
+          subst (λ k. among k s.commits ≡ is_committed (outcome_of (slice_set s.outcomes u BackedOut) k)) (sym (eqb-true n u y))
+          (open_absent s c u live_open ∙ sym (ap is_committed (set_own BackedOut)))
       | inr other ↦ c.committed n ∙ ap is_committed (sym (set_other BackedOut n other))
     ];
     once = c.once;
   }
 
   -- a unit that commits comes behind those that committed before it
-  pub commit-IsInOrder : (order : List ℕ) → IsInOrder s order → IsInOrder (after_end s u Committed) (order ++ u ∷ [])
-  commit-IsInOrder order i = record {
+  pub commit-IsInOrder : IsInOrder s → IsInOrder (after_end s u Committed)
+  commit-IsInOrder i = record {
     ordered = i.ordered;
-    commits = commit-order order i.commits;
+    commits = commit-order i.commits;
     serial =
-        commits-serial i.ordered order u i.serial i.last (set_extends Committed) live_open (ap is_open (set_own Committed))
+        commits-serial i.ordered s.commits u i.serial i.last (set_extends Committed) live_open (ap is_open (set_own Committed))
         (ap is_backed_out (set_own Committed)) (set_other Committed);
     last = ends-last i.last (set_extends Committed);
   }
 
   -- a unit that is backed out is in no order
-  pub backout-IsInOrder : (order : List ℕ) → IsInOrder s order → IsInOrder (after_end s u BackedOut) order
-  backout-IsInOrder order i = record {
+  pub backout-IsInOrder : IsInOrder s → IsInOrder (after_end s u BackedOut)
+  backout-IsInOrder i = record {
     ordered = i.ordered;
-    commits = backout-order order i.commits;
-    serial = ends-serial order i.serial (set_extends BackedOut) (λ n live. elim (cases_Bool (eqb n u)) [
+    commits = backout-order i.commits;
+    serial = ends-serial s.commits i.serial (set_extends BackedOut) (λ n live. elim (cases_Bool (eqb n u)) [
       | inl y ↦ inr (ap is_backed_out (ap (λ k. outcome_of (slice_set s.outcomes u BackedOut) k) (eqb-true n u y) ∙ set_own BackedOut))
       | inr other ↦ inl (ap is_open (set_other BackedOut n other) ∙ live)
     ]);
     last = ends-last i.last (set_extends BackedOut);
   }
 
--- a unit that begins, or none
-with-order : (s t : UnitsState) (u : Option ℕ) (order : List ℕ) → t.outcomes ≡ outcomes_with u s.outcomes →
-    IsCommitOrder s order → IsCommitOrder t order
-with-order s t u order e c = record {
-  committed =
-      λ n. c.committed n ∙ ap is_committed (sym (ap (λ l. outcome_of l n) e ∙ outcome_of-with u s.outcomes n));
-  once = c.once;
-}
-
 still_open : (u : Option ℕ) (outs : List UnitState) (n : ℕ) → is_open (outcome_of outs n) ≡ true →
     (is_open (outcome_of (outcomes_with u outs) n) ≡ true) ⊎ (is_backed_out (outcome_of (outcomes_with u outs) n) ≡ true)
 still_open u outs n live = inl (ap is_open (outcome_of-with u outs n) ∙ live)
 
 -- a command that is executed
-entered-IsInOrder : (s : UnitsState) (u : Option ℕ) (op : Op) (order : List ℕ) → IsSound s → IsInOrder s order →
-    may_act s u ≡ true → awaited s u op ≡ None → IsInOrder (entered s u op (apply (store_of s) op).answer) order
-entered-IsInOrder s u op order sound i acts free =
+entered-IsInOrder : (s : UnitsState) (u : Option ℕ) (op : Op) → IsSound s → IsInOrder s →
+    may_act s u ≡ true → awaited s u op ≡ None → IsInOrder (entered s u op (apply (store_of s) op).answer)
+entered-IsInOrder s u op sound i acts free =
     let v = unit_or_next u s.outcomes in
     let may = MayRun_from s sound.known u op free (acting_open s u acts) in
     record {
       ordered = i.ordered;
-      commits = with-order s (entered s u op (apply (store_of s) op).answer) u order refl i.commits;
+      commits = record {
+        committed = λ n. i.commits.committed n ∙ ap is_committed (sym (outcome_of-with u s.outcomes n));
+        once = i.commits.once;
+      };
       serial =
-          ends-serial order
-          (executes-serial sound.isolated v op may order (open_absent s order i.commits v (acting_open s u acts)) i.serial)
+          ends-serial s.commits
+          (executes-serial sound.isolated v op may s.commits (open_absent s i.commits v (acting_open s u acts)) i.serial)
           (λ n shut. outcome_of-with u s.outcomes n) (still_open u s.outcomes);
       last = ends-last (executes-last sound.isolated v op may i.last) (λ n shut. outcome_of-with u s.outcomes n);
     }
 
-pub execution-IsInOrder : (s : UnitsState) (u : Option ℕ) (op : Op) (order : List ℕ) → IsSound s →
-    IsInOrder s order → may_act s u ≡ true → IsInOrder (after_execution s u op) order
-execution-IsInOrder s u op order sound i acts =
-    elim (awaited s u op) as (λ h. awaited s u op ≡ h → IsInOrder (state_of s u op h) order) [
-      | None ↦ λ free. entered-IsInOrder s u op order sound i acts free
+pub execution-IsInOrder : (s : UnitsState) (u : Option ℕ) (op : Op) → IsSound s → IsInOrder s →
+    may_act s u ≡ true → IsInOrder (after_execution s u op)
+execution-IsInOrder s u op sound i acts =
+    elim (awaited s u op) as (λ h. awaited s u op ≡ h → IsInOrder (state_of s u op h)) [
+      | None ↦ λ free. entered-IsInOrder s u op sound i acts free
       | Some holder ↦ λ waits. i
     ] refl
 
@@ -171,43 +165,38 @@ abbrev IsOrderOf : List ℕ → OpeningState → List Entry → Outcomes → Typ
 IsOrderOf order o es out =
     IsOrdered (initial_store o) × ((u : ℕ) → among u order ≡ is_committed (out u)) × OrderIsSerial o es out order × EachCanBeLast o es out
 
-module _ (s : UnitsState) (order : List ℕ) (i : IsInOrder s order) where
-  -- what an order says
-  said : IsOrderOf order s.opening s.trace (outcome_of s.outcomes)
+module _ (s : UnitsState) (i : IsInOrder s) where
+  -- what the order of the commits says
+  said : IsOrderOf s.commits s.opening s.trace (outcome_of s.outcomes)
   said = (i.ordered, i.commits.committed, i.serial, i.last)
 
-  -- where it is said of a state, the units are in this order there
-  in_order_of : (t : UnitsState) → IsOrderOf order t.opening t.trace (outcome_of t.outcomes) → IsInOrder t order
-  in_order_of t (ordered, committed, serial, last) = record {
+  -- where it is said of a state with the same commits, the units are in order there
+  in_order_of : (t : UnitsState) → t.commits ≡ s.commits → IsOrderOf s.commits t.opening t.trace (outcome_of t.outcomes) → IsInOrder t
+  in_order_of t same (ordered, committed, serial, last) = record {
     ordered = ordered;
-    commits = record { committed = committed; once = i.commits.once };
-    serial = serial;
+    commits = record {
+      committed = λ u. ap (among u) same ∙ committed u;
+      once = ap are_distinct same ∙ i.commits.once;
+    };
+    serial = subst (OrderIsSerial t.opening t.trace (outcome_of t.outcomes)) (sym same) serial;
     last = last;
   }
 
-pub enqueue-IsInOrder : (s : UnitsState) (u : Option ℕ) (v : Bytes) (order : List ℕ) → IsInOrder s order →
-    IsInOrder (after_enqueue s u v) order
-enqueue-IsInOrder s u v order i =
-    in_order_of s order i (after_enqueue s u v) (enqueue-same (IsOrderOf order) s (said s order i) u v)
+  pub enqueue-IsInOrder : (u : Option ℕ) (v : Bytes) → IsInOrder (after_enqueue s u v)
+  enqueue-IsInOrder u v = in_order_of (after_enqueue s u v) (enqueue-commits s u v) (enqueue-same (IsOrderOf s.commits) s said u v)
 
-pub dequeue-IsInOrder : (s : UnitsState) (u : ℕ) (v : Bytes) (order : List ℕ) → IsInOrder s order →
-    IsInOrder (after_dequeue s u v) order
-dequeue-IsInOrder s u v order i =
-    in_order_of s order i (after_dequeue s u v) (dequeue-same (IsOrderOf order) s (said s order i) u v)
+  pub dequeue-IsInOrder : (u : ℕ) (v : Bytes) → IsInOrder (after_dequeue s u v)
+  dequeue-IsInOrder u v = in_order_of (after_dequeue s u v) refl said
 
-pub unlock-IsInOrder : (s : UnitsState) (u : ℕ) (f : Bytes) (order : List ℕ) → IsInOrder s order →
-    IsInOrder (after_unlock s u f) order
-unlock-IsInOrder s u f order i =
-    in_order_of s order i (after_unlock s u f) (unlock-same (IsOrderOf order) s (said s order i) u f)
+  pub unlock-IsInOrder : (u : ℕ) (f : Bytes) → IsInOrder (after_unlock s u f)
+  unlock-IsInOrder u f = in_order_of (after_unlock s u f) refl said
 
-pub ts_reading-IsInOrder : (s : UnitsState) (q : Bytes) (n : ℕ) (order : List ℕ) → IsInOrder s order →
-    IsInOrder (after_ts_reading s q n) order
-ts_reading-IsInOrder s q n order i =
-    in_order_of s order i (after_ts_reading s q n) (ts_reading-same (IsOrderOf order) s (said s order i) q n)
+  pub ts_reading-IsInOrder : (q : Bytes) (n : ℕ) → IsInOrder (after_ts_reading s q n)
+  ts_reading-IsInOrder q n = in_order_of (after_ts_reading s q n) (ts_reading-commits s q n) (ts_reading-same (IsOrderOf s.commits) s said q n)
 
 -- ---- Runs
 
-pub beginning-IsInOrder : (o : OpeningState) → IsOpeningInOrder o → IsInOrder (beginning o) []
+pub beginning-IsInOrder : (o : OpeningState) → IsOpeningInOrder o → IsInOrder (beginning o)
 beginning-IsInOrder o order = record {
   ordered = (initial-canonical o order).records;
   commits = record {
@@ -218,51 +207,65 @@ beginning-IsInOrder o order = record {
   last = λ u live fin more f m w. record { answers = tt; cells = λ x r. refl };
 }
 
-pub happens-IsInOrder : (s : UnitsState) (e : Event) (order : List ℕ) → IsSound s → IsInOrder s order →
-    IsInOrder (happens s e) (order ++ committed_by s e)
-happens-IsInOrder s (Execute u op) order sound i =
-    subst (λ l. IsInOrder (happens s (Execute u op)) l) (sym (append-nil order))
-    (cond_both (may_act s u) (after_execution s u op) s (λ t. IsInOrder t order)
-    (λ t. execution-IsInOrder s u op order sound i t) (λ f. i))
-happens-IsInOrder s (Commit u) order sound i =
-    elim (is_live s u) as (λ b. is_live s u ≡ b →
-    IsInOrder (if b then after_end s u Committed else s) (order ++ (if b then u ∷ [] else []))) [
-      | true ↦ λ live. commit-IsInOrder s u live order i
-      | false ↦ λ not_live. subst (λ l. IsInOrder s l) (sym (append-nil order)) i
-    ] refl
-happens-IsInOrder s (BackOut u) order sound i =
-    subst (λ l. IsInOrder (happens s (BackOut u)) l) (sym (append-nil order))
-    (cond_both (is_live s u) (after_end s u BackedOut) s (λ t. IsInOrder t order)
-    (λ t. backout-IsInOrder s u t order i) (λ f. i))
-happens-IsInOrder s (Enqueue u v) order sound i =
-    subst (λ l. IsInOrder (happens s (Enqueue u v)) l) (sym (append-nil order))
-    (cond_both (may_act s u) (after_enqueue s u v) s (λ t. IsInOrder t order)
-    (λ t. enqueue-IsInOrder s u v order i) (λ f. i))
-happens-IsInOrder s (Dequeue u v) order sound i =
-    subst (λ l. IsInOrder (happens s (Dequeue u v)) l) (sym (append-nil order))
-    (cond_both (is_live s u) (after_dequeue s u v) s (λ t. IsInOrder t order)
-    (λ t. dequeue-IsInOrder s u v order i) (λ f. i))
-happens-IsInOrder s (Unlock u f) order sound i =
-    subst (λ l. IsInOrder (happens s (Unlock u f)) l) (sym (append-nil order))
-    (cond_both (is_live s u) (after_unlock s u f) s (λ t. IsInOrder t order)
-    (λ t. unlock-IsInOrder s u f order i) (λ n. i))
-happens-IsInOrder s (ReadItem q n) order sound i =
-    subst (λ l. IsInOrder (happens s (ReadItem q n)) l) (sym (append-nil order)) (ts_reading-IsInOrder s q n order i)
+happens-IsInOrder : (s : UnitsState) (e : Event) → IsSound s → IsInOrder s → IsInOrder (happens s e)
+happens-IsInOrder s (Execute u op) sound i =
+    cond_both (may_act s u) (after_execution s u op) s IsInOrder (λ t. execution-IsInOrder s u op sound i t) (λ f. i)
+happens-IsInOrder s (Commit u) sound i =
+    cond_both (is_live s u) (after_end s u Committed) s IsInOrder (λ t. commit-IsInOrder s u t i) (λ f. i)
+happens-IsInOrder s (BackOut u) sound i =
+    cond_both (is_live s u) (after_end s u BackedOut) s IsInOrder (λ t. backout-IsInOrder s u t i) (λ f. i)
+happens-IsInOrder s (Enqueue u v) sound i =
+    cond_both (may_act s u) (after_enqueue s u v) s IsInOrder (λ t. enqueue-IsInOrder s i u v) (λ f. i)
+happens-IsInOrder s (Dequeue u v) sound i =
+    cond_both (is_live s u) (after_dequeue s u v) s IsInOrder (λ t. dequeue-IsInOrder s i u v) (λ f. i)
+happens-IsInOrder s (Unlock u f) sound i =
+    cond_both (is_live s u) (after_unlock s u f) s IsInOrder (λ t. unlock-IsInOrder s i u f) (λ n. i)
+happens-IsInOrder s (ReadItem q n) sound i = ts_reading-IsInOrder s i q n
 
-pub run-IsInOrder : (s : UnitsState) (events : List Event) (order : List ℕ) → IsSound s → IsInOrder s order →
-    IsInOrder (run s events) (order ++ commit_order s events)
-run-IsInOrder s [] order sound i = subst (λ l. IsInOrder s l) (sym (append-nil order)) i
-run-IsInOrder s (e ∷ events) order sound i =
-    subst (λ l. IsInOrder (run (happens s e) events) l) (append_assoc order (committed_by s e) (commit_order (happens s e) events))
-    (run-IsInOrder (happens s e) events (order ++ committed_by s e) (happens-IsSound s e sound)
-    (happens-IsInOrder s e order sound i))
+run-IsInOrder : (s : UnitsState) (events : List Event) → IsSound s → IsInOrder s → IsInOrder (run s events)
+run-IsInOrder s [] sound i = i
+run-IsInOrder s (e ∷ events) sound i =
+    run-IsInOrder (happens s e) events (happens-IsSound s e sound) (happens-IsInOrder s e sound i)
+
+-- ---- Which units an event commits
+
+execution-commits : (s : UnitsState) (u : Option ℕ) (op : Op) (h : Option ℕ) → (state_of s u op h).commits ≡ s.commits
+execution-commits s u op None = refl
+execution-commits s u op (Some holder) = refl
+
+if_commits : (b : Bool) (t s : UnitsState) → t.commits ≡ s.commits → (if b then t else s).commits ≡ s.commits ++ []
+if_commits true t s e = e ∙ sym (append-nil s.commits)
+if_commits false t s e = sym (append-nil s.commits)
+
+happens-commits : (s : UnitsState) (e : Event) → (happens s e).commits ≡ s.commits ++ committed_by s e
+happens-commits s (Execute u op) = if_commits (may_act s u) (after_execution s u op) s (execution-commits s u op (awaited s u op))
+happens-commits s (Commit u) =
+    elim (is_live s u) as (λ b. (if b then after_end s u Committed else s).commits ≡ s.commits ++ (if b then u ∷ [] else [])) [
+      | true ↦ refl
+      | false ↦ sym (append-nil s.commits)
+    ]
+happens-commits s (BackOut u) = if_commits (is_live s u) (after_end s u BackedOut) s refl
+happens-commits s (Enqueue u v) = if_commits (may_act s u) (after_enqueue s u v) s (enqueue-commits s u v)
+happens-commits s (Dequeue u v) = if_commits (is_live s u) (after_dequeue s u v) s refl
+happens-commits s (Unlock u f) = if_commits (is_live s u) (after_unlock s u f) s refl
+happens-commits s (ReadItem q n) = ts_reading-commits s q n ∙ sym (append-nil s.commits)
+
+run-commits : (s : UnitsState) (events : List Event) → (run s events).commits ≡ s.commits ++ commit_order s events
+run-commits s [] = sym (append-nil s.commits)
+run-commits s (e ∷ events) =
+    run-commits (happens s e) events ∙ ap (λ l. l ++ commit_order (happens s e) events) (happens-commits s e)
+    ∙ append_assoc s.commits (committed_by s e) (commit_order (happens s e) events)
+
+-- the list that is kept is that of the events
+pub order_after : (o : OpeningState) (events : List Event) → (run (beginning o) events).commits ≡ commit_order (beginning o) events
+order_after o events = run-commits (beginning o) events
 
 -- ---- What it says
 
-module _ (s : UnitsState) (order : List ℕ) (i : IsInOrder s order) where
+module _ (s : UnitsState) (i : IsInOrder s) where
   -- those that committed, in their order, and open ones behind them, in any order
-  pub serial_of : (later : List ℕ) → AreOpen s later →
-      IsSerial s.opening s.trace (are_backed_out_but later (outcome_of s.outcomes)) (order ++ later)
+  serial_of : (later : List ℕ) → AreOpen s later →
+      IsSerial s.opening s.trace (are_backed_out_but later (outcome_of s.outcomes)) (s.commits ++ later)
   serial_of later a =
       let out : Outcomes = outcome_of s.outcomes in
       let none : Outcomes = are_backed_out_but [] out in
@@ -271,14 +274,14 @@ module _ (s : UnitsState) (order : List ℕ) (i : IsInOrder s order) where
       λ n y. (and_parts (ltb n (length s.outcomes)) (is_open (out n)) (a.live n y)).1 in
       let none_ends : Extends out none = λ n shut. rw shut refl in
       let some_ends : Extends out some = λ n shut. rw shut refl in
-      open_last i.ordered i.last later order none some none_ends some_ends live a.once
+      open_last i.ordered i.last later s.commits none some none_ends some_ends live a.once
       (λ n y. rw (live n y) refl)
       (λ n y. rw (live n y, y) (open_kept (out n) (live n y)))
       (λ n y. rw y refl)
       (i.serial none none_ends (λ n y. rw y refl))
 
-  pub serial_answers : (later : List ℕ) → AreOpen s later →
-      Agrees (initial_store s.opening) (one_by_one s.opening s.trace (order ++ later))
+  serial_answers : (later : List ℕ) → AreOpen s later →
+      Agrees (initial_store s.opening) (one_by_one s.opening s.trace (s.commits ++ later))
   serial_answers later a = (serial_of later a).answers
 
   -- as whole files and queues
@@ -292,13 +295,13 @@ module _ (s : UnitsState) (order : List ℕ) (i : IsInOrder s order) where
       td = λ q y. at (Td q) y;
     }
 
-    pub serial_stores : (later : List ℕ) → AreOpen s later →
-        IsSameRecoverable s.opening (store_without_others s later) (serial_store s (order ++ later))
+    serial_stores : (later : List ℕ) → AreOpen s later →
+        IsSameRecoverable s.opening (store_without_others s later) (serial_store s (s.commits ++ later))
     serial_stores later a =
         let others : Outcomes = are_backed_out_but later (outcome_of s.outcomes) in
-        whole (store_without_others s later) (serial_store s (order ++ later))
+        whole (store_without_others s later) (serial_store s (s.commits ++ later))
         (replay-canonical (initial_store s.opening) (left_by s.opening others s.trace) c)
-        (replay-canonical (initial_store s.opening) (one_by_one s.opening s.trace (order ++ later)) c)
+        (replay-canonical (initial_store s.opening) (one_by_one s.opening s.trace (s.commits ++ later)) c)
         (λ x r. sym ((serial_of later a).cells x r))
 
     -- where all open units come last, it is the store as it stands
@@ -312,74 +315,45 @@ module _ (s : UnitsState) (order : List ℕ) (i : IsInOrder s order) where
           rw (still, there) refl
     ]
 
-    pub serial_whole : AreKnown s → (later : List ℕ) → AreOpen s later → AreAllOpen s later →
-        IsSameRecoverable s.opening (store_of s) (serial_store s (order ++ later))
+    serial_whole : AreKnown s → (later : List ℕ) → AreOpen s later → AreAllOpen s later →
+        IsSameRecoverable s.opening (store_of s) (serial_store s (s.commits ++ later))
     serial_whole known later a all =
-        subst (λ t. IsSameRecoverable s.opening t (serial_store s (order ++ later)))
+        subst (λ t. IsSameRecoverable s.opening t (serial_store s (s.commits ++ later)))
         (ap (λ l. replay (initial_store s.opening) l)
         (same_left s.opening s.trace (are_backed_out_but later (outcome_of s.outcomes)) (outcome_of s.outcomes)
         (Each_more _ _ (all_there later all) s.trace known)))
         (serial_stores later a)
 
     -- and where no unit is open, the units that committed are enough
-    pub serial_closed : AreKnown s → NoneIsOpen s → IsSameRecoverable s.opening (store_of s) (serial_store s order)
+    serial_closed : AreKnown s → NoneIsOpen s → IsSameRecoverable s.opening (store_of s) (serial_store s s.commits)
     serial_closed known closed =
-        subst (λ l. IsSameRecoverable s.opening (store_of s) (serial_store s l)) (append-nil order)
+        subst (λ l. IsSameRecoverable s.opening (store_of s) (serial_store s l)) (append-nil s.commits)
         (serial_whole known [] (record { live = λ n y. absurd (false≢true y); once = refl })
         (λ n y. absurd (true≢false (sym y ∙ closed n))))
 
--- ---- The laws, of every run
+-- units that are kept apart and in the order of their commits take turns, where files and queues hold the replay
+pub turns_of : (v : UnitsValue) → IsInOrder v.state → AreKnown v.state → IsCanonical (initial_store v.state.opening) →
+    v.store ≡ store_of v.state → TakeTurns v
+turns_of v i known c stands =
+    let s = v.state in
+    record {
+      order = i.commits;
+      commands = λ later a. turns_permute s.opening s.trace (s.commits ++ later)
+          (distinct_behind s.commits later i.commits.once a.once (λ n y. open_absent s i.commits n (live_open s n (a.live n y))));
+      answers = serial_answers s i;
+      stores = serial_stores s i c;
+      whole = λ later a all. subst (λ t. IsSameRecoverable s.opening t (serial_store s (s.commits ++ later))) (sym stands)
+          (serial_whole s i c known later a all);
+      closed = λ none. subst (λ t. IsSameRecoverable s.opening t (serial_store s s.commits)) (sym stands)
+          (serial_closed s i c known none);
+    }
 
-module _ (o : OpeningState) (events : List Event) (c : IsOpeningInOrder o) where
-  abbrev last_state : UnitsState
-  last_state = run (beginning o) events
-
-  abbrev order_of : List ℕ
-  order_of = commit_order (beginning o) events
-
-  in_order : IsInOrder last_state order_of
-  in_order = run-IsInOrder (beginning o) events [] (beginning-IsSound o c) (beginning-IsInOrder o c)
-
-  opening_stays : last_state.opening ≡ o
-  opening_stays = run-opening (beginning o) events
-
-  pub order_after : IsCommitOrder last_state order_of
-  order_after = in_order.commits
-
-  pub answers_after : (later : List ℕ) → AreOpen last_state later →
-      Agrees (initial_store o) (one_by_one o last_state.trace (order_of ++ later))
-  answers_after later a =
-      subst (λ p. Agrees (initial_store p) (one_by_one p last_state.trace (order_of ++ later))) opening_stays
-      (serial_answers last_state order_of in_order later a)
-
-  -- nothing is lost, and nothing comes twice
-  pub commands_after : (later : List ℕ) → AreOpen last_state later →
-      IsPermutation (done_by_any o last_state.trace (order_of ++ later)) (one_by_one o last_state.trace (order_of ++ later))
-  commands_after later a =
-      turns_permute o last_state.trace (order_of ++ later)
-      (distinct_behind order_of later order_after.once a.once
-      (λ n y. open_absent last_state order_of order_after n (live_open last_state n (a.live n y))))
-
-  canonical : IsCanonical (initial_store last_state.opening)
-  canonical = subst (λ p. IsCanonical (initial_store p)) (sym opening_stays) (initial-canonical o c)
-
-  pub stores_after : (later : List ℕ) → AreOpen last_state later →
-      IsSameRecoverable o (store_without_others last_state later) (serial_store last_state (order_of ++ later))
-  stores_after later a =
-      subst (λ p. IsSameRecoverable p (store_without_others last_state later) (serial_store last_state (order_of ++ later)))
-      opening_stays (serial_stores last_state order_of in_order canonical later a)
-
-  known : AreKnown last_state
-  known = (run-IsSound (beginning o) events (beginning-IsSound o c)).known
-
-  pub whole_after : (later : List ℕ) → AreOpen last_state later → AreAllOpen last_state later →
-      IsSameRecoverable o (store_of last_state) (serial_store last_state (order_of ++ later))
-  whole_after later a all =
-      subst (λ p. IsSameRecoverable p (store_of last_state) (serial_store last_state (order_of ++ later))) opening_stays
-      (serial_whole last_state order_of in_order canonical known later a all)
-
-  pub closed_after : NoneIsOpen last_state →
-      IsSameRecoverable o (store_of last_state) (serial_store last_state order_of)
-  closed_after closed =
-      subst (λ p. IsSameRecoverable p (store_of last_state) (serial_store last_state order_of)) opening_stays
-      (serial_closed last_state order_of in_order canonical known closed)
+-- so it is after every run
+pub turns_after : (o : OpeningState) (events : List Event) → IsOpeningInOrder o →
+    let s = run (beginning o) events in TakeTurns (record { state = s; store = store_of s })
+turns_after o events c =
+    let s = run (beginning o) events in
+    turns_of (record { state = s; store = store_of s })
+    (run-IsInOrder (beginning o) events (beginning-IsSound o c) (beginning-IsInOrder o c))
+    (run-IsSound (beginning o) events (beginning-IsSound o c)).known
+    (subst (λ p. IsCanonical (initial_store p)) (sym (run-opening (beginning o) events)) (initial-canonical o c)) refl

@@ -187,6 +187,7 @@ ts_reading-IsSound s q n i =
       opening = s.opening;
       trace = s.trace;
       outcomes = s.outcomes;
+      commits = s.commits;
       reads = s.reads;
       counts = s.counts;
       next = with_value q n s.next;

@@ -19,7 +19,7 @@ use Rattle.cics_history.specs.declared.ops.Done.TheVariants.{Answered, MustWait}
 use Rattle.cics_history.specs.declared.ops.Enqueued.{Enqueued}
 use Rattle.cics_history.specs.declared.ops.Enqueued.TheVariants.{Taken, MustWait as EnqMustWait, CountFull}
 use Rattle.cics_history.specs.declared.ops.UnitState.{UnitState}
-use Rattle.cics_history.specs.declared.ops.UnitState.TheVariants.{Open}
+use Rattle.cics_history.specs.declared.ops.UnitState.TheVariants.{Open, Committed, BackedOut}
 
 -- the state of the units, and the store that the files and queues themselves hold
 pub record UnitsValue : Type 0 where
@@ -102,6 +102,7 @@ entered s u op answer =
       opening = s.opening;
       trace = s.trace ++ record { unit = unit; op = op; answer = answer } ∷ [];
       outcomes = outcomes_with u s.outcomes;
+      commits = s.commits;
       reads = reads_after unit op answer.condition s.reads;
       counts = s.counts;
       next = next_after (store_of s) op answer.condition s.next;
@@ -158,7 +159,7 @@ uncounted (c ∷ cs) u v =
 
 -- the units with these outcomes and counts, else as they were
 abbrev pub with_counts : UnitsState → List UnitState → List EnqCount → UnitsState
-with_counts s outcomes counts = record { opening = s.opening; trace = s.trace; outcomes = outcomes; reads = s.reads; counts = counts; next = s.next }
+with_counts s outcomes counts = record { opening = s.opening; trace = s.trace; outcomes = outcomes; commits = s.commits; reads = s.reads; counts = counts; next = s.next }
 
 -- ENQ waits for another unit that holds the value; a unit that holds it the most times gets it no more
 abbrev pub enq_of : UnitsState → Option ℕ → Bytes → Option ℕ → Enqueued
@@ -193,13 +194,19 @@ after_dequeue s u v = with_counts s s.outcomes (uncounted s.counts u v)
 
 -- the units with these update reads, else as they were
 abbrev pub with_reads : UnitsState → List UpdateRead → UnitsState
-with_reads s reads = record { opening = s.opening; trace = s.trace; outcomes = s.outcomes; reads = reads; counts = s.counts; next = s.next }
+with_reads s reads = record { opening = s.opening; trace = s.trace; outcomes = s.outcomes; commits = s.commits; reads = reads; counts = s.counts; next = s.next }
 
 -- UNLOCK ends the unit's update read of the file, if it has one; what its entries hold stays held
 abbrev pub after_unlock : UnitsState → ℕ → Bytes → UnitsState
 after_unlock s u f = with_reads s (filter (λ r. not (is_read_of u f r)) s.reads)
 
 -- ---- The end of a unit
+
+-- a unit that commits comes behind those that committed before it
+abbrev pub commits_with : UnitState → ℕ → List ℕ → List ℕ
+commits_with Committed u commits = commits ++ u ∷ []
+commits_with BackedOut u commits = commits
+commits_with Open u commits = commits
 
 -- a unit that ends has this outcome, and no update read and no count any more
 abbrev pub ended_as : UnitsState → ℕ → UnitState → UnitsState
@@ -208,6 +215,7 @@ ended_as s u outcome =
       opening = s.opening;
       trace = s.trace;
       outcomes = slice_set s.outcomes u outcome;
+      commits = commits_with outcome u s.commits;
       reads = filter (λ r. not (r.unit == u)) s.reads;
       counts = filter (λ c. not (c.unit == u)) s.counts;
       next = s.next;
@@ -220,6 +228,7 @@ places_there s =
       opening = s.opening;
       trace = s.trace;
       outcomes = s.outcomes;
+      commits = s.commits;
       reads = s.reads;
       counts = s.counts;
       next = filter (λ e. has_key e.0 (store_of s).ts) s.next;
@@ -254,7 +263,7 @@ ts_reading s q n =
 abbrev pub after_ts_reading : UnitsState → Bytes → ℕ → UnitsState
 after_ts_reading s q n =
     if has_item (ts_queue (store_of s) q) n
-    then record { opening = s.opening; trace = s.trace; outcomes = s.outcomes; reads = s.reads; counts = s.counts; next = with_value q n s.next }
+    then record { opening = s.opening; trace = s.trace; outcomes = s.outcomes; commits = s.commits; reads = s.reads; counts = s.counts; next = with_value q n s.next }
     else s
 
 -- ---- What a caller sees to before a command is executed

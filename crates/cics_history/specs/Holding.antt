@@ -27,11 +27,13 @@ pub record EnqCount : Type 0 where
   pub count : ℕ
 
 -- the units of a region: what it opened with, the executed commands in their order, the outcome of each unit that began,
--- the open update reads by unit and file, the counts of ENQ by value, and the NEXT places that aren't 0 by queue
+-- those that committed in the order in which they did, the open update reads by unit and file, the counts of ENQ by value, and
+-- the NEXT places that aren't 0 by queue
 pub record UnitsState : Type 0 where
   pub opening : OpeningState
   pub trace : List Entry
   pub outcomes : List UnitState
+  pub commits : List ℕ
   pub reads : List UpdateRead
   pub counts : List EnqCount
   pub next : Map ℕ

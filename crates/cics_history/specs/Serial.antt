@@ -40,10 +40,10 @@ abbrev pub are_distinct : List ℕ → Bool
 are_distinct [] = true
 are_distinct (u ∷ units) = not (among u units) && are_distinct units
 
--- the list has each unit that committed, once, and no other
-pub record IsCommitOrder (s : UnitsState) (order : List ℕ) : Type 0 where
-  pub committed : (unit : ℕ) → among unit order ≡ is_committed (outcome_of s.outcomes unit)
-  pub once : are_distinct order ≡ true
+-- the list of those that committed has each unit that did, once, and no other
+pub record IsCommitOrder (s : UnitsState) : Type 0 where
+  pub committed : (unit : ℕ) → among unit s.commits ≡ is_committed (outcome_of s.outcomes unit)
+  pub once : are_distinct s.commits ≡ true
 
 -- ---- One unit after the other
 
@@ -123,10 +123,10 @@ OrderIsSerial o es out order =
     (fin : Outcomes) → Extends out fin → ((u : ℕ) → is_open (out u) ≡ true → is_backed_out (fin u) ≡ true) →
     IsSerial o es fin order
 
--- what every call of the units keeps, with the list of the units that committed so far: the keys of each file rise when it is
--- opened, and the units are in this order
-pub record IsInOrder (s : UnitsState) (order : List ℕ) : Type 0 where
+-- what every call of the units keeps: the keys of each file rise when it is opened, and the units that committed are in their
+-- order
+pub record IsInOrder (s : UnitsState) : Type 0 where
   pub ordered : IsOrdered (initial_store s.opening)
-  pub commits : IsCommitOrder s order
-  pub serial : OrderIsSerial s.opening s.trace (outcome_of s.outcomes) order
+  pub commits : IsCommitOrder s
+  pub serial : OrderIsSerial s.opening s.trace (outcome_of s.outcomes) s.commits
   pub last : EachCanBeLast s.opening s.trace (outcome_of s.outcomes)

@@ -16,7 +16,6 @@ ghost use Rattle.std.specs.Prelude.{◌≡◌, ◌≤◌, ℕ, ◌==◌, Bool, t
 ghost use Rattle.std.specs.Prelude.{slice_get};
 ghost use Rattle.std.specs.Prelude.{if◌then◌else◌, Option, Some, None, is_some, List, [], ◌∷◌};
 ghost use Rattle.std.specs.Prelude.{◌++◌, All};
-ghost use Rattle.std.specs.Prelude.{IsPermutation};
 ghost use Rattle.std.specs.List.{list_any};
 ghost use Rattle.cics_names.specs.Keyed.{Bytes, Map, value_at};
 ghost use Rattle.cics_ksds.specs.Prefixes.{under};
@@ -40,6 +39,7 @@ ghost use Rattle.cics_history.specs.Execution.{after_end};
 ghost use Rattle.cics_history.specs.Execution.{after_enqueue, after_dequeue, after_unlock};
 ghost use Rattle.cics_history.specs.Execution.{after_ts_reading};
 ghost use Rattle.cics_history.specs.Headline.{beginning, IsSameRecoverable, LeavesNoTrace};
+ghost use Rattle.cics_history.specs.Headline.{TakeTurns};
 ghost use Rattle.cics_history.specs.declared.ops.Op.{Op};
 ghost use Rattle.cics_history.specs.declared.ops.Op.TheVariants.{DeleteGeneric, TdWrite, TdRead};
 ghost use Rattle.cics_history.specs.declared.ops.Op.TheVariants.{TdDelete};
@@ -52,9 +52,7 @@ ghost use Rattle.cics_history.specs.Cells.{End, Reading, Writing, recovers, IsOr
 ghost use Rattle.cics_history.specs.Events.{Event, is_live, may_act, run};
 ghost use Rattle.cics_history.specs.Holders.{end_of, IsHeldByOne, IsLeastHeld};
 ghost use Rattle.cics_history.specs.Isolation.{used, IsOneAtEachEnd, IsSound};
-ghost use Rattle.cics_history.specs.Serial.{commit_order, IsCommitOrder, done_by_any, one_by_one};
-ghost use Rattle.cics_history.specs.Serial.{AreOpen, AreAllOpen, NoneIsOpen, store_without_others};
-ghost use Rattle.cics_history.specs.Serial.{serial_store, IsInOrder};
+ghost use Rattle.cics_history.specs.Serial.{commit_order, IsInOrder};
 ghost use Rattle.cics_history.specs.Undo.{Image, Cells, Leads, AllReady, AreImages, image_of};
 ghost use Rattle.cics_history.specs.Undo.{prefix_images, is_plain, Place, IsPlaceOf, placed};
 ghost use Rattle.cics_history.specs.Undo.{place_executed, place_committed, place_undone};
@@ -137,80 +135,44 @@ pub fn runs_alone()
 /// Units that are still open take their turns behind those that committed, in any order; those that
 /// are left out count as backed out.
 ///
-/// - `order`: the order has each unit that committed, once, and no other.
-/// - `commands`: taking turns changes the order of the commands alone: none is lost and none comes
-///   twice.
-/// - `answers`: in that order, with any open units behind it, each command has the answer that it
-///   was given.
-/// - `stores`: the turns give what stands once every other open unit is backed out.
-/// - `whole`: with all open units behind the others, they give what stands.
-/// - `closed`: where no unit is open, the units that committed give what stands.
+/// - `order`: the list that the state keeps has the units that committed, in the order in which the
+///   events commit them.
+/// - `opening`: what was opened stays as it was.
+/// - `turns`: in that order, with any open units behind it, each command has the answer that it was
+///   given, none is lost and none comes twice, and the turns give what stands once every other open
+///   unit is backed out: with all open units behind the others, and where no unit is open, what
+///   stands.
 pub fn units_take_turns()
-    ensures order { (o : OpeningState) (events : List Event) → IsOpeningInOrder o →
-        IsCommitOrder (run (beginning o) events) (commit_order (beginning o) events) }
-    ensures commands { (o : OpeningState) (events : List Event) → IsOpeningInOrder o →
-        (later : List ℕ) →
+    ensures order { (o : OpeningState) (events : List Event) →
+        (run (beginning o) events).commits ≡ commit_order (beginning o) events }
+    ensures opening { (o : OpeningState) (events : List Event) →
+        (run (beginning o) events).opening ≡ o }
+    ensures turns { (o : OpeningState) (events : List Event) → IsOpeningInOrder o →
         let s = run (beginning o) events in
-        let units = commit_order (beginning o) events ++ later in
-        AreOpen s later → IsPermutation (done_by_any o s.trace units) (one_by_one o s.trace units) }
-    ensures answers { (o : OpeningState) (events : List Event) → IsOpeningInOrder o →
-        (later : List ℕ) →
-        let s = run (beginning o) events in
-        AreOpen s later → Agrees (initial_store o)
-        (one_by_one o s.trace (commit_order (beginning o) events ++ later)) }
-    ensures stores { (o : OpeningState) (events : List Event) → IsOpeningInOrder o →
-        (later : List ℕ) →
-        let s = run (beginning o) events in
-        AreOpen s later →
-        IsSameRecoverable o (store_without_others s later)
-        (serial_store s (commit_order (beginning o) events ++ later)) }
-    ensures whole { (o : OpeningState) (events : List Event) → IsOpeningInOrder o →
-        (later : List ℕ) →
-        let s = run (beginning o) events in
-        AreOpen s later → AreAllOpen s later →
-        IsSameRecoverable o (store_of s) (serial_store s
-        (commit_order (beginning o) events ++ later)) }
-    ensures closed { (o : OpeningState) (events : List Event) → IsOpeningInOrder o →
-        let s = run (beginning o) events in
-        NoneIsOpen s → IsSameRecoverable o (store_of s)
-        (serial_store s (commit_order (beginning o) events)) }
+        TakeTurns (record { state = s; store = store_of s }) }
 {}
 
-/// Each call keeps the units in the order in which they committed, where the list of those that
-/// committed is kept beside them: a commit adds its unit at the end, and no other call changes it.
-/// `answers`, `whole` and `closed` are what this gives.
+/// Each call keeps the units in the order in which they committed: a commit adds its unit at the
+/// end, and no other call changes the list. `turns` is what this gives, where files and queues hold
+/// the replay.
 pub fn calls_keep_the_order()
-    ensures begins { (o : OpeningState) → IsOpeningInOrder o → IsInOrder (beginning o) [] }
-    ensures executes { (s : UnitsState) (unit : Option ℕ) (op : Op) (order : List ℕ) → IsSound s →
-        IsInOrder s order →
-        may_act s unit ≡ true → IsInOrder (after_execution s unit op) order }
-    ensures commits { (s : UnitsState) (unit : ℕ) (order : List ℕ) → IsInOrder s order →
-        is_live s unit ≡ true →
-        IsInOrder (after_end s unit Committed) (order ++ unit ∷ []) }
-    ensures backs_out { (s : UnitsState) (unit : ℕ) (order : List ℕ) → IsInOrder s order →
-        is_live s unit ≡ true →
-        IsInOrder (after_end s unit BackedOut) order }
-    ensures enqueues { (s : UnitsState) (unit : Option ℕ) (value : Bytes) (order : List ℕ) →
-        IsInOrder s order →
-        IsInOrder (after_enqueue s unit value) order }
-    ensures dequeues { (s : UnitsState) (unit : ℕ) (value : Bytes) (order : List ℕ) →
-        IsInOrder s order →
-        IsInOrder (after_dequeue s unit value) order }
-    ensures unlocks { (s : UnitsState) (unit : ℕ) (file : Bytes) (order : List ℕ) →
-        IsInOrder s order →
-        IsInOrder (after_unlock s unit file) order }
-    ensures reads { (s : UnitsState) (queue : Bytes) (item : ℕ) (order : List ℕ) →
-        IsInOrder s order →
-        IsInOrder (after_ts_reading s queue item) order }
-    ensures answers { (s : UnitsState) (order later : List ℕ) → IsInOrder s order →
-        AreOpen s later →
-        Agrees (initial_store s.opening) (one_by_one s.opening s.trace (order ++ later)) }
-    ensures whole { (s : UnitsState) (order later : List ℕ) → IsSound s → IsInOrder s order →
-        IsCanonical (initial_store s.opening) → AreOpen s later → AreAllOpen s later →
-        IsSameRecoverable s.opening (store_of s) (serial_store s (order ++ later)) }
-    ensures closed { (s : UnitsState) (order : List ℕ) → IsSound s → IsInOrder s order →
-        IsCanonical (initial_store s.opening) → NoneIsOpen s →
-        IsSameRecoverable s.opening (store_of s) (serial_store s order) }
+    ensures begins { (o : OpeningState) → IsOpeningInOrder o → IsInOrder (beginning o) }
+    ensures executes { (s : UnitsState) (unit : Option ℕ) (op : Op) → IsSound s → IsInOrder s →
+        may_act s unit ≡ true → IsInOrder (after_execution s unit op) }
+    ensures commits { (s : UnitsState) (unit : ℕ) → IsInOrder s → is_live s unit ≡ true →
+        IsInOrder (after_end s unit Committed) }
+    ensures backs_out { (s : UnitsState) (unit : ℕ) → IsInOrder s → is_live s unit ≡ true →
+        IsInOrder (after_end s unit BackedOut) }
+    ensures enqueues { (s : UnitsState) (unit : Option ℕ) (value : Bytes) → IsInOrder s →
+        IsInOrder (after_enqueue s unit value) }
+    ensures dequeues { (s : UnitsState) (unit : ℕ) (value : Bytes) → IsInOrder s →
+        IsInOrder (after_dequeue s unit value) }
+    ensures unlocks { (s : UnitsState) (unit : ℕ) (file : Bytes) → IsInOrder s →
+        IsInOrder (after_unlock s unit file) }
+    ensures reads { (s : UnitsState) (queue : Bytes) (item : ℕ) → IsInOrder s →
+        IsInOrder (after_ts_reading s queue item) }
+    ensures turns { (v : UnitsValue) → IsSound v.state → IsInOrder v.state →
+        IsCanonical (initial_store v.state.opening) → v.store ≡ store_of v.state → TakeTurns v }
 {}
 
 /// A resource has one holder.

@@ -17,6 +17,8 @@ use Rattle.cics_history.specs.Holding.{UnitsState, EnqCount, value_holder}
 use Rattle.cics_history.specs.Execution.{unit_or_next, outcomes_with, count_at, enq_of, enqueue, after_enqueued, after_enqueue, after_dequeue}
 use Rattle.cics_history.specs.Events.{may_act}
 use Rattle.cics_history.specs.Isolation.{IsSound}
+use Rattle.cics_history.specs.Serial.{IsInOrder}
+use Rattle.cics_history.proofs.SerialRuns.{enqueue-IsInOrder, dequeue-IsInOrder}
 use Rattle.cics_history.specs.Cells.{content}
 use Rattle.cics_history.specs.Undo.{IsUndoable}
 use Rattle.cics_history.specs.Ends.{AreMarked}
@@ -109,6 +111,7 @@ module _ (s : UnitsState) (st new : UndoableValue) (t : Table) (is : AreKept s s
         in_order = is.in_order;
         lawful_keys = is.lawful_keys;
         sound = subst (λ e. IsSound (after_enqueued s u v e)) takes (enqueue-IsSound s u v is.sound acts);
+        order = subst (λ e. IsInOrder (after_enqueued s u v e)) takes (enqueue-IsInOrder s is.order u v);
         canonical = roomier.canonical;
         place = record {
           changes = roomier.place.changes;
@@ -143,6 +146,7 @@ module _ (s : UnitsState) (st : UndoableValue) (t : Table) (is : AreKept s st t)
     in_order = is.in_order;
     lawful_keys = is.lawful_keys;
     sound = dequeue-IsSound s u v is.sound;
+    order = dequeue-IsInOrder s is.order u v;
     canonical = is.canonical;
     place = record {
       changes = is.place.changes;
@@ -164,10 +168,10 @@ module _ (s : UnitsState) (st : UndoableValue) (t : Table) (is : AreKept s st t)
 
 -- ---- What the units show
 
-module _ (o : OpeningState) (trace : List Entry) (outcomes : List UnitState) (p new : PartsValue)
-    (is : AreKept (state_shown o trace outcomes p) p.stores p.table) where
+module _ (o : OpeningState) (trace : List Entry) (outcomes : List UnitState) (commits : List ℕ) (p new : PartsValue)
+    (is : AreKept (state_shown o trace outcomes commits p) p.stores p.table) where
   abbrev before : UnitsState
-  before = state_shown o trace outcomes p
+  before = state_shown o trace outcomes commits p
 
   -- ENQ that takes its value
   module _ (u : Option ℕ) (v : Bytes) (acts : may_act before u ≡ true) (takes : enqueue before u v ≡ Taken (unit_or_next u outcomes))
@@ -175,7 +179,7 @@ module _ (o : OpeningState) (trace : List Entry) (outcomes : List UnitState) (p 
     kept_then : AreKept (after_enqueued before u v (Taken (unit_or_next u outcomes))) new.stores (taken p.table (value_of v) (unit_or_next u outcomes))
     kept_then = kept_enqueued before p.stores new.stores p.table is u v acts takes done.stores done.begun
 
-    enqueued_state : state_shown o trace (outcomes_with u outcomes) new ≡ after_enqueued before u v (Taken (unit_or_next u outcomes))
+    enqueued_state : state_shown o trace (outcomes_with u outcomes) commits new ≡ after_enqueued before u v (Taken (unit_or_next u outcomes))
     enqueued_state = λ i. record before {
       outcomes = outcomes_with u outcomes;
       reads = done.reads i;
@@ -183,17 +187,18 @@ module _ (o : OpeningState) (trace : List Entry) (outcomes : List UnitState) (p 
       next = sym kept_then.places i;
     }
 
-    pub enqueued_shown : state_shown o trace (outcomes_with u outcomes) new ≡ after_enqueue before u v
+    pub enqueued_shown : state_shown o trace (outcomes_with u outcomes) commits new ≡ after_enqueue before u v
     enqueued_shown = enqueued_state ∙ ap (after_enqueued before u v) (sym takes)
 
-    pub enqueued_kept : AreKept (state_shown o trace (outcomes_with u outcomes) new) new.stores new.table
+    pub enqueued_kept : AreKept (state_shown o trace (outcomes_with u outcomes) commits new) new.stores new.table
     enqueued_kept = subst (λ s. AreKept s new.stores new.table) (sym enqueued_state)
         (subst (AreKept (after_enqueued before u v (Taken (unit_or_next u outcomes))) new.stores) (sym done.table) kept_then)
 
   -- a refused call shows what was there
-  pub refused_shown : ArePartsKept p new → (outs : List UnitState) → outs ≡ outcomes → state_shown o trace outs new ≡ before
-  refused_shown same outs outs_same = λ i. record before {
+  pub refused_shown : ArePartsKept p new → (outs : List UnitState) (turns : List ℕ) → outs ≡ outcomes → turns ≡ commits → state_shown o trace outs turns new ≡ before
+  refused_shown same outs turns outs_same turns_same = λ i. record before {
     outcomes = outs_same i;
+    commits = turns_same i;
     reads = same.reads i;
     counts = counts_in (same.table i);
     next = ap (λ (m : StoreValue). places_of m.temp_storage) same.stores.store i;
@@ -204,12 +209,12 @@ module _ (o : OpeningState) (trace : List Entry) (outcomes : List UnitState) (p 
     abbrev after : PartsValue
     after = record p { table = given_back p.table (value_of v) u }
 
-    after_state : state_shown o trace outcomes after ≡ after_dequeue before u v
+    after_state : state_shown o trace outcomes commits after ≡ after_dequeue before u v
     after_state = λ i. record before { counts = sym (kept_dequeued before p.stores p.table is u v).table.counts i }
 
-    pub dequeued_shown : state_shown o trace outcomes new ≡ after_dequeue before u v
-    dequeued_shown = ap (state_shown o trace outcomes) done ∙ after_state
+    pub dequeued_shown : state_shown o trace outcomes commits new ≡ after_dequeue before u v
+    dequeued_shown = ap (state_shown o trace outcomes commits) done ∙ after_state
 
-    pub dequeued_kept : AreKept (state_shown o trace outcomes new) new.stores new.table
-    dequeued_kept = subst (λ n. AreKept (state_shown o trace outcomes n) n.stores n.table) (sym done)
+    pub dequeued_kept : AreKept (state_shown o trace outcomes commits new) new.stores new.table
+    dequeued_kept = subst (λ n. AreKept (state_shown o trace outcomes commits n) n.stores n.table) (sym done)
         (subst (λ s. AreKept s p.stores (given_back p.table (value_of v) u)) (sym after_state) (kept_dequeued before p.stores p.table is u v))

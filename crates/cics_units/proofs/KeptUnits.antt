@@ -26,6 +26,7 @@ use Rattle.cics_history.specs.Headline.{IsHeadline, beginning}
 use Rattle.cics_history.specs.Cells.{IsCanonical, Writing}
 use Rattle.cics_history.specs.Events.{may_act, is_live}
 use Rattle.cics_history.specs.Isolation.{IsSound}
+use Rattle.cics_history.specs.Serial.{IsInOrder}
 use Rattle.cics_history.specs.Records.{is_file_op, file_of}
 use Rattle.cics_history.specs.declared.ops.Op.{Op}
 use Rattle.cics_history.specs.declared.ops.Op.TheVariants.{Write, Rewrite, Delete, DeleteGeneric, ReadUpdate, TsWrite, TsRewrite, TsDelete, TdWrite, TdRead, TdDelete}
@@ -49,6 +50,7 @@ use Rattle.cics_units.specs.RegionQueues.{opened_queue, opened_queues}
 use Rattle.cics_units.specs.KeptUnits.{AreKept, AreAsDefined, opened_store}
 use Rattle.cics_history.proofs.Stores.{same_store, apply-canonical, replay-canonical, initial-canonical, value_at_each}
 use Rattle.cics_history.proofs.States.{beginning-IsSound, execution-IsSound, unlock-IsSound, end-IsSound, agrees_of, acting_open}
+use Rattle.cics_history.proofs.SerialRuns.{beginning-IsInOrder, execution-IsInOrder, commit-IsInOrder, backout-IsInOrder, unlock-IsInOrder, turns_of}
 use Rattle.cics_units.proofs.FileChanges.{kept_definitions}
 use Rattle.cics_units.proofs.HeldSums.{recoverable_op}
 use Rattle.cics_units.proofs.StoreInPlace.{shows_history, beginning_in_place}
@@ -216,6 +218,7 @@ module _ (s : UnitsState) (st : UndoableValue) (t : Table) (is : AreKept s st t)
     store = store_is;
     agrees = agrees_of s is.sound;
     alone = left_no_trace (record { state = s; store = shown_store st.store }) is.in_order store_is;
+    turns = turns_of (record { state = s; store = shown_store st.store }) is.order is.sound.known (initial-canonical s.opening is.in_order) store_is;
   }
 
   -- ---- Room for more images
@@ -225,6 +228,7 @@ module _ (s : UnitsState) (st : UndoableValue) (t : Table) (is : AreKept s st t)
     in_order = is.in_order;
     lawful_keys = is.lawful_keys;
     sound = is.sound;
+    order = is.order;
     canonical = subst (λ m. IsCanonical (shown_store m)) (sym store) is.canonical;
     place = subst (λ m. AreInPlace s m new.images) (sym store) (record {
       changes = is.place.changes;
@@ -291,6 +295,7 @@ module _ (o : OpeningState) (in_order : IsOpeningInOrder o) (lawful_keys : HasLa
     in_order = in_order;
     lawful_keys = lawful_keys;
     sound = beginning-IsSound o in_order;
+    order = beginning-IsInOrder o in_order;
     canonical = subst IsCanonical (sym opened_shown) (initial-canonical o in_order);
     place = beginning_in_place o (opened_store o) opened_shown unmarked;
     defined = opened_defined;
@@ -380,6 +385,7 @@ module _ (s : UnitsState) (st new : UndoableValue) (t : Table) (is : AreKept s s
       in_order = is.in_order;
       lawful_keys = is.lawful_keys;
       sound = subst IsSound is_entered (execution-IsSound s u op is.sound acts);
+      order = subst IsInOrder is_entered (execution-IsInOrder s u op is.sound is.order acts);
       canonical = subst IsCanonical (sym shown) (apply-canonical (shown_store st.store) op is.canonical);
       place = subst (λ n. AreInPlace n new.store new.images) is_entered place;
       defined = defined;
@@ -481,6 +487,7 @@ module _ (s : UnitsState) (st : UndoableValue) (t : Table) (is : AreKept s st t)
     in_order = is.in_order;
     lawful_keys = is.lawful_keys;
     sound = unlock-IsSound s u f is.sound;
+    order = unlock-IsInOrder s is.order u f;
     canonical = is.canonical;
     place = record {
       changes = is.place.changes;
@@ -508,6 +515,7 @@ kept_ended s st new t is u live outcome shut others end = record {
   in_order = is.in_order;
   lawful_keys = is.lawful_keys;
   sound = end-IsSound s u outcome is.sound live;
+  order = in_order outcome shut;
   canonical = end.canonical;
   place = end.place;
   defined = record {
@@ -520,6 +528,11 @@ kept_ended s st new t is u live outcome shut others end = record {
   held = end.held is.held;
   begun = omega (arith, is.begun, others.count, length-set s.outcomes u outcome);
 }
+  where
+    in_order : (outcome : UnitState) → is_open outcome ≡ false → IsInOrder (after_end s u outcome)
+    in_order Committed shut = commit-IsInOrder s u live is.order
+    in_order BackedOut shut = backout-IsInOrder s u live is.order
+    in_order Open shut = absurd (true≢false shut)
 
 module _ (s : UnitsState) (st new : UndoableValue) (t : Table) (is : AreKept s st t) (u : ℕ) (live : is_live s u ≡ true)
     (gone : kept_by new.images u ≡ []) (others : AreOthersKept st.images new.images u) where

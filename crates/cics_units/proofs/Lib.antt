@@ -1,7 +1,6 @@
 mod Rows
 pub mod Opened
 mod OpeningRows
-mod SerialKept
 pub mod Changing
 pub mod MadeImages
 mod DeletedUnder

@@ -1,5 +1,5 @@
 -- What the units show after each call is what the call makes of their state.
-use Rattle.std.proofs.Common.{◌≡◌, ℕ, ◌<◌, ◌≤◌, Bool, true, false, not, Option, Some, None, List, [], ◌∷◌, ◌++◌, length, refl, ap, sym, subst, ◌∙◌, arith}
+use Rattle.std.proofs.Common.{◌≡◌, ℕ, ◌+◌, length-append, ◌<◌, ◌≤◌, Bool, true, false, not, Option, Some, None, List, [], ◌∷◌, ◌++◌, length, refl, ap, sym, subst, ◌∙◌, arith}
 use Rattle.std.specs.Prelude.{if◌then◌else◌, MatchBool, IfSome, filter, slice_set, ◌==◌, All}
 use Rattle.std.specs.Option.{option_copied}
 use Rattle.std.proofs.Common.{Bor}
@@ -15,7 +15,7 @@ use Rattle.cics_enqueue.specs.Resources.{Table, released}
 use Rattle.cics_history.specs.Openings.{OpeningState, file_recoverable}
 use Rattle.cics_history.specs.Store.{apply, is_normal, is_recoverable}
 use Rattle.cics_history.specs.Holding.{UnitsState, UpdateRead, store_of, awaited}
-use Rattle.cics_history.specs.Execution.{execution, done_of, state_of, has_read, IsOpenUnit, IsOpenOrNone, unit_or_next, outcomes_with, reads_after, is_read_of, read_at, entered, after_execution, after_unlock, after_end, is_ready_op}
+use Rattle.cics_history.specs.Execution.{execution, done_of, state_of, has_read, IsOpenUnit, IsOpenOrNone, unit_or_next, outcomes_with, reads_after, is_read_of, read_at, commits_with, entered, after_execution, after_unlock, after_end, is_ready_op}
 use Rattle.cics_history.specs.Headline.{beginning}
 use Rattle.cics_history.specs.Events.{is_live, may_act}
 use Rattle.cics_units.specs.StoreMatching.{StoreValue, UndoableValue, shown_store}
@@ -32,6 +32,7 @@ use Rattle.cics_history.specs.declared.ops.Answer.{Answer}
 use Rattle.cics_history.specs.declared.ops.Done.TheVariants.{Answered, MustWait}
 use Rattle.cics_history.specs.declared.ops.Entry.{Entry}
 use Rattle.cics_history.specs.declared.ops.UnitState.{UnitState}
+use Rattle.cics_history.specs.declared.ops.UnitState.TheVariants.{Open}
 use Rattle.cics_units.proofs.UsesInTable.{uses_alike, uses_free, awaited_open}
 use Rattle.cics_units.proofs.Awaiting.{awaited-in_place}
 use Rattle.cics_units.proofs.GivenRecords.{content_given}
@@ -46,10 +47,10 @@ pub acts_of : (s : UnitsState) (u : Option ℕ) → IsOpenOrNone s u → may_act
 acts_of s None opened = refl
 acts_of s (Some u) opened = live_of s u opened
 
-module _ (o : OpeningState) (trace : List Entry) (outcomes : List UnitState) (p new : PartsValue)
-    (is : AreKept (state_shown o trace outcomes p) p.stores p.table) where
+module _ (o : OpeningState) (trace : List Entry) (outcomes : List UnitState) (commits : List ℕ) (p new : PartsValue)
+    (is : AreKept (state_shown o trace outcomes commits p) p.stores p.table) where
   abbrev before : UnitsState
-  before = state_shown o trace outcomes p
+  before = state_shown o trace outcomes commits p
 
   -- ---- UNLOCK
   module _ (u : ℕ) (f : Bytes) (live : is_live before u ≡ true) (stores : new.stores ≡ p.stores)
@@ -58,14 +59,14 @@ module _ (o : OpeningState) (trace : List Entry) (outcomes : List UnitState) (p 
     table_then : new.table ≡ table_given_back (file_recoverable o f) u f (read_at p.reads u f) p.table
     table_then = table ∙ ap (λ b. table_given_back b u f (read_at p.reads u f) p.table) (recoverable_alike before p.stores p.table is f)
 
-    pub unlocked_state : state_shown o trace outcomes new ≡ after_unlock before u f
+    pub unlocked_state : state_shown o trace outcomes commits new ≡ after_unlock before u f
     unlocked_state = λ i. record before {
       reads = reads i;
       counts = (ap counts_in table_then ∙ sym (kept_unlocked before p.stores p.table is u f live).table.counts) i;
       next = ap (λ (st : UndoableValue). places_of st.store.temp_storage) stores i;
     }
 
-    pub unlocked_kept : AreKept (state_shown o trace outcomes new) new.stores new.table
+    pub unlocked_kept : AreKept (state_shown o trace outcomes commits new) new.stores new.table
     unlocked_kept = subst (λ s. AreKept s new.stores new.table) (sym unlocked_state)
         (subst (λ st. AreKept (after_unlock before u f) st new.table) (sym stores)
         (subst (AreKept (after_unlock before u f) p.stores) (sym table_then) (kept_unlocked before p.stores p.table is u f live)))
@@ -73,15 +74,16 @@ module _ (o : OpeningState) (trace : List Entry) (outcomes : List UnitState) (p 
   -- ---- The end of a unit
   module _ (u : ℕ) (live : is_live before u ≡ true) (outcome : UnitState) (table : new.table ≡ released p.table u)
       (reads : new.reads ≡ filter (λ r. not (r.unit == u)) p.reads) (kept : AreKept (after_end before u outcome) new.stores (released p.table u)) where
-    pub ended_state : state_shown o trace (slice_set outcomes u outcome) new ≡ after_end before u outcome
+    pub ended_state : state_shown o trace (slice_set outcomes u outcome) (commits_with outcome u commits) new ≡ after_end before u outcome
     ended_state = λ i. record before {
       outcomes = slice_set outcomes u outcome;
+      commits = commits_with outcome u commits;
       reads = reads i;
       counts = (ap counts_in table ∙ sym kept.table.counts) i;
       next = sym kept.places i;
     }
 
-    pub ended_kept : AreKept (state_shown o trace (slice_set outcomes u outcome) new) new.stores new.table
+    pub ended_kept : AreKept (state_shown o trace (slice_set outcomes u outcome) (commits_with outcome u commits) new) new.stores new.table
     ended_kept = subst (λ s. AreKept s new.stores new.table) (sym ended_state) (subst (AreKept (after_end before u outcome) new.stores) (sym table) kept)
 
   -- ---- A command
@@ -102,18 +104,23 @@ module _ (o : OpeningState) (trace : List Entry) (outcomes : List UnitState) (p 
     kept_then = subst (λ a. AreKept (entered before u op a) new.stores (table_executed o (unit_or_next u outcomes) op a.condition p.reads p.table)) (sym told)
         (kept_executed before p.stores new.stores p.table is u op acts free ready room answer changed)
 
-    entered_state : state_shown o (trace ++ entry ∷ []) (outcomes_with u outcomes) new ≡ entered before u op answer
+    entered_state : state_shown o (trace ++ entry ∷ []) (outcomes_with u outcomes) commits new ≡ entered before u op answer
     entered_state = λ i. record (entered before u op answer) {
       reads = reads i;
       counts = (ap counts_in table ∙ sym kept_then.table.counts) i;
       next = sym kept_then.places i;
     }
 
-    pub executed_state : state_shown o (trace ++ entry ∷ []) (outcomes_with u outcomes) new ≡ after_execution before u op
+    pub executed_state : state_shown o (trace ++ entry ∷ []) (outcomes_with u outcomes) commits new ≡ after_execution before u op
     executed_state = entered_state ∙ ap (entered before u op) told ∙ sym (is_entered before p.stores new.stores p.table is u op acts free)
 
-    pub executed_shown : AreKept (state_shown o (trace ++ entry ∷ []) (outcomes_with u outcomes) new) new.stores new.table
+    pub executed_shown : AreKept (state_shown o (trace ++ entry ∷ []) (outcomes_with u outcomes) commits new) new.stores new.table
     executed_shown = subst (λ s. AreKept s new.stores new.table) (sym entered_state) (subst (AreKept (entered before u op answer) new.stores) (sym table) kept_then)
+
+-- a unit that begins is one more
+pub with_len : (u : Option ℕ) (outs : List UnitState) → length (outcomes_with u outs) ≤ length outs + 1
+with_len None outs = omega (arith, length-append outs (Open ∷ []))
+with_len (Some u) outs = omega arith
 
 -- the key of an update read is as short as those of all
 pub read_short : (reads : List UpdateRead) (u : ℕ) (f : Bytes) → All (λ r. length r.key ≤ 255) reads → IfSome (read_at reads u f) (λ k. length k ≤ 255)
@@ -130,29 +137,30 @@ copied_short (Some k) o is short = subst (λ x. IfSome x (λ b. length b ≤ 255
 
 -- ---- The beginning
 -- what has just begun shows the beginning
-pub begun_shown : (o : OpeningState) (trace : List Entry) (outcomes : List UnitState) (p : PartsValue) (m : StoreValue) →
-    p ≡ record { stores = record { store = m; images = [] }; table = []; reads = [] } → trace ≡ [] → outcomes ≡ [] →
-    AreKept (beginning o) (record { store = m; images = [] }) [] → AreKept (state_shown o trace outcomes p) p.stores p.table
-begun_shown o trace outcomes p m parts no_entry no_unit kept = rw (parts, no_entry, no_unit) (subst (λ next. AreKept (record (beginning o) { next = next })
+pub begun_shown : (o : OpeningState) (trace : List Entry) (outcomes : List UnitState) (commits : List ℕ) (p : PartsValue) (m : StoreValue) →
+    p ≡ record { stores = record { store = m; images = [] }; table = []; reads = [] } → trace ≡ [] → outcomes ≡ [] → commits ≡ [] →
+    AreKept (beginning o) (record { store = m; images = [] }) [] → AreKept (state_shown o trace outcomes commits p) p.stores p.table
+begun_shown o trace outcomes commits p m parts no_entry no_unit no_commit kept = rw (parts, no_entry, no_unit, no_commit) (subst (λ next. AreKept (record (beginning o) { next = next })
     (record { store = m; images = [] }) []) kept.places kept)
 
 -- ---- Calls of the parts
-module _ (o : OpeningState) (trace : List Entry) (outcomes : List UnitState) (p new : PartsValue)
-    (is : AreKept (state_shown o trace outcomes p) p.stores p.table) where
+module _ (o : OpeningState) (trace : List Entry) (outcomes : List UnitState) (commits : List ℕ) (p new : PartsValue)
+    (is : AreKept (state_shown o trace outcomes commits p) p.stores p.table) where
   abbrev state_before : UnitsState
-  state_before = state_shown o trace outcomes p
+  state_before = state_shown o trace outcomes commits p
 
-  -- units with these commands, outcomes, reads, counts and NEXT places
-  abbrev shows : List Entry → List UnitState → List UpdateRead → Table → Map ℕ → UnitsState
-  shows entries outs reads t next = record { opening = o; trace = entries; outcomes = outs; reads = reads; counts = counts_in t; next = next }
+  -- units with these commands, outcomes, commits, reads, counts and NEXT places
+  abbrev shows : List Entry → List UnitState → List ℕ → List UpdateRead → Table → Map ℕ → UnitsState
+  shows entries outs turns reads t next = record { opening = o; trace = entries; outcomes = outs; commits = turns; reads = reads; counts = counts_in t; next = next }
 
   -- after a refused call all is as it was, but for more room
-  pub refused_kept : ArePartsKept p new → (entries : List Entry) (outs : List UnitState) → entries ≡ trace → outs ≡ outcomes → AreKept (state_shown o entries outs new) new.stores new.table
-  refused_kept same entries outs entries_same outs_same =
-      subst (λ t. AreKept (shows entries outs new.reads t (places_of new.stores.store.temp_storage)) new.stores t) (sym same.table)
-      (subst (λ r. AreKept (shows entries outs r p.table (places_of new.stores.store.temp_storage)) new.stores p.table) (sym same.reads)
-      (subst (λ (m : StoreValue). AreKept (shows entries outs p.reads p.table (places_of m.temp_storage)) new.stores p.table) (sym same.stores.store)
-      (rw (entries_same, outs_same) (kept_roomier state_before p.stores p.table is new.stores same.stores.store same.stores.kept same.stores.longer))))
+  pub refused_kept : ArePartsKept p new → (entries : List Entry) (outs : List UnitState) (turns : List ℕ) → entries ≡ trace → outs ≡ outcomes → turns ≡ commits →
+      AreKept (state_shown o entries outs turns new) new.stores new.table
+  refused_kept same entries outs turns entries_same outs_same turns_same =
+      subst (λ t. AreKept (shows entries outs turns new.reads t (places_of new.stores.store.temp_storage)) new.stores t) (sym same.table)
+      (subst (λ r. AreKept (shows entries outs turns r p.table (places_of new.stores.store.temp_storage)) new.stores p.table) (sym same.reads)
+      (subst (λ (m : StoreValue). AreKept (shows entries outs turns p.reads p.table (places_of m.temp_storage)) new.stores p.table) (sym same.stores.store)
+      (rw (entries_same, outs_same, turns_same) (kept_roomier state_before p.stores p.table is new.stores same.stores.store same.stores.kept same.stores.longer))))
 
   module _ (u : Option ℕ) (op : Op) (acts : may_act state_before u ≡ true) where
     -- the unit in a command's way, as the table and the queues tell
@@ -187,20 +195,20 @@ module _ (o : OpeningState) (trace : List Entry) (outcomes : List UnitState) (p 
       roomy_parts = record { stores = done.roomy; table = p.table; reads = p.reads }
 
       -- room changes no NEXT place
-      roomy_state : state_shown o trace outcomes roomy_parts ≡ state_before
+      roomy_state : state_shown o trace outcomes commits roomy_parts ≡ state_before
       roomy_state = λ i. record state_before { next = ap (λ (m : StoreValue). places_of m.temp_storage) done.room.store i }
 
-      roomy_kept : AreKept (state_shown o trace outcomes roomy_parts) done.roomy p.table
+      roomy_kept : AreKept (state_shown o trace outcomes commits roomy_parts) done.roomy p.table
       roomy_kept = subst (λ s. AreKept s done.roomy p.table) (sym roomy_state) (kept_roomier state_before p.stores p.table is done.roomy done.room.store done.room.kept done.room.longer)
 
       -- so the command may go on where the room is
-      roomy_acts : may_act (state_shown o trace outcomes roomy_parts) u ≡ true
+      roomy_acts : may_act (state_shown o trace outcomes commits roomy_parts) u ≡ true
       roomy_acts = ap (λ s. may_act s u) roomy_state ∙ acts
 
-      roomy_free : awaited (state_shown o trace outcomes roomy_parts) u op ≡ None
+      roomy_free : awaited (state_shown o trace outcomes commits roomy_parts) u op ≡ None
       roomy_free = ap (λ s. awaited s u op) roomy_state ∙ free
 
-      roomy_ready : is_ready_op (state_shown o trace outcomes roomy_parts) u op ≡ true
+      roomy_ready : is_ready_op (state_shown o trace outcomes commits roomy_parts) u op ≡ true
       roomy_ready = ap (λ s. is_ready_op s u op) roomy_state ∙ ready
 
       table_is : new.table ≡ table_executed o (unit_or_next u outcomes) op answer.condition p.reads p.table
@@ -220,16 +228,16 @@ module _ (o : OpeningState) (trace : List Entry) (outcomes : List UnitState) (p 
       record_given = content_given done.roomy new.stores p.table (unit_or_next u outcomes) op (is_recoverable o op) answer done.changed right_then
           ∙ ap (λ m. given_record m (is_writer p.table (unit_or_next u outcomes) (queue_on op)) op) done.room.store
 
-      pub parts_state : state_shown o (trace ++ record { unit = unit_or_next u outcomes; op = op; answer = answer } ∷ []) (outcomes_with u outcomes) new ≡ after_execution state_before u op
-      parts_state = executed_state o trace outcomes roomy_parts new roomy_kept u op roomy_acts roomy_free roomy_ready done.begun answer done.changed right_then table_is done.reads
+      pub parts_state : state_shown o (trace ++ record { unit = unit_or_next u outcomes; op = op; answer = answer } ∷ []) (outcomes_with u outcomes) commits new ≡ after_execution state_before u op
+      parts_state = executed_state o trace outcomes commits roomy_parts new roomy_kept u op roomy_acts roomy_free roomy_ready done.begun answer done.changed right_then table_is done.reads
           ∙ ap (λ s. after_execution s u op) roomy_state
 
-      pub parts_kept : AreKept (state_shown o (trace ++ record { unit = unit_or_next u outcomes; op = op; answer = answer } ∷ []) (outcomes_with u outcomes) new) new.stores new.table
-      parts_kept = executed_shown o trace outcomes roomy_parts new roomy_kept u op roomy_acts roomy_free roomy_ready done.begun answer done.changed right_then table_is done.reads
+      pub parts_kept : AreKept (state_shown o (trace ++ record { unit = unit_or_next u outcomes; op = op; answer = answer } ∷ []) (outcomes_with u outcomes) commits new) new.stores new.table
+      parts_kept = executed_shown o trace outcomes commits roomy_parts new roomy_kept u op roomy_acts roomy_free roomy_ready done.begun answer done.changed right_then table_is done.reads
 
       pub answered : Answered (unit_or_next u outcomes) answer ≡ execution state_before u op
       answered = ap (Answered (unit_or_next u outcomes))
-          (told o trace outcomes roomy_parts new roomy_kept u op roomy_acts roomy_free roomy_ready done.begun answer done.changed right_then table_is done.reads
+          (told o trace outcomes commits roomy_parts new roomy_kept u op roomy_acts roomy_free roomy_ready done.begun answer done.changed right_then table_is done.reads
           ∙ ap (λ s. (apply (store_of s) op).answer) roomy_state)
           ∙ sym (ap (done_of state_before u op) free)
 

@@ -21,6 +21,7 @@ use Rattle.cics_history.specs.declared.ops.Entry.{Entry}
 use Rattle.cics_history.specs.declared.ops.UnitState.{UnitState}
 use Rattle.cics_history.proofs.SameHistory.{ts_reading-same}
 use Rattle.cics_history.proofs.States.{ts_reading-IsSound}
+use Rattle.cics_history.proofs.SerialRuns.{ts_reading-IsInOrder}
 use Rattle.cics_units.specs.StoreMatching.{UndoableValue, shown_store}
 use Rattle.cics_units.specs.StorePlaces.{HavePlaces, number_asked}
 use Rattle.cics_units.specs.TableInPlace.{IsTableOf}
@@ -115,6 +116,7 @@ module _ (s : UnitsState) (st : UndoableValue) (t : Table) (is : AreKept s st t)
       in_order = ts_reading-same (λ o es out. IsOpeningInOrder o) s is.in_order q n;
       lawful_keys = ts_reading-same (λ o es out. HasLawfulKeys o) s is.lawful_keys q n;
       sound = ts_reading-IsSound s q n is.sound;
+      order = ts_reading-IsInOrder s is.order q n;
       canonical = subst IsCanonical (sym read_shown) is.canonical;
       place = read_in_place s st.store st.images is.place new kept is.rows.rising rising_after q n;
       defined = ts_reading-same (λ o es out. AreAsDefined o after.store) s (record { files = is.defined.files; queues = is.defined.queues }) q n;
@@ -125,25 +127,25 @@ module _ (s : UnitsState) (st : UndoableValue) (t : Table) (is : AreKept s st t)
       begun = read_begun;
     }
 
-module _ (o : OpeningState) (trace : List Entry) (outcomes : List UnitState) (p : PartsValue) (is : AreKept (state_shown o trace outcomes p) p.stores p.table)
+module _ (o : OpeningState) (trace : List Entry) (outcomes : List UnitState) (commits : List ℕ) (p : PartsValue) (is : AreKept (state_shown o trace outcomes commits p) p.stores p.table)
     (q : Bytes) (n : ℕ) (kept : KeepsQueues (λ q. true) p.stores.store.temp_storage (after_read_item p.stores.store.temp_storage q n)) (new : PartsValue)
     (done : new ≡ record p { stores = record { store = with_temp_storage p.stores.store (after_read_item p.stores.store.temp_storage q n); images = p.stores.images } }) where
   abbrev before : UnitsState
-  before = state_shown o trace outcomes p
+  before = state_shown o trace outcomes commits p
 
   abbrev later : PartsValue
   later = record p { stores = record { store = with_temp_storage p.stores.store (after_read_item p.stores.store.temp_storage q n); images = p.stores.images } }
 
-  later_state : state_shown o trace outcomes later ≡ after_ts_reading before q n
+  later_state : state_shown o trace outcomes commits later ≡ after_ts_reading before q n
   later_state = next_alone before (has_item (ts_queue (store_of before) q) n) (places_of later.stores.store.temp_storage) (with_value q n before.next)
       (places_then before p.stores p.table is q n kept).places
 
   -- the units show what the read leaves
-  pub read_state : state_shown o trace outcomes new ≡ after_ts_reading before q n
-  read_state = ap (state_shown o trace outcomes) done ∙ later_state
+  pub read_state : state_shown o trace outcomes commits new ≡ after_ts_reading before q n
+  read_state = ap (state_shown o trace outcomes commits) done ∙ later_state
 
-  pub read_kept : AreKept (state_shown o trace outcomes new) new.stores new.table
-  read_kept = subst (λ w. AreKept (state_shown o trace outcomes w) w.stores w.table) (sym done)
+  pub read_kept : AreKept (state_shown o trace outcomes commits new) new.stores new.table
+  read_kept = subst (λ w. AreKept (state_shown o trace outcomes commits w) w.stores w.table) (sym done)
       (subst (λ s. AreKept s later.stores p.table) (sym later_state) (kept_read before p.stores p.table is q n kept))
 
   -- and the store that was there

@@ -1,5 +1,5 @@
 -- Recovery: what holds between the state of the units and all that they have changed where it stands.
-use Rattle.std.specs.Prelude.{◌≡◌, ◌≤◌, option_map, length, List, []}
+use Rattle.std.specs.Prelude.{◌≡◌, ℕ, ◌≤◌, option_map, length, List, []}
 use Rattle.cics_names.specs.Keyed.{Bytes, value_at}
 use Rattle.cics_enqueue.specs.Resources.{Table}
 use Rattle.cics_tempstor.specs.Queues.{places_of}
@@ -8,6 +8,7 @@ use Rattle.cics_history.specs.Openings.{OpeningState, IsOpeningInOrder, HasLawfu
 use Rattle.cics_history.specs.Holding.{UnitsState}
 use Rattle.cics_history.specs.Cells.{IsCanonical}
 use Rattle.cics_history.specs.Isolation.{IsSound}
+use Rattle.cics_history.specs.Serial.{IsInOrder}
 use Rattle.cics_units.specs.RegionFiles.{opened_files}
 use Rattle.cics_units.specs.RegionQueues.{opened_queues}
 use Rattle.cics_units.specs.FilesImages.{definitions_of}
@@ -20,11 +21,12 @@ use Rattle.cics_history.specs.declared.ops.Entry.{Entry}
 use Rattle.cics_history.specs.declared.ops.UnitState.{UnitState}
 
 -- the state of the units, as their parts show it: a NEXT place that isn't 0 is that of a queue that is there
-abbrev pub state_shown : OpeningState → List Entry → List UnitState → PartsValue → UnitsState
-state_shown opening trace outcomes parts = record {
+abbrev pub state_shown : OpeningState → List Entry → List UnitState → List ℕ → PartsValue → UnitsState
+state_shown opening trace outcomes commits parts = record {
   opening = opening;
   trace = trace;
   outcomes = outcomes;
+  commits = commits;
   reads = parts.reads;
   counts = counts_in parts.table;
   next = places_of parts.stores.store.temp_storage;
@@ -40,12 +42,13 @@ pub record AreAsDefined (o : OpeningState) (store : StoreValue) : Type 0 where
   pub files : (f : Bytes) → definitions_of store.files f ≡ option_map (λ file. file.definition) (value_at f o.files)
   pub queues : (q : Bytes) → option_map (λ t. t.kind) (value_at q store.trans_data) ≡ option_map (λ queue. queue.recovery) (value_at q o.queues)
 
--- the opening is in order; the open units are kept apart; the files and queues are those of the opening and hold, with the
+-- the opening is in order; the open units are kept apart, and those that committed in their order; the files and queues are those of the opening and hold, with the
 -- images of the open units, what the history gives; and the table has what the units hold
 pub record AreKept (s : UnitsState) (stores : UndoableValue) (t : Table) : Type 0 where
   pub in_order : IsOpeningInOrder s.opening
   pub lawful_keys : HasLawfulKeys s.opening
   pub sound : IsSound s
+  pub order : IsInOrder s
   pub canonical : IsCanonical (shown_store stores.store)
   pub place : AreInPlace s stores.store stores.images
   pub defined : AreAsDefined s.opening stores.store

@@ -14,7 +14,6 @@ pub mod Parts
 pub mod OpenReads
 pub mod Opened
 pub mod KeptUnits
-pub mod SerialKept
 pub mod StoreMatching
 pub mod StoreInPlace
 pub mod QueueChanges

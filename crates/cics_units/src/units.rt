@@ -1,6 +1,6 @@
 //! Units of work: their commands, what they hold, and their ends.
 
-ghost use Rattle.std.specs.Prelude.{◌≡◌, ◌<◌, ◌≤◌, ◌++◌, ◌∷◌, [], true, length, vec_len};
+ghost use Rattle.std.specs.Prelude.{◌≡◌, ◌<◌, ◌≤◌, ◌+◌, ◌++◌, ◌∷◌, [], true, length, vec_len};
 ghost use Rattle.std.specs.Prelude.{vec_capacity, IsTrue, Option, Some, None, option_map, IfOk};
 ghost use Rattle.std.specs.Prelude.{IfErr, IfSome, OnOk, OnErr};
 ghost use Rattle.std.specs.Option.{option_copied};
@@ -45,17 +45,26 @@ pub enum Submitted {
 /// The units of work of a region, with its files and queues.
 ///
 /// Contracts see the state of the units, which is what was opened, the executed commands in their
-/// order, the outcome of each unit, the open update reads, the counts of ENQ and the NEXT places, and
-/// beside it the store, which is read off the files and queues themselves. After every call the store
-/// is what replaying the executed commands gives, without all that units which were backed out executed
-/// on recoverable files and queues, and each command of the replay has the answer that it was given
-/// (`headline`).
+/// order, the outcome of each unit, those that committed in the order in which they did, the open
+/// update reads, the counts of ENQ and the NEXT places, and beside it the store, which is read off the
+/// files and queues themselves. Of every call `headline` says two things.
+///
+/// The store is what replaying the executed commands gives, without all that units which were backed
+/// out executed on recoverable files and queues, and each command of the replay has the answer that it
+/// was given.
+///
+/// And the units take turns: what each unit that committed did to recoverable files and queues, one
+/// after the other in the order of their commits, gives what would stand there if the open units were
+/// backed out; with the open ones behind, in any order, it gives what stands there. Each command that
+/// was answered NORMAL there has in its unit's turn the answer that its task was given. A command that
+/// was answered otherwise is in no turn, nor is one on something unrecoverable.
 #[derive(Drop)]
 pub struct Units {
     opening: Opening,
     parts: Parts,
     trace: Vec<Entry>,
     outcomes: Vec<UnitState>,
+    commits: Vec<UnitId>,
     alloc: Global,
 }
 
@@ -63,17 +72,19 @@ impl Model for Units {
     ghost use Rattle.cics_history.specs.Execution.{UnitsValue};
     ghost use Rattle.cics_units.specs.StoreMatching.{shown_store};
     ghost use Rattle.cics_units.specs.KeptUnits.{state_shown, AreKept};
+    ghost use Rattle.std.specs.Prelude.{◌≤◌, length, vec_capacity};
 
     ghost Value = { UnitsValue };
 
     ghost view = { λ u. record {
-      state = state_shown u.opening u.trace.items u.outcomes.items u.parts;
+      state = state_shown u.opening u.trace.items u.outcomes.items u.commits.items u.parts;
       store = shown_store u.parts.stores.store;
     } };
 
     ghost invariant = { λ u.
-        AreKept (state_shown u.opening u.trace.items u.outcomes.items u.parts) u.parts.stores
-        u.parts.table };
+        AreKept (state_shown u.opening u.trace.items u.outcomes.items u.commits.items u.parts)
+        u.parts.stores u.parts.table
+        × (length u.outcomes.items ≤ vec_capacity u.commits) };
 }
 
 // The unit that acts: the one that is handed in, or the next one to begin.
@@ -84,6 +95,20 @@ fn unit_or_next(unit: Option<UnitId>, outcomes: &[UnitState]) -> UnitId
         Some(unit) => unit,
         None => UnitId::new(outcomes.len() as u64),
     }
+}
+
+// Makes room for one unit more, and for the commits of it and of all that have begun.
+fn make_room(outcomes: &mut Vec<UnitState>, commits: &mut Vec<UnitId>) -> Result<(), NoMemory>
+    ensures outcomes { outcomes.new.items ≡ outcomes.old.items }
+    ensures commits { commits.new.items ≡ commits.old.items }
+    ensures capacity { vec_capacity commits.old ≤ vec_capacity commits.new }
+    ensures room { OnOk result (vec_len outcomes.new < vec_capacity outcomes.new) }
+    ensures turns { OnOk result (length outcomes.new.items + 1 ≤ vec_capacity commits.new) }
+{
+    outcomes.reserve(1)?;
+    let turns = outcomes.len() + 1;
+    commits.reserve(turns.saturating_sub(commits.len()))?;
+    Ok(())
 }
 
 // A task without a unit begins one.
@@ -136,6 +161,7 @@ impl Units {
             parts: Parts::new(alloc, store),
             trace: Vec::new(alloc),
             outcomes: Vec::new(alloc),
+            commits: Vec::new(alloc),
             alloc,
         })
     }
@@ -212,7 +238,7 @@ impl Units {
         }
         let content = self.parts.given_record(acting, &op)?;
         self.trace.reserve(1)?;
-        self.outcomes.reserve(1)?;
+        make_room(&mut self.outcomes, &mut self.commits)?;
         let answer = self.parts.execute(acting, &op, &uses, recoverable)?;
         let entry = Entry {
             unit: acting,
@@ -251,7 +277,7 @@ impl Units {
             return Ok(Enqueued::MustWait(holder));
         }
         let acting = unit_or_next(unit, self.outcomes.as_slice());
-        self.outcomes.reserve(1)?;
+        make_room(&mut self.outcomes, &mut self.commits)?;
         match self.parts.enq(acting, value) {
             Ok(()) => {}
             Err(TakeFault::Full) => return Ok(Enqueued::CountFull),
@@ -348,7 +374,8 @@ impl Units {
         }
     }
 
-    /// Commits a unit: what it did stays, and it holds nothing more. It takes no memory.
+    /// Commits a unit: what it did stays, it holds nothing more, and its turn comes behind those of the
+    /// units that committed before it. It takes no memory.
     pub fn commit(&mut self, unit: UnitId)
         requires is_open { IsOpenUnit self.old.state unit }
         ensures state { self.new.state ≡ after_end self.old.state unit Committed }
@@ -357,10 +384,11 @@ impl Units {
     {
         self.parts.commit(unit);
         self.outcomes[unit.number() as usize] = UnitState::Committed;
+        self.commits.push_reserved(unit);
     }
 
     /// Backs a unit out: each recoverable file and queue holds what it would hold if the unit had executed
-    /// nothing, and the unit holds nothing more. It takes no memory.
+    /// nothing, the unit holds nothing more, and it has no turn. It takes no memory.
     ///
     /// - `alone`: where a unit ran alone from some command on, each recoverable file and queue holds what the
     ///   kept commands before that one give.
@@ -415,6 +443,17 @@ impl Units {
         ensures { result.now ≡ self.now.state.outcomes }
     {
         self.outcomes.as_slice()
+    }
+
+    /// The units that committed, in the order in which they did.
+    ///
+    /// - `headline`: what they did in this order is what would stand in recoverable files and queues if
+    ///   the open units were backed out.
+    pub fn commits(&self) -> &[UnitId]
+        ensures commits { result.now ≡ self.now.state.commits }
+        ensures headline { IsHeadline self.now }
+    {
+        self.commits.as_slice()
     }
 
     /// What stands in the files and queues, the changes of open units included, and no task. It takes

@@ -1,17 +1,15 @@
-use Rattle.cics_history.proofs.SerialRuns.{beginning-IsInOrder, execution-IsInOrder, commit-IsInOrder, backout-IsInOrder, enqueue-IsInOrder, dequeue-IsInOrder, unlock-IsInOrder, ts_reading-IsInOrder, serial_answers, serial_whole, serial_closed}
+use Rattle.cics_history.proofs.SerialRuns.{beginning-IsInOrder, execution-IsInOrder, commit-IsInOrder, backout-IsInOrder, enqueue-IsInOrder, dequeue-IsInOrder, unlock-IsInOrder, ts_reading-IsInOrder, turns_of}
 use Rattle.cics_history.proofs.laws.calls_keep_the_order.Goals as goal
 
 pub returns : goal.returns
 returns c = record {
   begins = beginning-IsInOrder;
   executes = execution-IsInOrder;
-  commits = λ s u order i live. commit-IsInOrder s u live order i;
-  backs_out = λ s u order i live. backout-IsInOrder s u live order i;
-  enqueues = enqueue-IsInOrder;
-  dequeues = dequeue-IsInOrder;
-  unlocks = unlock-IsInOrder;
-  reads = ts_reading-IsInOrder;
-  answers = λ s order later i a. serial_answers s order i later a;
-  whole = λ s order later sound i c a all. serial_whole s order i c sound.known later a all;
-  closed = λ s order sound i c none. serial_closed s order i c sound.known none;
+  commits = λ s u i live. commit-IsInOrder s u live i;
+  backs_out = λ s u i live. backout-IsInOrder s u live i;
+  enqueues = λ s u v i. enqueue-IsInOrder s i u v;
+  dequeues = λ s u v i. dequeue-IsInOrder s i u v;
+  unlocks = λ s u f i. unlock-IsInOrder s i u f;
+  reads = λ s q n i. ts_reading-IsInOrder s i q n;
+  turns = λ v sound i c stands. turns_of v i sound.known c stands;
 }

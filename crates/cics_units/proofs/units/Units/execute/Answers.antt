@@ -1,1 +1,0 @@
-use Rattle.cics_units.proofs.units.Units.execute.Goals as goal

@@ -7,5 +7,5 @@ use Rattle.cics_units.proofs.units.Units.trace.Goals as goal
 pub returns-clause-headline : goal.returns-clause-headline
 returns-clause-headline c =
     let u = c.self.inside in
-    let s = state_shown u.opening u.trace.items u.outcomes.items u.parts in
-    subst IsHeadline c.self.view_is (kept_headline s u.parts.stores u.parts.table c.self.invariant)
+    let s = state_shown u.opening u.trace.items u.outcomes.items u.commits.items u.parts in
+    subst IsHeadline c.self.view_is (kept_headline s u.parts.stores u.parts.table c.self.invariant.0)

@@ -12,15 +12,15 @@ use Rattle.cics_units.proofs.units.Units.value_holder.Goals as goal
 pub returns-clause-holder : goal.returns-clause-holder
 returns-clause-holder c =
     let u = c.self.inside in
-    let s = state_shown u.opening u.trace.items u.outcomes.items u.parts in
+    let s = state_shown u.opening u.trace.items u.outcomes.items u.commits.items u.parts in
     c.holder_over.ensures ∙ ap (λ r. holder_over r c.args.asking u.parts.table) c.value.ensures
-    ∙ sym (value_held s u.parts.stores u.parts.table c.self.invariant c.args.asking c.args.value.now)
+    ∙ sym (value_held s u.parts.stores u.parts.table c.self.invariant.0 c.args.asking c.args.value.now)
     ∙ ap (λ v. value_holder v.state c.args.asking c.args.value.now) c.self.view_is
 
 pub returns-clause-is_open : goal.returns-clause-is_open
 returns-clause-is_open c =
     let u = c.self.inside in
-    let s = state_shown u.opening u.trace.items u.outcomes.items u.parts in
+    let s = state_shown u.opening u.trace.items u.outcomes.items u.commits.items u.parts in
     if_open c.holder_over.result (λ h is. subst (λ v. IsOpenUnit v.state h) c.self.view_is
-    (holder_open s u.parts.table c.self.invariant.sound c.self.invariant.table c.args.asking (value_of c.args.value.now) h
+    (holder_open s u.parts.table c.self.invariant.0.sound c.self.invariant.0.table c.args.asking (value_of c.args.value.now) h
     (ap (λ r. holder_over r c.args.asking u.parts.table) (sym c.value.ensures) ∙ sym c.holder_over.ensures ∙ is)))

@@ -1,0 +1,11 @@
+use Rattle.std.proofs.Common.{subst}
+use Rattle.cics_history.specs.Headline.{IsHeadline}
+use Rattle.cics_units.specs.KeptUnits.{state_shown}
+use Rattle.cics_units.proofs.KeptUnits.{kept_headline}
+use Rattle.cics_units.proofs.units.Units.commits.Goals as goal
+
+pub returns-clause-headline : goal.returns-clause-headline
+returns-clause-headline c =
+    let u = c.self.inside in
+    let s = state_shown u.opening u.trace.items u.outcomes.items u.commits.items u.parts in
+    subst IsHeadline c.self.view_is (kept_headline s u.parts.stores u.parts.table c.self.invariant.0)
