@@ -1,8 +1,6 @@
-mod Characters
 mod EarlyFault
 mod QueueScripts
 mod ScriptRows
-mod Unfilled
 pub mod Known
 pub mod Scripts
 pub mod Playing
@@ -12,3 +10,4 @@ pub mod Ending
 pub mod Reading
 pub mod Settles
 pub mod Telling
+mod UnitLines

@@ -19,7 +19,7 @@ use Rattle.cics_units.specs.declared.opening.DefineFault.{DefineFault}
 use Rattle.cics_units.specs.declared.opening.DefineFault.TheVariants as define
 use Rattle.cics_script.specs.Faults as script
 use Rattle.cics_script.specs.declared.faults.LineFault.{LineFault}
-use Rattle.cics_run.specs.Texts.{text_of, name_text, bare}
+use Rattle.cics_script.specs.Texts.{text_of, name_text, bare}
 
 -- a line of the journal ends with LF
 abbrev pub line : List ℕ → List ℕ

@@ -1,4 +1,3 @@
-pub mod Texts
 pub mod Journal
 pub mod Listings
 pub mod Lines

@@ -7,7 +7,7 @@ use Rattle.cics_transdata.specs.declared.queues.Recovery.TheVariants.{Logical, P
 use Rattle.cics_units.specs.declared.listings.Listing.{Listing}
 use Rattle.cics_units.specs.declared.listings.TaskState.{TaskState}
 use Rattle.cics_units.specs.declared.listings.TaskState.TheVariants.{Idle, HasUnit, IsWaiting}
-use Rattle.cics_run.specs.Texts.{text_of, name_text, bare}
+use Rattle.cics_script.specs.Texts.{text_of, name_text, bare}
 use Rattle.cics_run.specs.Journal.{line}
 
 -- how much there is of a file or queue: the word for it, and their number

@@ -8,10 +8,9 @@ ghost use Rattle.cics_run.specs.Journal.{shutdown_line, shutdown_refused_line, r
 ghost use Rattle.cics_run.specs.Journal.{refusal_text, refused_line, define_title};
 ghost use Rattle.cics_run.specs.Journal.{define_fault_line, line_fault_line};
 
-use crate::texts::{push_bare, push_name, push_number, push_str, push_text};
 use cics_dispatch::{Expired, Number, Outcome, Refused, Reply, Woken};
 use cics_names::{AbendCode, Condition, Name4, Name8, NoMemory, Record};
-use cics_script::LineFault;
+use cics_script::{LineFault, push_bare, push_name, push_number, push_str, push_text};
 use cics_units::DefineFault;
 
 /// A task was attached, for a transaction.

@@ -8,7 +8,6 @@ mod running;
 mod session;
 mod settling;
 mod stage;
-mod texts;
 mod writing;
 
 pub use command_line::{Asked, arguments, exit_status};

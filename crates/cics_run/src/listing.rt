@@ -7,8 +7,8 @@ ghost use Rattle.cics_run.specs.Listings.{file_text, storage_text, transient_tex
 ghost use Rattle.cics_run.specs.Listings.{task_text, listing_text, replay_text, count_text};
 ghost use Rattle.cics_run.specs.Listings.{parts_text};
 
-use crate::texts::{push_bare, push_name, push_number, push_str, push_text};
 use cics_names::{Items, Name4, Name8, NoMemory, Record};
+use cics_script::{push_bare, push_name, push_number, push_str, push_text};
 use cics_transdata::Recovery;
 use cics_units::{Listing, TaskState};
 
@@ -149,7 +149,8 @@ fn push_records(out: &mut Vec<u8>, records: &[Record]) -> Result<(), NoMemory>
     Ok(())
 }
 
-fn recoverable_title(recoverable: bool) -> &'static str
+/// RECOVERABLE or UNRECOVERABLE.
+pub fn recoverable_title(recoverable: bool) -> &'static str
     ensures { result.now ≡ recoverable_title recoverable }
 {
     if recoverable {
@@ -159,7 +160,8 @@ fn recoverable_title(recoverable: bool) -> &'static str
     }
 }
 
-fn recovery_title(recovery: Recovery) -> &'static str
+/// LOGICAL, PHYSICAL or NONE.
+pub fn recovery_title(recovery: Recovery) -> &'static str
     ensures { result.now ≡ recovery_title recovery }
 {
     match recovery {

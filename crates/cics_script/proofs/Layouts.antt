@@ -1,5 +1,5 @@
 -- Tokens that were written are read back, and a line of them has no other bytes than a script may have.
-use Rattle.std.proofs.Common.{◌≡◌, ℕ, suc, Bool, true, false, ◌==◌, ◌&&◌, ◌+◌, ◌*◌, ◌-◌, ◌/◌, ◌%◌, ◌≤◌, ◌<◌, ◌^◌, List, [], ◌∷◌, ◌++◌, length, take, drop, map, refl, arith, ap, sym, ◌∙◌, Some, None, inl, inr}
+use Rattle.std.proofs.Common.{◌≡◌, ℕ, suc, Bool, true, false, ◌==◌, ◌&&◌, ◌||◌, ◌+◌, ◌*◌, ◌-◌, ◌/◌, ◌%◌, ◌≤◌, ◌<◌, ◌^◌, List, [], ◌∷◌, ◌++◌, length, take, drop, map, refl, arith, ap, sym, ◌∙◌, Some, None, inl, inr}
 use Rattle.std.proofs.lemmas.Bool.{cases_Bool}
 use Rattle.std.proofs.lemmas.Bool.Decides.{nat_tests}
 use Rattle.std.proofs.lemmas.Fmt.{decimal_by_steps}
@@ -29,12 +29,23 @@ if-true b x y e = rw e refl
 pub if-false : {A : Type 0} (b : Bool) (x y : A) → b ≡ false → (if b then x else y) ≡ y
 if-false b x y e = rw e refl
 
--- bytes of one kind before a byte of another
-prefix_len-all : (p : ℕ → Bool) (run : List ℕ) (c : ℕ) (rest : List ℕ) → list_all p run ≡ true → p c ≡ false → prefix_len p (run ++ c ∷ rest) ≡ length run
-prefix_len-all p [] c rest all other = rw other refl
-prefix_len-all p (first ∷ run) c rest all other =
+-- a byte that is part of no word, number or literal: a blank or a parenthesis
+abbrev is_gap : ℕ → Bool
+is_gap c = (c == 32) || (c == 40) || (c == 41)
+
+-- whether these bytes may stand right behind a token: there are none, or the first is part of no token before it
+abbrev pub ends : List ℕ → Bool
+ends [] = true
+ends (c ∷ rest) = is_gap c
+
+-- bytes of one kind, of which no gap is, before the end or a gap
+prefix_len-all : (p : ℕ → Bool) → ((c : ℕ) → is_gap c ≡ true → p c ≡ false) → (run rest : List ℕ) → list_all p run ≡ true → ends rest ≡ true
+    → prefix_len p (run ++ rest) ≡ length run
+prefix_len-all p other [] [] all gap = refl
+prefix_len-all p other [] (c ∷ rest) all gap = rw (other c gap) refl
+prefix_len-all p other (first ∷ run) rest all gap =
     let parts = both_true (p first) (list_all p run) all in
-    rw parts.0 (omega (arith, prefix_len-all p run c rest parts.1 other))
+    rw parts.0 (omega (arith, prefix_len-all p other run rest parts.1 gap))
 
 -- bytes that pass a test pass any weaker one
 all-weaker : (p q : ℕ → Bool) → ((c : ℕ) → p c ≡ true → q c ≡ true) → (run : List ℕ) → list_all p run ≡ true → list_all q run ≡ true
@@ -63,6 +74,15 @@ no_quote-in_capitals c e = grind (arith, nat_tests)
 no_blank-in_capitals : (c : ℕ) → is_in_capitals c ≡ true → is_blank c ≡ false
 no_blank-in_capitals c e = grind (arith, nat_tests)
 
+no_word_byte-gap : (c : ℕ) → is_gap c ≡ true → is_word_byte c ≡ false
+no_word_byte-gap c e = grind (arith, nat_tests)
+
+no_digit-gap : (c : ℕ) → is_gap c ≡ true → is_digit c ≡ false
+no_digit-gap c e = grind (arith, nat_tests)
+
+no_quote-gap : (c : ℕ) → is_gap c ≡ true → is_quote c ≡ false
+no_quote-gap c e = grind (arith, nat_tests)
+
 capitals-itself : (letters : List ℕ) → list_all is_in_capitals letters ≡ true → map capital letters ≡ letters
 capitals-itself [] all = refl
 capitals-itself (c ∷ letters) all =
@@ -78,22 +98,23 @@ behind_x-other : (c : ℕ) (bytes : List ℕ) → (capital c == 88) ≡ false �
 behind_x-other c [] e = refl
 behind_x-other c (d ∷ bytes) e = rw e refl
 
-behind_x-word : (c : ℕ) (letters rest : List ℕ) → list_all is_in_capitals letters ≡ true → behind_x (c ∷ (letters ++ 32 ∷ rest)) ≡ None
-behind_x-word c [] rest all = behind_x-no_quote c 32 rest refl
-behind_x-word c (d ∷ letters) rest all = behind_x-no_quote c d (letters ++ 32 ∷ rest) (no_quote-in_capitals d (both_true (is_in_capitals d) (list_all is_in_capitals letters) all).0)
+behind_x-word : (c : ℕ) (letters rest : List ℕ) → list_all is_in_capitals letters ≡ true → ends rest ≡ true → behind_x (c ∷ (letters ++ rest)) ≡ None
+behind_x-word c [] [] all gap = refl
+behind_x-word c [] (d ∷ rest) all gap = behind_x-no_quote c d rest (no_quote-gap d gap)
+behind_x-word c (d ∷ letters) rest all gap = behind_x-no_quote c d (letters ++ rest) (no_quote-in_capitals d (both_true (is_in_capitals d) (list_all is_in_capitals letters) all).0)
 
-token_at-word : (c : ℕ) (letters rest : List ℕ) → is_capital c ≡ true → list_all is_in_capitals letters ≡ true
-    → token_at (c ∷ (letters ++ 32 ∷ rest)) ≡ (word (c ∷ letters), 32 ∷ rest)
-token_at-word c letters rest first all =
+token_at-word : (c : ℕ) (letters rest : List ℕ) → is_capital c ≡ true → list_all is_in_capitals letters ≡ true → ends rest ≡ true
+    → token_at (c ∷ (letters ++ rest)) ≡ (word (c ∷ letters), rest)
+token_at-word c letters rest first all gap =
     let run = c ∷ letters in
     let whole : list_all is_in_capitals run ≡ true = rw (in_capitals-capital c first) all in
-    let count = prefix_len-all is_word_byte run 32 rest (all-weaker is_in_capitals is_word_byte word_byte-in_capitals run whole) refl in
-    let at : word_at (run ++ 32 ∷ rest) ≡ (word run, 32 ∷ rest) =
-    ap (λ n. (word (map capital (take n (run ++ 32 ∷ rest))), drop n (run ++ 32 ∷ rest))) count
-    ∙ ap (λ w. (word (map capital w), drop (length run) (run ++ 32 ∷ rest))) (take-append_seam run (32 ∷ rest))
-    ∙ ap (λ w. (word w, drop (length run) (run ++ 32 ∷ rest))) (capitals-itself run whole)
-    ∙ ap (λ behind. (word run, behind)) (drop-append_seam run (32 ∷ rest)) in
-    ap (λ x. hexadecimal_or x (plain_at c (letters ++ 32 ∷ rest))) (behind_x-word c letters rest all)
+    let count = prefix_len-all is_word_byte no_word_byte-gap run rest (all-weaker is_in_capitals is_word_byte word_byte-in_capitals run whole) gap in
+    let at : word_at (run ++ rest) ≡ (word run, rest) =
+    ap (λ n. (word (map capital (take n (run ++ rest))), drop n (run ++ rest))) count
+    ∙ ap (λ w. (word (map capital w), drop (length run) (run ++ rest))) (take-append_seam run rest)
+    ∙ ap (λ w. (word w, drop (length run) (run ++ rest))) (capitals-itself run whole)
+    ∙ ap (λ behind. (word run, behind)) (drop-append_seam run rest) in
+    ap (λ x. hexadecimal_or x (plain_at c (letters ++ rest))) (behind_x-word c letters rest all gap)
     ∙ if-true (is_letter c) _ _ (letter-capital c first) ∙ at
 
 -- ---- numbers
@@ -126,19 +147,19 @@ no_letter-digit c e = grind (arith, nat_tests)
 no_x-digit : (c : ℕ) → is_digit c ≡ true → (capital c == 88) ≡ false
 no_x-digit c e = grind (arith, nat_tests)
 
-token_at-number : (n : ℕ) (digits rest : List ℕ) → n < 2 ^ 64 → AreDigits n digits → token_at (digits ++ 32 ∷ rest) ≡ (number n, 32 ∷ rest)
-token_at-number n [] rest small are = absurd (omega (arith, are.1))
-token_at-number n (c ∷ digits) rest small are =
+token_at-number : (n : ℕ) (digits rest : List ℕ) → n < 2 ^ 64 → AreDigits n digits → ends rest ≡ true → token_at (digits ++ rest) ≡ (number n, rest)
+token_at-number n [] rest small are gap = absurd (omega (arith, are.1))
+token_at-number n (c ∷ digits) rest small are gap =
     let run = c ∷ digits in
     let first = (both_true (is_digit c) (list_all is_digit digits) are.0).0 in
-    let count = prefix_len-all is_digit run 32 rest are.0 refl in
-    let at : number_at (run ++ 32 ∷ rest) ≡ as_number n (32 ∷ rest) =
-    ap (λ k. as_number (value_of (take k (run ++ 32 ∷ rest))) (drop k (run ++ 32 ∷ rest))) count
-    ∙ ap (λ ds. as_number (value_of ds) (drop (length run) (run ++ 32 ∷ rest))) (take-append_seam run (32 ∷ rest))
-    ∙ ap (λ v. as_number v (drop (length run) (run ++ 32 ∷ rest))) are.2
-    ∙ ap (as_number n) (drop-append_seam run (32 ∷ rest)) in
+    let count = prefix_len-all is_digit no_digit-gap run rest are.0 gap in
+    let at : number_at (run ++ rest) ≡ as_number n rest =
+    ap (λ k. as_number (value_of (take k (run ++ rest))) (drop k (run ++ rest))) count
+    ∙ ap (λ ds. as_number (value_of ds) (drop (length run) (run ++ rest))) (take-append_seam run rest)
+    ∙ ap (λ v. as_number v (drop (length run) (run ++ rest))) are.2
+    ∙ ap (as_number n) (drop-append_seam run rest) in
     let fits : nat_lt n (2 ^ 64) ≡ true = grind (arith, nat_tests) in
-    ap (λ x. hexadecimal_or x (plain_at c (digits ++ 32 ∷ rest))) (behind_x-other c (digits ++ 32 ∷ rest) (no_x-digit c first))
+    ap (λ x. hexadecimal_or x (plain_at c (digits ++ rest))) (behind_x-other c (digits ++ rest) (no_x-digit c first))
     ∙ if-false (is_letter c) _ _ (no_letter-digit c first) ∙ if-true (is_digit c) _ _ first
     ∙ at ∙ if-true (nat_lt n (2 ^ 64)) _ _ fits
 
@@ -147,14 +168,15 @@ token_at-number n (c ∷ digits) rest small are =
 quote-is : (c : ℕ) → is_quote c ≡ true → c ≡ 39
 quote-is c e = grind (arith, nat_tests)
 
-characters-quoted : (said rest : List ℕ) → list_all (λ c. is_some (code_of c)) said ≡ true
-    → characters_from false (quoted said ++ 32 ∷ rest) ≡ Some (said, 32 ∷ rest)
-characters-quoted [] rest all = refl
-characters-quoted (c ∷ said) rest all =
+characters-quoted : (said rest : List ℕ) → list_all (λ c. is_some (code_of c)) said ≡ true → ends rest ≡ true
+    → characters_from false (quoted said ++ rest) ≡ Some (said, rest)
+characters-quoted [] [] all gap = refl
+characters-quoted [] (c ∷ rest) all gap = rw (no_quote-gap c gap) refl
+characters-quoted (c ∷ said) rest all gap =
     let parts = both_true (is_some (code_of c)) (list_all (λ c. is_some (code_of c)) said) all in
     elim (cases_Bool (is_quote c)) [
-      | inl quote ↦ rw quote (ap (with_byte 39) (characters-quoted said rest parts.1) ∙ ap (λ q. Some (q ∷ said, 32 ∷ rest)) (sym (quote-is c quote)))
-      | inr other ↦ rw other (rw (other, parts.0) (ap (with_byte c) (characters-quoted said rest parts.1)))
+      | inl quote ↦ rw quote (ap (with_byte 39) (characters-quoted said rest parts.1 gap) ∙ ap (λ q. Some (q ∷ said, rest)) (sym (quote-is c quote)))
+      | inr other ↦ rw other (rw (other, parts.0) (ap (with_byte c) (characters-quoted said rest parts.1 gap)))
     ]
 
 no_quote-digit : (n : ℕ) → n < 16 → is_quote (hexadecimal_digit n) ≡ false
@@ -169,8 +191,9 @@ hex_value-digit n h =
           ∙ if-true (nat_le 65 (55 + n) && nat_le (55 + n) 70) _ _ (grind (arith, nat_tests)) ∙ ap Some (omega arith))
     ]
 
-pairs-hexadecimal : (bytes rest : List ℕ) → list_all (λ byte. nat_lt byte 256) bytes ≡ true → digit_pairs (hexadecimal bytes ++ 32 ∷ rest) ≡ Some (bytes, 32 ∷ rest)
-pairs-hexadecimal [] rest all = refl
+pairs-hexadecimal : (bytes rest : List ℕ) → list_all (λ byte. nat_lt byte 256) bytes ≡ true → digit_pairs (hexadecimal bytes ++ rest) ≡ Some (bytes, rest)
+pairs-hexadecimal [] [] all = refl
+pairs-hexadecimal [] (c ∷ rest) all = refl
 pairs-hexadecimal (byte ∷ bytes) rest all =
     let parts = both_true (nat_lt byte 256) (list_all (λ byte. nat_lt byte 256) bytes) all in
     let within : byte < 256 = grind (arith, nat_tests, parts.0) in
@@ -178,23 +201,23 @@ pairs-hexadecimal (byte ∷ bytes) rest all =
     let low : byte % 16 < 16 = omega arith in
     let back : byte / 16 * 16 + byte % 16 ≡ byte = omega arith in
     rw (no_quote-digit (byte / 16) high, hex_value-digit (byte / 16) high, hex_value-digit (byte % 16) low)
-    (ap (with_byte (byte / 16 * 16 + byte % 16)) (pairs-hexadecimal bytes rest parts.1) ∙ ap (λ b. Some (b ∷ bytes, 32 ∷ rest)) back)
+    (ap (with_byte (byte / 16 * 16 + byte % 16)) (pairs-hexadecimal bytes rest parts.1) ∙ ap (λ b. Some (b ∷ bytes, rest)) back)
 
 -- ---- tokens
 
-token_at-written : (token : Token) (rest : List ℕ) → IsWritable token → token_at (token_bytes token ++ 32 ∷ rest) ≡ (token, 32 ∷ rest)
-token_at-written (word []) rest can = let wrong : false ≡ true = can in cc
-token_at-written (word (c ∷ letters)) rest can =
+token_at-written : (token : Token) (rest : List ℕ) → IsWritable token → ends rest ≡ true → token_at (token_bytes token ++ rest) ≡ (token, rest)
+token_at-written (word []) rest can gap = let wrong : false ≡ true = can in cc
+token_at-written (word (c ∷ letters)) rest can gap =
     let parts = both_true (is_capital c) (list_all is_in_capitals letters) can in
-    token_at-word c letters rest parts.0 parts.1
-token_at-written (number n) rest can = token_at-number n (decimal n) rest can (decimal-digits n can)
-token_at-written (literal Quoted said) rest can =
-    ap (λ x. hexadecimal_or x (plain_at 39 (quoted said ++ 32 ∷ rest))) (behind_x-other 39 (quoted said ++ 32 ∷ rest) refl)
-    ∙ ap (as_literal Quoted) (characters-quoted said rest can)
-token_at-written (literal Hexadecimal bytes) rest can = ap (as_literal Hexadecimal) (pairs-hexadecimal bytes rest can)
-token_at-written opening rest can = refl
-token_at-written closing rest can = refl
-token_at-written (broken fault) rest can = absurd can
+    token_at-word c letters rest parts.0 parts.1 gap
+token_at-written (number n) rest can gap = token_at-number n (decimal n) rest can (decimal-digits n can) gap
+token_at-written (literal Quoted said) rest can gap =
+    ap (λ x. hexadecimal_or x (plain_at 39 (quoted said ++ rest))) (behind_x-other 39 (quoted said ++ rest) refl)
+    ∙ ap (as_literal Quoted) (characters-quoted said rest can gap)
+token_at-written (literal Hexadecimal bytes) rest can gap = ap (as_literal Hexadecimal) (pairs-hexadecimal bytes rest can)
+token_at-written opening rest can gap = ap (λ x. hexadecimal_or x (plain_at 40 rest)) (behind_x-other 40 rest refl)
+token_at-written closing rest can gap = ap (λ x. hexadecimal_or x (plain_at 41 rest)) (behind_x-other 41 rest refl)
+token_at-written (broken fault) rest can gap = absurd can
 
 no_blank-front : (c : ℕ) (bytes : List ℕ) → is_blank c ≡ false → after_blanks (c ∷ bytes) ≡ c ∷ bytes
 no_blank-front c bytes e = rw e refl
@@ -219,22 +242,43 @@ front-written closing rest can = refl
 front-written (broken fault) rest can = absurd can
 
 -- a blank in front is no token
-tokens-blank : (bytes : List ℕ) → tokens (32 ∷ bytes) ≡ tokens bytes
+pub tokens-blank : (bytes : List ℕ) → tokens (32 ∷ bytes) ≡ tokens bytes
 tokens-blank bytes =
     let count : 1 + prefix_len is_blank bytes ≡ suc (prefix_len is_blank bytes) = omega arith in
     ap (λ k. tokens_in (suc (length bytes)) (drop k (32 ∷ bytes))) count
     ∙ enough (suc (length bytes)) (length bytes) (after_blanks bytes) (omega (arith, blanks-within bytes)) (blanks-within bytes)
 
+some-written : (token : Token) → IsWritable token → 0 < length (token_bytes token)
+some-written (word []) can = let wrong : false ≡ true = can in cc
+some-written (word (c ∷ letters)) can = omega arith
+some-written (number n) can = (decimal-digits n can).1
+some-written (literal Quoted said) can = omega arith
+some-written (literal Hexadecimal bytes) can = omega arith
+some-written opening can = omega arith
+some-written closing can = omega arith
+some-written (broken fault) can = absurd can
+
+-- a token that was written is read back, and then what stands behind it
+pub tokens-written : (token : Token) (rest : List ℕ) → IsWritable token → ends rest ≡ true → tokens (token_bytes token ++ rest) ≡ token ∷ tokens rest
+tokens-written token rest can gap =
+    let bytes = token_bytes token ++ rest in
+    let front = front-written token rest can in
+    let some : 0 < length (after_blanks bytes) = rw front (simp length-append (omega (arith, some-written token can))) in
+    tokens-next bytes some
+    ∙ ap (λ b. (token_at b).0 ∷ tokens (token_at b).1) front
+    ∙ ap (λ t. t.0 ∷ tokens t.1) (token_at-written token rest can gap)
+
+-- anything may stand behind an opening parenthesis
+pub tokens-opening : (rest : List ℕ) → tokens (40 ∷ rest) ≡ opening ∷ tokens rest
+tokens-opening rest =
+    let some : 0 < length (after_blanks (40 ∷ rest)) = omega arith in
+    tokens-next (40 ∷ rest) some ∙ ap (λ x. (hexadecimal_or x (opening, rest)).0 ∷ tokens (hexadecimal_or x (opening, rest)).1) (behind_x-other 40 rest refl)
+
 -- tokens that were written are read back
 pub tokens-laid_out : (line : List Token) → AreWritable line → tokens (laid_out line) ≡ line
 tokens-laid_out [] are = refl
 tokens-laid_out (token ∷ others) are =
-    let bytes = token_bytes token ++ 32 ∷ laid_out others in
-    let front = front-written token (32 ∷ laid_out others) are.0 in
-    let some : 0 < length (after_blanks bytes) = rw front (simp length-append (omega arith)) in
-    tokens-next bytes some
-    ∙ ap (λ b. (token_at b).0 ∷ tokens (token_at b).1) front
-    ∙ ap (λ t. t.0 ∷ tokens t.1) (token_at-written token (laid_out others) are.0)
+    tokens-written token (32 ∷ laid_out others) are.0 refl
     ∙ ap (λ ts. token ∷ ts) (tokens-blank (laid_out others) ∙ tokens-laid_out others are.1)
 
 -- ---- the bytes of a script
@@ -284,7 +328,7 @@ script-hexadecimal_all (byte ∷ bytes) all =
     let within : byte < 256 = grind (arith, nat_tests, parts.0) in
     rw (script-hexadecimal (byte / 16) (omega (arith, within)), script-hexadecimal (byte % 16) (omega arith)) (script-hexadecimal_all bytes parts.1)
 
-script-written : (token : Token) → IsWritable token → list_all is_script_byte (token_bytes token) ≡ true
+pub script-written : (token : Token) → IsWritable token → list_all is_script_byte (token_bytes token) ≡ true
 script-written (word []) can = refl
 script-written (word (c ∷ letters)) can =
     let parts = both_true (is_capital c) (list_all is_in_capitals letters) can in

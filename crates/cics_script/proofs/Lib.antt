@@ -1,3 +1,5 @@
+mod Characters
+mod Unfilled
 pub mod Numbers
 pub mod Copies
 pub mod Digits
@@ -11,3 +13,4 @@ pub mod Layouts
 pub mod Written
 pub mod NamesBack
 pub mod Spelled
+pub mod ReadBack

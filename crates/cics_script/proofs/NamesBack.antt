@@ -1,5 +1,6 @@
 -- A name that is written in its own characters is read back.
-use Rattle.std.proofs.Common.{◌≡◌, ℕ, zero, suc, Bool, true, false, ◌==◌, ◌&&◌, ◌-◌, ◌≤◌, List, [], ◌∷◌, ◌++◌, length, map, replicate, refl, arith, ap, ◌∙◌, subst, append-nil, Option, Some, None}
+use Rattle.std.proofs.Common.{◌≡◌, ℕ, zero, suc, Bool, true, false, ◌==◌, ◌&&◌, ◌-◌, ◌≤◌, List, [], ◌∷◌, ◌++◌, length, map, replicate, refl, arith, ap, sym, ◌∙◌, subst, inl, inr, Option, Some, None}
+use Rattle.std.proofs.lemmas.Bool.{cases_Bool}
 use Rattle.std.proofs.lemmas.Bool.Decides.{nat_tests}
 use Rattle.std.proofs.lemmas.List.{length-append, length-map, length-replicate}
 use Rattle.std.proofs.lemmas.List.Folds.{list_all-append}
@@ -12,11 +13,15 @@ use Rattle.cics_names.specs.Names.{blank, filled_up, name_of, name_of_codes}
 use Rattle.cics_names.specs.declared.names.NameFault.{NameFault}
 use Rattle.cics_names.specs.declared.names.NameFault.TheVariants.{Empty, TooLong, BadCharacter}
 use Rattle.cics_script.specs.Spelling.{IsName}
-use Rattle.cics_script.specs.WrittenOut.{character}
+use Rattle.cics_script.specs.Texts.{unfilled}
 use Rattle.cics_script.proofs.Layouts.{both_true, if-false}
 
+-- the character of a code
+abbrev pub character : ℕ → ℕ
+character code = unwrap_or (character_of code) 32
+
 -- whether a byte is the code of a character
-abbrev is_coded : ℕ → Bool
+abbrev pub is_coded : ℕ → Bool
 is_coded b = is_some (character_of b)
 
 -- the codes of a text of so many characters, if it has codes
@@ -71,7 +76,7 @@ unfolding character_of
 blanks-coded zero = refl
 blanks-coded (suc n) = blanks-coded n
 
-code-found : (b : ℕ) (found : Option ℕ) → character_of b ≡ found → is_some found ≡ true → code_of (unwrap_or found 32) ≡ Some b
+pub code-found : (b : ℕ) (found : Option ℕ) → character_of b ≡ found → is_some found ≡ true → code_of (unwrap_or found 32) ≡ Some b
 code-found b None is some = let wrong : false ≡ true = some in cc
 code-found b (Some c) is some = code_of-character_of b c is
 
@@ -86,26 +91,82 @@ codes-back (b ∷ bytes) all =
 not_blank : (some : Bool) (rest : Bool) → some ≡ false → (some && rest) ≡ false
 not_blank some rest e = rw e refl
 
-filled-again : (width n : ℕ) (name : List ℕ) → n ≡ 0 → name ++ replicate n blank ≡ name
-filled-again width n name none = ap (λ n. name ++ replicate n blank) none ∙ append-nil name
+all-blank : (name : List ℕ) → list_all (λ b. b == blank) name ≡ true → replicate (length name) blank ≡ name
+all-blank [] all = refl
+all-blank (b ∷ name) all =
+    let parts = both_true (b == blank) (list_all (λ b. b == blank) name) all in
+    let is : b ≡ blank = grind (arith, nat_tests, parts.0) in
+    ap (λ bytes. blank ∷ bytes) (all-blank name parts.1) ∙ ap (λ b. b ∷ name) (sym is)
 
-named-back : (width : ℕ) (name : List ℕ) → Named width name → name_of width (map character name) ≡ Ok name
-named-back width name is =
+-- a name without the blanks that fill it up, filled up again
+unfilled-again : (name : List ℕ) → filled_up (length name) (unfilled name) ≡ name
+unfilled-again [] = refl
+unfilled-again (b ∷ name) =
+    let none : suc (length name) - 0 ≡ suc (length name) = omega arith in
+    let one : suc (length name) - suc (length (unfilled name)) ≡ length name - length (unfilled name) = omega arith in
+    elim (cases_Bool (list_all (λ b. b == blank) (b ∷ name))) [
+      | inl all ↦ rw all (ap (λ n. replicate n blank) none ∙ all-blank (b ∷ name) all)
+      | inr some ↦ rw some (ap (λ n. b ∷ (unfilled name ++ replicate n blank)) one ∙ ap (λ bytes. b ∷ bytes) (unfilled-again name))
+    ]
+
+unfilled-all : (p : ℕ → Bool) (name : List ℕ) → list_all p name ≡ true → list_all p (unfilled name) ≡ true
+unfilled-all p [] all = refl
+unfilled-all p (b ∷ name) all =
+    let parts = both_true (p b) (list_all p name) all in
+    elim (cases_Bool (list_all (λ b. b == blank) (b ∷ name))) [
+      | inl blanks ↦ rw blanks refl
+      | inr some ↦ rw some (rw parts.0 (unfilled-all p name parts.1))
+    ]
+
+unfilled-within : (name : List ℕ) → length (unfilled name) ≤ length name
+unfilled-within [] = omega arith
+unfilled-within (b ∷ name) =
+    elim (cases_Bool (list_all (λ b. b == blank) (b ∷ name))) [
+      | inl blanks ↦ rw blanks (omega arith)
+      | inr some ↦ rw some (omega (arith, unfilled-within name))
+    ]
+
+unfilled-says : (name : List ℕ) → list_all (λ b. b == blank) name ≡ false → list_all (λ b. b == blank) (unfilled name) ≡ false
+unfilled-says [] some = some
+unfilled-says (b ∷ name) some =
+    rw some (
+    elim (cases_Bool (b == blank)) [
+      | inl is ↦ rw is (unfilled-says name (rw is at some))
+      | inr other ↦ rw other refl
+    ])
+
+-- a name that is made of codes
+record Whole (width : ℕ) (name : List ℕ) : Type 0 where
+  are_codes : list_all is_coded name ≡ true
+  says : list_all (λ b. b == blank) name ≡ false
+  wide : length name ≡ width
+
+whole : (width : ℕ) (name : List ℕ) → Named width name → Whole width name
+whole width name is =
     let behind = replicate (width - length is.codes) blank in
-    let whole : list_all is_coded name ≡ true = subst (λ bytes. list_all is_coded bytes ≡ true) is.filled
-    (list_all-append is_coded is.codes behind ∙ rw (is.are_codes, blanks-coded (width - length is.codes)) refl) in
-    let says : list_all (λ b. b == blank) name ≡ false = subst (λ bytes. list_all (λ b. b == blank) bytes ≡ false) is.filled
-    (list_all-append (λ b. b == blank) is.codes behind ∙ not_blank _ (list_all (λ b. b == blank) behind) is.says) in
     let behind_length : length behind ≡ width - length is.codes = length-replicate (width - length is.codes) blank in
     let filled_length : length (filled_up width is.codes) ≡ width = length-append is.codes behind ∙ omega (arith, behind_length, is.fits) in
-    let name_length : length name ≡ width = subst (λ bytes. length bytes ≡ width) is.filled filled_length in
-    let text_length : length (map character name) ≡ length name = length-map name character in
-    let short : nat_lt width (length (map character name)) ≡ false = grind (arith, nat_tests, text_length, name_length) in
-    if-false (nat_lt width (length (map character name))) (Err TooLong) _ short
-    ∙ ap (name_of_codes width) (codes-back name whole)
-    ∙ if-false (list_all (λ b. b == blank) name) (Err Empty) _ says
-    ∙ ap Ok (filled-again width (width - length name) name (omega (arith, name_length)))
+    record {
+      are_codes = subst (λ bytes. list_all is_coded bytes ≡ true) is.filled (list_all-append is_coded is.codes behind ∙ rw (is.are_codes, blanks-coded (width - length is.codes)) refl);
+      says = subst (λ bytes. list_all (λ b. b == blank) bytes ≡ false) is.filled
+          (list_all-append (λ b. b == blank) is.codes behind ∙ not_blank _ (list_all (λ b. b == blank) behind) is.says);
+      wide = subst (λ bytes. length bytes ≡ width) is.filled filled_length;
+    }
 
--- a name in its characters
-pub name-back : (width : ℕ) (name : List ℕ) → IsName width name → name_of width (map character name) ≡ Ok name
-name-back width name is = named-back width name (named width name is)
+whole-back : (width : ℕ) (name : List ℕ) → Whole width name → name_of width (map character (unfilled name)) ≡ Ok name
+whole-back width name is =
+    let said = unfilled name in
+    let text_length : length (map character said) ≡ length said = length-map said character in
+    let short : nat_lt width (length (map character said)) ≡ false = grind (arith, nat_tests, text_length, is.wide, unfilled-within name) in
+    if-false (nat_lt width (length (map character said))) (Err TooLong) _ short
+    ∙ ap (name_of_codes width) (codes-back said (unfilled-all is_coded name is.are_codes))
+    ∙ if-false (list_all (λ b. b == blank) said) (Err Empty) _ (unfilled-says name is.says)
+    ∙ ap Ok (ap (λ n. filled_up n said) (sym is.wide) ∙ unfilled-again name)
+
+-- a name in its characters, without the blanks that fill it up
+pub name-back : (width : ℕ) (name : List ℕ) → IsName width name → name_of width (map character (unfilled name)) ≡ Ok name
+name-back width name is = whole-back width name (whole width name (named width name is))
+
+-- each byte of a name has a character
+pub name-coded : (width : ℕ) (name : List ℕ) → IsName width name → list_all is_coded (unfilled name) ≡ true
+name-coded width name is = unfilled-all is_coded name (whole width name (named width name is)).are_codes

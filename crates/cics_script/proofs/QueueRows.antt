@@ -573,14 +573,19 @@ row_written_left_out = refl
 row_written_td : laid_out (command_tokens (codes "T1") command.DeleteqTd true of_queue) ≡ codes "T1 EXEC CICS DELETEQ TD QUEUE ( 'Q1' ) "
 row_written_td = refl
 
-row_written_out : written_out (codes "T1") (record { verb = WriteqTs q1 ab None (Some 2); resp = true }) ≡ codes "T1 EXEC CICS WRITEQ TS NOHANDLE QUEUE ( 'Q1      ' ) FROM ( X'C1C2' ) REWRITE ITEM ( 2 ) "
+row_written_out : written_out (codes "T1") (record { verb = WriteqTs q1 ab None (Some 2); resp = true }) ≡ codes "T1 EXEC CICS WRITEQ TS NOHANDLE QUEUE('Q1') FROM('AB') REWRITE ITEM(2)"
 unfolding digits ebcdic.character_of
 row_written_out = refl
 
-row_written_out_td : written_out (codes "T1") (record { verb = ReadqTd tdq1 (Some 3) true; resp = false }) ≡ codes "T1 EXEC CICS READQ TD QUEUE ( 'TDQ1' ) LENGTH ( 3 ) NOSUSPEND "
+row_written_out_td : written_out (codes "T1") (record { verb = ReadqTd tdq1 (Some 3) true; resp = false }) ≡ codes "T1 EXEC CICS READQ TD QUEUE('TDQ1') LENGTH(3) NOSUSPEND"
 unfolding digits ebcdic.character_of
 row_written_out_td = refl
 
-row_written_out_generic : written_out (codes "T1") (record { verb = Delete acct (Some ab) None true; resp = false }) ≡ codes "T1 EXEC CICS DELETE FILE ( 'ACCT    ' ) RIDFLD ( X'C1C2' ) GENERIC "
+row_written_out_generic : written_out (codes "T1") (record { verb = Delete acct (Some ab) None true; resp = false }) ≡ codes "T1 EXEC CICS DELETE FILE('ACCT') RIDFLD('AB') GENERIC"
 unfolding ebcdic.character_of
 row_written_out_generic = refl
+
+-- a key in which a byte has no character
+row_written_out_bytes : written_out (codes "T1") (record { verb = Delete acct (Some (0x00 ∷ 0xC1 ∷ [])) None true; resp = false }) ≡ codes "T1 EXEC CICS DELETE FILE('ACCT') RIDFLD(X'00C1') GENERIC"
+unfolding ebcdic.character_of
+row_written_out_bytes = refl

@@ -1,12 +1,11 @@
 -- Each command has a spelling.
-use Rattle.std.proofs.Common.{◌≡◌, ◌≤◌, Bool, true, false, not, ◌&&◌, ◌||◌, ℕ, List, [], ◌∷◌, length, map, refl, ap, sym, ◌∙◌, subst, arith, Option, Some, None, inl, inr}
+use Rattle.std.proofs.Common.{◌≡◌, Bool, true, false, not, ◌&&◌, ◌||◌, ℕ, List, [], ◌∷◌, length, map, refl, ap, sym, ◌∙◌, subst, arith, Option, Some, None, inl, inr}
+use Rattle.std.proofs.lemmas.Bool.{cases_Bool}
 use Rattle.std.proofs.lemmas.Bool.Decides.{nat_tests}
-use Rattle.std.specs.Prelude.{◌⊎◌, Ok, Err, IsTrue, IfSome, nat_lt, if◌then◌else◌, is_some, option_map}
-use Rattle.std.specs.Option.{option_and_then}
+use Rattle.std.specs.Prelude.{◌⊎◌, Ok, IsTrue, IfSome, nat_lt, if◌then◌else◌, is_some, option_map, unwrap_or}
 use Rattle.std.specs.List.{list_any, list_all}
-use Rattle.cics_names.specs.Names.{name_of, name_of_codes}
-use Rattle.cics_names.specs.Ebcdic.{code_of, codes_of}
-use Rattle.cics_names.specs.declared.names.NameFault.TheVariants.{TooLong, BadCharacter}
+use Rattle.cics_names.specs.Names.{blank}
+use Rattle.cics_names.specs.Ebcdic.{code_of, character_of}
 use Rattle.cics_names.specs.declared.commands.Command.{Command}
 use Rattle.cics_names.specs.declared.commands.Verb.{Verb}
 use Rattle.cics_names.specs.declared.commands.Verb.TheVariants as verb
@@ -19,20 +18,21 @@ use Rattle.cics_script.specs.declared.words.OptionWord.TheVariants.{KeyLength, L
 use Rattle.cics_script.specs.declared.words.Kind.{Kind}
 use Rattle.cics_script.specs.declared.words.Kind.TheVariants.{Flag, Text, Name8, Name4, Number, Area}
 use Rattle.cics_script.specs.Words.{same, excludes, kind_in}
-use Rattle.cics_script.specs.Options.{Content, text, name8, name4, amount, nothing, Entry}
+use Rattle.cics_script.specs.Options.{Content, text, name8, name4, amount, nothing, content_in, Entry}
 use Rattle.cics_script.specs.Values.{has}
-use Rattle.cics_script.specs.Layout.{is_word, IsWritable, laid_out}
-use Rattle.cics_script.specs.Lines.{label_in, line}
-use Rattle.cics_script.specs.declared.lines.Line.TheVariants.{Issue}
-use Rattle.cics_script.specs.WrittenOut.{character, token_of, options_written, asked_of, written_with, written_out}
-use Rattle.cics_script.specs.Spelling.{Written, command_tokens, AreOptions, IsWritten, AreApart, flag, options_of, word_of, AllGiven, AreWritten, CanBeGiven, AllCanBeGiven, go_together, Spelling}
+use Rattle.cics_script.specs.Layout.{IsWritable}
+use Rattle.cics_script.specs.Literals.{ebcdic}
+use Rattle.cics_script.specs.Texts.{unfilled}
+use Rattle.cics_script.specs.Tokens.{Token, number, literal}
+use Rattle.cics_script.specs.declared.literals.Notation.TheVariants.{Quoted, Hexadecimal}
+use Rattle.cics_script.specs.WrittenOut.{asked_of}
+use Rattle.cics_script.specs.Spelling.{Written, AreOptions, IsWritten, AreApart, flag, options_of, word_of, AllGiven, AreWritten, CanBeGiven, AllCanBeGiven, go_together, Spelling}
 use Rattle.cics_script.proofs.Layouts.{both_true}
 use Rattle.cics_script.proofs.Orders.{both_false, has-gives}
-use Rattle.cics_script.proofs.NamesBack.{name-back}
-use Rattle.cics_script.proofs.Written.{line-written}
+use Rattle.cics_script.proofs.NamesBack.{character, is_coded, code-found, name-back, name-coded}
 
 -- options, each with what it is to give, or with nothing
-abbrev Asked : Type 0
+abbrev pub Asked : Type 0
 Asked = List (OptionWord × Option Content)
 
 abbrev with_content : OptionWord → Option Content → List Entry → List Entry
@@ -121,6 +121,57 @@ given-present ((option, Some content) ∷ rows) e =
 
 -- ---- what is written
 
+-- a record as the literal that prints it
+abbrev pub literal_of : List ℕ → Token
+literal_of bytes = if list_all is_coded bytes then literal Quoted (map character bytes) else literal Hexadecimal bytes
+
+-- a name as the literal that prints it
+abbrev pub name_literal : List ℕ → Token
+name_literal name = literal Quoted (map character (unfilled name))
+
+-- what an option gives, as the token that prints it
+abbrev pub token_of : Content → Option Token
+token_of (text bytes) = Some (literal_of bytes)
+token_of (name8 name) = Some (name_literal name)
+token_of (name4 name) = Some (name_literal name)
+token_of (amount n) = Some (number n)
+token_of nothing = None
+
+-- the options that are to be there, as they are written
+abbrev pub options_written : Asked → List Written
+options_written [] = []
+options_written ((option, None) ∷ rows) = options_written rows
+options_written ((option, Some content) ∷ rows) = record { option = option; value = token_of content } ∷ options_written rows
+
+-- the characters of coded bytes write them
+ebcdic-back : (bytes : List ℕ) → list_all is_coded bytes ≡ true → map ebcdic (map character bytes) ≡ bytes
+ebcdic-back [] all = refl
+ebcdic-back (b ∷ bytes) all =
+    let parts = both_true (is_coded b) (list_all is_coded bytes) all in
+    ap (λ code. unwrap_or code blank ∷ map ebcdic (map character bytes)) (code-found b (character_of b) refl parts.0)
+    ∙ ap (λ codes. b ∷ codes) (ebcdic-back bytes parts.1)
+
+-- and have codes
+pub characters-coded : (bytes : List ℕ) → list_all is_coded bytes ≡ true → list_all (λ c. is_some (code_of c)) (map character bytes) ≡ true
+characters-coded [] all = refl
+characters-coded (b ∷ bytes) all =
+    let parts = both_true (is_coded b) (list_all is_coded bytes) all in
+    rw (ap is_some (code-found b (character_of b) refl parts.0)) (characters-coded bytes parts.1)
+
+literal-back : (bytes : List ℕ) → content_in Text (literal_of bytes) ≡ Ok (text bytes)
+literal-back bytes =
+    elim (cases_Bool (list_all is_coded bytes)) [
+      | inl all ↦ rw all (ap (λ codes. Ok (text codes)) (ebcdic-back bytes all))
+      | inr some ↦ rw some refl
+    ]
+
+pub literal-writable : (bytes : List ℕ) → IsTrue (list_all (λ byte. nat_lt byte 256) bytes) → IsWritable (literal_of bytes)
+literal-writable bytes can =
+    elim (cases_Bool (list_all is_coded bytes)) [
+      | inl all ↦ rw all (characters-coded bytes all)
+      | inr some ↦ rw some can
+    ]
+
 -- the kind of the options that give this
 abbrev kind_giving : Content → Kind
 kind_giving (text bytes) = Text
@@ -139,39 +190,17 @@ record Spelled (kind : Option Kind) (content : Content) : Type 0 where
   is_written : (others : List Written) → IsWritten kind (token_of content) content others
   is_writable : IfSome (token_of content) IsWritable
 
-known-both : (first : Option ℕ) (others : Option (List ℕ)) → is_some (option_and_then (λ code. option_map (λ codes. code ∷ codes) others) first) ≡ true
-    → (is_some first ≡ true) × (is_some others ≡ true)
-known-both None others e = let wrong : false ≡ true = e in cc
-known-both (Some code) None e = let wrong : false ≡ true = e in cc
-known-both (Some code) (Some codes) e = (refl, refl)
-
-codes-known : (said : List ℕ) → is_some (codes_of said) ≡ true → list_all (λ c. is_some (code_of c)) said ≡ true
-codes-known [] e = refl
-codes-known (c ∷ said) e =
-    let parts = known-both (code_of c) (codes_of said) e in
-    rw parts.0 (codes-known said parts.1)
-
-name-known-codes : (long : Bool) (width : ℕ) (codes : Option (List ℕ)) (name : List ℕ)
-    → (if long then Err TooLong else name_of_codes width codes) ≡ Ok name → is_some codes ≡ true
-name-known-codes true width codes name e = let wrong : Err TooLong ≡ Ok name = e in cc
-name-known-codes false width None name e = let wrong : Err BadCharacter ≡ Ok name = e in cc
-name-known-codes false width (Some codes) name e = refl
-
--- a text that writes a name has characters that EBCDIC has
-name-known : (width : ℕ) (said name : List ℕ) → name_of width said ≡ Ok name → list_all (λ c. is_some (code_of c)) said ≡ true
-name-known width said name e = codes-known said (name-known-codes (nat_lt width (length said)) width (codes_of said) name e)
-
 of_kind : (content : Content) (kind found : Option Kind) → found ≡ kind → Spelled kind content → Spelled found content
 of_kind content kind found is spelled = subst (λ kind. Spelled kind content) (sym is) spelled
 
 spelled-content : (kind : Option Kind) (content : Content) → IsKind kind content → CanBeGiven content → Spelled kind content
-spelled-content kind (text bytes) is can = of_kind (text bytes) (Some Text) kind is (record { is_written = λ others. (refl, tt); is_writable = can })
+spelled-content kind (text bytes) is can = of_kind (text bytes) (Some Text) kind is (record { is_written = λ others. (literal-back bytes, tt); is_writable = literal-writable bytes can })
 spelled-content kind (name8 name) is can =
     let back = name-back 8 name can in
-    of_kind (name8 name) (Some Name8) kind is (record { is_written = λ others. (rw back refl, tt); is_writable = name-known 8 (map character name) name back })
+    of_kind (name8 name) (Some Name8) kind is (record { is_written = λ others. (rw back refl, tt); is_writable = characters-coded (unfilled name) (name-coded 8 name can) })
 spelled-content kind (name4 name) is can =
     let back = name-back 4 name can in
-    of_kind (name4 name) (Some Name4) kind is (record { is_written = λ others. (rw back refl, tt); is_writable = name-known 4 (map character name) name back })
+    of_kind (name4 name) (Some Name4) kind is (record { is_written = λ others. (rw back refl, tt); is_writable = characters-coded (unfilled name) (name-coded 4 name can) })
 spelled-content kind (amount n) (inl is) can = of_kind (amount n) (Some Number) kind is (record { is_written = λ others. (refl, tt); is_writable = can })
 spelled-content kind (amount n) (inr is) can = of_kind (amount n) (Some Area) kind is (record { is_written = λ others. (refl, tt); is_writable = can })
 spelled-content kind nothing is can = of_kind nothing (Some Flag) kind is (record { is_written = λ others. ((refl, refl), tt); is_writable = tt })
@@ -193,7 +222,7 @@ all-spelled line ((option, Some content) ∷ rows) of_kind can =
 
 -- ---- commands
 
-flag-given : (b : Bool) → IfSome (flag b) CanBeGiven
+pub flag-given : (b : Bool) → IfSome (flag b) CanBeGiven
 flag-given true = tt
 flag-given false = tt
 
@@ -335,15 +364,8 @@ spelling asked together can =
       are_written = all.1;
     }
 
--- a command that is written out is read back
-pub written-back : (label padded : List ℕ) (asked : Command) → IsTrue (is_word label) → label_in label ≡ Ok padded
-    → IsTrue (go_together asked.verb) → AllCanBeGiven (options_of asked.verb) → length (written_out label asked) ≤ 70000
-    → line (written_out label asked) ≡ Ok (Issue padded asked)
+-- its options are those of the command, in their order
+pub spelled-options : (asked : Command) (together : IsTrue (go_together asked.verb)) (can : AllCanBeGiven (options_of asked.verb))
+    → (spelling asked together can).options ≡ options_written (asked_of asked)
 unfolding spelling
-written-back label padded asked labelled is_label together can short =
-    let spelled = spelling asked together can in
-    let same_bytes : written_out label asked ≡ laid_out (command_tokens label spelled.first false spelled.options) =
-    ap (written_with label (options_written (asked_of asked))) spelled.spells.word in
-    ap line same_bytes
-    ∙ line-written label padded asked spelled.first false spelled.options spelled.entries labelled is_label spelled.spells spelled.are_written
-    (subst (λ bytes. length bytes ≤ 70000) same_bytes short)
+spelled-options asked together can = refl

@@ -23,7 +23,7 @@ use Rattle.cics_script.proofs.Layouts.{if-false, tokens-laid_out, script-laid_ou
 use Rattle.cics_script.proofs.Orders.{command-written}
 use lib.Chars.{codes}
 
-is_word-option : (option : OptionWord) → is_word (option_word option) ≡ true
+pub is_word-option : (option : OptionWord) → is_word (option_word option) ≡ true
 is_word-option File = refl
 is_word-option TsPrefix = refl
 is_word-option TdQueue = refl
@@ -63,7 +63,7 @@ is_word-option Resp2 = refl
 is_word-option NoHandle = refl
 is_word-option EndExec = refl
 
-is_word-command : (first : CommandWord) → is_word (command_word first) ≡ true
+pub is_word-command : (first : CommandWord) → is_word (command_word first) ≡ true
 is_word-command command.Read = refl
 is_word-command command.Write = refl
 is_word-command command.Rewrite = refl
@@ -102,7 +102,7 @@ known-label None other padded e = refl
 known-label (Some begins) other padded e = let wrong : Err UnknownWord ≡ Ok padded = e in cc
 
 -- a line of few enough bytes of a script that begins no comment is what its tokens are
-line-statement : (bytes : List ℕ) → length bytes ≤ 70000 → list_all is_script_byte bytes ≡ true → is_empty_or_comment (after_blanks bytes) ≡ false
+pub line-statement : (bytes : List ℕ) → length bytes ≤ 70000 → list_all is_script_byte bytes ≡ true → is_empty_or_comment (after_blanks bytes) ≡ false
     → line bytes ≡ statement (tokens bytes)
 line-statement bytes short script begins =
     let within : nat_lt 70000 (length bytes) ≡ false = grind (arith, nat_tests) in
@@ -137,6 +137,15 @@ writable-queue command.Syncpoint left_out rest others = others
 writable-queue command.Return left_out rest others = others
 writable-queue command.Abend left_out rest others = others
 
+-- a command's tokens say the command
+pub statement-written : (label padded : List ℕ) (asked : Command) (first : CommandWord) (left_out : Bool) (written : List Written) (entries : List Entry)
+    → label_in label ≡ Ok padded → Spells asked first written entries → statement (command_tokens label first left_out written) ≡ Ok (Issue padded asked)
+statement-written label padded asked first left_out written entries is_label spells =
+    let behind_label = word (codes "EXEC") ∷ word (codes "CICS") ∷ verb_tokens first left_out written in
+    ap (λ found. begun found label behind_label) (known-label (lookup label starts) _ padded is_label)
+    ∙ ap (λ found. found >>= λ padded. issue padded behind_label) is_label
+    ∙ command-written padded asked first left_out written entries spells
+
 pub line-written : (label padded : List ℕ) (asked : Command) (first : CommandWord) (left_out : Bool) (written : List Written) (entries : List Entry)
     → IsTrue (is_word label) → label_in label ≡ Ok padded → Spells asked first written entries → AreWritten written
     → length (laid_out (command_tokens label first left_out written)) ≤ 70000
@@ -146,9 +155,6 @@ line-written label padded asked first left_out written entries labelled is_label
     let rest = word (codes "CICS") ∷ verb_tokens first left_out written in
     let options = writable-queue first left_out (flat_map option_tokens written) (writable-options written can) in
     let writable : AreWritable whole = (labelled, (refl, (refl, (is_word-command first, options)))) in
-    let behind_label = word (codes "EXEC") ∷ rest in
-    line-statement (laid_out whole) short (script-laid_out whole writable) (no_comment-word label (32 ∷ laid_out behind_label) labelled)
+    line-statement (laid_out whole) short (script-laid_out whole writable) (no_comment-word label (32 ∷ laid_out (word (codes "EXEC") ∷ rest)) labelled)
     ∙ ap statement (tokens-laid_out whole writable)
-    ∙ ap (λ found. begun found label behind_label) (known-label (lookup label starts) _ padded is_label)
-    ∙ ap (λ found. found >>= λ padded. issue padded behind_label) is_label
-    ∙ command-written padded asked first left_out written entries spells
+    ∙ statement-written label padded asked first left_out written entries is_label spells

@@ -1,43 +1,57 @@
 -- A command written out as the bytes of a line.
-use Rattle.std.specs.Prelude.{ℕ, false, List, [], ◌∷◌, map, Option, None, Some, unwrap_or}
-use Rattle.cics_names.specs.Ebcdic.{character_of}
+use Rattle.std.specs.Prelude.{ℕ, Option, None, Some, option_map, List, [], ◌∷◌, ◌++◌}
+use Rattle.std.specs.List.{flat_map}
+use Rattle.std.specs.Fmt.{decimal}
 use Rattle.cics_names.specs.declared.commands.Command.{Command}
-use Rattle.cics_script.specs.declared.literals.Notation.TheVariants.{Quoted, Hexadecimal}
 use Rattle.cics_script.specs.declared.words.CommandWord.{CommandWord}
+use Rattle.cics_script.specs.declared.words.CommandWord.TheVariants as command
 use Rattle.cics_script.specs.declared.words.OptionWord.{OptionWord}
 use Rattle.cics_script.specs.declared.words.OptionWord.TheVariants.{NoHandle}
-use Rattle.cics_script.specs.Tokens.{Token, number, literal}
 use Rattle.cics_script.specs.Options.{Content, text, name8, name4, amount, nothing}
-use Rattle.cics_script.specs.Layout.{laid_out}
-use Rattle.cics_script.specs.Spelling.{Written, flag, options_of, word_of, command_tokens}
+use Rattle.cics_script.specs.Spelling.{option_word, command_word, flag, options_of, word_of}
+use Rattle.cics_script.specs.Texts.{text_of, name_text}
+use lib.Chars.{codes}
 
--- the character of a code
-abbrev pub character : ℕ → ℕ
-character code = unwrap_or (character_of code) 32
+-- a value in parentheses
+abbrev pub in_parentheses : List ℕ → List ℕ
+in_parentheses value = codes "(" ++ (value ++ codes ")")
 
--- what an option gives, as a token: a record in hexadecimal, a name in its characters with the blanks behind it, a number
-abbrev pub token_of : Content → Option Token
-token_of (text bytes) = Some (literal Hexadecimal bytes)
-token_of (name8 name) = Some (literal Quoted (map character name))
-token_of (name4 name) = Some (literal Quoted (map character name))
-token_of (amount n) = Some (number n)
-token_of nothing = None
+-- what an option gives: a record as it is printed, a name without the blanks that fill it up, a number; a flag gives nothing
+abbrev pub value_text : Content → List ℕ
+value_text (text bytes) = in_parentheses (text_of bytes)
+value_text (name8 name) = in_parentheses (name_text name)
+value_text (name4 name) = in_parentheses (name_text name)
+value_text (amount n) = in_parentheses (decimal n)
+value_text nothing = []
 
--- the options that are to be there, as they are written
-abbrev pub options_written : List (OptionWord × Option Content) → List Written
-options_written [] = []
-options_written ((option, None) ∷ rows) = options_written rows
-options_written ((option, Some content) ∷ rows) = record { option = option; value = token_of content } ∷ options_written rows
+-- an option behind a blank, with what it gives; nothing where it is to be left out
+abbrev pub option_text : OptionWord × Option Content → List ℕ
+option_text (option, None) = []
+option_text (option, Some content) = codes " " ++ (option_word option ++ value_text content)
+
+-- TS or TD behind the word of a command that acts on a queue
+abbrev pub queue_text : CommandWord → List ℕ
+queue_text command.WriteqTs = codes " TS"
+queue_text command.ReadqTs = codes " TS"
+queue_text command.DeleteqTs = codes " TS"
+queue_text command.WriteqTd = codes " TD"
+queue_text command.ReadqTd = codes " TD"
+queue_text command.DeleteqTd = codes " TD"
+queue_text first = []
+
+-- the word of a command, with TS or TD where it acts on a queue
+abbrev pub command_text : CommandWord → List ℕ
+command_text first = command_word first ++ queue_text first
 
 -- the options of a command, with NOHANDLE where its conditions are handled
 abbrev pub asked_of : Command → List (OptionWord × Option Content)
 asked_of asked = (NoHandle, flag asked.resp) ∷ options_of asked.verb
 
--- a line of this word with these options; nothing without a word
-abbrev pub written_with : List ℕ → List Written → Option CommandWord → List ℕ
+-- a line of these words with these options; nothing without a word
+abbrev pub written_with : List ℕ → List ℕ → Option (List ℕ) → List ℕ
 written_with label options None = []
-written_with label options (Some first) = laid_out (command_tokens label first false options)
+written_with label options (Some words) = label ++ (codes " EXEC CICS " ++ (words ++ options))
 
--- the bytes of a command's line, with TS or TD behind the verb where it acts on a queue; nothing where no line says the command
+-- the bytes of a command's line; nothing where no line says the command
 abbrev pub written_out : List ℕ → Command → List ℕ
-written_out label asked = written_with label (options_written (asked_of asked)) (word_of asked.verb)
+written_out label asked = written_with label (flat_map option_text (asked_of asked)) (option_map command_text (word_of asked.verb))

@@ -1,8 +1,10 @@
-//! The reader of a script's lines.
+//! The lines of a script, read and written.
 //!
 //! `read_line` makes of the bytes of one line the `Line` that they say, or the `LineFault` of the
 //! first token at which the line can't be read on. The grammar is a table of words (`words`): which
-//! word begins which line, and which options a line or a command takes.
+//! word begins which line, and which options a line or a command takes. `write_out` writes a command
+//! as a line that is read back. How records, names and labels are printed (`texts`) is the same in
+//! such a line, in a journal and in a listing.
 #![tactic(auto)]
 
 mod commands;
@@ -11,10 +13,14 @@ mod lines;
 mod literals;
 mod options;
 mod spelling;
+mod texts;
 mod tokens;
 mod values;
 mod words;
+mod writing;
 
 pub use faults::LineFault;
 pub use lines::{Line, read_line};
 pub use spelling::commands_in_any_order;
+pub use texts::{push_bare, push_name, push_number, push_str, push_text};
+pub use writing::write_out;

@@ -2,6 +2,7 @@
 use Rattle.std.specs.Prelude.{Bool, Option, Some, None, List, [], map}
 use Rattle.cics_names.specs.Keyed.{Bytes, Map, value_at}
 use Rattle.cics_ksds.specs.Files.{records_of}
+use Rattle.cics_ksds.specs.declared.definition.FileDef.{FileDef}
 use Rattle.cics_transdata.specs.declared.queues.Recovery.{Recovery}
 use Rattle.cics_transdata.specs.declared.queues.Recovery.TheVariants.{Unrecovered}
 use Rattle.cics_history.specs.Openings.{OpeningState, QueueOpening, file_recoverable, has_prefix_in}
@@ -36,3 +37,11 @@ listing_of o s = record { files = listed_files o s.files; ts = listed_ts o s.ts;
 -- the listing that a history gives: that of what was opened, changed by each entry that is kept, in the order of the entries
 abbrev pub replayed_listing : OpeningState → List Entry → List UnitState → Listing
 replayed_listing o trace outcomes = listing_of o (replay (initial_store o) (kept o trace outcomes))
+
+-- the files that an opening defines: each with its name, its definition, and the records that were loaded, in key order
+abbrev pub defined_files : OpeningState → List (Bytes × FileDef × List Bytes)
+defined_files o = map (λ e. (e.0, e.1.definition, records_of e.1.records)) o.files
+
+-- the transient data queues that an opening defines: each with its name, its recovery, and the records that were loaded
+abbrev pub defined_queues : OpeningState → List (Bytes × Recovery × List Bytes)
+defined_queues o = map (λ e. (e.0, e.1.recovery, e.1.records)) o.queues

@@ -1,6 +1,6 @@
 //! What a region opens with.
 
-ghost use Rattle.std.specs.Prelude.{◌≡◌, OnOk, OnErr};
+ghost use Rattle.std.specs.Prelude.{◌≡◌, OnOk, OnErr, IfOk, map};
 ghost use Rattle.std.specs.Prelude.{IsSome};
 ghost use Rattle.cics_names.specs.Keyed.{value_at};
 ghost use Rattle.cics_images.specs.NamedValues.{changed_at};
@@ -8,6 +8,8 @@ ghost use Rattle.cics_history.specs.Openings.{is_record_size, is_key};
 ghost use Rattle.cics_units.specs.Faults.{fault_number};
 ghost use Rattle.cics_units.specs.RegionFiles.{IsFitFor, written_in};
 ghost use Rattle.cics_units.specs.RegionQueues.{loaded_with};
+ghost use Rattle.cics_ksds.specs.Files.{records_of};
+ghost use Rattle.cics_transdata.specs.Trans.{queue_of};
 
 use crate::files::Files;
 use crate::prefixes::{has_prefix_in, is_defined};
@@ -103,6 +105,36 @@ fn add_loaded(queues: &mut Queues, name: &Name4, content: Record) -> Result<(), 
     Ok(())
 }
 
+// Each file in the order of the names, with its definition and copies of its records.
+fn listed_files(
+    alloc: Global,
+    files: &Files,
+) -> Result<Items<(Name8, FileDef, Items<Record>)>, NoMemory>
+    ensures { IfOk result (λ listed. listed
+        ≡ map (λ e. (e.0, e.1.definition, records_of e.1.records)) files.now) }
+{
+    let mut listed = Items::new(alloc);
+    for (name, file) in files.iter() {
+        listed.push((*name, file.definition(), file.listing()?))?;
+    }
+    Ok(listed)
+}
+
+// Each transient data queue in the order of the names, with its recovery and copies of its records.
+fn listed_queues(
+    alloc: Global,
+    queues: &Queues,
+) -> Result<Items<(Name4, Recovery, Items<Record>)>, NoMemory>
+    ensures { IfOk result (λ listed. listed
+        ≡ map (λ e. (e.0, e.1.kind, queue_of e.1)) queues.now) }
+{
+    let mut listed = Items::new(alloc);
+    for (name, queue) in queues.iter() {
+        listed.push((*name, queue.recovery(), queue.listing()?))?;
+    }
+    Ok(listed)
+}
+
 /// The definitions that a region opens with, and the records that were loaded into them.
 ///
 /// Contracts see the files by name, each with its definition and its records by key, the prefixes of the
@@ -140,7 +172,8 @@ impl Opening {
     ghost use Rattle.cics_units.specs.Faults.{fault_if, load_td_fault};
     ghost use Rattle.cics_units.specs.RegionFiles.{opened_files, AreLoaded};
     ghost use Rattle.cics_units.specs.RegionQueues.{opened_queues};
-    ghost use Rattle.cics_units.specs.Listings.{recovery_in};
+    ghost use Rattle.cics_units.specs.Listings.{recovery_in, defined_files, defined_queues};
+    ghost use Rattle.std.specs.Prelude.{IfOk};
 
     /// An opening that defines nothing. `alloc` gives the memory for all that is defined and loaded.
     pub fn new(alloc: Global) -> Opening
@@ -286,6 +319,24 @@ impl Opening {
         &self.queues
     }
 
+    /// The files that are defined, in the order of their names, each with its definition and with copies
+    /// of the records that were loaded, in the order of their keys. An `Err` comes only where memory is
+    /// refused.
+    pub fn defined_files(&self) -> Result<Items<(Name8, FileDef, Items<Record>)>, NoMemory>
+        ensures { IfOk result (λ files. files ≡ defined_files self.now) }
+    {
+        listed_files(self.alloc, self.files())
+    }
+
+    /// The transient data queues that are defined, in the order of their names, each with its recovery
+    /// and with copies of the records that were loaded, the first first. An `Err` comes only where memory
+    /// is refused.
+    pub fn defined_queues(&self) -> Result<Items<(Name4, Recovery, Items<Record>)>, NoMemory>
+        ensures { IfOk result (λ queues. queues ≡ defined_queues self.now) }
+    {
+        listed_queues(self.alloc, self.queues())
+    }
+
     /// Whether a file is defined as recoverable.
     pub(crate) fn is_recoverable_file(&self, name: &Name8) -> bool
         ensures { result ≡ file_recoverable self.now name.now }
@@ -314,7 +365,7 @@ impl Opening {
     }
 
     /// Whether a command acts on a recoverable file or queue.
-    pub(crate) fn is_recoverable(&self, op: &Op) -> bool
+    pub fn is_recoverable(&self, op: &Op) -> bool
         ensures { result ≡ is_recoverable self.now op.now }
     {
         match op {

@@ -1,6 +1,7 @@
 use Rattle.cics_script.proofs.Orders.{command-written}
 use Rattle.cics_script.proofs.Written.{line-written}
-use Rattle.cics_script.proofs.Spelled.{spelling, written-back}
+use Rattle.cics_script.proofs.Spelled.{spelling}
+use Rattle.cics_script.proofs.ReadBack.{written-back}
 use Rattle.cics_script.proofs.spelling.commands_in_any_order.Goals as goal
 
 pub returns-clause-read : goal.returns-clause-read

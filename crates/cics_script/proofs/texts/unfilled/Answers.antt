@@ -1,7 +1,7 @@
 use Rattle.std.proofs.Common.{arith}
-use Rattle.cics_run.proofs.Unfilled.{unfilled-take_blank, unfilled-take_other, unfilled-take_none}
-use Rattle.cics_run.proofs.texts.unfilled.Goals as goal
-use Rattle.cics_run.proofs.texts.unfilled.Goals.{then-loop-end-test+else-name-end-eq-BLANK, else-loop-end-test}
+use Rattle.cics_script.proofs.Unfilled.{unfilled-take_blank, unfilled-take_other, unfilled-take_none}
+use Rattle.cics_script.proofs.texts.unfilled.Goals as goal
+use Rattle.cics_script.proofs.texts.unfilled.Goals.{then-loop-end-test+else-name-end-eq-BLANK, else-loop-end-test}
 
 pub loop-end-preserved : goal.loop-end-preserved
 loop-end-preserved c = (omega (arith, c.loop-end.invariant.0), unfilled-take_blank c.args.name.now c.loop-end.end c.loop-end-test.true c.loop-end.invariant.0 c.loop-end.invariant.1 c.if-name-end-eq-BLANK.true)

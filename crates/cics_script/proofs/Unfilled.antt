@@ -4,7 +4,7 @@ use Rattle.std.specs.List.{list_all}
 use Rattle.std.proofs.lemmas.Bool.Decides.{nat_tests}
 use Rattle.std.proofs.lemmas.List.{take_more}
 use Rattle.cics_names.specs.Names.{blank}
-use Rattle.cics_run.specs.Texts.{unfilled}
+use Rattle.cics_script.specs.Texts.{unfilled}
 
 abbrev is_blank : ℕ → Bool
 is_blank b = b == blank

@@ -1,6 +1,6 @@
 use Rattle.std.proofs.Common.{◌≡◌, ◌≤◌, length, take}
-use Rattle.cics_run.specs.Texts.{unfilled}
-use Rattle.cics_run.proofs.texts.unfilled.Given as goal
+use Rattle.cics_script.specs.Texts.{unfilled}
+use Rattle.cics_script.proofs.texts.unfilled.Given as goal
 
 abbrev pub invariant-loop-end : goal.invariant-loop-end
 invariant-loop-end l = (l.end ≤ length l.name) × (unfilled (take l.end l.name) ≡ unfilled l.name)

@@ -3,8 +3,8 @@
 ghost use Rattle.std.specs.Prelude.{◌≡◌, ◌++◌, ◌<◌, OnOk};
 ghost use Rattle.std.specs.List.{flat_map, list_all};
 ghost use Rattle.std.specs.Fmt.{decimal};
-ghost use Rattle.cics_run.specs.Texts.{has_character, quoted, digit, hexadecimal, text_of};
-ghost use Rattle.cics_run.specs.Texts.{unfilled, name_text, bare, shown};
+ghost use Rattle.cics_script.specs.Texts.{has_character, quoted, digit, hexadecimal, text_of};
+ghost use Rattle.cics_script.specs.Texts.{unfilled, name_text, bare, shown};
 
 use cics_names::{NoMemory, from_ebcdic};
 

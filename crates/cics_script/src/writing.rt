@@ -1,0 +1,363 @@
+//! Commands written out as lines of a script.
+
+ghost use Rattle.std.specs.Prelude.{◌≡◌, ◌++◌, OnOk, Some, None, option_map, codes};
+ghost use Rattle.std.specs.Option.{option_copied};
+ghost use Rattle.std.specs.List.{flat_map};
+ghost use Rattle.cics_names.specs.Commands.{file_named};
+ghost use Rattle.cics_script.specs.Options.{text, name8, name4, amount};
+ghost use Rattle.cics_script.specs.Spelling.{flag, option_word, options_of, replacing, word_of};
+ghost use Rattle.cics_script.specs.WrittenOut.{option_text, command_text, written_out};
+
+use crate::texts::{push_name, push_number, push_str, push_text};
+use crate::words::OptionWord;
+use cics_names::{Command, Name4, Name8, NoMemory, Record, Verb};
+
+/// Puts the line of a command, without an LF, at the end of `out`: the mirror of `read_line`, which
+/// reads it back as this command of this task (`commands_in_any_order`).
+///
+/// `label` is the label of the task that issues it, as it is to be written. A record is written in
+/// characters where each of its bytes has one, else in hexadecimal, and a name without the blanks
+/// that fill it up. Nothing is put where no line says the command: a DELETE that has KEYLENGTH or
+/// GENERIC without RIDFLD. Where memory is refused a front of the line may have been put.
+pub fn write_out(out: &mut Vec<u8>, label: &[u8], command: &Command) -> Result<(), NoMemory>
+    ensures { OnOk result (out.new.items
+        ≡ out.old.items ++ written_out label.now command.now) }
+{
+    let Some(words) = command_text(&command.verb) else {
+        return Ok(());
+    };
+    out.extend_from_slice(label)?;
+    push_str(out, " EXEC CICS ")?;
+    push_str(out, words)?;
+    push_flag(out, OptionWord::NoHandle, command.resp)?;
+    push_options(out, &command.verb)
+}
+
+// The word of a command, with TS or TD where it acts on a queue, if a line can say the command.
+fn command_text(verb: &Verb) -> Option<&'static str>
+    ensures { option_copied result ≡ option_map command_text (word_of verb.now) }
+{
+    match verb {
+        Verb::Delete {
+            ridfld: None,
+            key_length: Some(_),
+            ..
+        } => None,
+        Verb::Delete {
+            ridfld: None,
+            generic: true,
+            ..
+        } => None,
+        Verb::Read { .. } => Some("READ"),
+        Verb::Write { .. } => Some("WRITE"),
+        Verb::Rewrite { .. } => Some("REWRITE"),
+        Verb::Delete { .. } => Some("DELETE"),
+        Verb::Unlock { .. } => Some("UNLOCK"),
+        Verb::StartBr { .. } => Some("STARTBR"),
+        Verb::ResetBr { .. } => Some("RESETBR"),
+        Verb::ReadNext { .. } => Some("READNEXT"),
+        Verb::ReadPrev { .. } => Some("READPREV"),
+        Verb::EndBr { .. } => Some("ENDBR"),
+        Verb::WriteqTs { .. } => Some("WRITEQ TS"),
+        Verb::ReadqTs { .. } => Some("READQ TS"),
+        Verb::DeleteqTs { .. } => Some("DELETEQ TS"),
+        Verb::WriteqTd { .. } => Some("WRITEQ TD"),
+        Verb::ReadqTd { .. } => Some("READQ TD"),
+        Verb::DeleteqTd { .. } => Some("DELETEQ TD"),
+        Verb::Enq { .. } => Some("ENQ"),
+        Verb::Deq { .. } => Some("DEQ"),
+        Verb::Syncpoint | Verb::Rollback => Some("SYNCPOINT"),
+        Verb::Return => Some("RETURN"),
+        Verb::Abend { .. } => Some("ABEND"),
+    }
+}
+
+// The options that make a command on a file what it is, and those of any other command.
+fn push_options(out: &mut Vec<u8>, verb: &Verb) -> Result<(), NoMemory>
+    ensures { OnOk result (out.new.items
+        ≡ out.old.items ++ flat_map option_text (options_of verb.now)) }
+{
+    match verb {
+        Verb::Read {
+            file,
+            ridfld,
+            key_length,
+            length,
+            generic,
+            gteq,
+            update,
+        } => {
+            push_key(out, file, ridfld, *key_length)?;
+            push_amount(out, OptionWord::Length, *length)?;
+            push_flag(out, OptionWord::Generic, *generic)?;
+            push_flag(out, OptionWord::Gteq, *gteq)?;
+            push_flag(out, OptionWord::Update, *update)
+        }
+        Verb::Write {
+            file,
+            ridfld,
+            key_length,
+            from,
+            length,
+        } => {
+            push_key(out, file, ridfld, *key_length)?;
+            push_from(out, from, *length)
+        }
+        Verb::Rewrite { file, from, length } => {
+            push_name8(out, OptionWord::File, file)?;
+            push_from(out, from, *length)
+        }
+        Verb::Delete {
+            file,
+            ridfld,
+            key_length,
+            generic,
+        } => {
+            push_name8(out, OptionWord::File, file)?;
+            if let Some(ridfld) = ridfld {
+                push_record(out, OptionWord::Ridfld, ridfld)?;
+            }
+            push_amount(out, OptionWord::KeyLength, *key_length)?;
+            push_flag(out, OptionWord::Generic, *generic)
+        }
+        Verb::Unlock { file } | Verb::EndBr { file } => push_name8(out, OptionWord::File, file),
+        Verb::StartBr {
+            file,
+            ridfld,
+            key_length,
+            generic,
+            equal,
+        }
+        | Verb::ResetBr {
+            file,
+            ridfld,
+            key_length,
+            generic,
+            equal,
+        } => {
+            push_key(out, file, ridfld, *key_length)?;
+            push_flag(out, OptionWord::Generic, *generic)?;
+            push_flag(out, OptionWord::Equal, *equal)
+        }
+        Verb::ReadNext { file, length } | Verb::ReadPrev { file, length } => {
+            push_name8(out, OptionWord::File, file)?;
+            push_amount(out, OptionWord::Length, *length)
+        }
+        _ => push_other_options(out, verb),
+    }
+}
+
+// The options that make a command what it is that acts on no file.
+fn push_other_options(out: &mut Vec<u8>, verb: &Verb) -> Result<(), NoMemory>
+    requires { file_named verb.now ≡ None }
+    ensures { OnOk result (out.new.items
+        ≡ out.old.items ++ flat_map option_text (options_of verb.now)) }
+{
+    match verb {
+        Verb::WriteqTs {
+            queue,
+            from,
+            length,
+            item,
+        } => {
+            push_name8(out, OptionWord::Queue, queue)?;
+            push_from(out, from, *length)?;
+            push_replaced(out, *item)
+        }
+        Verb::ReadqTs {
+            queue,
+            length,
+            item,
+        } => {
+            push_name8(out, OptionWord::Queue, queue)?;
+            push_amount(out, OptionWord::Length, *length)?;
+            push_amount(out, OptionWord::Item, *item)
+        }
+        Verb::DeleteqTs { queue } => push_name8(out, OptionWord::Queue, queue),
+        Verb::WriteqTd {
+            queue,
+            from,
+            length,
+        } => {
+            push_name4(out, OptionWord::Queue, queue)?;
+            push_from(out, from, *length)
+        }
+        Verb::ReadqTd {
+            queue,
+            length,
+            nosuspend,
+        } => {
+            push_name4(out, OptionWord::Queue, queue)?;
+            push_amount(out, OptionWord::Length, *length)?;
+            push_flag(out, OptionWord::NoSuspend, *nosuspend)
+        }
+        Verb::DeleteqTd { queue } => push_name4(out, OptionWord::Queue, queue),
+        Verb::Enq {
+            resource,
+            length,
+            nosuspend,
+        } => {
+            push_record(out, OptionWord::Resource, resource)?;
+            push_amount(out, OptionWord::Length, Some(*length))?;
+            push_flag(out, OptionWord::NoSuspend, *nosuspend)
+        }
+        Verb::Deq { resource, length } => {
+            push_record(out, OptionWord::Resource, resource)?;
+            push_amount(out, OptionWord::Length, Some(*length))
+        }
+        Verb::Rollback => push_flag(out, OptionWord::Rollback, true),
+        Verb::Abend { code: Some(code) } => push_name4(out, OptionWord::AbCode, code),
+        _ => Ok(()),
+    }
+}
+
+// REWRITE, and ITEM with the number of the item that is replaced, where one is.
+fn push_replaced(out: &mut Vec<u8>, item: Option<u64>) -> Result<(), NoMemory>
+    ensures { OnOk result (out.new.items
+        ≡ out.old.items ++ flat_map option_text (replacing item)) }
+{
+    let Some(item) = item else {
+        return Ok(());
+    };
+    push_flag(out, OptionWord::Rewrite, true)?;
+    push_amount(out, OptionWord::Item, Some(item))
+}
+
+// FILE, RIDFLD and KEYLENGTH.
+fn push_key(
+    out: &mut Vec<u8>,
+    file: &Name8,
+    ridfld: &Record,
+    key_length: Option<u64>,
+) -> Result<(), NoMemory>
+    ensures { OnOk result (out.new.items ≡ out.old.items
+        ++ (option_text (OptionWord.File, Some (name8 file.now))
+        ++ (option_text (OptionWord.Ridfld, Some (text ridfld.now))
+        ++ option_text (OptionWord.KeyLength, option_map amount key_length)))) }
+{
+    push_name8(out, OptionWord::File, file)?;
+    push_record(out, OptionWord::Ridfld, ridfld)?;
+    push_amount(out, OptionWord::KeyLength, key_length)
+}
+
+// FROM and LENGTH.
+fn push_from(out: &mut Vec<u8>, from: &Record, length: Option<u64>) -> Result<(), NoMemory>
+    ensures { OnOk result (out.new.items ≡ out.old.items
+        ++ (option_text (OptionWord.From, Some (text from.now))
+        ++ option_text (OptionWord.Length, option_map amount length))) }
+{
+    push_record(out, OptionWord::From, from)?;
+    push_amount(out, OptionWord::Length, length)
+}
+
+// An option that gives a record.
+fn push_record(out: &mut Vec<u8>, option: OptionWord, content: &Record) -> Result<(), NoMemory>
+    ensures { OnOk result (out.new.items
+        ≡ out.old.items ++ option_text (option, Some (text content.now))) }
+{
+    push_word(out, option)?;
+    push_str(out, "(")?;
+    push_text(out, content.bytes())?;
+    push_str(out, ")")
+}
+
+// An option that gives a name of eight bytes.
+fn push_name8(out: &mut Vec<u8>, option: OptionWord, name: &Name8) -> Result<(), NoMemory>
+    ensures { OnOk result (out.new.items
+        ≡ out.old.items ++ option_text (option, Some (name8 name.now))) }
+{
+    push_word(out, option)?;
+    push_str(out, "(")?;
+    push_name(out, &name.bytes())?;
+    push_str(out, ")")
+}
+
+// An option that gives a name of four bytes.
+fn push_name4(out: &mut Vec<u8>, option: OptionWord, name: &Name4) -> Result<(), NoMemory>
+    ensures { OnOk result (out.new.items
+        ≡ out.old.items ++ option_text (option, Some (name4 name.now))) }
+{
+    push_word(out, option)?;
+    push_str(out, "(")?;
+    push_name(out, &name.bytes())?;
+    push_str(out, ")")
+}
+
+// An option that gives a number, where there is one.
+fn push_amount(out: &mut Vec<u8>, option: OptionWord, number: Option<u64>) -> Result<(), NoMemory>
+    ensures { OnOk result (out.new.items
+        ≡ out.old.items ++ option_text (option, option_map amount number)) }
+{
+    let Some(number) = number else {
+        return Ok(());
+    };
+    push_word(out, option)?;
+    push_str(out, "(")?;
+    push_number(out, number)?;
+    push_str(out, ")")
+}
+
+// An option that stands alone, where it is to be there.
+fn push_flag(out: &mut Vec<u8>, option: OptionWord, is_there: bool) -> Result<(), NoMemory>
+    ensures { OnOk result (out.new.items
+        ≡ out.old.items ++ option_text (option, flag is_there)) }
+{
+    if is_there {
+        push_word(out, option)?;
+    }
+    Ok(())
+}
+
+// The word of an option, behind a blank.
+fn push_word(out: &mut Vec<u8>, option: OptionWord) -> Result<(), NoMemory>
+    ensures { OnOk result (out.new.items ≡ out.old.items ++ (codes " " ++ option_word option)) }
+{
+    push_str(out, " ")?;
+    push_str(out, option_word(option))
+}
+
+// The word of an option.
+fn option_word(option: OptionWord) -> &'static str
+    ensures { result.now ≡ option_word option }
+{
+    match option {
+        OptionWord::File => "FILE",
+        OptionWord::TsPrefix => "TSPREFIX",
+        OptionWord::TdQueue => "TDQUEUE",
+        OptionWord::KeyLength => "KEYLENGTH",
+        OptionWord::KeyOffset => "KEYOFFSET",
+        OptionWord::RecordSize => "RECORDSIZE",
+        OptionWord::Recoverable => "RECOVERABLE",
+        OptionWord::Unrecoverable => "UNRECOVERABLE",
+        OptionWord::Logical => "LOGICAL",
+        OptionWord::Physical => "PHYSICAL",
+        OptionWord::Unrecovered => "NONE",
+        OptionWord::From => "FROM",
+        OptionWord::Transid => "TRANSID",
+        OptionWord::Dtimout => "DTIMOUT",
+        OptionWord::Ridfld => "RIDFLD",
+        OptionWord::Length => "LENGTH",
+        OptionWord::Into => "INTO",
+        OptionWord::Generic => "GENERIC",
+        OptionWord::Equal => "EQUAL",
+        OptionWord::Gteq => "GTEQ",
+        OptionWord::Update => "UPDATE",
+        OptionWord::NumRec => "NUMREC",
+        OptionWord::Queue => "QUEUE",
+        OptionWord::Item => "ITEM",
+        OptionWord::Next => "NEXT",
+        OptionWord::Rewrite => "REWRITE",
+        OptionWord::Main => "MAIN",
+        OptionWord::Auxiliary => "AUXILIARY",
+        OptionWord::Resource => "RESOURCE",
+        OptionWord::NoSuspend => "NOSUSPEND",
+        OptionWord::Rollback => "ROLLBACK",
+        OptionWord::AbCode => "ABCODE",
+        OptionWord::Cancel => "CANCEL",
+        OptionWord::NoDump => "NODUMP",
+        OptionWord::Resp => "RESP",
+        OptionWord::Resp2 => "RESP2",
+        OptionWord::NoHandle => "NOHANDLE",
+        OptionWord::EndExec => "END-EXEC",
+    }
+}
