@@ -3,19 +3,19 @@ use Rattle.std.specs.Prelude.{◌≡◌, ℕ, ◌<◌, ◌==◌, Bool, true, fal
 use Rattle.std.specs.List.{list_any}
 use Rattle.std.proofs.Common.{inl, inr, sym, ap, ◌∙◌, arith}
 use Rattle.std.proofs.lemmas.Bool.{false≢true, true≢false, cases_Bool, and_parts, and_from, eqb-true, eq-eqb}
-use Rattle.cics_names.specs.Keyed.{Bytes, Map, value_at, is_same}
+use Rattle.cics_names.specs.Keyed.{Bytes, Map, is_same}
 use Rattle.cics_names.specs.KeyedLaws.{is_same-self, is_same-eq}
-use Rattle.cics_enqueue.specs.Resources.{overlaps, is_other, is_one}
+use Rattle.cics_enqueue.specs.Resources.{overlaps, is_other}
 use Rattle.cics_enqueue.specs.declared.resources.Resource.{Resource}
 use Rattle.cics_enqueue.specs.declared.resources.Resource.TheVariants.{TdRead as ReadingEnd, TdWrite as WritingEnd}
-use Rattle.cics_history.specs.Openings.{OpeningState, queue_logical}
-use Rattle.cics_history.specs.Store.{Store, apply, is_recoverable, initial_store}
-use Rattle.cics_history.specs.History.{outcome_of, is_open, is_backed_out, kept, replay}
-use Rattle.cics_history.specs.Holding.{UnitsState, UpdateRead, EnqCount, uses_of, held_by, held_table, first_holder, first_some, holder_among, is_own, committed_for, is_nothing, writer_awaited, awaited}
+use Rattle.cics_history.specs.Openings.{queue_logical}
+use Rattle.cics_history.specs.Store.{apply, is_recoverable, initial_store}
+use Rattle.cics_history.specs.History.{outcome_of, is_open, is_backed_out, replay}
+use Rattle.cics_history.specs.Holding.{UnitsState, UpdateRead, EnqCount, uses_of, held_by, held_table, first_holder, holder_among, is_own, committed_for, is_nothing, writer_awaited, awaited}
 use Rattle.cics_history.specs.Execution.{unit_or_next, outcomes_with, entered, with_counts, after_unlock, after_dequeue, after_end, after_ts_reading}
 use Rattle.cics_history.specs.Events.{is_live, may_act}
-use Rattle.cics_history.specs.Cells.{Cell, Content, Td, content, touches, effect, End, Reading, Writing}
-use Rattle.cics_history.specs.Isolation.{IsFront, Begins, Outcomes, stays, store_by, Each, used, Extends, Alike, AtMost, IsSound}
+use Rattle.cics_history.specs.Cells.{Content, Td, content, touches, effect, Reading, Writing}
+use Rattle.cics_history.specs.Isolation.{Begins, Outcomes, stays, store_by, used, Extends, Alike, AtMost, IsSound}
 use Rattle.cics_history.specs.declared.ops.Op.{Op}
 use Rattle.cics_history.specs.declared.ops.Op.TheVariants.{Write, Rewrite, Delete, DeleteGeneric, ReadUpdate, TsWrite, TsRewrite, TsDelete, TdWrite, TdRead, TdDelete}
 use Rattle.cics_history.specs.declared.ops.Answer.{Answer}

@@ -6,7 +6,7 @@ ghost use Rattle.cics_history.specs.Execution.{IsOpenUnit};
 ghost use Rattle.cics_history.specs.Records.{key_of};
 ghost use Rattle.cics_history.specs.Isolation.{IsSound};
 ghost use Rattle.cics_dispatch.specs.Machine.{task_at, timed_out, is_waiting};
-ghost use Rattle.cics_dispatch.specs.KeptTasks.{IsWaitKept};
+ghost use Rattle.cics_dispatch.specs.KeptTasks.{IsWaitKept, AreTasksKept};
 ghost use Rattle.cics_dispatch.specs.Waking.{expired, woken, woken_first, first_free, first_late};
 ghost use Rattle.cics_dispatch.specs.Waking.{is_late, awaited_by};
 ghost use Rattle.cics_dispatch.specs.Steps.{with_outcome};
@@ -168,7 +168,7 @@ impl Dispatcher {
     /// Looks at the waiting commands whose notes don't say whom they have to wait for, up to the first that needn't wait,
     /// and answers its task's label. What it finds is noted; where memory for that is refused it looks no further.
     pub(crate) fn first_free(&self, notes: &mut Notes) -> Result<Option<Name8>, NoMemory>
-        requires kept { All (IsWaitKept self.now.machine) self.now.machine.waiting }
+        requires kept { AreTasksKept self.now.machine }
         requires noted { AreNotedNow self.now.machine notes.old }
         ensures noted { AreNotedNow self.now.machine notes.new }
         ensures room { notes.new.room ≡ notes.old.room }

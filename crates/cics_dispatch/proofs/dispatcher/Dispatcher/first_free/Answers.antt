@@ -1,6 +1,4 @@
-use Rattle.std.proofs.Common.{◌∙◌, ap, sym, subst, arith}
-use Rattle.cics_dispatch.specs.Regions.{IsRegionKept}
-use Rattle.cics_dispatch.specs.Notes.{AreNotedNow}
+use Rattle.std.proofs.Common.{◌∙◌, sym, arith}
 use Rattle.cics_dispatch.proofs.Blocked.{blocked_stays}
 use Rattle.cics_dispatch.proofs.Noted.{noted_length, label_waits, label_there, look_passed, look_first, known_blocker, all_passed}
 use Rattle.cics_dispatch.proofs.dispatcher.Dispatcher.first_free.Goals as goal
@@ -18,7 +16,7 @@ loop-at-preserved-then-is_some c =
     let blocker = known_blocker c.get-note.result.blocker (sym c.is_some.ensures ∙ c.if-is_some.true) in
     record {
       passed = look_passed m c.loop-at.notes c.loop-at.at c.get-note.result c.loop-at.invariant.noted c.get-note.ensures c.loop-at.invariant.passed
-          (λ w there noted. blocked_stays m blocker.0 w (subst IsRegionKept c.self.view_is c.self.invariant).tasks (noted.blocked blocker.0 blocker.1));
+          (λ w there noted. blocked_stays m blocker.0 w c.requires.kept (noted.blocked blocker.0 blocker.1));
       noted = c.loop-at.invariant.noted;
       room = c.loop-at.invariant.room;
     }
@@ -47,10 +45,9 @@ pub loop-at-preserved : goal.loop-at-preserved
 loop-at-preserved c =
     let m = c.args.self.now.machine in
     let at = c.loop-at.at in
-    let kept = (subst IsRegionKept c.self.view_is c.self.invariant).tasks in
     record {
       passed = look_passed m c.loop-at.notes at c.get-note.result c.loop-at.invariant.noted c.get-note.ensures c.loop-at.invariant.passed
-          (λ v there noted. blocked_stays m c.in-IsBlocked.unit v kept (c.in-IsBlocked.ensures at v there (sym noted.label)));
+          (λ v there noted. blocked_stays m c.in-IsBlocked.unit v c.requires.kept (c.in-IsBlocked.ensures at v there (sym noted.label)));
       noted = c.file.ensures.noted;
       room = c.file.ensures.room ∙ c.loop-at.invariant.room;
     }

@@ -1,4 +1,4 @@
-use Rattle.std.proofs.Common.{◌≡◌, ◌∙◌, sym, ap, subst, Some, None, ◌<◌, length}
+use Rattle.std.proofs.Common.{◌≡◌, ◌∙◌, ap, subst, Some, None, ◌<◌, length}
 use Rattle.std.specs.Prelude.{slice_get}
 use Rattle.cics_dispatch.specs.Machine.{task_at}
 use Rattle.cics_dispatch.specs.Regions.{IsRegionKept}

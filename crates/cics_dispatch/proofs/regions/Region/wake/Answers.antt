@@ -24,7 +24,7 @@ pub note_all-requires : goal.note_all-requires
 note_all-requires c = record { noted = c.self.invariant.1.noted; room = c.self.invariant.2 }
 
 pub first_free-requires : goal.first_free-requires
-first_free-requires c = record { kept = c.self.invariant.0.tasks.waits; noted = c.note_all.ensures.noted }
+first_free-requires c = record { kept = c.self.invariant.0.tasks; noted = c.note_all.ensures.noted }
 
 pub invariant_of-self-in_default : goal.invariant_of-self-in_default
 invariant_of-self-in_default c =
