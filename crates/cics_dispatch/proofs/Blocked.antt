@@ -2,7 +2,7 @@
 use Rattle.std.specs.Prelude.{◌≡◌, ℕ, Bool, true, false, cond, ◌&&◌, if◌then◌else◌, Option, Some, None, is_none, List, [], ◌∷◌, All, take, length, refl}
 use Rattle.std.specs.List.{list_any}
 use Rattle.std.proofs.Common.{◌⊎◌, inl, inr, sym, ap, ◌∙◌}
-use Rattle.std.proofs.lemmas.Bool.{false≢true, and_from, or_cases, or_left, or_right, lt-ltb}
+use Rattle.std.proofs.lemmas.Bool.{false≢true, true≢false, and_from, or_cases, or_left, or_right, lt-ltb}
 use Rattle.std.proofs.lemmas.List.Elements.{All-nil, All-cons, All-head, All-tail}
 use Rattle.cics_names.specs.Keyed.{Bytes}
 use Rattle.cics_enqueue.specs.Resources.{bytes_of, overlaps, is_other}
@@ -90,6 +90,15 @@ blocked_by m w t h kept sound of_task ready is_open is =
       other = found.0;
       keeps = found.1;
     }
+
+-- a unit that a command has to wait for, which isn't READQ TD, holds what the command uses
+pub held_back : (m : Machine) (u : ℕ) (w : Suspended) → IsBlocked m u w → reads_queue w.op ≡ false → holds_back m.units u w.command.verb w.op ≡ true
+held_back m u w is no_reader = elim is.keeps [ inl holds ↦ holds | inr starves ↦ absurd (never m.units is.task.unit u w.op no_reader starves) ]
+  where
+    never : (s : UnitsState) (own : Option ℕ) (h : ℕ) (o : Option Op) → reads_queue o ≡ false → Starves s own h o → ⊥
+    never s own h (Some (TdRead q)) no_reader starves = true≢false no_reader
+    never s own h (Some o) no_reader starves = starves
+    never s own h None no_reader starves = starves
 
 -- ---- What is blocked may not go on
 

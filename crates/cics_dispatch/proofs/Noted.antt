@@ -13,18 +13,17 @@ use Rattle.cics_history.specs.Openings.{OpeningState}
 use Rattle.cics_dispatch.specs.declared.notes.Note.{Note}
 use Rattle.cics_dispatch.specs.Machine.{Machine, Task, Suspended, is_unit, task_at, is_waiting, not_waiting}
 use Rattle.cics_history.specs.Events.{is_live, may_act}
-use Rattle.cics_history.specs.declared.ops.Op.{Op}
-use Rattle.cics_history.specs.declared.ops.Op.TheVariants.{TdRead}
-use Rattle.cics_dispatch.specs.Settled.{reads_queue, needed_by, holds_one, holds_back, Starves, KeepsWaiting, IsBlocked}
+use Rattle.cics_dispatch.specs.Settled.{reads_queue, needed_by, holds_one, KeepsWaiting, IsBlocked}
 use Rattle.cics_dispatch.specs.KeptTasks.{IsWaitKept}
 use Rattle.cics_enqueue.specs.Resources.{is_other, overlaps}
-use Rattle.cics_history.specs.Holding.{UnitsState, held_by}
+use Rattle.cics_history.specs.Holding.{held_by}
 use Rattle.cics_dispatch.specs.Waking.{may_go_on, first_free}
 use Rattle.cics_dispatch.proofs.RegionWaking.{first_free-passed}
 use Rattle.cics_dispatch.specs.Notes.{forgotten, filed, with_need, with_blocker, new_note, KeepsNeeds, IsNeed, IsNoted, AreNoted, AreNotedNow, NotesValue, OfWait, IsOnlyNeed, IsBlockedAt, IsFirstFree, OwnerIsAwake}
 use Rattle.cics_dispatch.proofs.KeptTasks.{begins_now}
 use Rattle.cics_dispatch.proofs.KeepsOwn.{Keeps}
 use Rattle.cics_dispatch.proofs.ActsAlone.{LeavesTasks, Waits}
+use Rattle.cics_dispatch.proofs.Blocked.{held_back}
 use Rattle.cics_dispatch.proofs.Remembered.{blocked_yet}
 use Rattle.cics_dispatch.proofs.TaskTable.{is_unit-has}
 use Rattle.cics_dispatch.proofs.TaskPlaces.{place_of_task}
@@ -256,15 +255,6 @@ noted_need m needs k w g need is = record {
   blocked = is.blocked;
   need = λ h own. let same : g ≡ h = cc in subst (λ x. IsNeed m.units.opening needs w x) same need;
 }
-
--- a unit that a command has to wait for, which isn't READQ TD, holds what the command uses
-pub held_back : (m : Machine) (u : ℕ) (w : Suspended) → IsBlocked m u w → reads_queue w.op ≡ false → holds_back m.units u w.command.verb w.op ≡ true
-held_back m u w is no_reader = elim is.keeps [ inl holds ↦ holds | inr starves ↦ absurd (never m.units is.task.unit u w.op no_reader starves) ]
-  where
-    never : (s : UnitsState) (own : Option ℕ) (h : ℕ) (o : Option Op) → reads_queue o ≡ false → Starves s own h o → ⊥
-    never s own h (Some (TdRead q)) no_reader starves = true≢false no_reader
-    never s own h (Some o) no_reader starves = starves
-    never s own h None no_reader starves = starves
 
 -- a unit that one command has to wait for, which isn't READQ TD, keeps each waiting that uses the same, where the unit's own
 -- task doesn't wait
