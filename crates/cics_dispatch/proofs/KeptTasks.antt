@@ -47,7 +47,7 @@ acting_or_none m at t kept placed = by t.unit refl
     by (Some u) own = acting m at t kept placed u own
 
 -- a task may act
-acts : (m : Machine) (at : ℕ) (t : Task) → AreTasksKept m → slice_get m.tasks at ≡ Some t → may_act m.units t.unit ≡ true
+pub acts : (m : Machine) (at : ℕ) (t : Task) → AreTasksKept m → slice_get m.tasks at ≡ Some t → may_act m.units t.unit ≡ true
 acts m at t kept placed = by t.unit refl
   where
     by : (o : Option ℕ) → t.unit ≡ o → may_act m.units o ≡ true

@@ -23,6 +23,7 @@ mod RegionQueues
 mod RegionShutdown
 pub mod Blocked
 pub mod OthersHold
+pub mod Starved
 pub mod ActsAlone
 pub mod KeepsOwn
 pub mod KeptHeld

@@ -11,12 +11,13 @@ use Rattle.cics_enqueue.specs.Resources.{bytes_of}
 use Rattle.cics_enqueue.specs.declared.resources.Resource.{Resource}
 use Rattle.cics_enqueue.specs.declared.resources.Resource.TheVariants.{User}
 use Rattle.cics_history.specs.Execution.{IsOpenUnit}
+use Rattle.cics_history.specs.Isolation.{IsSound}
 use Rattle.cics_history.specs.declared.ops.Op.{Op}
 use Rattle.cics_dispatch.specs.Machine.{Machine, Task, Suspended, task_at, label_of, is_waiting, not_waiting, with_waiting}
 use Rattle.cics_dispatch.specs.Tasks.{own_unit, IsOwn, HasNoOwner}
 use Rattle.cics_dispatch.specs.Waits.{Rows, wait_of, AreOnce, AreApart}
 use Rattle.cics_dispatch.specs.Waking.{awaited_by, may_go_on, first_free, went_on, woken_first, woken}
-use Rattle.cics_dispatch.specs.KeptTasks.{IsReady, IsWaitKept}
+use Rattle.cics_dispatch.specs.KeptTasks.{IsReady, IsWaitKept, AreTasksKept}
 use Rattle.cics_dispatch.specs.Calls.{OfTask, HasReady}
 use Rattle.cics_dispatch.specs.Settled.{reads_queue, IsBlocked}
 use Rattle.cics_dispatch.specs.Notes.{OfWait, IsOnlyUse, IsOnlyNeed, OwnerIsAwake, IsFirstFreeOf, IsFirstFree}
@@ -55,7 +56,7 @@ wait_of_label w (v ∷ ws) label is =
     ] refl is
 
 -- a wait at a place is one of its label
-waits_at : (ws : List Suspended) (i : ℕ) (w : Suspended) → slice_get ws i ≡ Some w → is_waiting ws w.label ≡ true
+pub waits_at : (ws : List Suspended) (i : ℕ) (w : Suspended) → slice_get ws i ≡ Some w → is_waiting ws w.label ≡ true
 waits_at [] i w is = cc
 waits_at (v ∷ ws) zero w is =
     let same : v ≡ w = cc in
@@ -90,6 +91,19 @@ pub no_wait : (P : Suspended → Type 0) (ws : List Suspended) (label : Bytes) �
 no_wait P ws label apart is = λ i w there own.
     let both : None ≡ Some w = one_wait None ws label i w apart is there own in
     cc
+
+-- but where one waits it is found, and its task is there
+pub wait_there : (ws : List Suspended) (label : Bytes) → is_waiting ws label ≡ true → None ≡ wait_of ws label → ⊥
+wait_there [] label waits none = false≢true waits
+wait_there (w ∷ ws) label waits none =
+    elim (is_same w.label label) as (λ b. cond b true (is_waiting ws label) ≡ true → None ≡ cond b (Some w) (wait_of ws label) → ⊥) [
+      | true ↦ λ here none. cc
+      | false ↦ λ later none. wait_there ws label later none
+    ] waits none
+
+pub wait_has_task : (m : Machine) (x : Suspended) (label : Bytes) → All (IsWaitKept m) m.waiting → Some x ≡ wait_of m.waiting label → task_at m.tasks label ≡ None → ⊥
+wait_has_task m x label kept found none =
+    false≢true (sym (ap is_some (ap (task_at m.tasks) (wait_of_label x m.waiting label (sym found)) ∙ none)) ∙ (wait_of_has (IsWaitKept m) x m.waiting label kept (sym found)).of_task)
 
 -- ---- The first that may go on
 
@@ -150,9 +164,9 @@ went_back m a n w label ws back kept aside same first step gone =
 -- ---- What a look finds
 
 module _ (m : Machine) (x : Suspended) (label : Bytes) (at : ℕ) (apart : AreApart m.waiting) (found : Some x ≡ wait_of m.waiting label)
-    (kept : All (IsWaitKept m) m.waiting) (task : slice_get m.tasks at ≡ task_at m.tasks label) where
+    (kept : AreTasksKept m) (task : slice_get m.tasks at ≡ task_at m.tasks label) where
   is_kept : IsWaitKept m x
-  is_kept = wait_of_has (IsWaitKept m) x m.waiting label kept (sym found)
+  is_kept = wait_of_has (IsWaitKept m) x m.waiting label kept.waits (sym found)
 
   of_label : (t : Task) → slice_get m.tasks at ≡ Some t → task_at m.tasks x.label ≡ Some t
   of_label t there = ap (task_at m.tasks) (wait_of_label x m.waiting label (sym found)) ∙ sym task ∙ there
@@ -165,28 +179,24 @@ module _ (m : Machine) (x : Suspended) (label : Bytes) (at : ℕ) (apart : AreAp
     look_goes none = of_wait (λ w. may_go_on m w (task_at m.tasks w.label) ≡ true) x m.waiting label apart found
         (task_there m.tasks at within (λ t there. ap (may_go_on m x) (of_label t there) ∙ ap is_none (sym (holder t there) ∙ none)))
 
-    pub look_waits : (u : ℕ) → o ≡ Some u → OfWait m.waiting label (λ w. may_go_on m w (task_at m.tasks w.label) ≡ false)
-    look_waits u some = of_wait (λ w. may_go_on m w (task_at m.tasks w.label) ≡ false) x m.waiting label apart found
-        (task_there m.tasks at within (λ t there. ap (may_go_on m x) (of_label t there) ∙ ap is_none (sym (holder t there) ∙ some)))
-
-    pub look_blocked : (u : ℕ) → o ≡ Some u → reads_queue x.op ≡ false → IsOpenUnit m.units u → OfWait m.waiting label (IsBlocked m u)
-    look_blocked u some no_read is_open = of_wait (IsBlocked m u) x m.waiting label apart found
+    pub look_blocked : (u : ℕ) → o ≡ Some u → (reads_queue x.op ≡ true → IsSound m.units) → IsOpenUnit m.units u → OfWait m.waiting label (IsBlocked m u)
+    look_blocked u some sound is_open = of_wait (IsBlocked m u) x m.waiting label apart found
         (task_there m.tasks at within (λ t there.
-        blocked_by m x t u no_read (of_label t there) (is_kept.ready t (of_label t there)) is_open (sym (holder t there) ∙ some)))
+        blocked_by m x t u kept sound (of_label t there) (is_kept.ready t (of_label t there)) is_open (sym (holder t there) ∙ some)))
 
 -- ---- What a waiting command uses
 
 -- that of an updating command
 pub need_used : (x : Suspended) (op : Op) (o : Option Resource) → x.op ≡ Some op → IfSome o (λ r. IsOnlyUse r op) → IfSome o (λ r. IsOnlyNeed r x.command.verb x.op)
 need_used x op None is used = tt
-need_used x op (Some r) is used = subst (λ o. IsOnlyNeed r x.command.verb o) (sym is) (record { only = used.only })
+need_used x op (Some r) is used = subst (λ o. IsOnlyNeed r x.command.verb o) (sym is) (record { only = used.only; no_reader = used.no_reader })
 
 -- and that of an ENQ
 pub need_value : (x : Suspended) (value : Bytes) (n : ℕ) (nosuspend : Bool) (r : Resource) → x.op ≡ None → x.command.verb ≡ Enq value n nosuspend →
     r ≡ User (bytes_of (take n value)) → IsOnlyNeed r x.command.verb x.op
 need_value x value n nosuspend r none verb is =
     subst (λ o. IsOnlyNeed r x.command.verb o) (sym none)
-    (subst (λ v. IsOnlyNeed r v None) (sym verb) (record { only = λ o p any. ap (λ q. q ∷ []) (sym is) }))
+    (subst (λ v. IsOnlyNeed r v None) (sym verb) (record { only = λ o p any. ap (λ q. q ∷ []) (sym is); no_reader = refl }))
 
 -- whose LENGTH has passed its check
 pub value_short : (m : Machine) (x : Suspended) (ws : List Suspended) (label value : Bytes) (n : ℕ) (nosuspend : Bool) → All (IsWaitKept m) ws → Some x ≡ wait_of ws label →

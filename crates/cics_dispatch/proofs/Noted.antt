@@ -12,8 +12,8 @@ use Rattle.cics_enqueue.specs.declared.resources.Resource.{Resource}
 use Rattle.cics_history.specs.Openings.{OpeningState}
 use Rattle.cics_dispatch.specs.declared.notes.Note.{Note}
 use Rattle.cics_dispatch.specs.Machine.{Machine, Task, Suspended, is_unit, task_at, is_waiting, not_waiting}
-use Rattle.cics_history.specs.Events.{is_live}
-use Rattle.cics_dispatch.specs.Settled.{needed_by, holds_one, holds_back, IsBlocked}
+use Rattle.cics_history.specs.Events.{is_live, may_act}
+use Rattle.cics_dispatch.specs.Settled.{reads_queue, needed_by, holds_one, KeepsWaiting, IsBlocked}
 use Rattle.cics_dispatch.specs.KeptTasks.{IsWaitKept}
 use Rattle.cics_enqueue.specs.Resources.{is_other, overlaps}
 use Rattle.cics_history.specs.Holding.{held_by}
@@ -23,9 +23,11 @@ use Rattle.cics_dispatch.specs.Notes.{forgotten, filed, with_need, with_blocker,
 use Rattle.cics_dispatch.proofs.KeptTasks.{begins_now}
 use Rattle.cics_dispatch.proofs.KeepsOwn.{Keeps}
 use Rattle.cics_dispatch.proofs.ActsAlone.{LeavesTasks, Waits}
+use Rattle.cics_dispatch.proofs.Blocked.{held_back}
 use Rattle.cics_dispatch.proofs.Remembered.{blocked_yet}
 use Rattle.cics_dispatch.proofs.TaskTable.{is_unit-has}
 use Rattle.cics_dispatch.proofs.TaskPlaces.{place_of_task}
+use Rattle.cics_dispatch.proofs.Looks.{waits_at}
 
 -- ---- Notes beside their commands
 
@@ -134,12 +136,12 @@ forgotten_none (n ∷ ns) = ap (λ r. n ∷ r) (forgotten_none ns)
 need_yet : (o p : OpeningState) (needs : List Resource) (w : Suspended) (g : ℕ) → p ≡ o → IsNeed o needs w g → IsNeed p needs w g
 need_yet o p needs w g same is = subst (λ x. IsNeed x needs w g) (sym same) is
 
-module _ (m n : Machine) (needs : List Resource) (t : Task) (others : LeavesTasks t.label t.unit m n) where
+module _ (m n : Machine) (needs : List Resource) (t : Task) (others : LeavesTasks t.label t.unit m n) (active : may_act m.units t.unit ≡ true) where
   -- whose unit gives nothing up
   pub noted_kept : ((v : ℕ) → t.unit ≡ Some v → Keeps m.units n.units v) → (k : Note) (w : Suspended) → t.label ≢ w.label → IsNoted m needs k w → IsNoted n needs k w
   noted_kept keeps k w other is = record {
     label = is.label;
-    blocked = λ h own. blocked_yet m n t h others (λ v of_t. inr (keeps v of_t)) w other (is.blocked h own);
+    blocked = λ h own. blocked_yet m n t h others active (λ v of_t. inr (keeps v of_t)) w other (is.blocked h own);
     need = λ g own. need_yet m.units.opening n.units.opening needs w g others.units.opening (is.need g own);
   }
 
@@ -153,7 +155,7 @@ module _ (m n : Machine) (needs : List Resource) (t : Task) (others : LeavesTask
         label = forgotten_label u k ∙ is.label;
         blocked = λ h own.
             let rest = forgotten_other u k h own in
-            blocked_yet m n t h others (λ v of_t. inl (λ e. rest.1 (let both : Some u ≡ Some v = sym has ∙ of_t in let same : u ≡ v = cc in same ∙ e))) w other (is.blocked h rest.0);
+            blocked_yet m n t h others active (λ v of_t. inl (λ e. rest.1 (let both : Some u ≡ Some v = sym has ∙ of_t in let same : u ≡ v = cc in same ∙ e))) w other (is.blocked h rest.0);
         need = λ g own. need_yet m.units.opening n.units.opening needs w g others.units.opening (is.need g (sym (forgotten_need u k) ∙ own));
       }
 
@@ -218,7 +220,7 @@ module _ (m n : Machine) (units : n.units ≡ m.units) (tasks : (l : Bytes) (t :
     of_task = tasks w.label is.task is.of_task;
     is_open = ap (λ s. is_live s h) units ∙ is.is_open;
     other = is.other;
-    holds = ap (λ s. holds_back s h w.command.verb w.op) units ∙ is.holds;
+    keeps = subst (λ s. KeepsWaiting s is.task.unit h w.command.verb w.op) (sym units) is.keeps;
   }
 
   pub noted_same : (needs : List Resource) (ns : List Note) (ws : List Suspended) → AreNoted m needs ns ws → AreNoted n needs ns ws
@@ -254,8 +256,10 @@ noted_need m needs k w g need is = record {
   need = λ h own. let same : g ≡ h = cc in subst (λ x. IsNeed m.units.opening needs w x) same need;
 }
 
--- a unit that one command has to wait for keeps each waiting that uses the same, where the unit's own task doesn't wait
-module _ (m : Machine) (needs : List Resource) (u g : ℕ) (v : Suspended) (blocked : IsBlocked m u v) (own : IsNeed m.units.opening needs v g) (awake : OwnerIsAwake m u) where
+-- a unit that one command has to wait for, which isn't READQ TD, keeps each waiting that uses the same, where the unit's own
+-- task doesn't wait
+module _ (m : Machine) (needs : List Resource) (u g : ℕ) (v : Suspended) (blocked : IsBlocked m u v) (no_reader : reads_queue v.op ≡ false) (own : IsNeed m.units.opening needs v g)
+    (awake : OwnerIsAwake m u) where
   -- of a task that waits
   blocked_too : (w : Suspended) → is_some (task_at m.tasks w.label) ≡ true → is_waiting m.waiting w.label ≡ true → IsNeed m.units.opening needs w g → IsBlocked m u w
   blocked_too w there waits need = by (task_at m.tasks w.label) refl there
@@ -285,7 +289,7 @@ module _ (m : Machine) (needs : List Resource) (u g : ℕ) (v : Suspended) (bloc
         of_task = is;
         is_open = blocked.is_open;
         other = another t is;
-        holds = ap (holds_one m.units u) same ∙ blocked.holds;
+        keeps = inl (ap (holds_one m.units u) same ∙ held_back m u v blocked no_reader);
       }
 
   filed_one : (k : Note) (w : Suspended) → is_some (task_at m.tasks w.label) ≡ true → is_waiting m.waiting w.label ≡ true → IsNoted m needs k w → IsNoted m needs (filed g u k) w
@@ -348,7 +352,7 @@ pub filed_there : (m : Machine) (a b c d : NotesValue) (at u g : ℕ) (n : Note)
 filed_there m a b c d at u g n r done kept noted blocked awake there only place more rows setting c_needs filing d_needs =
     subst (λ rs. AreNoted m rs d.rows m.waiting) (sym (d_needs ∙ c_needs))
     (subst (λ ns. AreNoted m b.needs ns m.waiting) (sym filing)
-    (noted_if m b.needs done (map (filed g u) c.rows) c.rows m.waiting (filed_noted m b.needs u g here.wait (blocked here.wait here.there) own awake c.rows kept in_c) in_c))
+    (noted_if m b.needs done (map (filed g u) c.rows) c.rows m.waiting (filed_noted m b.needs u g here.wait (blocked here.wait here.there) only_here.no_reader own awake c.rows kept in_c) in_c))
   where
     in_b : AreNoted m b.needs a.rows m.waiting
     in_b = noted_more m a.needs b.needs a.rows m.waiting more noted
@@ -356,11 +360,14 @@ filed_there m a b c d at u g n r done kept noted blocked awake there only place 
     here : NotedAt m b.needs n m.waiting at
     here = noted_at m b.needs a.rows m.waiting at n in_b there
 
+    only_here : IsOnlyNeed r here.wait.command.verb here.wait.op
+    only_here = only at here.wait here.there (sym here.noted.label)
+
     own : IsNeed m.units.opening b.needs here.wait g
     own = record {
       resource = r;
       there = place;
-      needed = (only at here.wait here.there (sym here.noted.label)).only m.units.opening (λ x. list_any (overlaps x) (held_by m.units u)) (blocked here.wait here.there).holds;
+      needed = only_here.only m.units.opening (λ x. list_any (overlaps x) (held_by m.units u)) (held_back m u here.wait (blocked here.wait here.there) only_here.no_reader);
     }
 
     in_c : AreNoted m b.needs c.rows m.waiting
@@ -369,6 +376,12 @@ filed_there m a b c d at u g n r done kept noted blocked awake there only place 
         (λ w there_w.
         let one : here.wait ≡ w = let both : Some here.wait ≡ Some w = sym here.there ∙ there_w in cc in
         subst (λ x. IsNoted m b.needs (with_need g n) x) one (noted_need m b.needs n here.wait g own here.noted)))
+
+-- the command of a note waits
+pub label_waits : (m : Machine) (notes : NotesValue) (at : ℕ) (n : Note) → AreNotedNow m notes → slice_get notes.rows at ≡ Some n → is_waiting m.waiting n.label ≡ true
+label_waits m notes at n noted there =
+    let here = noted_at m notes.needs notes.rows m.waiting at n noted there in
+    ap (is_waiting m.waiting) here.noted.label ∙ waits_at m.waiting at here.wait here.there
 
 -- ---- The first that may go on
 

@@ -6,11 +6,12 @@ use Rattle.std.proofs.lemmas.List.Elements.{All-nil}
 use Rattle.std.proofs.lemmas.List.{length-append}
 use Rattle.cics_names.specs.Keyed.{Bytes, is_same}
 use Rattle.cics_enqueue.specs.declared.resources.Resource.{Resource}
+use Rattle.cics_history.specs.Events.{may_act}
 use Rattle.cics_dispatch.specs.declared.notes.Note.{Note}
 use Rattle.cics_dispatch.specs.Machine.{Machine, Task, Suspended, RegionValue, task_at, is_waiting, not_waiting, with_waiting, abended, timed_out}
 use Rattle.cics_dispatch.specs.Checks.{fault_of}
 use Rattle.cics_dispatch.specs.Steps.{Stepped, with_outcome, attach_refusal, attached, with_new_task, new_task, refused_or, checked, issue_refusal, issued_by, issued, by_op}
-use Rattle.cics_dispatch.specs.Waking.{clock_refusal, clock_set, may_go_on, first_free, went_on, woken, woken_first, first_late, expired, expired_task}
+use Rattle.cics_dispatch.specs.Waking.{clock_refusal, clock_set, may_go_on, first_free, went_on, woken, woken_first, is_late, first_late, expired, expired_task}
 use Rattle.cics_dispatch.specs.Answers.{IsStep}
 use Rattle.cics_dispatch.specs.KeptTasks.{AreTasksKept}
 use Rattle.cics_dispatch.specs.Settled.{is_keeping, goes_on, IsInTime}
@@ -25,7 +26,7 @@ use Rattle.cics_dispatch.proofs.KeptHeld.{checked_keeps}
 use Rattle.cics_dispatch.proofs.ActsAlone.{Waits, abended_leaves, by_op_alone, checked_alone}
 use Rattle.cics_dispatch.proofs.FewerWaits.{by_op_none}
 use Rattle.cics_dispatch.proofs.RegionWaking.{first_free-goes, first_free_awaits, not_waiting_twice}
-use Rattle.cics_dispatch.proofs.Blocked.{blocked_stays, none_late, all_in_time}
+use Rattle.cics_dispatch.proofs.Blocked.{task_acts, blocked_stays, none_late, all_in_time}
 use Rattle.cics_dispatch.proofs.Remembered.{refused_leaves, not_refused, issued_in_time, woken_in_time, attached_in_time}
 use Rattle.cics_dispatch.proofs.NotesRoom.{issued_count, room_kept, room_for_one}
 use Rattle.cics_dispatch.proofs.Noted.{noted_without, noted_others, noted_kept, noted_forgot, noted_waits, noted_same}
@@ -85,9 +86,9 @@ noted_then n label needs ns =
     (is_waiting n.waiting label ≡ false → AreNoted n needs ns n.waiting) × (is_waiting n.waiting label ≡ true → AreNoted n needs (ns ++ new_note label ∷ []) n.waiting)
 
 module _ (m : Machine) (c : Command) (needs : List Resource) (ns : List Note) (noted : AreNoted m needs ns m.waiting) where
-  checked_noted : (t : Task) (unit : Option ℕ) (outcome : Outcome) → unit ≡ t.unit → is_waiting m.waiting t.label ≡ false → (checked m t c (fault_of m t c.verb)).outcome ≡ outcome →
+  checked_noted : (t : Task) (unit : Option ℕ) (outcome : Outcome) → may_act m.units t.unit ≡ true → unit ≡ t.unit → is_waiting m.waiting t.label ≡ false → (checked m t c (fault_of m t c.verb)).outcome ≡ outcome →
       noted_then (checked m t c (fault_of m t c.verb)).machine t.label needs (map (forgotten (if is_keeping m.units.opening c.verb && goes_on outcome then None else unit)) ns)
-  checked_noted t unit outcome own awake told =
+  checked_noted t unit outcome active own awake told =
       let n = (checked m t c (fault_of m t c.verb)).machine in
       let alone = checked_alone m t c in
       noted_waits m n needs t.label _ alone.waits awake (by (is_keeping m.units.opening c.verb && goes_on outcome) refl)
@@ -97,14 +98,14 @@ module _ (m : Machine) (c : Command) (needs : List Resource) (ns : List Note) (n
       by true keeps =
           let parts = and_parts (is_keeping m.units.opening c.verb) (goes_on outcome) keeps in
           noted_others m (checked m t c (fault_of m t c.verb)).machine needs t.label (forgotten None)
-          (noted_kept m (checked m t c (fault_of m t c.verb)).machine needs t (checked_alone m t c).others (λ v of_t. checked_keeps m t v c parts.0 (ap goes_on told ∙ parts.1))) ns m.waiting awake noted
+          (noted_kept m (checked m t c (fault_of m t c.verb)).machine needs t (checked_alone m t c).others active (λ v of_t. checked_keeps m t v c parts.0 (ap goes_on told ∙ parts.1))) ns m.waiting awake noted
       by false gives =
           subst (λ o. AreNoted (checked m t c (fault_of m t c.verb)).machine needs (map (forgotten o) ns) m.waiting) (sym own)
-          (noted_others m (checked m t c (fault_of m t c.verb)).machine needs t.label (forgotten t.unit) (noted_forgot m (checked m t c (fault_of m t c.verb)).machine needs t (checked_alone m t c).others) ns m.waiting awake noted)
+          (noted_others m (checked m t c (fault_of m t c.verb)).machine needs t.label (forgotten t.unit) (noted_forgot m (checked m t c (fault_of m t c.verb)).machine needs t (checked_alone m t c).others active) ns m.waiting awake noted)
 
-  pub issued_noted : (label : Bytes) (unit : Option ℕ) (outcome : Outcome) → ((t : Task) → task_at m.tasks label ≡ Some t → unit ≡ t.unit) → (issued m label c).outcome ≡ Ok outcome →
+  pub issued_noted : AreTasksKept m → (label : Bytes) (unit : Option ℕ) (outcome : Outcome) → ((t : Task) → task_at m.tasks label ≡ Some t → unit ≡ t.unit) → (issued m label c).outcome ≡ Ok outcome →
       noted_then (issued m label c).machine label needs (map (forgotten (if is_keeping m.units.opening c.verb && goes_on outcome then None else unit)) ns)
-  issued_noted label unit outcome own told = by (task_at m.tasks label) refl told
+  issued_noted kept label unit outcome own told = by (task_at m.tasks label) refl told
     where
       forgot : List Note
       forgot = map (forgotten (if is_keeping m.units.opening c.verb && goes_on outcome then None else unit)) ns
@@ -115,7 +116,7 @@ module _ (m : Machine) (c : Command) (needs : List Resource) (ns : List Note) (n
       by_refusal t same is None refused told =
           let one : (checked m t c (fault_of m t c.verb)).outcome ≡ outcome = cc in
           subst (λ l. noted_then (checked m t c (fault_of m t c.verb)).machine l needs forgot) same
-          (checked_noted t unit outcome (own t is) (not_refused t.has_ended (is_waiting m.waiting t.label) refused) one)
+          (checked_noted t unit outcome (task_acts m label t kept is) (own t is) (not_refused t.has_ended (is_waiting m.waiting t.label) refused) one)
 
       by : (o : Option Task) → task_at m.tasks label ≡ o → (issued_by m c o).outcome ≡ Ok outcome → noted_then (issued_by m c o).machine label needs forgot
       by None is told = cc
@@ -146,9 +147,9 @@ none_added m n label waits fewer awake = elim waits [
     never : length n.waiting ≡ length m.waiting + 1 → ⊥
     never grown = omega (arith, fewer, grown)
 
-pub woken_noted : (m : Machine) (needs : List Resource) (ns : List Note) (label : Bytes) (unit : Option ℕ) → AreNoted m needs ns m.waiting → IsFirstFree m label →
+pub woken_noted : (m : Machine) (needs : List Resource) (ns : List Note) (label : Bytes) (unit : Option ℕ) → AreTasksKept m → AreNoted m needs ns m.waiting → IsFirstFree m label →
     ((t : Task) → task_at m.tasks label ≡ Some t → unit ≡ t.unit) → AreNoted (woken m).machine needs (map (forgotten unit) (without_note label ns)) (woken m).machine.waiting
-woken_noted m needs ns label unit noted free own =
+woken_noted m needs ns label unit kept noted free own =
     subst (λ o. AreNoted (woken_first m o).machine needs (map (forgotten unit) (without_note label ns)) (woken_first m o).machine.waiting) (sym free.first) (by (task_at m.tasks w.label) refl)
   where
     w : Suspended
@@ -170,17 +171,28 @@ woken_noted m needs ns label unit noted free own =
         subst (λ l. AreNoted m needs (without_note label ns) (not_waiting m.waiting l)) (sym free.own) (noted_without m needs label ns m.waiting noted) in
         subst (AreNoted n needs (map (forgotten unit) (without_note label ns))) (sym left)
         (subst (λ o. AreNoted n needs (map (forgotten o) (without_note label ns)) ws) (sym (own t (ap (task_at m.tasks) (sym free.own) ∙ is)))
-        (noted_others a n needs t.label (forgotten t.unit) (noted_forgot a n needs t alone.others) (without_note label ns) ws awake (noted_aside m needs (without_note label ns) ws rest)))
+        (noted_others a n needs t.label (forgotten t.unit) (noted_forgot a n needs t alone.others (task_acts m w.label t kept is)) (without_note label ns) ws awake (noted_aside m needs (without_note label ns) ws rest)))
 
 -- ---- Time-out
 
-pub expired_noted : (m : Machine) (needs : List Resource) (ns : List Note) (t : Task) (label : Bytes) (unit : Option ℕ) → AreNoted m needs ns m.waiting → first_late m m.waiting ≡ Some t →
+-- the unit of a task that has waited too long, if it has one, is open
+late_acts : (m : Machine) (t : Task) → AreTasksKept m → first_late m m.waiting ≡ Some t → may_act m.units t.unit ≡ true
+late_acts m t kept = by m.waiting
+  where
+    by : (ws : List Suspended) → first_late m ws ≡ Some t → may_act m.units t.unit ≡ true
+    by [] is = cc
+    by (w ∷ ws) is = elim (is_late m w (task_at m.tasks w.label)) as (λ b. cond b (task_at m.tasks w.label) (first_late m ws) ≡ Some t → may_act m.units t.unit ≡ true) [
+      | true ↦ λ here. task_acts m w.label t kept here
+      | false ↦ λ later. by ws later
+    ] is
+
+pub expired_noted : (m : Machine) (needs : List Resource) (ns : List Note) (t : Task) (label : Bytes) (unit : Option ℕ) → AreTasksKept m → AreNoted m needs ns m.waiting → first_late m m.waiting ≡ Some t →
     label ≡ t.label → unit ≡ t.unit → AreNoted (expired m).machine needs (map (forgotten unit) (without_note label ns)) (expired m).machine.waiting
-expired_noted m needs ns t label unit noted first named own =
+expired_noted m needs ns t label unit kept noted first named own =
     subst (λ o. AreNoted (expired_task m o).machine needs (map (forgotten unit) (without_note label ns)) (expired_task m o).machine.waiting) (sym first)
     (subst (λ l. AreNoted (abended m t) needs (map (forgotten unit) (without_note l ns)) (abended m t).waiting) (sym named)
     (subst (λ o. AreNoted (abended m t) needs (map (forgotten o) (without_note t.label ns)) (abended m t).waiting) (sym own)
-    (noted_others m (abended m t) needs t.label (forgotten t.unit) (noted_forgot m (abended m t) needs t (abended_leaves m t)) (without_note t.label ns) (not_waiting m.waiting t.label)
+    (noted_others m (abended m t) needs t.label (forgotten t.unit) (noted_forgot m (abended m t) needs t (abended_leaves m t) (late_acts m t kept first)) (without_note t.label ns) (not_waiting m.waiting t.label)
     (not_waiting_then m.waiting t.label) (noted_without m needs t.label ns m.waiting noted))))
 
 -- ---- What is remembered
@@ -198,18 +210,18 @@ closed_blocker : (o : Option ℕ) → is_some o ≡ true → (u : ℕ) × (o ≡
 closed_blocker None is = absurd (false≢true is)
 closed_blocker (Some u) is = (u, refl)
 
-pub none_free : (m : Machine) (needs : List Resource) (ns : List Note) (ws : List Suspended) → AreNoted m needs ns ws → AreClosed ns → first_free m ws ≡ None
-none_free m needs [] [] noted closed = refl
-none_free m needs [] (w ∷ ws) noted closed = absurd noted
-none_free m needs (n ∷ ns) [] noted closed = absurd noted
-none_free m needs (n ∷ ns) (w ∷ ws) noted closed =
+pub none_free : (m : Machine) (needs : List Resource) (ns : List Note) (ws : List Suspended) → AreTasksKept m → AreNoted m needs ns ws → AreClosed ns → first_free m ws ≡ None
+none_free m needs [] [] kept noted closed = refl
+none_free m needs [] (w ∷ ws) kept noted closed = absurd noted
+none_free m needs (n ∷ ns) [] kept noted closed = absurd noted
+none_free m needs (n ∷ ns) (w ∷ ws) kept noted closed =
     let blocker = closed_blocker n.blocker closed.0 in
-    ap (λ b. cond b (Some w) (first_free m ws)) (blocked_stays m blocker.0 w (noted.0.blocked blocker.0 blocker.1)) ∙ none_free m needs ns ws noted.1 closed.1
+    ap (λ b. cond b (Some w) (first_free m ws)) (blocked_stays m blocker.0 w kept (noted.0.blocked blocker.0 blocker.1)) ∙ none_free m needs ns ws kept noted.1 closed.1
 
-pub woken_settled : (m : Machine) (notes : NotesValue) (is_noted is_settled is_in_time : Bool) → IsRemembered m notes is_noted is_settled is_in_time → is_settled ≡ true → woken m ≡ record { outcome = None; machine = m }
-woken_settled m notes is_noted is_settled is_in_time is set =
+pub woken_settled : (m : Machine) (notes : NotesValue) (is_noted is_settled is_in_time : Bool) → AreTasksKept m → IsRemembered m notes is_noted is_settled is_in_time → is_settled ≡ true → woken m ≡ record { outcome = None; machine = m }
+woken_settled m notes is_noted is_settled is_in_time kept is set =
     let settled = is.settled set in
-    ap (woken_first m) (none_free m notes.needs notes.rows m.waiting (is.noted settled.0) settled.1)
+    ap (woken_first m) (none_free m notes.needs notes.rows m.waiting kept (is.noted settled.0) settled.1)
 
 -- where no task has waited too long none is abended
 pub expired_in_time : (m : Machine) (notes : NotesValue) (is_noted is_settled is_in_time : Bool) → IsRemembered m notes is_noted is_settled is_in_time → is_in_time ≡ true → expired m ≡ record { outcome = None; machine = m }
@@ -217,16 +229,16 @@ expired_in_time m notes is_noted is_settled is_in_time is set = ap (expired_task
 
 -- after a command
 pub remembered_issued : (m n : Machine) (label : Bytes) (c : Command) (outcome : Outcome) (notes mid new : NotesValue) (is_noted is_settled is_in_time was waits settled noted : Bool) (unit forgot : Option ℕ) →
-    IsRemembered m notes is_noted is_settled is_in_time → ((t : Task) → task_at m.tasks label ≡ Some t → unit ≡ t.unit) → (issued m label c).outcome ≡ Ok outcome → n ≡ (issued m label c).machine →
+    AreTasksKept m → IsRemembered m notes is_noted is_settled is_in_time → ((t : Task) → task_at m.tasks label ≡ Some t → unit ≡ t.unit) → (issued m label c).outcome ≡ Ok outcome → n ≡ (issued m label c).machine →
     forgot ≡ (if is_keeping m.units.opening c.verb && goes_on outcome then None else unit) →
     mid.rows ≡ map (forgotten forgot) notes.rows → (was ≡ false → mid.rows ≡ notes.rows) → mid.needs ≡ notes.needs → waits ≡ is_waiting n.waiting label →
     settled ≡ (is_settled && (not was && not waits)) →
     (noted ≡ true → (is_noted ≡ true) × (new.rows ≡ (if waits then mid.rows ++ new_note label ∷ [] else mid.rows))) → (waits ≡ false → (noted ≡ is_noted) × (new.rows ≡ mid.rows)) → new.needs ≡ mid.needs →
     IsRemembered n new noted settled is_in_time
-remembered_issued m n label c outcome notes mid new is_noted is_settled is_in_time was waits settled noted unit forgot is own told step forgets rows same needs waited stays noting none more = record {
+remembered_issued m n label c outcome notes mid new is_noted is_settled is_in_time was waits settled noted unit forgot kept is own told step forgets rows same needs waited stays noting none more = record {
   noted = λ set.
       let was_noted = noting set in
-      let pair = issued_noted m c notes.needs notes.rows (is.noted was_noted.0) label unit outcome own told in
+      let pair = issued_noted m c notes.needs notes.rows (is.noted was_noted.0) kept label unit outcome own told in
       subst (λ x. AreNoted x new.needs new.rows x.waiting) (sym step)
       (subst (λ rs. AreNoted (issued m label c).machine rs new.rows (issued m label c).machine.waiting) (sym (more ∙ needs))
       (by waits (waited ∙ ap (λ x. is_waiting x.waiting label) step) was_noted.1 _
@@ -255,14 +267,14 @@ remembered_issued m n label c outcome notes mid new is_noted is_settled is_in_ti
     by false waits is l rows pair = subst (λ r. AreNoted k notes.needs r k.waiting) (sym (is ∙ rows)) (pair.0 (sym waits))
 
 -- there is room for the note of a command that waits
-pub issued_room : (m n : Machine) (label : Bytes) (c : Command) (outcome : Outcome) (notes mid : NotesValue) (unit forgot : Option ℕ) → HasRoomForNotes m notes → AreNotedNow m notes →
+pub issued_room : (m n : Machine) (label : Bytes) (c : Command) (outcome : Outcome) (notes mid : NotesValue) (unit forgot : Option ℕ) → AreTasksKept m → HasRoomForNotes m notes → AreNotedNow m notes →
     ((t : Task) → task_at m.tasks label ≡ Some t → unit ≡ t.unit) → (issued m label c).outcome ≡ Ok outcome → n ≡ (issued m label c).machine →
     forgot ≡ (if is_keeping m.units.opening c.verb && goes_on outcome then None else unit) → mid.rows ≡ map (forgotten forgot) notes.rows → mid.room ≡ notes.room → length n.waiting ≤ length n.tasks →
     is_waiting n.waiting label ≡ true → length mid.rows < mid.room
-issued_room m n label c outcome notes mid unit forgot room noted own told step forgets rows same few waits =
+issued_room m n label c outcome notes mid unit forgot kept room noted own told step forgets rows same few waits =
     room_for_one k mid notes.needs label (room_kept m k notes mid room (issued_count m label c) same) (subst (λ x. length x.waiting ≤ length x.tasks) step few)
     (subst (λ r. AreNoted k notes.needs (r ++ new_note label ∷ []) k.waiting) (sym (rows ∙ ap (λ o. map (forgotten o) notes.rows) forgets))
-    ((issued_noted m c notes.needs notes.rows noted label unit outcome own told).1 (ap (λ x. is_waiting x.waiting label) (sym step) ∙ waits)))
+    ((issued_noted m c notes.needs notes.rows noted kept label unit outcome own told).1 (ap (λ x. is_waiting x.waiting label) (sym step) ∙ waits)))
   where
     k : Machine
     k = (issued m label c).machine
@@ -284,29 +296,29 @@ pub remembered_looked : (m : Machine) (notes : NotesValue) (is_settled is_in_tim
 remembered_looked m notes is_settled is_in_time noted closed in_time = record { noted = λ set. noted; settled = λ set. (refl, closed set); in_time = in_time }
 
 -- where a command has gone on
-pub remembered_woken : (m n : Machine) (notes mid new : NotesValue) (label : Bytes) (unit : Option ℕ) → AreNotedNow m notes → IsFirstFree m label → ((t : Task) → task_at m.tasks label ≡ Some t → unit ≡ t.unit) →
+pub remembered_woken : (m n : Machine) (notes mid new : NotesValue) (label : Bytes) (unit : Option ℕ) → AreTasksKept m → AreNotedNow m notes → IsFirstFree m label → ((t : Task) → task_at m.tasks label ≡ Some t → unit ≡ t.unit) →
     n ≡ (woken m).machine → mid.rows ≡ without_note label notes.rows → mid.needs ≡ notes.needs → new.rows ≡ map (forgotten unit) mid.rows → new.needs ≡ mid.needs → (is_settled is_in_time : Bool) → is_settled ≡ false →
     (is_in_time ≡ true → All (IsInTime m) m.waiting) → IsRemembered n new true is_settled is_in_time
-remembered_woken m n notes mid new label unit noted free own step without needs forgets more is_settled is_in_time open_yet in_time = record {
+remembered_woken m n notes mid new label unit kept noted free own step without needs forgets more is_settled is_in_time open_yet in_time = record {
   noted = λ set.
       subst (λ x. AreNoted x new.needs new.rows x.waiting) (sym step)
       (subst (λ rs. AreNoted (woken m).machine rs new.rows (woken m).machine.waiting) (sym (more ∙ needs))
       (subst (λ ns. AreNoted (woken m).machine notes.needs ns (woken m).machine.waiting) (sym (forgets ∙ ap (map (forgotten unit)) without))
-      (woken_noted m notes.needs notes.rows label unit noted free own)));
+      (woken_noted m notes.needs notes.rows label unit kept noted free own)));
   settled = λ set. absurd (false≢true (sym open_yet ∙ set));
   in_time = λ set. subst (λ x. All (IsInTime x) x.waiting) (sym step) (woken_in_time m label free (in_time set));
 }
 
 -- where a task has been abended for its time
-pub remembered_expired : (m n : Machine) (notes mid new : NotesValue) (is_noted is_settled is_in_time : Bool) (t : Task) (label : Bytes) (unit : Option ℕ) → IsRemembered m notes is_noted is_settled is_in_time →
+pub remembered_expired : (m n : Machine) (notes mid new : NotesValue) (is_noted is_settled is_in_time : Bool) (t : Task) (label : Bytes) (unit : Option ℕ) → AreTasksKept m → IsRemembered m notes is_noted is_settled is_in_time →
     first_late m m.waiting ≡ Some t → label ≡ t.label → unit ≡ t.unit → n ≡ (expired m).machine → mid.rows ≡ without_note label notes.rows → mid.needs ≡ notes.needs →
     new.rows ≡ map (forgotten unit) mid.rows → new.needs ≡ mid.needs → is_in_time ≡ false → IsRemembered n new is_noted false is_in_time
-remembered_expired m n notes mid new is_noted is_settled is_in_time t label unit is first named own step without needs forgets more late = record {
+remembered_expired m n notes mid new is_noted is_settled is_in_time t label unit kept is first named own step without needs forgets more late = record {
   noted = λ set.
       subst (λ x. AreNoted x new.needs new.rows x.waiting) (sym step)
       (subst (λ rs. AreNoted (expired m).machine rs new.rows (expired m).machine.waiting) (sym (more ∙ needs))
       (subst (λ ns. AreNoted (expired m).machine notes.needs ns (expired m).machine.waiting) (sym (forgets ∙ ap (map (forgotten unit)) without))
-      (expired_noted m notes.needs notes.rows t label unit (is.noted set) first named own)));
+      (expired_noted m notes.needs notes.rows t label unit kept (is.noted set) first named own)));
   settled = λ set. absurd (false≢true set);
   in_time = λ set. absurd (false≢true (sym late ∙ set));
 }

@@ -7,9 +7,10 @@ use Rattle.std.proofs.lemmas.List.Elements.{All-nil, All-cons, All-head, All-tai
 use Rattle.cics_names.specs.Keyed.{Bytes, is_same}
 use Rattle.cics_names.specs.KeyedLaws.{is_same-self}
 use Rattle.cics_enqueue.specs.declared.resources.Resource.{Resource}
-use Rattle.cics_history.specs.Events.{is_live}
+use Rattle.cics_history.specs.Events.{is_live, may_act}
 use Rattle.cics_enqueue.specs.Resources.{overlaps}
 use Rattle.cics_history.specs.declared.ops.Op.{Op}
+use Rattle.cics_history.specs.declared.ops.Op.TheVariants.{TdRead}
 use Rattle.cics_dispatch.proofs.KeptTasks.{begins_now, not_waiting_then}
 use Rattle.cics_history.specs.Holding.{UnitsState, held_by}
 use Rattle.cics_history.proofs.Waiting.{any_more}
@@ -20,13 +21,14 @@ use Rattle.cics_dispatch.specs.Waking.{is_late, may_go_on, went_on, woken_first,
 use Rattle.cics_dispatch.specs.Notes.{IsFirstFree}
 use Rattle.cics_dispatch.specs.Answers.{IsStep}
 use Rattle.cics_dispatch.specs.KeptTasks.{IsWaitKept, AreTasksKept}
-use Rattle.cics_dispatch.specs.Settled.{needed_by, holds_one, holds_back, IsBlocked, IsInTime}
+use Rattle.cics_dispatch.specs.Settled.{needed_by, holds_one, holds_back, Starves, IsBlocked, IsInTime}
 use Rattle.cics_names.specs.declared.commands.Command.{Command}
 use Rattle.cics_names.specs.declared.commands.Verb.{Verb}
 use Rattle.cics_dispatch.specs.declared.outcomes.Refused.{Refused}
 use Rattle.cics_dispatch.specs.declared.outcomes.Refused.TheVariants.{NoTask, TaskEnded, TaskWaiting, DuplicateLabel, NoMemory, ClockBack, RegionDown}
 use Rattle.cics_dispatch.proofs.TaskPlaces.{place_of_task, task_at-push}
 use Rattle.cics_dispatch.proofs.KeepsOwn.{Keeps}
+use Rattle.cics_dispatch.proofs.Starved.{LeavesStarved}
 use Rattle.cics_dispatch.proofs.ActsAlone.{LeavesTasks, Waits, by_op_alone, checked_alone}
 use Rattle.cics_dispatch.proofs.RegionWaking.{first_free-goes}
 
@@ -51,17 +53,26 @@ holds_yet s n h verb o opening holds is =
     (λ i. holds_one n h (needed_by (opening i) verb o))
     ∙ any_more (λ r. list_any (overlaps r) (held_by s h)) (λ r. list_any (overlaps r) (held_by n h)) (λ r. holds (overlaps r)) (needed_by s.opening verb o) is
 
--- a task acts whose unit is another than the blocker, or holds what it held
-module _ (m n : Machine) (t : Task) (h : ℕ) (others : LeavesTasks t.label t.unit m n)
+-- a reader that was starved is so yet
+starves_yet : (s n : UnitsState) (own : Option ℕ) (h : ℕ) (o : Option Op) → LeavesStarved s n → is_live s h ≡ true → Starves s own h o → Starves n own h o
+starves_yet s n own h (Some (TdRead q)) leaves live is = leaves.starved own h q live is
+starves_yet s n own h (Some o) leaves live is = absurd is
+starves_yet s n own h None leaves live is = absurd is
+
+-- an open task acts whose unit is another than the blocker, or holds what it held
+module _ (m n : Machine) (t : Task) (h : ℕ) (others : LeavesTasks t.label t.unit m n) (active : may_act m.units t.unit ≡ true)
     (free : (v : ℕ) → t.unit ≡ Some v → (v ≢ h) ⊎ Keeps m.units n.units v) (w : Suspended) (other : t.label ≢ w.label) (is : IsBlocked m h w) where
-  -- the blocker is open, and holds what it held that is needed
+  -- the blocker is open, and keeps the command waiting yet
   holder_yet : ((p : Resource → Bool) → list_any p (held_by m.units h) ≡ true → list_any p (held_by n.units h) ≡ true) → is_live n.units h ≡ true → IsBlocked n h w
   holder_yet holds live = record {
     task = is.task;
     of_task = others.tasks w.label other ∙ is.of_task;
     is_open = live;
     other = is.other;
-    holds = holds_yet m.units n.units h w.command.verb w.op others.units.opening holds is.holds;
+    keeps = elim is.keeps [
+      | inl held ↦ inl (holds_yet m.units n.units h w.command.verb w.op others.units.opening holds held)
+      | inr starves ↦ inr (starves_yet m.units n.units is.task.unit h w.op (others.starved active) is.is_open starves)
+    ];
   }
 
   -- another unit than the one that acts

@@ -8,11 +8,11 @@ use Rattle.cics_history.specs.Openings.{OpeningState}
 use Rattle.cics_history.specs.Holding.{uses_of}
 use Rattle.cics_history.specs.declared.ops.Op.{Op}
 use Rattle.cics_dispatch.specs.declared.notes.Look.{Look}
-use Rattle.cics_dispatch.specs.declared.notes.Look.TheVariants.{MayGoOn, IsBlocked as Blocked, HasToWait}
+use Rattle.cics_dispatch.specs.declared.notes.Look.TheVariants.{MayGoOn, IsBlocked as Blocked}
 use Rattle.cics_dispatch.specs.declared.notes.Note.{Note}
 use Rattle.cics_dispatch.specs.Machine.{Machine, Task, Suspended, is_unit, is_waiting, task_at}
 use Rattle.cics_dispatch.specs.Waking.{may_go_on, first_free}
-use Rattle.cics_dispatch.specs.Settled.{is_among, needed_by, IsBlocked, IsInTime}
+use Rattle.cics_dispatch.specs.Settled.{is_among, reads_queue, needed_by, IsBlocked, IsInTime}
 
 -- the notes of the waiting commands, in their order, what those use that use one resource each, and how many notes there is
 -- room for
@@ -93,17 +93,18 @@ OfWait ws label P = (i : ℕ) (w : Suspended) → slice_get ws i ≡ Some w → 
 abbrev pub IsFound : Machine → Suspended → Look → Type 0
 IsFound m w MayGoOn = may_go_on m w (task_at m.tasks w.label) ≡ true
 IsFound m w (Blocked u) = IsBlocked m u w
-IsFound m w HasToWait = may_go_on m w (task_at m.tasks w.label) ≡ false
 
--- an updating command uses this resource and nothing else, if it uses any
+-- an updating command uses this resource and nothing else, if it uses any, and isn't READQ TD
 pub record IsOnlyUse (r : Resource) (op : Op) : Type 0 where
   pub only : (o : OpeningState) (p : Resource → Bool) →
       list_any p (uses_of o op) ≡ true → uses_of o op ≡ r ∷ []
+  pub no_reader : reads_queue (Some op) ≡ false
 
 -- and so does a waiting command
 pub record IsOnlyNeed (r : Resource) (verb : Verb) (op : Option Op) : Type 0 where
   pub only : (o : OpeningState) (p : Resource → Bool) →
       list_any p (needed_by o verb op) ≡ true → needed_by o verb op ≡ r ∷ []
+  pub no_reader : reads_queue op ≡ false
 
 -- no command waits of the task whose unit this is
 abbrev pub OwnerIsAwake : Machine → ℕ → Type 0

@@ -1,11 +1,16 @@
 -- Waiting commands that were looked at: whom they still have to wait for, and whether their tasks have waited too long.
-use Rattle.std.specs.Prelude.{◌≡◌, ℕ, ◌==◌, Bool, true, false, Option, Some, None, List, [], ◌∷◌, take}
+use Rattle.std.specs.Prelude.{◌≡◌, ℕ, ◌==◌, Bool, true, false, not, Option, Some, None, unwrap_or, List, [], ◌∷◌, take}
 use Rattle.std.specs.List.{list_any}
+use Rattle.std.proofs.Common.{◌⊎◌}
+use Rattle.cics_names.specs.Keyed.{Bytes, value_at}
 use Rattle.cics_enqueue.specs.Resources.{bytes_of, overlaps, is_other}
 use Rattle.cics_enqueue.specs.declared.resources.Resource.{Resource}
 use Rattle.cics_enqueue.specs.declared.resources.Resource.TheVariants.{User}
-use Rattle.cics_history.specs.Openings.{OpeningState, file_recoverable}
+use Rattle.cics_history.specs.Openings.{OpeningState, file_recoverable, queue_logical}
+use Rattle.cics_history.specs.History.{outcome_of, is_backed_out}
 use Rattle.cics_history.specs.Holding.{UnitsState, uses_of, held_by}
+use Rattle.cics_history.specs.Cells.{Td, Writing}
+use Rattle.cics_history.specs.Isolation.{Outcomes, Extends, store_by, used}
 use Rattle.cics_history.specs.Events.{is_live}
 use Rattle.cics_history.specs.declared.ops.Op.{Op}
 use Rattle.cics_history.specs.declared.ops.Op.TheVariants.{TdRead}
@@ -20,7 +25,7 @@ use Rattle.cics_dispatch.specs.declared.outcomes.Outcome.TheVariants.{Replied, W
 abbrev pub is_among : List ℕ → ℕ → Bool
 is_among units u = list_any (λ v. u == v) units
 
--- READQ TD, which may have to wait for a unit that holds nothing of what it uses: the writer of its queue
+-- READQ TD, which may have to wait for a unit that holds nothing of what it uses: a writer of its queue
 abbrev pub reads_queue : Option Op → Bool
 reads_queue (Some (TdRead q)) = true
 reads_queue o = false
@@ -39,13 +44,39 @@ holds_one s u rs = list_any (λ r. list_any (overlaps r) (held_by s u)) rs
 abbrev pub holds_back : UnitsState → ℕ → Verb → Option Op → Bool
 holds_back s u verb op = holds_one s u (needed_by s.opening verb op)
 
--- a waiting command has to wait for a unit: it is open, another than its task's, and holds what the command uses
+-- the records of a transient data queue, once the open units have ended so
+abbrev pub records_by : UnitsState → Outcomes → Bytes → List Bytes
+records_by s fin q = unwrap_or (value_at q (store_by s.opening fin s.trace).td) []
+
+-- a task's own unit, if it has one, isn't backed out in an ending of the open units
+abbrev pub is_kept_in : Outcomes → Option ℕ → Bool
+is_kept_in fin None = true
+is_kept_in fin (Some u) = not (is_backed_out (fin u))
+
+-- a unit has written to a LOGICAL queue, and however the open units end, without what it wrote there is no record for a task
+-- whose unit isn't backed out
+pub record IsStarved (s : UnitsState) (own : Option ℕ) (u : ℕ) (q : Bytes) : Type 0 where
+  pub logical : queue_logical s.opening q ≡ true
+  pub writes : used s.trace u (Td q) Writing ≡ true
+  pub nothing : (fin : Outcomes) → Extends (outcome_of s.outcomes) fin → is_backed_out (fin u) ≡ true →
+      is_kept_in fin own ≡ true → records_by s fin q ≡ []
+
+-- a READQ TD finds nothing as long as a unit isn't committed
+abbrev pub Starves : UnitsState → Option ℕ → ℕ → Option Op → Type 0
+Starves s own u (Some (TdRead q)) = IsStarved s own u q
+Starves s own u o = ⊥
+
+-- a unit keeps a command waiting: it holds what the command uses, or is the writer of a queue with nothing to read
+abbrev pub KeepsWaiting : UnitsState → Option ℕ → ℕ → Verb → Option Op → Type 0
+KeepsWaiting s own u verb op = (holds_back s u verb op ≡ true) ⊎ Starves s own u op
+
+-- a waiting command has to wait for a unit: it is open, another than its task's, and keeps the command waiting
 pub record IsBlocked (m : Machine) (u : ℕ) (w : Suspended) : Type 0 where
   pub task : Task
   pub of_task : task_at m.tasks w.label ≡ Some task
   pub is_open : is_live m.units u ≡ true
   pub other : is_other task.unit u ≡ true
-  pub holds : holds_back m.units u w.command.verb w.op ≡ true
+  pub keeps : KeepsWaiting m.units task.unit u w.command.verb w.op
 
 -- a command ends no unit of work and no enqueue, and an update read only of a recoverable file, where the read itself holds
 -- nothing: so its unit holds what it held, unless the task is abended

@@ -32,8 +32,6 @@ pub(crate) enum Look {
     MayGoOn,
     /// It has to wait as long as this unit gives up nothing.
     IsBlocked(UnitId),
-    /// It has to wait, and no unit is known that keeps it waiting by what it holds: READQ TD.
-    HasToWait,
 }
 
 /// What is known of the commands that wait, in the order in which the waits began.

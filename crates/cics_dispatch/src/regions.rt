@@ -35,8 +35,8 @@ use std::marker::Model;
 /// backed out, each of these commands that was answered NORMAL with the answer that it was executed with.
 ///
 /// The region remembers for which unit each waiting command has to wait. So `wake` looks only at those that began to
-/// wait since, those whose unit may have given something up since, and each READQ TD; of commands that use the same
-/// record, prefix, queue name or value, and nothing else, it looks at the first alone that must wait.
+/// wait since, and those whose unit may have given something up since; of commands that use the same record, prefix,
+/// queue name or value, and nothing else, it looks at the first alone that must wait.
 #[derive(Drop)]
 pub struct Region {
     dispatcher: Dispatcher,
@@ -192,8 +192,8 @@ impl Region {
     ///
     /// The order is that in which the waits began. The command goes on from the look at what other
     /// units hold, and doesn't wait again. It is refused for want of memory alone (`NoMemory`), and
-    /// changes nothing then: the command waits as it did. Where it answered `None`, no READQ TD waits, and since then no
-    /// command began to wait and no unit that one waits for may have given up anything, it looks at no wait.
+    /// changes nothing then: the command waits as it did. Where it answered `None`, and since then no command began to
+    /// wait and no unit that one waits for may have given up anything, it looks at no wait.
     pub fn wake(&mut self) -> Result<Option<Woken>, Refused>
         ensures step { IsStep true self.old (always (woken self.old.machine)) result self.new }
         ensures first { IfOk result (λ woken.

@@ -5,7 +5,6 @@ ghost use Rattle.std.specs.Prelude.{IfSome};
 ghost use Rattle.std.specs.Option.{option_copied};
 ghost use Rattle.std.specs.Map.Iter.{ShowsInOrder, deref};
 ghost use Rattle.cics_dispatch.specs.Machine.{is_waiting, not_waiting};
-ghost use Rattle.cics_dispatch.specs.Settled.{reads_queue};
 ghost use Rattle.cics_dispatch.specs.Waits.{wait_of, AreBelow, AreApart};
 
 use cics_names::{Command, Name8, NoMemory};
@@ -58,16 +57,6 @@ impl Suspended {
         ensures { option_copied result ≡ self.now.op }
     {
         self.op.as_ref()
-    }
-
-    /// Whether it is READQ TD, which may have to wait for a unit that holds nothing of what it uses.
-    pub(crate) fn reads_queue(&self) -> bool
-        ensures { result ≡ reads_queue self.now.op }
-    {
-        match &self.op {
-            Some(Op::TdRead { .. }) => true,
-            _ => false,
-        }
     }
 
     /// The clock when the wait began, in seconds.

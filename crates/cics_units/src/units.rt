@@ -15,6 +15,7 @@ ghost use Rattle.cics_history.specs.Execution.{execution, after_execution, enque
 ghost use Rattle.cics_history.specs.Execution.{after_dequeue, after_unlock, read_at, after_end};
 ghost use Rattle.cics_history.specs.Execution.{place_at, item_asked, ts_reading, after_ts_reading};
 ghost use Rattle.cics_history.specs.Headline.{IsHeadline, LeavesNoTrace, beginning};
+ghost use Rattle.cics_history.specs.Isolation.{IsSound};
 ghost use Rattle.cics_units.specs.Listings.{listing_of, replayed_listing};
 ghost use Rattle.cics_units.specs.Submitting.{as_done, IsBackIfItWaits};
 ghost use Rattle.cics_history.specs.declared.ops.UnitState.TheVariants.{Committed, BackedOut};
@@ -169,12 +170,14 @@ impl Units {
     /// The unit that a command has to wait for, if any: another one that holds what it uses, else for
     /// READQ TD the writer of the queue, where that has no record that the task may read. `asking` is
     /// None for a task without a unit. What `submit` asks of the unit and the command has to hold, and
-    /// it takes no memory.
+    /// it takes no memory. The open units are kept apart (`sound`): so who has to wait for a writer has to, however
+    /// the others end.
     pub fn awaited(&self, asking: Option<UnitId>, op: &Op) -> Option<UnitId>
         requires is_open { IsOpenOrNone self.now.state asking }
         requires ready { IsTrue (is_ready_op self.now.state asking op.now) }
         ensures awaited { result ≡ awaited self.now.state asking op.now }
         ensures is_open { IfSome result (IsOpenUnit self.now.state) }
+        ensures sound { IsSound self.now.state }
         ensures headline { IsHeadline self.now }
     {
         // A copy for each call that the unit is handed to.

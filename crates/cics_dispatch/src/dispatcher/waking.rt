@@ -4,11 +4,13 @@ ghost use Rattle.std.specs.Prelude.{◌≡◌, ◌<◌, ◌≤◌, [], ◌∷◌
 ghost use Rattle.std.specs.Prelude.{slice_get, IfOk, OnOk, OnErr, IfSome, IfNone};
 ghost use Rattle.cics_history.specs.Execution.{IsOpenUnit};
 ghost use Rattle.cics_history.specs.Records.{key_of};
-ghost use Rattle.cics_dispatch.specs.Machine.{task_at, timed_out};
-ghost use Rattle.cics_dispatch.specs.KeptTasks.{IsWaitKept};
+ghost use Rattle.cics_history.specs.Isolation.{IsSound};
+ghost use Rattle.cics_dispatch.specs.Machine.{task_at, timed_out, is_waiting};
+ghost use Rattle.cics_dispatch.specs.KeptTasks.{IsWaitKept, AreTasksKept};
 ghost use Rattle.cics_dispatch.specs.Waking.{expired, woken, woken_first, first_free, first_late};
 ghost use Rattle.cics_dispatch.specs.Waking.{is_late, awaited_by};
 ghost use Rattle.cics_dispatch.specs.Steps.{with_outcome};
+ghost use Rattle.cics_dispatch.specs.Settled.{reads_queue};
 ghost use Rattle.cics_dispatch.specs.Notes.{OfWait, IsFound, IsOnlyUse, IsOnlyNeed, OwnerIsAwake};
 ghost use Rattle.cics_dispatch.specs.Notes.{AreNotedNow, IsBlockedAt, IsFirstFree, IsFirstFreeOf};
 ghost use Rattle.cics_dispatch.specs.Notes.{HasRoomForNotes};
@@ -73,6 +75,7 @@ impl Dispatcher {
         ensures holder { OfTask self.now.machine.tasks at (λ t. result
             ≡ awaited_by self.now.machine.units t.unit wait.now.command.verb wait.now.op) }
         ensures is_open { IfSome result (IsOpenUnit self.now.machine.units) }
+        ensures sound { reads_queue wait.now.op ≡ true → IsSound self.now.machine.units }
     {
         let asking = self.tasks.get(at).unit();
         if let Some(op) = wait.op() {
@@ -90,20 +93,20 @@ impl Dispatcher {
             .value_holder(asking, &resource.bytes()[..*length as usize])
     }
 
-    /// Looks at the waiting command of a label's task: whether it has to wait, and for whom.
+    /// Looks at the command of a label's task, which waits: whether it has to wait yet, and for whom.
     pub(crate) fn look(&self, label: &Name8) -> Look
+        requires { is_waiting self.now.machine.waiting label.now ≡ true }
         ensures { OfWait self.now.machine.waiting label.now
             (λ w. IsFound self.now.machine w result) }
     {
         let Some(wait) = self.waits.get(label) else {
-            return Look::HasToWait;
+            unreachable!();
         };
         let Some(at) = self.tasks.find(label) else {
-            return Look::HasToWait;
+            unreachable!();
         };
         match self.awaited(at, wait) {
             None => Look::MayGoOn,
-            Some(_) if wait.reads_queue() => Look::HasToWait,
             Some(unit) => Look::IsBlocked(unit),
         }
     }
@@ -165,7 +168,7 @@ impl Dispatcher {
     /// Looks at the waiting commands whose notes don't say whom they have to wait for, up to the first that needn't wait,
     /// and answers its task's label. What it finds is noted; where memory for that is refused it looks no further.
     pub(crate) fn first_free(&self, notes: &mut Notes) -> Result<Option<Name8>, NoMemory>
-        requires kept { All (IsWaitKept self.now.machine) self.now.machine.waiting }
+        requires kept { AreTasksKept self.now.machine }
         requires noted { AreNotedNow self.now.machine notes.old }
         ensures noted { AreNotedNow self.now.machine notes.new }
         ensures room { notes.new.room ≡ notes.old.room }
@@ -182,7 +185,6 @@ impl Dispatcher {
             match self.look(&note.label) {
                 Look::MayGoOn => return Ok(Some(note.label)),
                 Look::IsBlocked(unit) => self.file(notes, at, unit)?,
-                Look::HasToWait => {}
             }
         }
         Ok(None)

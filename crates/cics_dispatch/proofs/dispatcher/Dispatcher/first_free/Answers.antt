@@ -1,8 +1,6 @@
-use Rattle.std.proofs.Common.{◌∙◌, ap, sym, subst, arith}
-use Rattle.cics_dispatch.specs.Notes.{AreNotedNow}
+use Rattle.std.proofs.Common.{◌∙◌, sym, arith}
 use Rattle.cics_dispatch.proofs.Blocked.{blocked_stays}
-use Rattle.cics_dispatch.proofs.Noted.{noted_length, label_there, look_passed, look_first, known_blocker, all_passed}
-use Rattle.cics_dispatch.proofs.dispatcher.Dispatcher.first_free.Goals.{in-IsBlocked+in_ok-file-in-IsBlocked as is_noted, in-HasToWait}
+use Rattle.cics_dispatch.proofs.Noted.{noted_length, label_waits, label_there, look_passed, look_first, known_blocker, all_passed}
 use Rattle.cics_dispatch.proofs.dispatcher.Dispatcher.first_free.Goals as goal
 
 pub get-note-requires : goal.get-note-requires
@@ -18,10 +16,13 @@ loop-at-preserved-then-is_some c =
     let blocker = known_blocker c.get-note.result.blocker (sym c.is_some.ensures ∙ c.if-is_some.true) in
     record {
       passed = look_passed m c.loop-at.notes c.loop-at.at c.get-note.result c.loop-at.invariant.noted c.get-note.ensures c.loop-at.invariant.passed
-          (λ w there noted. blocked_stays m blocker.0 w (noted.blocked blocker.0 blocker.1));
+          (λ w there noted. blocked_stays m blocker.0 w c.requires.kept (noted.blocked blocker.0 blocker.1));
       noted = c.loop-at.invariant.noted;
       room = c.loop-at.invariant.room;
     }
+
+pub look-requires : goal.look-requires
+look-requires c = label_waits c.args.self.now.machine c.loop-at.notes c.loop-at.at c.get-note.result c.loop-at.invariant.noted c.get-note.ensures
 
 pub returns-in-MayGoOn-clause-first : goal.returns-in-MayGoOn-clause-first
 returns-in-MayGoOn-clause-first c =
@@ -44,20 +45,12 @@ pub loop-at-preserved : goal.loop-at-preserved
 loop-at-preserved c =
     let m = c.args.self.now.machine in
     let at = c.loop-at.at in
-    elim c.match-look.branch [
-      | is_noted w ↦ record {
-        passed = look_passed m c.loop-at.notes at c.get-note.result c.loop-at.invariant.noted c.get-note.ensures c.loop-at.invariant.passed
-            (λ v there noted. blocked_stays m w.in-IsBlocked.unit v (w.in-IsBlocked.ensures at v there (sym noted.label)));
-        noted = subst (AreNotedNow m) (sym w.notes-is) w.file.ensures.noted;
-        room = ap (λ n. n.room) w.notes-is ∙ w.file.ensures.room ∙ c.loop-at.invariant.room;
-      }
-      | in-HasToWait w ↦ record {
-        passed = look_passed m c.loop-at.notes at c.get-note.result c.loop-at.invariant.noted c.get-note.ensures c.loop-at.invariant.passed
-            (λ v there noted. w.in-HasToWait.ensures at v there (sym noted.label));
-        noted = subst (AreNotedNow m) (sym w.notes-is) c.loop-at.invariant.noted;
-        room = ap (λ n. n.room) w.notes-is ∙ c.loop-at.invariant.room;
-      }
-    ]
+    record {
+      passed = look_passed m c.loop-at.notes at c.get-note.result c.loop-at.invariant.noted c.get-note.ensures c.loop-at.invariant.passed
+          (λ v there noted. blocked_stays m c.in-IsBlocked.unit v c.requires.kept (c.in-IsBlocked.ensures at v there (sym noted.label)));
+      noted = c.file.ensures.noted;
+      room = c.file.ensures.room ∙ c.loop-at.invariant.room;
+    }
 
 pub returns-clause-none : goal.returns-clause-none
 returns-clause-none c =

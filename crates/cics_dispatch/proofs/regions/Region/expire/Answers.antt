@@ -37,7 +37,7 @@ invariant_of-self-2 c =
       c.time_out-expired.ensures.kept c.self.invariant.0,
       task_there m.tasks c.in-Some.at c.in-Some.ensures.within (λ t there.
           let first : first_late m m.waiting ≡ Some t = sym c.in-Some.ensures.task ∙ there in
-          remembered_expired m n u.notes c.remove.new.self c.forget.new.self u.is_noted u.is_settled u.is_in_time t e.label c.unit_at-unit.result c.self.invariant.1
+          remembered_expired m n u.notes c.remove.new.self c.forget.new.self u.is_noted u.is_settled u.is_in_time t e.label c.unit_at-unit.result c.self.invariant.0.tasks c.self.invariant.1
           first (told_label m n e t c.time_out-expired.ensures.step first) (c.unit_at-unit.ensures.unit t there) (ap (λ s. s.machine) c.time_out-expired.ensures.step)
           c.remove.ensures.rows c.remove.ensures.needs c.forget.ensures.rows c.forget.ensures.needs c.if-self.false),
       room_kept m n u.notes c.forget.new.self c.self.invariant.2 (ap (λ s. length s.machine.tasks) c.time_out-expired.ensures.step ∙ expired_count m) (c.forget.ensures.room ∙ c.remove.ensures.room),

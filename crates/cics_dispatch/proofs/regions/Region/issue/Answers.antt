@@ -27,7 +27,7 @@ invariant_of-self-2 c =
     let noted = c.note_if-self-inside in (
       c.in_ok-outcome.ensures.kept c.self.invariant.0,
       remembered_issued u.dispatcher.machine c.issue.new.self.machine c.args.label c.args.command outcome u.notes forgot.new.self noted.new.notes u.is_noted u.is_settled u.is_in_time
-          forgot.result c.is_waiting-waits.result c.stays_settled-self-inside.result noted.result c.unit_of-unit.result c.giving_up.result c.self.invariant.1 (λ t there. c.unit_of-unit.ensures t there)
+          forgot.result c.is_waiting-waits.result c.stays_settled-self-inside.result noted.result c.unit_of-unit.result c.giving_up.result c.self.invariant.0.tasks c.self.invariant.1 (λ t there. c.unit_of-unit.ensures t there)
           c.in_ok-outcome.ensures.step.0 c.in_ok-outcome.ensures.step.1 (c.giving_up.ensures ∙ (λ i. if c.is_keeping-keeps.ensures i && goes_on outcome then None else c.unit_of-unit.result))
           forgot.ensures.rows forgot.ensures.none forgot.ensures.needs c.is_waiting-waits.ensures.waiting c.stays_settled-self-inside.ensures noted.ensures.rows noted.ensures.none noted.ensures.needs,
       room_kept u.dispatcher.machine c.issue.new.self.machine u.notes noted.new.notes c.self.invariant.2 (ap (λ m. length m.tasks) c.in_ok-outcome.ensures.step.1 ∙ issued_count u.dispatcher.machine c.args.label c.args.command)
@@ -40,7 +40,7 @@ note_if-self-inside-requires c = record {
       let u = c.self.inside in
       let outcome = c.in_ok-outcome.outcome in
       let forgot = c.forget-was_blocker in
-      issued_room u.dispatcher.machine c.issue.new.self.machine c.args.label c.args.command outcome u.notes forgot.new.self c.unit_of-unit.result c.giving_up.result c.self.invariant.2 (c.self.invariant.1.noted noted)
+      issued_room u.dispatcher.machine c.issue.new.self.machine c.args.label c.args.command outcome u.notes forgot.new.self c.unit_of-unit.result c.giving_up.result c.self.invariant.0.tasks c.self.invariant.2 (c.self.invariant.1.noted noted)
       (λ t there. c.unit_of-unit.ensures t there) c.in_ok-outcome.ensures.step.0 c.in_ok-outcome.ensures.step.1
       (c.giving_up.ensures ∙ (λ i. if c.is_keeping-keeps.ensures i && goes_on outcome then None else c.unit_of-unit.result)) forgot.ensures.rows forgot.ensures.room c.is_waiting-waits.ensures.few
       (sym c.is_waiting-waits.ensures.waiting ∙ waits);

@@ -12,7 +12,7 @@ use Rattle.cics_dispatch.proofs.regions.Region.wake.Goals as goal
 pub returns-then-self-clause-step : goal.returns-then-self-clause-step
 returns-then-self-clause-step c =
     let u = c.self.inside in
-    let none = woken_settled u.dispatcher.machine u.notes u.is_noted u.is_settled u.is_in_time c.self.invariant.1 c.if-self.true in (
+    let none = woken_settled u.dispatcher.machine u.notes u.is_noted u.is_settled u.is_in_time c.self.invariant.0.tasks c.self.invariant.1 c.if-self.true in (
       ap (λ v. Ok (woken v.machine).outcome) (sym c.self.view_is) ∙ ap (λ s. Ok s.outcome) none,
       ap (λ v. v.machine) (sym c.self.view_is) ∙ sym (ap (λ s. s.machine) none) ∙ ap (λ v. (woken v.machine).machine) c.self.view_is,
     )
@@ -24,7 +24,7 @@ pub note_all-requires : goal.note_all-requires
 note_all-requires c = record { noted = c.self.invariant.1.noted; room = c.self.invariant.2 }
 
 pub first_free-requires : goal.first_free-requires
-first_free-requires c = record { kept = c.self.invariant.0.tasks.waits; noted = c.note_all.ensures.noted }
+first_free-requires c = record { kept = c.self.invariant.0.tasks; noted = c.note_all.ensures.noted }
 
 pub invariant_of-self-in_default : goal.invariant_of-self-in_default
 invariant_of-self-in_default c =
@@ -47,7 +47,7 @@ pub invariant_of-self-2 : goal.invariant_of-self-2
 invariant_of-self-2 c =
     let u = c.self.inside in (
       c.in_ok-woken.ensures.kept c.self.invariant.0,
-      remembered_woken u.dispatcher.machine c.wake.new.self.machine c.first_free.new.notes c.remove.new.self c.forget.new.self c.in-Some.label c.unit_of-unit.result c.first_free.ensures.noted (subst (λ o. IfSome o (λ label. IsFirstFree u.dispatcher.machine label)) c.in-Some.is c.in_ok-first.ensures.first)
+      remembered_woken u.dispatcher.machine c.wake.new.self.machine c.first_free.new.notes c.remove.new.self c.forget.new.self c.in-Some.label c.unit_of-unit.result c.self.invariant.0.tasks c.first_free.ensures.noted (subst (λ o. IfSome o (λ label. IsFirstFree u.dispatcher.machine label)) c.in-Some.is c.in_ok-first.ensures.first)
           (λ t there. c.unit_of-unit.ensures t there) (ap (λ s. s.machine) c.in_ok-woken.ensures.step) c.remove.ensures.rows c.remove.ensures.needs c.forget.ensures.rows c.forget.ensures.needs u.is_settled u.is_in_time c.if-self.false c.self.invariant.1.in_time,
       room_kept u.dispatcher.machine c.wake.new.self.machine u.notes c.forget.new.self c.self.invariant.2 (ap (λ s. length s.machine.tasks) c.in_ok-woken.ensures.step ∙ woken_count u.dispatcher.machine)
           (c.forget.ensures.room ∙ c.remove.ensures.room ∙ c.first_free.ensures.room ∙ c.note_all.ensures.room),

@@ -9,6 +9,7 @@ use Rattle.cics_units.specs.Uses.{uses_if}
 use Rattle.cics_units.specs.Awaiting.{unit_in_way}
 use Rattle.cics_units.proofs.ShownUnits.{acts_of, if_open, in_way, awaited_is, waits_open}
 use Rattle.cics_history.specs.Headline.{IsHeadline}
+use Rattle.cics_history.specs.Isolation.{IsSound}
 use Rattle.cics_units.proofs.KeptUnits.{kept_headline}
 use Rattle.cics_units.proofs.units.Units.awaited.Goals as goal
 
@@ -45,6 +46,9 @@ returns-clause-is_open c =
     (c.unit_or_next-acting.ensures ∙ ap (unit_or_next c.args.asking) c.as_slice.ensures.value) in
     if_open c.awaited.result (λ h is. subst (λ v. IsOpenUnit v.state h) c.self.view_is
     (waits_open u.opening u.trace.items u.outcomes.items u.commits.items u.parts u.parts c.self.invariant.0 c.args.asking op acts h (sym way ∙ is)))
+
+pub returns-clause-sound : goal.returns-clause-sound
+returns-clause-sound c = subst (λ v. IsSound v.state) c.self.view_is c.self.invariant.sound
 
 pub returns-clause-headline : goal.returns-clause-headline
 returns-clause-headline c =
