@@ -148,10 +148,10 @@ unlocked_leaves s u f = record {
 
 -- READQ TS moves the NEXT place of a queue alone
 pub item_read_is : (P : UnitsState → Type 0) (s : UnitsState) (q : Bytes) (item : ℕ) → P s →
-    P (record { opening = s.opening; trace = s.trace; outcomes = s.outcomes; reads = s.reads; counts = s.counts; next = with_value q item s.next }) → P (after_ts_reading s q item)
+    P (record { opening = s.opening; trace = s.trace; outcomes = s.outcomes; commits = s.commits; reads = s.reads; counts = s.counts; next = with_value q item s.next }) → P (after_ts_reading s q item)
 item_read_is P s q item stays moved =
     elim (has_item (ts_queue (store_of s) q) item) as
-    (λ b. P (cond b (record { opening = s.opening; trace = s.trace; outcomes = s.outcomes; reads = s.reads; counts = s.counts; next = with_value q item s.next }) s)) [
+    (λ b. P (cond b (record { opening = s.opening; trace = s.trace; outcomes = s.outcomes; commits = s.commits; reads = s.reads; counts = s.counts; next = with_value q item s.next }) s)) [
       | true ↦ moved
       | false ↦ stays
     ]

@@ -189,7 +189,7 @@ owned_item_read m q item owned = owned_same m (with_units m (after_ts_reading m.
   where
     outcomes : (after_ts_reading m.units q item).outcomes ≡ m.units.outcomes
     outcomes = elim (has_item (ts_queue (store_of m.units) q) item)
-        as (λ b. (cond b (record { opening = m.units.opening; trace = m.units.trace; outcomes = m.units.outcomes; reads = m.units.reads; counts = m.units.counts; next = with_value q item m.units.next }) m.units).outcomes ≡ m.units.outcomes) [
+        as (λ b. (cond b (record { opening = m.units.opening; trace = m.units.trace; outcomes = m.units.outcomes; commits = m.units.commits; reads = m.units.reads; counts = m.units.counts; next = with_value q item m.units.next }) m.units).outcomes ≡ m.units.outcomes) [
           | true ↦ refl
           | false ↦ refl
         ]

@@ -30,6 +30,10 @@ use std::marker::Model;
 /// left out by which a unit that was backed out acted on a recoverable file or queue, and each command of
 /// the replay has the answer that it was executed with; LENGTH may have cut what its task was told.
 ///
+/// And units of work take turns: what those that committed did to recoverable files and queues, one unit
+/// after the other in the order of their commits, gives what would stand there if the open units were
+/// backed out, each of these commands that was answered NORMAL with the answer that it was executed with.
+///
 /// The region remembers for which unit each waiting command has to wait. So `wake` looks only at those that began to
 /// wait since, those whose unit may have given something up since, and each READQ TD; of commands that use the same
 /// record, prefix, queue name or value, and nothing else, it looks at the first alone that must wait.

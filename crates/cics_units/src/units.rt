@@ -47,9 +47,9 @@ pub enum Submitted {
 /// Contracts see the state of the units, which is what was opened, the executed commands in their
 /// order, the outcome of each unit, those that committed in the order in which they did, the open
 /// update reads, the counts of ENQ and the NEXT places, and beside it the store, which is read off the
-/// files and queues themselves. Of every call `headline` says two things.
+/// files and queues themselves. After every call `headline` holds.
 ///
-/// The store is what replaying the executed commands gives, without all that units which were backed
+/// By it the store is what replaying the executed commands gives, without all that units which were backed
 /// out executed on recoverable files and queues, and each command of the replay has the answer that it
 /// was given.
 ///

@@ -10,7 +10,7 @@ ghost use Rattle.cics_units.specs.OpenReads.{is_read_key};
 
 use cics_enqueue::UnitId;
 use cics_names::{Name4, Name8, NoMemory, Record};
-use cics_units::{Answer, Done, Enqueued, Op, SerialUnits, UnitState, Units};
+use cics_units::{Answer, Done, Enqueued, Op, UnitState, Units};
 
 /// What came of a call; units are told by their numbers.
 #[derive(Drop)]
@@ -138,32 +138,15 @@ fn is_ready(units: &Units, unit: Option<UnitId>, op: &Op) -> bool
     }
 }
 
-// What came of a command.
-fn told_of(done: Done) -> Told {
-    match done {
-        Done::Answered(acting, answer) => Told::Answered(acting.number(), answer),
-        Done::MustWait(holder) => Told::Waits(holder.number()),
-    }
-}
-
 /// Executes a command where that may be done, and tells what came of it.
 pub(crate) fn execute(units: &mut Units, unit: Option<UnitId>, op: &Op) -> Result<Told, NoMemory> {
     if !is_open_or_none(units, unit) || !is_ready(units, unit, op) {
         return Ok(Told::MayNot);
     }
-    Ok(told_of(units.execute(unit, op)?))
-}
-
-/// Executes a command of units that take turns, where that may be done, and tells what came of it.
-pub(crate) fn execute_in_turn(
-    all: &mut SerialUnits,
-    unit: Option<UnitId>,
-    op: &Op,
-) -> Result<Told, NoMemory> {
-    if !is_open_or_none(all.units(), unit) || !is_ready(all.units(), unit, op) {
-        return Ok(Told::MayNot);
-    }
-    Ok(told_of(all.execute(unit, op)?))
+    Ok(match units.execute(unit, op)? {
+        Done::Answered(acting, answer) => Told::Answered(acting.number(), answer),
+        Done::MustWait(holder) => Told::Waits(holder.number()),
+    })
 }
 
 /// The unit that a command of a unit, or of the next one to begin, has to wait for.
@@ -175,15 +158,6 @@ pub(crate) fn awaited(units: &Units, unit: Option<UnitId>, op: &Op) -> Option<Un
         return None;
     }
     units.awaited(unit, op)
-}
-
-/// Commits a unit of those that take turns, where it is open.
-pub(crate) fn commit_in_turn(all: &mut SerialUnits, unit: UnitId) -> Told {
-    if !is_open(all.units(), unit) {
-        return Told::MayNot;
-    }
-    all.commit(unit);
-    Told::Done
 }
 
 /// Enqueues on a value where that may be done, and tells what came of it.
