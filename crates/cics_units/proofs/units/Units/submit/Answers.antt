@@ -227,7 +227,9 @@ returns-clause-state c =
     let trace : c.enter.new.trace.items ≡ u.trace.items ++ record { unit = unit_or_next c.args.unit u.outcomes.items; op = op; answer = told } ∷ [] =
     c.enter.ensures.trace ∙ (λ i. c.reserve.ensures.items i ++ record { unit = acting i; op = c.args.op; answer = record { condition = told.condition; content = given i; number = told.number } } ∷ []) in
     let outcomes : c.enter.new.outcomes.items ≡ outcomes_with c.args.unit u.outcomes.items = c.enter.ensures.outcomes ∙ ap (outcomes_with c.args.unit) c.make_room.ensures.outcomes in
-    (λ i. state_shown u.opening (trace i) (outcomes i) (c.make_room.ensures.commits i) c.execute.new.self) ∙ parts_state u.opening u.trace.items u.outcomes.items u.commits.items u.parts c.execute.new.self c.self.invariant.0 c.args.unit op acts none ready c.in_ok-answer.answer done ∙ ap (λ v. after_execution v.state c.args.unit op) c.self.view_is
+    (λ i. state_shown u.opening (trace i) (outcomes i) (c.make_room.ensures.commits i) c.execute.new.self)
+    ∙ parts_state u.opening u.trace.items u.outcomes.items u.commits.items u.parts c.execute.new.self c.self.invariant.0 c.args.unit op acts none ready c.in_ok-answer.answer done
+    ∙ ap (λ v. after_execution v.state c.args.unit op) c.self.view_is
 
 pub returns-clause-headline : goal.returns-clause-headline
 returns-clause-headline c =
