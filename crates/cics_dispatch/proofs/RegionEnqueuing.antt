@@ -1,6 +1,7 @@
 -- ENQ and DEQ leave what a region keeps, and the task stands where it stood.
-use Rattle.std.specs.Prelude.{take, ◌≡◌, ℕ, if◌then◌else◌, Bool, true, false, Option, Some, None, slice_get, List, refl}
-use Rattle.std.proofs.Common.{sym, ap, ◌∙◌, subst}
+use Rattle.std.specs.Prelude.{take, length, ◌≡◌, ◌≤◌, ℕ, if◌then◌else◌, Bool, true, false, Option, Some, None, slice_get, List, refl}
+use Rattle.std.proofs.Common.{sym, ap, ◌∙◌, subst, arith}
+use Rattle.std.proofs.lemmas.List.{length-take-le}
 use Rattle.cics_names.specs.Keyed.{Bytes}
 use Rattle.cics_names.specs.declared.conditions.Condition.TheVariants.{Normal, Invreq}
 use Rattle.cics_history.specs.Execution.{UnitsValue, unit_or_next, enqueue, enq_of, after_enqueue, after_enqueued}
@@ -21,6 +22,13 @@ use Rattle.cics_dispatch.specs.declared.outcomes.Reply.{Reply}
 use Rattle.cics_dispatch.proofs.KeptTasks.{with_task_placed, kept_enqueued, kept_dequeued, no_owner_next}
 use Rattle.cics_dispatch.proofs.OwnedUnits.{owned_enqueued, owned_dequeued}
 use Rattle.cics_dispatch.proofs.RegionSteps.{kept_as}
+
+-- the first bytes of a value, as many as LENGTH says, where its checks have passed
+pub first_fit : (n : ℕ) (value bytes : Bytes) → bytes ≡ value → (1 ≤ n) × (n ≤ 255) × (n ≤ length value) → (n ≡ length (take n bytes)) × (length (take n bytes) ≤ 255)
+first_fit n value bytes own fits =
+    let first : length (take n bytes) ≡ n = length-take-le n bytes (subst (λ b. n ≤ length b) (sym own) fits.2) in
+    let most = fits.1 in
+    (sym first, omega (arith, first, most))
 
 -- ---- DEQ
 module _ {units : UnitsValue} {tasks : List Task} {waiting : List Suspended} {clock : ℕ} {is_down : Bool} (kept : IsRegionKept (region_of units tasks waiting clock is_down))

@@ -1,5 +1,5 @@
 -- The commands of the tasks of a region: what their checks tell, and what they answer.
-use Rattle.std.specs.Prelude.{IfNone, ◌≡◌, ℕ, ◌≤◌, ◌&&◌, if◌then◌else◌, Bool, true, false, Option, Some, None, is_some, is_none, Result, Ok, Err, IfSome, OnErr, IsErr, IsErrAnd, length, refl}
+use Rattle.std.specs.Prelude.{IfNone, ◌≡◌, ℕ, ◌<◌, ◌≤◌, ◌&&◌, if◌then◌else◌, Bool, true, false, Option, Some, None, is_some, is_none, Result, Ok, Err, IfSome, OnErr, IsErr, IsErrAnd, length, take, [], ◌∷◌, refl}
 use Rattle.std.specs.Option.{option_copied}
 use Rattle.std.proofs.Common.{Bor, ◌∙◌, sym, ap, subst}
 use Rattle.std.proofs.lemmas.Bool.{false≢true}
@@ -11,9 +11,11 @@ use Rattle.cics_history.specs.Openings.{is_key}
 use Rattle.cics_history.specs.Records.{key_of}
 use Rattle.cics_history.specs.declared.ops.Op.{Op}
 use Rattle.cics_dispatch.specs.Machine.{Machine, Task, RegionValue, definition_of, task_at, is_waiting}
+use Rattle.cics_dispatch.specs.Lengths.{first_fault, key_fault}
 use Rattle.cics_dispatch.specs.Checks.{file_fault, named_fault, defined_fault, browse_fault, back_fault, fault_of, open_key}
 use Rattle.cics_names.specs.Commands.{file_named}
 use Rattle.cics_dispatch.specs.Steps.{Stepped, op_of, by_op, performed, checked, issue_refusal, refused_or, issued_by, issued}
+use Rattle.cics_dispatch.specs.Calls.{MayPerform, HasBrowse}
 use Rattle.cics_dispatch.specs.Answers.{is_growing, passes_checks, may_want, IsStep}
 use Rattle.cics_names.specs.declared.commands.Command.{Command}
 use Rattle.cics_names.specs.declared.commands.Verb.{Verb}
@@ -22,6 +24,8 @@ use Rattle.cics_dispatch.specs.declared.outcomes.Refused.{Refused}
 use Rattle.cics_dispatch.specs.declared.outcomes.Refused.TheVariants.{NoMemory, TaskEnded, TaskWaiting}
 use Rattle.cics_dispatch.proofs.TaskPlaces.{place_of_task}
 use Rattle.cics_dispatch.proofs.Ready.{value_within, named_key_short}
+use Rattle.cics_dispatch.proofs.RegionSteps.{task_there}
+use Rattle.cics_dispatch.proofs.RegionEnqueuing.{first_fit}
 
 -- ---- The updating command that is asked for
 
@@ -45,6 +49,11 @@ if_none (Some x) follows = tt
 pub found_has : {X : Type 0} (P : X → Type 0) (o : Option (Bor X)) → IfSome o (λ x. P x.now) → (x : X) → option_copied o ≡ Some x → P x
 found_has P None has x is = cc
 found_has P (Some y) has x is = let same : y.now ≡ x = cc in subst P same has
+
+-- there is something behind a reference just where there is one
+pub copied_some : {X : Type 0} (o : Option (Bor X)) → is_some (option_copied o) ≡ is_some o
+copied_some None = refl
+copied_some (Some x) = refl
 
 -- a command that names a file names one
 pub one_file : (verb : Verb) (f g : Bytes) → file_named verb ≡ Some f → file_named verb ≡ Some g → f ≡ g
@@ -116,27 +125,56 @@ file_there m t verb f named passes = by (definition_of m f) (subst (λ o. named_
     by None e = cc
     by (Some d) e = refl
 
--- the browse of a READNEXT whose checks have passed is open
-pub browse_there : (m : Machine) (t : Task) (verb : Verb) (f : Bytes) (n : Option ℕ) → verb ≡ ReadNext f n → fault_of m t verb ≡ None →
-    is_some (value_at f t.browses) ≡ true
-browse_there m t verb f n is passes = by (definition_of m f) (value_at f t.browses) (subst (λ v. fault_of m t v ≡ None) is passes)
-  where
-    by : (o : Option FileDef) (browse : Option Position) → defined_fault o (λ d. browse_fault browse) ≡ None → is_some browse ≡ true
-    by None browse e = cc
-    by (Some d) None e = cc
-    by (Some d) (Some p) e = refl
+-- a command that moves a browse
+abbrev pub moves_browse : Verb → Bool
+moves_browse (ResetBr f key given generic equal) = true
+moves_browse (ReadNext f n) = true
+moves_browse (ReadPrev f n) = true
+moves_browse _ = false
 
--- and so is that of a READPREV
-pub back_there : (m : Machine) (t : Task) (verb : Verb) (f : Bytes) (n : Option ℕ) → verb ≡ ReadPrev f n → fault_of m t verb ≡ None →
+-- the browse of one whose checks have passed is open
+pub browse_there : (m : Machine) (t : Task) (verb : Verb) (f : Bytes) → file_named verb ≡ Some f → moves_browse verb ≡ true → fault_of m t verb ≡ None →
     is_some (value_at f t.browses) ≡ true
-back_there m t verb f n is passes = by (definition_of m f) (value_at f t.browses) (subst (λ v. fault_of m t v ≡ None) is passes)
+browse_there m t verb f named moves passes = by (definition_of m f) (subst (λ o. named_fault m t verb o ≡ None) named passes)
   where
-    by : (o : Option FileDef) (browse : Option Position) → defined_fault o (λ d. back_fault browse) ≡ None → is_some browse ≡ true
-    by None browse e = cc
-    by (Some d) None e = cc
-    by (Some d) (Some p) e = refl
+    last : (fault : Option Condition) (browse : Option Position) → first_fault (fault ∷ browse_fault browse ∷ []) ≡ None → is_some browse ≡ true
+    last (Some condition) browse e = cc
+    last None None e = cc
+    last None (Some p) e = refl
+
+    unless_open : (browse : Option Position) → browse_fault browse ≡ None → is_some browse ≡ true
+    unless_open None e = cc
+    unless_open (Some p) e = refl
+
+    back : (browse : Option Position) → back_fault browse ≡ None → is_some browse ≡ true
+    back None e = cc
+    back (Some p) e = refl
+
+    moving : (d : FileDef) (v : Verb) (browse : Option Position) → moves_browse v ≡ true → file_fault d (open_key m t f) browse v ≡ None → is_some browse ≡ true
+    moving d (ResetBr g key given generic equal) browse moves e = last (key_fault d key given generic) browse e
+    moving d (ReadNext g n) browse moves e = unless_open browse e
+    moving d (ReadPrev g n) browse moves e = back browse e
+    moving d v browse moves e = cc
+
+    by : (o : Option FileDef) → defined_fault o (λ d. file_fault d (open_key m t f) (value_at f t.browses) verb) ≡ None → is_some (value_at f t.browses) ≡ true
+    by None e = cc
+    by (Some d) e = moving d verb (value_at f t.browses) moves e
+
+-- what its checks have told of the task at a place that may perform a command: its file is defined, and its browse is open
+module _ (m : Machine) (at : ℕ) (verb : Verb) (f : Bytes) where
+  pub file_of : at < length m.tasks → MayPerform m at verb → file_named verb ≡ Some f → is_some (definition_of m f) ≡ true
+  file_of within may named = task_there m.tasks at within (λ t there. file_there m t verb f named (may.passed t there))
+
+  pub browse_of : MayPerform m at verb → file_named verb ≡ Some f → moves_browse verb ≡ true → HasBrowse m at f
+  browse_of may named moves = λ t there. browse_there m t verb f named moves (may.passed t there)
 
 -- LENGTH of a DEQ whose checks have passed
 pub deq_count : (m : Machine) (t : Task) (verb : Verb) (value : Bytes) (n : ℕ) → verb ≡ Deq value n → fault_of m t verb ≡ None →
     (1 ≤ n) × (n ≤ 255) × (n ≤ length value)
 deq_count m t verb value n is passes = value_within value n (subst (λ v. fault_of m t v ≡ None) is passes)
+
+-- and the value that it names, no longer than it may be
+pub deq_fits : (m : Machine) (at : ℕ) (verb : Verb) (value : Bytes) (n : ℕ) (bytes : Bytes) → at < length m.tasks → MayPerform m at verb → verb ≡ Deq value n → bytes ≡ value →
+    (n ≡ length (take n bytes)) × (length (take n bytes) ≤ 255)
+deq_fits m at verb value n bytes within may is own =
+    first_fit n value bytes own (task_there m.tasks at within (λ t there. deq_count m t verb value n is (may.passed t there)))

@@ -1,7 +1,8 @@
 -- Each call of a region leaves what a region keeps.
-use Rattle.std.specs.Prelude.{◌≡◌, ℕ, ◌<◌, IfNone, IfOk, OnOk, Result, Ok, Err, if◌then◌else◌, Bool, true, false, Option, Some, None, is_some, slice_get, length, List, [], refl}
+use Rattle.std.specs.Prelude.{◌≡◌, ℕ, ◌<◌, IfNone, IfOk, OnOk, IsErr, Result, Ok, Err, if◌then◌else◌, Bool, true, false, Option, Some, None, is_some, slice_get, length, List, [], refl}
 use Rattle.std.proofs.Common.{sym, ap, ◌∙◌, subst, arith, inl, inr, ◌≤◌}
 use Rattle.std.proofs.lemmas.Option.{slice_get_cases, slice_get_within}
+use Rattle.cics_names.specs.Keyed.{Bytes}
 use Rattle.cics_history.specs.Execution.{UnitsValue, unit_or_next, execution, after_execution, done_of, state_of, IsOpenUnit}
 use Rattle.cics_history.specs.Holding.{UnitsState, store_of, awaited}
 use Rattle.cics_history.specs.declared.ops.Op.{Op}
@@ -11,7 +12,7 @@ use Rattle.cics_history.specs.Headline.{IsHeadline}
 use Rattle.cics_history.specs.declared.ops.UnitState.{UnitState}
 use Rattle.cics_history.specs.History.{is_open}
 use Rattle.cics_history.specs.declared.ops.UnitState.TheVariants.{Committed, BackedOut}
-use Rattle.std.proofs.lemmas.Bool.{true≢false}
+use Rattle.std.proofs.lemmas.Bool.{true≢false, false≢true}
 use Rattle.cics_dispatch.specs.Machine.{Machine, Task, Suspended, RegionValue, replaced, is_waiting, not_waiting, units_after, unit_closed, abended, with_unit, with_task, with_units}
 use Rattle.cics_dispatch.specs.Answers.{IsHeadlineRegion}
 use Rattle.cics_dispatch.specs.KeptTasks.{AreTasksKept}
@@ -19,7 +20,7 @@ use Rattle.cics_dispatch.specs.OwnedUnits.{AreUnitsOwned}
 use Rattle.cics_dispatch.specs.Regions.{region_of, IsRegionKept}
 use Rattle.cics_dispatch.specs.Tasks.{own_label, IsOwn, HasNoOwner}
 use Rattle.cics_dispatch.specs.Steps.{Stepped, executed, by_op, answered, reply_of}
-use Rattle.cics_dispatch.specs.Calls.{OfTask, IsStepOf, IsStepOrRefused, IsAttempt, going_on, waiting_for}
+use Rattle.cics_dispatch.specs.Calls.{OfTask, IsAwake, HasBrowse, IsStepOf, IsStepOrRefused, IsAttempt, going_on, waiting_for}
 use Rattle.cics_names.specs.declared.records.NoMemory.{NoMemory}
 use Rattle.cics_dispatch.specs.Waking.{awaited_by}
 use Rattle.cics_dispatch.specs.declared.outcomes.Attempt.{Attempt}
@@ -167,6 +168,16 @@ placed_within ts at t there = slice_get_within ts at t there
 pub one_task : {t s : Task} (ts : List Task) (at : ℕ) → slice_get ts at ≡ Some t → slice_get ts at ≡ Some s → t ≡ s
 one_task {t} {s} ts at here there = let same : Some t ≡ Some s = sym here ∙ there in cc
 
+-- what holds of the region that a call is given holds of its parts
+pub seen_task : {Q : Type 0} {old now : RegionValue} (at : ℕ) → old ≡ now → at < length now.machine.tasks → ((t : Task) → slice_get old.machine.tasks at ≡ Some t → Q) → Q
+seen_task {old = old} at seen within = task_there old.machine.tasks at (subst (λ v. at < length v.machine.tasks) (sym seen) within)
+
+pub seen_awake : {old now : RegionValue} (at : ℕ) → old ≡ now → IsAwake now.machine at → IsAwake old.machine at
+seen_awake at seen = subst (λ v. IsAwake v.machine at) (sym seen)
+
+pub seen_browse : {old now : RegionValue} (at : ℕ) (f : Bytes) → old ≡ now → HasBrowse now.machine at f → HasBrowse old.machine at f
+seen_browse at f seen = subst (λ v. HasBrowse v.machine at f) (sym seen)
+
 -- a step of the task at a place is one whichever way the region is seen
 pub seen_step : {old now new : RegionValue} {x : Outcome} (at : ℕ) (f : Machine → Task → Stepped Outcome) → old ≡ now → IsStepOf old at (f old.machine) x new → IsStepOf now at (f now.machine) x new
 seen_step {old} {now} {new} {x} at f seen = subst (λ v. IsStepOf v at (f v.machine) x new) seen
@@ -207,3 +218,8 @@ IfOk-then (Err e) f p = tt
 pub OnOk-then : {A E P Q : Type 0} (r : Result A E) → (P → Q) → OnOk r P → OnOk r Q
 OnOk-then (Ok a) f p = f p
 OnOk-then (Err e) f p = tt
+
+-- a call that is refused leaves the region as it was
+pub refused_as_was : (old new : RegionValue) (r : Result Outcome NoMemory) (at : ℕ) (f : Task → Stepped Outcome) → IsErr r → new ≡ old → IsStepOrRefused old at f r new
+refused_as_was old new (Ok x) at f refused same = absurd (false≢true refused)
+refused_as_was old new (Err e) at f refused same = same
