@@ -1,5 +1,5 @@
 -- UNLOCK and the browses of a task leave what a region keeps, and the task stands where it stood.
-use Rattle.std.specs.Prelude.{◌≡◌, ℕ, ◌<◌, if◌then◌else◌, Bool, true, false, Option, Some, None, is_some, option_map, unwrap_or, slice_get, length, List, [], refl}
+use Rattle.std.specs.Prelude.{◌≡◌, ℕ, ◌<◌, if◌then◌else◌, Bool, true, false, Option, Some, None, is_some, unwrap_or, slice_get, length, List, [], refl}
 use Rattle.std.proofs.Common.{sym, ap, ◌∙◌, subst}
 use Rattle.std.proofs.lemmas.Bool.{false≢true}
 use Rattle.cics_names.specs.Keyed.{Bytes, Map, value_at, with_value, without}

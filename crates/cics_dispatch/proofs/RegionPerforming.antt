@@ -1,5 +1,5 @@
 -- The commands of the tasks of a region: what their checks tell, and what they answer.
-use Rattle.std.specs.Prelude.{IfNone, ◌≡◌, ℕ, ◌<◌, ◌≤◌, ◌&&◌, if◌then◌else◌, Bool, true, false, Option, Some, None, is_some, is_none, Result, Ok, Err, IfSome, OnErr, IsErr, IsErrAnd, length, take, [], ◌∷◌, refl}
+use Rattle.std.specs.Prelude.{IfNone, ◌≡◌, ℕ, ◌<◌, ◌≤◌, ◌&&◌, if◌then◌else◌, Bool, true, false, Option, Some, None, is_some, is_none, Result, Ok, Err, IfSome, OnErr, IsErr, IsErrAnd, length, slice_get, take, [], ◌∷◌, refl}
 use Rattle.std.specs.Option.{option_copied}
 use Rattle.std.proofs.Common.{Bor, ◌∙◌, sym, ap, subst}
 use Rattle.std.proofs.lemmas.Bool.{false≢true}
@@ -14,17 +14,18 @@ use Rattle.cics_dispatch.specs.Machine.{Machine, Task, RegionValue, definition_o
 use Rattle.cics_dispatch.specs.Lengths.{first_fault, key_fault}
 use Rattle.cics_dispatch.specs.Checks.{file_fault, named_fault, defined_fault, browse_fault, back_fault, fault_of, open_key}
 use Rattle.cics_names.specs.Commands.{file_named}
-use Rattle.cics_dispatch.specs.Steps.{Stepped, op_of, by_op, performed, checked, issue_refusal, refused_or, issued_by, issued}
-use Rattle.cics_dispatch.specs.Calls.{MayPerform, HasBrowse}
+use Rattle.cics_dispatch.specs.Steps.{Stepped, with_outcome, op_of, by_op, performed, checked, issue_refusal, refused_or, issued_by, issued}
+use Rattle.cics_dispatch.specs.Calls.{MayPerform, IsAwake, HasBrowse}
 use Rattle.cics_dispatch.specs.Answers.{is_growing, passes_checks, may_want, IsStep}
 use Rattle.cics_names.specs.declared.commands.Command.{Command}
 use Rattle.cics_names.specs.declared.commands.Verb.{Verb}
 use Rattle.cics_names.specs.declared.commands.Verb.TheVariants.{Unlock, ResetBr, ReadNext, ReadPrev, EndBr, Deq, Syncpoint, Rollback, Return, Abend}
+use Rattle.cics_dispatch.specs.declared.outcomes.Outcome.{Outcome}
 use Rattle.cics_dispatch.specs.declared.outcomes.Refused.{Refused}
 use Rattle.cics_dispatch.specs.declared.outcomes.Refused.TheVariants.{NoMemory, TaskEnded, TaskWaiting}
 use Rattle.cics_dispatch.proofs.TaskPlaces.{place_of_task}
 use Rattle.cics_dispatch.proofs.Ready.{value_within, named_key_short}
-use Rattle.cics_dispatch.proofs.RegionSteps.{task_there}
+use Rattle.cics_dispatch.proofs.RegionSteps.{task_there, one_task}
 use Rattle.cics_dispatch.proofs.RegionEnqueuing.{first_fit}
 
 -- ---- The updating command that is asked for
@@ -107,6 +108,34 @@ module _ (m : Machine) (label : Bytes) (c : Command) (t : Task) (is : task_at m.
   pub wants_memory : t.has_ended ≡ false → is_waiting m.waiting label ≡ false → fault_of m t c.verb ≡ None → is_growing c.verb ≡ true → may_want m label c ≡ true
   wants_memory has waiting passes grows =
       (λ i. is_none (refusal false false has waiting i) && grows i && (ap (passes_checks m c.verb) is ∙ ap is_none passes) i)
+
+-- the task of a command that is issued is found at its place, hasn't ended, and waits or doesn't
+pub record IsIssuedTo (m : Machine) (label : Bytes) (at : ℕ) (t : Task) (waits : Bool) : Type 0 where
+  pub of_label : task_at m.tasks label ≡ Some t
+  pub there : slice_get m.tasks at ≡ Some t
+  pub goes_on : t.has_ended ≡ false
+  pub waiting : is_waiting m.waiting label ≡ waits
+
+pub issued_to : {old : RegionValue} (now : RegionValue) (label : Bytes) (at : ℕ) (t : Task) (waits : Bool) → old ≡ now → slice_get old.machine.tasks at ≡ task_at old.machine.tasks label →
+    slice_get old.machine.tasks at ≡ Some t → t.has_ended ≡ false → is_waiting old.machine.waiting label ≡ waits → IsIssuedTo now.machine label at t waits
+issued_to now label at t waits seen found there goes_on waiting = subst (λ v. IsIssuedTo v.machine label at t waits) seen (record {
+  of_label = sym found ∙ there;
+  there = there;
+  goes_on = goes_on;
+  waiting = waiting;
+})
+
+-- it is awake where it doesn't wait
+pub issued_awake : (m : Machine) (label : Bytes) (at : ℕ) (t : Task) → IsIssuedTo m label at t false → IsAwake m at
+issued_awake m label at t to = λ s here.
+    ap (λ x. is_waiting m.waiting x.label) (one_task m.tasks at here to.there) ∙ ap (is_waiting m.waiting) (place_of_task m.tasks label t to.of_label).2 ∙ to.waiting
+
+-- what comes of its command is the step's
+pub issued_told : (m : Machine) (label : Bytes) (c : Command) (at : ℕ) (t : Task) (fault : Option Condition) (x : Outcome) (new : Machine) → IsIssuedTo m label at t false → fault_of m t c.verb ≡ fault →
+    with_outcome x new ≡ checked m t c fault → ((issued m label c).outcome ≡ Ok x) × (new ≡ (issued m label c).machine)
+issued_told m label c at t fault x new to checks told =
+    let step = issued_checked m label c t to.of_label fault to.goes_on to.waiting checks in
+    (ap (λ s. s.outcome) step ∙ ap (λ s. Ok s.outcome) (sym told), ap (λ s. s.machine) told ∙ ap (λ s. s.machine) (sym step))
 
 -- a refusal for want of memory, which may come and changes nothing, is the step's
 pub refused_memory : {X : Type 0} (wants : Bool) (old : RegionValue) (s : Stepped (Result X Refused)) (r : Result X Refused) (new : RegionValue) →

@@ -1,7 +1,6 @@
 use Rattle.std.proofs.Common.{◌∙◌, ap, sym}
 use Rattle.std.specs.Option.{option_copied_mut}
 use Rattle.cics_names.specs.Keyed.{value_at}
-use Rattle.cics_dispatch.specs.Calls.{HasBrowse}
 use Rattle.cics_dispatch.specs.Replies.{plain}
 use Rattle.cics_dispatch.specs.Steps.{reset}
 use Rattle.cics_dispatch.proofs.RegionBrowses.{never_none, lent, owner_within, browses_kept, own_records, then_told_so, reset_answered}
