@@ -1,5 +1,5 @@
 -- The commands of the tasks of a region: what their checks tell, and what they answer.
-use Rattle.std.specs.Prelude.{IfNone, ◌≡◌, ℕ, ◌<◌, ◌≤◌, ◌&&◌, if◌then◌else◌, Bool, true, false, Option, Some, None, is_some, is_none, Result, Ok, Err, IfSome, OnErr, IsErr, IsErrAnd, length, slice_get, take, [], ◌∷◌, refl}
+use Rattle.std.specs.Prelude.{◌≡◌, ℕ, ◌<◌, ◌≤◌, ◌&&◌, if◌then◌else◌, Bool, true, false, Option, Some, None, is_some, is_none, Result, Ok, Err, OnErr, IsErr, IsErrAnd, length, slice_get, take, [], ◌∷◌, refl}
 use Rattle.std.specs.Option.{option_copied}
 use Rattle.std.proofs.Common.{Bor, ◌∙◌, sym, ap, subst}
 use Rattle.std.proofs.lemmas.Bool.{false≢true}
@@ -7,8 +7,6 @@ use Rattle.cics_names.specs.Keyed.{Bytes, value_at}
 use Rattle.cics_names.specs.declared.conditions.Condition.{Condition}
 use Rattle.cics_browse.specs.Positions.{Position}
 use Rattle.cics_ksds.specs.declared.definition.FileDef.{FileDef}
-use Rattle.cics_history.specs.Openings.{is_key}
-use Rattle.cics_history.specs.Records.{key_of}
 use Rattle.cics_history.specs.declared.ops.Op.{Op}
 use Rattle.cics_dispatch.specs.Machine.{Machine, Task, RegionValue, definition_of, task_at, is_waiting}
 use Rattle.cics_dispatch.specs.Lengths.{first_fault, key_fault}
@@ -24,41 +22,16 @@ use Rattle.cics_dispatch.specs.declared.outcomes.Outcome.{Outcome}
 use Rattle.cics_dispatch.specs.declared.outcomes.Refused.{Refused}
 use Rattle.cics_dispatch.specs.declared.outcomes.Refused.TheVariants.{NoMemory, TaskEnded, TaskWaiting}
 use Rattle.cics_dispatch.proofs.TaskPlaces.{place_of_task}
-use Rattle.cics_dispatch.proofs.Ready.{value_within, named_key_short}
+use Rattle.cics_dispatch.proofs.Ready.{value_within}
 use Rattle.cics_dispatch.proofs.RegionSteps.{task_there, one_task}
 use Rattle.cics_dispatch.proofs.RegionEnqueuing.{first_fit}
 
 -- ---- The updating command that is asked for
 
--- the key of the updating command that a command asks for has no more bytes than a key may have, where its checks have passed
-pub op_short : (m : Machine) (t : Task) (verb : Verb) → fault_of m t verb ≡ None →
-    ((f : Bytes) (d : FileDef) → file_named verb ≡ Some f → definition_of m f ≡ Some d → is_key d ≡ true) →
-    ((f k : Bytes) → file_named verb ≡ Some f → open_key m t f ≡ Some k → length k ≤ 255) →
-    IfSome (op_of m t verb) (λ c. length (key_of c) ≤ 255)
-op_short m t verb passes lawful were_short = by (op_of m t verb) refl
-  where
-    by : (o : Option Op) → op_of m t verb ≡ o → IfSome o (λ c. length (key_of c) ≤ 255)
-    by None is = tt
-    by (Some c) is = named_key_short m t verb lawful were_short c passes is
-
--- what holds where none is, holds where it is told from none
-pub if_none : {X Q : Type 0} (r : Option X) → (r ≡ None → Q) → IfNone r Q
-if_none None follows = follows refl
-if_none (Some x) follows = tt
-
--- what holds of what is found holds of it by its value
-pub found_has : {X : Type 0} (P : X → Type 0) (o : Option (Bor X)) → IfSome o (λ x. P x.now) → (x : X) → option_copied o ≡ Some x → P x
-found_has P None has x is = cc
-found_has P (Some y) has x is = let same : y.now ≡ x = cc in subst P same has
-
 -- there is something behind a reference just where there is one
 pub copied_some : {X : Type 0} (o : Option (Bor X)) → is_some (option_copied o) ≡ is_some o
 copied_some None = refl
 copied_some (Some x) = refl
-
--- a command that names a file names one
-pub one_file : (verb : Verb) (f g : Bytes) → file_named verb ≡ Some f → file_named verb ≡ Some g → f ≡ g
-one_file verb f g is other = let both : Some f ≡ Some g = sym is ∙ other in cc
 
 -- a command that asks for an updating command takes memory
 pub op_grows : (m : Machine) (t : Task) (verb : Verb) (c : Op) → op_of m t verb ≡ Some c → is_growing verb ≡ true
