@@ -81,7 +81,7 @@ impl Browses {
         self.rows.get(file)
     }
 
-    /// The browse of a file, to be moved, or `None` where none is open.
+    /// The browse of a file, to be moved, or `None` where none is open. A browse that is left where it was changes none.
     pub(crate) fn get_mut(&mut self, file: &Name8) -> Option<&mut Browse>
         ensures* writes_back { sem 𝓛 (LendsBrowse self.entry file.now result) }
         ensures browse { option_copied_mut result ≡ value_at file.now self.old }

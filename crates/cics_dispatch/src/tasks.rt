@@ -164,7 +164,8 @@ impl Tasks {
         Some(unit)
     }
 
-    /// The browses of the task at a place, to be changed.
+    /// The browses of the task at a place, to be changed. Only they are lent, not the task, which is found by its label and
+    /// by its unit.
     pub(crate) fn browses_mut(&mut self, at: usize) -> &mut Browses
         requires { at < length self.old }
         ensures* writes_back { sem 𝓛 (LendsBrowsesAt self.entry at result) }
