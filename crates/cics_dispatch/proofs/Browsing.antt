@@ -1,5 +1,5 @@
 -- The browses of a task are changed where they stand.
-use Rattle.std.specs.Prelude.{◌≡◌, Bool, true, false, not, cond, ◌&&◌, T, Some, None, [], ◌∷◌, refl}
+use Rattle.std.specs.Prelude.{◌≡◌, Bool, true, false, not, cond, ◌&&◌, T, Option, Some, None, List, [], ◌∷◌, refl}
 use Rattle.std.proofs.Common.{sym, ap, ◌∙◌, subst}
 use Rattle.std.specs.declared.cmp.Ordering.{Ordering}
 use Rattle.std.specs.declared.cmp.Ordering.TheVariants.{Less, Equal, Greater}
@@ -11,7 +11,7 @@ use Rattle.cics_names.specs.Keyed.{Bytes, Map, bytes_cmp, value_at, with_value, 
 use Rattle.cics_names.specs.KeyedLaws.{same_bytes}
 use Rattle.cics_names.specs.RisingLaws.{rising-without}
 use Rattle.cics_browse.specs.Positions.{Position}
-use Rattle.cics_dispatch.specs.Browses.{moved}
+use Rattle.cics_dispatch.specs.BrowseLoans.{moved, IsMoved}
 use Rattle.cics_history.proofs.Entries.{value_at-looked_up, with_value-set, rising-set, unchanged-set}
 
 first : (a b : Bool) → T (a && b) → T a
@@ -45,6 +45,15 @@ module _ {X : Type 0} where
         | Greater ↦ λ tied. ap (λ r. e ∷ r) rest
       ] refl
 
+-- a write where nothing is changes nothing
+set_value-absent : {K X : Type 0} (test : K → Bool) (x : X) (es : List (K × X)) → lookup test es ≡ None → set_value test es x ≡ es
+set_value-absent test x [] none = refl
+set_value-absent test x (e ∷ es) none = by (test e.0) none (set_value-absent test x es)
+  where
+    by : (b : Bool) → cond b (Some e.1) (lookup test es) ≡ None → (lookup test es ≡ None → set_value test es x ≡ es) → cond b ((e.0, x) ∷ es) (e ∷ set_value test es x) ≡ e ∷ es
+    by true found rest = cc
+    by false found rest = ap (λ r. e ∷ r) (rest found)
+
 -- the browses of a task as they are kept, and as contracts see them
 module _ (k : Bytes) (es browses : Map Position) (rising : T (is_rising es)) (view : es ≡ browses) where
   module _ (new : Map Position) (removed : new ≡ remove_entry (is_at (bytes_cmp k)) es) where
@@ -54,27 +63,26 @@ module _ (k : Bytes) (es browses : Map Position) (rising : T (is_rising es)) (vi
     pub ended-rising : T (is_rising new)
     ended-rising = subst (λ m. T (is_rising m)) (sym (removed ∙ remove_entry-without k es rising)) (rising-without k es rising)
 
-  -- the browse of the file, where it is open
-  module _ (p : Position) (found : Some p ≡ lookup (is_at (bytes_cmp k)) es) where
-    pub there : value_at k browses ≡ Some p
-    there = value_at-looked_up k es browses (Some p) found view
+  -- the browse of the file is written, if it is open
+  pub moved-rising : (o : Option Position) → o ≡ lookup (is_at (bytes_cmp k)) es → (p : Position) (new : Map Position) → new ≡ set_value (is_at (bytes_cmp k)) es p → T (is_rising new)
+  moved-rising None found p new set = subst (λ m. T (is_rising m)) (sym (set ∙ set_value-absent (is_at (bytes_cmp k)) p es (sym found))) rising
+  moved-rising (Some q) found p new set = rising-set k p q es new rising (value_at-looked_up k es es (Some q) found refl) set
 
-    there_inside : value_at k es ≡ Some p
-    there_inside = value_at-looked_up k es es (Some p) found refl
+  pub is-moved : (o : Option Position) → o ≡ lookup (is_at (bytes_cmp k)) es → (p : Position) (new : Map Position) → new ≡ set_value (is_at (bytes_cmp k)) es p → IsMoved k browses p new
+  is-moved None found p new set = record {
+    moved = unmoved ∙ ap (λ o. moved k p o browses) (sym (value_at-looked_up k es browses None found view));
+    same = λ there. unmoved;
+  }
+    where
+      unmoved : new ≡ browses
+      unmoved = set ∙ set_value-absent (is_at (bytes_cmp k)) p es (sym found) ∙ view
+  is-moved (Some q) found p new set = record {
+    moved = with_value-set k p q es new rising there set ∙ ap (with_value k p) view ∙ ap (λ o. moved k p o browses) (sym (value_at-looked_up k es browses (Some q) found view));
+    same = λ was. unchanged-set k p q es new rising there set (one (sym was ∙ value_at-looked_up k es browses (Some q) found view)) ∙ view;
+  }
+    where
+      there : value_at k es ≡ Some q
+      there = value_at-looked_up k es es (Some q) found refl
 
-    module _ (q : Position) (new : Map Position) (set : new ≡ set_value (is_at (bytes_cmp k)) es q) where
-      pub moved-rising : T (is_rising new)
-      moved-rising = rising-set k q p es new rising there_inside set
-
-      pub unmoved : q ≡ p → new ≡ browses
-      unmoved same = unchanged-set k q p es new rising there_inside set same ∙ view
-
-      pub moved-to : (step : Position → Position) → q ≡ step p → new ≡ moved step k (value_at k browses) browses
-      moved-to step by =
-          with_value-set k q p es new rising there_inside set ∙ ap (with_value k q) view ∙ ap (λ r. with_value k r browses) by
-          ∙ ap (λ o. moved step k o browses) (sym there)
-
-  -- or where it isn't
-  module _ (found : None ≡ lookup (is_at (bytes_cmp k)) es) where
-    pub absent : value_at k browses ≡ None
-    absent = value_at-looked_up k es browses None found view
+      one : {a b : Position} → Some a ≡ Some b → a ≡ b
+      one e = cc

@@ -1,11 +1,13 @@
 -- ENQ and DEQ leave what a region keeps, and the task stands where it stood.
-use Rattle.std.specs.Prelude.{take, ◌≡◌, ℕ, if◌then◌else◌, Bool, true, false, Option, Some, None, slice_get, List, refl}
-use Rattle.std.proofs.Common.{sym, ap, ◌∙◌, subst}
+use Rattle.std.specs.Prelude.{take, length, ◌≡◌, ◌≤◌, ℕ, if◌then◌else◌, Bool, true, false, Option, Some, None, slice_get, List, refl}
+use Rattle.std.proofs.Common.{sym, ap, ◌∙◌, subst, arith}
+use Rattle.std.proofs.lemmas.List.{length-take-le}
 use Rattle.cics_names.specs.Keyed.{Bytes}
 use Rattle.cics_names.specs.declared.conditions.Condition.TheVariants.{Normal, Invreq}
 use Rattle.cics_history.specs.Execution.{UnitsValue, unit_or_next, enqueue, enq_of, after_enqueue, after_enqueued}
 use Rattle.cics_history.specs.Holding.{UnitsState, value_holder}
 use Rattle.cics_history.specs.Headline.{IsHeadline}
+use Rattle.cics_history.specs.declared.ops.Enqueued.{Enqueued}
 use Rattle.cics_history.specs.declared.ops.Enqueued.TheVariants.{Taken, CountFull, MustWait as EnqMustWait}
 use Rattle.cics_dispatch.specs.Machine.{Machine, Task, Suspended, replaced, is_waiting, with_units, with_task, with_unit}
 use Rattle.cics_dispatch.specs.Replies.{plain}
@@ -20,7 +22,14 @@ use Rattle.cics_dispatch.specs.Waking.{awaited_by}
 use Rattle.cics_dispatch.specs.declared.outcomes.Reply.{Reply}
 use Rattle.cics_dispatch.proofs.KeptTasks.{with_task_placed, kept_enqueued, kept_dequeued, no_owner_next}
 use Rattle.cics_dispatch.proofs.OwnedUnits.{owned_enqueued, owned_dequeued}
-use Rattle.cics_dispatch.proofs.RegionSteps.{kept_as}
+use Rattle.cics_dispatch.proofs.RegionSteps.{kept_as, same_region}
+
+-- the first bytes of a value, as many as LENGTH says, where its checks have passed
+pub first_fit : (n : ℕ) (value bytes : Bytes) → bytes ≡ value → (1 ≤ n) × (n ≤ 255) × (n ≤ length value) → (n ≡ length (take n bytes)) × (length (take n bytes) ≤ 255)
+first_fit n value bytes own fits =
+    let first : length (take n bytes) ≡ n = length-take-le n bytes (subst (λ b. n ≤ length b) (sym own) fits.2) in
+    let most = fits.1 in
+    (sym first, omega (arith, first, most))
 
 -- ---- DEQ
 module _ {units : UnitsValue} {tasks : List Task} {waiting : List Suspended} {clock : ℕ} {is_down : Bool} (kept : IsRegionKept (region_of units tasks waiting clock is_down))
@@ -75,27 +84,44 @@ enq_waits m t c holder = by c.verb
     by (Enq value n nosuspend) ready waits = ap (λ w. enqueued m t c (take n value) (enq_of m.units t.unit (take n value) w)) (sym waits)
     by verb ready waits = absurd ready
 
+-- an ENQ of a value by a task comes to this, and leaves these units
+pub record Enqueues (before after : UnitsValue) (t : Task) (value : Bytes) (done : Enqueued) : Type 0 where
+  pub state : after.state ≡ after_enqueue before.state t.unit value
+  pub comes_to : enqueue before.state t.unit value ≡ done
+
+pub enqueues : (before after : UnitsValue) (t : Task) (asking : Option ℕ) (n : ℕ) (value bytes : Bytes) (done : Enqueued) → asking ≡ t.unit → bytes ≡ value →
+    after.state ≡ after_enqueue before.state asking (take n bytes) → done ≡ enqueue before.state asking (take n bytes) → Enqueues before after t (take n value) done
+enqueues before after t asking n value bytes done own same state comes_to = record {
+  state = state ∙ (λ i. after_enqueue before.state (own i) (take n (same i)));
+  comes_to = sym (comes_to ∙ (λ i. enqueue before.state (own i) (take n (same i))));
+}
+
 module _ {units : UnitsValue} {tasks : List Task} {waiting : List Suspended} {clock : ℕ} {is_down : Bool} (kept : IsRegionKept (region_of units tasks waiting clock is_down))
-    (at : ℕ) (t : Task) (there : slice_get tasks at ≡ Some t) (value : Bytes) (after : UnitsValue) (state : after.state ≡ after_enqueue units.state t.unit value) where
+    (at : ℕ) (t : Task) (there : slice_get tasks at ≡ Some t) {value : Bytes} {after : UnitsValue} {done : Enqueued} (tried : Enqueues units after t value done) (headline : IsHeadline after) where
   abbrev m : Machine
   m = (region_of units tasks waiting clock is_down).machine
 
-  -- one of a value that the unit holds the most times leaves the units, and is told so
-  pub full_step : (c : Command) (r : Reply) → enqueue units.state t.unit value ≡ CountFull → r ≡ plain Invreq →
-      answered (region_of after tasks waiting clock is_down).machine t c.resp r ≡ enqueued m t c value (enqueue units.state t.unit value)
-  full_step c r full told =
-      (λ i. answered (with_units m ((state ∙ ap (after_enqueued units.state t.unit value) full) i)) t c.resp (told i)) ∙ ap (enqueued m t c value) (sym full)
+  -- one that has to wait leaves the units
+  pub waits_same : (holder : ℕ) → done ≡ EnqMustWait holder → region_of after tasks waiting clock is_down ≡ region_of units tasks waiting clock is_down
+  waits_same holder is = same_region kept after (tried.state ∙ ap (after_enqueued units.state t.unit value) (tried.comes_to ∙ is)) headline
 
-  pub full_kept : enqueue units.state t.unit value ≡ CountFull → IsHeadline after → IsRegionKept (region_of after tasks waiting clock is_down)
-  full_kept full headline =
-      kept_as (region_of after tasks waiting clock is_down) m (λ i. with_units m ((state ∙ ap (after_enqueued units.state t.unit value) full) i))
-      kept.tasks kept.owned (record { headline = headline })
+  -- and so does one of a value that the unit holds the most times, which is told so
+  module _ (full : done ≡ CountFull) where
+    full_machine : (region_of after tasks waiting clock is_down).machine ≡ m
+    full_machine = ap (with_units m) (tried.state ∙ ap (after_enqueued units.state t.unit value) (tried.comes_to ∙ full))
+
+    pub full_kept : IsRegionKept (region_of after tasks waiting clock is_down)
+    full_kept = kept_as (region_of after tasks waiting clock is_down) m full_machine kept.tasks kept.owned (record { headline = headline })
+
+    pub full_step : (c : Command) (r : Reply) → r ≡ plain Invreq →
+        answered (region_of after tasks waiting clock is_down).machine t c.resp r ≡ enqueued m t c value (enqueue units.state t.unit value)
+    full_step c r told = (λ i. answered (full_machine i) t c.resp (told i)) ∙ ap (enqueued m t c value) (sym (tried.comes_to ∙ full))
 
   -- one that takes its value makes its unit the task's
-  module _ (unit : ℕ) (taken : enqueue units.state t.unit value ≡ Taken unit) where
+  module _ (unit : ℕ) (taken : done ≡ Taken unit) where
     -- no other task has the unit that begins
     pub owner_free : t.unit ≡ None → HasNoOwner tasks unit
-    owner_free none = subst (HasNoOwner tasks) (ap (λ u. unit_or_next u units.state.outcomes) (sym none) ∙ takes_for units.state t.unit value unit taken) (no_owner_next m kept.tasks)
+    owner_free none = subst (HasNoOwner tasks) (ap (λ u. unit_or_next u units.state.outcomes) (sym none) ∙ takes_for units.state t.unit value unit (tried.comes_to ∙ taken)) (no_owner_next m kept.tasks)
 
     module _ (ts : List Task) (is : ts ≡ replaced tasks (with_unit t unit)) where
       -- the task stands where it stood
@@ -103,14 +129,14 @@ module _ {units : UnitsValue} {tasks : List Task} {waiting : List Suspended} {cl
       owner_there = ap (λ l. slice_get l at) is ∙ with_task_placed m at t (with_unit t unit) kept.tasks there refl
 
       taken_machine : (region_of after ts waiting clock is_down).machine ≡ with_task (with_units m (after_enqueue units.state t.unit value)) (with_unit t unit)
-      taken_machine = λ i. record { units = state i; tasks = is i; waiting = waiting; clock = clock; is_down = is_down }
+      taken_machine = λ i. record { units = tried.state i; tasks = is i; waiting = waiting; clock = clock; is_down = is_down }
 
-      pub taken_kept : is_waiting waiting t.label ≡ false → IsHeadline after → IsRegionKept (region_of after ts waiting clock is_down)
-      taken_kept awake headline =
+      pub taken_kept : is_waiting waiting t.label ≡ false → IsRegionKept (region_of after ts waiting clock is_down)
+      taken_kept awake =
           kept_as (region_of after ts waiting clock is_down) _ taken_machine
-          (kept_enqueued m at t kept.tasks there awake value unit taken) (owned_enqueued m t at there kept.tasks.labels kept.owned value unit taken) (record { headline = headline })
+          (kept_enqueued m at t kept.tasks there awake value unit (tried.comes_to ∙ taken)) (owned_enqueued m t at there kept.tasks.labels kept.owned value unit (tried.comes_to ∙ taken)) (record { headline = headline })
 
       -- the task is told that the value is its own
       pub taken_step : (c : Command) (r : Reply) → r ≡ plain Normal →
           answered (region_of after ts waiting clock is_down).machine (with_unit t unit) c.resp r ≡ enqueued m t c value (enqueue units.state t.unit value)
-      taken_step c r told = (λ i. answered (taken_machine i) (with_unit t unit) c.resp (told i)) ∙ ap (enqueued m t c value) (sym taken)
+      taken_step c r told = (λ i. answered (taken_machine i) (with_unit t unit) c.resp (told i)) ∙ ap (enqueued m t c value) (sym (tried.comes_to ∙ taken))

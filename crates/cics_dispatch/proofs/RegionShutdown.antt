@@ -22,10 +22,6 @@ pub up_step : {X : Type 0} (wants : Bool) (old new : RegionValue) (s : Stepped (
 up_step wants old new s r up step =
     subst (λ b. IsStep (not b && wants) old (if b then record { outcome = Err RegionDown; machine = old.machine } else s) r new) (sym up) step
 
-pub down_step : {X : Type 0} (wants : Bool) (old : RegionValue) (s : Stepped (Result X Refused)) → old.machine.is_down ≡ true → IsRegionStep wants old s (Err RegionDown) old
-down_step {X = X} wants old s down =
-    subst (λ b. IsStep {X = X} (not b && wants) old (if b then record { outcome = Err RegionDown; machine = old.machine } else s) (Err RegionDown) old) (sym down) (refl, refl)
-
 -- ---- The tasks end one after the other
 
 -- a place has the first of what is left behind the places before it

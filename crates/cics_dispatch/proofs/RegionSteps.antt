@@ -1,17 +1,19 @@
 -- Each call of a region leaves what a region keeps.
-use Rattle.std.specs.Prelude.{◌≡◌, ℕ, ◌<◌, IfNone, IfOk, OnOk, Result, Ok, Err, if◌then◌else◌, Bool, true, false, Option, Some, None, is_some, slice_get, length, List, [], refl}
+use Rattle.std.specs.Prelude.{◌≡◌, ℕ, ◌<◌, IfNone, IfOk, OnOk, IsErr, Result, Ok, Err, if◌then◌else◌, Bool, true, false, Option, Some, None, is_some, slice_get, length, List, [], refl}
 use Rattle.std.proofs.Common.{sym, ap, ◌∙◌, subst, arith, inl, inr, ◌≤◌}
 use Rattle.std.proofs.lemmas.Option.{slice_get_cases, slice_get_within}
+use Rattle.cics_names.specs.Keyed.{Bytes}
 use Rattle.cics_history.specs.Execution.{UnitsValue, unit_or_next, execution, after_execution, done_of, state_of, IsOpenUnit}
 use Rattle.cics_history.specs.Holding.{UnitsState, store_of, awaited}
 use Rattle.cics_history.specs.declared.ops.Op.{Op}
 use Rattle.cics_history.specs.declared.ops.Answer.{Answer}
+use Rattle.cics_history.specs.declared.ops.Done.{Done}
 use Rattle.cics_history.specs.declared.ops.Done.TheVariants.{Answered, MustWait}
 use Rattle.cics_history.specs.Headline.{IsHeadline}
 use Rattle.cics_history.specs.declared.ops.UnitState.{UnitState}
 use Rattle.cics_history.specs.History.{is_open}
 use Rattle.cics_history.specs.declared.ops.UnitState.TheVariants.{Committed, BackedOut}
-use Rattle.std.proofs.lemmas.Bool.{true≢false}
+use Rattle.std.proofs.lemmas.Bool.{true≢false, false≢true}
 use Rattle.cics_dispatch.specs.Machine.{Machine, Task, Suspended, RegionValue, replaced, is_waiting, not_waiting, units_after, unit_closed, abended, with_unit, with_task, with_units}
 use Rattle.cics_dispatch.specs.Answers.{IsHeadlineRegion}
 use Rattle.cics_dispatch.specs.KeptTasks.{AreTasksKept}
@@ -19,7 +21,7 @@ use Rattle.cics_dispatch.specs.OwnedUnits.{AreUnitsOwned}
 use Rattle.cics_dispatch.specs.Regions.{region_of, IsRegionKept}
 use Rattle.cics_dispatch.specs.Tasks.{own_label, IsOwn, HasNoOwner}
 use Rattle.cics_dispatch.specs.Steps.{Stepped, executed, by_op, answered, reply_of}
-use Rattle.cics_dispatch.specs.Calls.{OfTask, IsStepOf, IsStepOrRefused, IsAttempt, going_on, waiting_for}
+use Rattle.cics_dispatch.specs.Calls.{OfTask, IsAwake, HasBrowse, HasReady, IsStepOf, IsStepOrRefused, IsAttempt, going_on, waiting_for}
 use Rattle.cics_names.specs.declared.records.NoMemory.{NoMemory}
 use Rattle.cics_dispatch.specs.Waking.{awaited_by}
 use Rattle.cics_dispatch.specs.declared.outcomes.Attempt.{Attempt}
@@ -116,32 +118,47 @@ pub same_region : {units : UnitsValue} {tasks : List Task} {waiting : List Suspe
 same_region {units} {tasks} {waiting} {clock} {is_down} kept after state headline =
     λ i. region_of (record { state = state i; store = (headline.store ∙ ap store_of state ∙ sym kept.headline.headline.store) i }) tasks waiting clock is_down
 
+-- an updating command of a task comes to this, and leaves these units
+pub record Executes (before after : UnitsValue) (t : Task) (o : Op) (done : Done) : Type 0 where
+  pub state : after.state ≡ after_execution before.state t.unit o
+  pub comes_to : execution before.state t.unit o ≡ done
+
+pub executes : (before after : UnitsValue) (t : Task) (asking : Option ℕ) (o : Op) (done : Done) → asking ≡ t.unit → after.state ≡ after_execution before.state asking o → done ≡ execution before.state asking o →
+    Executes before after t o done
+executes before after t asking o done own state comes_to = record {
+  state = state ∙ ap (λ x. after_execution before.state x o) own;
+  comes_to = ap (λ x. execution before.state x o) (sym own) ∙ sym comes_to;
+}
+
 -- ---- An updating command
 module _ {units : UnitsValue} {tasks : List Task} {waiting : List Suspended} {clock : ℕ} {is_down : Bool} (kept : IsRegionKept (region_of units tasks waiting clock is_down))
-    (at : ℕ) (t : Task) (there : slice_get tasks at ≡ Some t) (o : Op) (after : UnitsValue) (state : after.state ≡ after_execution units.state t.unit o) (headline : IsHeadline after) where
+    (at : ℕ) (t : Task) (there : slice_get tasks at ≡ Some t) {o : Op} {after : UnitsValue} {done : Done} (tried : Executes units after t o done) (headline : IsHeadline after) where
   abbrev m : Machine
   m = (region_of units tasks waiting clock is_down).machine
 
+  -- one that has to wait leaves the units
+  pub waits_same : (holder : ℕ) → done ≡ MustWait holder → region_of after tasks waiting clock is_down ≡ region_of units tasks waiting clock is_down
+  waits_same holder is = same_region kept after (tried.state ∙ waits_state units.state t.unit o holder (tried.comes_to ∙ is)) headline
+
   -- one that is executed makes its unit the task's
-  module _ (awake : is_waiting waiting t.label ≡ false) (unit : ℕ) (a : Answer) (acts : execution units.state t.unit o ≡ Answered unit a) where
-    pub acted_machine : (ts : List Task) → ts ≡ replaced tasks (with_unit t unit) → (region_of after ts waiting clock is_down).machine ≡ with_task (with_units m (after_execution units.state t.unit o)) (with_unit t unit)
-    acted_machine ts is = λ i. record { units = state i; tasks = is i; waiting = waiting; clock = clock; is_down = is_down }
-
-    pub acted_kept : (ts : List Task) → ts ≡ replaced tasks (with_unit t unit) → IsRegionKept (region_of after ts waiting clock is_down)
-    acted_kept ts is = kept_as (region_of after ts waiting clock is_down) _ (acted_machine ts is)
-        (kept_executed m at t kept.tasks there awake o unit a acts) (owned_executed m t at there kept.tasks.labels kept.owned o unit a acts) (record { headline = headline })
-
+  module _ (unit : ℕ) (a : Answer) (acts : done ≡ Answered unit a) where
     pub owner_free : t.unit ≡ None → HasNoOwner tasks unit
-    owner_free none = subst (HasNoOwner tasks) (ap (λ x. unit_or_next x units.state.outcomes) (sym none) ∙ acts_in units.state t.unit o unit a acts) (no_owner_next m kept.tasks)
+    owner_free none = subst (HasNoOwner tasks) (ap (λ x. unit_or_next x units.state.outcomes) (sym none) ∙ acts_in units.state t.unit o unit a (tried.comes_to ∙ acts)) (no_owner_next m kept.tasks)
 
-    pub owner_there : (ts : List Task) → ts ≡ replaced tasks (with_unit t unit) → slice_get ts at ≡ Some (with_unit t unit)
-    owner_there ts is = ap (λ l. slice_get l at) is ∙ with_task_placed m at t (with_unit t unit) kept.tasks there refl
+    module _ (ts : List Task) (is : ts ≡ replaced tasks (with_unit t unit)) where
+      acted_machine : (region_of after ts waiting clock is_down).machine ≡ with_task (with_units m (after_execution units.state t.unit o)) (with_unit t unit)
+      acted_machine = λ i. record { units = tried.state i; tasks = is i; waiting = waiting; clock = clock; is_down = is_down }
 
-  -- what an executed command answers, and the region that it leaves
-  pub acted_step : (c : Command) (unit : ℕ) (a : Answer) → execution units.state t.unit o ≡ Answered unit a → (ts : List Task) → ts ≡ replaced tasks (with_unit t unit) → (r : Reply) → r ≡ reply_of c.verb a →
-      answered (region_of after ts waiting clock is_down).machine (with_unit t unit) c.resp r ≡ by_op m t c (Some o)
-  acted_step c unit a acts ts is r told =
-      (λ i. answered (record { units = state i; tasks = is i; waiting = waiting; clock = clock; is_down = is_down }) (with_unit t unit) c.resp (told i)) ∙ ap (executed m t c o) (sym acts)
+      pub acted_kept : is_waiting waiting t.label ≡ false → IsRegionKept (region_of after ts waiting clock is_down)
+      acted_kept awake = kept_as (region_of after ts waiting clock is_down) _ acted_machine
+          (kept_executed m at t kept.tasks there awake o unit a (tried.comes_to ∙ acts)) (owned_executed m t at there kept.tasks.labels kept.owned o unit a (tried.comes_to ∙ acts)) (record { headline = headline })
+
+      pub owner_there : slice_get ts at ≡ Some (with_unit t unit)
+      owner_there = ap (λ l. slice_get l at) is ∙ with_task_placed m at t (with_unit t unit) kept.tasks there refl
+
+      -- what it answers, and the region that it leaves
+      pub acted_step : (c : Command) (r : Reply) → r ≡ reply_of c.verb a → answered (region_of after ts waiting clock is_down).machine (with_unit t unit) c.resp r ≡ by_op m t c (Some o)
+      acted_step c r told = (λ i. answered (acted_machine i) (with_unit t unit) c.resp (told i)) ∙ ap (executed m t c o) (sym (tried.comes_to ∙ acts))
 
 -- a command that has to wait for a unit is executed by no other step than its wait, or its answer with NOSUSPEND
 pub waits_for : (m : Machine) (t : Task) (c : Command) (o : Op) (holder : ℕ) → awaited m.units t.unit o ≡ Some holder →
@@ -166,6 +183,16 @@ placed_within ts at t there = slice_get_within ts at t there
 -- the task at a place is one
 pub one_task : {t s : Task} (ts : List Task) (at : ℕ) → slice_get ts at ≡ Some t → slice_get ts at ≡ Some s → t ≡ s
 one_task {t} {s} ts at here there = let same : Some t ≡ Some s = sym here ∙ there in cc
+
+-- what holds of the region that a call is given holds of its parts
+pub seen_task : {Q : Type 0} {old now : RegionValue} (at : ℕ) → old ≡ now → at < length now.machine.tasks → ((t : Task) → slice_get old.machine.tasks at ≡ Some t → Q) → Q
+seen_task {old = old} at seen within = task_there old.machine.tasks at (subst (λ v. at < length v.machine.tasks) (sym seen) within)
+
+pub seen_awake : {old now : RegionValue} (at : ℕ) → old ≡ now → IsAwake now.machine at → IsAwake old.machine at
+seen_awake at seen = subst (λ v. IsAwake v.machine at) (sym seen)
+
+pub seen_browse : {old now : RegionValue} (at : ℕ) (f : Bytes) → old ≡ now → HasBrowse now.machine at f → HasBrowse old.machine at f
+seen_browse at f seen = subst (λ v. HasBrowse v.machine at f) (sym seen)
 
 -- a step of the task at a place is one whichever way the region is seen
 pub seen_step : {old now new : RegionValue} {x : Outcome} (at : ℕ) (f : Machine → Task → Stepped Outcome) → old ≡ now → IsStepOf old at (f old.machine) x new → IsStepOf now at (f now.machine) x new
@@ -207,3 +234,44 @@ IfOk-then (Err e) f p = tt
 pub OnOk-then : {A E P Q : Type 0} (r : Result A E) → (P → Q) → OnOk r P → OnOk r Q
 OnOk-then (Ok a) f p = f p
 OnOk-then (Err e) f p = tt
+
+-- a call that is refused leaves the region as it was
+pub refused_as_was : (old new : RegionValue) (r : Result Outcome NoMemory) (at : ℕ) (f : Task → Stepped Outcome) → IsErr r → new ≡ old → IsStepOrRefused old at f r new
+refused_as_was old new (Ok x) at f refused same = absurd (false≢true refused)
+refused_as_was old new (Err e) at f refused same = same
+
+-- ---- A command that was tried, and has to wait: all is as it was, and what it asked for came back
+module _ (old new : RegionValue) (at : ℕ) (c : Command) (o : Option Op) (a : Attempt) (holder : ℕ) (back : Option Op) (is : a ≡ Waits holder back) (tried : IsAttempt old at c o (Ok a) new) where
+  abbrev as_was : new ≡ old
+  as_was = (tried_waits old new at c o a holder back is tried).1.1
+
+  abbrev given_back : back ≡ o
+  given_back = (tried_waits old new at c o a holder back is tried).0.1
+
+  pub wait_within : at < length old.machine.tasks → at < length new.machine.tasks
+  wait_within = subst (λ v. at < length v.machine.tasks) (sym as_was)
+
+  pub wait_awake : IsAwake old.machine at → IsAwake new.machine at
+  wait_awake = subst (λ v. IsAwake v.machine at) (sym as_was)
+
+  pub wait_ready : HasReady old.machine at c.verb o → HasReady new.machine at c.verb back
+  wait_ready ready = subst (λ x. HasReady new.machine at c.verb x) (sym given_back) (subst (λ v. HasReady v.machine at c.verb o) (sym as_was) ready)
+
+  pub wait_open : IsOpenUnit new.machine.units holder
+  wait_open = subst (λ v. IsOpenUnit v.machine.units holder) (sym as_was) (tried_waits old new at c o a holder back is tried).1.0
+
+  -- its wait, or its answer with NOSUSPEND, is its step
+  pub wait_told : (after : RegionValue) (r : Result Outcome NoMemory) →
+      OfTask old.machine.tasks at (λ t. awaited_by old.machine.units t.unit c.verb o ≡ Some holder → waiting_for old.machine c o holder t ≡ going_on old.machine c o t) →
+      IsStepOrRefused new at (waiting_for new.machine c back holder) r after → IsStepOrRefused old at (going_on old.machine c o) r after
+  wait_told after r step told =
+      may_told_as old after r at (waiting_for old.machine c o holder) (going_on old.machine c o) (λ t there. step t there ((tried_waits old new at c o a holder back is tried).0.0 t there))
+      (seen_may new old after r at (λ k. waiting_for k c o holder) as_was (subst (λ x. IsStepOrRefused new at (waiting_for new.machine c x holder) r after) given_back told))
+
+-- ---- A waiting command that is tried again, from a copy of it
+module _ (at : ℕ) (command k : Command) (o op : Option Op) (same : k ≡ command) (is : o ≡ op) where
+  pub ready_again : (m : Machine) → HasReady m at command.verb o → HasReady m at k.verb op
+  ready_again m ready = subst (λ x. HasReady m at k.verb x) is (subst (λ x. HasReady m at x.verb o) (sym same) ready)
+
+  pub attempt_again : (old : RegionValue) (r : Result Attempt NoMemory) (new : RegionValue) → IsAttempt old at k op r new → IsAttempt old at command o r new
+  attempt_again old r new tried = subst (λ x. IsAttempt old at command x r new) (sym is) (subst (λ x. IsAttempt old at x op r new) same tried)

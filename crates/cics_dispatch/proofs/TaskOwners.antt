@@ -1,16 +1,15 @@
 -- Whose a unit is, as the tasks of a region have it in a table: what stands there once a task comes in, has a unit, or gives it
 -- up, and once all units are entered anew.
-use Rattle.std.specs.Prelude.{◌≡◌, ◌<◌, ◌≤◌, ◌+◌, ◌-◌, ℕ, cond, Bool, true, false, Option, Some, None, is_some, List, [], ◌∷◌, ◌++◌, ◌⊎◌, Result, Ok, Err, OnOk, OnErr, length, nat_eq, slice_get, refl}
+use Rattle.std.specs.Prelude.{◌≡◌, ◌<◌, ◌≤◌, ◌+◌, ◌-◌, ℕ, cond, Bool, true, false, Option, Some, None, is_some, List, [], ◌∷◌, ◌++◌, ◌⊎◌, length, nat_eq, slice_get, refl}
 use Rattle.std.proofs.Common.{sym, ap, ◌∙◌, subst, inl, inr, zero, suc, arith, eq-eqb, length-append}
 use Rattle.std.proofs.lemmas.Bool.{eqb-true, false_from_ne_true, true≢false}
 use Rattle.std.proofs.lemmas.Option.{slice_get_within}
 use Rattle.std.specs.Map.{lookup, values_of}
 use Rattle.indexmap.specs.IndexMap.{IndexMap, index_map_len, spare, set_value_at}
-use Rattle.cics_names.specs.Keyed.{Bytes, Map}
-use Rattle.cics_browse.specs.Positions.{Position}
-use Rattle.cics_dispatch.specs.Machine.{Task, label_of, with_browses}
-use Rattle.cics_dispatch.specs.Tasks.{IsOwn, HasNoOwner, HasRoomForUnits, AreOwnersKept, own_unit, had_by, had_at}
-use Rattle.cics_dispatch.proofs.TaskTable.{had_at-append, label_of-owner}
+use Rattle.cics_names.specs.Keyed.{Bytes}
+use Rattle.cics_dispatch.specs.Machine.{Task, label_of, with_unit}
+use Rattle.cics_dispatch.specs.Tasks.{IsOwn, AreTaskRowsKept, HasNoOwner, HasRoomForUnits, AreOwnersKept, own_unit, had_by, had_at}
+use Rattle.cics_dispatch.proofs.TaskTable.{had_at-append, label_of-owner, kept-begun}
 
 -- nothing is something
 nothing : {X : Type 0} {x : X} → None ≡ Some x → ⊥
@@ -184,11 +183,6 @@ module _ {S : Type 0} (es : List (Bytes × Task)) (at : ℕ) (v w : Task) (owner
   pub owners_kept : w.unit ≡ v.unit → AreOwnersKept after owners
   owners_kept same = owners_same (values_of es) after owners at w.unit (λ i. unit-written w es at i v there) (as_many-written es at w) kept (unit_there (values_of es) at v there ∙ sym same)
 
-  -- it has other browses, or where memory was refused is the task itself
-  pub owners_either : {A E : Type 0} (r : Result A E) (browses : Map Position) → OnOk r (w ≡ with_browses v browses) → OnErr r (w ≡ v) → AreOwnersKept after owners
-  owners_either (Ok a) browses is tt = owners_kept (ap (λ t. t.unit) is)
-  owners_either (Err e) browses tt is = owners_kept (ap (λ t. t.unit) is)
-
   module _ (m : IndexMap ℕ (Option ℕ) S) (u : ℕ) (as_much : index_map_len owners + spare owners ≤ index_map_len m + spare m) where
     pub owners_given : w.unit ≡ Some u → v.unit ≡ None → HasNoOwner (values_of es) u →
         ((q : ℕ) → lookup (nat_eq q) m.entries ≡ cond (nat_eq u q) (Some (Some at)) (lookup (nat_eq q) owners.entries)) → AreOwnersKept after m
@@ -199,6 +193,24 @@ module _ {S : Type 0} (es : List (Bytes × Task)) (at : ℕ) (v w : Task) (owner
         ((q : ℕ) → lookup (nat_eq q) m.entries ≡ cond (nat_eq u q) (Some None) (lookup (nat_eq q) owners.entries)) → AreOwnersKept after m
     owners_taken is had = owners_closed (values_of es) after owners at w.unit (λ i. unit-written w es at i v there) (as_many-written es at w) kept m u as_much is
         (unit_there (values_of es) at v there ∙ had)
+
+-- a task that had no unit is given one that was no task's
+pub record IsGiven (es : List (Bytes × Task)) (at : ℕ) (v w : Task) (u : ℕ) : Type 0 where
+  pub idle : v.unit ≡ None
+  pub free : HasNoOwner (values_of es) u
+  pub rows : AreTaskRowsKept (set_value_at es at w)
+
+pub given : (es : List (Bytes × Task)) (ts : List Task) (at : ℕ) (seen v w : Task) (asked : Option ℕ) (has : Bool) (u : ℕ) → AreTaskRowsKept es → values_of es ≡ ts →
+    slice_get (values_of es) at ≡ Some seen → asked ≡ seen.unit → has ≡ is_some asked → has ≡ false → slice_get (values_of es) at ≡ Some v →
+    ((t : Task) → slice_get ts at ≡ Some t → t.unit ≡ None → HasNoOwner ts u) → w ≡ with_unit v u → IsGiven es at v w u
+given es ts at seen v w asked has u kept view first unit is_some none there free is =
+    let idle = idle_task (values_of es) at seen v asked has first unit is_some none there in
+    let no_owner = free v (ap (λ l. slice_get l at) (sym view) ∙ there) idle in
+    record {
+      idle = idle;
+      free = subst (λ l. HasNoOwner l u) (sym view) no_owner;
+      rows = kept-begun es ts at v w kept view there (ap (λ t. t.label) is) u no_owner (ap (λ t. t.unit) is);
+    }
 
 -- ---- One more task
 

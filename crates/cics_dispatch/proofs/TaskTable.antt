@@ -1,6 +1,6 @@
 -- The tasks of a region where they are kept: what is found under a label and a unit, and what one more task and a
 -- changed one make of them.
-use Rattle.std.specs.Prelude.{◌≡◌, ℕ, Bool, true, false, cond, if◌then◌else◌, Option, Some, None, is_some, IfSome, IfNone, Result, Ok, Err, OnOk, OnErr, ◌⊎◌, List, [], ◌∷◌, ◌++◌, length, slice_get, refl}
+use Rattle.std.specs.Prelude.{◌≡◌, ℕ, Bool, true, false, cond, if◌then◌else◌, Option, Some, None, is_some, IfSome, IfNone, ◌⊎◌, List, [], ◌∷◌, ◌++◌, length, slice_get, refl}
 use Rattle.std.proofs.Common.{sym, ap, ◌∙◌, subst, inl, inr, zero, suc, arith, eq-eqb}
 use Rattle.std.specs.Map.{values_of, lookup}
 use Rattle.std.proofs.lemmas.Bool.{false_from_ne_true, eqb-true}
@@ -10,6 +10,7 @@ use Rattle.cics_names.specs.KeyedLaws.{is_same-self, is_same-eq}
 use Rattle.cics_names.specs.RisingLaws.{is_same-turned}
 use Rattle.cics_browse.specs.Positions.{Position}
 use Rattle.cics_dispatch.specs.Machine.{Task, task_at, replaced, label_of, is_unit, with_browses}
+use Rattle.cics_dispatch.specs.TasksLoans.{with_browses_of, with_browses_at}
 use Rattle.cics_dispatch.specs.Tasks.{AreLabelled, AreTaskRowsKept, IsOwn, HasNoOwner, own_label, own_unit, had_by, had_at}
 
 -- ---- What is found
@@ -166,17 +167,8 @@ module _ (t w : Task) (label : w.label ≡ t.label) where
         both i j x (inr a) (inl b) = a.0 ∙ sym (fresh x a.1 j b)
         both i j x (inr a) (inr b) = a.0 ∙ sym b.0
 
--- a task that is written as it was changes nothing
-values_of-same : (es : List (Bytes × Task)) (at : ℕ) (v : Task) → slice_get (values_of es) at ≡ Some v → values_of (set_value_at es at v) ≡ values_of es
-values_of-same [] at v there = refl
-values_of-same (e ∷ es) zero v there = let is : v ≡ e.1 = cc in ap (λ r. r ∷ values_of es) is
-values_of-same (e ∷ es) (suc at) v there = ap (λ r. e.1 ∷ r) (values_of-same es at v there)
-
 -- another task w is written over the task v at a place
 module _ (es : List (Bytes × Task)) (ts : List Task) (at : ℕ) (v w : Task) (kept : AreTaskRowsKept es) (view : values_of es ≡ ts) (there : slice_get (values_of es) at ≡ Some v) where
-  pub unchanged : w ≡ v → values_of (set_value_at es at w) ≡ ts
-  unchanged same = ap (λ t. values_of (set_value_at es at t)) same ∙ values_of-same es at v there ∙ view
-
   -- w keeps the label
   module _ (label : w.label ≡ v.label) where
     pub changed : (f : Task → Task) → w ≡ f v → (t : Task) → slice_get ts at ≡ Some t → values_of (set_value_at es at w) ≡ replaced ts (f t)
@@ -215,11 +207,13 @@ module _ (es : List (Bytes × Task)) (ts : List Task) (at : ℕ) (v w : Task) (k
         owned i None at_i has = cc
         owned i (Some s) at_i has = none.other i s at_i has
 
-  -- w has other browses, or where memory was refused is v itself
-  module _ {A E : Type 0} (r : Result A E) (browses : Map Position) (ok : OnOk r (w ≡ with_browses v browses)) (err : OnErr r (w ≡ v)) where
-    pub kept-either : AreTaskRowsKept (set_value_at es at w)
-    kept-either = by r ok err
-      where
-        by : (s : Result A E) → OnOk s (w ≡ with_browses v browses) → OnErr s (w ≡ v) → AreTaskRowsKept (set_value_at es at w)
-        by (Ok a) is tt = kept-same (ap (λ t. t.label) is) (ap (λ t. t.unit) is)
-        by (Err e) tt is = kept-same (ap (λ t. t.label) is) (ap (λ t. t.unit) is)
+  -- w has other browses
+  pub other-browses : (browses : Map Position) → w ≡ with_browses v browses → values_of (set_value_at es at w) ≡ with_browses_at ts at browses
+  other-browses browses is = by (slice_get ts at) refl
+    where
+      by : (o : Option Task) → slice_get ts at ≡ o → values_of (set_value_at es at w) ≡ with_browses_of ts browses o
+      by None none = absurd (never (sym there ∙ ap (λ l. slice_get l at) view ∙ none))
+        where
+          never : Some v ≡ None → ⊥
+          never e = cc
+      by (Some t) one = changed (ap (λ s. s.label) is) (λ s. with_browses s browses) is t one

@@ -4,17 +4,18 @@ use Rattle.cics_names.specs.Keyed.{Bytes, value_at}
 use Rattle.cics_names.specs.declared.records.NoMemory.{NoMemory}
 use Rattle.cics_names.specs.declared.commands.Command.{Command}
 use Rattle.cics_names.specs.declared.commands.Verb.{Verb}
-use Rattle.cics_browse.specs.Positions.{read_next, after_next, read_prev, after_prev}
 use Rattle.cics_history.specs.Execution.{IsOpenUnit, item_asked}
 use Rattle.cics_history.specs.Records.{key_of}
 use Rattle.cics_history.specs.declared.ops.Op.{Op}
 use Rattle.cics_dispatch.specs.Machine.{Machine, Task, RegionValue, is_waiting, records_in, replaced}
+use Rattle.cics_dispatch.specs.Browses.{read_on, after_read_on}
 use Rattle.cics_dispatch.specs.Checks.{fault_of}
 use Rattle.cics_dispatch.specs.Replies.{cut, read_reply}
 use Rattle.cics_dispatch.specs.Steps.{Stepped, with_outcome, answered, browsed, by_op, busy_of, made_to_wait, op_of, ts_read}
 use Rattle.cics_dispatch.specs.Waking.{awaited_by}
 use Rattle.cics_dispatch.specs.KeptTasks.{IsReady}
 use Rattle.cics_dispatch.specs.Regions.{IsRegionKept}
+use Rattle.cics_dispatch.specs.declared.browses.Direction.{Direction}
 use Rattle.cics_dispatch.specs.declared.outcomes.Outcome.{Outcome}
 use Rattle.cics_dispatch.specs.declared.outcomes.Attempt.{Attempt}
 use Rattle.cics_dispatch.specs.declared.outcomes.Attempt.TheVariants.{Told, MustWait}
@@ -73,17 +74,11 @@ reading m resp file key limit generic gteq t =
 abbrev pub reading_item : Machine → Bool → Bytes → Option ℕ → Option ℕ → Task → Stepped Outcome
 reading_item m resp q limit item t = ts_read m t resp q limit (item_asked m.units q item)
 
--- READNEXT as a step of a task
-abbrev pub reading_next : Machine → Bool → Bytes → Option ℕ → Task → Stepped Outcome
-reading_next m resp file limit t =
+-- READNEXT, or READPREV, as a step of a task
+abbrev pub reading_on : Machine → Bool → Bytes → Option ℕ → Direction → Task → Stepped Outcome
+reading_on m resp file limit direction t =
     let records = records_in m file in
-    browsed m t resp file limit (value_at file t.browses) (read_next records) (after_next records)
-
--- READPREV as a step of a task
-abbrev pub reading_prev : Machine → Bool → Bytes → Option ℕ → Task → Stepped Outcome
-reading_prev m resp file limit t =
-    let records = records_in m file in
-    browsed m t resp file limit (value_at file t.browses) (read_prev records) (after_prev records)
+    browsed m t resp file limit (value_at file t.browses) (read_on direction records) (after_read_on direction records)
 
 -- a command of the task, from the look at what other units hold on, as a step of it
 abbrev pub going_on : Machine → Command → Option Op → Task → Stepped Outcome

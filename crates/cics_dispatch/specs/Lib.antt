@@ -10,6 +10,9 @@ pub mod Shutdown
 pub mod Refusals
 pub mod KeptTasks
 pub mod Browses
+pub mod BrowseLoans
+pub mod TaskLoans
+pub mod TasksLoans
 pub mod Tasks
 pub mod Regions
 pub mod Waits

@@ -169,7 +169,7 @@ browse_reply b = record { condition = b.condition; key = b.key; content = b.cont
 abbrev pub with_browse : Task → Bytes → Position → Task
 with_browse t f p = with_browses t (with_value f p t.browses)
 
--- STARTBR opens a browse where it finds its place, and is else NOTFND
+-- STARTBR opens a browse where it finds its start, and is else NOTFND
 abbrev pub started : Machine → Task → Bool → Bytes → Bytes → Bool → Bool → Stepped Outcome
 started m t resp f key generic equal =
     let owner = with_browse t f (start_at key generic) in
@@ -177,7 +177,7 @@ started m t resp f key generic equal =
     then answered (with_task m owner) owner resp (plain Normal)
     else answered m t resp (plain Notfnd)
 
--- RESETBR moves the browse to another place, and where it finds none leaves it
+-- RESETBR moves the browse to another position; where it finds no start there, the browse stays as it is
 abbrev pub reset : Machine → Task → Bool → Bytes → Bytes → Bool → Bool → Option Position → Stepped Outcome
 reset m t resp f key generic equal None = answered m t resp (plain Invreq)
 reset m t resp f key generic equal (Some p) =

@@ -1,17 +1,47 @@
 //! The browses of a task, by file.
 
 ghost use Rattle.std.specs.Prelude.{◌≡◌, [], OnOk, OnErr, IfOk};
-ghost use Rattle.std.specs.Option.{option_copied};
+ghost use Rattle.std.specs.Borrow.{sem};
+ghost use Rattle.std.specs.Option.{option_copied, option_copied_mut};
 ghost use Rattle.cics_names.specs.Keyed.{value_at, with_value, without};
-ghost use Rattle.cics_dispatch.specs.Browses.{reset_told, reset_moved, next_told, next_moved};
-ghost use Rattle.cics_dispatch.specs.Browses.{prev_told, prev_moved};
+ghost use Rattle.cics_dispatch.specs.Browses.{read_on, after_read_on};
+ghost use Rattle.cics_dispatch.specs.BrowseLoans.{LendsBrowse};
 
 use cics_browse::{Browse, Browsed};
 use cics_ksds::File;
-use cics_names::{Condition, Name8, NoMemory, Record};
+use cics_names::{Name8, NoMemory};
 use std::alloc::Global;
 use std::collections::BTreeMap;
 use std::marker::Model;
+
+/// Which way a browse reads on.
+#[derive(Clone, Copy)]
+pub(crate) enum Direction {
+    /// READNEXT: towards the greater keys.
+    Forward,
+    /// READPREV: towards the lesser keys.
+    Back,
+}
+
+/// Reads on in a browse, as `Browse::next` or `Browse::prev` does. `file` is the browse's own file as it stands.
+///
+/// `Err` comes only where memory for the copies is refused, and then the position stays.
+pub(crate) fn read_on(
+    browse: &mut Browse,
+    file: &File,
+    direction: Direction,
+) -> Result<Browsed, NoMemory>
+    ensures reply { IfOk result (λ reply. reply
+        ≡ read_on direction file.now.records browse.old) }
+    ensures position { OnOk result (browse.new
+        ≡ after_read_on direction file.now.records browse.old) }
+    ensures err { OnErr result (browse.new ≡ browse.old) }
+{
+    match direction {
+        Direction::Forward => browse.next(file),
+        Direction::Back => browse.prev(file),
+    }
+}
 
 /// The open browses of a task, each under the name of its file: a task has one browse of a file at most.
 ///
@@ -51,6 +81,14 @@ impl Browses {
         self.rows.get(file)
     }
 
+    /// The browse of a file, to be moved, or `None` where none is open. A browse that is left where it was changes none.
+    pub(crate) fn get_mut(&mut self, file: &Name8) -> Option<&mut Browse>
+        ensures* writes_back { sem 𝓛 (LendsBrowse self.entry file.now result) }
+        ensures browse { option_copied_mut result ≡ value_at file.now self.old }
+    {
+        self.rows.get_mut(file)
+    }
+
     /// Puts a browse of a file in, in the place of the one that was open.
     ///
     /// Where memory is refused all browses stay as they were, and the one that was handed in goes.
@@ -74,60 +112,5 @@ impl Browses {
         ensures { self.new ≡ [] }
     {
         self.rows.clear();
-    }
-
-    /// Makes a key the position of the browse of a file, as `Browse::reset` does, and answers its condition: `None`
-    /// where no browse of the file is open. Takes no memory.
-    ///
-    /// `records` is the file itself as it stands; `generic` and `equal` are those of RESETBR.
-    pub(crate) fn reset(
-        &mut self,
-        file: &Name8,
-        records: &File,
-        key: Record,
-        generic: bool,
-        equal: bool,
-    ) -> Option<Condition>
-        ensures condition { result
-            ≡ reset_told records.now.records key generic equal file.now self.old }
-        ensures position { self.new
-            ≡ reset_moved records.now.records key generic equal file.now self.old }
-    {
-        let browse = self.rows.get_mut(file)?;
-        Some(browse.reset(records, key, generic, equal))
-    }
-
-    /// Reads on in the browse of a file, as `Browse::next` does: `None` where no browse of the file is open.
-    ///
-    /// `records` is the file itself as it stands. `Err` comes only where memory for the copies is refused, and then
-    /// the position stays.
-    pub(crate) fn next(&mut self, file: &Name8, records: &File) -> Result<Option<Browsed>, NoMemory>
-        ensures reply { IfOk result (λ reply. reply
-            ≡ next_told records.now.records file.now self.old) }
-        ensures position { OnOk result (self.new
-            ≡ next_moved records.now.records file.now self.old) }
-        ensures err { OnErr result (self.new ≡ self.old) }
-    {
-        let Some(browse) = self.rows.get_mut(file) else {
-            return Ok(None);
-        };
-        Ok(Some(browse.next(records)?))
-    }
-
-    /// Reads back in the browse of a file, as `Browse::prev` does: `None` where no browse of the file is open.
-    ///
-    /// `records` is the file itself as it stands. `Err` comes only where memory for the copies is refused, and then
-    /// the position stays.
-    pub(crate) fn prev(&mut self, file: &Name8, records: &File) -> Result<Option<Browsed>, NoMemory>
-        ensures reply { IfOk result (λ reply. reply
-            ≡ prev_told records.now.records file.now self.old) }
-        ensures position { OnOk result (self.new
-            ≡ prev_moved records.now.records file.now self.old) }
-        ensures err { OnErr result (self.new ≡ self.old) }
-    {
-        let Some(browse) = self.rows.get_mut(file) else {
-            return Ok(None);
-        };
-        Ok(Some(browse.prev(records)?))
     }
 }

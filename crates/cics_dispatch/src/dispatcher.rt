@@ -263,7 +263,7 @@ impl Dispatcher {
         let Some(definition) = self.definition(name) else {
             return Some(Condition::Dsiderr);
         };
-        let browse = self.tasks.get(at).browse(name);
+        let browse = self.tasks.get(at).browses().get(name);
         file_fault(definition, self.open_key(at, name), browse, verb)
     }
 

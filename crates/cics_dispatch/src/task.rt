@@ -1,18 +1,14 @@
 //! A task.
 
-ghost use Rattle.std.specs.Prelude.{◌≡◌, [], None, OnOk, OnErr, IfOk};
-ghost use Rattle.std.specs.Option.{option_copied};
-ghost use Rattle.cics_names.specs.Keyed.{value_at, with_value, without};
-ghost use Rattle.cics_dispatch.specs.Browses.{reset_told, reset_moved, next_told, next_moved};
-ghost use Rattle.cics_dispatch.specs.Browses.{prev_told, prev_moved};
-ghost use Rattle.cics_dispatch.specs.Machine.{with_unit, with_browses};
+ghost use Rattle.std.specs.Prelude.{◌≡◌, [], None};
+ghost use Rattle.std.specs.Borrow.{sem};
+ghost use Rattle.cics_dispatch.specs.Machine.{with_unit};
 ghost use Rattle.cics_dispatch.specs.Steps.{new_task};
+ghost use Rattle.cics_dispatch.specs.TaskLoans.{LendsBrowses};
 
 use crate::browses::Browses;
-use cics_browse::{Browse, Browsed};
 use cics_enqueue::UnitId;
-use cics_ksds::File;
-use cics_names::{Condition, Name8, NoMemory, Record};
+use cics_names::Name8;
 use std::alloc::Global;
 use std::marker::Model;
 
@@ -83,11 +79,19 @@ impl Task {
         self.has_ended
     }
 
-    /// Its browse of a file, or `None` where none is open.
-    pub(crate) fn browse(&self, file: &Name8) -> Option<&Browse>
-        ensures { option_copied result ≡ value_at file.now self.now.browses }
+    /// Its browses.
+    pub(crate) fn browses(&self) -> &Browses
+        ensures { result.now ≡ self.now.browses }
     {
-        self.browses.get(file)
+        &self.browses
+    }
+
+    /// Its browses, to be changed.
+    pub(crate) fn browses_mut(&mut self) -> &mut Browses
+        ensures* writes_back { sem 𝓛 (LendsBrowses self.entry result) }
+        ensures browses { result.now ≡ self.old.browses }
+    {
+        &mut self.browses
     }
 
     /// Gives it a unit.
@@ -109,60 +113,5 @@ impl Task {
         self.browses.end_all();
         self.has_ended = has_ended;
         unit
-    }
-
-    /// Opens a browse of a file, as `Browses::put` does.
-    pub(crate) fn put_browse(&mut self, file: Name8, browse: Browse) -> Result<(), NoMemory>
-        ensures ok { OnOk result
-            (self.new ≡ with_browses self.old (with_value file browse self.old.browses)) }
-        ensures err { OnErr result (self.new ≡ self.old) }
-    {
-        self.browses.put(file, browse)
-    }
-
-    /// Ends its browse of a file.
-    pub(crate) fn end_browse(&mut self, file: &Name8)
-        ensures { self.new ≡ with_browses self.old (without file.now self.old.browses) }
-    {
-        self.browses.end(file);
-    }
-
-    /// RESETBR of its browse of a file, as `Browses::reset` does.
-    pub(crate) fn reset_browse(
-        &mut self,
-        file: &Name8,
-        records: &File,
-        key: Record,
-        generic: bool,
-        equal: bool,
-    ) -> Option<Condition>
-        ensures condition { result
-            ≡ reset_told records.now.records key generic equal file.now self.old.browses }
-        ensures task { self.new ≡ with_browses self.old
-            (reset_moved records.now.records key generic equal file.now self.old.browses) }
-    {
-        self.browses.reset(file, records, key, generic, equal)
-    }
-
-    /// READNEXT of its browse of a file, as `Browses::next` does.
-    pub(crate) fn next(&mut self, file: &Name8, records: &File) -> Result<Option<Browsed>, NoMemory>
-        ensures reply { IfOk result (λ reply. reply
-            ≡ next_told records.now.records file.now self.old.browses) }
-        ensures task { OnOk result (self.new ≡ with_browses self.old
-            (next_moved records.now.records file.now self.old.browses)) }
-        ensures err { OnErr result (self.new ≡ self.old) }
-    {
-        self.browses.next(file, records)
-    }
-
-    /// READPREV of its browse of a file, as `Browses::prev` does.
-    pub(crate) fn prev(&mut self, file: &Name8, records: &File) -> Result<Option<Browsed>, NoMemory>
-        ensures reply { IfOk result (λ reply. reply
-            ≡ prev_told records.now.records file.now self.old.browses) }
-        ensures task { OnOk result (self.new ≡ with_browses self.old
-            (prev_moved records.now.records file.now self.old.browses)) }
-        ensures err { OnErr result (self.new ≡ self.old) }
-    {
-        self.browses.prev(file, records)
     }
 }

@@ -1,23 +1,20 @@
 //! The tasks of a region.
 
 ghost use Rattle.std.specs.Prelude.{◌≡◌, ◌<◌, ℕ, [], ◌∷◌, ◌++◌, Some, None, length, slice_get};
-ghost use Rattle.std.specs.Prelude.{unwrap_or, OnOk, OnErr, IfOk, IfSome, IfNone};
+ghost use Rattle.std.specs.Prelude.{unwrap_or, OnOk, OnErr, IfSome, IfNone};
+ghost use Rattle.std.specs.Borrow.{sem};
 ghost use Rattle.std.specs.Map.{values_of};
-ghost use Rattle.cics_names.specs.Keyed.{with_value, without};
-ghost use Rattle.cics_dispatch.specs.Browses.{reset_told, reset_moved, next_told, next_moved};
-ghost use Rattle.cics_dispatch.specs.Browses.{prev_told, prev_moved};
-ghost use Rattle.cics_dispatch.specs.Machine.{Task as TaskValue, task_at, replaced, label_of};
-ghost use Rattle.cics_dispatch.specs.Machine.{with_unit, with_browses};
+ghost use Rattle.cics_dispatch.specs.Machine.{Task as TaskValue, task_at, label_of, with_unit};
 ghost use Rattle.cics_dispatch.specs.Steps.{new_task};
 ghost use Rattle.cics_dispatch.specs.Tasks.{own_unit, IsOwn, HasNoOwner};
 ghost use Rattle.cics_dispatch.specs.Tasks.{HasRoomForUnits, AreOwnersKept};
+ghost use Rattle.cics_dispatch.specs.TasksLoans.{LendsBrowsesAt};
 ghost use Rattle.cics_dispatch.specs.Calls.{OfTask, HasChanged};
 
+use crate::browses::Browses;
 use crate::task::Task;
-use cics_browse::{Browse, Browsed};
 use cics_enqueue::UnitId;
-use cics_ksds::File;
-use cics_names::{Condition, Name8, NoMemory, Record};
+use cics_names::{Name8, NoMemory};
 use indexmap::IndexMap;
 use std::alloc::Global;
 use std::marker::Model;
@@ -167,93 +164,13 @@ impl Tasks {
         Some(unit)
     }
 
-    /// Puts a browse of a file into the task at a place, in the place of the one that was open.
-    ///
-    /// Where memory is refused all tasks stay as they were, and the browse that was handed in goes.
-    pub(crate) fn put_browse(
-        &mut self,
-        at: usize,
-        file: Name8,
-        browse: Browse,
-    ) -> Result<(), NoMemory>
+    /// The browses of the task at a place, to be changed. Only they are lent, not the task, which is found by its label and
+    /// by its unit.
+    pub(crate) fn browses_mut(&mut self, at: usize) -> &mut Browses
         requires { at < length self.old }
-        ensures ok { OfTask self.old at
-            (λ t. OnOk result (self.new
-            ≡ replaced self.old (with_browses t (with_value file browse t.browses)))) }
-        ensures err { OnErr result (self.new ≡ self.old) }
+        ensures* writes_back { sem 𝓛 (LendsBrowsesAt self.entry at result) }
+        ensures browses { OfTask self.old at (λ t. result.now ≡ t.browses) }
     {
-        self.rows[at].put_browse(file, browse)
-    }
-
-    /// Ends the browse of a file of the task at a place, if one is open. Takes no memory.
-    pub(crate) fn end_browse(&mut self, at: usize, file: &Name8)
-        requires { at < length self.old }
-        ensures { HasChanged self.old at
-            (λ t. with_browses t (without file.now t.browses)) self.new }
-    {
-        self.rows[at].end_browse(file);
-    }
-
-    /// RESETBR: makes a key the position of the browse of a file of the task at a place, and answers the condition, or
-    /// `None` where no browse of the file is open. Takes no memory.
-    ///
-    /// `records` is the file itself as it stands; `generic` and `equal` are those of `Browse::reset`.
-    pub(crate) fn reset_browse(
-        &mut self,
-        at: usize,
-        file: &Name8,
-        records: &File,
-        key: Record,
-        generic: bool,
-        equal: bool,
-    ) -> Option<Condition>
-        requires { at < length self.old }
-        ensures condition { OfTask self.old at (λ t. result
-            ≡ reset_told records.now.records key generic equal file.now t.browses) }
-        ensures position { HasChanged self.old at (λ t. with_browses t
-            (reset_moved records.now.records key generic equal file.now t.browses)) self.new }
-    {
-        self.rows[at].reset_browse(file, records, key, generic, equal)
-    }
-
-    /// READNEXT: reads on in the browse of a file of the task at a place; `None` where no browse of the file is open.
-    ///
-    /// `records` is the file itself as it stands. `Err` comes only where memory for the copies is refused, and then
-    /// all tasks stay as they were.
-    pub(crate) fn next(
-        &mut self,
-        at: usize,
-        file: &Name8,
-        records: &File,
-    ) -> Result<Option<Browsed>, NoMemory>
-        requires { at < length self.old }
-        ensures reply { OfTask self.old at (λ t. IfOk result (λ reply. reply
-            ≡ next_told records.now.records file.now t.browses)) }
-        ensures position { OfTask self.old at (λ t. OnOk result (self.new ≡ replaced self.old
-            (with_browses t (next_moved records.now.records file.now t.browses)))) }
-        ensures err { OnErr result (self.new ≡ self.old) }
-    {
-        self.rows[at].next(file, records)
-    }
-
-    /// READPREV: reads back in the browse of a file of the task at a place; `None` where no browse of the file is
-    /// open.
-    ///
-    /// `records` is the file itself as it stands. `Err` comes only where memory for the copies is refused, and then
-    /// all tasks stay as they were.
-    pub(crate) fn prev(
-        &mut self,
-        at: usize,
-        file: &Name8,
-        records: &File,
-    ) -> Result<Option<Browsed>, NoMemory>
-        requires { at < length self.old }
-        ensures reply { OfTask self.old at (λ t. IfOk result (λ reply. reply
-            ≡ prev_told records.now.records file.now t.browses)) }
-        ensures position { OfTask self.old at (λ t. OnOk result (self.new ≡ replaced self.old
-            (with_browses t (prev_moved records.now.records file.now t.browses)))) }
-        ensures err { OnErr result (self.new ≡ self.old) }
-    {
-        self.rows[at].prev(file, records)
+        self.rows[at].browses_mut()
     }
 }

@@ -1,27 +1,23 @@
 //! Plain READ, UNLOCK and browses of the tasks of a region.
 
-ghost use Rattle.std.specs.Prelude.{◌≡◌, ◌<◌, true, Some, if◌then◌else◌, is_some, length, IfOk};
-ghost use Rattle.std.specs.Prelude.{OnOk, OnErr};
+ghost use Rattle.std.specs.Prelude.{◌≡◌, ◌<◌, true, is_some, length};
 ghost use Rattle.cics_names.specs.Keyed.{value_at};
-ghost use Rattle.cics_names.specs.declared.conditions.Condition.TheVariants.{Normal, Notfnd};
+ghost use Rattle.cics_names.specs.declared.conditions.Condition.TheVariants.{Normal};
 ghost use Rattle.cics_history.specs.Execution.{IsOpenOrNone};
 ghost use Rattle.cics_history.specs.Headline.{IsHeadline};
-ghost use Rattle.cics_browse.specs.Positions.{finds_start, start_at, read_next, read_prev};
-ghost use Rattle.cics_dispatch.specs.Machine.{Machine, definition_of, replaced, with_units};
+ghost use Rattle.cics_dispatch.specs.Machine.{Machine, definition_of, with_units};
 ghost use Rattle.cics_dispatch.specs.Replies.{plain};
-ghost use Rattle.cics_dispatch.specs.Steps.{answered, unlocked, started, with_browse, reset};
-ghost use Rattle.cics_dispatch.specs.Steps.{browsed, browse_ended};
-ghost use Rattle.cics_dispatch.specs.Calls.{OfTask, IsAwake, HasBrowse, IsStepOf};
-ghost use Rattle.cics_dispatch.specs.Calls.{IsStepOrRefused, reading, reading_next, reading_prev};
+ghost use Rattle.cics_dispatch.specs.Steps.{answered, unlocked, started, reset, browse_ended};
+ghost use Rattle.cics_dispatch.specs.Calls.{IsAwake, HasBrowse, IsStepOf};
+ghost use Rattle.cics_dispatch.specs.Calls.{IsStepOrRefused, reading, reading_on};
 
+use crate::browses::{Direction, read_on};
 use crate::dispatcher::Dispatcher;
 use crate::outcomes::Outcome;
 use crate::reads::{plain_reply, read_plain};
 use crate::replies::reply_of_browsed;
-use crate::tasks::Tasks;
 use cics_browse::Browse;
 use cics_enqueue::UnitId;
-use cics_ksds::File;
 use cics_names::{Condition, Name8, NoMemory, Record};
 use cics_units::Units;
 
@@ -37,32 +33,6 @@ fn unlock_file(units: &mut Units, unit: Option<UnitId>, name: &Name8)
         return;
     };
     units.unlock(unit, name);
-}
-
-// Opens a browse of a file for the task at a place where it finds its start, and answers the condition.
-fn open_browse(
-    tasks: &mut Tasks,
-    at: usize,
-    file: &File,
-    name: Name8,
-    key: Record,
-    generic: bool,
-    equal: bool,
-) -> Result<Condition, NoMemory>
-    requires { at < length tasks.old }
-    ensures condition { IfOk result (λ condition. condition
-        ≡ (if finds_start file.now.records key generic equal then Normal else Notfnd)) }
-    ensures tasks { OfTask tasks.old at (λ t. OnOk result (tasks.new
-        ≡ (if finds_start file.now.records key generic equal
-        then replaced tasks.old (with_browse t name (start_at key generic))
-        else tasks.old))) }
-    ensures err { OnErr result (tasks.new ≡ tasks.old) }
-{
-    let Some(browse) = Browse::start(file, key, generic, equal) else {
-        return Ok(Condition::Notfnd);
-    };
-    tasks.put_browse(at, name, browse)?;
-    Ok(Condition::Normal)
 }
 
 impl Dispatcher {
@@ -121,8 +91,11 @@ impl Dispatcher {
         let Some(file) = self.units.file(&name) else {
             unreachable!();
         };
-        let condition = open_browse(&mut self.tasks, at, file, name, key, generic, equal)?;
-        Ok(self.answer(at, resp, plain_reply(condition)))
+        let Some(browse) = Browse::start(file, key, generic, equal) else {
+            return Ok(self.answer(at, resp, plain_reply(Condition::Notfnd)));
+        };
+        self.tasks.browses_mut(at).put(name, browse)?;
+        Ok(self.answer(at, resp, plain_reply(Condition::Normal)))
     }
 
     // RESETBR.
@@ -138,6 +111,7 @@ impl Dispatcher {
         requires within { at < length self.old.machine.tasks }
         requires awake { IsAwake self.old.machine at }
         requires there { is_some (definition_of self.old.machine name.now) ≡ true }
+        requires browsing { HasBrowse self.old.machine at name.now }
         ensures step { IsStepOf self.old at
             (λ t. reset self.old.machine t resp name.now key generic equal
             (value_at name.now t.browses)) result self.new }
@@ -145,56 +119,36 @@ impl Dispatcher {
         let Some(file) = self.units.file(name) else {
             unreachable!();
         };
-        let condition = self.tasks.reset_browse(at, name, file, key, generic, equal);
-        let condition = condition.unwrap_or(Condition::Invreq);
+        let Some(browse) = self.tasks.browses_mut(at).get_mut(name) else {
+            unreachable!();
+        };
+        let condition = browse.reset(file, key, generic, equal);
         self.answer(at, resp, plain_reply(condition))
     }
 
-    // READNEXT.
-    pub(super) fn read_next(
+    // READNEXT, forward, and READPREV, back.
+    pub(super) fn read_on(
         &mut self,
         at: usize,
         resp: bool,
         name: &Name8,
         limit: Option<u64>,
+        direction: Direction,
     ) -> Result<Outcome, NoMemory>
         requires within { at < length self.old.machine.tasks }
         requires awake { IsAwake self.old.machine at }
         requires there { is_some (definition_of self.old.machine name.now) ≡ true }
         requires browsing { HasBrowse self.old.machine at name.now }
         ensures step { IsStepOrRefused self.old at
-            (reading_next self.old.machine resp name.now limit) result self.new }
+            (reading_on self.old.machine resp name.now limit direction) result self.new }
     {
         let Some(file) = self.units.file(name) else {
             unreachable!();
         };
-        let Some(browsed) = self.tasks.next(at, name, file)? else {
+        let Some(browse) = self.tasks.browses_mut(at).get_mut(name) else {
             unreachable!();
         };
-        Ok(self.answer(at, resp, reply_of_browsed(browsed, limit)))
-    }
-
-    // READPREV.
-    pub(super) fn read_prev(
-        &mut self,
-        at: usize,
-        resp: bool,
-        name: &Name8,
-        limit: Option<u64>,
-    ) -> Result<Outcome, NoMemory>
-        requires within { at < length self.old.machine.tasks }
-        requires awake { IsAwake self.old.machine at }
-        requires there { is_some (definition_of self.old.machine name.now) ≡ true }
-        requires browsing { HasBrowse self.old.machine at name.now }
-        ensures step { IsStepOrRefused self.old at
-            (reading_prev self.old.machine resp name.now limit) result self.new }
-    {
-        let Some(file) = self.units.file(name) else {
-            unreachable!();
-        };
-        let Some(browsed) = self.tasks.prev(at, name, file)? else {
-            unreachable!();
-        };
+        let browsed = read_on(browse, file, direction)?;
         Ok(self.answer(at, resp, reply_of_browsed(browsed, limit)))
     }
 
@@ -205,7 +159,7 @@ impl Dispatcher {
         ensures step { IsStepOf self.old at
             (λ t. browse_ended self.old.machine t resp name.now) result self.new }
     {
-        self.tasks.end_browse(at, name);
+        self.tasks.browses_mut(at).end(name);
         self.answer(at, resp, plain_reply(Condition::Normal))
     }
 }

@@ -1,7 +1,8 @@
 //! The commands of the tasks of a region, from the look at what other units hold on.
 
-ghost use Rattle.std.specs.Prelude.{◌≡◌, ◌<◌, true, false, None, length, if◌then◌else◌};
+ghost use Rattle.std.specs.Prelude.{◌≡◌, ◌<◌, true, false, None, is_some, length, if◌then◌else◌};
 ghost use Rattle.std.specs.Prelude.{IsTrue, IfOk, OnErr};
+ghost use Rattle.cics_names.specs.Commands.{file_named};
 ghost use Rattle.cics_dispatch.specs.Machine.{unit_closed};
 ghost use Rattle.cics_dispatch.specs.Steps.{op_of, code_of, performed, issued};
 ghost use Rattle.cics_dispatch.specs.Answers.{is_growing, may_want, IsStep};
@@ -12,6 +13,7 @@ ghost use Rattle.cics_history.specs.declared.ops.UnitState.TheVariants.{Committe
 ghost use Rattle.cics_dispatch.specs.Calls.{OfTask, IsAwake, MayPerform, KeepsRegion};
 ghost use Rattle.cics_dispatch.specs.Calls.{IsStepOrRefused, going_on};
 
+use crate::browses::Direction;
 use crate::dispatcher::Dispatcher;
 use crate::outcomes::{Outcome, Refused};
 use crate::reads::plain_reply;
@@ -54,9 +56,22 @@ impl Dispatcher {
             (going_on self.old.machine command None) result self.new }
         ensures growing { OnErr result (IsTrue (is_growing command.verb)) }
     {
-        if let Verb::Enq { .. } = &command.verb {
-            return self.enqueue(at, command);
+        if command.verb.file().is_some() {
+            self.perform_on_file(at, command)
+        } else {
+            self.perform_on_no_file(at, command)
         }
+    }
+
+    // A command of the task at a place that names a file and updates nothing.
+    fn perform_on_file(&mut self, at: usize, command: Command) -> Result<Outcome, NoMemory>
+        requires within { at < length self.old.machine.tasks }
+        requires may { MayPerform self.old.machine at command.verb }
+        requires named { is_some (file_named command.verb) ≡ true }
+        ensures step { IsStepOrRefused self.old at
+            (going_on self.old.machine command None) result self.new }
+        ensures growing { OnErr result (IsTrue (is_growing command.verb)) }
+    {
         let Command { verb, resp } = command;
         match verb {
             Verb::Read {
@@ -82,9 +97,31 @@ impl Dispatcher {
                 equal,
                 ..
             } => Ok(self.reset_browse(at, resp, &file, ridfld, generic, equal)),
-            Verb::ReadNext { file, length } => self.read_next(at, resp, &file, length),
-            Verb::ReadPrev { file, length } => self.read_prev(at, resp, &file, length),
+            Verb::ReadNext { file, length } => {
+                self.read_on(at, resp, &file, length, Direction::Forward)
+            }
+            Verb::ReadPrev { file, length } => {
+                self.read_on(at, resp, &file, length, Direction::Back)
+            }
             Verb::EndBr { file } => Ok(self.end_browse(at, resp, &file)),
+            _ => Ok(self.answer(at, resp, plain_reply(Condition::Invreq))),
+        }
+    }
+
+    // A command of the task at a place that names no file and updates nothing.
+    fn perform_on_no_file(&mut self, at: usize, command: Command) -> Result<Outcome, NoMemory>
+        requires within { at < length self.old.machine.tasks }
+        requires may { MayPerform self.old.machine at command.verb }
+        requires named { is_some (file_named command.verb) ≡ false }
+        ensures step { IsStepOrRefused self.old at
+            (going_on self.old.machine command None) result self.new }
+        ensures growing { OnErr result (IsTrue (is_growing command.verb)) }
+    {
+        if let Verb::Enq { .. } = &command.verb {
+            return self.enqueue(at, command);
+        }
+        let Command { verb, resp } = command;
+        match verb {
             Verb::ReadqTs {
                 queue,
                 length,

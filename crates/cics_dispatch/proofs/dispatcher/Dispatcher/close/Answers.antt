@@ -1,34 +1,34 @@
-use Rattle.std.proofs.Common.{◌≡◌, ◌∙◌, sym, ap, subst, ◌<◌, length, Some, false}
-use Rattle.std.specs.Prelude.{if◌then◌else◌, slice_get}
+use Rattle.std.proofs.Common.{◌∙◌, sym, ap, subst}
+use Rattle.std.specs.Prelude.{if◌then◌else◌}
 use Rattle.cics_history.specs.Execution.{IsOpenOrNone}
 use Rattle.cics_history.specs.declared.ops.UnitState.TheVariants.{Committed, BackedOut}
-use Rattle.cics_dispatch.specs.Machine.{Task, is_waiting, units_after}
+use Rattle.cics_dispatch.specs.Machine.{units_after}
 use Rattle.cics_dispatch.specs.Regions.{region_of}
 use Rattle.cics_dispatch.proofs.KeptTasks.{acting_or_none}
-use Rattle.cics_dispatch.proofs.RegionSteps.{task_there, closed_kept, end_shut}
+use Rattle.cics_dispatch.proofs.RegionSteps.{seen_task, seen_awake, closed_kept, end_shut}
 use Rattle.cics_dispatch.proofs.dispatcher.Dispatcher.close.Goals as goal
 
 pub end_unit-requires-clause-is_open : goal.end_unit-requires-clause-is_open
 end_unit-requires-clause-is_open c =
     let u = c.self.inside in
     let m = (region_of u.units u.tasks u.waits u.clock u.is_down).machine in
-    task_there u.tasks c.args.at (subst (λ v. c.args.at < length v.machine.tasks) (sym c.self.view_is) c.requires.within) (λ t there.
+    seen_task c.args.at c.self.view_is c.requires.within (λ t there.
     subst (IsOpenOrNone u.units.state) (sym (c.close_unit-unit.ensures.unit t there)) (acting_or_none m c.args.at t c.self.invariant.tasks there))
 
 pub invariant_of-self : goal.invariant_of-self
 invariant_of-self c =
     let u = c.self.inside in
-    task_there u.tasks c.args.at (subst (λ v. c.args.at < length v.machine.tasks) (sym c.self.view_is) c.requires.within) (λ t there.
+    seen_task c.args.at c.self.view_is c.requires.within (λ t there.
     closed_kept c.self.invariant c.end_unit.new.units c.close_unit-unit.new.self c.args.at t (if c.args.commits then Committed else BackedOut) c.args.has_ended there
-    (subst (λ v. (s : Task) → slice_get v.machine.tasks c.args.at ≡ Some s → is_waiting v.machine.waiting s.label ≡ false) (sym c.self.view_is) c.requires.awake t there)
+    (seen_awake c.args.at c.self.view_is c.requires.awake t there)
     (end_shut c.args.commits) (c.end_unit.ensures.state ∙ ap (λ o. units_after u.units.state o (if c.args.commits then Committed else BackedOut)) (c.close_unit-unit.ensures.unit t there))
     (c.close_unit-unit.ensures.task t there) c.end_unit.ensures.headline)
 
 pub returns-clause-kept : goal.returns-clause-kept
 returns-clause-kept c = λ was.
     let u = c.self.inside in
-    task_there u.tasks c.args.at (subst (λ v. c.args.at < length v.machine.tasks) (sym c.self.view_is) c.requires.within) (λ t there.
+    seen_task c.args.at c.self.view_is c.requires.within (λ t there.
     closed_kept c.self.invariant c.end_unit.new.units c.close_unit-unit.new.self c.args.at t (if c.args.commits then Committed else BackedOut) c.args.has_ended there
-    (subst (λ v. (s : Task) → slice_get v.machine.tasks c.args.at ≡ Some s → is_waiting v.machine.waiting s.label ≡ false) (sym c.self.view_is) c.requires.awake t there)
+    (seen_awake c.args.at c.self.view_is c.requires.awake t there)
     (end_shut c.args.commits) (c.end_unit.ensures.state ∙ ap (λ o. units_after u.units.state o (if c.args.commits then Committed else BackedOut)) (c.close_unit-unit.ensures.unit t there))
     (c.close_unit-unit.ensures.task t there) c.end_unit.ensures.headline)

@@ -1,9 +1,8 @@
-use Rattle.std.proofs.Common.{◌∙◌, sym, ap, subst}
-use Rattle.cics_dispatch.specs.Calls.{IsAwake}
+use Rattle.std.proofs.Common.{◌∙◌, ap}
 use Rattle.cics_names.specs.declared.conditions.Condition.TheVariants.{Normal}
 use Rattle.cics_dispatch.specs.Replies.{plain}
 use Rattle.cics_dispatch.specs.Steps.{answered, dequeued, units_dequeued}
-use Rattle.cics_dispatch.proofs.RegionSteps.{seen_step, then_told}
+use Rattle.cics_dispatch.proofs.RegionSteps.{seen_awake, seen_step, then_told}
 use Rattle.cics_dispatch.proofs.RegionEnqueuing.{dequeued_kept, dequeue_answered}
 use Rattle.cics_dispatch.proofs.dispatcher.Dispatcher.dequeue.Goals as goal
 
@@ -14,7 +13,7 @@ invariant_of-self c =
     let there = c.get.ensures in
     dequeued_kept c.self.invariant c.args.at t there c.args.value.now c.free_value.new.units
     (c.free_value.ensures.state ∙ ap (λ o. units_dequeued u.units.state o c.args.value.now) c.unit-unit.ensures)
-    (subst (λ v. IsAwake v.machine c.args.at) (sym c.self.view_is) c.requires.awake t there) c.free_value.ensures.headline
+    (seen_awake c.args.at c.self.view_is c.requires.awake t there) c.free_value.ensures.headline
 
 pub returns : goal.returns
 returns c =
@@ -26,6 +25,6 @@ returns c =
     record {
       step = seen_step c.args.at (λ m s. answered (dequeued m s.unit value) s c.args.resp (plain Normal)) c.self.view_is
           (then_told c.args.at t t c.args.resp c.plain_reply.result _ there there
-          (dequeued_kept c.self.invariant c.args.at t there value c.free_value.new.units state (subst (λ v. IsAwake v.machine c.args.at) (sym c.self.view_is) c.requires.awake t there) c.free_value.ensures.headline)
+          (dequeued_kept c.self.invariant c.args.at t there value c.free_value.new.units state (seen_awake c.args.at c.self.view_is c.requires.awake t there) c.free_value.ensures.headline)
           (dequeue_answered c.self.invariant c.args.at t there value c.free_value.new.units state c.args.resp c.plain_reply.result c.plain_reply.ensures) c.answer.ensures.step);
     }

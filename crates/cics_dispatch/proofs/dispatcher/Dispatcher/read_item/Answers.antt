@@ -1,11 +1,11 @@
-use Rattle.std.proofs.Common.{◌∙◌, ◌<◌, length, sym, ap, subst}
+use Rattle.std.proofs.Common.{◌∙◌, ap}
 use Rattle.std.specs.Prelude.{option_map}
 use Rattle.cics_history.specs.Execution.{item_asked}
-use Rattle.cics_dispatch.specs.Calls.{IsAwake, reading_item}
+use Rattle.cics_dispatch.specs.Calls.{reading_item}
 use Rattle.cics_dispatch.specs.Regions.{region_of}
 use Rattle.cics_dispatch.specs.Steps.{answered, reply_with}
 use Rattle.cics_dispatch.specs.declared.outcomes.Number.TheVariants.{Item}
-use Rattle.cics_dispatch.proofs.RegionSteps.{task_there, seen_step, then_told}
+use Rattle.cics_dispatch.proofs.RegionSteps.{seen_task, seen_awake, seen_step, then_told}
 use Rattle.cics_dispatch.proofs.RegionQueues.{item_read_machine, item_read_kept}
 use Rattle.cics_dispatch.proofs.dispatcher.Dispatcher.read_item.Goals as goal
 
@@ -13,10 +13,9 @@ pub invariant_of-self-2 : goal.invariant_of-self-2
 invariant_of-self-2 c =
     let u = c.self.inside in
     let q = c.args.queue.now in
-    let within = subst (λ v. c.args.at < length v.machine.tasks) (sym c.self.view_is) c.requires.within in
-    task_there u.tasks c.args.at within (λ t there.
+    seen_task c.args.at c.self.view_is c.requires.within (λ t there.
     item_read_kept c.self.invariant c.args.at t there q (item_asked u.units.state q c.args.item) c.read_ts.new.self c.in_ok-answer.ensures.state
-    (subst (λ v. IsAwake v.machine c.args.at) (sym c.self.view_is) c.requires.awake t there) c.in_ok-answer.ensures.headline)
+    (seen_awake c.args.at c.self.view_is c.requires.awake t there) c.in_ok-answer.ensures.headline)
 
 pub returns : goal.returns
 returns c =
@@ -24,14 +23,13 @@ returns c =
     let m = (region_of u.units u.tasks u.waits u.clock u.is_down).machine in
     let q = c.args.queue.now in
     let asked = item_asked u.units.state q c.args.item in
-    let within = subst (λ v. c.args.at < length v.machine.tasks) (sym c.self.view_is) c.requires.within in
     record {
-      step = task_there u.tasks c.args.at within (λ t there.
+      step = seen_task c.args.at c.self.view_is c.requires.within (λ t there.
           let told = c.reply_of_item.ensures ∙ ap (λ a. reply_with c.args.limit (option_map (λ k. Item k) a.number) a) c.in_ok-answer.ensures.answer in
           let machine = item_read_machine c.self.invariant c.args.at t there q asked c.read_ts.new.self c.in_ok-answer.ensures.state in
           seen_step c.args.at (λ k. reading_item k c.args.resp q c.args.limit c.args.item) c.self.view_is
           (then_told c.args.at t t c.args.resp c.reply_of_item.result (reading_item m c.args.resp q c.args.limit c.args.item) there there
           (item_read_kept c.self.invariant c.args.at t there q asked c.read_ts.new.self c.in_ok-answer.ensures.state
-          (subst (λ v. IsAwake v.machine c.args.at) (sym c.self.view_is) c.requires.awake t there) c.in_ok-answer.ensures.headline)
+          (seen_awake c.args.at c.self.view_is c.requires.awake t there) c.in_ok-answer.ensures.headline)
           (λ i. answered (machine i) t c.args.resp (told i)) c.answer.ensures.step));
     }

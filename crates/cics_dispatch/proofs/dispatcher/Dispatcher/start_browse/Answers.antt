@@ -1,47 +1,55 @@
-use Rattle.std.proofs.Common.{sym, subst, refl, ◌<◌, length}
-use Rattle.cics_dispatch.specs.Calls.{IsAwake}
-use Rattle.cics_browse.specs.Positions.{finds_start, start_at}
-use Rattle.cics_dispatch.specs.Steps.{started}
-use Rattle.cics_dispatch.proofs.RegionBrowses.{owner_there, owner_within, browses_kept, own_records, opened, opened_is, start_answered}
-use Rattle.cics_dispatch.specs.Machine.{with_browses}
-use Rattle.cics_dispatch.proofs.RegionSteps.{task_there, seen_step, then_told}
+use Rattle.std.proofs.Common.{◌∙◌, ap, sym}
+use Rattle.cics_names.specs.Keyed.{with_value}
+use Rattle.cics_names.specs.declared.conditions.Condition.TheVariants.{Normal}
+use Rattle.cics_dispatch.specs.Regions.{region_of}
+use Rattle.cics_dispatch.specs.Replies.{plain}
+use Rattle.cics_dispatch.specs.Steps.{answered, started}
+use Rattle.cics_dispatch.proofs.RegionBrowses.{owner_within, browses_kept, same_browses, own_records, then_told_so, started_there, not_started}
+use Rattle.cics_dispatch.proofs.RegionSteps.{seen_task, seen_awake, seen_step, told_as, refused_as_was}
 use Rattle.cics_dispatch.proofs.dispatcher.Dispatcher.start_browse.Goals as goal
 
-pub invariant_of-self-2 : goal.invariant_of-self-2
-invariant_of-self-2 c =
+pub returns-in_default-start : goal.returns-in_default-start
+returns-in_default-start c =
     let u = c.self.inside in
-    task_there u.tasks c.args.at (subst (λ v. c.args.at < length v.machine.tasks) (sym c.self.view_is) c.requires.within) (λ t there.
-    browses_kept c.self.invariant c.args.at t there c.open_browse.new.tasks (opened c.self.invariant c.args.at t there
-    (finds_start c.in-Some.file.now.records c.args.key c.args.generic c.args.equal) c.args.name (start_at c.args.key c.args.generic)).browses (subst
-    (λ v. IsAwake v.machine c.args.at) (sym c.self.view_is) c.requires.awake t there)
-    (opened_is c.self.invariant c.args.at t there c.open_browse.new.tasks
-    (finds_start c.in-Some.file.now.records c.args.key c.args.generic c.args.equal) c.args.name (start_at c.args.key c.args.generic)
-    (c.in_ok-condition.ensures.tasks t there)))
-
-pub answer-requires : goal.answer-requires
-answer-requires c =
-    let u = c.self.inside in
-    task_there u.tasks c.args.at (subst (λ v. c.args.at < length v.machine.tasks) (sym c.self.view_is) c.requires.within) (λ t there.
+    let m = (region_of u.units u.tasks u.waits u.clock u.is_down).machine in
+    let records = c.in-Some.file.now.records in
     record {
-      within = owner_within c.self.invariant c.args.at t there c.open_browse.new.tasks (opened c.self.invariant c.args.at t there
-          (finds_start c.in-Some.file.now.records c.args.key c.args.generic c.args.equal) c.args.name (start_at c.args.key c.args.generic)).browses
-          (opened_is c.self.invariant c.args.at t there c.open_browse.new.tasks
-          (finds_start c.in-Some.file.now.records c.args.key c.args.generic c.args.equal) c.args.name (start_at c.args.key c.args.generic)
-          (c.in_ok-condition.ensures.tasks t there));
-    })
+      step = seen_step c.args.at (λ k s. started k s c.args.resp c.args.name c.args.key c.args.generic c.args.equal) c.self.view_is
+          (told_as c.args.at (λ s. answered m s c.args.resp c.plain_reply.result) (λ s. started m s c.args.resp c.args.name c.args.key c.args.generic c.args.equal)
+          (λ t there. ap (answered m t c.args.resp) c.plain_reply.ensures ∙ not_started c.self.invariant c.args.at t there c.args.resp c.args.name c.args.key c.args.generic c.args.equal records
+          (own_records c.self.invariant c.args.at t there c.args.name records c.in-Some.ensures.records) (sym c.in_default-start.is ∙ c.start.ensures))
+          (seen_step c.args.at (λ k s. answered k s c.args.resp c.plain_reply.result) (sym c.self.view_is) c.answer.ensures.step));
+    }
+
+pub invariant_of-self : goal.invariant_of-self
+invariant_of-self c = seen_task c.args.at c.self.view_is c.requires.within (λ t there.
+    browses_kept c.self.invariant c.args.at t there c.put.new.self (seen_awake c.args.at c.self.view_is c.requires.awake t there))
+
+pub returns-in_err-put : goal.returns-in_err-put
+returns-in_err-put c = record {
+  step = seen_task c.args.at c.self.view_is c.requires.within (λ t there.
+      refused_as_was c.args.self.now _ c.from_residual.result c.args.at (λ s. started c.args.self.now.machine s c.args.resp c.args.name c.args.key c.args.generic c.args.equal)
+      c.from_residual.ensures.0
+      (same_browses c.self.invariant c.args.at t there c.put.new.self (c.in_err-put.ensures.err ∙ c.browses_mut.ensures.browses t there) ∙ c.self.view_is));
+}
+
+pub invariant_of-self-2 : goal.invariant_of-self-2
+invariant_of-self-2 c = seen_task c.args.at c.self.view_is c.requires.within (λ t there.
+    browses_kept c.self.invariant c.args.at t there c.put.new.self (seen_awake c.args.at c.self.view_is c.requires.awake t there))
+
+pub answer-requires-2 : goal.answer-requires-2
+answer-requires-2 c = record {
+  within = seen_task c.args.at c.self.view_is c.requires.within (λ t there. owner_within c.self.invariant c.args.at t there c.put.new.self);
+}
 
 pub returns : goal.returns
-returns c =
-    let u = c.self.inside in
-    record {
-      step = seen_step c.args.at (λ m s. started m s c.args.resp c.args.name c.args.key c.args.generic c.args.equal) c.self.view_is (
-          task_there u.tasks c.args.at (subst (λ v. c.args.at < length v.machine.tasks) (sym c.self.view_is) c.requires.within) (λ t there.
-          let browses = (opened c.self.invariant c.args.at t there (finds_start c.in-Some.file.now.records c.args.key c.args.generic c.args.equal) c.args.name (start_at c.args.key c.args.generic)).browses in
-          let changed = (opened_is c.self.invariant c.args.at t there c.open_browse.new.tasks (finds_start c.in-Some.file.now.records c.args.key c.args.generic c.args.equal) c.args.name (start_at c.args.key c.args.generic) (c.in_ok-condition.ensures.tasks t there)) in
-          then_told c.args.at t (with_browses t browses) c.args.resp c.plain_reply.result _ there
-          (owner_there c.self.invariant c.args.at t there c.open_browse.new.tasks browses changed) (browses_kept c.self.invariant c.args.at t there c.open_browse.new.tasks browses (subst (λ v. IsAwake v.machine c.args.at) (sym c.self.view_is) c.requires.awake t there) changed)
-          (start_answered c.self.invariant c.args.at t there c.open_browse.new.tasks c.args.resp c.args.name c.plain_reply.result c.args.key c.args.generic c.args.equal c.in-Some.file.now.records c.in_ok-condition.condition
-          (finds_start c.in-Some.file.now.records c.args.key c.args.generic c.args.equal) refl
-          (own_records c.self.invariant c.args.at t there c.args.name c.in-Some.file.now.records c.in-Some.ensures.records) c.in_ok-condition.ensures.condition
-          (c.in_ok-condition.ensures.tasks t there) c.plain_reply.ensures) c.answer.ensures.step));
-    }
+returns c = record {
+  step = seen_step c.args.at (λ m s. started m s c.args.resp c.args.name c.args.key c.args.generic c.args.equal) c.self.view_is (seen_task c.args.at c.self.view_is c.requires.within (λ t there.
+      let browse = c.in-Some-start.browse in
+      let records = c.in-Some.file.now.records in
+      then_told_so c.self.invariant c.args.at t there c.put.new.self c.args.resp c.plain_reply-2.result (plain Normal) _ (seen_awake c.args.at c.self.view_is c.requires.awake t there)
+      c.plain_reply-2.ensures
+      (started_there c.self.invariant c.args.at t there c.args.resp c.args.name c.args.key c.args.generic c.args.equal records
+      (own_records c.self.invariant c.args.at t there c.args.name records c.in-Some.ensures.records) browse c.put.new.self (sym c.in-Some-start.is ∙ c.start.ensures)
+      (c.in_ok-put.ensures.ok ∙ ap (with_value c.args.name browse) (c.browses_mut.ensures.browses t there))) c.answer-2.ensures.step));
+}

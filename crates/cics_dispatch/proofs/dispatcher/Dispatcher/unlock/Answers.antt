@@ -1,10 +1,9 @@
-use Rattle.std.proofs.Common.{◌∙◌, sym, ap, subst}
+use Rattle.std.proofs.Common.{◌∙◌, ap}
 use Rattle.cics_dispatch.specs.Regions.{region_of}
-use Rattle.cics_dispatch.specs.Calls.{IsAwake}
 use Rattle.cics_names.specs.declared.conditions.Condition.TheVariants.{Normal}
 use Rattle.cics_dispatch.specs.Replies.{plain}
 use Rattle.cics_dispatch.specs.Steps.{answered, unlocked}
-use Rattle.cics_dispatch.proofs.RegionSteps.{seen_step, then_told}
+use Rattle.cics_dispatch.proofs.RegionSteps.{seen_awake, seen_step, then_told}
 use Rattle.cics_dispatch.proofs.RegionBrowses.{unlocked_kept, unlock_answered}
 use Rattle.cics_dispatch.proofs.dispatcher.Dispatcher.unlock.Goals as goal
 
@@ -14,7 +13,7 @@ invariant_of-self c =
     let m = (region_of u.units u.tasks u.waits u.clock u.is_down).machine in
     let t = c.get.result.now in
     let there = c.get.ensures in
-    unlocked_kept c.self.invariant c.args.at t there c.unlock_file.new.units c.args.name.now (subst (λ v. IsAwake v.machine c.args.at) (sym c.self.view_is) c.requires.awake t there)
+    unlocked_kept c.self.invariant c.args.at t there c.unlock_file.new.units c.args.name.now (seen_awake c.args.at c.self.view_is c.requires.awake t there)
     (c.unlock_file.ensures.state m ∙ ap (λ o. unlocked m o c.args.name.now) c.unit-unit.ensures) c.unlock_file.ensures.headline
 
 pub returns : goal.returns
@@ -28,6 +27,6 @@ returns c =
     record {
       step = seen_step c.args.at (λ m s. answered (unlocked m s.unit name) s c.args.resp (plain Normal)) c.self.view_is
           (then_told c.args.at t t c.args.resp c.plain_reply.result _ there there
-          (unlocked_kept c.self.invariant c.args.at t there c.unlock_file.new.units name (subst (λ v. IsAwake v.machine c.args.at) (sym c.self.view_is) c.requires.awake t there) state c.unlock_file.ensures.headline)
+          (unlocked_kept c.self.invariant c.args.at t there c.unlock_file.new.units name (seen_awake c.args.at c.self.view_is c.requires.awake t there) state c.unlock_file.ensures.headline)
           (unlock_answered c.self.invariant c.args.at t there c.unlock_file.new.units name c.args.resp c.plain_reply.result state c.plain_reply.ensures) c.answer.ensures.step);
     }

@@ -1,12 +1,11 @@
 use Rattle.std.proofs.Common.{◌≡◌, ◌∙◌, ◌+◌, sym, ap, subst, arith, is_some, Some}
 use Rattle.std.specs.Prelude.{slice_get, if◌then◌else◌}
-use Rattle.std.specs.Map.{values_of}
 use Rattle.indexmap.specs.IndexMap.{index_map_len}
 use Rattle.cics_dispatch.specs.Machine.{replaced, with_unit}
-use Rattle.cics_dispatch.specs.Tasks.{own_label, IsOwn, HasNoOwner}
+use Rattle.cics_dispatch.specs.Tasks.{own_label, IsOwn}
 use Rattle.cics_dispatch.proofs.RegionSteps.{replaced_same, has_own_unit, own_unit_is}
-use Rattle.cics_dispatch.proofs.TaskTable.{changed, kept-begun}
-use Rattle.cics_dispatch.proofs.TaskOwners.{none_from, idle_task, room_written, owners_given}
+use Rattle.cics_dispatch.proofs.TaskTable.{changed}
+use Rattle.cics_dispatch.proofs.TaskOwners.{none_from, given, room_written, owners_given}
 use Rattle.cics_dispatch.proofs.tasks.Tasks.own_unit.Goals as goal
 
 pub returns-then-is_some : goal.returns-then-is_some
@@ -20,22 +19,18 @@ returns-then-is_some c = λ t there.
 
 pub enter_all-requires-clause-units : goal.enter_all-requires-clause-units
 enter_all-requires-clause-units c =
-    let idle = idle_task (values_of c.self.inside.rows.entries) c.args.at c.index.result.now c.index_mut.result.now c.unit.result c.is_some.result c.index.ensures c.unit.ensures c.is_some.ensures c.if-is_some.false c.index_mut.ensures.value in
-    let free = c.requires.free c.index_mut.result.now (ap (λ l. slice_get l c.args.at) (sym c.self.view_is) ∙ c.index_mut.ensures.value) idle in
-    let rows = kept-begun c.self.inside.rows.entries c.args.self.now c.args.at c.index_mut.result.now c.begin_unit.new.self c.self.invariant.0 c.self.view_is c.index_mut.ensures.value
-    (ap (λ t. t.label) c.begin_unit.ensures) c.args.unit free (ap (λ t. t.unit) c.begin_unit.ensures) in
-    rows.units
+    let unit = given c.self.inside.rows.entries c.args.self.now c.args.at c.index.result.now c.index_mut.result.now c.begin_unit.new.self c.unit.result c.is_some.result c.args.unit
+    c.self.invariant.0 c.self.view_is c.index.ensures c.unit.ensures c.is_some.ensures c.if-is_some.false c.index_mut.ensures.value c.requires.free c.begin_unit.ensures in
+    unit.rows.units
 
 pub enter_all-requires-clause-room : goal.enter_all-requires-clause-room
 enter_all-requires-clause-room c = room_written c.self.inside.rows.entries c.args.at c.begin_unit.new.self c.self.inside.owners c.self.invariant.1.room
 
 pub invariant_of-self : goal.invariant_of-self
 invariant_of-self c =
-    let idle = idle_task (values_of c.self.inside.rows.entries) c.args.at c.index.result.now c.index_mut.result.now c.unit.result c.is_some.result c.index.ensures c.unit.ensures c.is_some.ensures c.if-is_some.false c.index_mut.ensures.value in
-    let free = c.requires.free c.index_mut.result.now (ap (λ l. slice_get l c.args.at) (sym c.self.view_is) ∙ c.index_mut.ensures.value) idle in
-    let rows = kept-begun c.self.inside.rows.entries c.args.self.now c.args.at c.index_mut.result.now c.begin_unit.new.self c.self.invariant.0 c.self.view_is c.index_mut.ensures.value
-    (ap (λ t. t.label) c.begin_unit.ensures) c.args.unit free (ap (λ t. t.unit) c.begin_unit.ensures) in
-    (rows, c.enter_all.ensures)
+    let unit = given c.self.inside.rows.entries c.args.self.now c.args.at c.index.result.now c.index_mut.result.now c.begin_unit.new.self c.unit.result c.is_some.result c.args.unit
+    c.self.invariant.0 c.self.view_is c.index.ensures c.unit.ensures c.is_some.ensures c.if-is_some.false c.index_mut.ensures.value c.requires.free c.begin_unit.ensures in
+    (unit.rows, c.enter_all.ensures)
 
 pub returns-then-len-capacity : goal.returns-then-len-capacity
 returns-then-len-capacity c =
@@ -44,17 +39,15 @@ returns-then-len-capacity c =
 
 pub invariant_of-self-2 : goal.invariant_of-self-2
 invariant_of-self-2 c =
-    let idle = idle_task (values_of c.self.inside.rows.entries) c.args.at c.index.result.now c.index_mut.result.now c.unit.result c.is_some.result c.index.ensures c.unit.ensures c.is_some.ensures c.if-is_some.false c.index_mut.ensures.value in
-    let free = c.requires.free c.index_mut.result.now (ap (λ l. slice_get l c.args.at) (sym c.self.view_is) ∙ c.index_mut.ensures.value) idle in
-    let rows = kept-begun c.self.inside.rows.entries c.args.self.now c.args.at c.index_mut.result.now c.begin_unit.new.self c.self.invariant.0 c.self.view_is c.index_mut.ensures.value
-    (ap (λ t. t.label) c.begin_unit.ensures) c.args.unit free (ap (λ t. t.unit) c.begin_unit.ensures) in
+    let unit = given c.self.inside.rows.entries c.args.self.now c.args.at c.index.result.now c.index_mut.result.now c.begin_unit.new.self c.unit.result c.is_some.result c.args.unit
+    c.self.invariant.0 c.self.view_is c.index.ensures c.unit.ensures c.is_some.ensures c.if-is_some.false c.index_mut.ensures.value c.requires.free c.begin_unit.ensures in
     let absent = none_from _ (sym c.contains_key.ensures ∙ c.if-contains_key.false) in
     let longer : index_map_len c.insert.new.self ≡ index_map_len c.self.inside.owners + 1
     = c.in-Ok.ensures.len ∙ ap (λ o. index_map_len c.self.inside.owners + (if is_some o then 0 else 1)) (c.in-Ok.ensures.old ∙ absent) in
     let spare = c.insert.ensures.spare in (
-      rows,
-      owners_given c.self.inside.rows.entries c.args.at c.index_mut.result.now c.begin_unit.new.self c.self.inside.owners c.self.invariant.1 c.index_mut.ensures.value c.insert.new.self c.args.unit (omega (arith, longer, spare))
-          (ap (λ t. t.unit) c.begin_unit.ensures) idle (subst (λ ts. HasNoOwner ts c.args.unit) (sym c.self.view_is) free) c.in-Ok.ensures.updates.0,
+      unit.rows,
+      owners_given c.self.inside.rows.entries c.args.at c.index_mut.result.now c.begin_unit.new.self c.self.inside.owners c.self.invariant.1 c.index_mut.ensures.value c.insert.new.self
+          c.args.unit (omega (arith, longer, spare)) (ap (λ t. t.unit) c.begin_unit.ensures) unit.idle unit.free c.in-Ok.ensures.updates.0,
     )
 
 pub returns : goal.returns

@@ -1,0 +1,49 @@
+use Rattle.std.proofs.Common.{◌≡◌, ◌∙◌, ap, refl, false, None, is_some}
+use Rattle.cics_names.specs.declared.conditions.Condition.TheVariants.{Invreq}
+use Rattle.cics_names.specs.Commands.{file_named}
+use Rattle.cics_names.specs.declared.commands.Verb.{Verb}
+use Rattle.cics_names.specs.declared.commands.Verb.TheVariants.{WriteqTs, ReadqTs, DeleteqTs, WriteqTd, ReadqTd, DeleteqTd, Enq, Deq, Syncpoint, Rollback, Return, Abend}
+use Rattle.cics_dispatch.specs.Calls.{going_on}
+use Rattle.cics_dispatch.specs.Machine.{Task}
+use Rattle.cics_dispatch.specs.Replies.{plain}
+use Rattle.cics_dispatch.specs.Steps.{answered, other_command}
+use Rattle.cics_dispatch.proofs.Ready.{ready_value}
+use Rattle.cics_dispatch.proofs.RegionSteps.{told_as}
+use Rattle.cics_dispatch.proofs.RegionPerforming.{deq_fits}
+use Rattle.cics_dispatch.proofs.dispatcher.Dispatcher.perform_on_no_file.Goals as goal
+
+pub enqueue-requires-clause-ready : goal.enqueue-requires-clause-ready
+enqueue-requires-clause-ready c =
+    ready_value c.args.self.now.machine c.args.at c.args.command.verb c.in-Enq.resource c.in-Enq.length c.in-Enq.nosuspend c.in-Enq.is c.requires.may
+
+pub slice_bounds-dequeue-end : goal.slice_bounds-dequeue-end
+slice_bounds-dequeue-end c =
+    (deq_fits c.args.self.now.machine c.args.at c.args.command.verb c.in-Deq.resource c.in-Deq.length c.bytes.result.now c.requires.within c.requires.may c.in-Deq.is c.bytes.ensures).0
+
+pub dequeue-requires-clause-most : goal.dequeue-requires-clause-most
+dequeue-requires-clause-most c =
+    (deq_fits c.args.self.now.machine c.args.at c.args.command.verb c.in-Deq.resource c.in-Deq.length c.bytes.result.now c.requires.within c.requires.may c.in-Deq.is c.bytes.ensures).1
+
+pub returns : goal.returns
+returns c = record {
+  step = told_as c.args.at (λ t. answered c.args.self.now.machine t c.args.command.resp c.plain_reply.result) (going_on c.args.self.now.machine c.args.command None)
+      (λ t there. ap (answered c.args.self.now.machine t c.args.command.resp) c.plain_reply.ensures ∙ by t c.args.command.verb refl c.requires.named) c.answer.ensures.step;
+  growing = tt;
+}
+  where
+    -- a command that nothing else tells of is INVREQ
+    by : (t : Task) (verb : Verb) → c.args.command.verb ≡ verb → is_some (file_named verb) ≡ false →
+        answered c.args.self.now.machine t c.args.command.resp (plain Invreq) ≡ other_command c.args.self.now.machine t c.args.command verb
+    by t (ReadqTs q n item) is named = absurd (c.in_default-verb.not-ReadqTs _ _ _ is)
+    by t (Enq value n nosuspend) is named = absurd (c.in_default.not-Enq _ _ _ is)
+    by t (Deq value n) is named = absurd (c.in_default-verb.not-Deq _ _ is)
+    by t Syncpoint is named = absurd (c.in_default-verb.not-Syncpoint is)
+    by t Rollback is named = absurd (c.in_default-verb.not-Rollback is)
+    by t Return is named = absurd (c.in_default-verb.not-Return is)
+    by t (Abend code) is named = absurd (c.in_default-verb.not-Abend _ is)
+    by t (WriteqTs q from n item) is named = refl
+    by t (DeleteqTs q) is named = refl
+    by t (WriteqTd q from n) is named = refl
+    by t (ReadqTd q n nosuspend) is named = refl
+    by t (DeleteqTd q) is named = refl
+    by t verb is named = cc
