@@ -1,6 +1,7 @@
 mod EarlyFault
 mod QueueScripts
 mod ScriptRows
+mod SerialScripts
 pub mod Known
 pub mod Scripts
 pub mod Playing

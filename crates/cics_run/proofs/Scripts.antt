@@ -15,8 +15,12 @@ Writes options script written = output options (lines script) ≡ lines written
 
 -- the listing stands behind the journal
 abbrev pub listed : Options
-listed = record { no_list = false; replay = false }
+listed = record { no_list = false; replay = false; serial = false }
 
 -- and the replay behind the listing
 abbrev pub replayed : Options
-replayed = record { no_list = false; replay = true }
+replayed = record { no_list = false; replay = true; serial = false }
+
+-- the serial run alone stands behind the journal
+abbrev pub serial_alone : Options
+serial_alone = record { no_list = true; replay = false; serial = true }

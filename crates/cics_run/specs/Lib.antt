@@ -1,5 +1,7 @@
 pub mod Journal
 pub mod Listings
+pub mod Serial
+pub mod UnitLines
 pub mod Lines
 pub mod Settling
 pub mod Stages

@@ -3,7 +3,7 @@ use Rattle.std.specs.Prelude.{◌≡◌, ℕ, Bool, true, false, ◌+◌, ◌≤
 use Rattle.std.specs.List.{fold}
 use Rattle.std.specs.Io.KnownBytes.{Appends, Consumes, IsAtEnd}
 use Rattle.cics_run.specs.Lines.{completed, all_lines}
-use Rattle.cics_run.specs.Stages.{step, Step, first_stage, listing_at, replay_at}
+use Rattle.cics_run.specs.Stages.{step, Step, first_stage, listing_at, replay_at, serial_at}
 use Rattle.cics_run.specs.Printing.{AppendsFront}
 use Rattle.cics_run.specs.declared.running.TheConstants.{CHUNK}
 use Rattle.cics_run.specs.declared.stage.Stage.{Stage}
@@ -44,11 +44,13 @@ play lines = fold next start lines
 abbrev pub journal : List ℕ → List ℕ
 journal bytes = (play (completed bytes)).journal
 
--- the listing stands behind the journal, unless it is left out, and behind that the replay, where it is asked for
+-- the listing stands behind the journal, unless it is left out, and behind that the replay and the serial run, where they are asked for
 abbrev pub ending : Options → Stage → List ℕ
-ending options stage = (if options.no_list then [] else listing_at stage) ++ (if options.replay then replay_at stage else [])
+ending options stage =
+    (if options.no_list then [] else listing_at stage)
+    ++ ((if options.replay then replay_at stage else []) ++ (if options.serial then serial_at stage else []))
 
--- behind a fault stand no listing and no replay
+-- behind a fault stand no listing, no replay and no serial run
 abbrev pub whole : Options → Played → List ℕ
 whole options p = if p.has_fault then p.journal else p.journal ++ ending options p.stage
 

@@ -23,6 +23,11 @@ The replay is the listing again, made by applying the history to what was loaded
 without what the units that were backed out did to recoverable files and queues.
 It has no tasks.
 
+The serial run is a script that can be run: what was defined and loaded, and what
+the units of work that committed did to recoverable files and queues, one unit
+after the other in the order of the commits; behind them the units that are open.
+It leaves recoverable files and queues as the run has left them.
+
 Exit status:
   0  the whole script was run, or this help was printed
   1  a line of the script is at fault: the journal ends with that line's fault
@@ -59,7 +64,7 @@ pub enum Asked {
 /// Reads the words of a command line, of which the first is the program's name.
 ///
 /// The options are `--no-list`, which leaves out the listing, `--replay`, which asks for the replay
-/// behind it, and `--help` (or `-h`). An option that is given twice is bad, and so is every other
+/// behind it, `--serial`, which asks for the serial run behind both, and `--help` (or `-h`). An option that is given twice is bad, and so is every other
 /// word but a `--`, behind which no option may stand. It is refused for want of memory alone.
 pub fn arguments(alloc: Global, words: Vec<String>) -> Result<Asked, NoMemory> {
     match options(alloc, &words) {
@@ -81,15 +86,21 @@ fn options(alloc: Global, words: &[String]) -> Result<Options, Error> {
         .long("replay")
         .action(ArgAction::SetTrue)
         .help("Print the replay behind the listing");
+    let serial = Arg::new(alloc, "serial")
+        .long("serial")
+        .action(ArgAction::SetTrue)
+        .help("Print the serial run behind the listing and the replay");
     let command = Command::new(alloc, "cicsrun")
         .about(ABOUT)
         .after_help(MORE)
         .arg(no_list)?
-        .arg(replay)?;
+        .arg(replay)?
+        .arg(serial)?;
     let matches = command.try_get_matches_from(words)?;
     Ok(Options {
         no_list: matches.get_flag("no-list"),
         replay: matches.get_flag("replay"),
+        serial: matches.get_flag("serial"),
     })
 }
 

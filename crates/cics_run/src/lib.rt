@@ -5,9 +5,11 @@ mod command_line;
 mod journal;
 mod listing;
 mod running;
+mod serial;
 mod session;
 mod settling;
 mod stage;
+mod unit_lines;
 mod writing;
 
 pub use command_line::{Asked, arguments, exit_status};

@@ -37,11 +37,13 @@ pub enum RunFault {
     InputTooLong,
 }
 
-/// What a run is asked for: to leave out the listing, and to print the replay.
+/// What a run is asked for: to leave out the listing, to print the replay, and to print the serial
+/// run.
 #[derive(Clone, Copy, Debug, PartialEq, Eq)]
 pub struct Options {
     pub no_list: bool,
     pub replay: bool,
+    pub serial: bool,
 }
 
 /// Runs the script that the reader gives, and writes its journal and what follows it.

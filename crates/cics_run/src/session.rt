@@ -15,6 +15,7 @@ ghost use Rattle.cics_run.specs.Standing.{Finishes};
 
 use crate::listing::{push_listing, push_replay};
 use crate::running::{Options, Status};
+use crate::serial::push_serial;
 use crate::stage::Stage;
 use crate::writing::{Stop, write_pending, write_printed};
 use cics_dispatch::Region;
@@ -180,7 +181,8 @@ impl Session {
         )
     }
 
-    /// Runs the last line where it lacks its LF, and where no line was a fault, writes the listing.
+    /// Runs the last line where it lacks its LF, and where no line was a fault, writes what is asked
+    /// for of the listing, the replay and the serial run.
     pub fn finish<W: Write>(&mut self, options: Options, writer: &mut W) -> Result<Status, Stop>
         requires { self.old.number + 1 < 2 ^ 64 }
         ensures { WhereverStands (W.contents writer.old) self.old (λ bytes before.
@@ -198,7 +200,8 @@ impl Session {
     }
 }
 
-// Writes what is pending, and behind it what is asked for of the listing and the replay.
+// Writes what is pending, and behind it what is asked for of the listing, the replay and the serial
+// run.
 fn write_end<W: Write>(
     stage: &mut Stage,
     options: Options,
@@ -217,8 +220,8 @@ fn write_end<W: Write>(
     }
 }
 
-// Prints what is asked for of the listing and the replay. Where no line has made the region yet, it
-// is made here.
+// Prints what is asked for of the listing, the replay and the serial run. Where no line has made
+// the region yet, it is made here.
 fn push_ending(stage: &mut Stage, options: Options, out: &mut Vec<u8>) -> Result<(), NoMemory>
     ensures { OnOk result (out.new.items ≡ out.old.items ++ ending options stage.old) }
 {
@@ -229,7 +232,8 @@ fn push_ending(stage: &mut Stage, options: Options, out: &mut Vec<u8>) -> Result
     }
 }
 
-// Prints the listing of a region, unless it is left out, and the replay, where it is asked for.
+// Prints the listing of a region, unless it is left out, and the replay and the serial run, where
+// they are asked for.
 fn push_lists(region: &Region, options: Options, out: &mut Vec<u8>) -> Result<(), NoMemory>
     ensures { OnOk result (out.new.items ≡ out.old.items ++ ending options (Running region.now)) }
 {
@@ -238,6 +242,9 @@ fn push_lists(region: &Region, options: Options, out: &mut Vec<u8>) -> Result<()
     }
     if options.replay {
         push_replay(out, &region.replayed()?)?;
+    }
+    if options.serial {
+        push_serial(out, region.units())?;
     }
     Ok(())
 }

@@ -28,6 +28,7 @@ fn is_as_expected(rt: &HostRuntime, name: &str) -> io::Result<bool> {
     let options = Options {
         no_list: false,
         replay: false,
+        serial: false,
     };
     let answer = run(rt.alloc(), &mut reader, &mut written, options);
     Ok(answer.is_ok() && written == expected)

@@ -1,7 +1,9 @@
 //! Scripts from bytes to bytes, over readers and writers that give and take little, or fail.
 
 use crate::queue_scripts::{RUNS, Run};
-use crate::scripts::{ROLLBACK, ROLLBACK_JOURNAL, ROLLBACK_LISTING, ROLLBACK_REPLAY, SCRIPTS};
+use crate::scripts::{
+    ROLLBACK, ROLLBACK_JOURNAL, ROLLBACK_LISTING, ROLLBACK_REPLAY, ROLLBACK_SERIAL, SCRIPTS,
+};
 use cics_names::NoMemory;
 use cics_run::{Asked, LIMIT, Options, RunFault, Status, arguments, exit_status, run};
 use std::alloc::Global;
@@ -42,6 +44,7 @@ FILE 'ACCT' RECOVERABLE RECORDS 2
 const LISTED: Options = Options {
     no_list: false,
     replay: false,
+    serial: false,
 };
 
 // Scripts, what they print, and whether that ends with a fault.
@@ -278,6 +281,7 @@ fn queues_generic_deletes_and_a_shutdown_are_printed_and_replayed(
     let options = Options {
         no_list: false,
         replay: true,
+        serial: false,
     };
     for of in RUNS {
         let output = whole(rt.alloc(), &of)?;
@@ -290,16 +294,35 @@ fn queues_generic_deletes_and_a_shutdown_are_printed_and_replayed(
     Ok(())
 }
 
-#[test]
-fn the_listing_and_the_replay_are_printed_as_asked_for(rt: HostRuntime) -> Result<(), Fail> {
+// The options of a run in every choice of them.
+fn every_choice(alloc: Global) -> Result<Vec<Options>, Fail> {
+    let mut choices = Vec::new(alloc);
     for no_list in [false, true] {
         for replay in [false, true] {
-            let options = Options { no_list, replay };
-            let listing = if no_list { "" } else { ROLLBACK_LISTING };
-            let replayed = if replay { ROLLBACK_REPLAY } else { "" };
-            let output = format!(in rt.alloc(); "{ROLLBACK_JOURNAL}{listing}{replayed}")?;
-            assert!(rt; prints(rt.alloc(), ROLLBACK, &output, options)?, "{output}");
+            for serial in [false, true] {
+                choices.push(Options {
+                    no_list,
+                    replay,
+                    serial,
+                })?;
+            }
         }
+    }
+    Ok(choices)
+}
+
+#[test]
+fn each_list_is_printed_as_asked_for(rt: HostRuntime) -> Result<(), Fail> {
+    for options in every_choice(rt.alloc())? {
+        let listing = if options.no_list {
+            ""
+        } else {
+            ROLLBACK_LISTING
+        };
+        let replayed = if options.replay { ROLLBACK_REPLAY } else { "" };
+        let serial = if options.serial { ROLLBACK_SERIAL } else { "" };
+        let output = format!(in rt.alloc(); "{ROLLBACK_JOURNAL}{listing}{replayed}{serial}")?;
+        assert!(rt; prints(rt.alloc(), ROLLBACK, &output, options)?, "{output}");
     }
     Ok(())
 }
@@ -309,6 +332,7 @@ fn a_failed_write_of_the_replay_leaves_a_front(rt: HostRuntime) -> Result<(), Fa
     let options = Options {
         no_list: false,
         replay: true,
+        serial: false,
     };
     let output = format!(in rt.alloc(); "{ROLLBACK_JOURNAL}{ROLLBACK_LISTING}{ROLLBACK_REPLAY}")?;
     for room in 0..output.len() {
@@ -327,6 +351,7 @@ fn no_listing_is_printed_where_it_is_left_out(rt: HostRuntime) -> Result<(), Fai
     let options = Options {
         no_list: true,
         replay: false,
+        serial: false,
     };
     let (written, _) = outcome(rt.alloc(), FIRST_PATH.as_bytes(), options)?;
     assert_eq!(rt; written.as_slice(), FIRST_JOURNAL.as_bytes());
@@ -477,18 +502,18 @@ fn is_run(alloc: Global, words: &[&str], options: Options) -> Result<bool, Fail>
 
 #[test]
 fn arguments_ask_for_a_run_or_help(rt: HostRuntime) -> Result<(), Fail> {
-    for no_list in [false, true] {
-        for replay in [false, true] {
-            let mut words = Vec::new(rt.alloc());
-            if replay {
-                words.push("--replay")?;
-            }
-            if no_list {
-                words.push("--no-list")?;
-            }
-            let found = is_run(rt.alloc(), &words, Options { no_list, replay })?;
-            assert!(rt; found, "{no_list} {replay}");
+    for options in every_choice(rt.alloc())? {
+        let mut words = Vec::new(rt.alloc());
+        if options.serial {
+            words.push("--serial")?;
         }
+        if options.replay {
+            words.push("--replay")?;
+        }
+        if options.no_list {
+            words.push("--no-list")?;
+        }
+        assert!(rt; is_run(rt.alloc(), &words, options)?, "{options:?}");
     }
     for word in ["--help", "-h"] {
         let Asked::Help(text) = asked(rt.alloc(), &[word])? else {
@@ -496,6 +521,7 @@ fn arguments_ask_for_a_run_or_help(rt: HostRuntime) -> Result<(), Fail> {
         };
         assert!(rt; text.contains("--no-list"));
         assert!(rt; text.contains("--replay"));
+        assert!(rt; text.contains("--serial"));
         assert!(rt; text.contains("Exit status:"));
         assert!(rt; text.contains("bin/cicsrun"));
     }
