@@ -48,7 +48,7 @@ returns-clause-is_open c =
     (waits_open u.opening u.trace.items u.outcomes.items u.commits.items u.parts u.parts c.self.invariant.0 c.args.asking op acts h (sym way ∙ is)))
 
 pub returns-clause-sound : goal.returns-clause-sound
-returns-clause-sound c = subst (λ v. IsSound v.state) c.self.view_is c.self.invariant.sound
+returns-clause-sound c = subst (λ v. IsSound v.state) c.self.view_is c.self.invariant.0.sound
 
 pub returns-clause-headline : goal.returns-clause-headline
 returns-clause-headline c =
