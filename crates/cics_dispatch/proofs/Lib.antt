@@ -28,9 +28,9 @@ pub mod ActsAlone
 pub mod KeepsOwn
 pub mod KeptHeld
 pub mod Remembered
-pub mod NoteRows
-pub mod NotesRoom
+pub mod FiledNotes
 pub mod Noted
+pub mod Looked
 pub mod Looks
 mod RegionRemembers
 pub mod FewerWaits

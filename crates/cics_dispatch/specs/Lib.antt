@@ -20,3 +20,4 @@ pub mod OwnedUnits
 pub mod Settled
 pub mod Notes
 pub mod First
+pub mod Filed

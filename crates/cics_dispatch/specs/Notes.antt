@@ -1,5 +1,5 @@
 -- What is known of the commands that wait: for which unit each has to wait as long as that gives nothing up.
-use Rattle.std.specs.Prelude.{◌≡◌, ◌≤◌, ℕ, length, Bool, true, false, if◌then◌else◌, Option, Some, None, is_some, List, [], ◌∷◌, All, slice_get}
+use Rattle.std.specs.Prelude.{◌≡◌, ◌<◌, ◌≤◌, ◌⊎◌, ℕ, suc, length, Bool, true, false, if◌then◌else◌, Option, Some, None, is_some, unwrap_or, take, List, [], ◌∷◌, All, slice_get, slice_set}
 use Rattle.std.specs.List.{list_any}
 use Rattle.cics_names.specs.Keyed.{Bytes}
 use Rattle.cics_names.specs.declared.commands.Verb.{Verb}
@@ -12,76 +12,126 @@ use Rattle.cics_dispatch.specs.declared.notes.Look.TheVariants.{MayGoOn, IsBlock
 use Rattle.cics_dispatch.specs.declared.notes.Note.{Note}
 use Rattle.cics_dispatch.specs.Machine.{Machine, Task, Suspended, is_unit, is_waiting, task_at}
 use Rattle.cics_dispatch.specs.Waking.{may_go_on, first_free}
-use Rattle.cics_dispatch.specs.Settled.{is_among, reads_queue, needed_by, IsBlocked, IsInTime}
+use Rattle.cics_dispatch.specs.Settled.{reads_queue, needed_by, IsBlocked, IsInTime}
 
--- the notes of the waiting commands, in their order, what those use that use one resource each, and how many notes there is
--- room for
+-- the notes of a front of the waiting commands, in their order, with the places of those that wait no more; and of each
+-- line the resource that its commands use and nothing else, and the unit that they have to wait for, if it is known
 pub record NotesValue : Type 0 where
-  pub rows : List Note
-  pub needs : List Resource
-  pub room : ℕ
+  pub rows : List (Option Note)
+  pub resources : List Resource
+  pub blockers : List (Option ℕ)
 
--- a note once a unit, if there is one, may have given something up: a command that had to wait for it has to be looked at
-abbrev pub forgotten : Option ℕ → Note → Note
-forgotten None n = n
-forgotten (Some u) n = if is_unit n.blocker u then record n { blocker = None } else n
+-- the unit of a line, if it is known
+abbrev pub of_line : List (Option ℕ) → ℕ → Option ℕ
+of_line bs g = unwrap_or (slice_get bs g) None
 
--- a note whose command has to wait for a unit
-abbrev pub with_blocker : ℕ → Note → Note
-with_blocker u n = record n { blocker = Some u }
+-- the unit that a command has to wait for, if it is known: its line's, or its own where it is in none
+abbrev pub blocker_by : List (Option ℕ) → Option ℕ → Option ℕ → Option ℕ
+blocker_by bs None own = own
+blocker_by bs (Some g) own = of_line bs g
 
--- a note of a command that uses the resource of a place among the needs, and nothing else
-abbrev pub with_need : ℕ → Note → Note
-with_need g n = record n { need = Some g }
+abbrev pub blocker_in : List (Option ℕ) → Note → Option ℕ
+blocker_in bs n = blocker_by bs n.line n.blocker
 
--- a note whose command has to wait for a unit if it uses the resource of this place
-abbrev pub filed : ℕ → ℕ → Note → Note
-filed g u n = if is_unit n.need g then with_blocker u n else n
+-- a unit that is known, once a unit, if there is one, may have given something up
+abbrev pub given_up : Option ℕ → Option ℕ → Option ℕ
+given_up None b = b
+given_up (Some u) b = if is_unit b u then None else b
+
+-- what a note says then
+abbrev pub given_note : Option ℕ → Note → Note
+given_note unit n = record n { blocker = given_up unit n.blocker }
+
+-- and the note at a place
+abbrev pub forgotten : Option ℕ → Option Note → Option Note
+forgotten unit None = None
+forgotten unit (Some n) = Some (given_note unit n)
 
 -- the note of a command that has begun to wait
 abbrev pub new_note : Bytes → Note
-new_note label = record { label = label; need = None; blocker = None }
+new_note label = record { label = label; line = None; blocker = None }
+
+-- a note of a command that has to wait for a unit, in no line
+abbrev pub alone : ℕ → Note → Note
+alone u n = record { label = n.label; line = None; blocker = Some u }
+
+-- a note of a command in a line
+abbrev pub in_line : ℕ → Note → Note
+in_line g n = record { label = n.label; line = Some g; blocker = None }
+
+-- how many commands there are notes of
+abbrev pub count : List (Option Note) → ℕ
+count [] = 0
+count (None ∷ ns) = count ns
+count (Some n ∷ ns) = suc (count ns)
 
 -- no command has to be looked at
-abbrev pub AreClosed : List Note → Type 0
-AreClosed [] = Unit {0}
-AreClosed (n ∷ ns) = (is_some n.blocker ≡ true) × AreClosed ns
+abbrev pub AreClosed : List (Option ℕ) → List (Option Note) → Type 0
+AreClosed bs [] = Unit {0}
+AreClosed bs (None ∷ ns) = AreClosed bs ns
+AreClosed bs (Some n ∷ ns) = (is_some (blocker_in bs n) ≡ true) × AreClosed bs ns
 
--- the unit that a command has to wait for is one of these
-pub record HasBlockerAmong (us : List ℕ) (n : Note) : Type 0 where
-  pub among : (u : ℕ) → n.blocker ≡ Some u → is_among us u ≡ true
+-- the first of these notes whose command has to be looked at stands at a place
+pub record IsOpenAt (rows : List (Option Note)) (bs : List (Option ℕ)) (at : ℕ) (n : Note) : Type 0 where
+  pub there : slice_get rows at ≡ Some (Some n)
+  pub open_yet : blocker_in bs n ≡ None
+  pub before : AreClosed bs (take at rows)
 
--- and so it is of each
-abbrev pub AreBlockersAmong : List ℕ → List Note → Type 0
-AreBlockersAmong us [] = Unit {0}
-AreBlockersAmong us (n ∷ ns) = HasBlockerAmong us n × AreBlockersAmong us ns
+-- the first command that has to be looked at is the one of the note at a place
+pub record IsFirstOpen (v : NotesValue) (at : ℕ) (n : Note) : Type 0 where
+  pub there : slice_get v.rows at ≡ Some (Some n)
+  pub open_yet : blocker_in v.blockers n ≡ None
+  pub before : AreClosed v.blockers (take at v.rows)
+  pub line : (g : ℕ) → n.line ≡ Some g → g < length v.blockers
+
+-- no note is of a label
+abbrev pub HasNone : Bytes → List (Option Note) → Type 0
+HasNone label ns = (i : ℕ) (n : Note) → slice_get ns i ≡ Some (Some n) → n.label ≡ label → ⊥
+
+-- the note of a label is dropped, if there is one
+abbrev pub IsDropped : Bytes → List (Option Note) → List (Option Note) → Type 0
+IsDropped label ns new =
+    ((at : ℕ) × (n : Note) × (slice_get ns at ≡ Some (Some n)) × (n.label ≡ label) × (new ≡ slice_set ns at None))
+    ⊎ (HasNone label ns × (new ≡ ns))
 
 -- what had its place still has it
-pub record KeepsNeeds (old new : List Resource) : Type 0 where
-  pub kept : (i : ℕ) (r : Resource) → slice_get old i ≡ Some r → slice_get new i ≡ Some r
+pub record KeepsResources (old new : List Resource) : Type 0 where
+  pub kept : (g : ℕ) (r : Resource) → slice_get old g ≡ Some r → slice_get new g ≡ Some r
 
--- the command uses the resource at this place of the needs, and nothing else
-pub record IsNeed (o : OpeningState) (needs : List Resource) (w : Suspended) (g : ℕ) : Type 0 where
+-- the units of the lines are the same, and of a new line none is known
+pub record KeepsBlockers (old new : List (Option ℕ)) : Type 0 where
+  pub kept : (g : ℕ) → of_line new g ≡ of_line old g
+  pub long : length old ≤ length new
+
+-- the command uses the resource of a line, and nothing else, and isn't READQ TD
+pub record IsUse (o : OpeningState) (rs : List Resource) (w : Suspended) (g : ℕ) : Type 0 where
   pub resource : Resource
-  pub there : slice_get needs g ≡ Some resource
+  pub there : slice_get rs g ≡ Some resource
   pub needed : needed_by o w.command.verb w.op ≡ resource ∷ []
+  pub no_reader : reads_queue w.op ≡ false
 
--- a note is right: it has the label of the command's task, the command has to wait for the unit that is noted, and it uses
--- the resource that is noted and nothing else
-pub record IsNoted (m : Machine) (needs : List Resource) (n : Note) (w : Suspended) : Type 0 where
+-- a note is right: it has the label of the command's task, the command has to wait for the unit that is known, and uses
+-- the resource of its line and nothing else
+pub record IsNoted (m : Machine) (rs : List Resource) (bs : List (Option ℕ)) (n : Note) (w : Suspended) : Type 0 where
   pub label : n.label ≡ w.label
-  pub blocked : (u : ℕ) → n.blocker ≡ Some u → IsBlocked m u w
-  pub need : (g : ℕ) → n.need ≡ Some g → IsNeed m.units.opening needs w g
+  pub blocked : (u : ℕ) → blocker_in bs n ≡ Some u → IsBlocked m u w
+  pub use_of : (g : ℕ) → n.line ≡ Some g → IsUse m.units.opening rs w g
 
--- each waiting command has its note, in their order
-abbrev pub AreNoted : Machine → List Resource → List Note → List Suspended → Type 0
-AreNoted m needs [] [] = Unit {0}
-AreNoted m needs (n ∷ ns) (w ∷ ws) = IsNoted m needs n w × AreNoted m needs ns ws
-AreNoted m needs ns ws = ⊥
+-- each command of a front of these has its note, in their order
+abbrev pub AreNoted : Machine → List Resource → List (Option ℕ) → List (Option Note) → List Suspended → Type 0
+AreNoted m rs bs [] ws = Unit {0}
+AreNoted m rs bs (None ∷ ns) ws = AreNoted m rs bs ns ws
+AreNoted m rs bs (Some n ∷ ns) [] = ⊥
+AreNoted m rs bs (Some n ∷ ns) (w ∷ ws) = IsNoted m rs bs n w × AreNoted m rs bs ns ws
 
--- each waiting command of a region has its note
+-- each waiting command of a front of a region's has its note
 abbrev pub AreNotedNow : Machine → NotesValue → Type 0
-AreNotedNow m notes = AreNoted m notes.needs notes.rows m.waiting
+AreNotedNow m v = AreNoted m v.resources v.blockers v.rows m.waiting
+
+-- each waiting command of a region has a note, and none has to be looked at
+pub record AreSettled (m : Machine) (v : NotesValue) : Type 0 where
+  pub closed : AreClosed v.blockers v.rows
+  pub all : count v.rows ≡ length m.waiting
 
 -- ---- A look at a waiting command
 
@@ -111,9 +161,9 @@ abbrev pub OwnerIsAwake : Machine → ℕ → Type 0
 OwnerIsAwake m u = (i : ℕ) (t : Task) →
     slice_get m.tasks i ≡ Some t → t.unit ≡ Some u → is_waiting m.waiting t.label ≡ false
 
--- the waiting command at a place has to wait for a unit
-abbrev pub IsBlockedAt : Machine → ℕ → ℕ → Type 0
-IsBlockedAt m at u = (w : Suspended) → slice_get m.waiting at ≡ Some w → IsBlocked m u w
+-- a line's commands have to wait for a unit: they do already, or one that is looked at does and the unit's task doesn't wait
+abbrev pub MayClose : Machine → List (Option ℕ) → ℕ → ℕ → Type 0
+MayClose m bs g u = (of_line bs g ≡ Some u) ⊎ OwnerIsAwake m u
 
 -- the first of these commands that may go on is the one of a label's task
 pub record IsFirstFreeOf (m : Machine) (ws : List Suspended) (label : Bytes) : Type 0 where
@@ -125,16 +175,30 @@ pub record IsFirstFreeOf (m : Machine) (ws : List Suspended) (label : Bytes) : T
 abbrev pub IsFirstFree : Machine → Bytes → Type 0
 IsFirstFree m label = IsFirstFreeOf m m.waiting label
 
+-- it has its note at a place
+pub record IsFreeAt (m : Machine) (v : NotesValue) (at : ℕ) (label : Bytes) : Type 0 where
+  pub note : Note
+  pub there : slice_get v.rows at ≡ Some (Some note)
+  pub own : note.label ≡ label
+  pub first : IsFirstFree m label
+
+-- a command of the label of a note uses the resource of a line and nothing else, as those of the note's line do
+abbrev pub UseOf : Machine → List Resource → Note → ℕ → Type 0
+UseOf m rs n g = (w : Suspended) (i : ℕ) → slice_get m.waiting i ≡ Some w → w.label ≡ n.label →
+    ((h : ℕ) → n.line ≡ Some h → IsUse m.units.opening rs w h) → IsUse m.units.opening rs w g
+
+-- what a look leaves: right notes, as many, and where memory sufficed none up to the place has to be looked at
+pub record IsLooked (m : Machine) (old new : NotesValue) (at : ℕ) (done : Bool) : Type 0 where
+  pub noted : AreNotedNow m new
+  pub closed : done ≡ true → AreClosed new.blockers (take (suc at) new.rows)
+  pub count_is : count new.rows ≡ count old.rows
+  pub long : length new.rows ≡ length old.rows
+
 -- ---- What is remembered
 
--- there is room for a note of each task
-pub record HasRoomForNotes (m : Machine) (notes : NotesValue) : Type 0 where
-  pub room : length m.tasks ≤ notes.room
-
--- what is remembered of the last looks at the waiting commands: where it is noted, each has its note; where they are
--- settled none has to be looked at, and where they are in time no task has waited too long
-pub record IsRemembered (m : Machine) (notes : NotesValue) (is_noted is_settled is_in_time : Bool) :
-    Type 0 where
-  pub noted : is_noted ≡ true → AreNotedNow m notes
-  pub settled : is_settled ≡ true → (is_noted ≡ true) × AreClosed notes.rows
+-- what is remembered of the last looks at the waiting commands: the notes are right; where they are settled each has one, and
+-- none has to be looked at; where they are in time no task has waited too long
+pub record IsRemembered (m : Machine) (v : NotesValue) (is_settled is_in_time : Bool) : Type 0 where
+  pub noted : AreNotedNow m v
+  pub settled : is_settled ≡ true → AreSettled m v
   pub in_time : is_in_time ≡ true → All (IsInTime m) m.waiting

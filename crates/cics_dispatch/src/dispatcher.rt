@@ -24,7 +24,6 @@ ghost use Rattle.cics_dispatch.specs.Waking.{clock_set};
 ghost use Rattle.cics_history.specs.Openings.{file_recoverable};
 ghost use Rattle.cics_dispatch.specs.Regions.{IsRegionKept};
 ghost use Rattle.cics_dispatch.specs.Settled.{is_keeping};
-ghost use Rattle.cics_dispatch.specs.Notes.{HasRoomForNotes};
 ghost use Rattle.cics_dispatch.specs.Answers.{IsStep, attach_may_want};
 ghost use Rattle.cics_names.specs.declared.commands.Verb.TheVariants.{Enq};
 ghost use Rattle.cics_dispatch.specs.Calls.{OfTask, IsAwake, HasReady, MayPerform};
@@ -33,7 +32,6 @@ ghost use Rattle.cics_dispatch.specs.Calls.{IsStepOrRefused, IsAttempt, going_on
 ghost use Rattle.cics_history.specs.Openings.{is_key};
 
 use crate::faults::file_fault;
-use crate::notes::Notes;
 use crate::outcomes::{Attempt, Outcome, Refused, Reply};
 use crate::reads::plain_reply;
 use crate::replies::reply_of_answer;
@@ -127,10 +125,9 @@ impl Dispatcher {
         self.is_down
     }
 
-    /// Whether a command of a label's task waits. No more commands wait than there are tasks.
+    /// Whether a command of a label's task waits.
     pub(crate) fn is_waiting(&self, label: &Name8) -> bool
-        ensures waiting { result ≡ is_waiting self.now.machine.waiting label.now }
-        ensures few { length self.now.machine.waiting ≤ length self.now.machine.tasks }
+        ensures { result ≡ is_waiting self.now.machine.waiting label.now }
     {
         self.waits.is_waiting(label)
     }
@@ -189,29 +186,18 @@ impl Dispatcher {
     }
 
     /// Begins the task of a label: ATTACH. `dtimout` is the seconds that a command of it may wait, 0
-    /// for no limit; the transaction makes no difference. `notes` gets room for a note of it.
+    /// for no limit; the transaction makes no difference.
     ///
     /// It is refused where a task has or had the label (`DuplicateLabel`), and else for want of memory
     /// (`NoMemory`). A refusal changes nothing.
-    pub fn attach(
-        &mut self,
-        label: Name8,
-        _transaction: Name4,
-        dtimout: u64,
-        notes: &mut Notes,
-    ) -> Result<(), Refused>
-        requires room { HasRoomForNotes self.old.machine notes.old }
+    pub fn attach(&mut self, label: Name8, _transaction: Name4, dtimout: u64) -> Result<(), Refused>
         ensures step { IsStep (attach_may_want self.old.machine label) self.old
             (attached self.old.machine label dtimout) result self.new }
         ensures kept { KeepsRegion self.old self.new }
-        ensures room { HasRoomForNotes self.new.machine notes.new }
-        ensures rows { notes.new.rows ≡ notes.old.rows }
-        ensures needs { notes.new.needs ≡ notes.old.needs }
     {
         if self.tasks.find(&label).is_some() {
             return Err(Refused::DuplicateLabel);
         }
-        notes.reserve(self.tasks.len() + 1)?;
         self.tasks.attach(label, dtimout)?;
         Ok(())
     }

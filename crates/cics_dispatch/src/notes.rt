@@ -1,12 +1,13 @@
 //! What is known of the commands that wait: for which unit each has to wait as long as that gives nothing up.
 
-ghost use Rattle.std.specs.Prelude.{◌≡◌, ◌<◌, ◌≤◌, [], ◌∷◌, ◌++◌, None, Some, false, length, filter};
-ghost use Rattle.std.specs.Prelude.{map, not, is_ok, OnOk, IfOk};
+ghost use Rattle.std.specs.Prelude.{◌≡◌, ◌<◌, [], ◌∷◌, ◌++◌, None, Some, false, length, map, is_ok};
+ghost use Rattle.std.specs.Prelude.{slice_get, slice_set, if◌then◌else◌, IfOk, IfSome, IfNone};
+ghost use Rattle.std.specs.Prelude.{take, true, is_some};
+ghost use Rattle.cics_dispatch.specs.Notes.{forgotten, given_up, new_note, alone, in_line, count};
+ghost use Rattle.cics_dispatch.specs.Notes.{of_line, blocker_in, AreClosed, IsOpenAt, IsFirstOpen, HasNone};
+ghost use Rattle.cics_dispatch.specs.Notes.{IsDropped};
+ghost use Rattle.cics_dispatch.specs.Notes.{KeepsResources, KeepsBlockers};
 ghost use Rattle.cics_dispatch.specs.declared.notes.Note.{Note as NoteValue};
-ghost use Rattle.std.specs.Prelude.{slice_get, slice_set, if◌then◌else◌, true};
-ghost use Rattle.cics_names.specs.Keyed.{is_same};
-ghost use Rattle.cics_dispatch.specs.Notes.{forgotten, filed, with_need, with_blocker};
-ghost use Rattle.cics_dispatch.specs.Notes.{AreClosed, KeepsNeeds};
 
 use cics_enqueue::{Resource, UnitId};
 use cics_names::{Name8, NoMemory};
@@ -19,10 +20,11 @@ use std::marker::Model;
 pub(crate) struct Note {
     /// The label of its task.
     pub(crate) label: Name8,
-    /// The place among the needs of the one resource that it uses; `None` where it uses two or none, or wasn't looked at
-    /// yet.
-    pub(crate) need: Option<usize>,
-    /// The unit that it has to wait for as long as that gives nothing up; `None` where it has to be looked at.
+    /// The number of its line, that of the commands which use the same one resource and nothing else; `None` where it is
+    /// in none.
+    pub(crate) line: Option<usize>,
+    /// The unit that it has to wait for as long as that gives nothing up, where it is in no line; `None` where it has to
+    /// be looked at.
     pub(crate) blocker: Option<UnitId>,
 }
 
@@ -34,168 +36,258 @@ pub(crate) enum Look {
     IsBlocked(UnitId),
 }
 
-/// What is known of the commands that wait, in the order in which the waits began.
+/// A waiting command that needn't wait any more.
+#[derive(Clone, Copy)]
+pub(crate) struct Free {
+    /// The place of its note.
+    pub(crate) place: usize,
+    /// The label of its task.
+    pub(crate) label: Name8,
+}
+
+/// What is known of a front of the commands that wait, in the order in which the waits began.
+///
+/// The commands that use the same one resource and nothing else form a line, so that it is noted of all of them at once whom they
+/// have to wait for.
 #[derive(Drop)]
 pub(crate) struct Notes {
-    rows: Vec<Note>,
-    // What commands wait for that use one resource each.
-    needs: IndexSet<Resource>,
-    // The places of the needs that two commands have, or more.
-    shared: IndexSet<usize>,
-    // The units that are the blocker of a command, and perhaps others.
+    // The notes, and None for each command that waits no more.
+    rows: Vec<Option<Note>>,
+    // How many notes there are.
+    count: usize,
+    // No command before this place has to be looked at.
+    closed: usize,
+    // The resource of each line.
+    resources: IndexSet<Resource>,
+    // The unit that the commands of each line have to wait for as long as it gives nothing up; None where they have to be
+    // looked at.
+    lines: Vec<Option<UnitId>>,
+    // The units that commands have to wait for, and perhaps others.
     blockers: IndexSet<UnitId>,
 }
 
 impl Model for Notes {
-    ghost use Rattle.std.specs.Prelude.{vec_capacity};
-    ghost use Rattle.cics_dispatch.specs.Notes.{NotesValue, AreBlockersAmong};
+    ghost use Rattle.cics_dispatch.specs.Notes.{NotesValue};
+    ghost use Rattle.cics_dispatch.specs.Filed.{IsFiled};
 
     ghost Value = { NotesValue };
 
     ghost view = { λ n. record {
       rows = n.rows.items;
-      needs = n.needs.keys;
-      room = vec_capacity n.rows;
+      resources = n.resources.keys;
+      blockers = n.lines.items;
     } };
 
-    ghost invariant = { λ n. AreBlockersAmong n.blockers.keys n.rows.items };
+    ghost invariant = { λ n. IsFiled n.rows.items n.count n.closed n.resources.keys n.lines.items
+        n.blockers.keys };
 }
 
-// Changes each note of a need so that its command has to wait for a unit.
-fn file_all(rows: &mut [Note], need: usize, unit: UnitId)
-    ensures { rows.new ≡ map (filed need unit) rows.old }
+// The unit that a command has to wait for, if it is known.
+fn blocker_of(lines: &[Option<UnitId>], note: &Note) -> Option<UnitId>
+    ensures { result ≡ blocker_in lines.now note.now }
 {
-    for at in 0..rows.len() {
-        let mut note = rows[at];
-        if note.need == Some(need) {
-            note.blocker = Some(unit);
-        }
-        rows[at] = note;
+    let Some(line) = note.line else {
+        return note.blocker;
+    };
+    match lines.get(line) {
+        Some(blocker) => *blocker,
+        None => None,
     }
 }
 
-// Changes each note so that its command has to be looked at if it had to wait for a unit.
-fn forget_all(rows: &mut [Note], unit: UnitId)
+// The note at a place, if its command has to be looked at.
+fn open_note(lines: &[Option<UnitId>], row: Option<Note>) -> Option<Note>
+    ensures some { IfSome result (λ n. (row ≡ Some n) × (blocker_in lines.now n ≡ None)) }
+    ensures none { IfNone result ((n : NoteValue) → row ≡ Some n
+        → is_some (blocker_in lines.now n) ≡ true) }
+{
+    let note = row?;
+    match blocker_of(lines, &note) {
+        Some(_) => None,
+        None => Some(note),
+    }
+}
+
+// The place and the note of the first command from a place on that has to be looked at.
+fn first_from(rows: &[Option<Note>], lines: &[Option<UnitId>], from: usize) -> Option<(usize, Note)>
+    requires closed { AreClosed lines.now (take from rows.now) }
+    ensures first { IfSome result (λ p. IsOpenAt rows.now lines.now p.0 p.1) }
+    ensures none { IfNone result (AreClosed lines.now rows.now) }
+{
+    for at in from..rows.len() {
+        if let Some(note) = open_note(lines, rows[at]) {
+            return Some((at, note));
+        }
+    }
+    None
+}
+
+// The unit that commands have to wait for, once a unit may have given something up.
+fn opened(blocker: Option<UnitId>, unit: UnitId) -> Option<UnitId>
+    ensures { result ≡ given_up (Some unit) blocker }
+{
+    if blocker == Some(unit) { None } else { blocker }
+}
+
+// The note at a place then.
+fn opened_note(row: Option<Note>, unit: UnitId) -> Option<Note>
+    ensures { result ≡ forgotten (Some unit) row }
+{
+    let note = row?;
+    Some(Note {
+        blocker: opened(note.blocker, unit),
+        ..note
+    })
+}
+
+// Says of each line that waits for a unit that its commands have to be looked at.
+fn open_lines(lines: &mut [Option<UnitId>], unit: UnitId)
+    ensures { lines.new ≡ map (given_up (Some unit)) lines.old }
+{
+    for at in 0..lines.len() {
+        lines[at] = opened(lines[at], unit);
+    }
+}
+
+// Says of each command in no line that waits for a unit that it has to be looked at.
+fn open_rows(rows: &mut [Option<Note>], unit: UnitId)
     ensures { rows.new ≡ map (forgotten (Some unit)) rows.old }
 {
     for at in 0..rows.len() {
-        let mut note = rows[at];
-        if note.blocker == Some(unit) {
-            note.blocker = None;
-        }
-        rows[at] = note;
+        rows[at] = opened_note(rows[at], unit);
     }
 }
 
-// Whether no command has to be looked at.
-fn are_closed(rows: &[Note]) -> bool
-    ensures { result ≡ true → AreClosed rows.now }
+// Whether a note is of a label's task.
+fn is_of(row: &Option<Note>, label: &Name8) -> bool
+    ensures yes { result ≡ true → (n : NoteValue) × (row.now ≡ Some n) × (n.label ≡ label.now) }
+    ensures no { result ≡ false → (n : NoteValue) → row.now ≡ Some n → n.label ≡ label.now → ⊥ }
 {
-    for note in rows {
-        if note.blocker.is_none() {
-            return false;
-        }
+    match row {
+        Some(note) => note.label == *label,
+        None => false,
     }
-    true
 }
 
 impl Notes {
-    /// Nothing is known, as no command waits. `alloc` gives the memory for notes.
+    /// Nothing is known. `alloc` gives the memory for notes.
     pub(crate) fn new(alloc: Global) -> Notes
         ensures { result.rows ≡ [] }
     {
         Notes {
             rows: Vec::new(alloc),
-            needs: IndexSet::new(alloc),
-            shared: IndexSet::new(alloc),
+            count: 0,
+            closed: 0,
+            resources: IndexSet::new(alloc),
+            lines: Vec::new(alloc),
             blockers: IndexSet::new(alloc),
         }
     }
 
     /// How many commands there are notes of.
-    pub(crate) fn len(&self) -> usize
-        ensures { result ≡ length self.now.rows }
+    pub(crate) fn count(&self) -> usize
+        ensures { result ≡ count self.now.rows }
     {
-        self.rows.len()
+        self.count
     }
 
-    /// The note at a place.
-    pub(crate) fn get(&self, at: usize) -> Note
-        requires { at < length self.now.rows }
-        ensures { slice_get self.now.rows at ≡ Some result }
-    {
-        self.rows[at]
+    /// Whether there are more than twice as many places as commands that wait, which are so many, and 1,000 more. Then it is
+    /// time to note all anew.
+    pub(crate) fn have_grown(&self, waits: usize) -> bool {
+        self.rows.len() / 2 > waits.saturating_add(1000)
     }
 
-    /// Whether no command has to be looked at.
-    pub(crate) fn are_closed(&self) -> bool
-        ensures { result ≡ true → AreClosed self.now.rows }
-    {
-        are_closed(self.rows.as_slice())
-    }
-
-    /// Whether the needs or the blockers are more than twice the notes, and 2,000 more. Then most of them are of commands
-    /// that wait no more, and it is time to note all anew.
-    pub(crate) fn have_grown(&self) -> bool {
-        let most = self.rows.len() + 1000;
-        self.needs.len() / 2 > most || self.blockers.len() / 2 > most
-    }
-
-    /// Makes room for this many notes in all, so that `push` needs no memory up to there.
-    pub(crate) fn reserve(&mut self, all: usize) -> Result<(), NoMemory>
-        ensures ok { OnOk result (all ≤ self.new.room) }
-        ensures room { self.old.room ≤ self.new.room }
-        ensures rows { self.new.rows ≡ self.old.rows }
-        ensures needs { self.new.needs ≡ self.old.needs }
-    {
-        self.rows.reserve(all.saturating_sub(self.rows.len()))?;
-        Ok(())
-    }
-
-    /// Forgets all notes, needs and blockers, and keeps their room. Takes no memory.
+    /// Forgets all notes and lines. Takes no memory.
     pub(crate) fn clear(&mut self)
-        ensures rows { self.new.rows ≡ [] }
-        ensures room { self.new.room ≡ self.old.room }
+        ensures { self.new.rows ≡ [] }
     {
         self.rows.clear();
-        self.needs.clear();
-        self.shared.clear();
+        self.count = 0;
+        self.closed = 0;
+        self.resources.clear();
+        self.lines.clear();
         self.blockers.clear();
     }
 
-    /// Notes that a command of a label's task waits, last of all; it has to be looked at. Takes no memory: there has to
-    /// be room.
-    pub(crate) fn push(&mut self, label: Name8)
-        requires { length self.old.rows < self.old.room }
-        ensures rows { self.new.rows ≡ self.old.rows
-            ++ record { label = label; need = None; blocker = None } ∷ [] }
-        ensures needs { self.new.needs ≡ self.old.needs }
-        ensures room { self.new.room ≡ self.old.room }
+    /// Notes that a command of a label's task waits, last of all; it has to be looked at. Where memory is refused all notes
+    /// stay as they are.
+    pub(crate) fn push(&mut self, label: Name8) -> Result<(), NoMemory>
+        ensures rows { self.new.rows ≡ (if is_ok result
+            then self.old.rows ++ Some (new_note label) ∷ [] else self.old.rows) }
+        ensures resources { self.new.resources ≡ self.old.resources }
+        ensures blockers { self.new.blockers ≡ self.old.blockers }
     {
-        self.rows.push_reserved(Note {
+        let Some(count) = self.count.checked_add(1) else {
+            return Err(NoMemory);
+        };
+        self.rows.push(Some(Note {
             label,
-            need: None,
+            line: None,
             blocker: None,
-        });
+        }))?;
+        self.count = count;
+        Ok(())
     }
 
-    /// Drops the note of a label's task. Takes no memory.
-    pub(crate) fn remove(&mut self, label: &Name8)
-        ensures rows { self.new.rows
-            ≡ filter (λ n. not (is_same n.label label.now)) self.old.rows }
-        ensures needs { self.new.needs ≡ self.old.needs }
-        ensures room { self.new.room ≡ self.old.room }
+    /// The place and the note of the first command that has to be looked at.
+    pub(crate) fn first_open(&mut self) -> Option<(usize, Note)>
+        ensures first { IfSome result (λ p. IsFirstOpen self.new p.0 p.1) }
+        ensures none { IfNone result (AreClosed self.new.blockers self.new.rows) }
+        ensures same { self.new ≡ self.old }
     {
-        self.rows.retain(|note| note.label != *label);
+        let first = first_from(self.rows.as_slice(), self.lines.as_slice(), self.closed);
+        self.closed = match &first {
+            Some((at, _)) => *at,
+            None => self.rows.len(),
+        };
+        first
+    }
+
+    // The place of the note of a label's task.
+    fn find(&self, label: &Name8) -> Option<usize>
+        ensures found { IfSome result (λ at. (n : NoteValue)
+            × (slice_get self.now.rows at ≡ Some (Some n)) × (n.label ≡ label.now)) }
+        ensures none { IfNone result (HasNone label.now self.now.rows) }
+    {
+        for at in 0..self.rows.len() {
+            if is_of(&self.rows[at], label) {
+                return Some(at);
+            }
+        }
+        None
+    }
+
+    /// Drops the note of a label's task, if there is one: its command waits no more. Takes no memory.
+    pub(crate) fn remove_of(&mut self, label: &Name8)
+        ensures rows { IsDropped label.now self.old.rows self.new.rows }
+        ensures resources { self.new.resources ≡ self.old.resources }
+        ensures blockers { self.new.blockers ≡ self.old.blockers }
+    {
+        let Some(at) = self.find(label) else {
+            return;
+        };
+        self.remove(at);
+    }
+
+    /// Drops the note at a place, whose command waits no more. Takes no memory.
+    pub(crate) fn remove(&mut self, at: usize)
+        requires there { (n : NoteValue) × (slice_get self.old.rows at ≡ Some (Some n)) }
+        ensures rows { self.new.rows ≡ slice_set self.old.rows at None }
+        ensures resources { self.new.resources ≡ self.old.resources }
+        ensures blockers { self.new.blockers ≡ self.old.blockers }
+    {
+        self.rows[at] = None;
+        self.count -= 1;
     }
 
     /// The commands that wait for a unit, if there is one, have to be looked at again: it may have given something up.
     /// `false` where there are none. Takes no memory.
     pub(crate) fn forget(&mut self, unit: Option<UnitId>) -> bool
         ensures rows { self.new.rows ≡ map (forgotten unit) self.old.rows }
-        ensures none { result ≡ false → self.new.rows ≡ self.old.rows }
-        ensures needs { self.new.needs ≡ self.old.needs }
-        ensures room { self.new.room ≡ self.old.room }
+        ensures blockers { self.new.blockers ≡ map (given_up unit) self.old.blockers }
+        ensures none { result ≡ false → (self.new.rows ≡ self.old.rows)
+            × (self.new.blockers ≡ self.old.blockers) }
+        ensures resources { self.new.resources ≡ self.old.resources }
     {
         let Some(unit) = unit else {
             return false;
@@ -203,64 +295,79 @@ impl Notes {
         if !self.blockers.contains(&unit) {
             return false;
         }
-        forget_all(&mut self.rows, unit);
+        open_lines(&mut self.lines, unit);
+        open_rows(&mut self.rows, unit);
+        self.closed = 0;
         true
     }
 
-    /// The place of a resource among the needs; `is_noted` says whether the note of the command that uses it has that
-    /// place. Where memory is refused all notes stay as they are.
-    pub(crate) fn place_of(&mut self, resource: Resource, is_noted: bool) -> Result<usize, NoMemory>
-        ensures place { IfOk result (λ at. slice_get self.new.needs at ≡ Some resource) }
-        ensures needs { KeepsNeeds self.old.needs self.new.needs }
+    /// The number of the line of a resource. Where memory is refused all notes stay as they are.
+    pub(crate) fn line_of(&mut self, resource: Resource) -> Result<usize, NoMemory>
+        ensures line { IfOk result (λ g. slice_get self.new.resources g ≡ Some resource) }
+        ensures within { IfOk result (λ g. g < length self.new.blockers) }
         ensures rows { self.new.rows ≡ self.old.rows }
-        ensures room { self.new.room ≡ self.old.room }
+        ensures resources { KeepsResources self.old.resources self.new.resources }
+        ensures blockers { KeepsBlockers self.old.blockers self.new.blockers }
     {
-        let (at, is_new) = self.needs.insert_full(resource)?;
-        if !is_new && !is_noted {
-            self.shared.insert(at)?;
+        self.lines.reserve(1)?;
+        let (number, is_new) = self.resources.insert_full(resource)?;
+        if is_new {
+            self.lines.push_reserved(None);
         }
-        Ok(at)
+        Ok(number)
     }
 
-    /// Notes the place of the one resource that a command uses.
-    pub(crate) fn set_need(&mut self, at: usize, need: usize)
-        requires { at < length self.old.rows }
-        ensures rows { (n : NoteValue) → slice_get self.old.rows at ≡ Some n →
-            self.new.rows ≡ slice_set self.old.rows at (with_need need n) }
-        ensures needs { self.new.needs ≡ self.old.needs }
-        ensures room { self.new.room ≡ self.old.room }
+    /// The unit that the commands of a line have to wait for, if it is known.
+    pub(crate) fn blocker_of(&self, line: usize) -> Option<UnitId>
+        requires { line < length self.now.blockers }
+        ensures { result ≡ of_line self.now.blockers line }
     {
-        self.rows[at].need = Some(need);
+        self.lines[line]
     }
 
-    /// Notes the unit that a command has to wait for. Where memory is refused the note stays as it is.
-    pub(crate) fn set_blocker(&mut self, at: usize, unit: UnitId) -> Result<(), NoMemory>
-        requires { at < length self.old.rows }
-        ensures rows { (n : NoteValue) → slice_get self.old.rows at ≡ Some n → self.new.rows
-            ≡ (if is_ok result then slice_set self.old.rows at (with_blocker unit n) else self.old.rows) }
-        ensures needs { self.new.needs ≡ self.old.needs }
-        ensures room { self.new.room ≡ self.old.room }
+    /// Notes the unit that the command of the note at a place has to wait for, in no line. Where memory is refused all notes
+    /// stay as they are.
+    pub(crate) fn set_alone(&mut self, at: usize, note: &Note, unit: UnitId) -> Result<(), NoMemory>
+        requires there { slice_get self.old.rows at ≡ Some (Some note.now) }
+        ensures rows { self.new.rows ≡ (if is_ok result
+            then slice_set self.old.rows at (Some (alone unit note.now)) else self.old.rows) }
+        ensures resources { self.new.resources ≡ self.old.resources }
+        ensures blockers { self.new.blockers ≡ self.old.blockers }
     {
         self.blockers.insert(unit)?;
-        self.rows[at].blocker = Some(unit);
+        self.rows[at] = Some(Note {
+            label: note.label,
+            line: None,
+            blocker: Some(unit),
+        });
         Ok(())
     }
 
-    /// Whether two commands or more use the one resource of a place among the needs.
-    pub(crate) fn is_shared(&self, need: usize) -> bool {
-        self.shared.contains(&need)
-    }
-
-    /// Notes the unit that all commands have to wait for that use the one resource of a place among the needs. Where
-    /// memory is refused all notes stay as they are.
-    pub(crate) fn file(&mut self, need: usize, unit: UnitId) -> Result<(), NoMemory>
-        ensures rows { self.new.rows
-            ≡ (if is_ok result then map (filed need unit) self.old.rows else self.old.rows) }
-        ensures needs { self.new.needs ≡ self.old.needs }
-        ensures room { self.new.room ≡ self.old.room }
+    /// Notes the unit that all commands of a line have to wait for, among them the one of the note at a place, which has to be
+    /// looked at and is in no other line. Where memory is refused all notes stay as they are.
+    pub(crate) fn close(
+        &mut self,
+        at: usize,
+        note: &Note,
+        line: usize,
+        unit: UnitId,
+    ) -> Result<(), NoMemory>
+        requires there { slice_get self.old.rows at ≡ Some (Some note.now) }
+        requires within { line < length self.old.blockers }
+        requires only { IfSome note.now.line (λ g. g ≡ line) }
+        ensures rows { self.new.rows ≡ (if is_ok result
+            then slice_set self.old.rows at (Some (in_line line note.now)) else self.old.rows) }
+        ensures blockers { self.new.blockers ≡ (if is_ok result
+            then slice_set self.old.blockers line (Some unit) else self.old.blockers) }
+        ensures resources { self.new.resources ≡ self.old.resources }
     {
         self.blockers.insert(unit)?;
-        file_all(&mut self.rows, need, unit);
+        self.lines[line] = Some(unit);
+        self.rows[at] = Some(Note {
+            label: note.label,
+            line: Some(line),
+            blocker: None,
+        });
         Ok(())
     }
 }

@@ -1,7 +1,7 @@
 //! A region: tasks that share files and queues, their waits, and their units of work.
 
-ghost use Rattle.std.specs.Prelude.{◌≡◌, ◌&&◌, not, [], ◌∷◌, ◌++◌, if◌then◌else◌, None, true, false, ℕ};
-ghost use Rattle.std.specs.Prelude.{◌<◌, length, IfOk, IfErr, IfSome, OnOk};
+ghost use Rattle.std.specs.Prelude.{◌≡◌, ◌&&◌, not, if◌then◌else◌, None, true, false, ℕ};
+ghost use Rattle.std.specs.Prelude.{IfOk, IfErr, IfSome, OnOk};
 ghost use Rattle.cics_history.specs.Events.{is_live};
 ghost use Rattle.cics_dispatch.specs.Machine.{beginning_region};
 ghost use Rattle.cics_dispatch.specs.Steps.{attached, issued};
@@ -12,7 +12,6 @@ ghost use Rattle.cics_dispatch.specs.Shutdown.{IsRegionStep, shut_down};
 ghost use Rattle.cics_dispatch.specs.Answers.{IsStep, always, attach_may_want, may_want};
 ghost use Rattle.cics_dispatch.specs.Answers.{IsHeadlineRegion, region_listing, replayed_listing};
 ghost use Rattle.cics_dispatch.specs.Settled.{goes_on};
-ghost use Rattle.cics_dispatch.specs.Notes.{new_note};
 ghost use Rattle.cics_dispatch.specs.declared.outcomes.Refused.TheVariants.{RegionDown};
 
 use crate::dispatcher::Dispatcher;
@@ -40,10 +39,8 @@ use std::marker::Model;
 #[derive(Drop)]
 pub struct Region {
     dispatcher: Dispatcher,
-    // What is known of each waiting command, where `is_noted`.
+    // What is known of the waiting commands, up to those that began to wait since the last `wake`.
     notes: Notes,
-    // Each waiting command has its note.
-    is_noted: bool,
     // Each waiting command has its note, and none has to be looked at.
     is_settled: bool,
     // No task has waited too long yet.
@@ -53,15 +50,14 @@ pub struct Region {
 impl Model for Region {
     ghost use Rattle.cics_dispatch.specs.Machine.{RegionValue};
     ghost use Rattle.cics_dispatch.specs.Regions.{IsRegionKept};
-    ghost use Rattle.cics_dispatch.specs.Notes.{IsRemembered, HasRoomForNotes};
+    ghost use Rattle.cics_dispatch.specs.Notes.{IsRemembered};
 
     ghost Value = { RegionValue };
 
     ghost view = { λ r. r.dispatcher };
 
     ghost invariant = { λ r. IsRegionKept r.dispatcher
-        × IsRemembered r.dispatcher.machine r.notes r.is_noted r.is_settled r.is_in_time
-        × HasRoomForNotes r.dispatcher.machine r.notes };
+        × IsRemembered r.dispatcher.machine r.notes r.is_settled r.is_in_time };
 }
 
 // The unit of a command's task, if there is one, where the command may have given something up that the unit held: it is one
@@ -83,27 +79,6 @@ fn stays_settled(is_settled: bool, was_blocker: bool, waits: bool) -> bool
     is_settled && !was_blocker && !waits
 }
 
-// Notes that a command of a label's task waits, if it does, where the others are noted. `false` where they aren't, or much
-// stands in the notes that no waiting command needs: then `wake` notes all anew.
-fn note_if(is_noted: bool, notes: &mut Notes, waits: bool, label: Name8) -> bool
-    requires room { is_noted ≡ true → waits ≡ true → length notes.old.rows < notes.old.room }
-    ensures rows { result ≡ true → (is_noted ≡ true)
-        × (notes.new.rows
-        ≡ (if waits then notes.old.rows ++ new_note label ∷ [] else notes.old.rows)) }
-    ensures none { waits ≡ false → (result ≡ is_noted) × (notes.new.rows ≡ notes.old.rows) }
-    ensures needs { notes.new.needs ≡ notes.old.needs }
-    ensures room { notes.new.room ≡ notes.old.room }
-{
-    if !waits {
-        return is_noted;
-    }
-    if !is_noted || notes.have_grown() {
-        return false;
-    }
-    notes.push(label);
-    true
-}
-
 impl Region {
     /// The region of an opening, without a task, its clock at 0. It takes memory for a copy of the files
     /// and queues; where that is refused the opening comes back.
@@ -117,7 +92,6 @@ impl Region {
         Ok(Region {
             dispatcher,
             notes: Notes::new(alloc),
-            is_noted: false,
             is_settled: false,
             is_in_time: false,
         })
@@ -146,8 +120,7 @@ impl Region {
         ensures headline { IsHeadlineRegion self.new }
     {
         self.refuse_if_down()?;
-        self.dispatcher
-            .attach(label, transaction, dtimout, &mut self.notes)
+        self.dispatcher.attach(label, transaction, dtimout)
     }
 
     /// Sets the clock to so many seconds. It is refused where the region is shut down (`RegionDown`), and
@@ -183,7 +156,6 @@ impl Region {
         let was_blocker = self.notes.forget(giving_up(keeps, &outcome, unit));
         let waits = self.dispatcher.is_waiting(&label);
         self.is_settled = stays_settled(self.is_settled, was_blocker, waits);
-        self.is_noted = note_if(self.is_noted, &mut self.notes, waits, label);
         Ok(outcome)
     }
 
@@ -203,16 +175,14 @@ impl Region {
         if self.is_settled {
             return Ok(None);
         }
-        self.dispatcher.note_all(self.is_noted, &mut self.notes);
-        self.is_noted = true;
-        let first = self.dispatcher.first_free(&mut self.notes)?;
-        let Some(label) = first else {
-            self.is_settled = self.notes.are_closed();
+        self.dispatcher.note_rest(&mut self.notes)?;
+        let Some(free) = self.dispatcher.first_free(&mut self.notes)? else {
+            self.is_settled = true;
             return Ok(None);
         };
-        let unit = self.dispatcher.unit_of(&label);
-        let woken = self.dispatcher.wake(label)?;
-        self.notes.remove(&label);
+        let unit = self.dispatcher.unit_of(&free.label);
+        let woken = self.dispatcher.wake(free.label)?;
+        self.notes.remove(free.place);
         self.notes.forget(unit);
         Ok(Some(woken))
     }
@@ -239,7 +209,7 @@ impl Region {
         };
         let unit = self.dispatcher.unit_at(at);
         let expired = self.dispatcher.time_out(at);
-        self.notes.remove(&expired.label);
+        self.notes.remove_of(&expired.label);
         self.notes.forget(unit);
         self.is_settled = false;
         Some(expired)
@@ -261,7 +231,6 @@ impl Region {
         self.refuse_if_down()?;
         let count = self.dispatcher.shut_down();
         self.notes.clear();
-        self.is_noted = true;
         self.is_settled = true;
         self.is_in_time = true;
         Ok(count)

@@ -1,7 +1,7 @@
 //! Waiting commands: which one goes on, and which one's time is over.
 
 ghost use Rattle.std.specs.Prelude.{◌≡◌, ◌<◌, ◌≤◌, [], ◌∷◌, All, Some, None, true, false, length};
-ghost use Rattle.std.specs.Prelude.{slice_get, IfOk, OnOk, OnErr, IfSome, IfNone};
+ghost use Rattle.std.specs.Prelude.{slice_get, is_ok, IfOk, OnOk, OnErr, IfSome, IfNone};
 ghost use Rattle.cics_history.specs.Execution.{IsOpenUnit};
 ghost use Rattle.cics_history.specs.Records.{key_of};
 ghost use Rattle.cics_history.specs.Isolation.{IsSound};
@@ -10,16 +10,17 @@ ghost use Rattle.cics_dispatch.specs.KeptTasks.{IsWaitKept, AreTasksKept};
 ghost use Rattle.cics_dispatch.specs.Waking.{expired, woken, woken_first, first_free, first_late};
 ghost use Rattle.cics_dispatch.specs.Waking.{is_late, awaited_by};
 ghost use Rattle.cics_dispatch.specs.Steps.{with_outcome};
-ghost use Rattle.cics_dispatch.specs.Settled.{reads_queue};
 ghost use Rattle.cics_dispatch.specs.Notes.{OfWait, IsFound, IsOnlyUse, IsOnlyNeed, OwnerIsAwake};
-ghost use Rattle.cics_dispatch.specs.Notes.{AreNotedNow, IsBlockedAt, IsFirstFree, IsFirstFreeOf};
-ghost use Rattle.cics_dispatch.specs.Notes.{HasRoomForNotes};
+ghost use Rattle.cics_dispatch.specs.Notes.{AreNotedNow, IsFirstFree, IsFirstFreeOf, IsFirstOpen};
+ghost use Rattle.cics_dispatch.specs.Notes.{MayClose, UseOf, IsLooked, IsFreeAt, AreSettled, count};
+ghost use Rattle.cics_dispatch.specs.Settled.{reads_queue, IsBlocked};
+ghost use Rattle.cics_dispatch.specs.Waits.{AreApart};
 ghost use Rattle.cics_dispatch.specs.Calls.{OfTask, IsAwake, HasReady, KeepsRegion};
 ghost use Rattle.cics_dispatch.specs.Calls.{IsStepOrRefused};
 ghost use Rattle.cics_dispatch.specs.Calls.{IsAttempt, going_on};
 
 use crate::dispatcher::Dispatcher;
-use crate::notes::{Look, Notes};
+use crate::notes::{Free, Look, Note, Notes};
 use crate::outcomes::{Attempt, Expired, Outcome, Woken};
 use crate::waits::{Suspended, Waits};
 use cics_enqueue::{Resource, UnitId};
@@ -140,71 +141,123 @@ impl Dispatcher {
         }
     }
 
-    // Notes that the waiting command at a place has to wait for a unit, and so have all that use the same resource. Where
-    // memory is refused less is noted.
-    fn file(&self, notes: &mut Notes, at: usize, unit: UnitId) -> Result<(), NoMemory>
-        requires within { at < length notes.old.rows }
-        requires kept { All (IsWaitKept self.now.machine) self.now.machine.waiting }
-        requires noted { AreNotedNow self.now.machine notes.old }
-        requires blocked { IsBlockedAt self.now.machine at unit }
-        ensures noted { AreNotedNow self.now.machine notes.new }
-        ensures room { notes.new.room ≡ notes.old.room }
+    // Whether the commands of a line may all be said to wait for a unit, as one of them has to: they do already, or no command
+    // waits of the unit's own task.
+    fn may_close(&self, notes: &Notes, line: usize, unit: UnitId) -> bool
+        requires { line < length notes.now.blockers }
+        ensures { result ≡ true → MayClose self.now.machine notes.now.blockers line unit }
     {
-        if self.owner_waits(unit) {
-            return notes.set_blocker(at, unit);
+        match notes.blocker_of(line) {
+            Some(blocker) => blocker == unit,
+            None => !self.owner_waits(unit),
         }
-        let note = notes.get(at);
-        let Some(resource) = self.need(&note.label) else {
-            return notes.set_blocker(at, unit);
-        };
-        let need = notes.place_of(resource, note.need.is_some())?;
-        notes.set_need(at, need);
-        if notes.is_shared(need) {
-            return notes.file(need, unit);
-        }
-        notes.set_blocker(at, unit)
     }
 
-    /// Looks at the waiting commands whose notes don't say whom they have to wait for, up to the first that needn't wait,
-    /// and answers its task's label. What it finds is noted; where memory for that is refused it looks no further.
-    pub(crate) fn first_free(&self, notes: &mut Notes) -> Result<Option<Name8>, NoMemory>
+    // Notes that the waiting command of the note at a place, the first that has to be looked at, has to wait for a unit, and
+    // so have all that use the same resource and nothing else. Where memory is refused the command has to be looked at again.
+    fn file(&self, notes: &mut Notes, at: usize, note: &Note, unit: UnitId) -> Result<(), NoMemory>
+        requires first { IsFirstOpen notes.old at note.now }
         requires kept { AreTasksKept self.now.machine }
         requires noted { AreNotedNow self.now.machine notes.old }
-        ensures noted { AreNotedNow self.now.machine notes.new }
-        ensures room { notes.new.room ≡ notes.old.room }
-        ensures first { IfOk result (λ found.
-            IfSome found (λ label. IsFirstFree self.now.machine label)) }
-        ensures none { IfOk result (λ found. IfNone found
-            (first_free self.now.machine self.now.machine.waiting ≡ None)) }
+        requires blocked { OfWait self.now.machine.waiting note.now.label
+            (IsBlocked self.now.machine unit) }
+        ensures { IsLooked self.now.machine notes.old notes.new at (is_ok result) }
     {
-        for at in 0..notes.len() {
-            let note = notes.get(at);
-            if note.blocker.is_some() {
-                continue;
-            }
+        if let Some(line) = note.line {
+            return self.file_in(notes, at, note, line, unit);
+        }
+        let Some(resource) = self.need(&note.label) else {
+            return notes.set_alone(at, note, unit);
+        };
+        match notes.line_of(resource) {
+            Ok(line) => self.file_in(notes, at, note, line, unit),
+            Err(refused) => Err(refused),
+        }
+    }
+
+    // The same where the command uses the resource of a line and nothing else.
+    fn file_in(
+        &self,
+        notes: &mut Notes,
+        at: usize,
+        note: &Note,
+        line: usize,
+        unit: UnitId,
+    ) -> Result<(), NoMemory>
+        requires first { IsFirstOpen notes.old at note.now }
+        requires kept { AreTasksKept self.now.machine }
+        requires noted { AreNotedNow self.now.machine notes.old }
+        requires blocked { OfWait self.now.machine.waiting note.now.label
+            (IsBlocked self.now.machine unit) }
+        requires within { line < length notes.old.blockers }
+        requires only { IfSome note.now.line (λ g. g ≡ line) }
+        requires uses { UseOf self.now.machine notes.old.resources note.now line }
+        ensures { IsLooked self.now.machine notes.old notes.new at (is_ok result) }
+    {
+        if self.may_close(notes, line, unit) {
+            notes.close(at, note, line, unit)
+        } else {
+            notes.set_alone(at, note, unit)
+        }
+    }
+
+    /// Looks at the waiting commands of which it isn't known whom they have to wait for, up to the first that needn't wait, and
+    /// answers that. What it finds is noted; where memory for that is refused it looks no further.
+    pub(crate) fn first_free(&self, notes: &mut Notes) -> Result<Option<Free>, NoMemory>
+        requires kept { AreTasksKept self.now.machine }
+        requires noted { AreNotedNow self.now.machine notes.old }
+        requires all { count notes.old.rows ≡ length self.now.machine.waiting }
+        ensures noted { AreNotedNow self.now.machine notes.new }
+        ensures first { IfOk result (λ found.
+            IfSome found (λ f. IsFreeAt self.now.machine notes.new f.place f.label)) }
+        ensures none { IfOk result (λ found. IfNone found
+            (AreSettled self.now.machine notes.new)) }
+    {
+        while let Some((at, note)) = notes.first_open() {
             match self.look(&note.label) {
-                Look::MayGoOn => return Ok(Some(note.label)),
-                Look::IsBlocked(unit) => self.file(notes, at, unit)?,
+                Look::MayGoOn => {
+                    return Ok(Some(Free {
+                        place: at,
+                        label: note.label,
+                    }));
+                }
+                Look::IsBlocked(unit) => self.file(notes, at, &note, unit)?,
             }
         }
         Ok(None)
     }
 
-    /// Makes a new note of each waiting command, as one that has to be looked at, where `are_noted` is false. Takes no
-    /// memory: there has to be room.
-    pub(crate) fn note_all(&self, are_noted: bool, notes: &mut Notes)
-        requires noted { are_noted ≡ true → AreNotedNow self.now.machine notes.old }
-        requires room { HasRoomForNotes self.now.machine notes.old }
+    /// Makes a note of each waiting command that has none yet, as one that has to be looked at; of all of them anew where most
+    /// places are of commands that wait no more. Where memory is refused it makes no more of them.
+    pub(crate) fn note_rest(&self, notes: &mut Notes) -> Result<(), NoMemory>
+        requires noted { AreNotedNow self.now.machine notes.old }
         ensures noted { AreNotedNow self.now.machine notes.new }
-        ensures room { notes.new.room ≡ notes.old.room }
+        ensures all { OnOk result (count notes.new.rows ≡ length self.now.machine.waiting) }
+        ensures once { AreApart self.now.machine.waiting }
     {
-        if are_noted {
-            return;
+        if notes.have_grown(self.waits.len()) {
+            notes.clear();
         }
-        notes.clear();
+        self.note_behind(notes)
+    }
+
+    // The same, whatever the places are.
+    fn note_behind(&self, notes: &mut Notes) -> Result<(), NoMemory>
+        requires noted { AreNotedNow self.now.machine notes.old }
+        ensures noted { AreNotedNow self.now.machine notes.new }
+        ensures all { OnOk result (count notes.new.rows ≡ length self.now.machine.waiting) }
+        ensures once { AreApart self.now.machine.waiting }
+    {
+        let noted = notes.count();
+        let mut passed = 0;
         for wait in self.waits.iter() {
-            notes.push(wait.label());
+            if passed < noted {
+                passed += 1;
+                continue;
+            }
+            notes.push(wait.label())?;
         }
+        Ok(())
     }
 
     // Tries a waiting command of the task at a place again, with what it asked for when it was issued.
@@ -312,6 +365,7 @@ impl Dispatcher {
             ≡ first_late self.now.machine self.now.machine.waiting) }
         ensures within { IfSome result (λ at. at < length self.now.machine.tasks) }
         ensures none { IfNone result (first_late self.now.machine self.now.machine.waiting ≡ None) }
+        ensures once { AreApart self.now.machine.waiting }
     {
         for wait in self.waits.iter() {
             if let Some(at) = self.late(wait) {

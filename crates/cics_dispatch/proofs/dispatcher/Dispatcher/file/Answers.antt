@@ -1,50 +1,27 @@
-use Rattle.std.proofs.Common.{false, is_ok, refl, sym, subst, arith}
-use Rattle.cics_dispatch.specs.Notes.{AreNoted, AreNotedNow}
-use Rattle.cics_dispatch.proofs.Noted.{noted_length, noted_more, blocker_noted, filed_there}
+use Rattle.std.proofs.Common.{is_ok}
+use Rattle.cics_dispatch.proofs.Looked.{looked_alone, looked_more, looked_since, first_more, only_uses}
 use Rattle.cics_dispatch.proofs.dispatcher.Dispatcher.file.Goals as goal
 
-pub returns-then-owner_waits-clause-noted : goal.returns-then-owner_waits-clause-noted
-returns-then-owner_waits-clause-noted c =
-    let set = c.set_blocker in
-    blocker_noted c.args.self.now.machine c.args.notes.now set.new.self c.args.at c.args.unit (is_ok set.result) c.requires.within c.requires.noted c.requires.blocked set.ensures.rows set.ensures.needs
-
-pub returns-in_default-clause-noted : goal.returns-in_default-clause-noted
-returns-in_default-clause-noted c =
-    let set = c.set_blocker-in_default in
-    blocker_noted c.args.self.now.machine c.args.notes.now set.new.self c.args.at c.args.unit (is_ok set.result) c.requires.within c.requires.noted c.requires.blocked set.ensures.rows set.ensures.needs
-
-pub returns-in_err-need-clause-noted : goal.returns-in_err-need-clause-noted
-returns-in_err-need-clause-noted c =
+pub returns-in_default-need : goal.returns-in_default-need
+returns-in_default-need c =
     let m = c.args.self.now.machine in
-    let placed = c.place_of in
-    subst (λ ns. AreNoted m placed.new.self.needs ns m.waiting) (sym placed.ensures.rows)
-    (noted_more m c.args.notes.now.needs placed.new.self.needs c.args.notes.now.rows m.waiting placed.ensures.needs c.requires.noted)
+    looked_alone m c.args.notes.now c.args.at c.args.unit c.args.note.now c.requires.kept c.requires.noted c.requires.first c.requires.blocked c.set_alone.new.self (is_ok c.set_alone.result) c.set_alone.ensures.rows
+    c.set_alone.ensures.resources c.set_alone.ensures.blockers
 
-pub returns-then-is_shared-clause-noted : goal.returns-then-is_shared-clause-noted
-returns-then-is_shared-clause-noted c =
-    filed_there c.args.self.now.machine c.args.notes.now c.place_of.new.self c.set_need.new.self c.file.new.self c.args.at c.args.unit c.in_ok-need.need c.get-note.result c.in-Some.resource
-    (is_ok c.file.result) c.requires.kept c.requires.noted c.requires.blocked (c.owner_waits.ensures c.if-owner_waits.false) c.get-note.ensures (λ i w there own. c.in-Some.ensures i w there own)
-    c.in_ok-need.ensures.place c.place_of.ensures.needs c.place_of.ensures.rows c.set_need.ensures.rows c.set_need.ensures.needs c.file.ensures.rows c.file.ensures.needs
+pub returns-in-Err : goal.returns-in-Err
+returns-in-Err c = looked_more c.args.self.now.machine c.args.notes.now c.line_of.new.self c.args.at c.requires.noted c.line_of.ensures.rows c.line_of.ensures.resources c.line_of.ensures.blockers
 
-pub set_blocker-requires-2 : goal.set_blocker-requires-2
-set_blocker-requires-2 c =
-    let m = c.args.self.now.machine in
-    let noted : AreNotedNow m c.set_need.new.self =
-    filed_there c.args.self.now.machine c.args.notes.now c.place_of.new.self c.set_need.new.self c.set_need.new.self c.args.at c.args.unit c.in_ok-need.need c.get-note.result c.in-Some.resource
-    false c.requires.kept c.requires.noted c.requires.blocked (c.owner_waits.ensures c.if-owner_waits.false) c.get-note.ensures (λ i w there own. c.in-Some.ensures i w there own)
-    c.in_ok-need.ensures.place c.place_of.ensures.needs c.place_of.ensures.rows c.set_need.ensures.rows c.set_need.ensures.needs refl refl in
-    let before = noted_length m c.args.notes.now.needs c.args.notes.now.rows m.waiting c.requires.noted in
-    let now = noted_length m c.set_need.new.self.needs c.set_need.new.self.rows m.waiting noted in
-    omega (arith, c.requires.within, before, now)
+pub file_in-requires-in-Ok-clause-first : goal.file_in-requires-in-Ok-clause-first
+file_in-requires-in-Ok-clause-first c = first_more c.args.notes.now c.line_of.new.self c.args.at c.args.note.now c.requires.first c.line_of.ensures.rows c.line_of.ensures.blockers
 
-pub returns-clause-noted : goal.returns-clause-noted
-returns-clause-noted c =
-    let m = c.args.self.now.machine in
-    let set = c.set_blocker-2 in
-    let noted : AreNotedNow m c.set_need.new.self =
-    filed_there c.args.self.now.machine c.args.notes.now c.place_of.new.self c.set_need.new.self c.set_need.new.self c.args.at c.args.unit c.in_ok-need.need c.get-note.result c.in-Some.resource
-    false c.requires.kept c.requires.noted c.requires.blocked (c.owner_waits.ensures c.if-owner_waits.false) c.get-note.ensures (λ i w there own. c.in-Some.ensures i w there own)
-    c.in_ok-need.ensures.place c.place_of.ensures.needs c.place_of.ensures.rows c.set_need.ensures.rows c.set_need.ensures.needs refl refl in
-    let before = noted_length m c.args.notes.now.needs c.args.notes.now.rows m.waiting c.requires.noted in
-    let now = noted_length m c.set_need.new.self.needs c.set_need.new.self.rows m.waiting noted in
-    blocker_noted m c.set_need.new.self set.new.self c.args.at c.args.unit (is_ok set.result) (omega (arith, c.requires.within, before, now)) noted c.requires.blocked set.ensures.rows set.ensures.needs
+pub file_in-requires-in-Ok-clause-noted : goal.file_in-requires-in-Ok-clause-noted
+file_in-requires-in-Ok-clause-noted c =
+    let left = looked_more c.args.self.now.machine c.args.notes.now c.line_of.new.self c.args.at c.requires.noted c.line_of.ensures.rows c.line_of.ensures.resources c.line_of.ensures.blockers in
+    left.noted
+
+pub file_in-requires-in-Ok-clause-uses : goal.file_in-requires-in-Ok-clause-uses
+file_in-requires-in-Ok-clause-uses c =
+    only_uses c.args.self.now.machine c.line_of.new.self.resources c.args.note.now c.in-Ok.line c.args.unit c.in-Some-need.resource c.in-Ok.ensures.line c.requires.blocked (λ i w there own. c.in-Some-need.ensures i w there own)
+
+pub returns-in-Ok : goal.returns-in-Ok
+returns-in-Ok c = looked_since c.args.self.now.machine c.args.notes.now c.line_of.new.self c.file_in-in-Ok.new.notes c.args.at (is_ok c.file_in-in-Ok.result) c.line_of.ensures.rows c.file_in-in-Ok.ensures

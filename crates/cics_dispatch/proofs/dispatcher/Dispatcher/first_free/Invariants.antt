@@ -1,12 +1,15 @@
-use Rattle.std.proofs.Common.{◌≡◌, drop}
-use Rattle.cics_dispatch.specs.Waking.{first_free}
-use Rattle.cics_dispatch.specs.Notes.{AreNotedNow}
+use Rattle.std.proofs.Common.{◌≡◌, length}
+use Rattle.cics_dispatch.specs.Notes.{AreNotedNow, count}
+use Rattle.cics_dispatch.proofs.Looked.{left_open}
 use Rattle.cics_dispatch.proofs.dispatcher.Dispatcher.first_free.Given as goal
 
--- none of those that were passed may go on, each has its note, and the room is as it was
+-- each waiting command has its note
 abbrev pub invariant-loop-at : goal.invariant-loop-at
 invariant-loop-at l = record {
-  passed : first_free l.self.machine (drop l.at l.self.machine.waiting) ≡ first_free l.self.machine l.self.machine.waiting;
   noted : AreNotedNow l.self.machine l.notes;
-  room : l.notes.room ≡ l.fn.notes.room;
+  all : count l.notes.rows ≡ length l.self.machine.waiting;
 }
+
+-- each look leaves fewer to look at
+abbrev pub decreases-loop-at : goal.decreases-loop-at
+decreases-loop-at l = left_open l.notes.blockers l.notes.rows

@@ -1,3 +1,5 @@
+use Rattle.std.proofs.Common.{subst}
+use Rattle.cics_dispatch.specs.Waits.{AreApart}
 use Rattle.cics_dispatch.proofs.RegionWaking.{first_late-here}
 use Rattle.cics_dispatch.proofs.dispatcher.Dispatcher.first_late.Goals as goal
 
@@ -5,3 +7,9 @@ pub returns-in-Some-late-clause-task : goal.returns-in-Some-late-clause-task
 returns-in-Some-late-clause-task c =
     let m = c.args.self.now.machine in
     first_late-here m _ _ c.in-Some.wait.now _ c.loop-wait.invariant c.in-Some.ensures.steps c.in-Some-late.ensures.late c.in-Some-late.ensures.task
+
+pub returns-in-Some-late-clause-once : goal.returns-in-Some-late-clause-once
+returns-in-Some-late-clause-once c = subst (λ v. AreApart v.machine.waiting) c.self.view_is c.iter-wait-items.ensures.once
+
+pub returns-clause-once : goal.returns-clause-once
+returns-clause-once c = subst (λ v. AreApart v.machine.waiting) c.self.view_is c.iter-wait-items.ensures.once

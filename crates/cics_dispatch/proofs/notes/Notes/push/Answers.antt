@@ -1,9 +1,10 @@
-use Rattle.std.proofs.Common.{None, refl, sym, subst}
-use Rattle.cics_dispatch.specs.Notes.{AreBlockersAmong}
-use Rattle.cics_dispatch.proofs.NoteRows.{among-push}
+use Rattle.std.proofs.Common.{rules, arith, subst, sym}
+use Rattle.cics_dispatch.specs.Filed.{IsFiled}
+use Rattle.cics_dispatch.proofs.FiledNotes.{filed_push}
 use Rattle.cics_dispatch.proofs.notes.Notes.push.Goals as goal
 
-pub invariant_of-self : goal.invariant_of-self
-invariant_of-self c =
-    subst (AreBlockersAmong c.self.inside.blockers.keys) (sym c.push_reserved.ensures.items)
-    (among-push c.self.inside.blockers.keys c.self.inside.rows.items (record { label = c.args.label; need = None; blocker = None }) refl c.self.invariant)
+pub invariant_of-self-2 : goal.invariant_of-self-2
+invariant_of-self-2 c =
+    let u = c.self.inside in
+    subst (λ rows. IsFiled rows c.in-Some.count u.closed u.resources.keys u.lines.items u.blockers.keys) (sym c.in_ok-push.ensures.items)
+    (filed_push u.rows.items u.count u.closed u.resources.keys u.lines.items u.blockers.keys c.self.invariant c.args.label c.in-Some.count (search (rules, arith)))

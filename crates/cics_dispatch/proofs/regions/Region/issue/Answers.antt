@@ -1,12 +1,11 @@
-use Rattle.std.proofs.Common.{◌∙◌, ap, sym, subst, length, Ok}
+use Rattle.std.proofs.Common.{◌∙◌, ap, subst, Ok}
 use Rattle.std.specs.Prelude.{◌&&◌, if◌then◌else◌, None}
 use Rattle.cics_dispatch.specs.Steps.{issued}
 use Rattle.cics_dispatch.specs.Answers.{may_want}
 use Rattle.cics_dispatch.specs.Shutdown.{IsRegionStep}
 use Rattle.cics_dispatch.proofs.RegionShutdown.{up_step}
 use Rattle.cics_dispatch.specs.Settled.{goes_on}
-use Rattle.cics_dispatch.proofs.NotesRoom.{issued_count, room_kept}
-use Rattle.cics_dispatch.proofs.RegionRemembers.{remembered_issued, issued_room}
+use Rattle.cics_dispatch.proofs.RegionRemembers.{remembered_issued}
 use Rattle.cics_dispatch.proofs.regions.Region.issue.Goals as goal
 
 pub returns-clause-step : goal.returns-clause-step
@@ -23,25 +22,10 @@ pub invariant_of-self-2 : goal.invariant_of-self-2
 invariant_of-self-2 c =
     let u = c.self.inside in
     let outcome = c.in_ok-outcome.outcome in
-    let forgot = c.forget-was_blocker in
-    let noted = c.note_if-self-inside in (
+    let forgot = c.forget-was_blocker in (
       c.in_ok-outcome.ensures.kept c.self.invariant.0,
-      remembered_issued u.dispatcher.machine c.issue.new.self.machine c.args.label c.args.command outcome u.notes forgot.new.self noted.new.notes u.is_noted u.is_settled u.is_in_time
-          forgot.result c.is_waiting-waits.result c.stays_settled-self-inside.result noted.result c.unit_of-unit.result c.giving_up.result c.self.invariant.0.tasks c.self.invariant.1 (λ t there. c.unit_of-unit.ensures t there)
+      remembered_issued u.dispatcher.machine c.issue.new.self.machine c.args.label c.args.command outcome u.notes forgot.new.self u.is_settled u.is_in_time
+          forgot.result c.is_waiting-waits.result c.stays_settled-self-inside.result c.unit_of-unit.result c.giving_up.result c.self.invariant.0.tasks c.self.invariant.1 (λ t there. c.unit_of-unit.ensures t there)
           c.in_ok-outcome.ensures.step.0 c.in_ok-outcome.ensures.step.1 (c.giving_up.ensures ∙ (λ i. if c.is_keeping-keeps.ensures i && goes_on outcome then None else c.unit_of-unit.result))
-          forgot.ensures.rows forgot.ensures.none forgot.ensures.needs c.is_waiting-waits.ensures.waiting c.stays_settled-self-inside.ensures noted.ensures.rows noted.ensures.none noted.ensures.needs,
-      room_kept u.dispatcher.machine c.issue.new.self.machine u.notes noted.new.notes c.self.invariant.2 (ap (λ m. length m.tasks) c.in_ok-outcome.ensures.step.1 ∙ issued_count u.dispatcher.machine c.args.label c.args.command)
-          (noted.ensures.room ∙ forgot.ensures.room),
+          forgot.ensures.rows forgot.ensures.blockers forgot.ensures.none forgot.ensures.resources c.is_waiting-waits.ensures c.stays_settled-self-inside.ensures,
     )
-
-pub note_if-self-inside-requires : goal.note_if-self-inside-requires
-note_if-self-inside-requires c = record {
-  room = λ noted waits.
-      let u = c.self.inside in
-      let outcome = c.in_ok-outcome.outcome in
-      let forgot = c.forget-was_blocker in
-      issued_room u.dispatcher.machine c.issue.new.self.machine c.args.label c.args.command outcome u.notes forgot.new.self c.unit_of-unit.result c.giving_up.result c.self.invariant.0.tasks c.self.invariant.2 (c.self.invariant.1.noted noted)
-      (λ t there. c.unit_of-unit.ensures t there) c.in_ok-outcome.ensures.step.0 c.in_ok-outcome.ensures.step.1
-      (c.giving_up.ensures ∙ (λ i. if c.is_keeping-keeps.ensures i && goes_on outcome then None else c.unit_of-unit.result)) forgot.ensures.rows forgot.ensures.room c.is_waiting-waits.ensures.few
-      (sym c.is_waiting-waits.ensures.waiting ∙ waits);
-}

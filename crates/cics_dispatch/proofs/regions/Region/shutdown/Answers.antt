@@ -1,16 +1,13 @@
 use Rattle.std.proofs.Common.{◌∙◌, ap}
 use Rattle.cics_dispatch.specs.Machine.{with_waiting}
-use Rattle.std.specs.Prelude.{[], length}
+use Rattle.std.specs.Prelude.{[]}
 use Rattle.cics_dispatch.proofs.RegionShutdown.{ended_waiting}
 use Rattle.cics_dispatch.proofs.RegionRemembers.{remembered_alone}
-use Rattle.cics_dispatch.proofs.NotesRoom.{ended_count, room_kept}
 use Rattle.cics_dispatch.proofs.regions.Region.shutdown.Goals as goal
 
 pub invariant_of-self : goal.invariant_of-self
 invariant_of-self c =
-    let u = c.self.inside in
-    let m = u.dispatcher.machine in (
+    let m = c.self.inside.dispatcher.machine in (
       c.shut_down-count.ensures.kept c.self.invariant.0,
-      remembered_alone c.shut_down-count.new.self.machine c.clear.new.self c.clear.ensures.rows (ap (λ s. s.machine.waiting) c.shut_down-count.ensures.machine ∙ ended_waiting (with_waiting m []) m.tasks),
-      room_kept m c.shut_down-count.new.self.machine u.notes c.clear.new.self c.self.invariant.2 (ap (λ s. length s.machine.tasks) c.shut_down-count.ensures.machine ∙ ended_count (with_waiting m []) m.tasks) c.clear.ensures.room,
+      remembered_alone c.shut_down-count.new.self.machine c.clear.new.self c.clear.ensures (ap (λ s. s.machine.waiting) c.shut_down-count.ensures.machine ∙ ended_waiting (with_waiting m []) m.tasks),
     )

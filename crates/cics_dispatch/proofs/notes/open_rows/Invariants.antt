@@ -1,6 +1,6 @@
 use Rattle.std.proofs.Common.{◌≡◌, ◌++◌, Some, map, take, drop}
 use Rattle.cics_dispatch.specs.Notes.{forgotten}
-use Rattle.cics_dispatch.proofs.notes.forget_all.Given as goal
+use Rattle.cics_dispatch.proofs.notes.open_rows.Given as goal
 
 -- those before this place are changed
 abbrev pub invariant-loop-at : goal.invariant-loop-at
