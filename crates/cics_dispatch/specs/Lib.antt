@@ -17,3 +17,4 @@ pub mod OwnedUnits
 pub mod Settled
 pub mod Notes
 pub mod First
+pub mod Firsts
