@@ -35,3 +35,4 @@ mod RegionRemembers
 pub mod FewerWaits
 pub mod Elements
 pub mod FirstWaits
+pub mod LesserKeys

@@ -45,7 +45,7 @@ fn lesser(level: &[u64], pair: usize) -> u64
 
 // Puts a key in the place of another. As soon as the lesser key of a pair stays, so does all above it.
 fn set(level: &mut Vec<u64>, above: &mut [Vec<u64>], at: usize, key: u64)
-    requires within { at < vec_len level.old }
+    requires within { at < length level.old.items }
     requires above { AreAbove level.old.items above.old }
     ensures keys { level.new.items ≡ slice_set level.old.items at key }
     ensures above { AreAbove level.new.items above.new }
@@ -136,20 +136,25 @@ fn clear_all(levels: &mut [Vec<u64>])
 }
 
 // The place of the first key below a limit: it is of the first pair whose lesser key is below it.
+fn first_of_pair(level: &[u64], pair: usize, limit: u64) -> usize
+    requires { IsFirstBelow (lesser_of_pairs level.now) limit pair }
+    ensures { IsFirstBelow level.now limit result }
+{
+    let at = pair * 2;
+    if level[at] < limit { at } else { at + 1 }
+}
+
+// The place of the first key below a limit, or `None` where no key is.
 fn first_below(level: &[u64], above: &[Vec<u64>], limit: u64) -> Option<usize>
     requires { AreAbove level.now above.now }
-    ensures { MatchOption result (All (λ key. limit ≤ key) level.now) (λ at. IsFirstBelow level.now limit at) }
+    ensures { MatchOption result
+        (All (λ key. limit ≤ key) level.now) (λ at. IsFirstBelow level.now limit at) }
 {
     let Some((next, rest)) = above.split_first() else {
         return level.iter().position(|key| *key < limit);
     };
     let pair = first_below(next.as_slice(), rest, limit)?;
-    let at = pair * 2;
-    if level[at] < limit {
-        Some(at)
-    } else {
-        Some(at + 1)
-    }
+    Some(first_of_pair(level, pair, limit))
 }
 
 impl Firsts {
