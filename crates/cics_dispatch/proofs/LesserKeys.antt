@@ -138,7 +138,7 @@ module _ (limit : ℕ) where
       before (suc i) x less is = first.before i x (omega arith) is
 
   -- the first one behind the first key
-  first_rest : (k : ℕ) (keys : List ℕ) (at : ℕ) → IsFirstBelow (k ∷ keys) limit (suc at) → IsFirstBelow keys limit at
+  pub first_rest : (k : ℕ) (keys : List ℕ) (at : ℕ) → IsFirstBelow (k ∷ keys) limit (suc at) → IsFirstBelow keys limit at
   first_rest k keys at first = record {
     key = first.key;
     there = first.there;

@@ -36,3 +36,4 @@ pub mod FewerWaits
 pub mod Elements
 pub mod FirstWaits
 pub mod LesserKeys
+pub mod Deadlines

@@ -18,3 +18,4 @@ pub mod Settled
 pub mod Notes
 pub mod First
 pub mod Firsts
+pub mod Deadlines
