@@ -96,6 +96,7 @@ pair_filled (a ∷ b ∷ keys) key least odd is =
     subst (λ n. slice_set (min a b ∷ lesser_of_pairs keys) n least ≡ min a b ∷ lesser_of_pairs (keys ++ key ∷ [])) (sym (half (length keys)))
     (ap (λ l. min a b ∷ l) (pair_filled keys key least rest there))
 
+-- a number of keys that isn't even is odd
 not_even : (keys : List ℕ) → (length keys % 2 ≡ 0 → ⊥) → length keys % 2 ≡ 1
 not_even keys odd = by (length keys % 2) odd (omega arith)
   where
@@ -112,6 +113,7 @@ odd_within (a ∷ b ∷ keys) odd =
     let rest : length keys / 2 < length (lesser_of_pairs keys) = odd_within keys (omega arith) in
     omega arith
 
+-- so it does in the pairs as they are kept
 pub alone_within : (keys pairs : List ℕ) (at : ℕ) → pairs ≡ lesser_of_pairs keys → at ≡ length keys → (at % 2 ≡ 0 → ⊥) → at / 2 < length pairs
 alone_within keys pairs at is counted odd =
     let there : length keys / 2 < length (lesser_of_pairs keys) = odd_within keys (not_even keys (λ even. odd (ap (λ n. n % 2) counted ∙ even))) in

@@ -1,8 +1,10 @@
 //! A row of keys that finds the first key below a limit.
 
-ghost use Rattle.std.specs.Prelude.{◌≡◌, ◌<◌, ◌≤◌, ◌*◌, ℕ, List, [], ◌∷◌, ◌++◌, Some, length, slice_get};
-ghost use Rattle.std.specs.Prelude.{slice_set, vec_len, vec_capacity, All, OnOk, OnErr, MatchOption};
-ghost use Rattle.cics_dispatch.specs.Firsts.{lesser_of_pairs, last_of, AreAbove, HaveRoom, IsFirstBelow};
+ghost use Rattle.std.specs.Prelude.{◌≡◌, ◌<◌, ◌≤◌, ◌*◌, ℕ, List, [], ◌∷◌, ◌++◌, Some, length};
+ghost use Rattle.std.specs.Prelude.{slice_get, slice_set, vec_len, vec_capacity};
+ghost use Rattle.std.specs.Prelude.{All, OnOk, OnErr, MatchOption};
+ghost use Rattle.cics_dispatch.specs.Firsts.{lesser_of_pairs, last_of, AreAbove, HaveRoom};
+ghost use Rattle.cics_dispatch.specs.Firsts.{IsFirstBelow};
 
 use cics_names::NoMemory;
 use std::alloc::Global;
@@ -15,7 +17,7 @@ use std::marker::Model;
 pub(crate) struct Firsts {
     keys: Vec<u64>,
     // Levels above the keys: each has the lesser key of each two of the level below it. The last has two keys or fewer,
-    // so there are no more levels than the logarithm of the number of keys.
+    // so there are no more levels than the logarithm of the most keys that there were.
     above: Vec<Vec<u64>>,
 }
 
@@ -197,7 +199,8 @@ impl Firsts {
 
     /// The place of the first key that is below a limit, or `None` where no key is.
     pub(crate) fn first_below(&self, limit: u64) -> Option<usize>
-        ensures { MatchOption result (All (λ key. limit ≤ key) self.now) (λ at. IsFirstBelow self.now limit at) }
+        ensures { MatchOption result
+            (All (λ key. limit ≤ key) self.now) (λ at. IsFirstBelow self.now limit at) }
     {
         first_below(self.keys.as_slice(), self.above.as_slice(), limit)
     }
