@@ -1,6 +1,6 @@
 -- The deadlines of waiting commands: the first key below the clock is that of the first task that has waited too long, and
 -- what a command that begins to wait or waits no more makes of the keys.
-use Rattle.std.specs.Prelude.{◌≡◌, ℕ, ◌+◌, ◌-◌, ◌<◌, ◌≤◌, min, Bool, true, false, not, cond, ◌&&◌, Option, Some, None, nat_lt, nat_le, List, [], ◌∷◌, ◌++◌, All, length, map, drop, slice_get, slice_set, refl}
+use Rattle.std.specs.Prelude.{◌≡◌, ◌≢◌, ℕ, ◌+◌, ◌-◌, ◌<◌, ◌≤◌, min, Bool, true, false, not, cond, ◌&&◌, Option, Some, None, nat_lt, nat_le, List, [], ◌∷◌, ◌++◌, All, length, map, drop, slice_get, slice_set, refl}
 use Rattle.std.proofs.Common.{zero, suc, sym, ap, ◌∙◌, subst, arith}
 use Rattle.std.proofs.lemmas.Bool.{false≢true, true≢false, false_from_ne_true, ltb-true, lt-ltb, le-ltb, leb-true, leb-false}
 use Rattle.std.proofs.lemmas.List.Elements.{All-head, All-tail}
@@ -18,9 +18,8 @@ use Rattle.cics_dispatch.proofs.LesserKeys.{first_rest}
 -- ---- A deadline beside the clock
 
 -- a task has waited too long where the clock is past its deadline, and only there
-pub late_by_key : (m : Machine) (w : Suspended) (o : Option Task) → m.clock ≤ never → is_late m w o ≡ nat_lt (deadline_of o w.since) m.clock
-late_by_key m w None clock = sym (le-ltb never m.clock clock)
-late_by_key m w (Some t) clock =
+late_by_key : (m : Machine) (w : Suspended) (t : Task) → m.clock ≤ never → is_late m w (Some t) ≡ nat_lt (deadline_of t w.since) m.clock
+late_by_key m w t clock =
     elim (nat_lt 0 t.dtimout) as (λ b. nat_lt 0 t.dtimout ≡ b → (b && nat_le t.dtimout (m.clock - w.since)) ≡ nat_lt (cond b (min (w.since + (t.dtimout - 1)) never) never) m.clock) [
       | true ↦ λ limited. by (ltb-true 0 t.dtimout limited) (nat_le t.dtimout (m.clock - w.since)) refl
       | false ↦ λ none. sym (le-ltb never m.clock clock)
@@ -50,11 +49,13 @@ pub record IsLateAt (m : Machine) (ns : List (Option Note)) (ws : List Suspended
   pub first : first_late m ws ≡ task_at m.tasks wait.label
 
 module _ (m : Machine) (clock : m.clock ≤ never) where
+  -- a command's task has waited too long where its key is below the clock, and only there
+  late_due : (n : Note) (w : Suspended) (k : ℕ) → IsDue m.tasks n w k → is_late m w (task_at m.tasks w.label) ≡ nat_lt k m.clock
+  late_due n w k due = ap (is_late m w) due.of_task ∙ late_by_key m w due.task clock ∙ ap (λ d. nat_lt d m.clock) (sym due.deadline)
+
   -- a command whose key isn't below the clock is passed
   passed : (n : Note) (w : Suspended) (ws : List Suspended) (k : ℕ) → IsDue m.tasks n w k → m.clock ≤ k → first_late m (w ∷ ws) ≡ first_late m ws
-  passed n w ws k due early =
-      ap (λ b. cond b (task_at m.tasks w.label) (first_late m ws))
-      (late_by_key m w (task_at m.tasks w.label) clock ∙ ap (λ d. nat_lt d m.clock) (sym due.deadline) ∙ le-ltb k m.clock early)
+  passed n w ws k due early = ap (λ b. cond b (task_at m.tasks w.label) (first_late m ws)) (late_due n w k due ∙ le-ltb k m.clock early)
 
   -- the first key below the clock is that of the first task that has waited too long
   pub late_at : (ns : List (Option Note)) (ws : List Suspended) (ks : List ℕ) (at : ℕ) → AreDue m.tasks ns ws ks → IsFirstBelow ks m.clock at → IsLateAt m ns ws at
@@ -76,8 +77,7 @@ module _ (m : Machine) (clock : m.clock ≤ never) where
   late_at (Some n ∷ ns) (w ∷ ws) (k ∷ ks) zero are first =
       let same : k ≡ first.key = the_key first.there in
       let past : k < m.clock = omega (arith, first.below) in
-      let late : is_late m w (task_at m.tasks w.label) ≡ true =
-      late_by_key m w (task_at m.tasks w.label) clock ∙ ap (λ d. nat_lt d m.clock) (sym are.0.deadline) ∙ lt-ltb k m.clock past in
+      let late : is_late m w (task_at m.tasks w.label) ≡ true = late_due n w k are.0 ∙ lt-ltb k m.clock past in
       record { note = n; there = refl; wait = w; own = are.0.label; late = late; first = ap (λ b. cond b (task_at m.tasks w.label) (first_late m ws)) late }
     where
       the_key : Some k ≡ Some first.key → k ≡ first.key
@@ -108,19 +108,36 @@ module _ (m : Machine) (clock : m.clock ≤ never) where
 
 -- ---- Other tasks, other waits, other notes
 
--- the tasks of these commands are the same
-pub due_kept : (ts us : List Task) (ns : List (Option Note)) (ws : List Suspended) (ks : List ℕ) → ((i : ℕ) (w : Suspended) → slice_get ws i ≡ Some w → task_at us w.label ≡ task_at ts w.label) →
+-- the tasks are there yet, as after one more is attached
+pub due_kept : (ts us : List Task) → ((l : Bytes) (t : Task) → task_at ts l ≡ Some t → task_at us l ≡ Some t) → (ns : List (Option Note)) (ws : List Suspended) (ks : List ℕ) →
     AreDue ts ns ws ks → AreDue us ns ws ks
-due_kept ts us [] ws [] same are = tt
-due_kept ts us [] ws (k ∷ ks) same are = absurd are
-due_kept ts us (None ∷ ns) ws [] same are = absurd are
-due_kept ts us (None ∷ ns) ws (k ∷ ks) same are = (are.0, due_kept ts us ns ws ks same are.1)
-due_kept ts us (Some n ∷ ns) [] ks same are = absurd are
-due_kept ts us (Some n ∷ ns) (w ∷ ws) [] same are = absurd are
-due_kept ts us (Some n ∷ ns) (w ∷ ws) (k ∷ ks) same are = (
-  record { label = are.0.label; deadline = are.0.deadline ∙ ap (λ o. deadline_of o w.since) (sym (same 0 w refl)) },
-  due_kept ts us ns ws ks (λ i v there. same (suc i) v there) are.1,
-)
+due_kept ts us there [] ws [] are = tt
+due_kept ts us there [] ws (k ∷ ks) are = absurd are
+due_kept ts us there (None ∷ ns) ws [] are = absurd are
+due_kept ts us there (None ∷ ns) ws (k ∷ ks) are = (are.0, due_kept ts us there ns ws ks are.1)
+due_kept ts us there (Some n ∷ ns) [] ks are = absurd are
+due_kept ts us there (Some n ∷ ns) (w ∷ ws) [] are = absurd are
+due_kept ts us there (Some n ∷ ns) (w ∷ ws) (k ∷ ks) are =
+    let due = are.0 in
+    (record { task = due.task; label = due.label; of_task = there w.label due.task due.of_task; deadline = due.deadline }, due_kept ts us there ns ws ks are.1)
+
+-- after a step of a task of which none of these commands waits
+pub due_others : (ts us : List Task) (label : Bytes) → ((l : Bytes) → label ≢ l → task_at us l ≡ task_at ts l) → (ns : List (Option Note)) (ws : List Suspended) (ks : List ℕ) → is_waiting ws label ≡ false →
+    AreDue ts ns ws ks → AreDue us ns ws ks
+due_others ts us label same [] ws [] awake are = tt
+due_others ts us label same [] ws (k ∷ ks) awake are = absurd are
+due_others ts us label same (None ∷ ns) ws [] awake are = absurd are
+due_others ts us label same (None ∷ ns) ws (k ∷ ks) awake are = (are.0, due_others ts us label same ns ws ks awake are.1)
+due_others ts us label same (Some n ∷ ns) [] ks awake are = absurd are
+due_others ts us label same (Some n ∷ ns) (w ∷ ws) [] awake are = absurd are
+due_others ts us label same (Some n ∷ ns) (w ∷ ws) (k ∷ ks) awake are =
+    elim (is_same w.label label) as (λ b. is_same w.label label ≡ b → cond b true (is_waiting ws label) ≡ false → AreDue us (Some n ∷ ns) (w ∷ ws) (k ∷ ks)) [
+      | true ↦ λ own wrong. absurd (true≢false wrong)
+      | false ↦ λ differs rest.
+          let due = are.0 in
+          let other : label ≢ w.label = λ e. false≢true (sym differs ∙ ap (is_same w.label) e ∙ is_same-self w.label) in
+          (record { task = due.task; label = due.label; of_task = same w.label other ∙ due.of_task; deadline = due.deadline }, due_others ts us label same ns ws ks rest are.1)
+    ] refl awake
 
 module _ (ts : List Task) where
   -- more commands wait behind
@@ -145,6 +162,10 @@ module _ (ts : List Task) where
   due_push (Some x ∷ ns) (v ∷ ws) rest [] n w k are behind due = absurd are
   due_push (Some x ∷ ns) (v ∷ ws) rest (j ∷ ks) n w k are behind due = (are.0, due_push ns ws rest ks n w k are.1 behind due)
 
+  -- a note that says something else of the same task
+  alike_due : (old new : Note) (w : Suspended) (k : ℕ) → new.label ≡ old.label → IsDue ts old w k → IsDue ts new w k
+  alike_due old new w k alike due = record { task = due.task; label = alike ∙ due.label; of_task = due.of_task; deadline = due.deadline }
+
   -- the note at a place says something else of the same task
   pub due_set : (ns : List (Option Note)) (ws : List Suspended) (ks : List ℕ) (at : ℕ) (old new : Note) → slice_get ns at ≡ Some (Some old) → new.label ≡ old.label → AreDue ts ns ws ks →
       AreDue ts (slice_set ns at (Some new)) ws ks
@@ -156,7 +177,7 @@ module _ (ts : List Task) where
   due_set (Some n ∷ ns) (w ∷ ws) [] at old new there alike are = absurd are
   due_set (Some n ∷ ns) (w ∷ ws) (k ∷ ks) zero old new there alike are =
       let same : n ≡ old = let both : Some (Some n) ≡ Some (Some old) = there in cc in
-      (record { label = alike ∙ ap (λ x. x.label) (sym same) ∙ are.0.label; deadline = are.0.deadline }, are.1)
+      (alike_due old new w k alike (subst (λ x. IsDue ts x w k) same are.0), are.1)
   due_set (Some n ∷ ns) (w ∷ ws) (k ∷ ks) (suc at) old new there alike are = (are.0, due_set ns ws ks at old new there alike are.1)
 
   -- each note says something else of the same task
@@ -171,7 +192,7 @@ module _ (ts : List Task) where
   due_changed f g none some alike (Some n ∷ ns) (w ∷ ws) [] are = absurd are
   due_changed f g none some alike (Some n ∷ ns) (w ∷ ws) (k ∷ ks) are =
       subst (λ o. AreDue ts (o ∷ map f ns) (w ∷ ws) (k ∷ ks)) (sym (some n))
-      (record { label = alike n ∙ are.0.label; deadline = are.0.deadline }, due_changed f g none some alike ns ws ks are.1)
+      (alike_due n (g n) w k (alike n) are.0, due_changed f g none some alike ns ws ks are.1)
 
   -- ---- One command fewer
 

@@ -8,9 +8,8 @@ abbrev pub never : ℕ
 never = 2 ^ 64 - 1
 
 -- the last clock at which a task that has waited since then hasn't waited too long
-abbrev pub deadline_of : Option Task → ℕ → ℕ
-deadline_of None since = never
-deadline_of (Some t) since = if nat_lt 0 t.dtimout then min (since + (t.dtimout - 1)) never else never
+abbrev pub deadline_of : Task → ℕ → ℕ
+deadline_of t since = if nat_lt 0 t.dtimout then min (since + (t.dtimout - 1)) never else never
 
 -- how many commands there are notes of
 abbrev pub count : List (Option Note) → ℕ
@@ -20,8 +19,10 @@ count (Some n ∷ ns) = suc (count ns)
 
 -- a note is that of a command's task, and its key is the deadline of that
 pub record IsDue (ts : List Task) (n : Note) (w : Suspended) (key : ℕ) : Type 0 where
+  pub task : Task
   pub label : n.label ≡ w.label
-  pub deadline : key ≡ deadline_of (task_at ts w.label) w.since
+  pub of_task : task_at ts w.label ≡ Some task
+  pub deadline : key ≡ deadline_of task w.since
 
 -- each command of a front of these has its note, in their order, and each note's place the deadline as its key
 abbrev pub AreDue : List Task → List (Option Note) → List Suspended → List ℕ → Type 0
