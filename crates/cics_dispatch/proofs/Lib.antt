@@ -36,3 +36,5 @@ mod RegionRemembers
 pub mod FewerWaits
 pub mod Elements
 pub mod FirstWaits
+pub mod LesserKeys
+pub mod Deadlines

@@ -21,3 +21,5 @@ pub mod Settled
 pub mod Notes
 pub mod First
 pub mod Filed
+pub mod Firsts
+pub mod Deadlines

@@ -9,6 +9,7 @@ mod browses;
 mod checks;
 mod dispatcher;
 mod faults;
+mod firsts;
 mod notes;
 mod outcomes;
 mod reads;

@@ -3,6 +3,7 @@
 ghost use Rattle.std.specs.Prelude.{◌≡◌, [], None};
 ghost use Rattle.std.specs.Borrow.{sem};
 ghost use Rattle.cics_dispatch.specs.Machine.{with_unit};
+ghost use Rattle.cics_dispatch.specs.Deadlines.{deadline_of};
 ghost use Rattle.cics_dispatch.specs.Steps.{new_task};
 ghost use Rattle.cics_dispatch.specs.TaskLoans.{LendsBrowses};
 
@@ -63,6 +64,17 @@ impl Task {
         ensures { result ≡ self.now.dtimout }
     {
         self.dtimout
+    }
+
+    /// The last clock, in seconds, at which it hasn't waited too long if it has waited since then. It is u64::MAX, which
+    /// no clock is above, where it may wait without limit or the sum is greater than that.
+    pub(crate) fn deadline(&self, since: u64) -> u64
+        ensures { result ≡ deadline_of self.now since }
+    {
+        match self.dtimout.checked_sub(1) {
+            Some(seconds) => since.saturating_add(seconds),
+            None => u64::MAX,
+        }
     }
 
     /// Its open unit of work, if it has one.

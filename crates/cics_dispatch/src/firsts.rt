@@ -1,0 +1,215 @@
+//! A row of keys that finds the first key below a limit.
+
+ghost use Rattle.std.specs.Prelude.{◌≡◌, ◌<◌, ◌≤◌, ◌*◌, ℕ, List, [], ◌∷◌, ◌++◌, Some, length};
+ghost use Rattle.std.specs.Prelude.{slice_get, slice_set, vec_len, vec_capacity};
+ghost use Rattle.std.specs.Prelude.{All, OnOk, OnErr, MatchOption};
+ghost use Rattle.cics_dispatch.specs.Firsts.{lesser_of_pairs, last_of, AreAbove, HaveRoom};
+ghost use Rattle.cics_dispatch.specs.Firsts.{IsFirstBelow};
+
+use cics_names::NoMemory;
+use std::alloc::Global;
+use std::marker::Model;
+
+/// A row of keys, each a number, that finds the first key below a limit in the logarithm of their number.
+///
+/// To add a key or to put another in the place of one costs the logarithm too.
+#[derive(Drop)]
+pub(crate) struct Firsts {
+    keys: Vec<u64>,
+    // Levels above the keys: each has the lesser key of each two of the level below it. The last has two keys or fewer,
+    // so there are no more levels than the logarithm of the most keys that there were.
+    above: Vec<Vec<u64>>,
+}
+
+impl Model for Firsts {
+    ghost use Rattle.std.specs.Prelude.{List, ℕ};
+    ghost use Rattle.cics_dispatch.specs.Firsts.{AreAbove};
+
+    ghost Value = { List ℕ };
+
+    ghost view = { λ f. f.keys.items };
+
+    ghost invariant = { λ f. AreAbove f.keys.items f.above.items };
+}
+
+// The lesser key of the pair at a place, or the one key where the level ends in the middle of it.
+fn lesser(level: &[u64], pair: usize) -> u64
+    requires { pair * 2 < length level.now }
+    ensures { slice_get (lesser_of_pairs level.now) pair ≡ Some result }
+{
+    let at = pair * 2;
+    if at + 1 < level.len() {
+        level[at].min(level[at + 1])
+    } else {
+        level[at]
+    }
+}
+
+// Puts a key in the place of another. As soon as the lesser key of a pair stays, so does all above it.
+fn set(level: &mut Vec<u64>, above: &mut [Vec<u64>], at: usize, key: u64)
+    requires within { at < length level.old.items }
+    requires above { AreAbove level.old.items above.old }
+    ensures keys { level.new.items ≡ slice_set level.old.items at key }
+    ensures above { AreAbove level.new.items above.new }
+{
+    if level[at] == key {
+        return;
+    }
+    level[at] = key;
+    if above.is_empty() {
+        return;
+    }
+    let least = lesser(level.as_slice(), at / 2);
+    let (next, rest) = above.split_at_mut(1);
+    set(&mut next[0], rest, at / 2, least);
+}
+
+// Appends a key, where each level has room.
+fn append(level: &mut Vec<u64>, above: &mut [Vec<u64>], key: u64)
+    requires room { vec_len level.old < vec_capacity level.old }
+    requires rooms { HaveRoom above.old }
+    requires above { AreAbove level.old.items above.old }
+    ensures keys { level.new.items ≡ level.old.items ++ key ∷ [] }
+    ensures above { AreAbove level.new.items above.new }
+{
+    let at = level.len();
+    level.push_reserved(key);
+    if above.is_empty() {
+        return;
+    }
+    let least = lesser(level.as_slice(), at / 2);
+    let (next, rest) = above.split_at_mut(1);
+    if at % 2 == 0 {
+        append(&mut next[0], rest, least);
+    } else {
+        set(&mut next[0], rest, at / 2, least);
+    }
+}
+
+// The last of the levels, or the keys where there is none.
+fn last_level<'a>(keys: &'a [u64], above: &'a [Vec<u64>]) -> &'a [u64]
+    ensures { result.now ≡ last_of keys.now above.now }
+{
+    match above.last() {
+        Some(level) => level.as_slice(),
+        None => keys,
+    }
+}
+
+// Puts a level of one key above the last where that has two. Where memory is refused the levels stay as they are.
+fn raise(keys: &Vec<u64>, above: &mut Vec<Vec<u64>>) -> Result<(), NoMemory>
+    requires { AreAbove keys.now.items above.old.items }
+    ensures { AreAbove keys.now.items above.new.items }
+{
+    let last = last_level(keys.as_slice(), above.as_slice());
+    if last.len() != 2 {
+        return Ok(());
+    }
+    let least = lesser(last, 0);
+    let mut level = Vec::new(*keys.allocator());
+    level.push(least)?;
+    above.push(level)?;
+    Ok(())
+}
+
+// Makes room for one more key at each level. The keys stay, whatever the result.
+fn make_room(levels: &mut [Vec<u64>]) -> Result<(), NoMemory>
+    ensures ok { OnOk result (HaveRoom levels.new) }
+    ensures above { (keys : List ℕ) → AreAbove keys levels.old → AreAbove keys levels.new }
+{
+    if levels.is_empty() {
+        return Ok(());
+    }
+    let (level, above) = levels.split_at_mut(1);
+    level[0].reserve(1)?;
+    make_room(above)
+}
+
+// Takes the keys of all levels away, and keeps their room.
+fn clear_all(levels: &mut [Vec<u64>])
+    ensures { AreAbove [] levels.new }
+{
+    if levels.is_empty() {
+        return;
+    }
+    let (level, above) = levels.split_at_mut(1);
+    level[0].clear();
+    clear_all(above);
+}
+
+// The place of the first key below a limit: it is of the first pair whose lesser key is below it.
+fn first_of_pair(level: &[u64], pair: usize, limit: u64) -> usize
+    requires { IsFirstBelow (lesser_of_pairs level.now) limit pair }
+    ensures { IsFirstBelow level.now limit result }
+{
+    let at = pair * 2;
+    if level[at] < limit { at } else { at + 1 }
+}
+
+// The place of the first key below a limit, or `None` where no key is.
+fn first_below(level: &[u64], above: &[Vec<u64>], limit: u64) -> Option<usize>
+    requires { AreAbove level.now above.now }
+    ensures { MatchOption result
+        (All (λ key. limit ≤ key) level.now) (λ at. IsFirstBelow level.now limit at) }
+{
+    let Some((next, rest)) = above.split_first() else {
+        return level.iter().position(|key| *key < limit);
+    };
+    let pair = first_below(next.as_slice(), rest, limit)?;
+    Some(first_of_pair(level, pair, limit))
+}
+
+impl Firsts {
+    /// No key. `alloc` gives the memory for those that will be added.
+    pub(crate) fn new(alloc: Global) -> Firsts
+        ensures { result ≡ [] }
+    {
+        Firsts {
+            keys: Vec::new(alloc),
+            above: Vec::new(alloc),
+        }
+    }
+
+    /// How many keys there are.
+    pub(crate) fn len(&self) -> usize
+        ensures { result ≡ length self.now }
+    {
+        self.keys.len()
+    }
+
+    /// Adds a key behind all others. Where memory is refused the keys stay as they are.
+    pub(crate) fn push(&mut self, key: u64) -> Result<(), NoMemory>
+        ensures ok { OnOk result (self.new ≡ self.old ++ key ∷ []) }
+        ensures err { OnErr result (self.new ≡ self.old) }
+    {
+        raise(&self.keys, &mut self.above)?;
+        self.keys.reserve(1)?;
+        make_room(self.above.as_mut_slice())?;
+        append(&mut self.keys, self.above.as_mut_slice(), key);
+        Ok(())
+    }
+
+    /// Puts a key in the place `at` of another. Takes no memory.
+    pub(crate) fn set(&mut self, at: usize, key: u64)
+        requires { at < length self.old }
+        ensures { self.new ≡ slice_set self.old at key }
+    {
+        set(&mut self.keys, self.above.as_mut_slice(), at, key);
+    }
+
+    /// The place of the first key that is below a limit, or `None` where no key is.
+    pub(crate) fn first_below(&self, limit: u64) -> Option<usize>
+        ensures { MatchOption result
+            (All (λ key. limit ≤ key) self.now) (λ at. IsFirstBelow self.now limit at) }
+    {
+        first_below(self.keys.as_slice(), self.above.as_slice(), limit)
+    }
+
+    /// Takes all keys away, and keeps their room. Takes no memory.
+    pub(crate) fn clear(&mut self)
+        ensures { self.new ≡ [] }
+    {
+        self.keys.clear();
+        clear_all(self.above.as_mut_slice());
+    }
+}
