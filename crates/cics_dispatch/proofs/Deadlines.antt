@@ -1,6 +1,6 @@
 -- The deadlines of waiting commands: the first key below the clock is that of the first task that has waited too long, and
 -- what a command that begins to wait or waits no more makes of the keys.
-use Rattle.std.specs.Prelude.{◌≡◌, ◌≢◌, ℕ, ◌+◌, ◌-◌, ◌<◌, ◌≤◌, min, Bool, true, false, not, cond, ◌&&◌, Option, Some, None, nat_lt, nat_le, List, [], ◌∷◌, ◌++◌, All, length, map, drop, slice_get, slice_set, refl}
+use Rattle.std.specs.Prelude.{◌≡◌, ◌≢◌, ℕ, ◌+◌, ◌-◌, ◌<◌, ◌≤◌, min, Bool, true, false, not, cond, ◌&&◌, Option, Some, None, is_some, nat_lt, nat_le, List, [], ◌∷◌, ◌++◌, All, length, map, drop, slice_get, slice_set, refl}
 use Rattle.std.proofs.Common.{zero, suc, sym, ap, ◌∙◌, subst, arith}
 use Rattle.std.proofs.lemmas.Bool.{false≢true, true≢false, false_from_ne_true, ltb-true, lt-ltb, le-ltb, leb-true, leb-false}
 use Rattle.std.proofs.lemmas.List.Elements.{All-head, All-tail}
@@ -11,10 +11,13 @@ use Rattle.cics_dispatch.specs.declared.notes.Note.{Note}
 use Rattle.cics_dispatch.specs.Machine.{Machine, Task, Suspended, task_at, is_waiting, not_waiting}
 use Rattle.cics_dispatch.specs.Waits.{AreApart}
 use Rattle.cics_dispatch.specs.Waking.{is_late, first_late}
-use Rattle.cics_dispatch.specs.Notes.{count}
+use Rattle.cics_dispatch.specs.KeptTasks.{IsWaitKept}
+use Rattle.cics_dispatch.specs.Notes.{count, new_note, given_note, forgotten, HasNone, IsPlaceOf, without, without_deadline}
 use Rattle.cics_dispatch.specs.Firsts.{IsFirstBelow}
 use Rattle.cics_dispatch.specs.Deadlines.{never, deadline_of, IsDue, AreDue}
+use Rattle.cics_dispatch.proofs.ActsAlone.{LeavesTasks}
 use Rattle.cics_dispatch.proofs.LesserKeys.{first_rest}
+use Rattle.cics_dispatch.proofs.TaskPlaces.{place_of_task}
 
 -- ---- A deadline beside the clock
 
@@ -48,6 +51,22 @@ pub record IsLateAt (m : Machine) (ns : List (Option Note)) (ws : List Suspended
   pub own : note.label ≡ wait.label
   pub late : is_late m wait (task_at m.tasks wait.label) ≡ true
   pub first : first_late m ws ≡ task_at m.tasks wait.label
+
+-- a task that has waited too long has a waiting command
+late_waits : (m : Machine) (t : Task) (ws : List Suspended) → first_late m ws ≡ Some t → is_waiting ws t.label ≡ true
+late_waits m t [] is = cc
+late_waits m t (w ∷ ws) is =
+    elim (is_late m w (task_at m.tasks w.label)) as (λ b. cond b (task_at m.tasks w.label) (first_late m ws) ≡ Some t → is_waiting (w ∷ ws) t.label ≡ true) [
+      | true ↦ λ here.
+          let same : t.label ≡ w.label = (place_of_task m.tasks w.label t here).2 in
+          ap (λ l. cond (is_same w.label l) true (is_waiting ws l)) same ∙ ap (λ b. cond b true (is_waiting ws w.label)) (is_same-self w.label)
+      | false ↦ λ later. elim (is_same w.label t.label) as (λ b. cond b true (is_waiting ws t.label) ≡ true) [ true ↦ refl | false ↦ late_waits m t ws later ]
+    ] is
+
+-- no note is of a label, nor one more
+none_more : (label : Bytes) (o : Option Note) (ns : List (Option Note)) → ((n : Note) → o ≡ Some n → n.label ≡ label → ⊥) → HasNone label ns → HasNone label (o ∷ ns)
+none_more label o ns here rest zero n there own = let same : o ≡ Some n = cc in here n same own
+none_more label o ns here rest (suc i) n there own = rest i n there own
 
 module _ (m : Machine) (clock : m.clock ≤ never) where
   -- a command's task has waited too long where its key is below the clock, and only there
@@ -98,6 +117,21 @@ module _ (m : Machine) (clock : m.clock ≤ never) where
   none_late_noted (Some n ∷ ns) (w ∷ ws) [] are early = absurd are
   none_late_noted (Some n ∷ ns) (w ∷ ws) (k ∷ ks) are early =
       passed n w ws k are.0 (All-head (λ k. m.clock ≤ k) k ks early) ∙ none_late_noted ns ws ks are.1 (All-tail (λ k. m.clock ≤ k) k ks early)
+
+  -- and that one has none
+  pub late_unnoted : (ns : List (Option Note)) (ws : List Suspended) (ks : List ℕ) (t : Task) → AreApart ws → AreDue m.tasks ns ws ks → All (λ k. m.clock ≤ k) ks → first_late m ws ≡ Some t → HasNone t.label ns
+  late_unnoted [] ws ks t apart are early late = λ i n there own. cc
+  late_unnoted (None ∷ ns) ws [] t apart are early late = absurd are
+  late_unnoted (None ∷ ns) ws (k ∷ ks) t apart are early late =
+      none_more t.label None ns (λ n is own. cc) (late_unnoted ns ws ks t apart are.1 (All-tail (λ k. m.clock ≤ k) k ks early) late)
+  late_unnoted (Some x ∷ ns) [] ks t apart are early late = absurd are
+  late_unnoted (Some x ∷ ns) (w ∷ ws) [] t apart are early late = absurd are
+  late_unnoted (Some x ∷ ns) (w ∷ ws) (k ∷ ks) t apart are early late =
+      let rest : first_late m ws ≡ Some t = sym (passed x w ws k are.0 (All-head (λ k. m.clock ≤ k) k ks early)) ∙ late in
+      none_more t.label (Some x) ns (λ n is own.
+      let same : x ≡ n = cc in
+      let one : w.label ≡ t.label = sym are.0.label ∙ ap (λ y. y.label) same ∙ own in
+      true≢false (sym (late_waits m t ws rest) ∙ ap (is_waiting ws) (sym one) ∙ apart.0)) (late_unnoted ns ws ks t apart.1 are.1 (All-tail (λ k. m.clock ≤ k) k ks early) rest)
 
   -- and where each command has its note no task has waited too long
   pub none_late_at_all : (ns : List (Option Note)) (ws : List Suspended) (ks : List ℕ) → AreDue m.tasks ns ws ks → All (λ k. m.clock ≤ k) ks → count ns ≡ length ws → first_late m ws ≡ None
@@ -254,3 +288,59 @@ module _ (ts : List Task) where
       let other : is_same w.label label ≡ false = false_from_ne_true (is_same w.label label) (λ one. none 0 x refl (are.0.label ∙ is_same-eq w.label label one)) in
       subst (λ b. AreDue ts (Some x ∷ ns) (cond (not b) (w ∷ not_waiting ws label) (not_waiting ws label)) (k ∷ ks)) (sym other)
       (are.0, due_unnoted label ns ws ks (λ i n there. none (suc i) n there) are.1)
+
+-- ---- The notes of a region
+
+-- a note's place has its deadline
+pub due_within : (ts : List Task) (ns : List (Option Note)) (ws : List Suspended) (ks : List ℕ) (at : ℕ) (n : Note) → AreDue ts ns ws ks → slice_get ns at ≡ Some (Some n) → at < length ks
+due_within ts [] ws ks at n are there = cc
+due_within ts (None ∷ ns) ws [] at n are there = absurd are
+due_within ts (None ∷ ns) ws (k ∷ ks) zero n are there = cc
+due_within ts (None ∷ ns) ws (k ∷ ks) (suc at) n are there = let rest = due_within ts ns ws ks at n are.1 there in omega (arith, rest)
+due_within ts (Some x ∷ ns) [] ks at n are there = absurd are
+due_within ts (Some x ∷ ns) (w ∷ ws) [] at n are there = absurd are
+due_within ts (Some x ∷ ns) (w ∷ ws) (k ∷ ks) zero n are there = omega arith
+due_within ts (Some x ∷ ns) (w ∷ ws) (k ∷ ks) (suc at) n are there = let rest = due_within ts ns ws ks at n are.1 there in omega (arith, rest)
+
+-- after a step of a task of which none of these commands waits, whatever its unit gave up
+pub due_given : (m n : Machine) (t : Task) (unit : Option ℕ) → LeavesTasks t.label t.unit m n → (ns : List (Option Note)) (ws : List Suspended) (ks : List ℕ) → is_waiting ws t.label ≡ false →
+    AreDue m.tasks ns ws ks → AreDue n.tasks (map (forgotten unit) ns) ws ks
+due_given m n t unit others ns ws ks awake are =
+    due_changed n.tasks (forgotten unit) (given_note unit) refl (λ k. refl) (λ k. refl) ns ws ks (due_others m.tasks n.tasks t.label others.tasks ns ws ks awake are)
+
+-- without the command of a label, whether it has a note or not
+pub due_dropped : (ts : List Task) (label : Bytes) (ns : List (Option Note)) (ws : List Suspended) (ks : List ℕ) (at : Option ℕ) → AreApart ws → IsPlaceOf label ns at → AreDue ts ns ws ks →
+    AreDue ts (without ns at) (not_waiting ws label) (without_deadline ks at)
+due_dropped ts label ns ws ks None apart none are = due_unnoted ts label ns ws ks none are
+due_dropped ts label ns ws ks (Some at) apart place are =
+    subst (λ l. AreDue ts (slice_set ns at None) (not_waiting ws l) (slice_set ks at never)) place.2 (due_without ts ns ws ks at place.0 apart are place.1)
+
+-- what is true of all is true of the first behind some
+first_behind : (P : Suspended → Type 0) (k : ℕ) (ws rest : List Suspended) (w : Suspended) → All P ws → drop k ws ≡ w ∷ rest → P w
+first_behind P zero [] rest w all is = cc
+first_behind P zero (v ∷ ws) rest w all is = let same : v ≡ w = cc in subst P same (All-head P v ws all)
+first_behind P (suc k) [] rest w all is = cc
+first_behind P (suc k) (v ∷ ws) rest w all is = first_behind P k ws rest w (All-tail P v ws all) is
+
+-- a new note has the deadline of its command's task
+pub due_new : (m : Machine) (k : ℕ) (rest : List Suspended) (w : Suspended) (key : ℕ) → All (IsWaitKept m) m.waiting → drop k m.waiting ≡ w ∷ rest →
+    ((t : Task) → task_at m.tasks w.label ≡ Some t → key ≡ deadline_of t w.since) → IsDue m.tasks (new_note w.label) w key
+due_new m k rest w key kept behind given = by (task_at m.tasks w.label) refl (first_behind (IsWaitKept m) k m.waiting rest w kept behind).of_task
+  where
+    by : (o : Option Task) → task_at m.tasks w.label ≡ o → is_some o ≡ true → IsDue m.tasks (new_note w.label) w key
+    by None none there = absurd (false≢true there)
+    by (Some t) is there = record { task = t; label = refl; of_task = is; deadline = given t is }
+
+-- the task of the label that the note of a place tells has waited too long: it is there, it is the first, and that is its note
+module _ (m : Machine) (ns : List (Option Note)) (ws : List Suspended) (at : ℕ) (label : Bytes) (is : IsLateAt m ns ws at) (told : (n : Note) → slice_get ns at ≡ Some (Some n) → label ≡ n.label) where
+  late_label : label ≡ is.wait.label
+  late_label = told is.note is.there ∙ is.own
+
+  pub late_has_task : task_at m.tasks label ≡ None → ⊥
+  late_has_task none = false≢true (ap (is_late m is.wait) (sym none ∙ ap (task_at m.tasks) late_label) ∙ is.late)
+
+  pub late_first : (i : ℕ) → slice_get m.tasks i ≡ task_at m.tasks label → slice_get m.tasks i ≡ first_late m ws
+  late_first i found = found ∙ ap (task_at m.tasks) late_label ∙ sym is.first
+
+  pub late_place : (i : ℕ) → slice_get m.tasks i ≡ task_at m.tasks label → (t : Task) → slice_get m.tasks i ≡ Some t → IsPlaceOf t.label ns (Some at)
+  late_place i found t there = (is.note, is.there, sym (told is.note is.there) ∙ sym (place_of_task m.tasks label t (sym found ∙ there)).2)

@@ -16,8 +16,10 @@ use Rattle.cics_dispatch.specs.Settled.{needed_by, holds_one, IsBlocked}
 use Rattle.cics_dispatch.specs.KeptTasks.{IsWaitKept, AreTasksKept}
 use Rattle.cics_dispatch.proofs.Blocked.{held_back}
 use Rattle.cics_dispatch.specs.Waking.{may_go_on}
+use Rattle.cics_dispatch.specs.Deadlines.{AreDue}
 use Rattle.cics_dispatch.specs.Notes.{of_line, blocker_by, blocker_in, alone, in_line, count, AreClosed, IsFirstOpen, KeepsResources, KeepsBlockers, IsUse, IsNoted, AreNoted, AreNotedNow, NotesValue, IsLooked, UseOf, OfWait, IsOnlyNeed, MayClose, IsFreeAt, OwnerIsAwake}
 use Rattle.cics_dispatch.proofs.FiledNotes.{closed_each, known_set, known_own, count_set, length_set}
+use Rattle.cics_dispatch.proofs.Deadlines.{due_set}
 use Rattle.cics_dispatch.proofs.Noted.{FirstAt, first_at, noted_each, noted_set}
 use Rattle.cics_dispatch.proofs.TaskPlaces.{place_of_task}
 use Rattle.cics_dispatch.proofs.Looks.{waits_at}
@@ -149,31 +151,38 @@ looked_not m a at noted = record { noted = noted; closed = λ e. absurd (false�
 
 module _ (m : Machine) (a : NotesValue) (at u : ℕ) (n : Note) (kept : AreTasksKept m) (noted : AreNotedNow m a) (first : IsFirstOpen a at n) (blocked : OfWait m.waiting n.label (IsBlocked m u)) where
   here : FirstAt m a.resources a.blockers n m.waiting
-  here = first_at m a.resources a.blockers a.rows m.waiting at n kept noted first.there first.before
+  here = first_at m a.resources a.blockers a.rows m.waiting at n kept noted.noted first.there first.before
 
   alone_then : IsLooked m a (record a { rows = slice_set a.rows at (Some (alone u n)) }) at true
   alone_then = record {
-    noted = noted_set m a.resources a.blockers a.rows m.waiting at n (alone u n) noted first.there (λ w i there is. noted_alone m a.resources a.blockers n w u (blocked i w there (sym is.label)) is);
+    noted = record {
+      noted = noted_set m a.resources a.blockers a.rows m.waiting at n (alone u n) noted.noted first.there (λ w i there is. noted_alone m a.resources a.blockers n w u (blocked i w there (sym is.label)) is);
+      due = due_set m.tasks a.rows m.waiting a.deadlines at n (alone u n) first.there refl noted.due;
+    };
     closed = λ e. closed_next a.blockers a.rows at n (alone u n) first.there refl first.before;
     count_is = count_set a.rows at n (alone u n) first.there;
     long = length_set a.rows at (Some (alone u n));
   }
 
   -- the command in no line
-  pub looked_alone : (b : NotesValue) (done : Bool) → b.rows ≡ (if done then slice_set a.rows at (Some (alone u n)) else a.rows) → b.resources ≡ a.resources → b.blockers ≡ a.blockers → IsLooked m a b at done
-  looked_alone b true rows resources blockers =
-      subst (λ v. IsLooked m a v at true) (λ i. record { rows = sym rows i; resources = sym resources i; blockers = sym blockers i }) alone_then
-  looked_alone b false rows resources blockers =
-      subst (λ v. IsLooked m a v at false) (λ i. record { rows = sym rows i; resources = sym resources i; blockers = sym blockers i }) (looked_not m a at noted)
+  pub looked_alone : (b : NotesValue) (done : Bool) → b.rows ≡ (if done then slice_set a.rows at (Some (alone u n)) else a.rows) → b.resources ≡ a.resources → b.blockers ≡ a.blockers →
+      b.deadlines ≡ a.deadlines → IsLooked m a b at done
+  looked_alone b true rows resources blockers deadlines =
+      subst (λ v. IsLooked m a v at true) (λ i. record { rows = sym rows i; resources = sym resources i; blockers = sym blockers i; deadlines = sym deadlines i }) alone_then
+  looked_alone b false rows resources blockers deadlines =
+      subst (λ v. IsLooked m a v at false) (λ i. record { rows = sym rows i; resources = sym resources i; blockers = sym blockers i; deadlines = sym deadlines i }) (looked_not m a at noted)
 
   module _ (g : ℕ) (within : g < length a.blockers) (closes : MayClose m a.blockers g u)
       (uses : UseOf m a.resources n g) where
-    closed_then : IsLooked m a (record { rows = slice_set a.rows at (Some (in_line g n)); resources = a.resources; blockers = slice_set a.blockers g (Some u) }) at true
+    closed_then : IsLooked m a (record { rows = slice_set a.rows at (Some (in_line g n)); resources = a.resources; blockers = slice_set a.blockers g (Some u); deadlines = a.deadlines }) at true
     closed_then = record {
-      noted =
-          noted_set m a.resources (slice_set a.blockers g (Some u)) a.rows m.waiting at n (in_line g n)
-          (line_closed m a.resources a.blockers u g here.wait (blocked here.place here.wait here.there (sym here.noted.label)) (uses here.wait here.place here.there (sym here.noted.label) here.noted.use_of) closes a.rows kept.waits noted) first.there
-          (λ w i there is. noted_in_line m a.resources a.blockers n w u g (blocked i w there (sym is.label)) (uses w i there (sym is.label) is.use_of) is.label);
+      noted = record {
+        noted =
+            noted_set m a.resources (slice_set a.blockers g (Some u)) a.rows m.waiting at n (in_line g n)
+            (line_closed m a.resources a.blockers u g here.wait (blocked here.place here.wait here.there (sym here.noted.label)) (uses here.wait here.place here.there (sym here.noted.label) here.noted.use_of) closes a.rows kept.waits noted.noted) first.there
+            (λ w i there is. noted_in_line m a.resources a.blockers n w u g (blocked i w there (sym is.label)) (uses w i there (sym is.label) is.use_of) is.label);
+        due = due_set m.tasks a.rows m.waiting a.deadlines at n (in_line g n) first.there refl noted.due;
+      };
       closed = λ e.
           closed_next (slice_set a.blockers g (Some u)) a.rows at n (in_line g n) first.there (known_own a.blockers g u within)
           (closed_each a.blockers (slice_set a.blockers g (Some u)) (λ h. known_set a.blockers g h u) (take at a.rows) first.before);
@@ -183,22 +192,22 @@ module _ (m : Machine) (a : NotesValue) (at u : ℕ) (n : Note) (kept : AreTasks
 
     -- all commands of a line
     pub looked_line : (b : NotesValue) (done : Bool) → b.rows ≡ (if done then slice_set a.rows at (Some (in_line g n)) else a.rows) → b.resources ≡ a.resources →
-        b.blockers ≡ (if done then slice_set a.blockers g (Some u) else a.blockers) → IsLooked m a b at done
-    looked_line b true rows resources blockers =
-        subst (λ v. IsLooked m a v at true) (λ i. record { rows = sym rows i; resources = sym resources i; blockers = sym blockers i }) closed_then
-    looked_line b false rows resources blockers =
-        subst (λ v. IsLooked m a v at false) (λ i. record { rows = sym rows i; resources = sym resources i; blockers = sym blockers i }) (looked_not m a at noted)
+        b.blockers ≡ (if done then slice_set a.blockers g (Some u) else a.blockers) → b.deadlines ≡ a.deadlines → IsLooked m a b at done
+    looked_line b true rows resources blockers deadlines =
+        subst (λ v. IsLooked m a v at true) (λ i. record { rows = sym rows i; resources = sym resources i; blockers = sym blockers i; deadlines = sym deadlines i }) closed_then
+    looked_line b false rows resources blockers deadlines =
+        subst (λ v. IsLooked m a v at false) (λ i. record { rows = sym rows i; resources = sym resources i; blockers = sym blockers i; deadlines = sym deadlines i }) (looked_not m a at noted)
 
 -- the first command that has to be looked at waits, and where it may go on it is the first that may
 pub looked_waits : (m : Machine) (a : NotesValue) (at : ℕ) (n : Note) → AreTasksKept m → AreNotedNow m a → IsFirstOpen a at n → is_waiting m.waiting n.label ≡ true
 looked_waits m a at n kept noted first =
-    let here = first_at m a.resources a.blockers a.rows m.waiting at n kept noted first.there first.before in
+    let here = first_at m a.resources a.blockers a.rows m.waiting at n kept noted.noted first.there first.before in
     ap (is_waiting m.waiting) here.noted.label ∙ waits_at m.waiting here.place here.wait here.there
 
 pub looked_free : (m : Machine) (a : NotesValue) (at : ℕ) (n : Note) → AreTasksKept m → AreNotedNow m a → IsFirstOpen a at n → OfWait m.waiting n.label (λ w. may_go_on m w (task_at m.tasks w.label) ≡ true) →
     IsFreeAt m a at n.label
 looked_free m a at n kept noted first goes =
-    let here = first_at m a.resources a.blockers a.rows m.waiting at n kept noted first.there first.before in
+    let here = first_at m a.resources a.blockers a.rows m.waiting at n kept noted.noted first.there first.before in
     let own = sym here.noted.label in
     record { note = n; there = first.there; own = refl; first = record { wait = here.wait; first = here.first (goes here.place here.wait here.there own); own = own } }
 
@@ -221,9 +230,13 @@ first_more a b at n first rows kept = record {
 pub looked_since : (m : Machine) (a b c : NotesValue) (at : ℕ) (done : Bool) → b.rows ≡ a.rows → IsLooked m b c at done → IsLooked m a c at done
 looked_since m a b c at done rows is = record { noted = is.noted; closed = is.closed; count_is = is.count_is ∙ ap count rows; long = is.long ∙ ap length rows }
 
-pub looked_more : (m : Machine) (a b : NotesValue) (at : ℕ) → AreNotedNow m a → b.rows ≡ a.rows → KeepsResources a.resources b.resources → KeepsBlockers a.blockers b.blockers → IsLooked m a b at false
-looked_more m a b at noted rows more kept = record {
-  noted = subst (λ l. AreNoted m b.resources b.blockers l m.waiting) (sym rows) (noted_more m a.resources b.resources a.blockers b.blockers a.rows m.waiting more kept noted);
+pub looked_more : (m : Machine) (a b : NotesValue) (at : ℕ) → AreNotedNow m a → b.rows ≡ a.rows → KeepsResources a.resources b.resources → KeepsBlockers a.blockers b.blockers → b.deadlines ≡ a.deadlines →
+    IsLooked m a b at false
+looked_more m a b at noted rows more kept deadlines = record {
+  noted = record {
+    noted = subst (λ l. AreNoted m b.resources b.blockers l m.waiting) (sym rows) (noted_more m a.resources b.resources a.blockers b.blockers a.rows m.waiting more kept noted.noted);
+    due = subst (λ l. AreDue m.tasks l m.waiting b.deadlines) (sym rows) (subst (AreDue m.tasks a.rows m.waiting) (sym deadlines) noted.due);
+  };
   closed = λ e. absurd (false≢true e);
   count_is = ap count rows;
   long = ap length rows;

@@ -13,7 +13,8 @@ use Rattle.cics_dispatch.specs.Settled.{KeepsWaiting, IsBlocked}
 use Rattle.cics_dispatch.specs.KeptTasks.{AreTasksKept}
 use Rattle.cics_dispatch.specs.Waits.{AreApart}
 use Rattle.cics_dispatch.specs.Waking.{may_go_on, first_free}
-use Rattle.cics_dispatch.specs.Notes.{of_line, blocker_by, blocker_in, given_up, given_note, forgotten, new_note, count, AreClosed, HasNone, IsDropped, IsUse, IsNoted, AreNoted, AreNotedNow, NotesValue}
+use Rattle.cics_dispatch.specs.Deadlines.{AreDue}
+use Rattle.cics_dispatch.specs.Notes.{of_line, blocker_by, blocker_in, given_up, given_note, forgotten, new_note, count, AreClosed, HasNone, IsPlaceOf, without, IsUse, IsNoted, AreNoted, AreNotedNow, NotesValue}
 use Rattle.cics_dispatch.proofs.KeptTasks.{begins_now}
 use Rattle.cics_dispatch.proofs.KeepsOwn.{Keeps}
 use Rattle.cics_dispatch.proofs.ActsAlone.{LeavesTasks, Waits}
@@ -75,13 +76,15 @@ noted_few m rs bs (Some n ∷ ns) [] is = absurd is
 noted_few m rs bs (Some n ∷ ns) (w ∷ ws) is = let few = noted_few m rs bs ns ws is.1 in omega (arith, few)
 
 -- notes whose parts are these
-pub noted_as : (m : Machine) (v : NotesValue) (rs : List Resource) (bs : List (Option ℕ)) (ns : List (Option Note)) → v.resources ≡ rs → v.blockers ≡ bs → v.rows ≡ ns → AreNoted m rs bs ns m.waiting → AreNotedNow m v
-noted_as m v rs bs ns resources blockers rows is =
-    subst (λ x. AreNotedNow m x) (λ i. record { rows = sym rows i; resources = sym resources i; blockers = sym blockers i }) is
+pub noted_as : (m : Machine) (v : NotesValue) (rs : List Resource) (bs : List (Option ℕ)) (ns : List (Option Note)) (ks : List ℕ) → v.resources ≡ rs → v.blockers ≡ bs → v.rows ≡ ns → v.deadlines ≡ ks →
+    AreNoted m rs bs ns m.waiting → AreDue m.tasks ns m.waiting ks → AreNotedNow m v
+noted_as m v rs bs ns ks resources blockers rows deadlines noted due =
+    subst (λ x. AreNotedNow m x) (λ i. record { rows = sym rows i; resources = sym resources i; blockers = sym blockers i; deadlines = sym deadlines i })
+    (record { noted = noted; due = due })
 
 -- where no note is made yet they are right
-pub noted_empty : (m : Machine) (v : NotesValue) → v.rows ≡ [] → AreNotedNow m v
-noted_empty m v none = subst (λ ns. AreNoted m v.resources v.blockers ns m.waiting) (sym none) tt
+pub noted_empty : (m : Machine) (v : NotesValue) → v.rows ≡ [] → v.deadlines ≡ [] → AreNotedNow m v
+noted_empty m v none timeless = noted_as m v v.resources v.blockers [] [] refl refl none timeless tt tt
 
 -- those behind one more
 pub drop_next : (k : ℕ) (ws rest : List Suspended) (w : Suspended) → drop k ws ≡ w ∷ rest → drop (suc k) ws ≡ rest
@@ -190,15 +193,12 @@ noted_none m rs bs label (Some k ∷ ns) (w ∷ ws) none is =
     subst (λ b. AreNoted m rs bs (Some k ∷ ns) (cond (not b) (w ∷ not_waiting ws label) (not_waiting ws label))) (sym other)
     (is.0, noted_none m rs bs label ns ws (λ i n there. none (suc i) n there) is.1)
 
--- so where the note of a label is dropped
-pub noted_dropped : (m : Machine) (rs : List Resource) (bs : List (Option ℕ)) (label : Bytes) (ns new : List (Option Note)) (ws : List Suspended) → AreApart ws → AreNoted m rs bs ns ws → IsDropped label ns new →
-    AreNoted m rs bs new (not_waiting ws label)
-noted_dropped m rs bs label ns new ws apart is dropped = elim dropped [
-  | inl one ↦
-      subst (λ l. AreNoted m rs bs l (not_waiting ws label)) (sym one.4)
-      (subst (λ l. AreNoted m rs bs (slice_set ns one.0 None) (not_waiting ws l)) one.3 (noted_without m rs bs ns ws one.0 one.1 apart is one.2))
-  | inr none ↦ subst (λ l. AreNoted m rs bs l (not_waiting ws label)) (sym none.1) (noted_none m rs bs label ns ws none.0 is)
-]
+-- so without the command of a label, whether it has a note or not
+pub noted_dropped : (m : Machine) (rs : List Resource) (bs : List (Option ℕ)) (label : Bytes) (ns : List (Option Note)) (ws : List Suspended) (at : Option ℕ) → AreApart ws → IsPlaceOf label ns at → AreNoted m rs bs ns ws →
+    AreNoted m rs bs (without ns at) (not_waiting ws label)
+noted_dropped m rs bs label ns ws None apart none is = noted_none m rs bs label ns ws none is
+noted_dropped m rs bs label ns ws (Some at) apart place is =
+    subst (λ l. AreNoted m rs bs (slice_set ns at None) (not_waiting ws l)) place.2 (noted_without m rs bs ns ws at place.0 apart is place.1)
 
 -- ---- What a note says once a unit may have given something up
 

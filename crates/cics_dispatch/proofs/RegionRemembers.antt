@@ -1,5 +1,5 @@
 -- Task control: what a region remembers of its last looks at the waiting commands, after each of its calls.
-use Rattle.std.specs.Prelude.{◌≡◌, ℕ, ◌+◌, ◌≤◌, Bool, true, false, not, if◌then◌else◌, ◌&&◌, cond, Option, Some, None, Result, Ok, Err, List, [], ◌∷◌, All, map, length, slice_set, refl}
+use Rattle.std.specs.Prelude.{◌≡◌, ℕ, ◌+◌, ◌≤◌, Bool, true, false, not, if◌then◌else◌, ◌&&◌, cond, Option, Some, None, Result, Ok, Err, List, [], ◌∷◌, All, map, length, slice_set, IfSome, refl}
 use Rattle.std.proofs.Common.{inl, inr, sym, ap, ◌∙◌, subst, arith}
 use Rattle.std.proofs.lemmas.Bool.{false≢true, and_parts}
 use Rattle.std.proofs.lemmas.List.Elements.{All-nil}
@@ -8,19 +8,19 @@ use Rattle.cics_names.specs.Keyed.{Bytes}
 use Rattle.cics_enqueue.specs.declared.resources.Resource.{Resource}
 use Rattle.cics_history.specs.Events.{may_act}
 use Rattle.cics_dispatch.specs.declared.notes.Note.{Note}
-use Rattle.cics_dispatch.specs.Machine.{Machine, Task, Suspended, RegionValue, task_at, is_waiting, not_waiting, with_waiting, abended, timed_out}
+use Rattle.cics_dispatch.specs.Machine.{Machine, Task, Suspended, RegionValue, task_at, is_waiting, not_waiting, with_waiting, abended}
 use Rattle.cics_dispatch.specs.Checks.{fault_of}
-use Rattle.cics_dispatch.specs.Steps.{Stepped, with_outcome, attach_refusal, attached, with_new_task, new_task, refused_or, checked, issue_refusal, issued_by, issued, by_op}
+use Rattle.cics_dispatch.specs.Steps.{Stepped, attach_refusal, attached, with_new_task, new_task, refused_or, checked, issue_refusal, issued_by, issued, by_op}
 use Rattle.cics_dispatch.specs.Waits.{AreApart}
 use Rattle.cics_dispatch.specs.Waking.{clock_refusal, clock_set, may_go_on, went_on, woken, woken_first, is_late, first_late, expired, expired_task}
 use Rattle.cics_dispatch.specs.Answers.{IsStep}
 use Rattle.cics_dispatch.specs.KeptTasks.{AreTasksKept}
 use Rattle.cics_dispatch.specs.Settled.{is_keeping, goes_on, IsInTime}
-use Rattle.cics_dispatch.specs.Notes.{NotesValue, given_up, forgotten, count, AreClosed, AreNoted, AreNotedNow, AreSettled, IsFirstFree, IsFreeAt, IsRemembered}
+use Rattle.cics_dispatch.specs.Deadlines.{never, AreDue}
+use Rattle.cics_dispatch.specs.Notes.{NotesValue, IsPlaceOf, IsNoteAt, given_up, forgotten, count, AreClosed, AreNoted, AreNotedNow, AreSettled, IsFirstFree, IsFreeAt, IsRemembered}
 use Rattle.cics_names.specs.declared.commands.Command.{Command}
 use Rattle.cics_dispatch.specs.declared.outcomes.Outcome.{Outcome}
 use Rattle.cics_dispatch.specs.declared.outcomes.Refused.{Refused}
-use Rattle.cics_dispatch.specs.declared.outcomes.Expired.{Expired}
 use Rattle.cics_dispatch.proofs.TaskPlaces.{place_of_task, task_at-push}
 use Rattle.cics_dispatch.proofs.KeptTasks.{begins_now, not_waiting_then}
 use Rattle.cics_dispatch.proofs.KeptHeld.{checked_keeps}
@@ -29,7 +29,8 @@ use Rattle.cics_dispatch.proofs.FewerWaits.{by_op_none}
 use Rattle.cics_dispatch.proofs.RegionWaking.{first_free-goes, first_free_awaits, not_waiting_twice}
 use Rattle.cics_dispatch.proofs.Blocked.{task_acts, none_late, all_in_time}
 use Rattle.cics_dispatch.proofs.Remembered.{refused_leaves, not_refused, issued_in_time, woken_in_time, attached_in_time}
-use Rattle.cics_dispatch.proofs.Noted.{noted_as, noted_behind, noted_without, none_free, noted_given, noted_keeping, noted_same, waits_then, given_none, forgotten_none}
+use Rattle.cics_dispatch.proofs.Deadlines.{due_kept, due_behind, due_given, due_within, due_without}
+use Rattle.cics_dispatch.proofs.Noted.{noted_as, noted_empty, noted_behind, noted_without, none_free, noted_given, noted_keeping, noted_same, waits_then, given_none, forgotten_none}
 
 -- what is true of the machine and of the one that the step leaves is true after the call
 pub after_step : {X : Type 0} (P : Machine → Type 0) (wants : Bool) (old new : RegionValue) (s : Stepped (Result X Refused)) (r : Result X Refused) →
@@ -51,8 +52,10 @@ remembered_attached m label dtimout v is_settled is_in_time kept is = record {
     waiting (Some refusal) = refl
 
     by : (refusal : Option Refused) → AreNotedNow m v → AreNotedNow (refused_or m refusal (record { outcome = tt {0}; machine = with_new_task m label dtimout })).machine v
-    by None noted =
-        noted_same m (with_new_task m label dtimout) refl (λ l t there. task_at-push m.tasks (new_task label dtimout) l t there) v.resources v.blockers v.rows m.waiting noted
+    by None noted = record {
+      noted = noted_same m (with_new_task m label dtimout) refl (λ l t there. task_at-push m.tasks (new_task label dtimout) l t there) v.resources v.blockers v.rows m.waiting noted.noted;
+      due = due_kept m.tasks (with_new_task m label dtimout).tasks (λ l t there. task_at-push m.tasks (new_task label dtimout) l t there) v.rows m.waiting v.deadlines noted.due;
+    }
     by (Some refusal) noted = noted
 
 -- the clock is set, and it isn't known any more that no task has waited too long
@@ -68,7 +71,10 @@ remembered_clock m now v is_settled is_in_time is = record {
     waiting (Some refusal) = refl
 
     by : (refusal : Option Refused) → AreNotedNow m v → AreNotedNow (refused_or m refusal (record { outcome = tt {0}; machine = record m { clock = now } })).machine v
-    by None noted = noted_same m (record m { clock = now }) refl (λ l t there. there) v.resources v.blockers v.rows m.waiting noted
+    by None noted = record {
+      noted = noted_same m (record m { clock = now }) refl (λ l t there. there) v.resources v.blockers v.rows m.waiting noted.noted;
+      due = noted.due;
+    }
     by (Some refusal) noted = noted
 
 -- the same where the time isn't looked at
@@ -81,19 +87,27 @@ remembered_late m v is_settled is_in_time is = record { noted = is.noted; settle
 abbrev forgot_of : Machine → Command → Outcome → Option ℕ → Option ℕ
 forgot_of m c outcome unit = if is_keeping m.units.opening c.verb && goes_on outcome then None else unit
 
--- after a command of a task the notes are right once that is forgotten, and where it doesn't wait the same commands wait
-abbrev pub noted_then : Machine → Machine → Bytes → List Resource → List (Option ℕ) → List (Option Note) → Type 0
-noted_then m n label rs bs ns = AreNoted n rs bs ns n.waiting × (is_waiting n.waiting label ≡ false → n.waiting ≡ m.waiting)
+-- the notes of these commands are right, and their deadlines
+abbrev AreBoth : Machine → List Resource → List (Option ℕ) → List (Option Note) → List ℕ → List Suspended → Type 0
+AreBoth m rs bs ns ds ws = AreNoted m rs bs ns ws × AreDue m.tasks ns ws ds
 
-module _ (m : Machine) (c : Command) (rs : List Resource) (bs : List (Option ℕ)) (ns : List (Option Note)) (noted : AreNoted m rs bs ns m.waiting) where
+-- after a command of a task the notes are right once that is forgotten, and where it doesn't wait the same commands wait
+abbrev noted_then : Machine → Machine → Bytes → List Resource → List (Option ℕ) → List (Option Note) → List ℕ → Type 0
+noted_then m n label rs bs ns ds = AreBoth n rs bs ns ds n.waiting × (is_waiting n.waiting label ≡ false → n.waiting ≡ m.waiting)
+
+module _ (m : Machine) (c : Command) (rs : List Resource) (bs : List (Option ℕ)) (ns : List (Option Note)) (ds : List ℕ) (noted : AreNoted m rs bs ns m.waiting)
+    (due : AreDue m.tasks ns m.waiting ds) where
   checked_noted : (t : Task) (unit : Option ℕ) (outcome : Outcome) → may_act m.units t.unit ≡ true → unit ≡ t.unit → is_waiting m.waiting t.label ≡ false → (checked m t c (fault_of m t c.verb)).outcome ≡ outcome →
-      noted_then m (checked m t c (fault_of m t c.verb)).machine t.label rs (map (given_up (forgot_of m c outcome unit)) bs) (map (forgotten (forgot_of m c outcome unit)) ns)
+      noted_then m (checked m t c (fault_of m t c.verb)).machine t.label rs (map (given_up (forgot_of m c outcome unit)) bs) (map (forgotten (forgot_of m c outcome unit)) ns) ds
   checked_noted t unit outcome active own awake told =
       let n = (checked m t c (fault_of m t c.verb)).machine in
       let alone = checked_alone m t c in
-      let later = waits_then m n t.label alone.waits awake in (
-        subst (AreNoted n rs (map (given_up (forgot_of m c outcome unit)) bs) (map (forgotten (forgot_of m c outcome unit)) ns)) (sym later.1)
-            (noted_behind n rs (map (given_up (forgot_of m c outcome unit)) bs) (map (forgotten (forgot_of m c outcome unit)) ns) m.waiting later.0 (by (is_keeping m.units.opening c.verb && goes_on outcome) refl)),
+      let later = waits_then m n t.label alone.waits awake in
+      let forgot = forgot_of m c outcome unit in (
+        subst (AreBoth n rs (map (given_up forgot) bs) (map (forgotten forgot) ns) ds) (sym later.1) (
+          noted_behind n rs (map (given_up forgot) bs) (map (forgotten forgot) ns) m.waiting later.0 (by (is_keeping m.units.opening c.verb && goes_on outcome) refl),
+          due_behind n.tasks (map (forgotten forgot) ns) m.waiting later.0 ds (due_given m n t forgot alone.others ns m.waiting ds awake due),
+        ),
         later.2,
       )
     where
@@ -111,7 +125,7 @@ module _ (m : Machine) (c : Command) (rs : List Resource) (bs : List (Option ℕ
           (noted_given m n rs bs t (checked_alone m t c).others active ns m.waiting awake noted)
 
   pub issued_noted : AreTasksKept m → (label : Bytes) (unit : Option ℕ) (outcome : Outcome) → ((t : Task) → task_at m.tasks label ≡ Some t → unit ≡ t.unit) → (issued m label c).outcome ≡ Ok outcome →
-      noted_then m (issued m label c).machine label rs (map (given_up (forgot_of m c outcome unit)) bs) (map (forgotten (forgot_of m c outcome unit)) ns)
+      noted_then m (issued m label c).machine label rs (map (given_up (forgot_of m c outcome unit)) bs) (map (forgotten (forgot_of m c outcome unit)) ns) ds
   issued_noted kept label unit outcome own told = by (task_at m.tasks label) refl told
     where
       cs : List (Option ℕ)
@@ -122,15 +136,15 @@ module _ (m : Machine) (c : Command) (rs : List Resource) (bs : List (Option ℕ
 
       by_refusal : (t : Task) → t.label ≡ label → task_at m.tasks label ≡ Some t → (refusal : Option Refused) → issue_refusal m (Some t) ≡ refusal →
           (refused_or m refusal (checked m t c (fault_of m t c.verb))).outcome ≡ Ok outcome →
-          noted_then m (refused_or m refusal (checked m t c (fault_of m t c.verb))).machine label rs (map (given_up (forgot_of m c outcome unit)) bs) (map (forgotten (forgot_of m c outcome unit)) ns)
+          noted_then m (refused_or m refusal (checked m t c (fault_of m t c.verb))).machine label rs (map (given_up (forgot_of m c outcome unit)) bs) (map (forgotten (forgot_of m c outcome unit)) ns) ds
       by_refusal t same is (Some refusal) refused told = cc
       by_refusal t same is None refused told =
           let one : (checked m t c (fault_of m t c.verb)).outcome ≡ outcome = cc in
-          subst (λ l. noted_then m (checked m t c (fault_of m t c.verb)).machine l rs (map (given_up (forgot_of m c outcome unit)) bs) (map (forgotten (forgot_of m c outcome unit)) ns)) same
+          subst (λ l. noted_then m (checked m t c (fault_of m t c.verb)).machine l rs (map (given_up (forgot_of m c outcome unit)) bs) (map (forgotten (forgot_of m c outcome unit)) ns) ds) same
           (checked_noted t unit outcome (task_acts m label t kept is) (own t is) (not_refused t.has_ended (is_waiting m.waiting t.label) refused) one)
 
       by : (o : Option Task) → task_at m.tasks label ≡ o → (issued_by m c o).outcome ≡ Ok outcome →
-          noted_then m (issued_by m c o).machine label rs (map (given_up (forgot_of m c outcome unit)) bs) (map (forgotten (forgot_of m c outcome unit)) ns)
+          noted_then m (issued_by m c o).machine label rs (map (given_up (forgot_of m c outcome unit)) bs) (map (forgotten (forgot_of m c outcome unit)) ns) ds
       by None is told = cc
       by (Some t) is told = by_refusal t (place_of_task m.tasks label t is).2 is (issue_refusal m (Some t)) refl told
 
@@ -155,15 +169,15 @@ none_added m n label waits fewer awake = elim waits [
     never : length n.waiting ≡ length m.waiting + 1 → ⊥
     never grown = omega (arith, fewer, grown)
 
-woken_noted : (m : Machine) (rs : List Resource) (bs : List (Option ℕ)) (ns : List (Option Note)) (label : Bytes) (unit : Option ℕ) → AreTasksKept m → AreNoted m rs bs ns (not_waiting m.waiting label) → IsFirstFree m label →
-    ((t : Task) → task_at m.tasks label ≡ Some t → unit ≡ t.unit) → AreNoted (woken m).machine rs (map (given_up unit) bs) (map (forgotten unit) ns) (woken m).machine.waiting
-woken_noted m rs bs ns label unit kept noted free own =
-    subst (λ o. AreNoted (woken_first m o).machine rs (map (given_up unit) bs) (map (forgotten unit) ns) (woken_first m o).machine.waiting) (sym free.first) (by (task_at m.tasks w.label) refl)
+woken_noted : (m : Machine) (rs : List Resource) (bs : List (Option ℕ)) (ns : List (Option Note)) (ds : List ℕ) (label : Bytes) (unit : Option ℕ) → AreTasksKept m → AreBoth m rs bs ns ds (not_waiting m.waiting label) →
+    IsFirstFree m label → ((t : Task) → task_at m.tasks label ≡ Some t → unit ≡ t.unit) → AreBoth (woken m).machine rs (map (given_up unit) bs) (map (forgotten unit) ns) ds (woken m).machine.waiting
+woken_noted m rs bs ns ds label unit kept noted free own =
+    subst (λ o. AreBoth (woken_first m o).machine rs (map (given_up unit) bs) (map (forgotten unit) ns) ds (woken_first m o).machine.waiting) (sym free.first) (by (task_at m.tasks w.label) refl)
   where
     w : Suspended
     w = free.wait
 
-    by : (o : Option Task) → task_at m.tasks w.label ≡ o → AreNoted (went_on m w o).machine rs (map (given_up unit) bs) (map (forgotten unit) ns) (went_on m w o).machine.waiting
+    by : (o : Option Task) → task_at m.tasks w.label ≡ o → AreBoth (went_on m w o).machine rs (map (given_up unit) bs) (map (forgotten unit) ns) ds (went_on m w o).machine.waiting
     by None is = absurd (false≢true (sym (ap (may_go_on m w) is) ∙ first_free-goes m w m.waiting free.first))
     by (Some t) is =
         let same : t.label ≡ label = (place_of_task m.tasks w.label t is).2 ∙ free.own in
@@ -175,10 +189,12 @@ woken_noted m rs bs ns label unit kept noted free own =
         let twice : not_waiting ws t.label ≡ ws = ap (not_waiting ws) (same ∙ sym free.own) ∙ not_waiting_twice m.waiting w.label in
         let left : n.waiting ≡ ws = none_added a n t.label alone.waits none twice in
         let awake : is_waiting ws t.label ≡ false = ap (is_waiting ws) (same ∙ sym free.own) ∙ not_waiting_then m.waiting w.label in
-        let rest : AreNoted m rs bs ns ws = subst (λ l. AreNoted m rs bs ns (not_waiting m.waiting l)) (sym free.own) noted in
-        subst (AreNoted n rs (map (given_up unit) bs) (map (forgotten unit) ns)) (sym left)
-        (subst (λ o. AreNoted n rs (map (given_up o) bs) (map (forgotten o) ns) ws) (sym (own t (ap (task_at m.tasks) (sym free.own) ∙ is)))
-        (noted_given a n rs bs t alone.others (task_acts m w.label t kept is) ns ws awake (noted_aside m rs bs ns ws ws rest)))
+        let rest : AreBoth m rs bs ns ds ws = subst (λ l. AreBoth m rs bs ns ds (not_waiting m.waiting l)) (sym free.own) noted in
+        subst (AreBoth n rs (map (given_up unit) bs) (map (forgotten unit) ns) ds) (sym left)
+        (subst (λ o. AreBoth n rs (map (given_up o) bs) (map (forgotten o) ns) ds ws) (sym (own t (ap (task_at m.tasks) (sym free.own) ∙ is))) (
+          noted_given a n rs bs t alone.others (task_acts m w.label t kept is) ns ws awake (noted_aside m rs bs ns ws ws rest.0),
+          due_given a n t t.unit alone.others ns ws ds awake rest.1,
+        ))
 
 -- ---- Time-out
 
@@ -193,26 +209,28 @@ late_acts m t kept = by m.waiting
       | false ↦ λ later. by ws later
     ] is
 
-expired_noted : (m : Machine) (rs : List Resource) (bs : List (Option ℕ)) (ns : List (Option Note)) (t : Task) (unit : Option ℕ) → AreTasksKept m → AreNoted m rs bs ns (not_waiting m.waiting t.label) → first_late m m.waiting ≡ Some t →
-    unit ≡ t.unit → AreNoted (expired m).machine rs (map (given_up unit) bs) (map (forgotten unit) ns) (expired m).machine.waiting
-expired_noted m rs bs ns t unit kept noted first own =
-    subst (λ o. AreNoted (expired_task m o).machine rs (map (given_up unit) bs) (map (forgotten unit) ns) (expired_task m o).machine.waiting) (sym first)
-    (subst (λ o. AreNoted (abended m t) rs (map (given_up o) bs) (map (forgotten o) ns) (abended m t).waiting) (sym own)
-    (noted_given m (abended m t) rs bs t (abended_leaves m t) (late_acts m t kept first) ns (not_waiting m.waiting t.label) (not_waiting_then m.waiting t.label) noted))
+expired_noted : (m : Machine) (rs : List Resource) (bs : List (Option ℕ)) (ns : List (Option Note)) (ds : List ℕ) (t : Task) (unit : Option ℕ) → AreTasksKept m → AreBoth m rs bs ns ds (not_waiting m.waiting t.label) →
+    first_late m m.waiting ≡ Some t → unit ≡ t.unit → AreBoth (expired m).machine rs (map (given_up unit) bs) (map (forgotten unit) ns) ds (expired m).machine.waiting
+expired_noted m rs bs ns ds t unit kept noted first own =
+    subst (λ o. AreBoth (expired_task m o).machine rs (map (given_up unit) bs) (map (forgotten unit) ns) ds (expired_task m o).machine.waiting) (sym first)
+    (subst (λ o. AreBoth (abended m t) rs (map (given_up o) bs) (map (forgotten o) ns) ds (abended m t).waiting) (sym own) (
+      noted_given m (abended m t) rs bs t (abended_leaves m t) (late_acts m t kept first) ns (not_waiting m.waiting t.label) (not_waiting_then m.waiting t.label) noted.0,
+      due_given m (abended m t) t t.unit (abended_leaves m t) ns (not_waiting m.waiting t.label) ds (not_waiting_then m.waiting t.label) noted.1,
+    ))
 
 -- ---- What is remembered
 
 -- where no command waits all is settled, and nobody has waited too long
-pub remembered_alone : (m : Machine) (v : NotesValue) → v.rows ≡ [] → m.waiting ≡ [] → IsRemembered m v true true
-remembered_alone m v nothing none = record {
-  noted = noted_as m v v.resources v.blockers [] refl refl nothing tt;
+pub remembered_alone : (m : Machine) (v : NotesValue) → v.rows ≡ [] → v.deadlines ≡ [] → m.waiting ≡ [] → IsRemembered m v true true
+remembered_alone m v nothing timeless none = record {
+  noted = noted_empty m v nothing timeless;
   settled = λ set. record { closed = subst (AreClosed v.blockers) (sym nothing) tt; all = ap count nothing ∙ sym (ap length none) };
   in_time = λ set. subst (All (IsInTime m)) (sym none) (All-nil (IsInTime m));
 }
 
 -- where all is settled none goes on
 pub settled_free : (m : Machine) (v : NotesValue) → AreTasksKept m → AreNotedNow m v → AreSettled m v → woken m ≡ record { outcome = None; machine = m }
-settled_free m v kept noted settled = ap (woken_first m) (none_free m v.resources v.blockers v.rows m.waiting kept noted settled.closed settled.all)
+settled_free m v kept noted settled = ap (woken_first m) (none_free m v.resources v.blockers v.rows m.waiting kept noted.noted settled.closed settled.all)
 
 pub woken_settled : (m : Machine) (v : NotesValue) (is_settled is_in_time : Bool) → AreTasksKept m → IsRemembered m v is_settled is_in_time → is_settled ≡ true → woken m ≡ record { outcome = None; machine = m }
 woken_settled m v is_settled is_in_time kept is set = settled_free m v kept is.noted (is.settled set)
@@ -226,12 +244,12 @@ pub remembered_issued : (m n : Machine) (label : Bytes) (c : Command) (outcome :
     AreTasksKept m → IsRemembered m v is_settled is_in_time → ((t : Task) → task_at m.tasks label ≡ Some t → unit ≡ t.unit) → (issued m label c).outcome ≡ Ok outcome → n ≡ (issued m label c).machine →
     forgot ≡ (if is_keeping m.units.opening c.verb && goes_on outcome then None else unit) →
     new.rows ≡ map (forgotten forgot) v.rows → new.blockers ≡ map (given_up forgot) v.blockers → (was ≡ false → (new.rows ≡ v.rows) × (new.blockers ≡ v.blockers)) → new.resources ≡ v.resources →
-    waits ≡ is_waiting n.waiting label → settled ≡ (is_settled && (not was && not waits)) → IsRemembered n new settled is_in_time
-remembered_issued m n label c outcome v new is_settled is_in_time was waits settled unit forgot kept is own told step forgets rows blockers same resources waited stays = record {
+    new.deadlines ≡ v.deadlines → waits ≡ is_waiting n.waiting label → settled ≡ (is_settled && (not was && not waits)) → IsRemembered n new settled is_in_time
+remembered_issued m n label c outcome v new is_settled is_in_time was waits settled unit forgot kept is own told step forgets rows blockers same resources deadlines waited stays = record {
   noted =
       subst (λ x. AreNotedNow x new) (sym step)
-      (noted_as k new v.resources (map (given_up (forgot_of m c outcome unit)) v.blockers) (map (forgotten (forgot_of m c outcome unit)) v.rows) resources
-      (blockers ∙ ap (λ o. map (given_up o) v.blockers) forgets) (rows ∙ ap (λ o. map (forgotten o) v.rows) forgets) pair.0);
+      (noted_as k new v.resources (map (given_up (forgot_of m c outcome unit)) v.blockers) (map (forgotten (forgot_of m c outcome unit)) v.rows) v.deadlines resources
+      (blockers ∙ ap (λ o. map (given_up o) v.blockers) forgets) (rows ∙ ap (λ o. map (forgotten o) v.rows) forgets) deadlines pair.0.0 pair.0.1);
   settled = λ set.
       let parts = and_parts is_settled (not was && not waits) (sym stays ∙ set) in
       let both = and_parts (not was) (not waits) parts.1 in
@@ -253,8 +271,8 @@ remembered_issued m n label c outcome v new is_settled is_in_time was waits sett
     k = (issued m label c).machine
 
     pair : noted_then m (issued m label c).machine label v.resources (map (given_up (if is_keeping m.units.opening c.verb && goes_on outcome then None else unit)) v.blockers)
-        (map (forgotten (if is_keeping m.units.opening c.verb && goes_on outcome then None else unit)) v.rows)
-    pair = issued_noted m c v.resources v.blockers v.rows is.noted kept label unit outcome own told
+        (map (forgotten (if is_keeping m.units.opening c.verb && goes_on outcome then None else unit)) v.rows) v.deadlines
+    pair = issued_noted m c v.resources v.blockers v.rows v.deadlines is.noted.noted is.noted.due kept label unit outcome own told
 
 -- ---- Waking and time-out
 
@@ -273,39 +291,45 @@ remembered_settled m v new is_settled is_in_time noted settled is = record { not
 -- where a command has gone on
 pub remembered_woken : (m n : Machine) (v mid new : NotesValue) (at : ℕ) (label : Bytes) (unit : Option ℕ) (is_settled is_in_time : Bool) → AreTasksKept m → AreApart m.waiting → AreNotedNow m v → IsFreeAt m v at label →
     ((t : Task) → task_at m.tasks label ≡ Some t → unit ≡ t.unit) → n ≡ (woken m).machine → mid.rows ≡ slice_set v.rows at None → mid.blockers ≡ v.blockers → mid.resources ≡ v.resources →
-    new.rows ≡ map (forgotten unit) mid.rows → new.blockers ≡ map (given_up unit) mid.blockers → new.resources ≡ mid.resources → is_settled ≡ false →
+    mid.deadlines ≡ slice_set v.deadlines at never → new.rows ≡ map (forgotten unit) mid.rows → new.blockers ≡ map (given_up unit) mid.blockers → new.resources ≡ mid.resources → new.deadlines ≡ mid.deadlines → is_settled ≡ false →
     (is_in_time ≡ true → All (IsInTime m) m.waiting) → IsRemembered n new is_settled is_in_time
-remembered_woken m n v mid new at label unit is_settled is_in_time kept apart noted free own step rows blockers resources then_rows then_blockers then_resources open_yet in_time = record {
+remembered_woken m n v mid new at label unit is_settled is_in_time kept apart noted free own step rows blockers resources deadlines then_rows then_blockers then_resources then_deadlines open_yet in_time = record {
   noted =
       subst (λ x. AreNotedNow x new) (sym step)
-      (noted_as (woken m).machine new v.resources (map (given_up unit) v.blockers) (map (forgotten unit) (slice_set v.rows at None)) (then_resources ∙ resources)
-      (then_blockers ∙ ap (map (given_up unit)) blockers) (then_rows ∙ ap (map (forgotten unit)) rows)
-      (woken_noted m v.resources v.blockers (slice_set v.rows at None) label unit kept
-      (subst (λ l. AreNoted m v.resources v.blockers (slice_set v.rows at None) (not_waiting m.waiting l)) free.own
-      (noted_without m v.resources v.blockers v.rows m.waiting at free.note apart noted free.there)) free.first own));
+      (noted_as (woken m).machine new v.resources (map (given_up unit) v.blockers) (map (forgotten unit) (slice_set v.rows at None)) ds (then_resources ∙ resources)
+      (then_blockers ∙ ap (map (given_up unit)) blockers) (then_rows ∙ ap (map (forgotten unit)) rows) (then_deadlines ∙ deadlines) after.0 after.1);
   settled = λ set. absurd (false≢true (sym open_yet ∙ set));
   in_time = λ set. subst (λ x. All (IsInTime x) x.waiting) (sym step) (woken_in_time m label free.first (in_time set));
 }
+  where
+    ds : List ℕ
+    ds = slice_set v.deadlines at never
+
+    after : AreBoth (woken m).machine v.resources (map (given_up unit) v.blockers) (map (forgotten unit) (slice_set v.rows at None)) ds (woken m).machine.waiting
+    after =
+        woken_noted m v.resources v.blockers (slice_set v.rows at None) ds label unit kept
+        (subst (λ l. AreBoth m v.resources v.blockers (slice_set v.rows at None) ds (not_waiting m.waiting l)) free.own (
+          noted_without m v.resources v.blockers v.rows m.waiting at free.note apart noted.noted free.there,
+          due_without m.tasks v.rows m.waiting v.deadlines at free.note apart noted.due free.there,
+        )) free.first own
 
 -- where a task has been abended for its time
-pub remembered_expired : (m n : Machine) (v new : NotesValue) (ns : List (Option Note)) (is_in_time : Bool) (t : Task) (unit : Option ℕ) → AreTasksKept m → AreNoted m v.resources v.blockers ns (not_waiting m.waiting t.label) →
-    first_late m m.waiting ≡ Some t → unit ≡ t.unit → n ≡ (expired m).machine → new.rows ≡ map (forgotten unit) ns → new.blockers ≡ map (given_up unit) v.blockers → new.resources ≡ v.resources →
-    is_in_time ≡ false → IsRemembered n new false is_in_time
-remembered_expired m n v new ns is_in_time t unit kept noted first own step rows blockers resources late = record {
+pub remembered_expired : (m n : Machine) (v new : NotesValue) (ns : List (Option Note)) (ds : List ℕ) (is_in_time : Bool) (t : Task) (unit : Option ℕ) → AreTasksKept m →
+    AreNoted m v.resources v.blockers ns (not_waiting m.waiting t.label) → AreDue m.tasks ns (not_waiting m.waiting t.label) ds → first_late m m.waiting ≡ Some t → unit ≡ t.unit → n ≡ (expired m).machine →
+    new.rows ≡ map (forgotten unit) ns → new.blockers ≡ map (given_up unit) v.blockers → new.resources ≡ v.resources → new.deadlines ≡ ds → is_in_time ≡ false → IsRemembered n new false is_in_time
+remembered_expired m n v new ns ds is_in_time t unit kept noted due first own step rows blockers resources deadlines late = record {
   noted =
+      let after = expired_noted m v.resources v.blockers ns ds t unit kept (noted, due) first own in
       subst (λ x. AreNotedNow x new) (sym step)
-      (noted_as (expired m).machine new v.resources (map (given_up unit) v.blockers) (map (forgotten unit) ns) resources blockers rows
-      (expired_noted m v.resources v.blockers ns t unit kept noted first own));
+      (noted_as (expired m).machine new v.resources (map (given_up unit) v.blockers) (map (forgotten unit) ns) ds resources blockers rows deadlines after.0 after.1);
   settled = λ set. absurd (false≢true set);
   in_time = λ set. absurd (false≢true (sym late ∙ set));
 }
 
--- the label that is told is the task's
-pub told_label : (m n : Machine) (e : Expired) (t : Task) → with_outcome (Some e) n ≡ expired m → first_late m m.waiting ≡ Some t → e.label ≡ t.label
-told_label m n e t step first = by (ap (λ s. s.outcome) (step ∙ ap (expired_task m) first))
-  where
-    by : Some e ≡ Some (record { label = t.label; code = timed_out }) → e.label ≡ t.label
-    by is = let same : e ≡ record { label = t.label; code = timed_out } = cc in ap (λ x. x.label) same
+-- the note of a task, if it has one, stands at a place of a note, and of a deadline
+pub note_at : (m : Machine) (v : NotesValue) (label : Bytes) (at : Option ℕ) → AreNotedNow m v → IsPlaceOf label v.rows at → IfSome at (IsNoteAt v)
+note_at m v label None noted place = tt
+note_at m v label (Some i) noted place = record { note = place.0; there = place.1; timed = due_within m.tasks v.rows m.waiting v.deadlines i place.0 noted.due place.1 }
 
 -- where no task has waited too long
 pub remembered_early : (m : Machine) (v : NotesValue) (is_settled is_in_time : Bool) → IsRemembered m v is_settled is_in_time → first_late m m.waiting ≡ None → IsRemembered m v is_settled true

@@ -13,13 +13,16 @@ use Rattle.cics_dispatch.specs.declared.notes.Note.{Note}
 use Rattle.cics_dispatch.specs.Machine.{Machine, Task, Suspended, is_unit, is_waiting, task_at}
 use Rattle.cics_dispatch.specs.Waking.{may_go_on, first_free}
 use Rattle.cics_dispatch.specs.Settled.{reads_queue, needed_by, IsBlocked, IsInTime}
+use Rattle.cics_dispatch.specs.Deadlines.{never, AreDue}
 
 -- the notes of a front of the waiting commands, in their order, with the places of those that wait no more; and of each
--- line the resource that its commands use and nothing else, and the unit that they have to wait for, if it is known
+-- line the resource that its commands use and nothing else, and the unit that they have to wait for, if it is known; and of
+-- each place the deadline
 pub record NotesValue : Type 0 where
   pub rows : List (Option Note)
   pub resources : List Resource
   pub blockers : List (Option ℕ)
+  pub deadlines : List ℕ
 
 -- the unit of a line, if it is known
 abbrev pub of_line : List (Option ℕ) → ℕ → Option ℕ
@@ -88,11 +91,26 @@ pub record IsFirstOpen (v : NotesValue) (at : ℕ) (n : Note) : Type 0 where
 abbrev pub HasNone : Bytes → List (Option Note) → Type 0
 HasNone label ns = (i : ℕ) (n : Note) → slice_get ns i ≡ Some (Some n) → n.label ≡ label → ⊥
 
--- the note of a label is dropped, if there is one
-abbrev pub IsDropped : Bytes → List (Option Note) → List (Option Note) → Type 0
-IsDropped label ns new =
-    ((at : ℕ) × (n : Note) × (slice_get ns at ≡ Some (Some n)) × (n.label ≡ label) × (new ≡ slice_set ns at None))
-    ⊎ (HasNone label ns × (new ≡ ns))
+-- a place is that of the note of a label, if there is one
+abbrev pub IsPlaceOf : Bytes → List (Option Note) → Option ℕ → Type 0
+IsPlaceOf label ns None = HasNone label ns
+IsPlaceOf label ns (Some at) = (n : Note) × (slice_get ns at ≡ Some (Some n)) × (n.label ≡ label)
+
+-- the notes but the one at a place, if a place is given
+abbrev pub without : List (Option Note) → Option ℕ → List (Option Note)
+without ns None = ns
+without ns (Some at) = slice_set ns at None
+
+-- and the deadlines
+abbrev pub without_deadline : List ℕ → Option ℕ → List ℕ
+without_deadline ks None = ks
+without_deadline ks (Some at) = slice_set ks at never
+
+-- a note stands at a place, and a deadline
+pub record IsNoteAt (v : NotesValue) (at : ℕ) : Type 0 where
+  pub note : Note
+  pub there : slice_get v.rows at ≡ Some (Some note)
+  pub timed : at < length v.deadlines
 
 -- what had its place still has it
 pub record KeepsResources (old new : List Resource) : Type 0 where
@@ -124,9 +142,10 @@ AreNoted m rs bs (None ∷ ns) ws = AreNoted m rs bs ns ws
 AreNoted m rs bs (Some n ∷ ns) [] = ⊥
 AreNoted m rs bs (Some n ∷ ns) (w ∷ ws) = IsNoted m rs bs n w × AreNoted m rs bs ns ws
 
--- each waiting command of a front of a region's has its note
-abbrev pub AreNotedNow : Machine → NotesValue → Type 0
-AreNotedNow m v = AreNoted m v.resources v.blockers v.rows m.waiting
+-- each waiting command of a front of a region's has its note, and the note's place the deadline of its task
+pub record AreNotedNow (m : Machine) (v : NotesValue) : Type 0 where
+  pub noted : AreNoted m v.resources v.blockers v.rows m.waiting
+  pub due : AreDue m.tasks v.rows m.waiting v.deadlines
 
 -- each waiting command of a region has a note, and none has to be looked at
 pub record AreSettled (m : Machine) (v : NotesValue) : Type 0 where

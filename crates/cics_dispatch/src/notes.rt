@@ -1,14 +1,17 @@
-//! What is known of the commands that wait: for which unit each has to wait as long as that gives nothing up.
+//! What is known of the commands that wait: for which unit each has to wait as long as that gives nothing up, and until when.
 
 ghost use Rattle.std.specs.Prelude.{◌≡◌, ◌<◌, [], ◌∷◌, ◌++◌, None, Some, false, length, map, is_ok};
 ghost use Rattle.std.specs.Prelude.{slice_get, slice_set, if◌then◌else◌, IfOk, IfSome, IfNone};
-ghost use Rattle.std.specs.Prelude.{take, true, is_some};
+ghost use Rattle.std.specs.Prelude.{take, true, is_some, ◌≤◌, All, MatchOption};
 ghost use Rattle.cics_dispatch.specs.Notes.{forgotten, given_up, new_note, alone, in_line, count};
-ghost use Rattle.cics_dispatch.specs.Notes.{of_line, blocker_in, AreClosed, IsOpenAt, IsFirstOpen, HasNone};
-ghost use Rattle.cics_dispatch.specs.Notes.{IsDropped};
+ghost use Rattle.cics_dispatch.specs.Notes.{of_line, blocker_in, AreClosed, IsOpenAt, IsFirstOpen};
+ghost use Rattle.cics_dispatch.specs.Notes.{without, without_deadline, IsNoteAt};
 ghost use Rattle.cics_dispatch.specs.Notes.{KeepsResources, KeepsBlockers};
 ghost use Rattle.cics_dispatch.specs.declared.notes.Note.{Note as NoteValue};
+ghost use Rattle.cics_dispatch.specs.Deadlines.{never};
+ghost use Rattle.cics_dispatch.specs.Firsts.{IsFirstBelow};
 
+use crate::firsts::Firsts;
 use cics_enqueue::{Resource, UnitId};
 use cics_names::{Name8, NoMemory};
 use indexmap::IndexSet;
@@ -45,6 +48,15 @@ pub(crate) struct Free {
     pub(crate) label: Name8,
 }
 
+/// A task that has waited too long.
+#[derive(Clone, Copy)]
+pub(crate) struct Late {
+    /// The place of the task.
+    pub(crate) task: usize,
+    /// The place of the note of its command; `None` where that has none.
+    pub(crate) note: Option<usize>,
+}
+
 /// What is known of a front of the commands that wait, in the order in which the waits began.
 ///
 /// The commands that use the same one resource and nothing else form a line, so that it is noted of all of them at once whom they
@@ -64,6 +76,9 @@ pub(crate) struct Notes {
     lines: Vec<Option<UnitId>>,
     // The units that commands have to wait for, and perhaps others.
     blockers: IndexSet<UnitId>,
+    // Of each place the last clock at which its task hasn't waited too long; u64::MAX where the task may wait without
+    // limit, and where no command waits any more.
+    deadlines: Firsts,
 }
 
 impl Model for Notes {
@@ -76,6 +91,7 @@ impl Model for Notes {
       rows = n.rows.items;
       resources = n.resources.keys;
       blockers = n.lines.items;
+      deadlines = n.deadlines;
     } };
 
     ghost invariant = { λ n. IsFiled n.rows.items n.count n.closed n.resources.keys n.lines.items
@@ -158,21 +174,11 @@ fn open_rows(rows: &mut [Option<Note>], unit: UnitId)
     }
 }
 
-// Whether a note is of a label's task.
-fn is_of(row: &Option<Note>, label: &Name8) -> bool
-    ensures yes { result ≡ true → (n : NoteValue) × (row.now ≡ Some n) × (n.label ≡ label.now) }
-    ensures no { result ≡ false → (n : NoteValue) → row.now ≡ Some n → n.label ≡ label.now → ⊥ }
-{
-    match row {
-        Some(note) => note.label == *label,
-        None => false,
-    }
-}
-
 impl Notes {
     /// Nothing is known. `alloc` gives the memory for notes.
     pub(crate) fn new(alloc: Global) -> Notes
-        ensures { result.rows ≡ [] }
+        ensures rows { result.rows ≡ [] }
+        ensures deadlines { result.deadlines ≡ [] }
     {
         Notes {
             rows: Vec::new(alloc),
@@ -181,6 +187,7 @@ impl Notes {
             resources: IndexSet::new(alloc),
             lines: Vec::new(alloc),
             blockers: IndexSet::new(alloc),
+            deadlines: Firsts::new(alloc),
         }
     }
 
@@ -199,7 +206,8 @@ impl Notes {
 
     /// Forgets all notes and lines. Takes no memory.
     pub(crate) fn clear(&mut self)
-        ensures { self.new.rows ≡ [] }
+        ensures rows { self.new.rows ≡ [] }
+        ensures deadlines { self.new.deadlines ≡ [] }
     {
         self.rows.clear();
         self.count = 0;
@@ -207,24 +215,29 @@ impl Notes {
         self.resources.clear();
         self.lines.clear();
         self.blockers.clear();
+        self.deadlines.clear();
     }
 
-    /// Notes that a command of a label's task waits, last of all; it has to be looked at. Where memory is refused all notes
-    /// stay as they are.
-    pub(crate) fn push(&mut self, label: Name8) -> Result<(), NoMemory>
+    /// Notes that a command of a label's task waits, last of all; it has to be looked at. `deadline` is the last clock at
+    /// which the task hasn't waited too long. Where memory is refused all notes stay as they are.
+    pub(crate) fn push(&mut self, label: Name8, deadline: u64) -> Result<(), NoMemory>
         ensures rows { self.new.rows ≡ (if is_ok result
             then self.old.rows ++ Some (new_note label) ∷ [] else self.old.rows) }
+        ensures deadlines { self.new.deadlines ≡ (if is_ok result
+            then self.old.deadlines ++ deadline ∷ [] else self.old.deadlines) }
         ensures resources { self.new.resources ≡ self.old.resources }
         ensures blockers { self.new.blockers ≡ self.old.blockers }
     {
         let Some(count) = self.count.checked_add(1) else {
             return Err(NoMemory);
         };
-        self.rows.push(Some(Note {
+        self.rows.reserve(1)?;
+        self.deadlines.push(deadline)?;
+        self.rows.push_reserved(Some(Note {
             label,
             line: None,
             blocker: None,
-        }))?;
+        }));
         self.count = count;
         Ok(())
     }
@@ -243,27 +256,35 @@ impl Notes {
         first
     }
 
-    // The place of the note of a label's task.
-    fn find(&self, label: &Name8) -> Option<usize>
-        ensures found { IfSome result (λ at. (n : NoteValue)
-            × (slice_get self.now.rows at ≡ Some (Some n)) × (n.label ≡ label.now)) }
-        ensures none { IfNone result (HasNone label.now self.now.rows) }
+    /// The place of the first note whose deadline is before a clock, or `None` where none is. Its task has waited too long.
+    pub(crate) fn first_late(&self, now: u64) -> Option<usize>
+        ensures { MatchOption result (All (λ key. now ≤ key) self.now.deadlines)
+            (λ at. IsFirstBelow self.now.deadlines now at) }
     {
-        for at in 0..self.rows.len() {
-            if is_of(&self.rows[at], label) {
-                return Some(at);
-            }
-        }
-        None
+        self.deadlines.first_below(now)
     }
 
-    /// Drops the note of a label's task, if there is one: its command waits no more. Takes no memory.
-    pub(crate) fn remove_of(&mut self, label: &Name8)
-        ensures rows { IsDropped label.now self.old.rows self.new.rows }
+    /// The label of the note at a place.
+    pub(crate) fn label_at(&self, at: usize) -> Name8
+        requires there { (n : NoteValue) × (slice_get self.now.rows at ≡ Some (Some n)) }
+        ensures { (n : NoteValue) → slice_get self.now.rows at ≡ Some (Some n)
+            → result ≡ n.label }
+    {
+        match self.rows[at] {
+            Some(note) => note.label,
+            None => unreachable!(),
+        }
+    }
+
+    /// Drops the note at a place, if a place is given, whose command waits no more. Takes no memory.
+    pub(crate) fn remove_any(&mut self, at: Option<usize>)
+        requires { IfSome at (IsNoteAt self.old) }
+        ensures rows { self.new.rows ≡ without self.old.rows at }
+        ensures deadlines { self.new.deadlines ≡ without_deadline self.old.deadlines at }
         ensures resources { self.new.resources ≡ self.old.resources }
         ensures blockers { self.new.blockers ≡ self.old.blockers }
     {
-        let Some(at) = self.find(label) else {
+        let Some(at) = at else {
             return;
         };
         self.remove(at);
@@ -272,12 +293,15 @@ impl Notes {
     /// Drops the note at a place, whose command waits no more. Takes no memory.
     pub(crate) fn remove(&mut self, at: usize)
         requires there { (n : NoteValue) × (slice_get self.old.rows at ≡ Some (Some n)) }
+        requires timed { at < length self.old.deadlines }
         ensures rows { self.new.rows ≡ slice_set self.old.rows at None }
+        ensures deadlines { self.new.deadlines ≡ slice_set self.old.deadlines at never }
         ensures resources { self.new.resources ≡ self.old.resources }
         ensures blockers { self.new.blockers ≡ self.old.blockers }
     {
         self.rows[at] = None;
         self.count -= 1;
+        self.deadlines.set(at, u64::MAX);
     }
 
     /// The commands that wait for a unit, if there is one, have to be looked at again: it may have given something up.
@@ -288,6 +312,7 @@ impl Notes {
         ensures none { result ≡ false → (self.new.rows ≡ self.old.rows)
             × (self.new.blockers ≡ self.old.blockers) }
         ensures resources { self.new.resources ≡ self.old.resources }
+        ensures deadlines { self.new.deadlines ≡ self.old.deadlines }
     {
         let Some(unit) = unit else {
             return false;
@@ -308,6 +333,7 @@ impl Notes {
         ensures rows { self.new.rows ≡ self.old.rows }
         ensures resources { KeepsResources self.old.resources self.new.resources }
         ensures blockers { KeepsBlockers self.old.blockers self.new.blockers }
+        ensures deadlines { self.new.deadlines ≡ self.old.deadlines }
     {
         self.lines.reserve(1)?;
         let (number, is_new) = self.resources.insert_full(resource)?;
@@ -332,6 +358,7 @@ impl Notes {
         ensures rows { self.new.rows ≡ (if is_ok result
             then slice_set self.old.rows at (Some (alone unit note.now)) else self.old.rows) }
         ensures resources { self.new.resources ≡ self.old.resources }
+        ensures deadlines { self.new.deadlines ≡ self.old.deadlines }
         ensures blockers { self.new.blockers ≡ self.old.blockers }
     {
         self.blockers.insert(unit)?;
@@ -360,6 +387,7 @@ impl Notes {
         ensures blockers { self.new.blockers ≡ (if is_ok result
             then slice_set self.old.blockers line (Some unit) else self.old.blockers) }
         ensures resources { self.new.resources ≡ self.old.resources }
+        ensures deadlines { self.new.deadlines ≡ self.old.deadlines }
     {
         self.blockers.insert(unit)?;
         self.lines[line] = Some(unit);

@@ -193,7 +193,9 @@ impl Region {
     /// The order is that in which the waits began. A task has waited too long once the clock is its
     /// `dtimout` past the begin of its wait; a `dtimout` of 0 is no limit. Its unit of work is backed
     /// out, its wait ends, and so does the task. Takes no memory. Where it answered `None`, and since
-    /// then nobody asked to set the clock, it looks at no wait.
+    /// then nobody asked to set the clock, it looks at no wait; else it finds the task in the logarithm
+    /// of the waits, but for those that began since the last `wake`, which it looks at where no task of
+    /// the others has waited too long.
     pub fn expire(&mut self) -> Option<Expired>
         ensures outcome { result ≡ (expired self.old.machine).outcome }
         ensures machine { self.new.machine ≡ (expired self.old.machine).machine }
@@ -203,13 +205,13 @@ impl Region {
         if self.is_in_time {
             return None;
         }
-        let Some(at) = self.dispatcher.first_late() else {
+        let Some(late) = self.dispatcher.first_late(&self.notes) else {
             self.is_in_time = true;
             return None;
         };
-        let unit = self.dispatcher.unit_at(at);
-        let expired = self.dispatcher.time_out(at);
-        self.notes.remove_of(&expired.label);
+        let unit = self.dispatcher.unit_at(late.task);
+        let expired = self.dispatcher.time_out(late.task);
+        self.notes.remove_any(late.note);
         self.notes.forget(unit);
         self.is_settled = false;
         Some(expired)

@@ -129,7 +129,8 @@ impl Waits {
 
     /// How many commands wait.
     pub(crate) fn len(&self) -> usize
-        ensures { result ≡ length self.now }
+        ensures count { result ≡ length self.now }
+        ensures once { AreApart self.now }
     {
         self.rows.len()
     }

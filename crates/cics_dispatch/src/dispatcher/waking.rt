@@ -13,6 +13,9 @@ ghost use Rattle.cics_dispatch.specs.Steps.{with_outcome};
 ghost use Rattle.cics_dispatch.specs.Notes.{OfWait, IsFound, IsOnlyUse, IsOnlyNeed, OwnerIsAwake};
 ghost use Rattle.cics_dispatch.specs.Notes.{AreNotedNow, IsFirstFree, IsFirstFreeOf, IsFirstOpen};
 ghost use Rattle.cics_dispatch.specs.Notes.{MayClose, UseOf, IsLooked, IsFreeAt, AreSettled, count};
+ghost use Rattle.cics_dispatch.specs.Notes.{IsPlaceOf};
+ghost use Rattle.cics_dispatch.specs.Deadlines.{deadline_of};
+ghost use Rattle.cics_dispatch.specs.Machine.{Task as TaskValue};
 ghost use Rattle.cics_dispatch.specs.Settled.{reads_queue, IsBlocked};
 ghost use Rattle.cics_dispatch.specs.Waits.{AreApart};
 ghost use Rattle.cics_dispatch.specs.Calls.{OfTask, IsAwake, HasReady, KeepsRegion};
@@ -20,7 +23,7 @@ ghost use Rattle.cics_dispatch.specs.Calls.{IsStepOrRefused};
 ghost use Rattle.cics_dispatch.specs.Calls.{IsAttempt, going_on};
 
 use crate::dispatcher::Dispatcher;
-use crate::notes::{Free, Look, Note, Notes};
+use crate::notes::{Free, Late, Look, Note, Notes};
 use crate::outcomes::{Attempt, Expired, Outcome, Woken};
 use crate::waits::{Suspended, Waits};
 use cics_enqueue::{Resource, UnitId};
@@ -241,7 +244,18 @@ impl Dispatcher {
         self.note_behind(notes)
     }
 
-    // The same, whatever the places are.
+    // The last clock at which the task of a waiting command hasn't waited too long.
+    fn deadline(&self, wait: &Suspended) -> u64
+        ensures { (t : TaskValue) → task_at self.now.machine.tasks wait.now.label ≡ Some t
+            → result ≡ deadline_of t wait.now.since }
+    {
+        match self.tasks.find(&wait.label()) {
+            Some(at) => self.tasks.get(at).deadline(wait.since()),
+            None => u64::MAX,
+        }
+    }
+
+    // Makes a note of each waiting command that has none yet, whatever the places are.
     fn note_behind(&self, notes: &mut Notes) -> Result<(), NoMemory>
         requires noted { AreNotedNow self.now.machine notes.old }
         ensures noted { AreNotedNow self.now.machine notes.new }
@@ -249,13 +263,16 @@ impl Dispatcher {
         ensures once { AreApart self.now.machine.waiting }
     {
         let noted = notes.count();
+        if noted == self.waits.len() {
+            return Ok(());
+        }
         let mut passed = 0;
         for wait in self.waits.iter() {
             if passed < noted {
                 passed += 1;
                 continue;
             }
-            notes.push(wait.label())?;
+            notes.push(wait.label(), self.deadline(wait))?;
         }
         Ok(())
     }
@@ -358,14 +375,12 @@ impl Dispatcher {
         }
     }
 
-    /// The place of the first task that has waited too long, in the order in which the waits began. A task has waited too
-    /// long once the clock is its `dtimout` past the begin of its wait; a `dtimout` of 0 is no limit.
-    pub(crate) fn first_late(&self) -> Option<usize>
+    // The place of the first task that has waited too long. Each wait is looked at.
+    fn first_late_of_all(&self) -> Option<usize>
         ensures task { IfSome result (λ at. slice_get self.now.machine.tasks at
             ≡ first_late self.now.machine self.now.machine.waiting) }
         ensures within { IfSome result (λ at. at < length self.now.machine.tasks) }
         ensures none { IfNone result (first_late self.now.machine self.now.machine.waiting ≡ None) }
-        ensures once { AreApart self.now.machine.waiting }
     {
         for wait in self.waits.iter() {
             if let Some(at) = self.late(wait) {
@@ -373,6 +388,38 @@ impl Dispatcher {
             }
         }
         None
+    }
+
+    /// The first task that has waited too long, in the order in which the waits began. A task has waited too long once the
+    /// clock is its `dtimout` past the begin of its wait; a `dtimout` of 0 is no limit.
+    ///
+    /// The notes are of a front of the waits. So where a deadline of them has come the first of them is the first of all, and
+    /// waits are looked at only where none has and some waits have no note.
+    pub(crate) fn first_late(&self, notes: &Notes) -> Option<Late>
+        requires noted { AreNotedNow self.now.machine notes.now }
+        ensures task { IfSome result (λ late. slice_get self.now.machine.tasks late.task
+            ≡ first_late self.now.machine self.now.machine.waiting) }
+        ensures within { IfSome result (λ late. late.task < length self.now.machine.tasks) }
+        ensures note { IfSome result (λ late. OfTask self.now.machine.tasks late.task
+            (λ t. IsPlaceOf t.label notes.now.rows late.note)) }
+        ensures none { IfNone result (first_late self.now.machine self.now.machine.waiting ≡ None) }
+        ensures once { AreApart self.now.machine.waiting }
+    {
+        let are_all_noted = notes.count() == self.waits.len();
+        let Some(place) = notes.first_late(self.clock) else {
+            if are_all_noted {
+                return None;
+            }
+            let task = self.first_late_of_all()?;
+            return Some(Late { task, note: None });
+        };
+        let Some(task) = self.tasks.find(&notes.label_at(place)) else {
+            unreachable!();
+        };
+        Some(Late {
+            task,
+            note: Some(place),
+        })
     }
 
     /// Abends the task at a place, which is the first that has waited too long, by the code AKCS. Its unit of work is

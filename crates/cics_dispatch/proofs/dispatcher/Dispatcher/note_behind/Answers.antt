@@ -1,7 +1,9 @@
 use Rattle.std.proofs.Common.{◌≡◌, ◌+◌, ◌-◌, ◌∙◌, ◌∷◌, ◌++◌, [], Some, ap, suc, sym, subst, length, drop, arith}
 use Rattle.cics_dispatch.specs.Notes.{new_note, count}
+use Rattle.cics_dispatch.specs.Regions.{IsRegionKept}
 use Rattle.cics_dispatch.specs.Waits.{AreApart}
 use Rattle.cics_dispatch.proofs.FiledNotes.{count_push}
+use Rattle.cics_dispatch.proofs.Deadlines.{due_push, due_new}
 use Rattle.cics_dispatch.proofs.Noted.{noted_as, noted_few, noted_push, drop_next, drop_none}
 use Rattle.cics_dispatch.proofs.dispatcher.Dispatcher.note_behind.Goals as goal
 
@@ -43,12 +45,18 @@ loop-wait-preserved c =
     let more = before.more in
     let here : count v.rows ≡ c.loop-wait.passed + (count v.rows - noted) = omega (arith, few, more, c.if-passed-noted.false) in
     let behind : drop (count v.rows) ws ≡ w ∷ c.next.new.self = ap (λ k. drop k ws) here ∙ before.rest ∙ c.in-Some.ensures.steps in
-    let pushed = noted_push m v.resources v.blockers v.rows ws c.next.new.self w before.noted behind in
+    let pushed = noted_push m v.resources v.blockers v.rows ws c.next.new.self w before.noted.noted behind in
+    let key = c.deadline.result in
+    let kept = (subst IsRegionKept c.self.view_is c.self.invariant).tasks.waits in
+    let is_due = due_new m (count v.rows) c.next.new.self w key kept behind (λ t there. c.deadline.ensures t there) in
+    let due = due_push m.tasks v.rows ws c.next.new.self v.deadlines (new_note w.label) w key before.noted.due behind is_due in
     let rows : c.push.new.self.rows ≡ v.rows ++ Some (new_note w.label) ∷ [] = c.in_ok-push.ensures.rows ∙ ap (λ l. v.rows ++ Some (new_note l) ∷ []) c.label.ensures in
     let grown : count c.push.new.self.rows ≡ suc (count v.rows) = ap count rows ∙ count_push v.rows (new_note w.label) in
     let there : c.loop-wait.passed + (count c.push.new.self.rows - noted) ≡ count c.push.new.self.rows = omega (arith, few, more, grown, c.if-passed-noted.false) in
     record {
-      noted = noted_as m c.push.new.self v.resources v.blockers (v.rows ++ Some (new_note w.label) ∷ []) c.in_ok-push.ensures.resources c.in_ok-push.ensures.blockers rows pushed.0;
+      noted =
+          noted_as m c.push.new.self v.resources v.blockers (v.rows ++ Some (new_note w.label) ∷ []) (v.deadlines ++ key ∷ []) c.in_ok-push.ensures.resources c.in_ok-push.ensures.blockers rows c.in_ok-push.ensures.deadlines pushed.0
+          due;
       few = few;
       more = omega (arith, more, grown);
       rest = ap (λ k. drop k ws) (there ∙ ap count rows) ∙ pushed.1;
@@ -62,7 +70,7 @@ returns c =
     let v = c.loop-wait.notes in
     let few = before.few in
     let more = before.more in
-    let within = noted_few m v.resources v.blockers v.rows ws before.noted in
+    let within = noted_few m v.resources v.blockers v.rows ws before.noted.noted in
     let all = drop_none (c.loop-wait.passed + (count v.rows - c.count-noted.result)) ws (before.rest ∙ c.in-None.ensures.steps.0) in
     record {
       noted = before.noted;

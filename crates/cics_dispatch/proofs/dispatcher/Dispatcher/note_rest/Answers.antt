@@ -8,6 +8,6 @@ pub note_behind-requires : goal.note_behind-requires
 note_behind-requires c =
     let m = c.args.self.now.machine in
     elim c.if-have_grown.branch [
-      | then-have_grown w ↦ record { noted = noted_empty m c.if-have_grown.notes (ap (λ v. v.rows) w.notes-is ∙ w.clear.ensures) }
+      | then-have_grown w ↦ record { noted = noted_empty m c.if-have_grown.notes (ap (λ v. v.rows) w.notes-is ∙ w.clear.ensures.rows) (ap (λ v. v.deadlines) w.notes-is ∙ w.clear.ensures.deadlines) }
       | else-have_grown w ↦ record { noted = subst (AreNotedNow m) (sym w.notes-is) c.requires.noted }
     ]

@@ -1,11 +1,11 @@
 use Rattle.std.proofs.Common.{◌≡◌, ◌∙◌, sym, ap, subst, map, Some}
-use Rattle.cics_dispatch.specs.Machine.{not_waiting}
-use Rattle.cics_dispatch.specs.Notes.{given_up, AreNoted}
+use Rattle.cics_dispatch.specs.Notes.{given_up, forgotten, without, without_deadline, IsPlaceOf}
 use Rattle.cics_dispatch.specs.Waking.{expired, first_late}
+use Rattle.cics_dispatch.proofs.Deadlines.{due_dropped}
 use Rattle.cics_dispatch.proofs.Noted.{noted_dropped}
 use Rattle.cics_dispatch.specs.Answers.{IsHeadlineRegion}
 use Rattle.cics_dispatch.proofs.RegionSteps.{task_there}
-use Rattle.cics_dispatch.proofs.RegionRemembers.{expired_in_time, remembered_early, remembered_expired, told_label}
+use Rattle.cics_dispatch.proofs.RegionRemembers.{expired_in_time, remembered_early, remembered_expired, note_at}
 use Rattle.cics_dispatch.specs.First.{IsFirstTooLate}
 use Rattle.cics_dispatch.proofs.FirstWaits.{first_expired}
 use Rattle.cics_dispatch.proofs.regions.Region.expire.Goals as goal
@@ -30,22 +30,32 @@ invariant_of-self c =
     let u = c.self.inside in
     (c.self.invariant.0, remembered_early u.dispatcher.machine u.notes u.is_settled u.is_in_time c.self.invariant.1 c.in_default.ensures.none)
 
+pub remove_any-requires : goal.remove_any-requires
+remove_any-requires c =
+    let u = c.self.inside in
+    let m = u.dispatcher.machine in
+    let late = c.in-Some.late in
+    task_there m.tasks late.task c.in-Some.ensures.within (λ t there. note_at m u.notes t.label late.note c.self.invariant.1.noted (c.in-Some.ensures.note t there))
+
 pub invariant_of-self-2 : goal.invariant_of-self-2
 invariant_of-self-2 c =
     let u = c.self.inside in
     let m = u.dispatcher.machine in
+    let v = u.notes in
     let n = c.time_out-expired.new.self.machine in
-    let e = c.time_out-expired.result in
-    let mid = c.remove_of.new.self in
+    let late = c.in-Some.late in
+    let mid = c.remove_any.ensures in
+    let new = c.forget.ensures in
     let unit = c.unit_at-unit.result in (
       c.time_out-expired.ensures.kept c.self.invariant.0,
-      task_there m.tasks c.in-Some.at c.in-Some.ensures.within (λ t there.
+      task_there m.tasks late.task c.in-Some.ensures.within (λ t there.
           let first : first_late m m.waiting ≡ Some t = sym c.in-Some.ensures.task ∙ there in
-          let noted = noted_dropped m u.notes.resources u.notes.blockers e.label u.notes.rows mid.rows m.waiting c.in-Some.ensures.once c.self.invariant.1.noted c.remove_of.ensures.rows in
-          remembered_expired m n u.notes c.forget.new.self mid.rows u.is_in_time t unit c.self.invariant.0.tasks
-          (subst (λ l. AreNoted m u.notes.resources u.notes.blockers mid.rows (not_waiting m.waiting l)) (told_label m n e t c.time_out-expired.ensures.step first) noted) first (c.unit_at-unit.ensures.unit t there)
-          (ap (λ s. s.machine) c.time_out-expired.ensures.step) c.forget.ensures.rows (c.forget.ensures.blockers ∙ ap (map (given_up unit)) c.remove_of.ensures.blockers)
-          (c.forget.ensures.resources ∙ c.remove_of.ensures.resources) c.if-self.false),
+          let place : IsPlaceOf t.label v.rows late.note = c.in-Some.ensures.note t there in
+          let noted = noted_dropped m v.resources v.blockers t.label v.rows m.waiting late.note c.in-Some.ensures.once place c.self.invariant.1.noted.noted in
+          let due = due_dropped m.tasks t.label v.rows m.waiting v.deadlines late.note c.in-Some.ensures.once place c.self.invariant.1.noted.due in
+          remembered_expired m n v c.forget.new.self (without v.rows late.note) (without_deadline v.deadlines late.note) u.is_in_time t unit c.self.invariant.0.tasks noted due first
+          (c.unit_at-unit.ensures.unit t there) (ap (λ s. s.machine) c.time_out-expired.ensures.step) (new.rows ∙ ap (map (forgotten unit)) mid.rows) (new.blockers ∙ ap (map (given_up unit)) mid.blockers)
+          (new.resources ∙ mid.resources) (new.deadlines ∙ mid.deadlines) c.if-self.false),
     )
 
 pub returns-clause-first : goal.returns-clause-first

@@ -27,5 +27,5 @@ invariant_of-self-2 c =
       remembered_issued u.dispatcher.machine c.issue.new.self.machine c.args.label c.args.command outcome u.notes forgot.new.self u.is_settled u.is_in_time
           forgot.result c.is_waiting-waits.result c.stays_settled-self-inside.result c.unit_of-unit.result c.giving_up.result c.self.invariant.0.tasks c.self.invariant.1 (λ t there. c.unit_of-unit.ensures t there)
           c.in_ok-outcome.ensures.step.0 c.in_ok-outcome.ensures.step.1 (c.giving_up.ensures ∙ (λ i. if c.is_keeping-keeps.ensures i && goes_on outcome then None else c.unit_of-unit.result))
-          forgot.ensures.rows forgot.ensures.blockers forgot.ensures.none forgot.ensures.resources c.is_waiting-waits.ensures c.stays_settled-self-inside.ensures,
+          forgot.ensures.rows forgot.ensures.blockers forgot.ensures.none forgot.ensures.resources forgot.ensures.deadlines c.is_waiting-waits.ensures c.stays_settled-self-inside.ensures,
     )

@@ -7,7 +7,7 @@ pub invariant_of-result : goal.invariant_of-result
 invariant_of-result c = (
   c.in_ok-dispatcher.ensures.kept,
   record {
-    noted = noted_empty _ c.new-2.result c.new-2.ensures;
+    noted = noted_empty _ c.new-2.result c.new-2.ensures.rows c.new-2.ensures.deadlines;
     settled = λ y. absurd (false≢true y);
     in_time = λ y. absurd (false≢true y);
   },

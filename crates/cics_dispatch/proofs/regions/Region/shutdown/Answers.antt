@@ -9,5 +9,5 @@ pub invariant_of-self : goal.invariant_of-self
 invariant_of-self c =
     let m = c.self.inside.dispatcher.machine in (
       c.shut_down-count.ensures.kept c.self.invariant.0,
-      remembered_alone c.shut_down-count.new.self.machine c.clear.new.self c.clear.ensures (ap (λ s. s.machine.waiting) c.shut_down-count.ensures.machine ∙ ended_waiting (with_waiting m []) m.tasks),
+      remembered_alone c.shut_down-count.new.self.machine c.clear.new.self c.clear.ensures.rows c.clear.ensures.deadlines (ap (λ s. s.machine.waiting) c.shut_down-count.ensures.machine ∙ ended_waiting (with_waiting m []) m.tasks),
     )
