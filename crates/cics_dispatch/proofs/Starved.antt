@@ -139,10 +139,10 @@ entered_starved s u op a free = record { starved = λ own h q live is. entered_o
 -- ---- The other steps
 
 -- another history with the same commands and no more endings
-starved_yet : (s : UnitsState) (outcomes : List UnitState) (reads : List UpdateRead) (counts : List EnqCount) (next : Map ℕ) →
+starved_yet : (s : UnitsState) (outcomes : List UnitState) (commits : List ℕ) (reads : List UpdateRead) (counts : List EnqCount) (next : Map ℕ) →
     ((fin : Outcomes) → Extends (outcome_of outcomes) fin → Extends (outcome_of s.outcomes) fin) → (own : Option ℕ) (h : ℕ) (q : Bytes) → IsStarved s own h q →
-    IsStarved (record { opening = s.opening; trace = s.trace; outcomes = outcomes; reads = reads; counts = counts; next = next }) own h q
-starved_yet s outcomes reads counts next fewer own h q is = record {
+    IsStarved (record { opening = s.opening; trace = s.trace; outcomes = outcomes; commits = commits; reads = reads; counts = counts; next = next }) own h q
+starved_yet s outcomes commits reads counts next fewer own h q is = record {
   logical = is.logical;
   writes = is.writes;
   nothing = λ fin ends gone kept. is.nothing fin (fewer fin ends) gone kept;
@@ -156,29 +156,29 @@ starved_all s = record { starved = λ own h q live is. is }
 pub counted_starved : (s : UnitsState) (u : Option ℕ) (counts : List EnqCount) → LeavesStarved s (with_counts s (outcomes_with u s.outcomes) counts)
 counted_starved s u counts = record {
   starved = λ own h q live is.
-      starved_yet s (outcomes_with u s.outcomes) s.reads counts s.next
+      starved_yet s (outcomes_with u s.outcomes) s.commits s.reads counts s.next
       (λ fin ends n shut. ends n (ap is_open (outcome_of-with u s.outcomes n) ∙ shut) ∙ outcome_of-with u s.outcomes n) own h q is;
 }
 
 -- DEQ
 pub dequeued_starved : (s : UnitsState) (u : ℕ) (value : Bytes) → LeavesStarved s (after_dequeue s u value)
-dequeued_starved s u value = record { starved = λ own h q live is. starved_yet s s.outcomes s.reads (after_dequeue s u value).counts s.next (λ fin ends. ends) own h q is }
+dequeued_starved s u value = record { starved = λ own h q live is. starved_yet s s.outcomes s.commits s.reads (after_dequeue s u value).counts s.next (λ fin ends. ends) own h q is }
 
 -- UNLOCK
 pub unlocked_starved : (s : UnitsState) (u : ℕ) (f : Bytes) → LeavesStarved s (after_unlock s u f)
-unlocked_starved s u f = record { starved = λ own h q live is. starved_yet s s.outcomes (after_unlock s u f).reads s.counts s.next (λ fin ends. ends) own h q is }
+unlocked_starved s u f = record { starved = λ own h q live is. starved_yet s s.outcomes s.commits (after_unlock s u f).reads s.counts s.next (λ fin ends. ends) own h q is }
 
 -- READQ TS
 pub item_read_starved : (s : UnitsState) (q : Bytes) (item : ℕ) → LeavesStarved s (after_ts_reading s q item)
 item_read_starved s q item =
-    item_read_is (λ n. LeavesStarved s n) s q item (starved_all s) (record { starved = λ own h r live is. starved_yet s s.outcomes s.reads s.counts _ (λ fin ends. ends) own h r is })
+    item_read_is (λ n. LeavesStarved s n) s q item (starved_all s) (record { starved = λ own h r live is. starved_yet s s.outcomes s.commits s.reads s.counts _ (λ fin ends. ends) own h r is })
 
 -- the end of a task's unit, if it has one
 pub closed_starved : (s : UnitsState) (u : Option ℕ) (outcome : UnitState) → may_act s u ≡ true → (own : Option ℕ) (h : ℕ) (q : Bytes) → IsStarved s own h q → IsStarved (units_after s u outcome) own h q
 closed_starved s None outcome acts own h q is = is
 closed_starved s (Some u) outcome acts own h q is =
     let after = after_end s u outcome in
-    starved_yet s after.outcomes after.reads after.counts after.next fewer own h q is
+    starved_yet s after.outcomes after.commits after.reads after.counts after.next fewer own h q is
   where
     fewer : (fin : Outcomes) → Extends (outcome_of (after_end s u outcome).outcomes) fin → Extends (outcome_of s.outcomes) fin
     fewer fin ends n shut =
