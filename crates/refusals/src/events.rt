@@ -144,11 +144,11 @@ fn is_td(verb: &Verb) -> bool {
 }
 
 // Whether it is the checks that answer a command so: whether it may be issued, whether its file or queue is defined,
-// lengths, update reads and browses. At a LENGERR with what was read, and where a value is held too often, more came before.
+// lengths, update reads and browses. A LENGERR of what was read, and an INVREQ where a value is held too often, come later.
 fn is_of_checks(verb: &Verb, answer: &str) -> bool {
     answer.contains(" REFUSED ")
         || answer.contains(" DSIDERR ")
-        || (answer.contains(" LENGERR ") && !answer.contains(" DATA "))
+        || (answer.contains(" LENGERR ") && verb.length().is_none())
         || (answer.contains(" INVREQ ") && !matches!(verb, Verb::Enq { .. }))
         || (answer.contains(" QIDERR ") && is_td(verb))
 }
