@@ -20,7 +20,3 @@ listed = record { no_list = false; replay = false; serial = false }
 -- and the replay behind the listing
 abbrev pub replayed : Options
 replayed = record { no_list = false; replay = true; serial = false }
-
--- the serial run alone stands behind the journal
-abbrev pub serial_alone : Options
-serial_alone = record { no_list = true; replay = false; serial = true }

@@ -1,11 +1,11 @@
 //! A run between two reads.
 
-ghost use Rattle.std.specs.Prelude.{◌≡◌, true, [], ◌++◌, ◌+◌, ◌<◌, ◌≤◌, ◌^◌, length};
+ghost use Rattle.std.specs.Prelude.{◌≡◌, true, [], ◌++◌, ◌+◌, ◌<◌, ◌≤◌, ◌^◌, length, if◌then◌else◌};
 ghost use Rattle.std.specs.Prelude.{IfOk, OnOk, OnErr};
 ghost use Rattle.std.specs.List.{prefix_len};
 ghost use Rattle.std.specs.Io.BufRead.{strip_last};
 ghost use Rattle.cics_run.specs.Lines.{is_in_line};
-ghost use Rattle.cics_run.specs.Stages.{step, first_stage};
+ghost use Rattle.cics_run.specs.Stages.{step, first_stage, listing_at, replay_at, serial_at};
 ghost use Rattle.cics_run.specs.declared.stage.Stage.TheVariants.{Running};
 ghost use Rattle.cics_run.specs.Printing.{AppendsFront, Prints};
 ghost use Rattle.std.specs.Io.KnownBytes.{Appends};
@@ -232,19 +232,44 @@ fn push_ending(stage: &mut Stage, options: Options, out: &mut Vec<u8>) -> Result
     }
 }
 
-// Prints the listing of a region, unless it is left out, and the replay and the serial run, where
-// they are asked for.
+// Prints the listing of a region, unless it is left out.
+fn push_listed(region: &Region, no_list: bool, out: &mut Vec<u8>) -> Result<(), NoMemory>
+    ensures { OnOk result (out.new.items
+        ≡ out.old.items ++ (if no_list then [] else listing_at (Running region.now))) }
+{
+    if no_list {
+        return Ok(());
+    }
+    push_listing(out, &region.listing()?)
+}
+
+// Prints the replay of a region's history, where it is asked for.
+fn push_replayed(region: &Region, replay: bool, out: &mut Vec<u8>) -> Result<(), NoMemory>
+    ensures { OnOk result (out.new.items
+        ≡ out.old.items ++ (if replay then replay_at (Running region.now) else [])) }
+{
+    if !replay {
+        return Ok(());
+    }
+    push_replay(out, &region.replayed()?)
+}
+
+// Prints the serial run of a region's units, where it is asked for.
+fn push_serial_run(region: &Region, serial: bool, out: &mut Vec<u8>) -> Result<(), NoMemory>
+    ensures { OnOk result (out.new.items
+        ≡ out.old.items ++ (if serial then serial_at (Running region.now) else [])) }
+{
+    if !serial {
+        return Ok(());
+    }
+    push_serial(out, region.units())
+}
+
+// Prints what is asked for of the listing of a region, the replay and the serial run.
 fn push_lists(region: &Region, options: Options, out: &mut Vec<u8>) -> Result<(), NoMemory>
     ensures { OnOk result (out.new.items ≡ out.old.items ++ ending options (Running region.now)) }
 {
-    if !options.no_list {
-        push_listing(out, &region.listing()?)?;
-    }
-    if options.replay {
-        push_replay(out, &region.replayed()?)?;
-    }
-    if options.serial {
-        push_serial(out, region.units())?;
-    }
-    Ok(())
+    push_listed(region, options.no_list, out)?;
+    push_replayed(region, options.replay, out)?;
+    push_serial_run(region, options.serial, out)
 }

@@ -169,6 +169,8 @@ fn copy_plain(alloc: Global, encoding: Encoding, plain: &[u8]) -> Result<Vec<u8>
     ensures { IfOk result (λ text. text.items ≡ encoded_text encoding plain.now) }
 {
     let mut text = Vec::new(alloc);
+    // All the room is asked for first: where it is refused `extend` would make do with less.
+    text.reserve(plain.len())?;
     push_plain(&mut text, encoding, plain)?;
     Ok(text)
 }

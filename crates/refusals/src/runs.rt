@@ -25,6 +25,8 @@ pub(crate) enum Stop {
     Otherwise(usize),
     /// This call was refused, and changed something.
     Changed(usize),
+    /// Of this event and of what then went on by itself came these lines, and not those that the script says.
+    Came(usize, String),
     /// What stands at the end isn't what the plain replay gives.
     NotReplayed,
     /// There was no memory for what is compared.

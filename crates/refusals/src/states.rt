@@ -2,7 +2,7 @@
 
 use crate::calls::{Call, Step};
 use crate::guarded_calls::{is_open, is_open_or_none, is_ready};
-use crate::texts::{outcome_word, push_bytes, push_entry, push_listing, push_name};
+use crate::texts::{Letters, outcome_word, push_bytes, push_entry, push_listing, push_name};
 use cics_enqueue::UnitId;
 use cics_names::{Name8, NoMemory};
 use cics_units::{Listing, Op, Opening, Units, plain_replay};
@@ -79,8 +79,27 @@ fn push_unit(
     for (file, _, _) in listing.files.as_slice() {
         if let Some(key) = units.open_read(unit, file) {
             push_name(text, &file.bytes())?;
-            push_bytes(text, key)?;
+            push_bytes(text, key, Letters::Ascii)?;
         }
+    }
+    Ok(())
+}
+
+/// Puts at the end the files and queues of a listing, the executed commands with their answers, and how each unit stands,
+/// with what it has read for update.
+pub(crate) fn push_units(
+    text: &mut String,
+    units: &Units,
+    listing: &Listing,
+) -> Result<(), NoMemory> {
+    push_listing(text, listing, Letters::Ascii)?;
+    for entry in units.trace() {
+        text.push('\n')?;
+        push_entry(text, entry)?;
+    }
+    for (number, outcome) in units.outcomes().iter().enumerate() {
+        push_unit(text, units, number as u64, listing)?;
+        text.push_str(outcome_word(*outcome))?;
     }
     Ok(())
 }
@@ -89,16 +108,7 @@ fn push_unit(
 /// update reads, and of each of these calls who would wait for whom, and the NEXT place.
 pub(crate) fn state_of(alloc: Global, units: &Units, steps: &[Step]) -> Result<String, NoMemory> {
     let mut text = String::new(alloc);
-    let listing = units.listing()?;
-    push_listing(&mut text, &listing)?;
-    for entry in units.trace() {
-        text.push('\n')?;
-        push_entry(&mut text, entry)?;
-    }
-    for (number, outcome) in units.outcomes().iter().enumerate() {
-        push_unit(&mut text, units, number as u64, &listing)?;
-        text.push_str(outcome_word(*outcome))?;
-    }
+    push_units(&mut text, units, &units.listing()?)?;
     for step in steps {
         push_call(&mut text, units, &step.call)?;
     }
@@ -109,7 +119,7 @@ pub(crate) fn state_of(alloc: Global, units: &Units, steps: &[Step]) -> Result<S
 pub(crate) fn replay_of(alloc: Global, units: &Units) -> Result<String, NoMemory> {
     let mut text = String::new(alloc);
     let listing = plain_replay(alloc, units.opening(), units.trace(), units.outcomes())?;
-    push_listing(&mut text, &listing)?;
+    push_listing(&mut text, &listing, Letters::Ascii)?;
     Ok(text)
 }
 
@@ -117,7 +127,7 @@ pub(crate) fn replay_of(alloc: Global, units: &Units) -> Result<String, NoMemory
 pub(crate) fn opening_of(alloc: Global, opening: &Opening) -> Result<String, NoMemory> {
     let mut text = String::new(alloc);
     let listing = plain_replay(alloc, opening, &[], &[])?;
-    push_listing(&mut text, &listing)?;
+    push_listing(&mut text, &listing, Letters::Ascii)?;
     for prefix in opening.prefixes() {
         push_name(&mut text, &prefix.bytes())?;
     }

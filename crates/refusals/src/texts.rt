@@ -25,10 +25,54 @@ pub(crate) fn push_name(text: &mut String, name: &[u8]) -> Result<(), NoMemory> 
     Ok(())
 }
 
-/// Puts bytes at the end, behind a blank and in quotes.
-pub(crate) fn push_bytes(text: &mut String, bytes: &[u8]) -> Result<(), NoMemory> {
-    write!(text, " '{}'", bytes.escape_ascii())?;
+/// In which code the letters of records stand.
+#[derive(Clone, Copy, Debug, PartialEq, Eq)]
+pub(crate) enum Letters {
+    Ascii,
+    Ebcdic,
+}
+
+// Puts bytes at the end in hexadecimal.
+fn push_hexadecimal(text: &mut String, bytes: &[u8]) -> Result<(), NoMemory> {
+    text.push_str(" X'")?;
+    for byte in bytes {
+        write!(text, "{byte:02X}")?;
+    }
     Ok(())
+}
+
+// Puts bytes at the end as the characters that they are the codes of, each quote twice.
+fn push_characters(text: &mut String, codes: &[u8]) -> Result<(), NoMemory> {
+    text.push_str(" '")?;
+    for code in codes {
+        match from_ebcdic(*code) {
+            Some('\'') => text.push_str("''")?,
+            Some(character) => text.push(character)?,
+            None => {}
+        }
+    }
+    Ok(())
+}
+
+/// Puts bytes at the end, behind a blank and in quotes. In EBCDIC they stand in hexadecimal where one of them is the code
+/// of no character.
+pub(crate) fn push_bytes(
+    text: &mut String,
+    bytes: &[u8],
+    letters: Letters,
+) -> Result<(), NoMemory> {
+    match letters {
+        Letters::Ascii => write!(text, " '{}", bytes.escape_ascii())?,
+        Letters::Ebcdic if has_characters(bytes) => push_characters(text, bytes)?,
+        Letters::Ebcdic => push_hexadecimal(text, bytes)?,
+    }
+    text.push('\'')?;
+    Ok(())
+}
+
+// Whether each byte is the code of a character.
+fn has_characters(codes: &[u8]) -> bool {
+    codes.iter().all(|code| from_ebcdic(*code).is_some())
 }
 
 // Puts a number at the end, behind a blank.
@@ -38,9 +82,13 @@ fn push_number(text: &mut String, number: u64) -> Result<(), NoMemory> {
 }
 
 // Puts each record at the end.
-fn push_records(text: &mut String, records: &Items<Record>) -> Result<(), NoMemory> {
+fn push_records(
+    text: &mut String,
+    records: &Items<Record>,
+    letters: Letters,
+) -> Result<(), NoMemory> {
     for record in records.as_slice() {
-        push_bytes(text, record.bytes())?;
+        push_bytes(text, record.bytes(), letters)?;
     }
     text.push(';')?;
     Ok(())
@@ -51,12 +99,13 @@ fn push_listed(
     text: &mut String,
     kind: &str,
     listed: &Items<(Name8, bool, Items<Record>)>,
+    letters: Letters,
 ) -> Result<(), NoMemory> {
     for (name, recoverable, records) in listed.as_slice() {
         text.push_str(kind)?;
         push_name(text, &name.bytes())?;
         text.push_str(if *recoverable { "" } else { " unrecoverable" })?;
-        push_records(text, records)?;
+        push_records(text, records, letters)?;
     }
     Ok(())
 }
@@ -70,14 +119,18 @@ fn recovery_word(recovery: Recovery) -> &'static str {
 }
 
 /// Puts a listing at the end: files, temporary storage and transient data, each with its records.
-pub(crate) fn push_listing(text: &mut String, listing: &Listing) -> Result<(), NoMemory> {
-    push_listed(text, " file", &listing.files)?;
-    push_listed(text, " ts", &listing.ts)?;
+pub(crate) fn push_listing(
+    text: &mut String,
+    listing: &Listing,
+    letters: Letters,
+) -> Result<(), NoMemory> {
+    push_listed(text, " file", &listing.files, letters)?;
+    push_listed(text, " ts", &listing.ts, letters)?;
     for (name, recovery, records) in listing.td.as_slice() {
         text.push_str(" td")?;
         push_name(text, &name.bytes())?;
         text.push_str(recovery_word(*recovery))?;
-        push_records(text, records)?;
+        push_records(text, records, letters)?;
     }
     Ok(())
 }
@@ -92,7 +145,7 @@ fn push_command(
     text.push_str(word)?;
     push_name(text, name)?;
     for part in bytes {
-        push_bytes(text, part)?;
+        push_bytes(text, part, Letters::Ascii)?;
     }
     Ok(())
 }
@@ -141,7 +194,7 @@ fn push_answer(text: &mut String, answer: &Answer, unit: Option<u64>) -> Result<
         write!(text, " number {number}")?;
     }
     if let Some(content) = &answer.content {
-        push_bytes(text, content.bytes())?;
+        push_bytes(text, content.bytes(), Letters::Ascii)?;
     }
     Ok(())
 }
@@ -181,7 +234,7 @@ pub(crate) fn told_text(alloc: Global, told: &Told) -> Result<String, NoMemory> 
         Told::Enqueued(Enqueued::MustWait(holder)) => write!(text, "waits {}", holder.number())?,
         Told::Enqueued(Enqueued::CountFull) => text.push_str("full")?,
         Told::Read(answer) => push_answer(&mut text, answer, None)?,
-        Told::Listed(listing) => push_listing(&mut text, listing)?,
+        Told::Listed(listing) => push_listing(&mut text, listing, Letters::Ascii)?,
         Told::Nothing => {}
         Told::MayNot => text.push_str("no")?,
     }
