@@ -1,5 +1,5 @@
 -- Task control: what is known of the waiting commands stays right over the steps of a region.
-use Rattle.std.specs.Prelude.{◌≡◌, ◌≢◌, ℕ, ◌≤◌, Bool, true, false, not, cond, Option, Some, None, is_some, map, take, drop, List, [], ◌∷◌, ◌++◌, length, slice_get, slice_set, refl}
+use Rattle.std.specs.Prelude.{◌≡◌, ◌+◌, ◌≢◌, ℕ, ◌≤◌, Bool, true, false, not, cond, Option, Some, None, is_some, map, take, drop, List, [], ◌∷◌, ◌++◌, length, slice_get, slice_set, refl}
 use Rattle.std.proofs.Common.{zero, suc, inl, inr, sym, ap, ◌∙◌, subst, arith}
 use Rattle.std.proofs.lemmas.Bool.{false≢true, true≢false, eq-eqb, false_from_ne_true}
 use Rattle.cics_names.specs.Keyed.{Bytes, is_same}
@@ -98,6 +98,13 @@ pub drop_none : (k : ℕ) (ws : List Suspended) → drop k ws ≡ [] → length 
 drop_none k [] none = omega arith
 drop_none zero (w ∷ ws) none = cc
 drop_none (suc k) (w ∷ ws) none = let rest = drop_none k ws none in omega (arith, rest)
+
+-- the last one is behind all others
+pub drop_last : (ws : List Suspended) (k : ℕ) (w : Suspended) → k + 1 ≡ length ws → slice_get ws k ≡ Some w → drop k ws ≡ w ∷ []
+drop_last [] k w all there = cc
+drop_last (v ∷ []) zero w all there = let same : v ≡ w = cc in ap (λ x. x ∷ []) same
+drop_last (v ∷ x ∷ ws) zero w all there = absurd (omega (arith, all))
+drop_last (v ∷ ws) (suc k) w all there = drop_last ws k w (omega (arith, all)) there
 
 -- ---- The first that has to be looked at
 

@@ -1,7 +1,7 @@
 //! The commands of a region that wait.
 
 ghost use Rattle.std.specs.Prelude.{◌≡◌, ◌↔◌, [], ◌∷◌, ◌++◌, false, length, IsTrue, OnOk, OnErr};
-ghost use Rattle.std.specs.Prelude.{IfSome};
+ghost use Rattle.std.specs.Prelude.{◌-◌, Some, IfSome, IfNone, slice_get};
 ghost use Rattle.std.specs.Option.{option_copied};
 ghost use Rattle.std.specs.Map.Iter.{ShowsInOrder, deref};
 ghost use Rattle.cics_dispatch.specs.Machine.{is_waiting, not_waiting};
@@ -166,6 +166,17 @@ impl Waits {
         ensures once { AreApart self.now }
     {
         self.rows.values()
+    }
+
+    /// The wait that began last, or `None` where no command waits.
+    pub(crate) fn last(&self) -> Option<&Suspended>
+        ensures last { IfSome result (λ wait.
+            slice_get self.now (length self.now - 1) ≡ Some wait.now) }
+        ensures none { IfNone result (self.now ≡ []) }
+        ensures once { AreApart self.now }
+    {
+        let (_, wait) = self.rows.last_key_value()?;
+        Some(wait)
     }
 
     /// Adds the wait of a command, last of all, where none of its task's waits. `op` is the updating command that it

@@ -1,7 +1,7 @@
 //! Waiting commands: which one goes on, and which one's time is over.
 
 ghost use Rattle.std.specs.Prelude.{◌≡◌, ◌<◌, ◌≤◌, [], ◌∷◌, All, Some, None, true, false, length};
-ghost use Rattle.std.specs.Prelude.{slice_get, is_ok, IfOk, OnOk, OnErr, IfSome, IfNone};
+ghost use Rattle.std.specs.Prelude.{◌+◌, slice_get, is_ok, IfOk, OnOk, OnErr, IfSome, IfNone};
 ghost use Rattle.cics_history.specs.Execution.{IsOpenUnit};
 ghost use Rattle.cics_history.specs.Records.{key_of};
 ghost use Rattle.cics_history.specs.Isolation.{IsSound};
@@ -241,7 +241,25 @@ impl Dispatcher {
         if notes.have_grown(self.waits.len()) {
             notes.clear();
         }
-        self.note_behind(notes)
+        match self.waits.len().checked_sub(notes.count()) {
+            Some(1) => self.note_last(notes),
+            _ => self.note_behind(notes),
+        }
+    }
+
+    // Makes a note of the command that began to wait last, where every other has its note.
+    fn note_last(&self, notes: &mut Notes) -> Result<(), NoMemory>
+        requires noted { AreNotedNow self.now.machine notes.old }
+        requires one { count notes.old.rows + 1 ≡ length self.now.machine.waiting }
+        ensures noted { AreNotedNow self.now.machine notes.new }
+        ensures all { OnOk result (count notes.new.rows ≡ length self.now.machine.waiting) }
+        ensures once { AreApart self.now.machine.waiting }
+    {
+        let Some(wait) = self.waits.last() else {
+            unreachable!();
+        };
+        notes.push(wait.label(), self.deadline(wait))?;
+        Ok(())
     }
 
     // The last clock at which the task of a waiting command hasn't waited too long.
