@@ -6,7 +6,7 @@ use std::process::ExitCode;
 use std::{fs, io};
 
 /// The examples: each is a script `NAME.cics` with its journal and listing `NAME.journal`.
-const NAMES: [&str; 9] = [
+const NAMES: [&str; 10] = [
     "first-path",
     "lost-update",
     "deadlock",
@@ -16,31 +16,48 @@ const NAMES: [&str; 9] = [
     "scratchpad",
     "generic-delete",
     "shutdown",
+    "turns",
 ];
 
-// Whether the script of an example, run with its listing, writes what its journal has.
-fn is_as_expected(rt: &HostRuntime, name: &str) -> io::Result<bool> {
+/// Those that have beside their journal what a run with `--serial` writes, as `NAME.serial`.
+const WITH_TURNS: [&str; 1] = ["turns"];
+
+// Whether the script of an example, run with its listing and perhaps with its serial run, writes what stands in a file.
+fn is_as_expected(rt: &HostRuntime, name: &str, ending: &str, serial: bool) -> io::Result<bool> {
     let script = format!(in rt.alloc(); "{name}.cics")?;
-    let journal = format!(in rt.alloc(); "{name}.journal")?;
+    let journal = format!(in rt.alloc(); "{name}.{ending}")?;
     let expected = fs::read(rt, journal.as_str())?;
     let mut reader = fs::open(rt, script.as_str())?;
     let mut written = Vec::new(rt.alloc());
     let options = Options {
         no_list: false,
         replay: false,
-        serial: false,
+        serial,
     };
     let answer = run(rt.alloc(), &mut reader, &mut written, options);
     Ok(answer.is_ok() && written == expected)
 }
 
+// Says whether an example writes what its file has, and answers it.
+fn tell(rt: &HostRuntime, name: &str, ending: &str, serial: bool) -> io::Result<bool> {
+    let is_so = is_as_expected(rt, name, ending, serial)?;
+    if is_so {
+        println!(rt; "{name}: as its {ending} says")?;
+    } else {
+        println!(rt; "{name}: NOT as its {ending} says")?;
+    }
+    Ok(is_so)
+}
+
 fn main(rt: HostRuntime) -> io::Result<ExitCode> {
     let mut status = ExitCode::SUCCESS;
     for name in NAMES {
-        if is_as_expected(&rt, name)? {
-            println!(rt; "{name}: as its journal says")?;
-        } else {
-            println!(rt; "{name}: NOT as its journal says")?;
+        if !tell(&rt, name, "journal", false)? {
+            status = ExitCode::FAILURE;
+        }
+    }
+    for name in WITH_TURNS {
+        if !tell(&rt, name, "serial", true)? {
             status = ExitCode::FAILURE;
         }
     }
