@@ -12,7 +12,8 @@ use Rattle.std.specs.Fmt.{decimal}
 use Rattle.std.specs.Prelude.{nat_lt, nat_le, if◌then◌else◌, is_some}
 use Rattle.cics_names.specs.Ebcdic.{Run, runs, is_within, code_in, code_of}
 use Rattle.cics_script.specs.declared.literals.Notation.TheVariants.{Quoted, Hexadecimal}
-use Rattle.cics_script.specs.Tokens.{Token, word, number, literal, opening, closing, broken, is_blank, is_capital, is_letter, is_digit, is_quote, is_word_byte, capital, after_blanks, value_of, with_byte, characters_from, digit_pairs, hex_value, as_literal, as_number, behind_x, hexadecimal_or, plain_at, word_at, number_at, token_at, tokens_in, tokens}
+use Rattle.cics_script.specs.Tokens.{Token, word, number, literal, opening, closing, broken, is_blank, is_capital, is_letter, is_digit, is_quote, is_word_byte, capital, after_blanks}
+use Rattle.cics_script.specs.Tokens.{value_of, with_byte, characters_from, digit_pairs, hex_value, as_literal, as_number, behind_x, hexadecimal_or, plain_at, word_at, number_at, token_at, tokens_in, tokens}
 use Rattle.cics_script.specs.Lines.{is_script_byte, is_empty_or_comment}
 use Rattle.cics_script.specs.Layout.{quoted, hexadecimal_digit, hexadecimal, token_bytes, is_in_capitals, is_word, IsWritable, AreWritable, laid_out}
 use Rattle.cics_script.proofs.TokenSteps.{tokens-next, enough, blanks-within}

@@ -5,7 +5,8 @@ use Rattle.std.specs.List.{list_any, flat_map}
 use Rattle.std.proofs.lemmas.List.Folds.{list_any-append}
 use Rattle.cics_script.specs.declared.words.Form.{Form}
 use Rattle.cics_script.specs.declared.words.OptionWord.{OptionWord}
-use Rattle.cics_script.specs.declared.words.OptionWord.TheVariants.{File, TsPrefix, TdQueue, KeyLength, KeyOffset, RecordSize, Recoverable, Unrecoverable, Logical, Physical, Unrecovered, From, Transid, Dtimout, Ridfld, Length, Into, Generic, Equal, Gteq, Update, NumRec, Queue, Item, Next, Rewrite, Main, Auxiliary, Resource, NoSuspend, Rollback, AbCode, Cancel, NoDump, Resp, Resp2, NoHandle, EndExec}
+use Rattle.cics_script.specs.declared.words.OptionWord.TheVariants.{File, TsPrefix, TdQueue, KeyLength, KeyOffset, RecordSize, Recoverable, Unrecoverable, Logical, Physical, Unrecovered, From, Transid, Dtimout, Ridfld, Length, Into, Generic, Equal}
+use Rattle.cics_script.specs.declared.words.OptionWord.TheVariants.{Gteq, Update, NumRec, Queue, Item, Next, Rewrite, Main, Auxiliary, Resource, NoSuspend, Rollback, AbCode, Cancel, NoDump, Resp, Resp2, NoHandle, EndExec}
 use Rattle.cics_script.specs.declared.words.Kind.{Kind}
 use Rattle.cics_script.specs.declared.words.Kind.TheVariants.{Flag, Text, Name8, Name4, Number, Area, Last}
 use Rattle.cics_script.specs.Faults.{◌>>=◌}
@@ -308,7 +309,15 @@ module _ (entries : List Entry) (apart : AreApart entries) where
   -- what a command asks for, by what its options give
   verb_in-given : (asked : Verb) → AllGiven (options_of asked) entries → IfSome (word_of asked) (λ first. verb_in first entries ≡ Ok asked)
   verb_in-given (verb.Read file ridfld key_length length generic gteq update) given =
-      rw (name8_at-gives File file given.0, text_at-gives Ridfld ridfld given.1.0, amount_at-gives KeyLength key_length given.1.1.0, amount_at-gives Length length given.1.1.1.0, has-gives Generic generic given.1.1.1.1.0, has-gives Gteq gteq given.1.1.1.1.1.0, has-gives Update update given.1.1.1.1.1.1.0) refl
+      rw (
+        name8_at-gives File file given.0,
+        text_at-gives Ridfld ridfld given.1.0,
+        amount_at-gives KeyLength key_length given.1.1.0,
+        amount_at-gives Length length given.1.1.1.0,
+        has-gives Generic generic given.1.1.1.1.0,
+        has-gives Gteq gteq given.1.1.1.1.1.0,
+        has-gives Update update given.1.1.1.1.1.1.0,
+      ) refl
   verb_in-given (verb.Write file ridfld key_length from length) given =
       rw (name8_at-gives File file given.0, text_at-gives Ridfld ridfld given.1.0, amount_at-gives KeyLength key_length given.1.1.0, text_at-gives From from given.1.1.1.0, amount_at-gives Length length given.1.1.1.1.0) refl
   verb_in-given (verb.Rewrite file from length) given =

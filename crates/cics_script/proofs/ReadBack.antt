@@ -136,29 +136,30 @@ either-ends : (queue rest : List ℕ) → ends queue ≡ true → ends rest ≡ 
 either-ends [] rest queue_gap gap = gap
 either-ends (c ∷ queue) rest queue_gap gap = queue_gap
 
-queue-end : (first : CommandWord) → ends (queue_text first) ≡ true
-queue-end first = elim first as (λ first. ends (queue_text first) ≡ true) [
-  | command.WriteqTs ↦ refl
-  | command.ReadqTs ↦ refl
-  | command.DeleteqTs ↦ refl
-  | command.WriteqTd ↦ refl
-  | command.ReadqTd ↦ refl
-  | command.DeleteqTd ↦ refl
-  | command.Read ↦ refl
-  | command.Write ↦ refl
-  | command.Rewrite ↦ refl
-  | command.Delete ↦ refl
-  | command.Unlock ↦ refl
-  | command.StartBr ↦ refl
-  | command.ResetBr ↦ refl
-  | command.ReadNext ↦ refl
-  | command.ReadPrev ↦ refl
-  | command.EndBr ↦ refl
-  | command.Enq ↦ refl
-  | command.Deq ↦ refl
-  | command.Syncpoint ↦ refl
-  | command.Return ↦ refl
-  | command.Abend ↦ refl
+-- a command's words: what stands behind the first is empty or begins with a gap, and each byte may stand in a script
+command-words : (first : CommandWord) → (ends (queue_text first) ≡ true) × (list_all is_script_byte (command_text first) ≡ true)
+command-words first = elim first as (λ first. (ends (queue_text first) ≡ true) × (list_all is_script_byte (command_text first) ≡ true)) [
+  | command.WriteqTs ↦ (refl, refl)
+  | command.ReadqTs ↦ (refl, refl)
+  | command.DeleteqTs ↦ (refl, refl)
+  | command.WriteqTd ↦ (refl, refl)
+  | command.ReadqTd ↦ (refl, refl)
+  | command.DeleteqTd ↦ (refl, refl)
+  | command.Read ↦ (refl, refl)
+  | command.Write ↦ (refl, refl)
+  | command.Rewrite ↦ (refl, refl)
+  | command.Delete ↦ (refl, refl)
+  | command.Unlock ↦ (refl, refl)
+  | command.StartBr ↦ (refl, refl)
+  | command.ResetBr ↦ (refl, refl)
+  | command.ReadNext ↦ (refl, refl)
+  | command.ReadPrev ↦ (refl, refl)
+  | command.EndBr ↦ (refl, refl)
+  | command.Enq ↦ (refl, refl)
+  | command.Deq ↦ (refl, refl)
+  | command.Syncpoint ↦ (refl, refl)
+  | command.Return ↦ (refl, refl)
+  | command.Abend ↦ (refl, refl)
 ]
 
 -- a command's line without its label and EXEC CICS
@@ -167,7 +168,7 @@ command-tokens : (first : CommandWord) (rows : Asked) → AllCanBeGiven rows
 command-tokens first rows can =
     let options = flat_map option_text rows in
     ap tokens (append_assoc (command_word first) (queue_text first) options)
-    ∙ tokens-written (word (command_word first)) (queue_text first ++ options) (is_word-command first) (either-ends (queue_text first) options (queue-end first) (options-end rows))
+    ∙ tokens-written (word (command_word first)) (queue_text first ++ options) (is_word-command first) (either-ends (queue_text first) options (command-words first).0 (options-end rows))
     ∙ ap (λ ts. word (command_word first) ∷ ts) (queue-tokens first options (options-end rows) ∙ ap (λ ts. queue_tokens first false ++ ts) (options-tokens rows can))
 
 -- a command's line
@@ -211,35 +212,10 @@ options-script ((option, Some content) ∷ rows) can =
     (joined (option_word option) (value_text content) (script-written (word (option_word option)) (is_word-option option)) (value-script content can.0))
     (options-script rows can.1)
 
-command-script : (first : CommandWord) → list_all is_script_byte (command_text first) ≡ true
-command-script first = elim first as (λ first. list_all is_script_byte (command_text first) ≡ true) [
-  | command.WriteqTs ↦ refl
-  | command.ReadqTs ↦ refl
-  | command.DeleteqTs ↦ refl
-  | command.WriteqTd ↦ refl
-  | command.ReadqTd ↦ refl
-  | command.DeleteqTd ↦ refl
-  | command.Read ↦ refl
-  | command.Write ↦ refl
-  | command.Rewrite ↦ refl
-  | command.Delete ↦ refl
-  | command.Unlock ↦ refl
-  | command.StartBr ↦ refl
-  | command.ResetBr ↦ refl
-  | command.ReadNext ↦ refl
-  | command.ReadPrev ↦ refl
-  | command.EndBr ↦ refl
-  | command.Enq ↦ refl
-  | command.Deq ↦ refl
-  | command.Syncpoint ↦ refl
-  | command.Return ↦ refl
-  | command.Abend ↦ refl
-]
-
 line-script : (label : List ℕ) (first : CommandWord) (rows : Asked) → IsTrue (is_word label) → AllCanBeGiven rows
     → list_all is_script_byte (written_with label (flat_map option_text rows) (Some (command_text first))) ≡ true
 line-script label first rows labelled can =
-    joined label _ (script-written (word label) labelled) (joined (command_text first) (flat_map option_text rows) (command-script first) (options-script rows can))
+    joined label _ (script-written (word label) labelled) (joined (command_text first) (flat_map option_text rows) (command-words first).1 (options-script rows can))
 
 -- ---- a command
 

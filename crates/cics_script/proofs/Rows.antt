@@ -595,7 +595,9 @@ row_not_here_return = refl
 row_written_unlock : laid_out (command_tokens (codes "T1") command.Unlock false (record { option = option.File; value = Some (literal Quoted (codes "ACCT")) } ∷ [])) ≡ codes "T1 EXEC CICS UNLOCK FILE ( 'ACCT' ) "
 row_written_unlock = refl
 
-row_written_enq : laid_out (command_tokens (codes "T1") command.Enq false (record { option = option.NoSuspend; value = None } ∷ record { option = option.Length; value = Some (number 255) } ∷ record { option = option.Resource; value = Some (literal Hexadecimal (0x00 ∷ 0xF9 ∷ [])) } ∷ [])) ≡ codes "T1 EXEC CICS ENQ NOSUSPEND LENGTH ( 255 ) RESOURCE ( X'00F9' ) "
+row_written_enq : laid_out (command_tokens (codes "T1") command.Enq false
+    (record { option = option.NoSuspend; value = None } ∷ record { option = option.Length; value = Some (number 255) } ∷ record { option = option.Resource; value = Some (literal Hexadecimal (0x00 ∷ 0xF9 ∷ [])) } ∷ []))
+    ≡ codes "T1 EXEC CICS ENQ NOSUSPEND LENGTH ( 255 ) RESOURCE ( X'00F9' ) "
 unfolding digits
 row_written_enq = refl
 

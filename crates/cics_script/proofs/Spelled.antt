@@ -273,8 +273,22 @@ read-plain resp file ridfld key_length length false false true together = refl
 -- each command whose options go together has a word that takes them
 fits : (asked : Verb) (resp : Bool) → IsTrue (go_together asked) → Fits (record { verb = asked; resp = resp })
 fits (verb.Read file ridfld key_length length generic gteq update) resp together =
-    fits-of (record { verb = verb.Read file ridfld key_length length generic gteq update; resp = resp }) command.Read refl (read-plain resp file ridfld key_length length generic gteq update together) refl
-    (flags (Takes command.Read NoHandle) resp refl, (refl, (refl, (amounts (Takes command.Read KeyLength) key_length (λ x. inl refl), (amounts (Takes command.Read Length) length (λ x. inl refl), (flags (Takes command.Read Generic) generic refl, (flags (Takes command.Read Gteq) gteq refl, (flags (Takes command.Read Update) update refl, tt))))))))
+    fits-of (record { verb = verb.Read file ridfld key_length length generic gteq update; resp = resp }) command.Read refl (read-plain resp file ridfld key_length length generic gteq update together) refl (
+      flags (Takes command.Read NoHandle) resp refl,
+      (
+        refl,
+        (
+          refl,
+          (
+            amounts (Takes command.Read KeyLength) key_length (λ x. inl refl),
+            (
+              amounts (Takes command.Read Length) length (λ x. inl refl),
+              (flags (Takes command.Read Generic) generic refl, (flags (Takes command.Read Gteq) gteq refl, (flags (Takes command.Read Update) update refl, tt))),
+            ),
+          ),
+        ),
+      ),
+    )
 fits (verb.Write file ridfld key_length from length) resp together =
     fits-of (record { verb = verb.Write file ridfld key_length from length; resp = resp }) command.Write refl refl refl
     (flags (Takes command.Write NoHandle) resp refl, (refl, (refl, (amounts (Takes command.Write KeyLength) key_length (λ x. inl refl), (refl, (amounts (Takes command.Write Length) length (λ x. inl refl), tt))))))

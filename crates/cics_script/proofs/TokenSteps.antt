@@ -9,7 +9,8 @@ use Rattle.cics_script.specs.declared.faults.LineFault.TheVariants.{UnknownWord,
 use Rattle.cics_script.specs.declared.literals.Notation.{Notation}
 use Rattle.cics_script.specs.declared.literals.Notation.TheVariants.{Quoted, Hexadecimal}
 use Rattle.cics_script.specs.Literals.{said}
-use Rattle.cics_script.specs.Tokens.{Text, Token, broken, literal, opening, closing, with_byte, with_pair, characters_from, digit_pairs, text_in, hex_value, as_literal, as_number, behind_x, hexadecimal_or, plain_at, token_at, tokens_in, tokens, after_blanks, is_quote, is_letter, is_digit, is_word_byte, capital}
+use Rattle.cics_script.specs.Tokens.{Text, Token, broken, literal, opening, closing, with_byte, with_pair, characters_from, digit_pairs, text_in, hex_value, as_literal}
+use Rattle.cics_script.specs.Tokens.{as_number, behind_x, hexadecimal_or, plain_at, token_at, tokens_in, tokens, after_blanks, is_quote, is_letter, is_digit, is_word_byte, capital}
 
 some-same : {A : Type 0} (x y : A) → Some y ≡ Some x → x ≡ y
 some-same x y e = ap (λ o. unwrap_or o y) (sym e)

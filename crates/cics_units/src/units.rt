@@ -57,8 +57,8 @@ pub enum Submitted {
 /// And the units take turns: what each unit that committed did to recoverable files and queues, one
 /// after the other in the order of their commits, gives what would stand there if the open units were
 /// backed out; with the open ones behind, in any order, it gives what stands there. Each command that
-/// was answered NORMAL there has in its unit's turn the answer that its task was given. A command that
-/// was answered otherwise is in no turn, nor is one on something unrecoverable.
+/// was answered NORMAL there has in its unit's turn the answer that it was given. A command that was
+/// answered otherwise is in no turn, nor is one on something unrecoverable.
 #[derive(Drop)]
 pub struct Units {
     opening: Opening,

@@ -6,8 +6,13 @@ use Rattle.cics_script.proofs.options.read_option.Goals as goal
 
 pub returns-in-Ok-read_value-clause-reading : goal.returns-in-Ok-read_value-clause-reading
 returns-in-Ok-read_value-clause-reading c last =
-    let step = c.in-Ok-read_value.ensures c.args.form (entries c.args.found.now) c.in-Some.option in
-    (reads-opening c.args.form last (entries c.args.found.now) (map capital c.args.word.now) c.in-Some.option c.in-Ok.kind _ c.in-Some.ensures c.in-Ok.ensures c.in_default-kind.not-Flag c.in_default-kind.not-Last ∙ step.0 ∙ reads-further c.args.form c.in-Ok.kind _ _ c.in_default-kind.not-Last, omega (arith, step.1))
+    let step = c.in-Ok-read_value.ensures c.args.form (entries c.args.found.now) c.in-Some.option in (
+      reads-opening c.args.form last (entries c.args.found.now) (map capital c.args.word.now)
+          c.in-Some.option c.in-Ok.kind _ c.in-Some.ensures c.in-Ok.ensures
+          c.in_default-kind.not-Flag c.in_default-kind.not-Last ∙ step.0
+          ∙ reads-further c.args.form c.in-Ok.kind _ _ c.in_default-kind.not-Last,
+      omega (arith, step.1),
+    )
 
 pub returns-in-Err-read_value-clause-reading : goal.returns-in-Err-read_value-clause-reading
 returns-in-Err-read_value-clause-reading c last =

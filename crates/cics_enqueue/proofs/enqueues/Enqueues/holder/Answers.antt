@@ -4,7 +4,9 @@ use Rattle.cics_enqueue.proofs.Tables.{holder_of-table_of}
 use Rattle.cics_enqueue.proofs.enqueues.Enqueues.holder.Goals as goal
 
 pub returns : goal.returns
-returns c = rw (← c.self.view_is) (sym (holder_of-table_of c.args.resource.now c.as_slice.result.now (c.as_slice.ensures.value ∙ c.compact.ensures) c.self.inside.table.entries (option_copied c.get.result) c.self.invariant.keys c.get.ensures.value ∙ ap (λ o. option_map (λ h. h.unit) (option_copied o)) c.in_ok-holding.was))
+returns c = rw (← c.self.view_is) (sym (holder_of-table_of c.args.resource.now c.as_slice.result.now
+    (c.as_slice.ensures.value ∙ c.compact.ensures) c.self.inside.table.entries (option_copied c.get.result)
+    c.self.invariant.keys c.get.ensures.value ∙ ap (λ o. option_map (λ h. h.unit) (option_copied o)) c.in_ok-holding.was))
 
 pub returns-in_err-holding : goal.returns-in_err-holding
 returns-in_err-holding c =

@@ -15,7 +15,9 @@ pub invariant_of-self : goal.invariant_of-self
 invariant_of-self c =
     let found : lookup (finds c.as_slice-key.result.now) c.self.inside.table.entries ≡ Some c.in-Some.holding.now = sym c.get_mut.ensures.value ∙ ap option_copied_mut c.in-Some.is in
     let w = c.raise.new.holding in
-    IsKept-written c.args.resource c.as_slice-key.result.now (c.as_slice-key.ensures.value ∙ c.compact-bytes.ensures) c.self.inside.table.entries c.self.invariant.keys c.self.inside.owned.entries c.self.invariant c.in-Some.holding.now w (c.get_mut.follows.lender w).entries (c.get_mut.follows.holds w).0
+    IsKept-written c.args.resource c.as_slice-key.result.now (c.as_slice-key.ensures.value ∙ c.compact-bytes.ensures)
+    c.self.inside.table.entries c.self.invariant.keys c.self.inside.owned.entries c.self.invariant
+    c.in-Some.holding.now w (c.get_mut.follows.lender w).entries (c.get_mut.follows.holds w).0
     found c.raise.ensures.unit ((c.get_mut.follows.holds w).3 (subst IsSome (sym found) refl)).0
 
 pub returns-in-Some-clause-taken : goal.returns-in-Some-clause-taken
