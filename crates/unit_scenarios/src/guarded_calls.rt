@@ -84,7 +84,8 @@ fn is_defined(units: &Units, file: &Name8) -> bool
 
 // Whether a file is defined, a record fits it, and the key is the one that lies in the record.
 fn is_fit(units: &Units, file: &Name8, key: &Record, from: &Record) -> bool
-    ensures { result ≡ is_fit_for (value_at file.now units.now.state.opening.files) key.now from.now }
+    ensures { result
+        ≡ is_fit_for (value_at file.now units.now.state.opening.files) key.now from.now }
 {
     match units.file(file) {
         Some(file) => {
