@@ -34,7 +34,7 @@ use Rattle.cics_history.proofs.Outcomes.{outcome_of-with}
 use Rattle.cics_history.proofs.States.{enqueue-IsSound, dequeue-IsSound}
 use Rattle.cics_units.proofs.HeldOver.{table_holder, table_free}
 use Rattle.cics_units.proofs.TableValues.{table_enqueued_of, table_dequeued_of}
-use Rattle.cics_units.proofs.KeptUnits.{roomier_held, kept_roomier}
+use Rattle.cics_units.proofs.KeptUnits.{roomier_held, kept_roomier, kept_with}
 
 -- ---- How often a unit has enqueued on a value
 
@@ -139,32 +139,10 @@ module _ (s : UnitsState) (st new : UndoableValue) (t : Table) (is : AreKept s s
       begun_by None begun = omega (arith, length-append s.outcomes (Open ∷ []), begun)
       begun_by (Some w) begun = omega (arith, is.begun, room.longer)
 
-module _ (s : UnitsState) (st : UndoableValue) (t : Table) (is : AreKept s st t) (u : ℕ) (v : Bytes) where
-  -- nor does DEQ
-  pub kept_dequeued : AreKept (after_dequeue s u v) st (given_back t (value_of v) u)
-  kept_dequeued = record {
-    in_order = is.in_order;
-    lawful_keys = is.lawful_keys;
-    sound = dequeue-IsSound s u v is.sound;
-    order = dequeue-IsInOrder s is.order u v;
-    canonical = is.canonical;
-    place = record {
-      changes = is.place.changes;
-      marks = is.place.marks;
-      place = is.place.place;
-      ends = is.place.ends;
-      queues = is.place.queues;
-      kept = is.place.kept;
-      ready = is.place.ready;
-      over = is.place.over;
-    };
-    defined = is.defined;
-    rows = is.rows;
-    places = is.places;
-    table = table_dequeued_of s t u v is.table;
-    held = is.held;
-    begun = is.begun;
-  }
+-- nor does DEQ
+pub kept_dequeued : (s : UnitsState) (st : UndoableValue) (t : Table) → AreKept s st t → (u : ℕ) (v : Bytes) → AreKept (after_dequeue s u v) st (given_back t (value_of v) u)
+kept_dequeued s st t is u v = kept_with s st t (given_back t (value_of v) u) is s.reads (after_dequeue s u v).counts
+    (dequeue-IsSound s u v is.sound) (dequeue-IsInOrder s is.order u v) (table_dequeued_of s t u v is.table)
 
 -- ---- What the units show
 

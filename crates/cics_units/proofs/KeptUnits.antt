@@ -18,7 +18,7 @@ use Rattle.cics_images.specs.declared.stores.StoreImage.TheVariants.{TempStorage
 use Rattle.cics_history.specs.Openings.{OpeningState, FileOpening, QueueOpening, is_key, file_recoverable, queue_logical, HasLawfulKeys, IsOpeningInOrder}
 use Rattle.cics_history.specs.Store.{Store, apply, is_recoverable, initial_store}
 use Rattle.cics_history.specs.History.{is_open, kept}
-use Rattle.cics_history.specs.Holding.{UnitsState, store_of, awaited}
+use Rattle.cics_history.specs.Holding.{UnitsState, UpdateRead, EnqCount, store_of, awaited}
 use Rattle.cics_history.proofs.Alone.{left_no_trace}
 use Rattle.cics_history.proofs.Ready.{ready_short}
 use Rattle.cics_history.specs.Execution.{unit_or_next, outcomes_with, next_after, entered, state_of, after_execution, after_unlock, after_end, read_at, is_fit_for, is_ready_op}
@@ -41,7 +41,7 @@ use Rattle.cics_units.specs.StoreInPlace.{IsUnmarked, AreInPlace}
 use Rattle.cics_units.specs.StoreEnds.{any_fixed, ends_settled, IsEnded}
 use Rattle.cics_units.specs.UnitImages.{kept_none, kept_by, AreOthersKept, AreHeldForImages}
 use Rattle.cics_units.specs.UnitImagesLaws.{held_after_change}
-use Rattle.cics_units.specs.TableInPlace.{table_executed, table_unlocked}
+use Rattle.cics_units.specs.TableInPlace.{IsTableOf, table_executed, table_unlocked}
 use Rattle.cics_units.specs.Parts.{is_recoverable_in, IsRecordOf, IsFitOp, AreImagesAfter, AreChanged, leaves_any, of_files, told_in}
 use Rattle.cics_units.specs.QueueChanges.{is_trans, is_temp, queue_of as queue_on, in_queue, with_image, IsTransExecuted, IsTempExecuted, AreQueuesChanged, IsQueueExecuted, told_of, HaveRecoveries}
 use Rattle.cics_units.specs.StorePlaces.{HavePlaces}
@@ -479,15 +479,18 @@ module _ (s : UnitsState) (st new : UndoableValue) (t : Table) (is : AreKept s s
             | inr other ↦ (queue_done other given (rw other at changed)).answered
           ]
 
--- ---- UNLOCK
-module _ (s : UnitsState) (st : UndoableValue) (t : Table) (is : AreKept s st t) (u : ℕ) (f : Bytes) (live : is_live s u ≡ true) where
-  -- UNLOCK changes neither the store nor what holds of it
-  pub kept_unlocked : AreKept (after_unlock s u f) st (table_unlocked s.opening u f (read_at s.reads u f) t)
-  kept_unlocked = record {
+-- ---- Other update reads and counts
+module _ (s : UnitsState) (st : UndoableValue) (t left : Table) (is : AreKept s st t) (reads : List UpdateRead) (counts : List EnqCount) where
+  abbrev changed : UnitsState
+  changed = record s { reads = reads; counts = counts }
+
+  -- the units keep all with other reads and counts that leave them apart and in order, and that the table has
+  pub kept_with : IsSound changed → IsInOrder changed → IsTableOf changed left → AreKept changed st left
+  kept_with sound order table = record {
     in_order = is.in_order;
     lawful_keys = is.lawful_keys;
-    sound = unlock-IsSound s u f is.sound;
-    order = unlock-IsInOrder s is.order u f;
+    sound = sound;
+    order = order;
     canonical = is.canonical;
     place = record {
       changes = is.place.changes;
@@ -502,10 +505,16 @@ module _ (s : UnitsState) (st : UndoableValue) (t : Table) (is : AreKept s st t)
     defined = is.defined;
     rows = is.rows;
     places = is.places;
-    table = table_unlocked_of s t u f is.sound is.table live;
+    table = table;
     held = is.held;
     begun = is.begun;
   }
+
+-- UNLOCK changes neither the store nor what holds of it
+pub kept_unlocked : (s : UnitsState) (st : UndoableValue) (t : Table) → AreKept s st t → (u : ℕ) (f : Bytes) → is_live s u ≡ true →
+    AreKept (after_unlock s u f) st (table_unlocked s.opening u f (read_at s.reads u f) t)
+kept_unlocked s st t is u f live = kept_with s st t (table_unlocked s.opening u f (read_at s.reads u f) t) is (after_unlock s u f).reads s.counts
+    (unlock-IsSound s u f is.sound) (unlock-IsInOrder s is.order u f) (table_unlocked_of s t u f is.sound is.table live)
 
 -- ---- The end of a unit
 -- what the end of a unit leaves is kept
