@@ -1,70 +1,31 @@
 -- The notes of the waiting commands are kept in order over each change.
-use Rattle.std.specs.Prelude.{◌≡◌, ◌<◌, ◌≤◌, ℕ, ◌+◌, ◌==◌, Bool, true, false, not, cond, Option, Some, None, is_some, if◌then◌else◌, take, drop, length, map, nat_eq, List, [], ◌∷◌, ◌++◌, slice_get, slice_set, refl}
-use Rattle.std.specs.List.{list_any}
+use Rattle.std.specs.Prelude.{Result, Ok, Err, OnErr, IfSome, ◌≡◌, ◌<◌, ◌≤◌, ℕ, ◌+◌, ◌==◌, Bool, true, false, not, cond, Option, Some, None, is_some, if◌then◌else◌, take, drop, length, map, nat_eq, List, [], ◌∷◌, ◌++◌, Vec, slice_get, slice_set, refl}
+use Rattle.std.specs.Map.{lookup}
+use Rattle.std.specs.BTreeSet.{BTreeSet}
 use Rattle.std.specs.Option.{option_eq}
-use Rattle.std.proofs.Common.{◌⊎◌, inl, inr, zero, suc, sym, ap, ◌∙◌, subst, arith}
+use Rattle.std.specs.declared.alloc.Global.{Global}
+use Rattle.std.proofs.Common.{inl, inr, zero, suc, sym, ap, ◌∙◌, subst, arith}
 use Rattle.std.proofs.Math.Numerals.{add-one}
-use Rattle.std.proofs.lemmas.Bool.{true≢false, or_left, or_right, eqb-true, eq-eqb}
-use Rattle.std.proofs.lemmas.List.Folds.{list_any-append}
-use Rattle.indexmap.specs.IndexSet.{insert_key}
+use Rattle.std.proofs.lemmas.Bool.{true≢false, eqb-true, eq-eqb}
+use Rattle.std.proofs.lemmas.Option.{slice_get_within}
 use Rattle.cics_enqueue.specs.declared.resources.Resource.{Resource}
 use Rattle.cics_dispatch.specs.declared.notes.Note.{Note}
+use Rattle.cics_dispatch.specs.declared.notes.Parked.{Parked}
+use Rattle.cics_dispatch.specs.declared.notes.Parked.TheVariants.{Line as OfLine, Row as OfRow}
 use Rattle.cics_names.specs.Keyed.{Bytes}
 use Rattle.cics_dispatch.specs.Machine.{is_unit}
-use Rattle.cics_dispatch.specs.Settled.{is_among}
-use Rattle.cics_dispatch.specs.Notes.{of_line, blocker_by, blocker_in, given_up, given_note, forgotten, new_note, alone, in_line, count, AreClosed, KeepsResources, KeepsBlockers}
-use Rattle.cics_dispatch.specs.Filed.{IsFiled}
-
--- ---- Places
-
--- what stands at a place once another stands at one
-get_set : {X : Type 0} (xs : List X) (i j : ℕ) (x y : X) → slice_get (slice_set xs i x) j ≡ Some y → ((j ≡ i) × (x ≡ y)) ⊎ (slice_get xs j ≡ Some y)
-get_set [] i j x y there = inr there
-get_set (z ∷ xs) zero zero x y there = inl (refl, let same : x ≡ y = cc in same)
-get_set (z ∷ xs) zero (suc j) x y there = inr there
-get_set (z ∷ xs) (suc i) zero x y there = inr there
-get_set (z ∷ xs) (suc i) (suc j) x y there = elim (get_set xs i j x y there) [ inl now ↦ inl (ap suc now.0, now.1) | inr was ↦ inr was ]
-
-get_push : {X : Type 0} (xs : List X) (j : ℕ) (x y : X) → slice_get (xs ++ x ∷ []) j ≡ Some y → (x ≡ y) ⊎ (slice_get xs j ≡ Some y)
-get_push [] zero x y there = inl (let same : x ≡ y = cc in same)
-get_push [] (suc j) x y there = cc
-get_push (z ∷ xs) zero x y there = inr there
-get_push (z ∷ xs) (suc j) x y there = get_push xs j x y there
+use Rattle.cics_dispatch.specs.Notes.{of_line, blocker_by, blocker_in, given_up, forgotten, new_note, alone, in_line, count, AreClosed, IsOpenAt, IsFirstOpen, KeepsResources, KeepsBlockers}
+use Rattle.cics_dispatch.specs.Filed.{has, IsShown, IsParked, KeepParked, IsAlone, AreParked, IsFiled, IsLeft, IsPut, IsNotOf, IsReopening}
+use Rattle.cics_dispatch.proofs.ShownNotes.{get_set, get_push, push_here, push_there, longer, of_line_set, of_line_more, shown_push, shown_left, shown_closed, shown_new_line}
 
 pub length_set : {X : Type 0} (xs : List X) (i : ℕ) (x : X) → length (slice_set xs i x) ≡ length xs
 length_set [] i x = refl
 length_set (y ∷ ys) zero x = refl
 length_set (y ∷ ys) (suc i) x = ap suc (length_set ys i x)
 
-take_push : {X : Type 0} (xs : List X) (k : ℕ) (x : X) → k ≤ length xs → take k (xs ++ x ∷ []) ≡ take k xs
-take_push xs zero x few = refl
-take_push [] (suc k) x few = absurd (never few)
-  where
-    never : suc k ≤ 0 → ⊥
-    never less = omega (arith, less)
-take_push (y ∷ ys) (suc k) x few = ap (λ r. y ∷ r) (take_push ys k x (omega (arith, few)))
-
--- ---- Units
-
-module _ (eq : ℕ → ℕ → Bool) (same : (a b : ℕ) → eq a b ≡ (a == b)) where
-  pub any_among : (u : ℕ) (us : List ℕ) → list_any (eq u) us ≡ is_among us u
-  any_among u us i = list_any (λ v. same u v i) us
-
-  -- a unit that is put in is there
-  pub inserted : (us : List ℕ) (u : ℕ) → is_among (insert_key eq us u) u ≡ true
-  inserted us u =
-      elim (list_any (eq u) us) as (λ b. list_any (eq u) us ≡ b → is_among (cond b us (us ++ u ∷ [])) u ≡ true) [
-        | true ↦ λ is. sym (any_among u us) ∙ is
-        | false ↦ λ is. list_any-append (λ v. u == v) us (u ∷ []) ∙ or_right (is_among us u) (is_among (u ∷ []) u) (or_left (u == u) false (eq-eqb u u refl))
-      ] refl
-
-  -- and the others are there yet
-  pub kept_among : (us : List ℕ) (k u : ℕ) → is_among us u ≡ true → is_among (insert_key eq us k) u ≡ true
-  kept_among us k u there =
-      elim (list_any (eq k) us) as (λ b. is_among (cond b us (us ++ k ∷ [])) u ≡ true) [
-        | true ↦ there
-        | false ↦ list_any-append (λ v. u == v) us (k ∷ []) ∙ or_left (is_among us u) (is_among (k ∷ []) u) there
-      ]
+pub length_map : {X : Type 0} (f : X → X) (xs : List X) → length (map f xs) ≡ length xs
+length_map f [] = refl
+length_map f (x ∷ xs) = ap suc (length_map f xs)
 
 -- ---- Closed
 
@@ -91,23 +52,6 @@ known_own [] g u within = absurd (never within)
     never less = omega (arith, less)
 known_own (b ∷ bs) zero u within = refl
 known_own (b ∷ bs) (suc g) u within = known_own bs g u (omega (arith, within))
-
--- another note at a place that is closed too, or none
-closed_set : (bs : List (Option ℕ)) (ns : List (Option Note)) (k i : ℕ) (n : Note) → is_some (blocker_in bs n) ≡ true → AreClosed bs (take k ns) → AreClosed bs (take k (slice_set ns i (Some n)))
-closed_set bs ns zero i n known closed = tt
-closed_set bs [] (suc k) i n known closed = tt
-closed_set bs (None ∷ ns) (suc k) zero n known closed = (known, closed)
-closed_set bs (Some j ∷ ns) (suc k) zero n known closed = (known, closed.1)
-closed_set bs (None ∷ ns) (suc k) (suc i) n known closed = closed_set bs ns k i n known closed
-closed_set bs (Some j ∷ ns) (suc k) (suc i) n known closed = (closed.0, closed_set bs ns k i n known closed.1)
-
-closed_gone : (bs : List (Option ℕ)) (ns : List (Option Note)) (k i : ℕ) → AreClosed bs (take k ns) → AreClosed bs (take k (slice_set ns i None))
-closed_gone bs ns zero i closed = tt
-closed_gone bs [] (suc k) i closed = tt
-closed_gone bs (None ∷ ns) (suc k) zero closed = closed
-closed_gone bs (Some j ∷ ns) (suc k) zero closed = closed.1
-closed_gone bs (None ∷ ns) (suc k) (suc i) closed = closed_gone bs ns k i closed
-closed_gone bs (Some j ∷ ns) (suc k) (suc i) closed = (closed.0, closed_gone bs ns k i closed.1)
 
 closed_suc : (bs : List (Option ℕ)) (ns : List (Option Note)) (i : ℕ) (c : Option Note) → slice_get ns i ≡ Some c → ((n : Note) → c ≡ Some n → is_some (blocker_in bs n) ≡ true) → AreClosed bs (take i ns) → AreClosed bs (take (suc i) ns)
 closed_suc bs [] i c there known closed = cc
@@ -161,138 +105,129 @@ count_forgotten unit (Some n ∷ ns) = ap suc (count_forgotten unit ns)
 
 -- ---- The notes are kept
 
-module _ (rows : List (Option Note)) (k closed : ℕ) (rs : List Resource) (lines : List (Option ℕ)) (units : List ℕ) (is : IsFiled rows k closed rs lines units) where
+-- the lists of the units
+abbrev pub Lists : Type 0
+Lists = List (ℕ × Vec Parked Global)
+
+pub none_some : (A : Type 0) (x : A) → None ≡ Some x → ⊥
+none_some A x never = cc
+
+pub some_same : (A : Type 0) (x y : A) → Some x ≡ Some y → x ≡ y
+some_same A x y same = cc
+
+module _ (rows : List (Option Note)) (k : ℕ) (rs : List Resource) (bs : List (Option ℕ)) (ms : List (BTreeSet ℕ)) (parked : Lists) (keys : List ℕ) (is : IsFiled rows k rs bs ms parked keys) where
   pub filed_few : k ≤ length rows
   filed_few = let few = count_few rows in let counted = is.counted in omega (arith, few, counted)
 
-  pub filed_push : (label : Bytes) (j : ℕ) → j ≡ k + 1 → IsFiled (rows ++ Some (new_note label) ∷ []) j closed rs lines units
+  pub filed_push : (label : Bytes) (j : ℕ) → j ≡ k + 1 → IsFiled (rows ++ Some (new_note label) ∷ []) j rs bs ms parked (keys ++ 0 ∷ [])
   filed_push label j more = record {
     counted = more ∙ add-one k ∙ ap suc is.counted ∙ sym (count_push rows (new_note label));
-    before = subst (AreClosed lines) (sym (take_push rows closed (Some (new_note label)) is.within)) is.before;
-    within = long rows is.within;
-    sized = is.sized;
-    line_of = λ i n g there own. elim (get_push rows i (Some (new_note label)) (Some n) there) [
-      | inl now ↦ let same : new_note label ≡ n = cc in let none : None ≡ Some g = ap (λ x. x.line) same ∙ own in cc
-      | inr was ↦ is.line_of i n g was own
-    ];
-    alone_of = λ i n u there own. elim (get_push rows i (Some (new_note label)) (Some n) there) [
-      | inl now ↦ let same : new_note label ≡ n = cc in let none : None ≡ Some u = ap (λ x. x.blocker) same ∙ own in cc
-      | inr was ↦ is.alone_of i n u was own
-    ];
-    lines_of = is.lines_of;
+    resources = is.resources;
+    shown = shown_push rows bs ms keys is.shown label;
+    lists = record {
+      rows_of = λ i u a. elim (get_push rows i (Some (new_note label)) (Some a.note) a.there) [
+        | inl now ↦ absurd (none_some ℕ u (ap (λ x. x.blocker) (some_same Note (new_note label) a.note now.1) ∙ a.own))
+        | inr was ↦ is.lists.rows_of i u (record { note = a.note; there = was; own = a.own })
+      ];
+      lines_of = is.lists.lines_of;
+    };
   }
-    where
-      long : (ns : List (Option Note)) → closed ≤ length ns → closed ≤ length (ns ++ Some (new_note label) ∷ [])
-      long ns few = subst (λ x. closed ≤ x) (sym (longer ns)) (omega (arith, few))
-        where
-          longer : (ns : List (Option Note)) → length (ns ++ Some (new_note label) ∷ []) ≡ suc (length ns)
-          longer [] = refl
-          longer (n ∷ ns) = ap suc (longer ns)
 
-  pub filed_gone : (at j : ℕ) (n : Note) → slice_get rows at ≡ Some (Some n) → j + 1 ≡ k → IsFiled (slice_set rows at None) j closed rs lines units
-  filed_gone at j n there less = record {
+  -- where one note is none, or another, that waits for a unit as it is parked
+  parked_set : (at : ℕ) (c : Option Note) (cs : List (Option ℕ)) (more : Lists) → KeepParked parked more → ((n : Note) (u : ℕ) → c ≡ Some n → n.blocker ≡ Some u → IsParked more u (OfRow at)) →
+      ((g u : ℕ) → of_line cs g ≡ Some u → IsParked more u (OfLine g)) → AreParked (slice_set rows at c) cs more
+  parked_set at c cs more kept own lines = record {
+    rows_of = λ i u a. elim (get_set rows at i c (Some a.note) a.there) [
+      | inl now ↦ subst (λ x. IsParked more u (OfRow x)) (sym now.0) (own a.note u now.1 a.own)
+      | inr was ↦ kept u (OfRow i) (is.lists.rows_of i u (record { note = a.note; there = was.1; own = a.own }))
+    ];
+    lines_of = lines;
+  }
+
+  pub filed_gone : (at j : ℕ) (n : Note) (ls : List (BTreeSet ℕ)) (new : List ℕ) → slice_get rows at ≡ Some (Some n) → IsLeft at n.line bs ms keys ls new → j + 1 ≡ k → IsFiled (slice_set rows at None) j rs bs ls parked new
+  filed_gone at j n ls new there left less = record {
     counted =
         let counted = is.counted in
         let gone = count_gone rows at n there in
         omega (arith, less, counted, gone);
-    before = closed_gone lines rows closed at is.before;
-    within = subst (λ x. closed ≤ x) (sym (length_set rows at None)) is.within;
-    sized = is.sized;
-    line_of = λ i m g there own. elim (get_set rows at i None (Some m) there) [ inl now ↦ let none : None ≡ Some m = now.1 in cc | inr was ↦ is.line_of i m g was own ];
-    alone_of = λ i m u there own. elim (get_set rows at i None (Some m) there) [ inl now ↦ let none : None ≡ Some m = now.1 in cc | inr was ↦ is.alone_of i m u was own ];
-    lines_of = is.lines_of;
+    resources = is.resources;
+    shown = shown_left rows bs ms keys is.shown at n None ls new there tt left;
+    lists = parked_set at None bs parked (λ u w was. was) (λ m u never own. absurd (none_some Note m never)) is.lists.lines_of;
   }
 
-  -- another place up to which all are closed
-  pub filed_closed : (j : ℕ) → j ≤ length rows → AreClosed lines (take j rows) → IsFiled rows k j rs lines units
-  filed_closed j few closed_then = record { counted = is.counted; before = closed_then; within = few; sized = is.sized; line_of = is.line_of; alone_of = is.alone_of; lines_of = is.lines_of }
-
-  -- more units
-  filed_units : (us : List ℕ) → ((u : ℕ) → is_among units u ≡ true → is_among us u ≡ true) → IsFiled rows k closed rs lines us
-  filed_units us more = record {
+  pub filed_parked : (more : Lists) → KeepParked parked more → IsFiled rows k rs bs ms more keys
+  filed_parked more kept = record {
     counted = is.counted;
-    before = is.before;
-    within = is.within;
-    sized = is.sized;
-    line_of = is.line_of;
-    alone_of = λ i n u there own. more u (is.alone_of i n u there own);
-    lines_of = λ g u own. more u (is.lines_of g u own);
+    resources = is.resources;
+    shown = is.shown;
+    lists = record { rows_of = λ i u a. kept u (OfRow i) (is.lists.rows_of i u a); lines_of = λ g u own. kept u (OfLine g) (is.lists.lines_of g u own) };
   }
 
-  pub filed_alone : (at u : ℕ) (n : Note) (us : List ℕ) → slice_get rows at ≡ Some (Some n) → ((v : ℕ) → is_among units v ≡ true → is_among us v ≡ true) → is_among us u ≡ true →
-      IsFiled (slice_set rows at (Some (alone u n))) k closed rs lines us
-  filed_alone at u n us there more own_unit = record {
+  pub filed_alone : (at u : ℕ) (n : Note) (ls : List (BTreeSet ℕ)) (new : List ℕ) (more : Lists) → slice_get rows at ≡ Some (Some n) → IsLeft at n.line bs ms keys ls new → KeepParked parked more → IsParked more u (OfRow at) →
+      IsFiled (slice_set rows at (Some (alone u n))) k rs bs ls more new
+  filed_alone at u n ls new more there left kept added = record {
     counted = is.counted ∙ sym (count_set rows at n (alone u n) there);
-    before = closed_set lines rows closed at (alone u n) refl is.before;
-    within = subst (λ x. closed ≤ x) (sym (length_set rows at (Some (alone u n)))) is.within;
-    sized = is.sized;
-    line_of = λ i m g there own. elim (get_set rows at i (Some (alone u n)) (Some m) there) [
-      | inl now ↦ let same : alone u n ≡ m = let both = now.1 in cc in let none : None ≡ Some g = ap (λ x. x.line) same ∙ own in cc
-      | inr was ↦ is.line_of i m g was own
-    ];
-    alone_of = λ i m v there own. elim (get_set rows at i (Some (alone u n)) (Some m) there) [
-      | inl now ↦
-          let same : alone u n ≡ m = let both = now.1 in cc in
-          let both : Some u ≡ Some v = ap (λ x. x.blocker) same ∙ own in
-          let one : u ≡ v = cc in
-          subst (λ x. is_among us x ≡ true) one own_unit
-      | inr was ↦ more v (is.alone_of i m v was own)
-    ];
-    lines_of = λ g v own. more v (is.lines_of g v own);
+    resources = is.resources;
+    shown = shown_left rows bs ms keys is.shown at n (Some (alone u n)) ls new there (refl, λ never. none_some ℕ u (sym never)) left;
+    lists = parked_set at (Some (alone u n)) bs more kept
+        (λ m v same own. subst (λ x. IsParked more x (OfRow at)) (some_same ℕ u v (ap (λ x. x.blocker) (some_same Note (alone u n) m same) ∙ own)) added)
+        (λ g v own. kept v (OfLine g) (is.lists.lines_of g v own));
   }
 
-  pub filed_line : (at u g : ℕ) (n : Note) (us : List ℕ) → slice_get rows at ≡ Some (Some n) → g < length lines → ((v : ℕ) → is_among units v ≡ true → is_among us v ≡ true) → is_among us u ≡ true →
-      IsFiled (slice_set rows at (Some (in_line g n))) k closed rs (slice_set lines g (Some u)) us
-  filed_line at u g n us there inside more own_unit = record {
+  pub filed_line : (at u g : ℕ) (n : Note) (s t : BTreeSet ℕ) (more : Lists) → slice_get rows at ≡ Some (Some n) → ((h : ℕ) → n.line ≡ Some h → h ≡ g) → slice_get ms g ≡ Some s → IsPut at true s t →
+      KeepParked parked more → IsParked more u (OfLine g) → IsFiled (slice_set rows at (Some (in_line g n))) k rs (slice_set bs g (Some u)) (slice_set ms g t) more keys
+  filed_line at u g n s t more there only had put kept added = record {
     counted = is.counted ∙ sym (count_set rows at n (in_line g n) there);
-    before =
-        closed_set (slice_set lines g (Some u)) rows closed at (in_line g n) (known_own lines g u inside)
-        (closed_each lines (slice_set lines g (Some u)) (λ h. known_set lines g h u) (take closed rows) is.before);
-    within = subst (λ x. closed ≤ x) (sym (length_set rows at (Some (in_line g n)))) is.within;
-    sized = is.sized ∙ sym (length_set lines g (Some u));
-    line_of = λ i m h there own. subst (λ x. h < x) (sym (length_set lines g (Some u))) (elim (get_set rows at i (Some (in_line g n)) (Some m) there) [
-      | inl now ↦
-          let same : in_line g n ≡ m = let both = now.1 in cc in
-          let both : Some g ≡ Some h = ap (λ x. x.line) same ∙ own in
-          let one : g ≡ h = cc in
-          subst (λ x. x < length lines) one inside
-      | inr was ↦ is.line_of i m h was own
-    ]);
-    alone_of = λ i m v there own. elim (get_set rows at i (Some (in_line g n)) (Some m) there) [
-      | inl now ↦ let same : in_line g n ≡ m = let both = now.1 in cc in let none : None ≡ Some v = ap (λ x. x.blocker) same ∙ own in cc
-      | inr was ↦ more v (is.alone_of i m v was own)
-    ];
-    lines_of = λ h v own. by lines g h v own (λ was. more v (is.lines_of h v was));
+    resources = is.resources ∙ sym (length_set bs g (Some u));
+    shown = shown_closed rows bs ms keys is.shown at g u n s t there only had put;
+    lists = parked_set at (Some (in_line g n)) (slice_set bs g (Some u)) more kept
+        (λ m v same own. absurd (none_some ℕ v (ap (λ x. x.blocker) (some_same Note (in_line g n) m same) ∙ own)))
+        (λ h v own. elim (of_line_set bs g h (Some u) (Some v) own) [
+          | inl now ↦ subst (λ x. IsParked more x (OfLine h)) (some_same ℕ u v now.1) (subst (λ x. IsParked more u (OfLine x)) (sym now.0) added)
+          | inr was ↦ kept v (OfLine h) (is.lists.lines_of h v was)
+        ]);
   }
-    where
-      by : (bs : List (Option ℕ)) (g h v : ℕ) → of_line (slice_set bs g (Some u)) h ≡ Some v → (of_line bs h ≡ Some v → is_among us v ≡ true) → is_among us v ≡ true
-      by [] g h v own was = was own
-      by (b ∷ bs) zero zero v own was = let one : u ≡ v = cc in subst (λ x. is_among us x ≡ true) one own_unit
-      by (b ∷ bs) zero (suc h) v own was = was own
-      by (b ∷ bs) (suc g) zero v own was = was own
-      by (b ∷ bs) (suc g) (suc h) v own was = by bs g h v own was
 
   -- a line more
-  pub filed_new_line : (r : Resource) → IsFiled rows k closed (rs ++ r ∷ []) (lines ++ None ∷ []) units
-  filed_new_line r = record {
+  pub filed_new_line : (r : Resource) (s : BTreeSet ℕ) → ((i : ℕ) → has s i ≡ false) → IsFiled rows k (rs ++ r ∷ []) (bs ++ None ∷ []) (ms ++ s ∷ []) parked keys
+  filed_new_line r s empty = record {
     counted = is.counted;
-    before = closed_each lines (lines ++ None ∷ []) (λ g known. ap is_some (none_more lines g) ∙ known) (take closed rows) is.before;
-    within = is.within;
-    sized = longer rs r ∙ ap suc is.sized ∙ sym (longer lines None);
-    line_of = λ i n g there own. let was = is.line_of i n g there own in subst (λ x. g < x) (sym (longer lines None)) (omega (arith, was));
-    alone_of = is.alone_of;
-    lines_of = λ g u own. is.lines_of g u (sym (none_more lines g) ∙ own);
+    resources = longer rs r ∙ ap suc is.resources ∙ sym (longer bs None);
+    shown = shown_new_line rows bs ms keys is.shown s empty;
+    lists = record { rows_of = is.lists.rows_of; lines_of = λ g u own. is.lists.lines_of g u (sym (of_line_more bs g) ∙ own) };
   }
-    where
-      longer : {X : Type 0} (xs : List X) (x : X) → length (xs ++ x ∷ []) ≡ suc (length xs)
-      longer [] x = refl
-      longer (y ∷ ys) x = ap suc (longer ys x)
 
-      none_more : (bs : List (Option ℕ)) (g : ℕ) → of_line (bs ++ None ∷ []) g ≡ of_line bs g
-      none_more [] zero = refl
-      none_more [] (suc g) = refl
-      none_more (b ∷ bs) zero = refl
-      none_more (b ∷ bs) (suc g) = none_more bs g
+  -- where a unit's list is taken out, and nothing in it waits for the unit
+  module _ (u : ℕ) (list : Vec Parked Global) (there : lookup (nat_eq u) parked ≡ Some list) (ns : List (Option Note)) (cs : List (Option ℕ)) (re : IsReopening u rows ns bs cs) (gone : (j : ℕ) (p : Parked) → slice_get list.items j ≡ Some p → IsNotOf ns cs u p) where
+    in_list : (what : Parked) → IsParked parked u what → IsNotOf ns cs u what
+    in_list what was = gone was.place what (subst (λ l. slice_get l.items was.place ≡ Some what) (some_same (Vec Parked Global) was.list list (sym was.there ∙ there)) was.at)
+
+    pub none_alone : (i : ℕ) → IsAlone ns i u → ⊥
+    none_alone i a = in_list (OfRow i) (is.lists.rows_of i u (re.rows_of i u a)) a
+
+    pub none_lined : (g : ℕ) → of_line cs g ≡ Some u → ⊥
+    none_lined g own = in_list (OfLine g) (is.lists.lines_of g u (re.lines_of g u own)) own
+
+    pub filed_reopened : (less : Lists) (new : List ℕ) → IsShown ns cs ms new → ((v : ℕ) → (v ≡ u → ⊥) → lookup (nat_eq v) less ≡ lookup (nat_eq v) parked) → IsFiled ns k rs cs ms less new
+    filed_reopened less new shown others = record {
+      counted = is.counted ∙ sym (count_forgotten (Some u) rows) ∙ sym (ap count re.rows_alike) ∙ count_forgotten (Some u) ns;
+      resources = is.resources ∙ sym (length_map (given_up (Some u)) bs) ∙ sym (ap length re.lines_alike) ∙ length_map (given_up (Some u)) cs;
+      shown = shown;
+      lists = record {
+        rows_of = λ i v a. still v (OfRow i) (λ e. none_alone i (subst (IsAlone ns i) e a)) (is.lists.rows_of i v (re.rows_of i v a));
+        lines_of = λ g v own. still v (OfLine g) (λ e. none_lined g (own ∙ ap Some e)) (is.lists.lines_of g v (re.lines_of g v own));
+      };
+    }
+      where
+        still : (v : ℕ) (what : Parked) → (v ≡ u → ⊥) → IsParked parked v what → IsParked less v what
+        still v what apart was = record { list = was.list; there = others v apart ∙ was.there; place = was.place; at = was.at }
+
+  -- where a unit has no list, nothing waits for it
+  pub not_alone : (u : ℕ) → lookup (nat_eq u) parked ≡ None → (i : ℕ) → IsAlone rows i u → ⊥
+  not_alone u absent i a = let was = is.lists.rows_of i u a in none_some (Vec Parked Global) was.list (sym absent ∙ was.there)
+
+  pub not_lined : (u : ℕ) → lookup (nat_eq u) parked ≡ None → (g : ℕ) → of_line bs g ≡ Some u → ⊥
+  not_lined u absent g own = let was = is.lists.lines_of g u own in none_some (Vec Parked Global) was.list (sym absent ∙ was.there)
 
 -- the units of the lines where there is one more
 pub blockers_more : (lines : List (Option ℕ)) → KeepsBlockers lines (lines ++ None ∷ [])
@@ -308,34 +243,67 @@ blockers_more lines = record { kept = none_more lines; long = let is = longer li
     none_more (b ∷ bs) zero = refl
     none_more (b ∷ bs) (suc g) = none_more bs g
 
+-- ---- The lists
+
+module _ (ls ms : Lists) (u : ℕ) (w : Vec Parked Global) (h : (q : ℕ) → lookup (nat_eq q) ms ≡ cond (nat_eq u q) (Some w) (lookup (nat_eq q) ls)) where
+  pub list_there : lookup (nat_eq u) ms ≡ Some w
+  list_there = h u ∙ ap (λ b. cond b (Some w) (lookup (nat_eq u) ls)) (eq-eqb u u refl)
+
+  -- where a unit's list is written over by one that has what it had
+  pub list_kept : ((l : Vec Parked Global) (k : ℕ) (p : Parked) → lookup (nat_eq u) ls ≡ Some l → slice_get l.items k ≡ Some p → slice_get w.items k ≡ Some p) → KeepParked ls ms
+  list_kept keeps v what was = by (nat_eq u v) refl
+    where
+      by : (t : Bool) → nat_eq u v ≡ t → IsParked ms v what
+      by true is = record {
+        list = w;
+        there = h v ∙ ap (λ b. cond b (Some w) (lookup (nat_eq v) ls)) is;
+        place = was.place;
+        at = keeps was.list was.place what (subst (λ x. lookup (nat_eq x) ls ≡ Some was.list) (sym (eqb-true u v is)) was.there) was.at;
+      }
+      by false is = record { list = was.list; there = h v ∙ ap (λ b. cond b (Some w) (lookup (nat_eq v) ls)) is ∙ was.there; place = was.place; at = was.at }
+
+  pub list_begun : lookup (nat_eq u) ls ≡ None → KeepParked ls ms
+  list_begun absent = list_kept (λ l k p there at. absurd (none_some (Vec Parked Global) l (sym absent ∙ there)))
+
+  pub list_same : (l : Vec Parked Global) → lookup (nat_eq u) ls ≡ Some l → w.items ≡ l.items → KeepParked ls ms
+  list_same l there same = list_kept (λ m k p own at. subst (λ xs. slice_get xs k ≡ Some p) (sym same) (subst (λ x. slice_get x.items k ≡ Some p) (some_same (Vec Parked Global) m l (sym own ∙ there)) at))
+
+  pub list_more : (l : Vec Parked Global) (what : Parked) → lookup (nat_eq u) ls ≡ Some l → w.items ≡ l.items ++ what ∷ [] → KeepParked ls ms
+  list_more l what there more = list_kept (λ m k p own at.
+      subst (λ xs. slice_get xs k ≡ Some p) (sym more) (push_there l.items k what p (subst (λ x. slice_get x.items k ≡ Some p) (some_same (Vec Parked Global) m l (sym own ∙ there)) at)))
+
+  pub list_added : (l : Vec Parked Global) (what : Parked) → w.items ≡ l.items ++ what ∷ [] → IsParked ms u what
+  list_added l what more = record { list = w; there = list_there; place = length l.items; at = subst (λ xs. slice_get xs (length l.items) ≡ Some what) (sym more) (push_here l.items what) }
+
+-- what is not there is nothing
+pub none_from : {X : Type 0} (o : Option X) → is_some o ≡ false → o ≡ None
+none_from None e = refl
+none_from (Some x) e = cc
+
 -- ---- Forgotten
 
 -- where no command has to wait for a unit all stays
-unnoted : (units : List ℕ) (u : ℕ) (b : Option ℕ) → is_among units u ≡ false → ((v : ℕ) → b ≡ Some v → is_among units v ≡ true) → b ≡ given_up (Some u) b
-unnoted units u b none among = by (is_unit b u) refl
+unnoted : (u : ℕ) (b : Option ℕ) → (b ≡ Some u → ⊥) → b ≡ given_up (Some u) b
+unnoted u None none = refl
+unnoted u (Some v) none = by (v == u) refl
   where
-    is_own : (b : Option ℕ) → is_unit b u ≡ true → b ≡ Some u
-    is_own None is = cc
-    is_own (Some v) is = ap Some (eqb-true v u is)
-
-    by : (t : Bool) → is_unit b u ≡ t → b ≡ cond t None b
-    by true is = absurd (true≢false (sym (among u (is_own b is)) ∙ none))
+    by : (t : Bool) → (v == u) ≡ t → Some v ≡ cond t None (Some v)
+    by true is = absurd (none (ap Some (eqb-true v u is)))
     by false is = refl
 
-pub rows_unnoted : (units : List ℕ) (u : ℕ) (ns : List (Option Note)) → is_among units u ≡ false → ((i : ℕ) (n : Note) (v : ℕ) → slice_get ns i ≡ Some (Some n) → n.blocker ≡ Some v → is_among units v ≡ true) →
-    ns ≡ map (forgotten (Some u)) ns
-rows_unnoted units u [] none among = refl
-rows_unnoted units u (None ∷ ns) none among = ap (λ r. None ∷ r) (rows_unnoted units u ns none (λ i n v there own. among (suc i) n v there own))
-rows_unnoted units u (Some n ∷ ns) none among =
-    let rest = rows_unnoted units u ns none (λ i n v there own. among (suc i) n v there own) in
-    let same = unnoted units u n.blocker none (λ v own. among 0 n v refl own) in
+pub rows_unnoted : (u : ℕ) (ns : List (Option Note)) → ((i : ℕ) → IsAlone ns i u → ⊥) → ns ≡ map (forgotten (Some u)) ns
+rows_unnoted u [] none = refl
+rows_unnoted u (None ∷ ns) none = ap (λ r. None ∷ r) (rows_unnoted u ns (λ i a. none (suc i) (record { note = a.note; there = a.there; own = a.own })))
+rows_unnoted u (Some n ∷ ns) none =
+    let rest = rows_unnoted u ns (λ i a. none (suc i) (record { note = a.note; there = a.there; own = a.own })) in
+    let same = unnoted u n.blocker (λ own. none 0 (record { note = n; there = refl; own = own })) in
     λ i. Some (record n { blocker = same i }) ∷ rest i
 
-pub lines_unnoted : (units : List ℕ) (u : ℕ) (bs : List (Option ℕ)) → is_among units u ≡ false → ((g v : ℕ) → of_line bs g ≡ Some v → is_among units v ≡ true) → bs ≡ map (given_up (Some u)) bs
-lines_unnoted units u [] none among = refl
-lines_unnoted units u (b ∷ bs) none among =
-    let rest = lines_unnoted units u bs none (λ g. among (suc g)) in
-    let same = unnoted units u b none (among 0) in
+pub lines_unnoted : (u : ℕ) (bs : List (Option ℕ)) → ((g : ℕ) → of_line bs g ≡ Some u → ⊥) → bs ≡ map (given_up (Some u)) bs
+lines_unnoted u [] none = refl
+lines_unnoted u (b ∷ bs) none =
+    let rest = lines_unnoted u bs (λ g. none (suc g)) in
+    let same = unnoted u b (none 0) in
     λ i. same i ∷ rest i
 
 -- where no unit gave anything up
@@ -350,45 +318,55 @@ lines_none None [] none = refl
 lines_none None (b ∷ bs) none = ap (λ r. b ∷ r) (lines_none None bs refl)
 lines_none (Some u) bs none = cc
 
--- what is noted then was
-given_was : (unit b : Option ℕ) (v : ℕ) → given_up unit b ≡ Some v → b ≡ Some v
-given_was None b v is = is
-given_was (Some u) b v is = by (is_unit b u) is
-  where
-    by : (t : Bool) → cond t None b ≡ Some v → b ≡ Some v
-    by true is = cc
-    by false is = is
+-- ---- Looked at again
 
-pub filed_forgotten : (rows : List (Option Note)) (k closed : ℕ) (rs : List Resource) (lines : List (Option ℕ)) (units : List ℕ) (unit : Option ℕ) → IsFiled rows k closed rs lines units →
-    IsFiled (map (forgotten unit) rows) k 0 rs (map (given_up unit) lines) units
-filed_forgotten rows k closed rs lines units unit is = record {
-  counted = is.counted ∙ sym (count_forgotten unit rows);
-  before = tt;
-  within = omega arith;
-  sized = is.sized ∙ sym (even lines);
-  line_of = λ i n g there own. let was = row_was rows i n there in subst (λ x. g < x) (sym (even lines)) (is.line_of i was.0 g was.1 (was.2 ∙ own));
-  alone_of = λ i n u there own. let was = row_was rows i n there in is.alone_of i was.0 u was.1 (given_was unit was.0.blocker u (was.3 ∙ own));
-  lines_of = λ g u own. is.lines_of g u (given_was unit (of_line lines g) u (sym (line_was lines g) ∙ own));
+map_set : {X : Type 0} (f : X → X) (xs : List X) (i : ℕ) (x y : X) → slice_get xs i ≡ Some x → f y ≡ f x → map f (slice_set xs i y) ≡ map f xs
+map_set f [] i x y there same = refl
+map_set f (z ∷ xs) zero x y there same = ap (λ r. r ∷ map f xs) (same ∙ ap f (sym (some_same _ z x there)))
+map_set f (z ∷ xs) (suc i) x y there same = ap (λ r. f z ∷ r) (map_set f xs i x y there same)
+
+own_given : (u : ℕ) (b : Option ℕ) → b ≡ Some u → None ≡ given_up (Some u) b
+own_given u b own = ap (λ t. cond t None (Some u)) (sym (eq-eqb u u refl)) ∙ ap (given_up (Some u)) (sym own)
+
+pub reopening_same : (u : ℕ) (rows : List (Option Note)) (bs : List (Option ℕ)) → IsReopening u rows rows bs bs
+reopening_same u rows bs = record { rows_alike = refl; lines_alike = refl; rows_of = λ i v a. a; lines_of = λ g v own. own }
+
+pub reopening_row : (u at : ℕ) (rows : List (Option Note)) (bs : List (Option ℕ)) (n : Note) → slice_get rows at ≡ Some (Some n) → n.blocker ≡ Some u → IsReopening u rows (slice_set rows at (Some (record n { blocker = None }))) bs bs
+reopening_row u at rows bs n there own = record {
+  rows_alike = map_set (forgotten (Some u)) rows at (Some n) (Some (record n { blocker = None })) there (ap (λ b. Some (record n { blocker = b })) (own_given u n.blocker own));
+  lines_alike = refl;
+  rows_of = λ i v a. elim (get_set rows at i (Some (record n { blocker = None })) (Some a.note) a.there) [
+    | inl now ↦ absurd (none_some ℕ v (ap (λ x. x.blocker) (some_same Note (record n { blocker = None }) a.note now.1) ∙ a.own))
+    | inr was ↦ record { note = a.note; there = was.1; own = a.own }
+  ];
+  lines_of = λ g v own. own;
 }
-  where
-    even : (bs : List (Option ℕ)) → length (map (given_up unit) bs) ≡ length bs
-    even [] = refl
-    even (b ∷ bs) = ap suc (even bs)
 
-    row_was : (ns : List (Option Note)) (i : ℕ) (n : Note) → slice_get (map (forgotten unit) ns) i ≡ Some (Some n) → (m : Note) × (slice_get ns i ≡ Some (Some m)) × (m.line ≡ n.line) × (given_up unit m.blocker ≡ n.blocker)
-    row_was [] i n there = cc
-    row_was (None ∷ ns) zero n there = cc
-    row_was (Some m ∷ ns) zero n there = let same : given_note unit m ≡ n = cc in (m, refl, ap (λ x. x.line) same, ap (λ x. x.blocker) same)
-    row_was (c ∷ ns) (suc i) n there = row_was ns i n there
+pub row_opened : (u at : ℕ) (rows : List (Option Note)) (n : Note) → slice_get rows at ≡ Some (Some n) → IsAlone (slice_set rows at (Some (record n { blocker = None }))) at u → ⊥
+row_opened u at rows n there a = elim (get_set rows at at (Some (record n { blocker = None })) (Some a.note) a.there) [
+  | inl now ↦ none_some ℕ u (ap (λ x. x.blocker) (some_same Note (record n { blocker = None }) a.note now.1) ∙ a.own)
+  | inr was ↦ was.0 refl
+]
 
-    line_was : (bs : List (Option ℕ)) (g : ℕ) → of_line (map (given_up unit) bs) g ≡ given_up unit (of_line bs g)
-    line_was [] g = none unit
-      where
-        none : (o : Option ℕ) → None ≡ given_up o None
-        none None = refl
-        none (Some u) = refl
-    line_was (b ∷ bs) zero = refl
-    line_was (b ∷ bs) (suc g) = line_was bs g
+pub reopening_line : (u g : ℕ) (rows : List (Option Note)) (bs : List (Option ℕ)) → slice_get bs g ≡ Some (Some u) → IsReopening u rows rows bs (slice_set bs g None)
+reopening_line u g rows bs own = record {
+  rows_alike = refl;
+  lines_alike = map_set (given_up (Some u)) bs g (Some u) None own (own_given u (Some u) refl);
+  rows_of = λ i v a. a;
+  lines_of = λ h v is. elim (of_line_set bs g h None (Some v) is) [ inl now ↦ absurd (none_some ℕ v now.1) | inr was ↦ was ];
+}
+
+pub reopening_more : (u : ℕ) (rows ns qs : List (Option Note)) (bs cs ds : List (Option ℕ)) → IsReopening u rows ns bs cs → IsReopening u ns qs cs ds → IsReopening u rows qs bs ds
+reopening_more u rows ns qs bs cs ds first next = record {
+  rows_alike = next.rows_alike ∙ first.rows_alike;
+  lines_alike = next.lines_alike ∙ first.lines_alike;
+  rows_of = λ i v a. first.rows_of i v (next.rows_of i v a);
+  lines_of = λ g v own. first.lines_of g v (next.lines_of g v own);
+}
+
+pub not_of_kept : (u : ℕ) (rows ns : List (Option Note)) (bs cs : List (Option ℕ)) (p : Parked) → IsReopening u rows ns bs cs → IsNotOf rows bs u p → IsNotOf ns cs u p
+not_of_kept u rows ns bs cs (OfRow i) re none = λ a. none (re.rows_of i u a)
+not_of_kept u rows ns bs cs (OfLine g) re none = λ own. none (re.lines_of g u own)
 
 -- a list written over another
 refilled : {X : Type 0} (ws ns : List X) → length ws ≡ length ns → take (length ns) (ws ++ drop (length ws) ns) ≡ ws
@@ -397,19 +375,34 @@ refilled [] (n ∷ ns) even = cc
 refilled (w ∷ ws) [] even = cc
 refilled (w ∷ ws) (n ∷ ns) even = ap (λ r. w ∷ r) (refilled ws ns (let k : length ws ≡ length ns = omega (arith, even) in k))
 
-length_map : {X : Type 0} (f : X → X) (xs : List X) → length (map f xs) ≡ length xs
-length_map f [] = refl
-length_map f (x ∷ xs) = ap suc (length_map f xs)
+pub written : {X : Type 0} (size : ℕ) (ns ws : List X) (f : X → X) → size ≡ length ns → map f ws ≡ map f ns → take size (ws ++ drop (length ws) ns) ≡ ws
+written size ns ws f sized alike =
+    ap (λ k. take k (ws ++ drop (length ws) ns)) sized ∙ refilled ws ns (sym (length_map f ws) ∙ ap length alike ∙ length_map f ns)
 
-pub written : {X : Type 0} (f : X → X) (size : ℕ) (ns old ws : List X) → size ≡ length ns → old ≡ ns → ws ≡ map f old → take size (ws ++ drop (length ws) ns) ≡ map f ns
-written f size ns old ws sized read wrote =
-    let made : ws ≡ map f ns = wrote ∙ ap (map f) read in
-    ap (λ k. take k (ws ++ drop (length ws) ns)) sized ∙ refilled ws ns (ap length made ∙ length_map f ns) ∙ made
+-- the lists of the other units
+pub other_lists : (ls ms : Lists) (u : ℕ) → ((q : ℕ) → lookup (nat_eq q) ms ≡ cond (nat_eq u q) None (lookup (nat_eq q) ls)) → (v : ℕ) → (v ≡ u → ⊥) → lookup (nat_eq v) ms ≡ lookup (nat_eq v) ls
+other_lists ls ms u h v apart = h v ∙ by (nat_eq u v) refl
+  where
+    by : (t : Bool) → nat_eq u v ≡ t → cond t None (lookup (nat_eq v) ls) ≡ lookup (nat_eq v) ls
+    by true is = absurd (apart (sym (eqb-true u v is)))
+    by false is = refl
 
--- the same notes and lines
-pub filed_as : (rows ns : List (Option Note)) (k closed : ℕ) (rs : List Resource) (lines bs : List (Option ℕ)) (units : List ℕ) → ns ≡ rows → bs ≡ lines → IsFiled rows k closed rs lines units → IsFiled ns k closed rs bs units
-filed_as rows ns k closed rs lines bs units same_rows same_lines is =
-    subst (λ l. IsFiled l k closed rs bs units) (sym same_rows) (subst (λ l. IsFiled rows k closed rs l units) (sym same_lines) is)
+-- the first command that has to be looked at
+pub first_found : (rows : List (Option Note)) (rs : List Resource) (bs : List (Option ℕ)) (ms : List (BTreeSet ℕ)) (keys : List ℕ) → IsShown rows bs ms keys →
+    (due : List ℕ) (o : Option (ℕ × Note)) → IfSome o (λ p. IsOpenAt rows bs p.0 p.1) →
+    IfSome o (λ p. IsFirstOpen (record { rows = rows; resources = rs; blockers = bs; deadlines = due }) p.0 p.1)
+first_found rows rs bs ms keys is due None first = tt
+first_found rows rs bs ms keys is due (Some p) first = record {
+  there = first.there;
+  open_yet = first.open_yet;
+  before = first.before;
+  line = λ g own. let m = is.member p.0 p.1 g first.there own in subst (λ k. g < k) is.sized (slice_get_within ms g m.members m.there);
+}
+
+-- what holds anyway holds on a refusal
+pub on_err_anyway : {X E Q : Type 0} (r : Result X E) → Q → OnErr r Q
+on_err_anyway (Ok x) q = tt
+on_err_anyway (Err e) q = q
 
 -- a key that is new comes last
 pub pushed_key : (rs new : List Resource) (r : Resource) (there is_new : Bool) → new ≡ (if there then rs else rs ++ r ∷ []) → is_new ≡ not there → is_new ≡ true → new ≡ rs ++ r ∷ []
@@ -428,3 +421,11 @@ resources_more rs r = record { kept = kept rs }
 pub eq_noted : (o : Option ℕ) (u : ℕ) → option_eq nat_eq o (Some u) ≡ is_unit o u
 eq_noted None u = refl
 eq_noted (Some v) u = refl
+
+pub same_unit : (o : Option ℕ) (u : ℕ) (t : Bool) → t ≡ option_eq nat_eq o (Some u) → t ≡ true → o ≡ Some u
+same_unit None u t is holds = absurd (true≢false (sym holds ∙ is))
+same_unit (Some v) u t is holds = ap Some (eqb-true v u (sym is ∙ holds))
+
+pub other_unit : (o : Option ℕ) (u : ℕ) (t : Bool) → t ≡ option_eq nat_eq o (Some u) → t ≡ false → o ≡ Some u → ⊥
+other_unit None u t is fails own = none_some ℕ u own
+other_unit (Some v) u t is fails own = true≢false (sym (eq-eqb v u (some_same ℕ v u own)) ∙ sym is ∙ fails)

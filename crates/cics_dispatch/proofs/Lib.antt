@@ -28,6 +28,7 @@ pub mod ActsAlone
 pub mod KeepsOwn
 pub mod KeptHeld
 pub mod Remembered
+pub mod ShownNotes
 pub mod FiledNotes
 pub mod Noted
 pub mod Looked

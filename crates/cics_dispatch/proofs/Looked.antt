@@ -1,12 +1,10 @@
 -- Waiting commands that were looked at: their notes are right, and the command and all before it needn't be looked at again.
-use Rattle.std.specs.Prelude.{◌≡◌, ℕ, ◌+◌, ◌<◌, ◌≤◌, ◌==◌, Bool, true, false, not, cond, Option, Some, None, is_some, take, if◌then◌else◌, List, [], ◌∷◌, All, length, slice_get, slice_set, refl}
+use Rattle.std.specs.Prelude.{◌≡◌, ℕ, ◌+◌, ◌<◌, ◌≤◌, ◌==◌, Bool, true, false, not, Option, Some, None, is_some, take, if◌then◌else◌, List, [], ◌∷◌, All, length, slice_get, slice_set, refl}
 use Rattle.std.specs.List.{list_any}
 use Rattle.std.proofs.Common.{◌⊎◌, zero, suc, inl, inr, sym, ap, ◌∙◌, subst, arith}
 use Rattle.std.proofs.lemmas.Option.{slice_get_within}
-use Rattle.std.proofs.lemmas.Bool.{false≢true, true≢false, eqb-true, false_from_ne_true}
+use Rattle.std.proofs.lemmas.Bool.{false≢true, eqb-true, false_from_ne_true}
 use Rattle.std.proofs.lemmas.List.Elements.{All-head, All-tail}
-use Rattle.cics_names.specs.Keyed.{is_same}
-use Rattle.cics_names.specs.KeyedLaws.{is_same-self}
 use Rattle.cics_enqueue.specs.Resources.{is_other, overlaps}
 use Rattle.cics_enqueue.specs.declared.resources.Resource.{Resource}
 use Rattle.cics_history.specs.Holding.{held_by}
@@ -17,7 +15,7 @@ use Rattle.cics_dispatch.specs.KeptTasks.{IsWaitKept, AreTasksKept}
 use Rattle.cics_dispatch.proofs.Blocked.{held_back}
 use Rattle.cics_dispatch.specs.Waking.{may_go_on}
 use Rattle.cics_dispatch.specs.Deadlines.{AreDue}
-use Rattle.cics_dispatch.specs.Notes.{of_line, blocker_by, blocker_in, alone, in_line, count, AreClosed, IsFirstOpen, KeepsResources, KeepsBlockers, IsUse, IsNoted, AreNoted, AreNotedNow, NotesValue, IsLooked, UseOf, OfWait, IsOnlyNeed, MayClose, IsFreeAt, OwnerIsAwake}
+use Rattle.cics_dispatch.specs.Notes.{of_line, blocker_by, blocker_in, alone, in_line, count, AreClosed, IsFirstOpen, KeepsResources, KeepsBlockers, IsUse, IsNoted, AreNoted, AreNotedNow, NotesValue, IsLooked, UseOf, OfWait, IsOnlyNeed, MayClose, IsFreeAt, OwnerIsElsewhere}
 use Rattle.cics_dispatch.proofs.FiledNotes.{closed_each, known_set, known_own, count_set, length_set}
 use Rattle.cics_dispatch.proofs.Deadlines.{due_set}
 use Rattle.cics_dispatch.proofs.Noted.{FirstAt, first_at, noted_each, noted_set}
@@ -46,11 +44,11 @@ noted_alone m rs bs k w u blocked is = record {
   use_of = λ g own. cc;
 }
 
--- a unit that one command has to wait for keeps each waiting that uses the same, where the unit's own task doesn't wait
-module _ (m : Machine) (rs : List Resource) (u g : ℕ) (v : Suspended) (blocked : IsBlocked m u v) (own : IsUse m.units.opening rs v g) (awake : OwnerIsAwake m u) where
-  -- of a task that waits
-  blocked_too : (w : Suspended) → is_some (task_at m.tasks w.label) ≡ true → is_waiting m.waiting w.label ≡ true → IsUse m.units.opening rs w g → IsBlocked m u w
-  blocked_too w there waits need = by (task_at m.tasks w.label) refl there
+-- a unit that one command has to wait for keeps each waiting that uses the same and isn't of the unit's own task
+module _ (m : Machine) (rs : List Resource) (u g : ℕ) (v : Suspended) (blocked : IsBlocked m u v) (own : IsUse m.units.opening rs v g) (elsewhere : OwnerIsElsewhere m rs g u) where
+  -- the command at a place
+  blocked_too : (i : ℕ) (w : Suspended) → slice_get m.waiting i ≡ Some w → is_some (task_at m.tasks w.label) ≡ true → IsUse m.units.opening rs w g → IsBlocked m u w
+  blocked_too i w waits there need = by (task_at m.tasks w.label) refl there
     where
       same_resource : own.resource ≡ need.resource
       same_resource = let both : Some own.resource ≡ Some need.resource = sym own.there ∙ need.there in cc
@@ -64,7 +62,7 @@ module _ (m : Machine) (rs : List Resource) (u g : ℕ) (v : Suspended) (blocked
           never : t.unit ≡ Some u → ⊥
           never of_t =
               let place = place_of_task m.tasks w.label t is in
-              true≢false (sym waits ∙ ap (is_waiting m.waiting) (sym place.2) ∙ awake place.0 t place.1 of_t)
+              elsewhere place.0 t place.1 of_t i w waits (sym place.2) need
 
           apart : (o : Option ℕ) → t.unit ≡ o → is_other o u ≡ true
           apart None none = refl
@@ -93,14 +91,14 @@ own_set [] g u v is = cc
 own_set (b ∷ bs) zero u v is = cc
 own_set (b ∷ bs) (suc g) u v is = own_set bs g u v is
 
-module _ (m : Machine) (rs : List Resource) (bs : List (Option ℕ)) (u g : ℕ) (v : Suspended) (blocked : IsBlocked m u v) (own : IsUse m.units.opening rs v g) (closes : MayClose m bs g u) where
-  closed_one : (k : Note) (w : Suspended) → is_some (task_at m.tasks w.label) ≡ true → is_waiting m.waiting w.label ≡ true → IsNoted m rs bs k w → IsNoted m rs (slice_set bs g (Some u)) k w
-  closed_one k w there waits is = record { label = is.label; blocked = λ x. by k.line refl x; use_of = is.use_of }
+module _ (m : Machine) (rs : List Resource) (bs : List (Option ℕ)) (u g : ℕ) (v : Suspended) (blocked : IsBlocked m u v) (own : IsUse m.units.opening rs v g) (closes : MayClose m rs bs g u) where
+  closed_one : (k : Note) (i : ℕ) (w : Suspended) → slice_get m.waiting i ≡ Some w → is_some (task_at m.tasks w.label) ≡ true → IsNoted m rs bs k w → IsNoted m rs (slice_set bs g (Some u)) k w
+  closed_one k i w waits there is = record { label = is.label; blocked = λ x. by k.line refl x; use_of = is.use_of }
     where
       in_this : (x : ℕ) → k.line ≡ Some g → u ≡ x → IsBlocked m x w
       in_this x has same = subst (λ y. IsBlocked m y w) same (elim closes [
         | inl already ↦ is.blocked u ((λ i. blocker_by bs (has i) k.blocker) ∙ already)
-        | inr awake ↦ blocked_too m rs u g v blocked own awake w there waits (is.use_of g has)
+        | inr elsewhere ↦ blocked_too m rs u g v blocked own elsewhere i w waits there (is.use_of g has)
       ])
 
       by : (line : Option ℕ) → k.line ≡ line → (x : ℕ) → blocker_by (slice_set bs g (Some u)) line k.blocker ≡ Some x → IsBlocked m x w
@@ -110,22 +108,19 @@ module _ (m : Machine) (rs : List Resource) (bs : List (Option ℕ)) (u g : ℕ)
         | inr now ↦ in_this x (has ∙ ap Some now.0) now.1
       ]
 
-  closed_all : (ns : List (Option Note)) (ws : List Suspended) → ((w : Suspended) → is_waiting ws w.label ≡ true → is_waiting m.waiting w.label ≡ true) → All (IsWaitKept m) ws → AreNoted m rs bs ns ws →
+  closed_all : (ns : List (Option Note)) (ws : List Suspended) → ((i : ℕ) (w : Suspended) → slice_get ws i ≡ Some w → (j : ℕ) × (slice_get m.waiting j ≡ Some w)) → All (IsWaitKept m) ws → AreNoted m rs bs ns ws →
       AreNoted m rs (slice_set bs g (Some u)) ns ws
   closed_all [] ws waits kept is = tt
   closed_all (None ∷ ns) ws waits kept is = closed_all ns ws waits kept is
   closed_all (Some k ∷ ns) [] waits kept is = absurd is
   closed_all (Some k ∷ ns) (w ∷ ws) waits kept is = (
-    closed_one k w (All-head (IsWaitKept m) w ws kept).of_task (waits w (ap (λ b. cond b true (is_waiting ws w.label)) (is_same-self w.label))) is.0,
-    closed_all ns ws (λ x later. waits x (waits_behind x later)) (All-tail (IsWaitKept m) w ws kept) is.1,
+    (let here = waits 0 w refl in closed_one k here.0 w here.1 (All-head (IsWaitKept m) w ws kept).of_task is.0),
+    closed_all ns ws (λ i x there. waits (suc i) x there) (All-tail (IsWaitKept m) w ws kept) is.1,
   )
-    where
-      waits_behind : (x : Suspended) → is_waiting ws x.label ≡ true → is_waiting (w ∷ ws) x.label ≡ true
-      waits_behind x later = elim (is_same w.label x.label) as (λ b. cond b true (is_waiting ws x.label) ≡ true) [ true ↦ refl | false ↦ later ]
 
   -- all commands of a line have to wait for the unit
   pub line_closed : (ns : List (Option Note)) → All (IsWaitKept m) m.waiting → AreNoted m rs bs ns m.waiting → AreNoted m rs (slice_set bs g (Some u)) ns m.waiting
-  line_closed ns kept = closed_all ns m.waiting (λ w waits. waits) kept
+  line_closed ns kept = closed_all ns m.waiting (λ i w there. (i, there)) kept
 
 -- the note of a command in a line whose unit is known
 pub noted_in_line : (m : Machine) (rs : List Resource) (bs : List (Option ℕ)) (k : Note) (w : Suspended) (u g : ℕ) → IsBlocked m u w → IsUse m.units.opening rs w g → k.label ≡ w.label →
@@ -172,7 +167,7 @@ module _ (m : Machine) (a : NotesValue) (at u : ℕ) (n : Note) (kept : AreTasks
   looked_alone b false rows resources blockers deadlines =
       subst (λ v. IsLooked m a v at false) (λ i. record { rows = sym rows i; resources = sym resources i; blockers = sym blockers i; deadlines = sym deadlines i }) (looked_not m a at noted)
 
-  module _ (g : ℕ) (within : g < length a.blockers) (closes : MayClose m a.blockers g u)
+  module _ (g : ℕ) (within : g < length a.blockers) (closes : MayClose m a.resources a.blockers g u)
       (uses : UseOf m a.resources n g) where
     closed_then : IsLooked m a (record { rows = slice_set a.rows at (Some (in_line g n)); resources = a.resources; blockers = slice_set a.blockers g (Some u); deadlines = a.deadlines }) at true
     closed_then = record {

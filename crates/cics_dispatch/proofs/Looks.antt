@@ -1,6 +1,7 @@
 -- A look at a waiting command: the wait of a label is one, and what is found of it is so.
 use Rattle.std.specs.Prelude.{◌≡◌, ℕ, ◌<◌, ◌≤◌, Bool, true, false, cond, Option, Some, None, is_some, is_none, IfSome, List, [], ◌∷◌, All, take, length, slice_get, refl}
 use Rattle.std.proofs.Common.{zero, suc, sym, ap, subst, ◌∙◌}
+use Rattle.std.specs.List.{list_any}
 use Rattle.std.specs.Map.{values_of}
 use Rattle.std.proofs.lemmas.Bool.{false≢true, true≢false, false_from_ne_true}
 use Rattle.std.proofs.lemmas.List.Elements.{All-head, All-tail}
@@ -14,13 +15,13 @@ use Rattle.cics_history.specs.Execution.{IsOpenUnit}
 use Rattle.cics_history.specs.Isolation.{IsSound}
 use Rattle.cics_history.specs.declared.ops.Op.{Op}
 use Rattle.cics_dispatch.specs.Machine.{Machine, Task, Suspended, task_at, label_of, is_waiting, not_waiting, with_waiting}
-use Rattle.cics_dispatch.specs.Tasks.{own_unit, IsOwn, HasNoOwner}
+use Rattle.cics_dispatch.specs.Tasks.{own_unit, IsOwn}
 use Rattle.cics_dispatch.specs.Waits.{Rows, wait_of, AreOnce, AreApart}
 use Rattle.cics_dispatch.specs.Waking.{awaited_by, may_go_on, first_free, went_on, woken_first, woken}
 use Rattle.cics_dispatch.specs.KeptTasks.{IsReady, IsWaitKept, AreTasksKept}
 use Rattle.cics_dispatch.specs.Calls.{OfTask, HasReady}
-use Rattle.cics_dispatch.specs.Settled.{reads_queue, IsBlocked}
-use Rattle.cics_dispatch.specs.Notes.{OfWait, IsOnlyUse, IsOnlyNeed, OwnerIsAwake, IsFirstFreeOf, IsFirstFree}
+use Rattle.cics_dispatch.specs.Settled.{reads_queue, needed_by, IsBlocked}
+use Rattle.cics_dispatch.specs.Notes.{OfWait, IsOnlyUse, IsOnlyNeed, OwnerIsElsewhere, IsFirstFreeOf, IsFirstFree}
 use Rattle.cics_dispatch.specs.Steps.{Stepped, with_outcome, by_op}
 use Rattle.cics_dispatch.specs.declared.outcomes.Woken.{Woken}
 use Rattle.cics_dispatch.proofs.WaitTable.{is_waiting-number}
@@ -213,9 +214,18 @@ value_short m x ws label value n nosuspend all found none verb = by (task_at m.t
 
 -- ---- The owner of a unit
 
-pub owner_awake : (m : Machine) (u : ℕ) (label : Bytes) → IsOwn own_unit m.tasks → label ≡ label_of m.tasks u → is_waiting m.waiting label ≡ false → OwnerIsAwake m u
-owner_awake m u label owners is awake = λ i t there has.
-    ap (is_waiting m.waiting) (sym (is ∙ label_of-owner m.tasks u i t owners there has)) ∙ awake
+module _ (m : Machine) (rs : List Resource) (g u : ℕ) (label : Bytes) (owners : IsOwn own_unit m.tasks) (is : label ≡ label_of m.tasks u) where
+  -- no command of its task waits
+  pub owner_awake : is_waiting m.waiting label ≡ false → OwnerIsElsewhere m rs g u
+  owner_awake awake = λ i t there has j w at own needed.
+      let same : w.label ≡ label = own ∙ sym (is ∙ label_of-owner m.tasks u i t owners there has) in
+      false≢true (sym awake ∙ ap (is_waiting m.waiting) (sym same) ∙ waits_at m.waiting j w at)
 
-pub no_owner_awake : (m : Machine) (u : ℕ) → HasNoOwner m.tasks u → OwnerIsAwake m u
-no_owner_awake m u none = λ i t there has. absurd (none.other i t there has)
+  -- the one that waits uses another resource than the line's
+  pub owner_other : (r : Resource) → OfWait m.waiting label (λ w. IsOnlyNeed r w.command.verb w.op) → (slice_get rs g ≡ Some r → ⊥) → OwnerIsElsewhere m rs g u
+  owner_other r need other = λ i t there has j w at own needed.
+      let same : w.label ≡ label = own ∙ sym (is ∙ label_of-owner m.tasks u i t owners there has) in
+      let needs : needed_by m.units.opening w.command.verb w.op ≡ r ∷ [] = (need j w at same).only m.units.opening (λ x. true) (ap (list_any (λ x. true)) needed.needed) in
+      let both : needed.resource ∷ [] ≡ r ∷ [] = sym needed.needed ∙ needs in
+      let one : needed.resource ≡ r = cc in
+      other (needed.there ∙ ap Some one)

@@ -1,17 +1,120 @@
--- How the notes of waiting commands are kept.
-use Rattle.std.specs.Prelude.{◌≡◌, ◌<◌, ◌≤◌, ℕ, true, Option, Some, take, length, List, slice_get}
+-- How the notes of waiting commands are kept: what waits for each unit, and which commands have to be looked at.
+use Rattle.std.specs.Prelude.{◌≡◌, ◌≤◌, ℕ, Bool, true, false, Option, Some, None, length, map, List, Vec, slice_get, slice_set, nat_eq}
+use Rattle.std.specs.Map.{lookup}
+use Rattle.std.specs.BTreeSet.{BTreeSet, contains}
+use Rattle.std.specs.Ordering.{nat_cmp}
+use Rattle.std.specs.declared.alloc.Global.{Global}
 use Rattle.cics_enqueue.specs.declared.resources.Resource.{Resource}
 use Rattle.cics_dispatch.specs.declared.notes.Note.{Note}
-use Rattle.cics_dispatch.specs.Settled.{is_among}
-use Rattle.cics_dispatch.specs.Notes.{of_line, count, AreClosed}
+use Rattle.cics_dispatch.specs.declared.notes.Parked.{Parked}
+use Rattle.cics_dispatch.specs.declared.notes.Parked.TheVariants.{Line as OfLine, Row as OfRow}
+use Rattle.cics_dispatch.specs.Notes.{of_line, given_up, forgotten, count}
 
--- the notes are counted, those before a place are closed, each line has its resource, and the units that are noted are among
--- these
-pub record IsFiled (rows : List (Option Note)) (k closed : ℕ) (rs : List Resource) (lines : List (Option ℕ)) (units : List ℕ) : Type 0 where
+-- the command of the note at a place is one of these
+abbrev pub has : BTreeSet ℕ → ℕ → Bool
+has s i = contains nat_cmp s i
+
+-- a line has the command of the note at a place
+pub record IsMember (ms : List (BTreeSet ℕ)) (g i : ℕ) : Type 0 where
+  pub members : BTreeSet ℕ
+  pub there : slice_get ms g ≡ Some members
+  pub member : has members i ≡ true
+
+-- the note at a place is of a line
+pub record IsInLine (rows : List (Option Note)) (i g : ℕ) : Type 0 where
+  pub note : Note
+  pub there : slice_get rows i ≡ Some (Some note)
+  pub own : note.line ≡ Some g
+
+-- one of these that isn't behind a place is shown as one to look at
+pub record IsShownBy (s : BTreeSet ℕ) (keys : List ℕ) (i : ℕ) : Type 0 where
+  pub place : ℕ
+  pub before : place ≤ i
+  pub member : has s place ≡ true
+  pub key : slice_get keys place ≡ Some 0
+
+-- each command that has to be looked at is shown as one, or one of its line that isn't behind it is; each line has the
+-- places of its notes
+pub record IsShown (rows : List (Option Note)) (bs : List (Option ℕ)) (ms : List (BTreeSet ℕ)) (keys : List ℕ) : Type 0 where
+  pub even : length keys ≡ length rows
+  pub sized : length ms ≡ length bs
+  pub alone : (i : ℕ) (n : Note) → slice_get rows i ≡ Some (Some n) → n.line ≡ None → n.blocker ≡ None → slice_get keys i ≡ Some 0
+  pub member : (i : ℕ) (n : Note) (g : ℕ) → slice_get rows i ≡ Some (Some n) → n.line ≡ Some g → IsMember ms g i
+  pub row : (g : ℕ) (s : BTreeSet ℕ) (i : ℕ) → slice_get ms g ≡ Some s → has s i ≡ true → IsInLine rows i g
+  pub first : (g : ℕ) (s : BTreeSet ℕ) (i : ℕ) → slice_get ms g ≡ Some s → of_line bs g ≡ None → has s i ≡ true → IsShownBy s keys i
+
+-- something is in the list of a unit
+pub record IsParked (parked : List (ℕ × Vec Parked Global)) (u : ℕ) (what : Parked) : Type 0 where
+  pub list : Vec Parked Global
+  pub there : lookup (nat_eq u) parked ≡ Some list
+  pub place : ℕ
+  pub at : slice_get list.items place ≡ Some what
+
+-- what waits for a unit in one is in the other
+abbrev pub KeepParked : List (ℕ × Vec Parked Global) → List (ℕ × Vec Parked Global) → Type 0
+KeepParked parked more = (u : ℕ) (what : Parked) → IsParked parked u what → IsParked more u what
+
+-- a note says that its command has to wait for a unit
+pub record IsAlone (rows : List (Option Note)) (i u : ℕ) : Type 0 where
+  pub note : Note
+  pub there : slice_get rows i ≡ Some (Some note)
+  pub own : note.blocker ≡ Some u
+
+-- each line and each command that has to wait for a unit is in its list
+pub record AreParked (rows : List (Option Note)) (bs : List (Option ℕ)) (parked : List (ℕ × Vec Parked Global)) : Type 0 where
+  pub rows_of : (i u : ℕ) → IsAlone rows i u → IsParked parked u (OfRow i)
+  pub lines_of : (g u : ℕ) → of_line bs g ≡ Some u → IsParked parked u (OfLine g)
+
+-- the notes are counted, shown and parked, and each line has its resource
+pub record IsFiled (rows : List (Option Note)) (k : ℕ) (rs : List Resource) (bs : List (Option ℕ)) (ms : List (BTreeSet ℕ)) (parked : List (ℕ × Vec Parked Global)) (keys : List ℕ) : Type 0 where
   pub counted : k ≡ count rows
-  pub before : AreClosed lines (take closed rows)
-  pub within : closed ≤ length rows
-  pub sized : length rs ≡ length lines
-  pub line_of : (i : ℕ) (n : Note) (g : ℕ) → slice_get rows i ≡ Some (Some n) → n.line ≡ Some g → g < length lines
-  pub alone_of : (i : ℕ) (n : Note) (u : ℕ) → slice_get rows i ≡ Some (Some n) → n.blocker ≡ Some u → is_among units u ≡ true
-  pub lines_of : (g u : ℕ) → of_line lines g ≡ Some u → is_among units u ≡ true
+  pub resources : length rs ≡ length bs
+  pub shown : IsShown rows bs ms keys
+  pub lists : AreParked rows bs parked
+
+-- ---- Changes
+
+-- the first of these is shown, if they have to be looked at
+pub record IsFirstShown (b : Option ℕ) (s : BTreeSet ℕ) (keys new : List ℕ) : Type 0 where
+  pub even : length new ≡ length keys
+  pub kept : (i : ℕ) → slice_get keys i ≡ Some 0 → slice_get new i ≡ Some 0
+  pub shown : (i : ℕ) → b ≡ None → has s i ≡ true → IsShownBy s new i
+
+-- a place comes in, or goes
+pub record IsPut (at : ℕ) (there : Bool) (old new : BTreeSet ℕ) : Type 0 where
+  pub here : has new at ≡ there
+  pub others : (i : ℕ) → (i ≡ at → ⊥) → has new i ≡ has old i
+
+-- a command has left its line
+pub record HasLeft (at g : ℕ) (bs : List (Option ℕ)) (ms : List (BTreeSet ℕ)) (keys : List ℕ) (ls : List (BTreeSet ℕ)) (new : List ℕ) : Type 0 where
+  pub old : BTreeSet ℕ
+  pub rest : BTreeSet ℕ
+  pub there : slice_get ms g ≡ Some old
+  pub gone : IsPut at false old rest
+  pub put : ls ≡ slice_set ms g rest
+  pub first : IsFirstShown (of_line bs g) rest keys new
+
+-- or was in none
+abbrev pub IsLeft : ℕ → Option ℕ → List (Option ℕ) → List (BTreeSet ℕ) → List ℕ → List (BTreeSet ℕ) → List ℕ → Type 0
+IsLeft at None bs ms keys ls new = (ls ≡ ms) × (new ≡ keys)
+IsLeft at (Some g) bs ms keys ls new = HasLeft at g bs ms keys ls new
+
+-- a command has joined a line
+pub record HasJoined (at g : ℕ) (ms ls : List (BTreeSet ℕ)) : Type 0 where
+  pub old : BTreeSet ℕ
+  pub all : BTreeSet ℕ
+  pub there : slice_get ms g ≡ Some old
+  pub joined : IsPut at true old all
+  pub put : ls ≡ slice_set ms g all
+
+-- what this stands for doesn't wait for a unit
+abbrev pub IsNotOf : List (Option Note) → List (Option ℕ) → ℕ → Parked → Type 0
+IsNotOf rows bs u (OfRow i) = IsAlone rows i u → ⊥
+IsNotOf rows bs u (OfLine g) = of_line bs g ≡ Some u → ⊥
+
+-- some of what waits for a unit is looked at again, and nothing waits for a unit that didn't
+pub record IsReopening (u : ℕ) (rows ns : List (Option Note)) (bs cs : List (Option ℕ)) : Type 0 where
+  pub rows_alike : map (forgotten (Some u)) ns ≡ map (forgotten (Some u)) rows
+  pub lines_alike : map (given_up (Some u)) cs ≡ map (given_up (Some u)) bs
+  pub rows_of : (i v : ℕ) → IsAlone ns i v → IsAlone rows i v
+  pub lines_of : (g v : ℕ) → of_line cs g ≡ Some v → of_line bs g ≡ Some v

@@ -10,7 +10,7 @@ use Rattle.cics_history.specs.declared.ops.Op.{Op}
 use Rattle.cics_dispatch.specs.declared.notes.Look.{Look}
 use Rattle.cics_dispatch.specs.declared.notes.Look.TheVariants.{MayGoOn, IsBlocked as Blocked}
 use Rattle.cics_dispatch.specs.declared.notes.Note.{Note}
-use Rattle.cics_dispatch.specs.Machine.{Machine, Task, Suspended, is_unit, is_waiting, task_at}
+use Rattle.cics_dispatch.specs.Machine.{Machine, Task, Suspended, is_unit, task_at}
 use Rattle.cics_dispatch.specs.Waking.{may_go_on, first_free}
 use Rattle.cics_dispatch.specs.Settled.{reads_queue, needed_by, IsBlocked, IsInTime}
 use Rattle.cics_dispatch.specs.Deadlines.{never, AreDue}
@@ -33,6 +33,7 @@ abbrev pub blocker_by : List (Option ℕ) → Option ℕ → Option ℕ → Opti
 blocker_by bs None own = own
 blocker_by bs (Some g) own = of_line bs g
 
+-- and so of the command of a note
 abbrev pub blocker_in : List (Option ℕ) → Note → Option ℕ
 blocker_in bs n = blocker_by bs n.line n.blocker
 
@@ -175,14 +176,14 @@ pub record IsOnlyNeed (r : Resource) (verb : Verb) (op : Option Op) : Type 0 whe
       list_any p (needed_by o verb op) ≡ true → needed_by o verb op ≡ r ∷ []
   pub no_reader : reads_queue op ≡ false
 
--- no command waits of the task whose unit this is
-abbrev pub OwnerIsAwake : Machine → ℕ → Type 0
-OwnerIsAwake m u = (i : ℕ) (t : Task) →
-    slice_get m.tasks i ≡ Some t → t.unit ≡ Some u → is_waiting m.waiting t.label ≡ false
+-- the command that waits of the task whose unit this is, if one does, isn't one of a line
+abbrev pub OwnerIsElsewhere : Machine → List Resource → ℕ → ℕ → Type 0
+OwnerIsElsewhere m rs g u = (i : ℕ) (t : Task) → slice_get m.tasks i ≡ Some t → t.unit ≡ Some u →
+    OfWait m.waiting t.label (λ w. IsUse m.units.opening rs w g → ⊥)
 
--- a line's commands have to wait for a unit: they do already, or one that is looked at does and the unit's task doesn't wait
-abbrev pub MayClose : Machine → List (Option ℕ) → ℕ → ℕ → Type 0
-MayClose m bs g u = (of_line bs g ≡ Some u) ⊎ OwnerIsAwake m u
+-- a line's commands have to wait for a unit: they do already, or one that is looked at does and none is of the unit's task
+abbrev pub MayClose : Machine → List Resource → List (Option ℕ) → ℕ → ℕ → Type 0
+MayClose m rs bs g u = (of_line bs g ≡ Some u) ⊎ OwnerIsElsewhere m rs g u
 
 -- the first of these commands that may go on is the one of a label's task
 pub record IsFirstFreeOf (m : Machine) (ws : List Suspended) (label : Bytes) : Type 0 where

@@ -112,8 +112,8 @@ fn raise(keys: &Vec<u64>, above: &mut Vec<Vec<u64>>) -> Result<(), NoMemory>
     Ok(())
 }
 
-// Makes room for one more key at each level. The keys stay, whatever the result.
-fn make_room(levels: &mut [Vec<u64>]) -> Result<(), NoMemory>
+// Makes room for one more key at each level above the keys. The keys stay, whatever the result.
+fn make_room_above(levels: &mut [Vec<u64>]) -> Result<(), NoMemory>
     ensures ok { OnOk result (HaveRoom levels.new) }
     ensures above { (keys : List ℕ) → AreAbove keys levels.old → AreAbove keys levels.new }
 {
@@ -122,7 +122,21 @@ fn make_room(levels: &mut [Vec<u64>]) -> Result<(), NoMemory>
     }
     let (level, above) = levels.split_at_mut(1);
     level[0].reserve(1)?;
-    make_room(above)
+    make_room_above(above)
+}
+
+// Makes room for one more key, and puts a level of one key above the last where that has two. The keys stay, whatever the
+// result.
+fn make_room(keys: &mut Vec<u64>, above: &mut Vec<Vec<u64>>) -> Result<(), NoMemory>
+    requires { AreAbove keys.old.items above.old.items }
+    ensures room { OnOk result (vec_len keys.new < vec_capacity keys.new) }
+    ensures rooms { OnOk result (HaveRoom above.new.items) }
+    ensures same { keys.new.items ≡ keys.old.items }
+    ensures above { AreAbove keys.new.items above.new.items }
+{
+    raise(keys, above)?;
+    keys.reserve(1)?;
+    make_room_above(above.as_mut_slice())
 }
 
 // Takes the keys of all levels away, and keeps their room.
@@ -159,6 +173,24 @@ fn first_below(level: &[u64], above: &[Vec<u64>], limit: u64) -> Option<usize>
     Some(first_of_pair(level, pair, limit))
 }
 
+/// Adds a key to each of two rows, behind all others. Where memory is refused both rows stay as they are.
+pub(crate) fn push_each(
+    first: &mut Firsts,
+    first_key: u64,
+    second: &mut Firsts,
+    second_key: u64,
+) -> Result<(), NoMemory>
+    ensures ok { OnOk result ((first.new ≡ first.old ++ first_key ∷ [])
+        × (second.new ≡ second.old ++ second_key ∷ [])) }
+    ensures err { OnErr result ((first.new ≡ first.old) × (second.new ≡ second.old)) }
+{
+    make_room(&mut first.keys, &mut first.above)?;
+    make_room(&mut second.keys, &mut second.above)?;
+    append(&mut first.keys, first.above.as_mut_slice(), first_key);
+    append(&mut second.keys, second.above.as_mut_slice(), second_key);
+    Ok(())
+}
+
 impl Firsts {
     /// No key. `alloc` gives the memory for those that will be added.
     pub(crate) fn new(alloc: Global) -> Firsts
@@ -168,25 +200,6 @@ impl Firsts {
             keys: Vec::new(alloc),
             above: Vec::new(alloc),
         }
-    }
-
-    /// How many keys there are.
-    pub(crate) fn len(&self) -> usize
-        ensures { result ≡ length self.now }
-    {
-        self.keys.len()
-    }
-
-    /// Adds a key behind all others. Where memory is refused the keys stay as they are.
-    pub(crate) fn push(&mut self, key: u64) -> Result<(), NoMemory>
-        ensures ok { OnOk result (self.new ≡ self.old ++ key ∷ []) }
-        ensures err { OnErr result (self.new ≡ self.old) }
-    {
-        raise(&self.keys, &mut self.above)?;
-        self.keys.reserve(1)?;
-        make_room(self.above.as_mut_slice())?;
-        append(&mut self.keys, self.above.as_mut_slice(), key);
-        Ok(())
     }
 
     /// Puts a key in the place `at` of another. Takes no memory.

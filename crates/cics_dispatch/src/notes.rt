@@ -2,20 +2,27 @@
 
 ghost use Rattle.std.specs.Prelude.{◌≡◌, ◌<◌, [], ◌∷◌, ◌++◌, None, Some, false, length, map, is_ok};
 ghost use Rattle.std.specs.Prelude.{slice_get, slice_set, if◌then◌else◌, IfOk, IfSome, IfNone};
-ghost use Rattle.std.specs.Prelude.{take, true, is_some, ◌≤◌, All, MatchOption};
+ghost use Rattle.std.specs.Prelude.{take, true, is_some, nat_eq, ◌≤◌, All, MatchOption};
+ghost use Rattle.std.specs.Map.{lookup};
 ghost use Rattle.cics_dispatch.specs.Notes.{forgotten, given_up, new_note, alone, in_line, count};
 ghost use Rattle.cics_dispatch.specs.Notes.{of_line, blocker_in, AreClosed, IsOpenAt, IsFirstOpen};
 ghost use Rattle.cics_dispatch.specs.Notes.{without, without_deadline, IsNoteAt};
 ghost use Rattle.cics_dispatch.specs.Notes.{KeepsResources, KeepsBlockers};
+ghost use Rattle.cics_dispatch.specs.Filed.{has, IsShown, IsFirstShown, IsLeft, HasJoined, IsParked, KeepParked, IsNotOf, IsAlone, IsReopening};
+ghost use Rattle.cics_dispatch.specs.declared.notes.Parked.{Parked as ParkedValue};
+ghost use Rattle.cics_dispatch.specs.declared.notes.Parked.TheVariants.{Line as OfLine};
+ghost use Rattle.std.specs.Prelude.{ℕ, List, Option, OnOk, OnErr};
+ghost use Rattle.std.specs.BTreeSet.{BTreeSet as Places};
 ghost use Rattle.cics_dispatch.specs.declared.notes.Note.{Note as NoteValue};
 ghost use Rattle.cics_dispatch.specs.Deadlines.{never};
 ghost use Rattle.cics_dispatch.specs.Firsts.{IsFirstBelow};
 
-use crate::firsts::Firsts;
+use crate::firsts::{Firsts, push_each};
 use cics_enqueue::{Resource, UnitId};
 use cics_names::{Name8, NoMemory};
-use indexmap::IndexSet;
+use indexmap::{IndexMap, IndexSet};
 use std::alloc::Global;
+use std::collections::BTreeSet;
 use std::marker::Model;
 
 /// What is known of a command that waits.
@@ -57,28 +64,43 @@ pub(crate) struct Late {
     pub(crate) note: Option<usize>,
 }
 
+// What waits for a unit.
+#[derive(Clone, Copy)]
+enum Parked {
+    // The commands of a line, by its number.
+    Line(usize),
+    // A command in no line, by the place of its note.
+    Row(usize),
+}
+
 /// What is known of a front of the commands that wait, in the order in which the waits began.
 ///
 /// The commands that use the same one resource and nothing else form a line, so that it is noted of all of them at once whom they
-/// have to wait for.
+/// have to wait for. To find the first command that has to be looked at, to add one, to note the unit that it has to wait for, and
+/// to drop one costs the logarithm of their number; to forget a unit the same for each line and each command in no line that
+/// waits for it.
 #[derive(Drop)]
 pub(crate) struct Notes {
     // The notes, and None for each command that waits no more.
     rows: Vec<Option<Note>>,
     // How many notes there are.
     count: usize,
-    // No command before this place has to be looked at.
-    closed: usize,
     // The resource of each line.
     resources: IndexSet<Resource>,
     // The unit that the commands of each line have to wait for as long as it gives nothing up; None where they have to be
     // looked at.
     lines: Vec<Option<UnitId>>,
-    // The units that commands have to wait for, and perhaps others.
-    blockers: IndexSet<UnitId>,
+    // The places of the notes of each line.
+    members: Vec<BTreeSet<usize>>,
+    // What waits for each unit, and perhaps what did.
+    parked: IndexMap<UnitId, Vec<Parked>>,
+    // For each place LOOK where the command has to be looked at, if it is in no line or the first of its line, and perhaps
+    // where it needn't be any more; else WAIT.
+    keys: Firsts,
     // Of each place the last clock at which its task hasn't waited too long; u64::MAX where the task may wait without
     // limit, and where no command waits any more.
     deadlines: Firsts,
+    alloc: Global,
 }
 
 impl Model for Notes {
@@ -94,12 +116,18 @@ impl Model for Notes {
       deadlines = n.deadlines;
     } };
 
-    ghost invariant = { λ n. IsFiled n.rows.items n.count n.closed n.resources.keys n.lines.items
-        n.blockers.keys };
+    ghost invariant = { λ n. IsFiled n.rows.items n.count n.resources.keys n.lines.items
+        n.members.items n.parked.entries n.keys };
 }
 
+// The key of a command that has to be looked at.
+const LOOK: u64 = 0;
+
+// The key of a command that needn't be looked at.
+const WAIT: u64 = 1;
+
 // The unit that a command has to wait for, if it is known.
-fn blocker_of(lines: &[Option<UnitId>], note: &Note) -> Option<UnitId>
+fn note_blocker(lines: &[Option<UnitId>], note: &Note) -> Option<UnitId>
     ensures { result ≡ blocker_in lines.now note.now }
 {
     let Some(line) = note.line else {
@@ -118,59 +146,214 @@ fn open_note(lines: &[Option<UnitId>], row: Option<Note>) -> Option<Note>
         → is_some (blocker_in lines.now n) ≡ true) }
 {
     let note = row?;
-    match blocker_of(lines, &note) {
+    match note_blocker(lines, &note) {
         Some(_) => None,
         None => Some(note),
     }
 }
 
-// The place and the note of the first command from a place on that has to be looked at.
-fn first_from(rows: &[Option<Note>], lines: &[Option<UnitId>], from: usize) -> Option<(usize, Note)>
-    requires closed { AreClosed lines.now (take from rows.now) }
+// The place and the note of the first command that has to be looked at. Of those that needn't be looked at any more it is
+// noted that they wait.
+fn first_shown(
+    rows: &[Option<Note>],
+    lines: &[Option<UnitId>],
+    keys: &mut Firsts,
+) -> Option<(usize, Note)>
+    requires shown { (ms : List (Places ℕ)) × IsShown rows.now lines.now ms keys.old }
+    ensures shown { (ms : List (Places ℕ)) → IsShown rows.now lines.now ms keys.old
+        → IsShown rows.now lines.now ms keys.new }
     ensures first { IfSome result (λ p. IsOpenAt rows.now lines.now p.0 p.1) }
     ensures none { IfNone result (AreClosed lines.now rows.now) }
 {
-    for at in from..rows.len() {
+    while let Some(at) = keys.first_below(WAIT) {
         if let Some(note) = open_note(lines, rows[at]) {
             return Some((at, note));
         }
+        keys.set(at, WAIT);
     }
     None
 }
 
-// The unit that commands have to wait for, once a unit may have given something up.
-fn opened(blocker: Option<UnitId>, unit: UnitId) -> Option<UnitId>
-    ensures { result ≡ given_up (Some unit) blocker }
+// Gives a unit a list, if it has none.
+fn begin(
+    parked: &mut IndexMap<UnitId, Vec<Parked>>,
+    unit: UnitId,
+    alloc: Global,
+) -> Result<(), NoMemory>
+    ensures kept { KeepParked parked.old.entries parked.new.entries }
+    ensures there { OnOk result (is_some (lookup (nat_eq unit) parked.new.entries) ≡ true) }
 {
-    if blocker == Some(unit) { None } else { blocker }
+    if !parked.contains_key(&unit) {
+        parked.insert(unit, Vec::new(alloc))?;
+    }
+    Ok(())
 }
 
-// The note at a place then.
-fn opened_note(row: Option<Note>, unit: UnitId) -> Option<Note>
-    ensures { result ≡ forgotten (Some unit) row }
+// Adds what waits for a unit. Where memory is refused all that waited for a unit does yet.
+fn park(
+    parked: &mut IndexMap<UnitId, Vec<Parked>>,
+    unit: UnitId,
+    what: Parked,
+    alloc: Global,
+) -> Result<(), NoMemory>
+    ensures added { OnOk result (IsParked parked.new.entries unit what) }
+    ensures kept { KeepParked parked.old.entries parked.new.entries }
 {
-    let note = row?;
-    Some(Note {
-        blocker: opened(note.blocker, unit),
-        ..note
-    })
+    begin(parked, unit, alloc)?;
+    let Some(list) = parked.get_mut(&unit) else {
+        unreachable!();
+    };
+    list.push(what)?;
+    Ok(())
 }
 
-// Says of each line that waits for a unit that its commands have to be looked at.
-fn open_lines(lines: &mut [Option<UnitId>], unit: UnitId)
-    ensures { lines.new ≡ map (given_up (Some unit)) lines.old }
+// Adds a line to what waits for a unit, unless it does already: `blocker` is the unit that it waits for.
+fn park_line(
+    parked: &mut IndexMap<UnitId, Vec<Parked>>,
+    number: usize,
+    blocker: Option<UnitId>,
+    unit: UnitId,
+    alloc: Global,
+) -> Result<(), NoMemory>
+    requires { blocker ≡ Some unit → IsParked parked.old.entries unit (OfLine number) }
+    ensures added { OnOk result (IsParked parked.new.entries unit (OfLine number)) }
+    ensures kept { KeepParked parked.old.entries parked.new.entries }
 {
-    for at in 0..lines.len() {
-        lines[at] = opened(lines[at], unit);
+    if blocker == Some(unit) {
+        return Ok(());
+    }
+    park(parked, unit, Parked::Line(number), alloc)
+}
+
+// Says of the first command of a line that it has to be looked at, if no unit is known that the line has to wait for.
+fn show_first(keys: &mut Firsts, blocker: Option<UnitId>, members: &BTreeSet<usize>)
+    requires within { (i : ℕ) → has members.now i ≡ true → i < length keys.old }
+    ensures { IsFirstShown blocker members.now keys.old keys.new }
+{
+    if blocker.is_some() {
+        return;
+    }
+    if let Some(first) = members.first() {
+        keys.set(*first, LOOK);
     }
 }
 
-// Says of each command in no line that waits for a unit that it has to be looked at.
-fn open_rows(rows: &mut [Option<Note>], unit: UnitId)
-    ensures { rows.new ≡ map (forgotten (Some unit)) rows.old }
+// Takes the command of the note at a place out of its line, if it is in one.
+fn leave(
+    lines: &[Option<UnitId>],
+    members: &mut Vec<BTreeSet<usize>>,
+    keys: &mut Firsts,
+    at: usize,
+    note: &Note,
+)
+    requires line { IfSome note.now.line (λ g. g < length members.old.items) }
+    requires even { length members.old.items ≡ length lines.now }
+    requires within { (g : ℕ) (s : Places ℕ) (i : ℕ) → slice_get members.old.items g ≡ Some s
+        → has s i ≡ true → i < length keys.old }
+    ensures { IsLeft at note.now.line lines.now members.old.items keys.old members.new.items keys.new }
 {
-    for at in 0..rows.len() {
-        rows[at] = opened_note(rows[at], unit);
+    let Some(number) = note.line else {
+        return;
+    };
+    members[number].remove(&at);
+    show_first(keys, lines[number], &members[number]);
+}
+
+// Puts the command of the note at a place into a line, if it isn't in it.
+fn join(members: &mut Vec<BTreeSet<usize>>, number: usize, at: usize) -> Result<(), NoMemory>
+    requires { number < length members.old.items }
+    ensures ok { OnOk result (HasJoined at number members.old.items members.new.items) }
+    ensures err { OnErr result (members.new.items ≡ members.old.items) }
+{
+    members[number].insert(at)?;
+    Ok(())
+}
+
+// Says of the commands of a line that they have to be looked at, if they wait for a unit.
+fn reopen_line(
+    lines: &mut [Option<UnitId>],
+    members: &[BTreeSet<usize>],
+    keys: &mut Firsts,
+    number: usize,
+    unit: UnitId,
+)
+    requires shown { (rows : List (Option NoteValue))
+        × IsShown rows lines.old members.now keys.old }
+    ensures shown { (rows : List (Option NoteValue)) → IsShown rows lines.old members.now keys.old
+        → IsShown rows lines.new members.now keys.new }
+    ensures reopening { (rows : List (Option NoteValue))
+        → IsReopening unit rows rows lines.old lines.new }
+    ensures opened { of_line lines.new number ≡ Some unit → ⊥ }
+{
+    if number >= lines.len() {
+        return;
+    }
+    if lines[number] == Some(unit) {
+        lines[number] = None;
+        show_first(keys, None, &members[number]);
+    }
+}
+
+// Says of the command of the note at a place that it has to be looked at, if it waits for a unit in no line.
+fn reopen_row(rows: &mut [Option<Note>], keys: &mut Firsts, at: usize, unit: UnitId)
+    requires even { length keys.old ≡ length rows.old }
+    ensures shown { (bs : List (Option ℕ)) (ms : List (Places ℕ)) → IsShown rows.old bs ms keys.old
+        → IsShown rows.new bs ms keys.new }
+    ensures reopening { (bs : List (Option ℕ)) → IsReopening unit rows.old rows.new bs bs }
+    ensures opened { IsAlone rows.new at unit → ⊥ }
+{
+    if at >= rows.len() {
+        return;
+    }
+    let Some(note) = rows[at] else {
+        return;
+    };
+    if note.blocker == Some(unit) {
+        rows[at] = Some(Note {
+            blocker: None,
+            ..note
+        });
+        keys.set(at, LOOK);
+    }
+}
+
+// Says of what stands in a unit's list that it has to be looked at, if it waits for the unit.
+fn reopen_one(
+    rows: &mut [Option<Note>],
+    lines: &mut [Option<UnitId>],
+    members: &[BTreeSet<usize>],
+    keys: &mut Firsts,
+    what: Parked,
+    unit: UnitId,
+)
+    requires shown { IsShown rows.old lines.old members.now keys.old }
+    ensures shown { IsShown rows.new lines.new members.now keys.new }
+    ensures reopening { IsReopening unit rows.old rows.new lines.old lines.new }
+    ensures opened { IsNotOf rows.new lines.new unit what }
+{
+    match what {
+        Parked::Line(number) => reopen_line(lines, members, keys, number, unit),
+        Parked::Row(at) => reopen_row(rows, keys, at, unit),
+    }
+}
+
+// Says so of all that stands there.
+fn reopen(
+    rows: &mut [Option<Note>],
+    lines: &mut [Option<UnitId>],
+    members: &[BTreeSet<usize>],
+    keys: &mut Firsts,
+    parked: &[Parked],
+    unit: UnitId,
+)
+    requires shown { IsShown rows.old lines.old members.now keys.old }
+    ensures shown { IsShown rows.new lines.new members.now keys.new }
+    ensures reopening { IsReopening unit rows.old rows.new lines.old lines.new }
+    ensures opened { (k : ℕ) (p : ParkedValue) → slice_get parked.now k ≡ Some p
+        → IsNotOf rows.new lines.new unit p }
+{
+    for place in 0..parked.len() {
+        reopen_one(rows, lines, members, keys, parked[place], unit);
     }
 }
 
@@ -183,11 +366,13 @@ impl Notes {
         Notes {
             rows: Vec::new(alloc),
             count: 0,
-            closed: 0,
             resources: IndexSet::new(alloc),
             lines: Vec::new(alloc),
-            blockers: IndexSet::new(alloc),
+            members: Vec::new(alloc),
+            parked: IndexMap::new(alloc),
+            keys: Firsts::new(alloc),
             deadlines: Firsts::new(alloc),
+            alloc,
         }
     }
 
@@ -211,10 +396,11 @@ impl Notes {
     {
         self.rows.clear();
         self.count = 0;
-        self.closed = 0;
         self.resources.clear();
         self.lines.clear();
-        self.blockers.clear();
+        self.members.clear();
+        self.parked.clear();
+        self.keys.clear();
         self.deadlines.clear();
     }
 
@@ -232,7 +418,7 @@ impl Notes {
             return Err(NoMemory);
         };
         self.rows.reserve(1)?;
-        self.deadlines.push(deadline)?;
+        push_each(&mut self.keys, LOOK, &mut self.deadlines, deadline)?;
         self.rows.push_reserved(Some(Note {
             label,
             line: None,
@@ -248,12 +434,7 @@ impl Notes {
         ensures none { IfNone result (AreClosed self.new.blockers self.new.rows) }
         ensures same { self.new ≡ self.old }
     {
-        let first = first_from(self.rows.as_slice(), self.lines.as_slice(), self.closed);
-        self.closed = match &first {
-            Some((at, _)) => *at,
-            None => self.rows.len(),
-        };
-        first
+        first_shown(self.rows.as_slice(), self.lines.as_slice(), &mut self.keys)
     }
 
     /// The place of the first note whose deadline is before a clock, or `None` where none is. Its task has waited too long.
@@ -299,6 +480,16 @@ impl Notes {
         ensures resources { self.new.resources ≡ self.old.resources }
         ensures blockers { self.new.blockers ≡ self.old.blockers }
     {
+        let Some(note) = self.rows[at] else {
+            unreachable!();
+        };
+        leave(
+            self.lines.as_slice(),
+            &mut self.members,
+            &mut self.keys,
+            at,
+            &note,
+        );
         self.rows[at] = None;
         self.count -= 1;
         self.deadlines.set(at, u64::MAX);
@@ -317,12 +508,17 @@ impl Notes {
         let Some(unit) = unit else {
             return false;
         };
-        if !self.blockers.contains(&unit) {
+        let Some(parked) = self.parked.swap_remove(&unit) else {
             return false;
-        }
-        open_lines(&mut self.lines, unit);
-        open_rows(&mut self.rows, unit);
-        self.closed = 0;
+        };
+        reopen(
+            &mut self.rows,
+            &mut self.lines,
+            self.members.as_slice(),
+            &mut self.keys,
+            parked.as_slice(),
+            unit,
+        );
         true
     }
 
@@ -336,15 +532,27 @@ impl Notes {
         ensures deadlines { self.new.deadlines ≡ self.old.deadlines }
     {
         self.lines.reserve(1)?;
+        self.members.reserve(1)?;
         let (number, is_new) = self.resources.insert_full(resource)?;
         if is_new {
             self.lines.push_reserved(None);
+            self.members.push_reserved(BTreeSet::new(self.alloc));
         }
         Ok(number)
     }
 
+    /// Whether a line is that of a resource.
+    pub(crate) fn is_line_of(&self, line: usize, resource: &Resource) -> bool
+        ensures { slice_get self.now.resources line ≡ Some resource.now → result ≡ true }
+    {
+        match self.resources.get_index(line) {
+            Some(own) => own == resource,
+            None => false,
+        }
+    }
+
     /// The unit that the commands of a line have to wait for, if it is known.
-    pub(crate) fn blocker_of(&self, line: usize) -> Option<UnitId>
+    pub(crate) fn line_blocker(&self, line: usize) -> Option<UnitId>
         requires { line < length self.now.blockers }
         ensures { result ≡ of_line self.now.blockers line }
     {
@@ -361,7 +569,14 @@ impl Notes {
         ensures deadlines { self.new.deadlines ≡ self.old.deadlines }
         ensures blockers { self.new.blockers ≡ self.old.blockers }
     {
-        self.blockers.insert(unit)?;
+        park(&mut self.parked, unit, Parked::Row(at), self.alloc)?;
+        leave(
+            self.lines.as_slice(),
+            &mut self.members,
+            &mut self.keys,
+            at,
+            note,
+        );
         self.rows[at] = Some(Note {
             label: note.label,
             line: None,
@@ -389,7 +604,8 @@ impl Notes {
         ensures resources { self.new.resources ≡ self.old.resources }
         ensures deadlines { self.new.deadlines ≡ self.old.deadlines }
     {
-        self.blockers.insert(unit)?;
+        park_line(&mut self.parked, line, self.lines[line], unit, self.alloc)?;
+        join(&mut self.members, line, at)?;
         self.lines[line] = Some(unit);
         self.rows[at] = Some(Note {
             label: note.label,

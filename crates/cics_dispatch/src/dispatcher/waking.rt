@@ -10,7 +10,7 @@ ghost use Rattle.cics_dispatch.specs.KeptTasks.{IsWaitKept, AreTasksKept};
 ghost use Rattle.cics_dispatch.specs.Waking.{expired, woken, woken_first, first_free, first_late};
 ghost use Rattle.cics_dispatch.specs.Waking.{is_late, awaited_by};
 ghost use Rattle.cics_dispatch.specs.Steps.{with_outcome};
-ghost use Rattle.cics_dispatch.specs.Notes.{OfWait, IsFound, IsOnlyUse, IsOnlyNeed, OwnerIsAwake};
+ghost use Rattle.cics_dispatch.specs.Notes.{OfWait, IsFound, IsOnlyUse, IsOnlyNeed, OwnerIsElsewhere};
 ghost use Rattle.cics_dispatch.specs.Notes.{AreNotedNow, IsFirstFree, IsFirstFreeOf, IsFirstOpen};
 ghost use Rattle.cics_dispatch.specs.Notes.{MayClose, UseOf, IsLooked, IsFreeAt, AreSettled, count};
 ghost use Rattle.cics_dispatch.specs.Notes.{IsPlaceOf};
@@ -134,25 +134,31 @@ impl Dispatcher {
         }
     }
 
-    // Whether the task of a unit has a command that waits.
-    fn owner_waits(&self, unit: UnitId) -> bool
-        ensures { result ≡ false → OwnerIsAwake self.now.machine unit }
+    // Whether the task of a unit has a command that waits, and that may be one of a line: it isn't known to use another
+    // resource.
+    fn owner_waits_in(&self, notes: &Notes, line: usize, unit: UnitId) -> bool
+        ensures { result ≡ false
+            → OwnerIsElsewhere self.now.machine notes.now.resources line unit }
     {
-        match self.tasks.label_of(unit) {
-            Some(label) => self.waits.is_waiting(&label),
-            None => false,
+        let Some(label) = self.tasks.label_of(unit) else {
+            return false;
+        };
+        match self.need(&label) {
+            Some(resource) => notes.is_line_of(line, &resource),
+            None => self.waits.is_waiting(&label),
         }
     }
 
-    // Whether the commands of a line may all be said to wait for a unit, as one of them has to: they do already, or no command
-    // waits of the unit's own task.
+    // Whether the commands of a line may all be said to wait for a unit, as one of them has to: they do already, or none of
+    // them is of the unit's own task.
     fn may_close(&self, notes: &Notes, line: usize, unit: UnitId) -> bool
         requires { line < length notes.now.blockers }
-        ensures { result ≡ true → MayClose self.now.machine notes.now.blockers line unit }
+        ensures { result ≡ true → MayClose self.now.machine
+            notes.now.resources notes.now.blockers line unit }
     {
-        match notes.blocker_of(line) {
+        match notes.line_blocker(line) {
             Some(blocker) => blocker == unit,
-            None => !self.owner_waits(unit),
+            None => !self.owner_waits_in(notes, line, unit),
         }
     }
 

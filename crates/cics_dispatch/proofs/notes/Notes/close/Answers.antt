@@ -1,17 +1,54 @@
-use Rattle.std.proofs.Common.{◌≡◌, ◌<◌, ◌∙◌, ℕ, true, nat_eq, List, Some, length, slice_get, ap, sym, subst, refl}
-use Rattle.indexmap.specs.IndexSet.{insert_key}
-use Rattle.cics_dispatch.specs.Settled.{is_among}
-use Rattle.cics_dispatch.proofs.FiledNotes.{inserted, kept_among, filed_line}
+use Rattle.std.proofs.Common.{◌≡◌, ◌<◌, ◌∙◌, Some, length, slice_get, slice_set, ap, sym, subst, arith, refl}
+use Rattle.std.proofs.lemmas.Option.{slice_get_within, slice_get_read}
+use Rattle.cics_dispatch.specs.Notes.{in_line}
+use Rattle.cics_dispatch.specs.Filed.{IsFiled}
+use Rattle.cics_dispatch.proofs.ShownNotes.{only_of, of_line_at}
+use Rattle.cics_dispatch.proofs.FiledNotes.{filed_parked, filed_line}
 use Rattle.cics_dispatch.proofs.notes.Notes.close.Goals as goal
+
+pub invariant_of-self : goal.invariant_of-self
+invariant_of-self c =
+    let u = c.self.inside in
+    filed_parked u.rows.items u.count u.resources.keys u.lines.items u.members.items u.parked.entries u.keys c.self.invariant c.park_line.new.parked.entries c.park_line.ensures.kept
+
+pub park_line-requires : goal.park_line-requires
+park_line-requires c =
+    let u = c.self.inside in
+    let bs = u.lines.items in
+    let inside : c.args.line < length bs = subst (λ v. c.args.line < length v.blockers) (sym c.self.view_is) c.requires.within in
+    let there = slice_get_read bs (length bs) c.args.line c.index.result.now refl inside c.index.ensures in
+    λ own. c.self.invariant.lists.lines_of c.args.line c.args.unit (of_line_at bs c.args.line c.index.result.now there ∙ own)
+
+pub invariant_of-self-in_err-join : goal.invariant_of-self-in_err-join
+invariant_of-self-in_err-join c =
+    let u = c.self.inside in
+    subst (λ ms. IsFiled u.rows.items u.count u.resources.keys u.lines.items ms c.park_line.new.parked.entries u.keys) (sym c.in_err-join.ensures.err)
+    (filed_parked u.rows.items u.count u.resources.keys u.lines.items u.members.items u.parked.entries u.keys c.self.invariant c.park_line.new.parked.entries c.park_line.ensures.kept)
+
+pub join-requires : goal.join-requires
+join-requires c =
+    let u = c.self.inside in
+    let inside : c.args.line < length u.lines.items = subst (λ v. c.args.line < length v.blockers) (sym c.self.view_is) c.requires.within in
+    subst (λ k. c.args.line < k) (sym c.self.invariant.shown.sized) inside
+
+pub index_mut-requires-2 : goal.index_mut-requires-2
+index_mut-requires-2 c =
+    let u = c.self.inside in
+    let rows = u.rows.items in
+    let n = c.args.note.now in
+    let there : slice_get rows c.args.at ≡ Some (Some n) = ap (λ v. slice_get v.rows c.args.at) c.self.view_is ∙ c.requires.there in
+    let within = slice_get_within rows c.args.at (Some n) there in
+    let ok = u.rows.ok.0 in
+    omega (arith, within, ok)
 
 pub invariant_of-self-2 : goal.invariant_of-self-2
 invariant_of-self-2 c =
     let u = c.self.inside in
-    let us : List ℕ = u.blockers.keys in
+    let rows = u.rows.items in
     let n = c.args.note.now in
-    let there : slice_get u.rows.items c.args.at ≡ Some (Some n) = ap (λ v. slice_get v.rows c.args.at) c.self.view_is ∙ c.requires.there in
-    let put : c.insert.new.self.keys ≡ insert_key nat_eq us c.args.unit = c.in_ok-insert.ensures.keys in
-    let more : (v : ℕ) → is_among us v ≡ true → is_among c.insert.new.self.keys v ≡ true = λ v was. subst (λ ks. is_among ks v ≡ true) (sym put) (kept_among nat_eq (λ a b. refl) us c.args.unit v was) in
-    let own : is_among c.insert.new.self.keys c.args.unit ≡ true = subst (λ ks. is_among ks c.args.unit ≡ true) (sym put) (inserted nat_eq (λ a b. refl) us c.args.unit) in
-    let inside : c.args.line < length u.lines.items = subst (λ v. c.args.line < length v.blockers) (sym c.self.view_is) c.requires.within in
-    filed_line u.rows.items u.count u.closed u.resources.keys u.lines.items us c.self.invariant c.args.at c.args.unit c.args.line n c.insert.new.self.keys there inside more own
+    let there : slice_get rows c.args.at ≡ Some (Some n) = ap (λ v. slice_get v.rows c.args.at) c.self.view_is ∙ c.requires.there in
+    let j = c.in_ok-join.ensures.ok in
+    let bs = slice_set u.lines.items c.args.line (Some c.args.unit) in
+    subst (λ ms. IsFiled (slice_set rows c.args.at (Some (in_line c.args.line n))) u.count u.resources.keys bs ms c.park_line.new.parked.entries u.keys) (sym j.put)
+    (filed_line rows u.count u.resources.keys u.lines.items u.members.items u.parked.entries u.keys c.self.invariant c.args.at c.args.unit c.args.line n j.old j.all c.park_line.new.parked.entries
+    there (only_of n.line c.args.line c.requires.only) j.there j.joined c.park_line.ensures.kept c.in_ok-park_line.ensures.added)

@@ -1,7 +1,9 @@
-use Rattle.std.proofs.Common.{rules, ◌≡◌, ◌∙◌, Some, false, map, ap, sym, subst, refl}
-use Rattle.cics_dispatch.specs.Settled.{is_among}
+use Rattle.std.proofs.Common.{rules, ◌≡◌, ◌∙◌, ℕ, Some, None, map, take, drop, length, slice_get, nat_eq, ◌++◌, ap, sym, subst}
+use Rattle.std.specs.Map.{lookup}
+use Rattle.cics_dispatch.specs.declared.notes.Parked.{Parked}
 use Rattle.cics_dispatch.specs.Notes.{forgotten, given_up}
-use Rattle.cics_dispatch.proofs.FiledNotes.{any_among, rows_none, lines_none, rows_unnoted, lines_unnoted, filed_forgotten, filed_as, written}
+use Rattle.cics_dispatch.specs.Filed.{IsFiled, IsShown, IsNotOf, IsReopening}
+use Rattle.cics_dispatch.proofs.FiledNotes.{rows_none, lines_none, rows_unnoted, lines_unnoted, not_alone, not_lined, none_alone, none_lined, filed_reopened, other_lists, written}
 use Rattle.cics_dispatch.proofs.notes.Notes.forget.Goals as goal
 
 pub returns-in_default-clause-rows : goal.returns-in_default-clause-rows
@@ -10,25 +12,64 @@ returns-in_default-clause-rows c = rows_none c.args.unit c.args.self.now.rows (s
 pub returns-in_default-clause-blockers : goal.returns-in_default-clause-blockers
 returns-in_default-clause-blockers c = lines_none c.args.unit c.args.self.now.blockers (search rules)
 
-pub returns-then-not-contains-clause-rows : goal.returns-then-not-contains-clause-rows
-returns-then-not-contains-clause-rows c =
+pub returns-in_default-swap_remove-clause-rows : goal.returns-in_default-swap_remove-clause-rows
+returns-in_default-swap_remove-clause-rows c =
     let u = c.self.inside in
-    let none : is_among u.blockers.keys c.in-Some.unit ≡ false = sym (any_among _ (λ a b. refl) c.in-Some.unit u.blockers.keys) ∙ sym c.contains.ensures ∙ c.if-not-contains.true in
-    subst (λ v. v.rows ≡ map (forgotten c.args.unit) v.rows) c.self.view_is
-    (rows_unnoted u.blockers.keys c.in-Some.unit u.rows.items none c.self.invariant.alone_of ∙ ap (λ o. map (forgotten o) u.rows.items) (sym c.in-Some.is))
+    let absent : lookup (nat_eq c.in-Some.unit) u.parked.entries ≡ None = sym c.swap_remove.ensures.value ∙ c.in_default-swap_remove.is in
+    rows_unnoted c.in-Some.unit u.rows.items (not_alone u.rows.items u.count u.resources.keys u.lines.items u.members.items u.parked.entries u.keys c.self.invariant c.in-Some.unit absent)
+    ∙ ap (λ o. map (forgotten o) u.rows.items) (sym c.in-Some.is) ∙ ap (λ v. map (forgotten c.args.unit) v.rows) c.self.view_is
 
-pub returns-then-not-contains-clause-blockers : goal.returns-then-not-contains-clause-blockers
-returns-then-not-contains-clause-blockers c =
+pub returns-in_default-swap_remove-clause-blockers : goal.returns-in_default-swap_remove-clause-blockers
+returns-in_default-swap_remove-clause-blockers c =
     let u = c.self.inside in
-    let none : is_among u.blockers.keys c.in-Some.unit ≡ false = sym (any_among _ (λ a b. refl) c.in-Some.unit u.blockers.keys) ∙ sym c.contains.ensures ∙ c.if-not-contains.true in
-    subst (λ v. v.blockers ≡ map (given_up c.args.unit) v.blockers) c.self.view_is
-    (lines_unnoted u.blockers.keys c.in-Some.unit u.lines.items none c.self.invariant.lines_of ∙ ap (λ o. map (given_up o) u.lines.items) (sym c.in-Some.is))
+    let absent : lookup (nat_eq c.in-Some.unit) u.parked.entries ≡ None = sym c.swap_remove.ensures.value ∙ c.in_default-swap_remove.is in
+    lines_unnoted c.in-Some.unit u.lines.items (not_lined u.rows.items u.count u.resources.keys u.lines.items u.members.items u.parked.entries u.keys c.self.invariant c.in-Some.unit absent)
+    ∙ ap (λ o. map (given_up o) u.lines.items) (sym c.in-Some.is) ∙ ap (λ v. map (given_up c.args.unit) v.blockers) c.self.view_is
 
-pub invariant_of-self : goal.invariant_of-self
-invariant_of-self c =
+pub invariant_of-self-2 : goal.invariant_of-self-2
+invariant_of-self-2 c =
     let u = c.self.inside in
     let unit = c.in-Some.unit in
-    let lines = written (given_up (Some unit)) u.lines.len u.lines.items c.deref_mut.result.now c.open_lines.new.lines u.lines.ok.0 c.deref_mut.ensures.value c.open_lines.ensures in
-    let rows = written (forgotten (Some unit)) u.rows.len u.rows.items c.deref_mut-2.result.now c.open_rows.new.rows u.rows.ok.0 c.deref_mut-2.ensures.value c.open_rows.ensures in
-    filed_as (map (forgotten (Some unit)) u.rows.items) _ u.count 0 u.resources.keys (map (given_up (Some unit)) u.lines.items) _ u.blockers.keys rows lines
-    (filed_forgotten u.rows.items u.count u.closed u.resources.keys u.lines.items u.blockers.keys (Some unit) c.self.invariant)
+    let ns = c.reopen.new.rows in
+    let cs = c.reopen.new.lines in
+    let list = c.in-Some-swap_remove.parked in
+    let there : lookup (nat_eq unit) u.parked.entries ≡ Some list = sym c.swap_remove.ensures.value ∙ c.in-Some-swap_remove.is in
+    let re = subst (λ r. IsReopening unit r ns u.lines.items cs) c.deref_mut.ensures.value (subst (λ b. IsReopening unit c.deref_mut.result.now ns b cs) c.deref_mut-2.ensures.value c.reopen.ensures.reopening) in
+    let gone = subst (λ xs. (j : ℕ) (p : Parked) → slice_get xs j ≡ Some p → IsNotOf ns cs unit p) c.as_slice-2.ensures.value c.reopen.ensures.opened in
+    let rows = written u.rows.len u.rows.items ns (forgotten (Some unit)) u.rows.ok.0 re.rows_alike in
+    let lines = written u.lines.len u.lines.items cs (given_up (Some unit)) u.lines.ok.0 re.lines_alike in
+    let less = c.swap_remove.new.self.entries in
+    let new = c.reopen.new.keys in
+    let shown = subst (λ ms. IsShown ns cs ms new) c.as_slice.ensures.value c.reopen.ensures.shown in
+    let others = other_lists u.parked.entries less unit c.swap_remove.ensures.updates.0 in
+    subst (λ r. IsFiled r u.count u.resources.keys (take u.lines.len (cs ++ drop (length cs) u.lines.items)) u.members.items less new) (sym rows)
+    (subst (λ b. IsFiled ns u.count u.resources.keys b u.members.items less new) (sym lines)
+    (filed_reopened u.rows.items u.count u.resources.keys u.lines.items u.members.items u.parked.entries u.keys c.self.invariant unit list there ns cs re gone less new shown others))
+
+pub returns-clause-rows : goal.returns-clause-rows
+returns-clause-rows c =
+    let u = c.self.inside in
+    let unit = c.in-Some.unit in
+    let ns = c.reopen.new.rows in
+    let cs = c.reopen.new.lines in
+    let list = c.in-Some-swap_remove.parked in
+    let there : lookup (nat_eq unit) u.parked.entries ≡ Some list = sym c.swap_remove.ensures.value ∙ c.in-Some-swap_remove.is in
+    let re = subst (λ r. IsReopening unit r ns u.lines.items cs) c.deref_mut.ensures.value (subst (λ b. IsReopening unit c.deref_mut.result.now ns b cs) c.deref_mut-2.ensures.value c.reopen.ensures.reopening) in
+    let gone = subst (λ xs. (j : ℕ) (p : Parked) → slice_get xs j ≡ Some p → IsNotOf ns cs unit p) c.as_slice-2.ensures.value c.reopen.ensures.opened in
+    let rows = written u.rows.len u.rows.items ns (forgotten (Some unit)) u.rows.ok.0 re.rows_alike in
+    rows ∙ rows_unnoted unit ns (none_alone u.rows.items u.count u.resources.keys u.lines.items u.members.items u.parked.entries u.keys c.self.invariant unit list there ns cs re gone) ∙ re.rows_alike
+    ∙ ap (λ o. map (forgotten o) u.rows.items) (sym c.in-Some.is) ∙ ap (λ v. map (forgotten c.args.unit) v.rows) c.self.view_is
+
+pub returns-clause-blockers : goal.returns-clause-blockers
+returns-clause-blockers c =
+    let u = c.self.inside in
+    let unit = c.in-Some.unit in
+    let ns = c.reopen.new.rows in
+    let cs = c.reopen.new.lines in
+    let list = c.in-Some-swap_remove.parked in
+    let there : lookup (nat_eq unit) u.parked.entries ≡ Some list = sym c.swap_remove.ensures.value ∙ c.in-Some-swap_remove.is in
+    let re = subst (λ r. IsReopening unit r ns u.lines.items cs) c.deref_mut.ensures.value (subst (λ b. IsReopening unit c.deref_mut.result.now ns b cs) c.deref_mut-2.ensures.value c.reopen.ensures.reopening) in
+    let gone = subst (λ xs. (j : ℕ) (p : Parked) → slice_get xs j ≡ Some p → IsNotOf ns cs unit p) c.as_slice-2.ensures.value c.reopen.ensures.opened in
+    let lines = written u.lines.len u.lines.items cs (given_up (Some unit)) u.lines.ok.0 re.lines_alike in
+    lines ∙ lines_unnoted unit cs (none_lined u.rows.items u.count u.resources.keys u.lines.items u.members.items u.parked.entries u.keys c.self.invariant unit list there ns cs re gone) ∙ re.lines_alike
+    ∙ ap (λ o. map (given_up o) u.lines.items) (sym c.in-Some.is) ∙ ap (λ v. map (given_up c.args.unit) v.blockers) c.self.view_is

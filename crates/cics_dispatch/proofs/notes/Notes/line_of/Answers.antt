@@ -2,6 +2,7 @@ use Rattle.std.proofs.Common.{◌≡◌, ◌∙◌, ◌∷◌, ◌++◌, [], Non
 use Rattle.cics_dispatch.specs.Filed.{IsFiled}
 use Rattle.cics_dispatch.specs.Notes.{KeepsResources, KeepsBlockers}
 use Rattle.cics_dispatch.proofs.FiledNotes.{pushed_key, filed_new_line, resources_more, blockers_more}
+use Rattle.cics_dispatch.proofs.ShownNotes.{none_in}
 use Rattle.cics_dispatch.proofs.notes.Notes.line_of.Goals as goal
 
 pub invariant_of-self-then-is_new : goal.invariant_of-self-then-is_new
@@ -9,9 +10,11 @@ invariant_of-self-then-is_new c =
     let u = c.self.inside in
     let keys = pushed_key u.resources.keys c.insert_full.new.self.keys c.args.resource _ c.in_ok-number.is_new c.in_ok-number.ensures.keys c.in_ok-number.ensures.added c.if-is_new.true in
     let lines : c.push_reserved.new.self.items ≡ u.lines.items ++ None ∷ [] = c.push_reserved.ensures.items ∙ ap (λ ls. ls ++ None ∷ []) c.in_ok-reserve.ensures.items in
-    subst (λ rs. IsFiled u.rows.items u.count u.closed rs c.push_reserved.new.self.items u.blockers.keys) (sym keys)
-    (subst (λ ls. IsFiled u.rows.items u.count u.closed (u.resources.keys ++ c.args.resource ∷ []) ls u.blockers.keys) (sym lines)
-    (filed_new_line u.rows.items u.count u.closed u.resources.keys u.lines.items u.blockers.keys c.self.invariant c.args.resource))
+    let members : c.push_reserved-then-is_new.new.self.items ≡ u.members.items ++ c.new.result ∷ [] = c.push_reserved-then-is_new.ensures.items ∙ ap (λ ls. ls ++ c.new.result ∷ []) c.in_ok-reserve-2.ensures.items in
+    subst (λ rs. IsFiled u.rows.items u.count rs c.push_reserved.new.self.items c.push_reserved-then-is_new.new.self.items u.parked.entries u.keys) (sym keys)
+    (subst (λ ls. IsFiled u.rows.items u.count (u.resources.keys ++ c.args.resource ∷ []) ls c.push_reserved-then-is_new.new.self.items u.parked.entries u.keys) (sym lines)
+    (subst (λ ms. IsFiled u.rows.items u.count (u.resources.keys ++ c.args.resource ∷ []) (u.lines.items ++ None ∷ []) ms u.parked.entries u.keys) (sym members)
+    (filed_new_line u.rows.items u.count u.resources.keys u.lines.items u.members.items u.parked.entries u.keys c.self.invariant c.args.resource c.new.result (none_in c.new.result c.new.ensures.empty))))
 
 pub returns-then-is_new-clause-resources : goal.returns-then-is_new-clause-resources
 returns-then-is_new-clause-resources c =

@@ -1,4 +1,4 @@
-use Rattle.std.proofs.Common.{rules, arith, ◌≡◌, ◌∷◌, ◌++◌, ◌∙◌, [], Some, ap, subst, sym}
+use Rattle.std.proofs.Common.{rules, arith, subst, sym, ap, ◌∙◌, ◌++◌, ◌∷◌, [], Some}
 use Rattle.cics_dispatch.specs.Notes.{new_note}
 use Rattle.cics_dispatch.specs.Filed.{IsFiled}
 use Rattle.cics_dispatch.proofs.FiledNotes.{filed_push}
@@ -7,6 +7,7 @@ use Rattle.cics_dispatch.proofs.notes.Notes.push.Goals as goal
 pub invariant_of-self-2 : goal.invariant_of-self-2
 invariant_of-self-2 c =
     let u = c.self.inside in
-    let rows : c.push_reserved.new.self.items ≡ u.rows.items ++ Some (new_note c.args.label) ∷ [] = c.push_reserved.ensures.items ∙ ap (λ ns. ns ++ Some (new_note c.args.label) ∷ []) c.in_ok-reserve.ensures.items in
-    subst (λ rows. IsFiled rows c.in-Some.count u.closed u.resources.keys u.lines.items u.blockers.keys) (sym rows)
-    (filed_push u.rows.items u.count u.closed u.resources.keys u.lines.items u.blockers.keys c.self.invariant c.args.label c.in-Some.count (search (rules, arith)))
+    let n = Some (new_note c.args.label) in
+    subst (λ rows. IsFiled rows c.in-Some.count u.resources.keys u.lines.items u.members.items u.parked.entries c.push_each.new.first) (sym (c.push_reserved.ensures.items ∙ ap (λ r. r ++ n ∷ []) c.in_ok-reserve.ensures.items))
+    (subst (λ ks. IsFiled (u.rows.items ++ n ∷ []) c.in-Some.count u.resources.keys u.lines.items u.members.items u.parked.entries ks) (sym c.in_ok-push_each.ensures.ok.0)
+    (filed_push u.rows.items u.count u.resources.keys u.lines.items u.members.items u.parked.entries u.keys c.self.invariant c.args.label c.in-Some.count (search (rules, arith))))

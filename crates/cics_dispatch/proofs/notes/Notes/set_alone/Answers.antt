@@ -1,16 +1,44 @@
-use Rattle.std.proofs.Common.{◌≡◌, ◌∙◌, ℕ, true, nat_eq, List, Some, slice_get, ap, sym, subst, refl}
-use Rattle.indexmap.specs.IndexSet.{insert_key}
-use Rattle.cics_dispatch.specs.Settled.{is_among}
-use Rattle.cics_dispatch.proofs.FiledNotes.{inserted, kept_among, filed_alone}
+use Rattle.std.proofs.Common.{◌≡◌, ◌∙◌, Some, slice_get, ap, subst, arith}
+use Rattle.std.proofs.lemmas.Option.{slice_get_within}
+use Rattle.cics_dispatch.specs.Filed.{IsLeft}
+use Rattle.cics_dispatch.proofs.ShownNotes.{line_within, member_within}
+use Rattle.cics_dispatch.proofs.FiledNotes.{filed_parked, filed_alone}
 use Rattle.cics_dispatch.proofs.notes.Notes.set_alone.Goals as goal
+
+pub invariant_of-self : goal.invariant_of-self
+invariant_of-self c =
+    let u = c.self.inside in
+    filed_parked u.rows.items u.count u.resources.keys u.lines.items u.members.items u.parked.entries u.keys c.self.invariant c.park.new.parked.entries c.park.ensures.kept
+
+pub leave-requires-clause-line : goal.leave-requires-clause-line
+leave-requires-clause-line c =
+    let u = c.self.inside in
+    let rows = u.rows.items in
+    let n = c.args.note.now in
+    let there : slice_get rows c.args.at ≡ Some (Some n) = ap (λ v. slice_get v.rows c.args.at) c.self.view_is ∙ c.requires.there in
+    line_within rows u.lines.items u.members.items u.keys c.self.invariant.shown c.args.at n there
+
+pub leave-requires-clause-within : goal.leave-requires-clause-within
+leave-requires-clause-within c =
+    let u = c.self.inside in
+    member_within u.rows.items u.lines.items u.members.items u.keys c.self.invariant.shown
+
+pub index_mut-requires : goal.index_mut-requires
+index_mut-requires c =
+    let u = c.self.inside in
+    let rows = u.rows.items in
+    let n = c.args.note.now in
+    let there : slice_get rows c.args.at ≡ Some (Some n) = ap (λ v. slice_get v.rows c.args.at) c.self.view_is ∙ c.requires.there in
+    let within = slice_get_within rows c.args.at (Some n) there in
+    let ok = u.rows.ok.0 in
+    omega (arith, within, ok)
 
 pub invariant_of-self-2 : goal.invariant_of-self-2
 invariant_of-self-2 c =
     let u = c.self.inside in
-    let us : List ℕ = u.blockers.keys in
+    let rows = u.rows.items in
     let n = c.args.note.now in
-    let there : slice_get u.rows.items c.args.at ≡ Some (Some n) = ap (λ v. slice_get v.rows c.args.at) c.self.view_is ∙ c.requires.there in
-    let put : c.insert.new.self.keys ≡ insert_key nat_eq us c.args.unit = c.in_ok-insert.ensures.keys in
-    let more : (v : ℕ) → is_among us v ≡ true → is_among c.insert.new.self.keys v ≡ true = λ v was. subst (λ ks. is_among ks v ≡ true) (sym put) (kept_among nat_eq (λ a b. refl) us c.args.unit v was) in
-    let own : is_among c.insert.new.self.keys c.args.unit ≡ true = subst (λ ks. is_among ks c.args.unit ≡ true) (sym put) (inserted nat_eq (λ a b. refl) us c.args.unit) in
-    filed_alone u.rows.items u.count u.closed u.resources.keys u.lines.items us c.self.invariant c.args.at c.args.unit n c.insert.new.self.keys there more own
+    let there : slice_get rows c.args.at ≡ Some (Some n) = ap (λ v. slice_get v.rows c.args.at) c.self.view_is ∙ c.requires.there in
+    let left = subst (λ bs. IsLeft c.args.at n.line bs u.members.items u.keys c.leave.new.members.items c.leave.new.keys) c.as_slice.ensures.value c.leave.ensures in
+    filed_alone rows u.count u.resources.keys u.lines.items u.members.items u.parked.entries u.keys c.self.invariant c.args.at c.args.unit n c.leave.new.members.items c.leave.new.keys
+    c.park.new.parked.entries there left c.park.ensures.kept c.in_ok-park.ensures.added
