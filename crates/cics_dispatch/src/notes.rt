@@ -8,7 +8,8 @@ ghost use Rattle.cics_dispatch.specs.Notes.{forgotten, given_up, new_note, alone
 ghost use Rattle.cics_dispatch.specs.Notes.{of_line, blocker_in, AreClosed, IsOpenAt, IsFirstOpen};
 ghost use Rattle.cics_dispatch.specs.Notes.{without, without_deadline, IsNoteAt};
 ghost use Rattle.cics_dispatch.specs.Notes.{KeepsResources, KeepsBlockers};
-ghost use Rattle.cics_dispatch.specs.Filed.{has, IsShown, IsFirstShown, IsLeft, HasJoined, IsParked, KeepParked, IsNotOf, IsAlone, IsReopening};
+ghost use Rattle.cics_dispatch.specs.Filed.{has, IsShown, IsFirstShown, IsLeft, HasJoined};
+ghost use Rattle.cics_dispatch.specs.Filed.{IsParked, KeepParked, IsNotOf, IsAlone, IsReopening};
 ghost use Rattle.cics_dispatch.specs.declared.notes.Parked.{Parked as ParkedValue};
 ghost use Rattle.cics_dispatch.specs.declared.notes.Parked.TheVariants.{Line as OfLine};
 ghost use Rattle.std.specs.Prelude.{ℕ, List, Option, OnOk, OnErr};
@@ -75,10 +76,10 @@ enum Parked {
 
 /// What is known of a front of the commands that wait, in the order in which the waits began.
 ///
-/// The commands that use the same one resource and nothing else form a line, so that it is noted of all of them at once whom they
-/// have to wait for. To find the first command that has to be looked at, to add one, to note the unit that it has to wait for, and
-/// to drop one costs the logarithm of their number; to forget a unit the same for each line and each command in no line that
-/// waits for it.
+/// The commands that use the same one resource and nothing else form a line, so that it is noted of all of them at once whom
+/// they have to wait for. To find the first command that has to be looked at, to add one, to note the unit that it has to wait
+/// for, and to drop one costs the logarithm of their number; to forget a unit the same for each line and each command in no
+/// line that waits for it.
 #[derive(Drop)]
 pub(crate) struct Notes {
     // The notes, and None for each command that waits no more.
@@ -250,7 +251,8 @@ fn leave(
     requires even { length members.old.items ≡ length lines.now }
     requires within { (g : ℕ) (s : Places ℕ) (i : ℕ) → slice_get members.old.items g ≡ Some s
         → has s i ≡ true → i < length keys.old }
-    ensures { IsLeft at note.now.line lines.now members.old.items keys.old members.new.items keys.new }
+    ensures { IsLeft at note.now.line lines.now members.old.items keys.old
+        members.new.items keys.new }
 {
     let Some(number) = note.line else {
         return;
