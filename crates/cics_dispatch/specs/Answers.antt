@@ -53,8 +53,8 @@ IsStep wants old s (Err e) new = (s.outcome ≡ Err e) × (new ≡ old)
 abbrev pub always : {X : Type 0} → Stepped X → Stepped (Result X Refused)
 always s = record { outcome = Ok s.outcome; machine = s.machine }
 
--- the store of the region is the replay of the kept history, each kept entry has the answer that its place gives, and a
--- backed-out unit whose entries are the last ones left no trace
+-- the headline holds of a region: its store is the replay of the kept history, each kept entry has the answer that its place
+-- gives, a backed-out unit whose entries are the last ones left no trace, and the units take turns
 pub record IsHeadlineRegion (r : RegionValue) : Type 0 where
   pub headline : IsHeadline (record { state = r.machine.units; store = r.store })
 

@@ -1,4 +1,5 @@
--- How the notes of waiting commands are kept: what waits for each unit, and which commands have to be looked at.
+-- How the notes of waiting commands are kept: what waits for each unit, and which commands have to be looked at. Such a
+-- command, of a line the first, has the key 0, and others may have it.
 use Rattle.std.specs.Prelude.{◌≡◌, ◌≤◌, ℕ, Bool, true, false, Option, Some, None, length, map, List, Vec, slice_get, slice_set, nat_eq}
 use Rattle.std.specs.Map.{lookup}
 use Rattle.std.specs.BTreeSet.{BTreeSet, contains}
@@ -112,7 +113,7 @@ abbrev pub IsNotOf : List (Option Note) → List (Option ℕ) → ℕ → Parked
 IsNotOf rows bs u (OfRow i) = IsAlone rows i u → ⊥
 IsNotOf rows bs u (OfLine g) = of_line bs g ≡ Some u → ⊥
 
--- some of what waits for a unit is looked at again, and nothing waits for a unit that didn't
+-- some of what waits for a unit is looked at again, and nothing waits for a unit for which it didn't wait before
 pub record IsReopening (u : ℕ) (rows ns : List (Option Note)) (bs cs : List (Option ℕ)) : Type 0 where
   pub rows_alike : map (forgotten (Some u)) ns ≡ map (forgotten (Some u)) rows
   pub lines_alike : map (given_up (Some u)) cs ≡ map (given_up (Some u)) bs

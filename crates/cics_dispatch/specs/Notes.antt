@@ -181,7 +181,7 @@ abbrev pub OwnerIsElsewhere : Machine → List Resource → ℕ → ℕ → Type
 OwnerIsElsewhere m rs g u = (i : ℕ) (t : Task) → slice_get m.tasks i ≡ Some t → t.unit ≡ Some u →
     OfWait m.waiting t.label (λ w. IsUse m.units.opening rs w g → ⊥)
 
--- a line's commands have to wait for a unit: they do already, or one that is looked at does and none is of the unit's task
+-- a unit may be noted of a line: it is already, or no waiting command of the line is of that unit's task
 abbrev pub MayClose : Machine → List Resource → List (Option ℕ) → ℕ → ℕ → Type 0
 MayClose m rs bs g u = (of_line bs g ≡ Some u) ⊎ OwnerIsElsewhere m rs g u
 

@@ -385,8 +385,8 @@ impl Notes {
         self.count
     }
 
-    /// Whether there are more than twice as many places as commands that wait, which are so many, and 1,000 more. Then it is
-    /// time to note all anew.
+    /// Whether half the places are more by 1,000 than the commands that wait, which are so many. Then it is time to note all
+    /// anew.
     pub(crate) fn have_grown(&self, waits: usize) -> bool {
         self.rows.len() / 2 > waits.saturating_add(1000)
     }
@@ -498,7 +498,7 @@ impl Notes {
     }
 
     /// The commands that wait for a unit, if there is one, have to be looked at again: it may have given something up.
-    /// `false` where there are none. Takes no memory.
+    /// `false` only where there are none. Takes no memory.
     pub(crate) fn forget(&mut self, unit: Option<UnitId>) -> bool
         ensures rows { self.new.rows ≡ map (forgotten unit) self.old.rows }
         ensures blockers { self.new.blockers ≡ map (given_up unit) self.old.blockers }

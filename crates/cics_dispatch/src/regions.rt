@@ -34,16 +34,16 @@ use std::marker::Model;
 /// backed out, each of these commands that was answered NORMAL with the answer that it was executed with.
 ///
 /// The region remembers for which unit each waiting command has to wait. So `wake` looks only at those that began to
-/// wait since, and those whose unit may have given something up since; of commands that use the same record, prefix,
-/// queue name or value, and nothing else, it looks at the first alone that must wait.
+/// wait, or whose unit may have given something up, since the last look; of commands that use one and the same record,
+/// prefix, queue name, end of a queue or value, and nothing else, it looks no further than the first that must wait.
 #[derive(Drop)]
 pub struct Region {
     dispatcher: Dispatcher,
     // What is known of the waiting commands, up to those that began to wait since the last `wake`.
     notes: Notes,
-    // Each waiting command has its note, and none has to be looked at.
+    // Whether each waiting command has its note, and none has to be looked at.
     is_settled: bool,
-    // No task has waited too long yet.
+    // Whether it is known that no task has waited too long yet.
     is_in_time: bool,
 }
 
@@ -124,7 +124,7 @@ impl Region {
     }
 
     /// Sets the clock to so many seconds. It is refused where the region is shut down (`RegionDown`), and
-    /// where the clock would go back (`ClockBack`).
+    /// where the clock would go back (`ClockBack`). A refusal changes nothing. Takes no memory.
     pub fn set_clock(&mut self, now: u64) -> Result<(), Refused>
         ensures step { IsRegionStep false self.old
             (clock_set self.old.machine now) result self.new }
@@ -194,8 +194,8 @@ impl Region {
     /// `dtimout` past the begin of its wait; a `dtimout` of 0 is no limit. Its unit of work is backed
     /// out, its wait ends, and so does the task. Takes no memory. Where it answered `None`, and since
     /// then nobody asked to set the clock, it looks at no wait; else it finds the task in the logarithm
-    /// of the waits, but for those that began since the last `wake`, which it looks at where no task of
-    /// the others has waited too long.
+    /// of the waits. Only where a command began to wait since the last `wake`, and no task of the others
+    /// has waited too long, it looks at all waits.
     pub fn expire(&mut self) -> Option<Expired>
         ensures outcome { result ≡ (expired self.old.machine).outcome }
         ensures machine { self.new.machine ≡ (expired self.old.machine).machine }
@@ -223,7 +223,7 @@ impl Region {
     /// unit of work is backed out. From then on `attach`, `issue`, `set_clock` and `shutdown` are refused,
     /// `wake` and `expire` find nothing, and the region can be read as before; with no unit open, each
     /// recoverable file and queue holds what the committed units' commands give. It is refused where the
-    /// region is shut down already (`RegionDown`), and takes no memory.
+    /// region is shut down already (`RegionDown`), and changes nothing then. Takes no memory.
     pub fn shutdown(&mut self) -> Result<u64, Refused>
         ensures step { IsRegionStep false self.old
             (shut_down self.old.machine) result self.new }

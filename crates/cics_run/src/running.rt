@@ -20,19 +20,26 @@ pub const CHUNK: usize = 65_536;
 /// How a run ended that wrote all that it had to.
 #[derive(Clone, Copy, Debug, PartialEq, Eq)]
 pub enum Status {
+    /// Every line was run; the journal and what was asked for behind it are written.
     Done,
+    /// A line or a definition has a fault: the journal up to it is written, with the fault as its last line, and nothing
+    /// behind it.
     LineFault,
 }
 
-/// Why a run stopped.
+/// Why a run stopped. A front of what the whole run writes is written then.
 #[derive(Debug, Drop, Error)]
 pub enum RunFault {
+    /// A request for memory was refused.
     #[error("no memory")]
     NoMemory,
+    /// The reader failed, and wasn't asked again: all that the lines before print is written.
     #[error("read fault")]
     ReadFault,
+    /// The writer failed, or took nothing, and wasn't asked again: it has the bytes that it took.
     #[error("write fault")]
     WriteFault,
+    /// The reader has more than `LIMIT` bytes: what the lines up to there print is written.
     #[error("input too long")]
     InputTooLong,
 }
@@ -50,6 +57,9 @@ pub struct Options {
 ///
 /// It reads at most `LIMIT` bytes, and one more to see whether there are more. Once it has printed
 /// a fault it reads no more. A last line that lacks its LF is run at the input's end.
+///
+/// It answers how the run ended, or why it stopped: `Status` and `RunFault` say what is written then. `alloc` gives
+/// the memory of the region and of what is printed.
 pub fn run<R: Read, W: Write>(
     alloc: Global,
     reader: &mut R,

@@ -13,7 +13,9 @@ const FULL: usize = 65_536;
 /// Why printing stopped.
 #[derive(Clone, Copy, Debug, PartialEq, Eq)]
 pub enum Stop {
+    /// A request for memory was refused.
     NoMemory,
+    /// The writer failed, or took nothing.
     WriteFault,
 }
 
