@@ -16,12 +16,7 @@ use Rattle.cics_names.specs.Keyed.{Bytes}
 use Rattle.cics_dispatch.specs.Machine.{is_unit}
 use Rattle.cics_dispatch.specs.Notes.{of_line, blocker_by, blocker_in, given_up, forgotten, new_note, alone, in_line, count, AreClosed, IsOpenAt, IsFirstOpen, KeepsResources, KeepsBlockers}
 use Rattle.cics_dispatch.specs.Filed.{has, IsShown, IsParked, KeepParked, IsAlone, AreParked, IsFiled, IsLeft, IsPut, IsNotOf, IsReopening}
-use Rattle.cics_dispatch.proofs.ShownNotes.{get_set, get_push, push_here, push_there, longer, of_line_set, of_line_more, shown_push, shown_left, shown_closed, shown_new_line}
-
-pub length_set : {X : Type 0} (xs : List X) (i : ℕ) (x : X) → length (slice_set xs i x) ≡ length xs
-length_set [] i x = refl
-length_set (y ∷ ys) zero x = refl
-length_set (y ∷ ys) (suc i) x = ap suc (length_set ys i x)
+use Rattle.cics_dispatch.proofs.ShownNotes.{length_set, get_set, get_push, push_here, push_there, longer, of_line_set, of_line_more, shown_push, shown_left, shown_closed, shown_new_line}
 
 pub length_map : {X : Type 0} (f : X → X) (xs : List X) → length (map f xs) ≡ length xs
 length_map f [] = refl

@@ -16,7 +16,8 @@ use Rattle.cics_dispatch.proofs.Blocked.{held_back}
 use Rattle.cics_dispatch.specs.Waking.{may_go_on}
 use Rattle.cics_dispatch.specs.Deadlines.{AreDue}
 use Rattle.cics_dispatch.specs.Notes.{of_line, blocker_by, blocker_in, alone, in_line, count, AreClosed, IsFirstOpen, KeepsResources, KeepsBlockers, IsUse, IsNoted, AreNoted, AreNotedNow, NotesValue, IsLooked, UseOf, OfWait, IsOnlyNeed, MayClose, IsFreeAt, OwnerIsElsewhere}
-use Rattle.cics_dispatch.proofs.FiledNotes.{closed_each, known_set, known_own, count_set, length_set}
+use Rattle.cics_dispatch.proofs.FiledNotes.{closed_each, known_set, known_own, count_set}
+use Rattle.cics_dispatch.proofs.ShownNotes.{length_set}
 use Rattle.cics_dispatch.proofs.Deadlines.{due_set}
 use Rattle.cics_dispatch.proofs.Noted.{FirstAt, first_at, noted_each, noted_set}
 use Rattle.cics_dispatch.proofs.TaskPlaces.{place_of_task}

@@ -10,7 +10,7 @@ use Rattle.std.proofs.lemmas.Bool.{false_from_ne_true, ltb-false}
 use Rattle.cics_names.specs.Keyed.{Bytes, is_same}
 use Rattle.cics_names.specs.KeyedLaws.{is_same-self, is_same-eq}
 use Rattle.cics_dispatch.specs.Machine.{Suspended, is_waiting, not_waiting}
-use Rattle.cics_dispatch.specs.Waits.{Rows, wait_of, number_of, AreAbove, AreBelow, AreRising, AreOnce, AreNumbered}
+use Rattle.cics_dispatch.specs.Waits.{Rows, wait_of, wait_number, AreAbove, AreBelow, AreRising, AreOnce, AreNumbered}
 
 -- ---- Numbers
 
@@ -24,42 +24,42 @@ later : (n m : ℕ) → m < n → is_eq (nat_cmp n m) ≡ false
 later n m above = ap is_eq (greater n m above)
 
 -- a number found above another is above it
-found_above : (m n : ℕ) (label : Bytes) (es : Rows) → AreAbove m es → number_of es label ≡ Some n → m < n
+found_above : (m n : ℕ) (label : Bytes) (es : Rows) → AreAbove m es → wait_number es label ≡ Some n → m < n
 found_above m n label [] above found = cc
-found_above m n label (e ∷ es) above found = elim (is_same e.1.label label) as (λ b. cond b (Some e.0) (number_of es label) ≡ Some n → m < n) [
+found_above m n label (e ∷ es) above found = elim (is_same e.1.label label) as (λ b. cond b (Some e.0) (wait_number es label) ≡ Some n → m < n) [
   | true ↦ λ h. let is : e.0 ≡ n = cc in omega (arith, above.0)
   | false ↦ λ h. found_above m n label es above.1 h
 ] found
 
 -- ---- What is found
 
-pub is_waiting-number : (es : Rows) (label : Bytes) → is_waiting (values_of es) label ≡ is_some (number_of es label)
+pub is_waiting-number : (es : Rows) (label : Bytes) → is_waiting (values_of es) label ≡ is_some (wait_number es label)
 is_waiting-number [] label = refl
-is_waiting-number (e ∷ es) label = elim (is_same e.1.label label) as (λ b. cond b true (is_waiting (values_of es) label) ≡ is_some (cond b (Some e.0) (number_of es label))) [
+is_waiting-number (e ∷ es) label = elim (is_same e.1.label label) as (λ b. cond b true (is_waiting (values_of es) label) ≡ is_some (cond b (Some e.0) (wait_number es label))) [
   | true ↦ refl
   | false ↦ is_waiting-number es label
 ]
 
-pub wait_of-none : (es : Rows) (label : Bytes) → number_of es label ≡ None → wait_of (values_of es) label ≡ None
+pub wait_of-none : (es : Rows) (label : Bytes) → wait_number es label ≡ None → wait_of (values_of es) label ≡ None
 wait_of-none [] label none = refl
-wait_of-none (e ∷ es) label none = elim (is_same e.1.label label) as (λ b. cond b (Some e.0) (number_of es label) ≡ None → cond b (Some e.1) (wait_of (values_of es) label) ≡ None) [
+wait_of-none (e ∷ es) label none = elim (is_same e.1.label label) as (λ b. cond b (Some e.0) (wait_number es label) ≡ None → cond b (Some e.1) (wait_of (values_of es) label) ≡ None) [
   | true ↦ λ h. cc
   | false ↦ λ h. wait_of-none es label h
 ] none
 
 -- what stands under the number of a label is its wait
-pub wait_of-lookup : (es : Rows) (label : Bytes) (n : ℕ) → AreRising es → number_of es label ≡ Some n → lookup (is_at (nat_cmp n)) es ≡ wait_of (values_of es) label
+pub wait_of-lookup : (es : Rows) (label : Bytes) (n : ℕ) → AreRising es → wait_number es label ≡ Some n → lookup (is_at (nat_cmp n)) es ≡ wait_of (values_of es) label
 wait_of-lookup [] label n rising found = cc
 wait_of-lookup (e ∷ es) label n rising found =
-    elim (is_same e.1.label label) as (λ b. cond b (Some e.0) (number_of es label) ≡ Some n → cond (is_eq (nat_cmp n e.0)) (Some e.1) (lookup (is_at (nat_cmp n)) es) ≡ cond b (Some e.1) (wait_of (values_of es) label)) [
+    elim (is_same e.1.label label) as (λ b. cond b (Some e.0) (wait_number es label) ≡ Some n → cond (is_eq (nat_cmp n e.0)) (Some e.1) (lookup (is_at (nat_cmp n)) es) ≡ cond b (Some e.1) (wait_of (values_of es) label)) [
       | true ↦ λ h. let is : n ≡ e.0 = cc in ap (λ c. cond c (Some e.1) (lookup (is_at (nat_cmp n)) es)) (tied n e.0 is)
       | false ↦ λ h. ap (λ c. cond c (Some e.1) (lookup (is_at (nat_cmp n)) es)) (later n e.0 (found_above e.0 n label es rising.0 h)) ∙ wait_of-lookup es label n rising.1 h
     ] found
 
 -- a number that is found leads to a wait
-pub wait_of-some : (es : Rows) (label : Bytes) (n : ℕ) → number_of es label ≡ Some n → wait_of (values_of es) label ≡ None → ⊥
+pub wait_of-some : (es : Rows) (label : Bytes) (n : ℕ) → wait_number es label ≡ Some n → wait_of (values_of es) label ≡ None → ⊥
 wait_of-some [] label n found none = cc
-wait_of-some (e ∷ es) label n found none = elim (is_same e.1.label label) as (λ b. cond b (Some e.0) (number_of es label) ≡ Some n → cond b (Some e.1) (wait_of (values_of es) label) ≡ None → ⊥) [
+wait_of-some (e ∷ es) label n found none = elim (is_same e.1.label label) as (λ b. cond b (Some e.0) (wait_number es label) ≡ Some n → cond b (Some e.1) (wait_of (values_of es) label) ≡ None → ⊥) [
   | true ↦ λ h k. cc
   | false ↦ λ h k. wait_of-some es label n h k
 ] found none
@@ -100,10 +100,10 @@ module _ (n : ℕ) (w : Suspended) where
   rising-push (e ∷ es) below rising = (above-push e.0 es below.0 rising.0, rising-push es below.1 rising.1)
 
   -- no wait of the label
-  apart : (e : ℕ × Suspended) (es : Rows) → number_of (e ∷ es) w.label ≡ None → (is_same e.1.label w.label ≡ false) × (number_of es w.label ≡ None)
+  apart : (e : ℕ × Suspended) (es : Rows) → wait_number (e ∷ es) w.label ≡ None → (is_same e.1.label w.label ≡ false) × (wait_number es w.label ≡ None)
   apart e es none = by (is_same e.1.label w.label) none
     where
-      by : (b : Bool) → cond b (Some e.0) (number_of es w.label) ≡ None → (b ≡ false) × (number_of es w.label ≡ None)
+      by : (b : Bool) → cond b (Some e.0) (wait_number es w.label) ≡ None → (b ≡ false) × (wait_number es w.label ≡ None)
       by true h = absurd (never h)
         where
           never : Some e.0 ≡ None → ⊥
@@ -120,27 +120,27 @@ module _ (n : ℕ) (w : Suspended) where
       differs : {b : Bool} → b ≡ true → b ≡ false → ⊥
       differs t f = cc
 
-  pub number_of-push : (es : Rows) (label : Bytes) → number_of es w.label ≡ None → number_of (es ++ (n, w) ∷ []) label ≡ cond (is_same w.label label) (Some n) (number_of es label)
-  number_of-push [] label none = refl
-  number_of-push (e ∷ es) label none =
+  pub wait_number-push : (es : Rows) (label : Bytes) → wait_number es w.label ≡ None → wait_number (es ++ (n, w) ∷ []) label ≡ cond (is_same w.label label) (Some n) (wait_number es label)
+  wait_number-push [] label none = refl
+  wait_number-push (e ∷ es) label none =
       let a = apart e es none in
-      elim (is_same e.1.label label) as (λ b. is_same e.1.label label ≡ b → cond b (Some e.0) (number_of (es ++ (n, w) ∷ []) label) ≡ cond (is_same w.label label) (Some n) (cond b (Some e.0) (number_of es label))) [
+      elim (is_same e.1.label label) as (λ b. is_same e.1.label label ≡ b → cond b (Some e.0) (wait_number (es ++ (n, w) ∷ []) label) ≡ cond (is_same w.label label) (Some n) (cond b (Some e.0) (wait_number es label))) [
         | true ↦ λ one. sym (ap (λ c. cond c (Some n) (Some e.0)) (other_label e label a.0 one))
-        | false ↦ λ one. number_of-push es label a.1
+        | false ↦ λ one. wait_number-push es label a.1
       ] refl
 
-  once-push : (es : Rows) → number_of es w.label ≡ None → AreOnce es → AreOnce (es ++ (n, w) ∷ [])
+  once-push : (es : Rows) → wait_number es w.label ≡ None → AreOnce es → AreOnce (es ++ (n, w) ∷ [])
   once-push [] none once = (refl, tt)
   once-push (e ∷ es) none once =
       let a = apart e es none in
-      (number_of-push es e.1.label a.1 ∙ (λ i. cond (turned a.0 i) (Some n) (once.0 i)), once-push es a.1 once.1)
+      (wait_number-push es e.1.label a.1 ∙ (λ i. cond (turned a.0 i) (Some n) (once.0 i)), once-push es a.1 once.1)
     where
       turned : is_same e.1.label w.label ≡ false → is_same w.label e.1.label ≡ false
       turned differ = other_label e e.1.label differ (is_same-self e.1.label)
 
   module _ (es : Rows) (numbers new : List (Bytes × ℕ)) (kept : AreNumbered es numbers) (none : is_waiting (values_of es) w.label ≡ false) (below : AreBelow n es) where
-    no_number : number_of es w.label ≡ None
-    no_number = nothing (number_of es w.label) (sym (is_waiting-number es w.label) ∙ none)
+    no_number : wait_number es w.label ≡ None
+    no_number = nothing (wait_number es w.label) (sym (is_waiting-number es w.label) ∙ none)
       where
         nothing : (o : Option ℕ) → is_some o ≡ false → o ≡ None
         nothing None h = refl
@@ -150,29 +150,29 @@ module _ (n : ℕ) (w : Suspended) where
     pushed put = record {
       rising = rising-push es below kept.rising;
       once = once-push es no_number kept.once;
-      found = λ label. put label ∙ ap (cond (is_same w.label label) (Some n)) (kept.found label) ∙ sym (number_of-push es label no_number);
+      found = λ label. put label ∙ ap (cond (is_same w.label label) (Some n)) (kept.found label) ∙ sym (wait_number-push es label no_number);
     }
 
 -- ---- One wait fewer
 
 -- no wait is the label's
-not_waiting-none : (es : Rows) (label : Bytes) → number_of es label ≡ None → not_waiting (values_of es) label ≡ values_of es
+not_waiting-none : (es : Rows) (label : Bytes) → wait_number es label ≡ None → not_waiting (values_of es) label ≡ values_of es
 not_waiting-none [] label none = refl
 not_waiting-none (e ∷ es) label none =
-    elim (is_same e.1.label label) as (λ b. cond b (Some e.0) (number_of es label) ≡ None → cond (not b) (e.1 ∷ not_waiting (values_of es) label) (not_waiting (values_of es) label) ≡ e.1 ∷ values_of es) [
+    elim (is_same e.1.label label) as (λ b. cond b (Some e.0) (wait_number es label) ≡ None → cond (not b) (e.1 ∷ not_waiting (values_of es) label) (not_waiting (values_of es) label) ≡ e.1 ∷ values_of es) [
       | true ↦ λ h. cc
       | false ↦ λ h. ap (λ r. e.1 ∷ r) (not_waiting-none es label h)
     ] none
 
 module _ (test : ℕ → Bool) where
-  number_of-fewer : (es : Rows) (label : Bytes) → number_of es label ≡ None → number_of (remove_entry test es) label ≡ None
-  number_of-fewer [] label none = refl
-  number_of-fewer (e ∷ es) label none =
-      elim (is_same e.1.label label) as (λ b. is_same e.1.label label ≡ b → cond b (Some e.0) (number_of es label) ≡ None → number_of (cond (test e.0) es (e ∷ remove_entry test es)) label ≡ None) [
+  wait_number-fewer : (es : Rows) (label : Bytes) → wait_number es label ≡ None → wait_number (remove_entry test es) label ≡ None
+  wait_number-fewer [] label none = refl
+  wait_number-fewer (e ∷ es) label none =
+      elim (is_same e.1.label label) as (λ b. is_same e.1.label label ≡ b → cond b (Some e.0) (wait_number es label) ≡ None → wait_number (cond (test e.0) es (e ∷ remove_entry test es)) label ≡ None) [
         | true ↦ λ one h. cc
-        | false ↦ λ one h. elim (test e.0) as (λ c. number_of (cond c es (e ∷ remove_entry test es)) label ≡ None) [
+        | false ↦ λ one h. elim (test e.0) as (λ c. wait_number (cond c es (e ∷ remove_entry test es)) label ≡ None) [
           | true ↦ h
-          | false ↦ ap (λ b. cond b (Some e.0) (number_of (remove_entry test es) label)) one ∙ number_of-fewer es label h
+          | false ↦ ap (λ b. cond b (Some e.0) (wait_number (remove_entry test es) label)) one ∙ wait_number-fewer es label h
         ]
       ] refl none
 
@@ -194,55 +194,55 @@ module _ (test : ℕ → Bool) where
   once-fewer [] once = tt
   once-fewer (e ∷ es) once = elim (test e.0) as (λ c. AreOnce (cond c es (e ∷ remove_entry test es))) [
     | true ↦ once.1
-    | false ↦ (number_of-fewer es e.1.label once.0, once-fewer es once.1)
+    | false ↦ (wait_number-fewer es e.1.label once.0, once-fewer es once.1)
   ]
 
 module _ (label : Bytes) (n : ℕ) where
   -- without its number the wait of the label is gone, and the others stay
-  values_of-removed : (es : Rows) → AreRising es → AreOnce es → number_of es label ≡ Some n → values_of (remove_entry (is_at (nat_cmp n)) es) ≡ not_waiting (values_of es) label
+  values_of-removed : (es : Rows) → AreRising es → AreOnce es → wait_number es label ≡ Some n → values_of (remove_entry (is_at (nat_cmp n)) es) ≡ not_waiting (values_of es) label
   values_of-removed [] rising once found = cc
   values_of-removed (e ∷ es) rising once found =
-      elim (is_same e.1.label label) as (λ b. is_same e.1.label label ≡ b → cond b (Some e.0) (number_of es label) ≡ Some n →
+      elim (is_same e.1.label label) as (λ b. is_same e.1.label label ≡ b → cond b (Some e.0) (wait_number es label) ≡ Some n →
       values_of (cond (is_eq (nat_cmp n e.0)) es (e ∷ remove_entry (is_at (nat_cmp n)) es)) ≡ cond (not b) (e.1 ∷ not_waiting (values_of es) label) (not_waiting (values_of es) label)) [
         | true ↦ λ one h. let is : n ≡ e.0 = cc in
             ap (λ c. values_of (cond c es (e ∷ remove_entry (is_at (nat_cmp n)) es))) (tied n e.0 is)
-            ∙ sym (not_waiting-none es label (ap (number_of es) (sym (is_same-eq e.1.label label one)) ∙ once.0))
+            ∙ sym (not_waiting-none es label (ap (wait_number es) (sym (is_same-eq e.1.label label one)) ∙ once.0))
         | false ↦ λ one h.
             ap (λ c. values_of (cond c es (e ∷ remove_entry (is_at (nat_cmp n)) es))) (later n e.0 (found_above e.0 n label es rising.0 h))
             ∙ ap (λ r. e.1 ∷ r) (values_of-removed es rising.1 once.1 h)
       ] refl found
 
-  number_of-removed : (es : Rows) (q : Bytes) → AreRising es → AreOnce es → number_of es label ≡ Some n → number_of (remove_entry (is_at (nat_cmp n)) es) q ≡ cond (is_same label q) None (number_of es q)
-  number_of-removed [] q rising once found = cc
-  number_of-removed (e ∷ es) q rising once found =
-      elim (is_same e.1.label label) as (λ b. is_same e.1.label label ≡ b → cond b (Some e.0) (number_of es label) ≡ Some n →
-      number_of (cond (is_eq (nat_cmp n e.0)) es (e ∷ remove_entry (is_at (nat_cmp n)) es)) q ≡ cond (is_same label q) None (number_of (e ∷ es) q)) [
+  wait_number-removed : (es : Rows) (q : Bytes) → AreRising es → AreOnce es → wait_number es label ≡ Some n → wait_number (remove_entry (is_at (nat_cmp n)) es) q ≡ cond (is_same label q) None (wait_number es q)
+  wait_number-removed [] q rising once found = cc
+  wait_number-removed (e ∷ es) q rising once found =
+      elim (is_same e.1.label label) as (λ b. is_same e.1.label label ≡ b → cond b (Some e.0) (wait_number es label) ≡ Some n →
+      wait_number (cond (is_eq (nat_cmp n e.0)) es (e ∷ remove_entry (is_at (nat_cmp n)) es)) q ≡ cond (is_same label q) None (wait_number (e ∷ es) q)) [
         | true ↦ λ one h. let is : n ≡ e.0 = cc in
-            ap (λ c. number_of (cond c es (e ∷ remove_entry (is_at (nat_cmp n)) es)) q) (tied n e.0 is)
+            ap (λ c. wait_number (cond c es (e ∷ remove_entry (is_at (nat_cmp n)) es)) q) (tied n e.0 is)
             ∙ own (is_same-eq e.1.label label one)
         | false ↦ λ one h.
-            ap (λ c. number_of (cond c es (e ∷ remove_entry (is_at (nat_cmp n)) es)) q) (later n e.0 (found_above e.0 n label es rising.0 h))
-            ∙ rest one (number_of-removed es q rising.1 once.1 h)
+            ap (λ c. wait_number (cond c es (e ∷ remove_entry (is_at (nat_cmp n)) es)) q) (later n e.0 (found_above e.0 n label es rising.0 h))
+            ∙ rest one (wait_number-removed es q rising.1 once.1 h)
       ] refl found
     where
-      own : e.1.label ≡ label → number_of es q ≡ cond (is_same label q) None (number_of (e ∷ es) q)
-      own same = elim (is_same label q) as (λ b. is_same label q ≡ b → number_of es q ≡ cond b None (cond (is_same e.1.label q) (Some e.0) (number_of es q))) [
-        | true ↦ λ two. ap (number_of es) (sym (same ∙ is_same-eq label q two)) ∙ once.0
-        | false ↦ λ two. sym (ap (λ c. cond c (Some e.0) (number_of es q)) (ap (λ l. is_same l q) same ∙ two))
+      own : e.1.label ≡ label → wait_number es q ≡ cond (is_same label q) None (wait_number (e ∷ es) q)
+      own same = elim (is_same label q) as (λ b. is_same label q ≡ b → wait_number es q ≡ cond b None (cond (is_same e.1.label q) (Some e.0) (wait_number es q))) [
+        | true ↦ λ two. ap (wait_number es) (sym (same ∙ is_same-eq label q two)) ∙ once.0
+        | false ↦ λ two. sym (ap (λ c. cond c (Some e.0) (wait_number es q)) (ap (λ l. is_same l q) same ∙ two))
       ] refl
 
       differs : {b : Bool} → b ≡ true → b ≡ false → ⊥
       differs t f = cc
 
-      rest : is_same e.1.label label ≡ false → number_of (remove_entry (is_at (nat_cmp n)) es) q ≡ cond (is_same label q) None (number_of es q) →
-          number_of (e ∷ remove_entry (is_at (nat_cmp n)) es) q ≡ cond (is_same label q) None (number_of (e ∷ es) q)
-      rest differ same = elim (is_same e.1.label q) as (λ b. is_same e.1.label q ≡ b → cond b (Some e.0) (number_of (remove_entry (is_at (nat_cmp n)) es) q) ≡ cond (is_same label q) None (cond b (Some e.0) (number_of es q))) [
+      rest : is_same e.1.label label ≡ false → wait_number (remove_entry (is_at (nat_cmp n)) es) q ≡ cond (is_same label q) None (wait_number es q) →
+          wait_number (e ∷ remove_entry (is_at (nat_cmp n)) es) q ≡ cond (is_same label q) None (wait_number (e ∷ es) q)
+      rest differ same = elim (is_same e.1.label q) as (λ b. is_same e.1.label q ≡ b → cond b (Some e.0) (wait_number (remove_entry (is_at (nat_cmp n)) es) q) ≡ cond (is_same label q) None (cond b (Some e.0) (wait_number es q))) [
         | true ↦ λ two. sym (ap (λ c. cond c None (Some e.0)) (false_from_ne_true (is_same label q) (λ three.
             differs (ap (λ l. is_same l label) (is_same-eq e.1.label q two ∙ sym (is_same-eq label q three)) ∙ is_same-self label) differ)))
         | false ↦ λ two. same
       ] refl
 
-  module _ (es : Rows) (numbers new : List (Bytes × ℕ)) (kept : AreNumbered es numbers) (found : number_of es label ≡ Some n)
+  module _ (es : Rows) (numbers new : List (Bytes × ℕ)) (kept : AreNumbered es numbers) (found : wait_number es label ≡ Some n)
       (taken : (q : Bytes) → lookup (is_same q) new ≡ cond (is_same label q) None (lookup (is_same q) numbers)) where
     pub removed : values_of (remove_entry (is_at (nat_cmp n)) es) ≡ not_waiting (values_of es) label
     removed = values_of-removed es kept.rising kept.once found
@@ -251,11 +251,11 @@ module _ (label : Bytes) (n : ℕ) where
     removed-kept = record {
       rising = rising-fewer (is_at (nat_cmp n)) es kept.rising;
       once = once-fewer (is_at (nat_cmp n)) es kept.once;
-      found = λ q. taken q ∙ ap (cond (is_same label q) None) (kept.found q) ∙ sym (number_of-removed es q kept.rising kept.once found);
+      found = λ q. taken q ∙ ap (cond (is_same label q) None) (kept.found q) ∙ sym (wait_number-removed es q kept.rising kept.once found);
     }
 
 -- a label that leads to no number has no wait to take away
-pub removed-none : (es : Rows) (label : Bytes) → number_of es label ≡ None → not_waiting (values_of es) label ≡ values_of es
+pub removed-none : (es : Rows) (label : Bytes) → wait_number es label ≡ None → not_waiting (values_of es) label ≡ values_of es
 removed-none es label none = not_waiting-none es label none
 
 -- ---- The test of the program
@@ -265,7 +265,7 @@ module _ (eq : Bytes → Bytes → Bool) (same : (a b : Bytes) → eq a b ≡ is
   at q es i = lookup (λ k. same q k i) es
 
   -- what a label leads to
-  pub looked_up : (label : Bytes) (es : Rows) (numbers : List (Bytes × ℕ)) → AreNumbered es numbers → lookup (eq label) numbers ≡ number_of es label
+  pub looked_up : (label : Bytes) (es : Rows) (numbers : List (Bytes × ℕ)) → AreNumbered es numbers → lookup (eq label) numbers ≡ wait_number es label
   looked_up label es numbers kept = at label numbers ∙ kept.found label
 
   -- one label leads to another number or to none, and the others where they did

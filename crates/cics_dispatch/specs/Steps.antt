@@ -56,9 +56,9 @@ abbrev pub answered : Machine → Task → Bool → Reply → Stepped Outcome
 answered m t resp r = if resp then record { outcome = Replied r; machine = m } else unhandled m t r (default_abend_of r.condition)
 
 -- the number that a command is answered: of the records that DELETE GENERIC deleted, else of an item
-abbrev pub number_of : Verb → ℕ → Number
-number_of (Delete f key given generic) k = Numrec k
-number_of _ k = Item k
+abbrev pub told_number : Verb → ℕ → Number
+told_number (Delete f key given generic) k = Numrec k
+told_number _ k = Item k
 
 -- an answer as the task is told it, with this number, and no more of the content than LENGTH
 abbrev pub reply_with : Option ℕ → Option Number → Answer → Reply
@@ -66,7 +66,7 @@ reply_with n number a = cut n (record { condition = a.condition; key = None; con
 
 -- an answer to a command as its task is told it
 abbrev pub reply_of : Verb → Answer → Reply
-reply_of verb a = reply_with (length_of verb) (option_map (number_of verb) a.number) a
+reply_of verb a = reply_with (length_of verb) (option_map (told_number verb) a.number) a
 
 -- ---- Waiting
 

@@ -19,9 +19,9 @@ AreApart [] = Unit {0}
 AreApart (w ∷ ws) = (is_waiting ws w.label ≡ false) × AreApart ws
 
 -- the number of the wait of a label's task
-abbrev pub number_of : Rows → Bytes → Option ℕ
-number_of [] label = None
-number_of (e ∷ es) label = if is_same e.1.label label then Some e.0 else number_of es label
+abbrev pub wait_number : Rows → Bytes → Option ℕ
+wait_number [] label = None
+wait_number (e ∷ es) label = if is_same e.1.label label then Some e.0 else wait_number es label
 
 -- each number is above this one
 abbrev pub AreAbove : ℕ → Rows → Type 0
@@ -41,10 +41,10 @@ AreRising (e ∷ es) = AreAbove e.0 es × AreRising es
 -- a task has one wait at most
 abbrev pub AreOnce : Rows → Type 0
 AreOnce [] = Unit {0}
-AreOnce (e ∷ es) = (number_of es e.1.label ≡ None) × AreOnce es
+AreOnce (e ∷ es) = (wait_number es e.1.label ≡ None) × AreOnce es
 
 -- the numbers rise, a task has one wait at most, and each label leads to the number of its wait
 pub record AreNumbered (rows : Rows) (numbers : List (Bytes × ℕ)) : Type 0 where
   pub rising : AreRising rows
   pub once : AreOnce rows
-  pub found : (label : Bytes) → lookup (is_same label) numbers ≡ number_of rows label
+  pub found : (label : Bytes) → lookup (is_same label) numbers ≡ wait_number rows label

@@ -19,7 +19,7 @@ use Rattle.cics_history.specs.declared.ops.UnitState.{UnitState}
 use Rattle.cics_history.specs.declared.ops.UnitState.TheVariants.{Open, Committed, BackedOut}
 use Rattle.cics_run.specs.Journal.{line}
 use Rattle.cics_run.specs.Serial.{entry_lines, done_lines, open_from, open_units, opening_lines, unit_lines, committed_lines, serial_text}
-use Rattle.cics_run.specs.UnitLines.{row_bytes, lines_at, added}
+use Rattle.cics_run.specs.UnitLines.{row_bytes, lines_at, lines_added}
 
 -- ---- rows
 
@@ -48,7 +48,7 @@ lines-once true e = append-nil (entry_lines e)
 lines-once false e = refl
 
 done_lines-more : (o : OpeningState) (trace : List Entry) (unit i : ℕ) (e : Entry) → i < length trace → e ≡ get_or trace i e
-    → done_lines o (take (i + 1) trace) unit ≡ done_lines o (take i trace) unit ++ added o e unit
+    → done_lines o (take (i + 1) trace) unit ≡ done_lines o (take i trace) unit ++ lines_added o e unit
 done_lines-more o trace unit i e within is =
     ap (flat_map entry_lines) (filter_more (is_done_by o unit) trace i e within)
     ∙ flat_map-append entry_lines (filter (is_done_by o unit) (take i trace)) (cond (is_done_by o unit (get_or trace i e)) (get_or trace i e ∷ []) [])
@@ -56,9 +56,9 @@ done_lines-more o trace unit i e within is =
     ∙ ap (λ lines. done_lines o (take i trace) unit ++ lines) (lines-once (is_done_by o unit e) e)
 
 pub gathered-more : (o : OpeningState) (trace : List Entry) (unit i : ℕ) (e : Entry) (before after : List ℕ) → i < length trace → e ≡ get_or trace i e
-    → before ≡ done_lines o (take i trace) unit → after ≡ before ++ added o e unit → after ≡ done_lines o (take (i + 1) trace) unit
+    → before ≡ done_lines o (take i trace) unit → after ≡ before ++ lines_added o e unit → after ≡ done_lines o (take (i + 1) trace) unit
 gathered-more o trace unit i e before after within is so_far more =
-    more ∙ ap (λ lines. lines ++ added o e unit) so_far ∙ sym (done_lines-more o trace unit i e within is)
+    more ∙ ap (λ lines. lines ++ lines_added o e unit) so_far ∙ sym (done_lines-more o trace unit i e within is)
 
 and_true : (b : Bool) → (b && true) ≡ b
 and_true true = refl
@@ -70,7 +70,7 @@ and_false false = refl
 
 -- what was not done adds nothing
 pub added-nothing : (o : OpeningState) (e : Entry) (unit : ℕ) (lines : List ℕ) (done : Bool) → done ≡ (is_normal e.answer.condition && is_recoverable o e.op) → done ≡ false
-    → lines ≡ lines ++ added o e unit
+    → lines ≡ lines ++ lines_added o e unit
 added-nothing o e unit lines done is other =
     let none : is_done_by o unit e ≡ false = ap (λ d. (e.unit == unit) && d) (sym is ∙ other) ∙ and_false (e.unit == unit) in
     rw none (sym (append-nil lines))
@@ -91,7 +91,7 @@ both-true a b first second = rw (first, second) refl
 -- the lines of a command that was done are added to the row of its unit
 added-there : (o : OpeningState) (e : Entry) (done : Bool) (rows : List (Vec ℕ)) (row : Vec ℕ) (unit : ℕ) → done ≡ (is_normal e.answer.condition && is_recoverable o e.op) → done ≡ true
     → is_some (slice_get rows e.unit) ≡ true → row.items ≡ lines_at rows e.unit ++ entry_lines e
-    → lines_at (slice_set rows e.unit row) unit ≡ lines_at rows unit ++ added o e unit
+    → lines_at (slice_set rows e.unit row) unit ≡ lines_at rows unit ++ lines_added o e unit
 added-there o e done rows row unit is done_is there more =
     let owned : is_done_by o unit e ≡ (e.unit == unit) = ap (λ d. (e.unit == unit) && d) (sym is ∙ done_is) ∙ and_true (e.unit == unit) in
     let more_if : Bool → List ℕ = λ b. lines_at rows unit ++ (if b then entry_lines e else []) in
@@ -110,14 +110,14 @@ added-there o e done rows row unit is done_is there more =
 pub added-row : (o : OpeningState) (e : Entry) (done : Bool) (before rows : List (Vec ℕ)) (old row : Vec ℕ) (at unit : ℕ)
     → done ≡ (is_normal e.answer.condition && is_recoverable o e.op) → done ≡ true → at ≡ e.unit → at < length rows → old ≡ get_or rows at old
     → row.items ≡ old.items ++ entry_lines e → ((u : ℕ) → lines_at rows u ≡ lines_at before u)
-    → lines_at (slice_set rows at row) unit ≡ lines_at before unit ++ added o e unit
+    → lines_at (slice_set rows at row) unit ≡ lines_at before unit ++ lines_added o e unit
 added-row o e done before rows old row at unit is done_is at_is within found more same =
     let here : slice_get rows at ≡ Some old = slice_get-get_or rows at old within ∙ ap Some (sym found) in
     let there : is_some (slice_get rows e.unit) ≡ true = ap (λ a. is_some (slice_get rows a)) (sym at_is) ∙ ap is_some here in
     let grown : row.items ≡ lines_at rows e.unit ++ entry_lines e =
     more ∙ ap (λ r. row_bytes r ++ entry_lines e) (sym here) ∙ ap (λ a. lines_at rows a ++ entry_lines e) at_is in
     ap (λ a. lines_at (slice_set rows a row) unit) at_is ∙ added-there o e done rows row unit is done_is there grown
-    ∙ ap (λ lines. lines ++ added o e unit) (same unit)
+    ∙ ap (λ lines. lines ++ lines_added o e unit) (same unit)
 
 -- ---- the open units
 

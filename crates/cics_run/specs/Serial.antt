@@ -25,26 +25,28 @@ use Rattle.cics_run.specs.Listings.{recoverable_title, recovery_title}
 -- ---- Definitions and loads
 
 -- an option with a value, behind a blank
-unfoldable pub option : List ℕ → List ℕ → List ℕ
-option title value = codes " " ++ (title ++ in_parentheses value)
+unfoldable pub option_with_value : List ℕ → List ℕ → List ℕ
+option_with_value title value = codes " " ++ (title ++ in_parentheses value)
 
 -- a word that stands alone, behind a blank
-unfoldable pub flag : List ℕ → List ℕ
-flag title = codes " " ++ title
+unfoldable pub bare_option : List ℕ → List ℕ
+bare_option title = codes " " ++ title
 
 -- where a file's keys lie, and how long its records may be
-unfoldable pub numbers : FileDef → List ℕ
-numbers d =
-    option (codes "KEYLENGTH") (decimal d.key_length) ++ (option (codes "KEYOFFSET") (decimal d.key_offset)
-    ++ option (codes "RECORDSIZE") (decimal d.record_size))
+unfoldable pub key_and_size_options : FileDef → List ℕ
+key_and_size_options d =
+    option_with_value (codes "KEYLENGTH") (decimal d.key_length) ++ (option_with_value (codes "KEYOFFSET") (decimal d.key_offset)
+    ++ option_with_value (codes "RECORDSIZE") (decimal d.record_size))
 
 -- a file's definition
 abbrev pub file_line : Bytes → FileDef → List ℕ
-file_line name d = line (codes "DEFINE" ++ (option (codes "FILE") (name_text name) ++ (numbers d ++ flag (recoverable_title d.recoverable))))
+file_line name d =
+    line (codes "DEFINE" ++ (option_with_value (codes "FILE") (name_text name)
+    ++ (key_and_size_options d ++ bare_option (recoverable_title d.recoverable))))
 
 -- a record that is loaded into what has this name
 abbrev pub load_line : List ℕ → Bytes → Bytes → List ℕ
-load_line kind name bytes = line (codes "LOAD" ++ (option kind (name_text name) ++ option (codes "FROM") (text_of bytes)))
+load_line kind name bytes = line (codes "LOAD" ++ (option_with_value kind (name_text name) ++ option_with_value (codes "FROM") (text_of bytes)))
 
 -- a file: its definition, and its records in the order of their keys
 abbrev pub file_lines : Bytes × FileDef × List Bytes → List ℕ
@@ -52,11 +54,11 @@ file_lines (name, d, records) = file_line name d ++ flat_map (load_line (codes "
 
 -- a prefix of recoverable temporary storage queues
 abbrev pub prefix_line : Bytes → List ℕ
-prefix_line prefix = line (codes "DEFINE" ++ option (codes "TSPREFIX") (name_text prefix))
+prefix_line prefix = line (codes "DEFINE" ++ option_with_value (codes "TSPREFIX") (name_text prefix))
 
 -- a transient data queue's definition
 abbrev pub queue_line : Bytes → Recovery → List ℕ
-queue_line name recovery = line (codes "DEFINE" ++ (option (codes "TDQUEUE") (name_text name) ++ flag (recovery_title recovery)))
+queue_line name recovery = line (codes "DEFINE" ++ (option_with_value (codes "TDQUEUE") (name_text name) ++ bare_option (recovery_title recovery)))
 
 -- a transient data queue: its definition, and its records, the first first
 abbrev pub queue_lines : Bytes × Recovery × List Bytes → List ℕ
@@ -74,8 +76,8 @@ abbrev pub unit_label : ℕ → List ℕ
 unit_label unit = codes "U" ++ decimal unit
 
 -- a command of the task of a unit
-abbrev pub command_line : ℕ → Verb → List ℕ
-command_line unit asked = line (written_out (unit_label unit) (record { verb = asked; resp = false }))
+abbrev pub unit_command_line : ℕ → Verb → List ℕ
+unit_command_line unit asked = line (written_out (unit_label unit) (record { verb = asked; resp = false }))
 
 -- what asks for an updating command
 abbrev pub verb_for : Op → Verb
@@ -93,12 +95,12 @@ verb_for (TdDelete queue) = verb.DeleteqTd queue
 
 -- before READ UPDATE an update read of the file that may be open is given up
 abbrev pub unlock_line : ℕ → Op → List ℕ
-unlock_line unit (ReadUpdate file key) = command_line unit (verb.Unlock file)
+unlock_line unit (ReadUpdate file key) = unit_command_line unit (verb.Unlock file)
 unlock_line unit _ = []
 
 -- an executed command, as its unit asks for it again
 abbrev pub entry_lines : Entry → List ℕ
-entry_lines e = unlock_line e.unit e.op ++ command_line e.unit (verb_for e.op)
+entry_lines e = unlock_line e.unit e.op ++ unit_command_line e.unit (verb_for e.op)
 
 -- what a unit did to recoverable files and queues
 abbrev pub done_lines : OpeningState → List Entry → ℕ → List ℕ
@@ -110,7 +112,7 @@ unit_lines did unit = line (codes "ATTACH " ++ (unit_label unit ++ codes " TRANS
 
 -- a unit that commits
 abbrev pub committed_lines : (ℕ → List ℕ) → ℕ → List ℕ
-committed_lines did unit = unit_lines did unit ++ command_line unit verb.Syncpoint
+committed_lines did unit = unit_lines did unit ++ unit_command_line unit verb.Syncpoint
 
 -- the units of these outcomes that are open, numbered on from here
 abbrev pub open_from : ℕ → List UnitState → List ℕ
@@ -125,8 +127,8 @@ open_units outcomes = open_from 0 outcomes
 
 -- what was opened, each of the committed units in this order, and behind them these units, which are open
 abbrev pub serial_script : OpeningState → List Entry → List ℕ → List ℕ → List ℕ
-serial_script o trace committed behind =
-    opening_lines o ++ (flat_map (committed_lines (done_lines o trace)) committed ++ flat_map (unit_lines (done_lines o trace)) behind)
+serial_script o trace committed unfinished =
+    opening_lines o ++ (flat_map (committed_lines (done_lines o trace)) committed ++ flat_map (unit_lines (done_lines o trace)) unfinished)
 
 -- the serial run of units of work, behind its heading
 abbrev pub serial_text : UnitsState → List ℕ

@@ -16,5 +16,5 @@ abbrev pub lines_at : List (Vec ℕ) → ℕ → List ℕ
 lines_at rows unit = row_bytes (slice_get rows unit)
 
 -- what a command adds to the lines of a unit, which may be another's
-abbrev pub added : OpeningState → Entry → ℕ → List ℕ
-added o e unit = if is_done_by o unit e then entry_lines e else []
+abbrev pub lines_added : OpeningState → Entry → ℕ → List ℕ
+lines_added o e unit = if is_done_by o unit e then entry_lines e else []

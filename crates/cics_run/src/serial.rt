@@ -4,8 +4,9 @@ ghost use Rattle.std.specs.Prelude.{◌≡◌, ◌++◌, ◌∷◌, [], OnOk};
 ghost use Rattle.std.specs.List.{flat_map};
 ghost use Rattle.std.specs.Fmt.{decimal};
 ghost use Rattle.cics_script.specs.Texts.{text_of, name_text};
-ghost use Rattle.cics_run.specs.Serial.{option, flag, numbers, load_line, file_line, file_lines};
-ghost use Rattle.cics_run.specs.Serial.{prefix_line, queue_line, queue_lines, opening_lines, unit_lines};
+ghost use Rattle.cics_run.specs.Serial.{option_with_value, bare_option, key_and_size_options};
+ghost use Rattle.cics_run.specs.Serial.{load_line, file_line, file_lines, prefix_line, queue_line};
+ghost use Rattle.cics_run.specs.Serial.{queue_lines, opening_lines, unit_lines};
 ghost use Rattle.cics_run.specs.Serial.{committed_lines, open_from, open_units, serial_text};
 ghost use Rattle.cics_run.specs.UnitLines.{lines_at};
 
@@ -23,7 +24,9 @@ use cics_units::{Opening, UnitState, Units};
 /// of the commits, what the unit did to recoverable files and queues, and commits. Behind them come
 /// the units that are open, in the order of their numbers, which don't commit.
 ///
-/// The commands are walked once, and their lines gathered for each unit: it takes memory for these.
+/// The commands are walked once, and their lines gathered for each unit: it takes memory for these,
+/// for the text and for copies of the records in it. `NoMemory` comes only where some of it is
+/// refused, and `out` then holds a front of the text behind what it held.
 pub fn push_serial(out: &mut Vec<u8>, units: &Units) -> Result<(), NoMemory>
     ensures { OnOk result (out.new.items ≡ out.old.items ++ serial_text units.now.state) }
 {
@@ -96,9 +99,9 @@ fn push_file_line(out: &mut Vec<u8>, name: &[u8], definition: FileDef) -> Result
 }
 
 // Where a file's keys lie, and how long its records may be.
-#[tactic(auto, unfolding(crate::specs::Serial::numbers))]
+#[tactic(auto, unfolding(crate::specs::Serial::key_and_size_options))]
 fn push_numbers(out: &mut Vec<u8>, definition: FileDef) -> Result<(), NoMemory>
-    ensures { OnOk result (out.new.items ≡ out.old.items ++ numbers definition) }
+    ensures { OnOk result (out.new.items ≡ out.old.items ++ key_and_size_options definition) }
 {
     push_amount(out, "KEYLENGTH", definition.key_length)?;
     push_amount(out, "KEYOFFSET", definition.key_offset)?;
@@ -158,19 +161,19 @@ fn push_load(out: &mut Vec<u8>, kind: &str, name: &[u8], loaded: &[u8]) -> Resul
 }
 
 // A word that stands alone.
-#[tactic(auto, unfolding(crate::specs::Serial::flag))]
+#[tactic(auto, unfolding(crate::specs::Serial::bare_option))]
 fn push_flag(out: &mut Vec<u8>, title: &str) -> Result<(), NoMemory>
-    ensures { OnOk result (out.new.items ≡ out.old.items ++ flag title.now) }
+    ensures { OnOk result (out.new.items ≡ out.old.items ++ bare_option title.now) }
 {
     push_str(out, " ")?;
     push_str(out, title)
 }
 
 // An option that gives a name.
-#[tactic(auto, unfolding(crate::specs::Serial::option))]
+#[tactic(auto, unfolding(crate::specs::Serial::option_with_value))]
 fn push_named(out: &mut Vec<u8>, title: &str, name: &[u8]) -> Result<(), NoMemory>
     ensures { OnOk result (out.new.items
-        ≡ out.old.items ++ option title.now (name_text name.now)) }
+        ≡ out.old.items ++ option_with_value title.now (name_text name.now)) }
 {
     push_str(out, " ")?;
     push_str(out, title)?;
@@ -180,10 +183,10 @@ fn push_named(out: &mut Vec<u8>, title: &str, name: &[u8]) -> Result<(), NoMemor
 }
 
 // An option that gives a record.
-#[tactic(auto, unfolding(crate::specs::Serial::option))]
+#[tactic(auto, unfolding(crate::specs::Serial::option_with_value))]
 fn push_content(out: &mut Vec<u8>, title: &str, content: &[u8]) -> Result<(), NoMemory>
     ensures { OnOk result (out.new.items
-        ≡ out.old.items ++ option title.now (text_of content.now)) }
+        ≡ out.old.items ++ option_with_value title.now (text_of content.now)) }
 {
     push_str(out, " ")?;
     push_str(out, title)?;
@@ -193,9 +196,10 @@ fn push_content(out: &mut Vec<u8>, title: &str, content: &[u8]) -> Result<(), No
 }
 
 // An option that gives a number.
-#[tactic(auto, unfolding(crate::specs::Serial::option))]
+#[tactic(auto, unfolding(crate::specs::Serial::option_with_value))]
 fn push_amount(out: &mut Vec<u8>, title: &str, number: u64) -> Result<(), NoMemory>
-    ensures { OnOk result (out.new.items ≡ out.old.items ++ option title.now (decimal number)) }
+    ensures { OnOk result (out.new.items
+        ≡ out.old.items ++ option_with_value title.now (decimal number)) }
 {
     push_str(out, " ")?;
     push_str(out, title)?;

@@ -99,7 +99,8 @@ impl Session {
         }
     }
 
-    /// Writes all that was printed.
+    /// Writes all that was printed and not yet written, and keeps none of it. `Stop::WriteFault` is
+    /// the writer's refusal: a front of the text has then been written.
     pub fn write<W: Write>(&mut self, writer: &mut W) -> Result<(), Stop>
         ensures { WhereverStands (W.contents writer.old) self.old (λ bytes before.
             Writes bytes before (W.contents writer.new) self.new result) }
@@ -136,7 +137,10 @@ impl Session {
     }
 
     /// Runs the lines that more bytes complete, up to the first fault, and tells whether there was
-    /// one: what was printed up to it is then written.
+    /// one: what was printed up to it is then written. Without a fault the bytes of a line that is
+    /// not yet whole are kept, and what was printed may wait to be written. `Stop::NoMemory` comes
+    /// where memory is refused, `Stop::WriteFault` where the writer refuses; with either a front of
+    /// what is to be written has been.
     pub fn feed<W: Write>(&mut self, chunk: &[u8], writer: &mut W) -> Result<bool, Stop>
         requires { self.old.number + length chunk.now < 2 ^ 64 }
         ensures { WhereverStands (W.contents writer.old) self.old (λ bytes before.
@@ -181,8 +185,9 @@ impl Session {
         )
     }
 
-    /// Runs the last line where it lacks its LF, and where no line was a fault, writes what is asked
-    /// for of the listing, the replay and the serial run.
+    /// Runs the last line where it lacks its LF, and where it was no fault, writes what is asked for
+    /// of the listing, the replay and the serial run. The status tells which of the two came. `Stop`
+    /// comes as it does from [`Session::feed`], and a front of the output has then been written.
     pub fn finish<W: Write>(&mut self, options: Options, writer: &mut W) -> Result<Status, Stop>
         requires { self.old.number + 1 < 2 ^ 64 }
         ensures { WhereverStands (W.contents writer.old) self.old (λ bytes before.
@@ -227,13 +232,13 @@ fn push_ending(stage: &mut Stage, options: Options, out: &mut Vec<u8>) -> Result
 {
     stage.open()?;
     match stage {
-        Stage::Running(region) => push_lists(region, options, out),
+        Stage::Running(region) => push_all_wanted(region, options, out),
         Stage::Opening(_) => unreachable!(),
     }
 }
 
 // Prints the listing of a region, unless it is left out.
-fn push_listed(region: &Region, no_list: bool, out: &mut Vec<u8>) -> Result<(), NoMemory>
+fn push_wanted_listing(region: &Region, no_list: bool, out: &mut Vec<u8>) -> Result<(), NoMemory>
     ensures { OnOk result (out.new.items
         ≡ out.old.items ++ (if no_list then [] else listing_at (Running region.now))) }
 {
@@ -244,7 +249,7 @@ fn push_listed(region: &Region, no_list: bool, out: &mut Vec<u8>) -> Result<(), 
 }
 
 // Prints the replay of a region's history, where it is asked for.
-fn push_replayed(region: &Region, replay: bool, out: &mut Vec<u8>) -> Result<(), NoMemory>
+fn push_wanted_replay(region: &Region, replay: bool, out: &mut Vec<u8>) -> Result<(), NoMemory>
     ensures { OnOk result (out.new.items
         ≡ out.old.items ++ (if replay then replay_at (Running region.now) else [])) }
 {
@@ -255,7 +260,7 @@ fn push_replayed(region: &Region, replay: bool, out: &mut Vec<u8>) -> Result<(),
 }
 
 // Prints the serial run of a region's units, where it is asked for.
-fn push_serial_run(region: &Region, serial: bool, out: &mut Vec<u8>) -> Result<(), NoMemory>
+fn push_wanted_serial_run(region: &Region, serial: bool, out: &mut Vec<u8>) -> Result<(), NoMemory>
     ensures { OnOk result (out.new.items
         ≡ out.old.items ++ (if serial then serial_at (Running region.now) else [])) }
 {
@@ -266,10 +271,10 @@ fn push_serial_run(region: &Region, serial: bool, out: &mut Vec<u8>) -> Result<(
 }
 
 // Prints what is asked for of the listing of a region, the replay and the serial run.
-fn push_lists(region: &Region, options: Options, out: &mut Vec<u8>) -> Result<(), NoMemory>
+fn push_all_wanted(region: &Region, options: Options, out: &mut Vec<u8>) -> Result<(), NoMemory>
     ensures { OnOk result (out.new.items ≡ out.old.items ++ ending options (Running region.now)) }
 {
-    push_listed(region, options.no_list, out)?;
-    push_replayed(region, options.replay, out)?;
-    push_serial_run(region, options.serial, out)
+    push_wanted_listing(region, options.no_list, out)?;
+    push_wanted_replay(region, options.replay, out)?;
+    push_wanted_serial_run(region, options.serial, out)
 }

@@ -2,9 +2,9 @@
 
 ghost use Rattle.std.specs.Prelude.{◌≡◌, ◌++◌, ◌<◌, ◌&&◌, ℕ, OnOk, IfOk, length};
 ghost use Rattle.cics_history.specs.Store.{is_normal, is_recoverable};
-ghost use Rattle.cics_run.specs.Serial.{unit_label, command_line, verb_for, entry_lines};
+ghost use Rattle.cics_run.specs.Serial.{unit_label, unit_command_line, verb_for, entry_lines};
 ghost use Rattle.cics_run.specs.Serial.{done_lines};
-ghost use Rattle.cics_run.specs.UnitLines.{lines_at, added};
+ghost use Rattle.cics_run.specs.UnitLines.{lines_at, lines_added};
 
 use cics_enqueue::UnitId;
 use cics_names::{Command, Condition, NoMemory, Verb};
@@ -34,7 +34,7 @@ fn gather(
     entry: &Entry,
 ) -> Result<(), NoMemory>
     ensures { OnOk result ((unit : ℕ) → lines_at rows.new.items unit
-        ≡ lines_at rows.old.items unit ++ added opening.now entry.now unit) }
+        ≡ lines_at rows.old.items unit ++ lines_added opening.now entry.now unit) }
 {
     if !is_done(opening, entry) {
         return Ok(());
@@ -77,7 +77,7 @@ fn push_entry(out: &mut Vec<u8>, entry: &Entry) -> Result<(), NoMemory>
 
 /// A command of the task of a unit.
 pub fn push_command(out: &mut Vec<u8>, unit: UnitId, verb: Verb) -> Result<(), NoMemory>
-    ensures { OnOk result (out.new.items ≡ out.old.items ++ command_line unit verb) }
+    ensures { OnOk result (out.new.items ≡ out.old.items ++ unit_command_line unit verb) }
 {
     let mut label = Vec::new(*out.allocator());
     push_label(&mut label, unit)?;

@@ -1,10 +1,31 @@
 use Rattle.std.proofs.Common.{◌≡◌, ◌∙◌, ap, subst, Some, None, ◌<◌, length}
 use Rattle.std.specs.Prelude.{slice_get}
 use Rattle.cics_dispatch.specs.Machine.{task_at}
+use Rattle.cics_dispatch.specs.KeptTasks.{AreTasksKept}
 use Rattle.cics_dispatch.specs.Regions.{IsRegionKept}
 use Rattle.cics_dispatch.specs.Waits.{wait_of, AreApart}
 use Rattle.cics_dispatch.proofs.Looks.{wait_there, wait_has_task, look_ready, look_goes, look_blocked}
 use Rattle.cics_dispatch.proofs.dispatcher.Dispatcher.look.Goals as goal
+use Rattle.cics_dispatch.proofs.dispatcher.Dispatcher.look.Goals.{In-Some, In-Some-find}
+
+-- what is known of a command that waits
+module _ (c : In-Some) where
+  found : Some c.in-Some.wait.now ≡ wait_of c.args.self.now.machine.waiting c.args.label.now
+  found = c.in-Some.ensures.wait ∙ ap (λ v. wait_of v.machine.waiting c.args.label.now) c.self.view_is
+
+  kept : AreTasksKept c.args.self.now.machine
+  kept = (subst IsRegionKept c.self.view_is c.self.invariant).tasks
+
+-- and of the task that it is of
+module _ (c : In-Some-find) where
+  apart : AreApart c.args.self.now.machine.waiting
+  apart = subst (λ v. AreApart v.machine.waiting) c.self.view_is c.get.ensures.once
+
+  task : slice_get c.args.self.now.machine.tasks c.in-Some-find.at ≡ task_at c.args.self.now.machine.tasks c.args.label.now
+  task = subst (λ v. slice_get v.machine.tasks c.in-Some-find.at ≡ task_at v.machine.tasks c.args.label.now) c.self.view_is c.in-Some-find.ensures.task
+
+  within : c.in-Some-find.at < length c.args.self.now.machine.tasks
+  within = subst (λ v. c.in-Some-find.at < length v.machine.tasks) c.self.view_is c.in-Some-find.ensures.within
 
 pub unreachable-requires : goal.unreachable-requires
 unreachable-requires c =
@@ -14,45 +35,26 @@ unreachable-requires c =
 pub unreachable-requires-in_default-find : goal.unreachable-requires-in_default-find
 unreachable-requires-in_default-find c =
     let m = c.args.self.now.machine in
-    let label = c.args.label.now in
-    let found : Some c.in-Some.wait.now ≡ wait_of m.waiting label = c.in-Some.ensures.wait ∙ ap (λ v. wait_of v.machine.waiting label) c.self.view_is in
-    wait_has_task m c.in-Some.wait.now label (subst IsRegionKept c.self.view_is c.self.invariant).tasks.waits found
-    (subst (λ v. task_at v.machine.tasks label ≡ None) c.self.view_is c.in_default-find.ensures.none)
+    let known = (goal.at.unreachable-requires-in_default-find c).In-Some in
+    wait_has_task m c.in-Some.wait.now c.args.label.now (kept known).waits (found known)
+    (subst (λ v. task_at v.machine.tasks c.args.label.now ≡ None) c.self.view_is c.in_default-find.ensures.none)
 
 pub awaited-requires-clause-ready : goal.awaited-requires-clause-ready
 awaited-requires-clause-ready c =
-    let m = c.args.self.now.machine in
-    let label = c.args.label.now in
-    let w = c.in-Some.wait.now in
-    let at = c.in-Some-find.at in
-    let apart = subst (λ v. AreApart v.machine.waiting) c.self.view_is c.get.ensures.once in
-    let found : Some w ≡ wait_of m.waiting label = c.in-Some.ensures.wait ∙ ap (λ v. wait_of v.machine.waiting label) c.self.view_is in
-    let kept = (subst IsRegionKept c.self.view_is c.self.invariant).tasks in
-    let task : slice_get m.tasks at ≡ task_at m.tasks label = subst (λ v. slice_get v.machine.tasks at ≡ task_at v.machine.tasks label) c.self.view_is c.in-Some-find.ensures.task in
-    look_ready m w label at apart found kept task
+    let known = (goal.at.awaited-requires-clause-ready c).In-Some in
+    let its = (goal.at.awaited-requires-clause-ready c).In-Some-find in
+    look_ready c.args.self.now.machine c.in-Some.wait.now c.args.label.now c.in-Some-find.at (apart its) (found known) (kept known) (task its)
 
 pub returns-in-None : goal.returns-in-None
 returns-in-None c =
-    let m = c.args.self.now.machine in
-    let label = c.args.label.now in
-    let w = c.in-Some.wait.now in
-    let at = c.in-Some-find.at in
-    let apart = subst (λ v. AreApart v.machine.waiting) c.self.view_is c.get.ensures.once in
-    let found : Some w ≡ wait_of m.waiting label = c.in-Some.ensures.wait ∙ ap (λ v. wait_of v.machine.waiting label) c.self.view_is in
-    let kept = (subst IsRegionKept c.self.view_is c.self.invariant).tasks in
-    let task : slice_get m.tasks at ≡ task_at m.tasks label = subst (λ v. slice_get v.machine.tasks at ≡ task_at v.machine.tasks label) c.self.view_is c.in-Some-find.ensures.task in
-    let within : at < length m.tasks = subst (λ v. at < length v.machine.tasks) c.self.view_is c.in-Some-find.ensures.within in
-    look_goes m w label at apart found kept task within c.awaited.result c.awaited.ensures.holder c.in-None.is
+    let known = (goal.at.returns-in-None c).In-Some in
+    let its = (goal.at.returns-in-None c).In-Some-find in
+    look_goes c.args.self.now.machine c.in-Some.wait.now c.args.label.now c.in-Some-find.at (apart its) (found known) (kept known) (task its) (within its)
+    c.awaited.result c.awaited.ensures.holder c.in-None.is
 
 pub returns-in-Some-awaited : goal.returns-in-Some-awaited
 returns-in-Some-awaited c =
-    let m = c.args.self.now.machine in
-    let label = c.args.label.now in
-    let w = c.in-Some.wait.now in
-    let at = c.in-Some-find.at in
-    let apart = subst (λ v. AreApart v.machine.waiting) c.self.view_is c.get.ensures.once in
-    let found : Some w ≡ wait_of m.waiting label = c.in-Some.ensures.wait ∙ ap (λ v. wait_of v.machine.waiting label) c.self.view_is in
-    let kept = (subst IsRegionKept c.self.view_is c.self.invariant).tasks in
-    let task : slice_get m.tasks at ≡ task_at m.tasks label = subst (λ v. slice_get v.machine.tasks at ≡ task_at v.machine.tasks label) c.self.view_is c.in-Some-find.ensures.task in
-    let within : at < length m.tasks = subst (λ v. at < length v.machine.tasks) c.self.view_is c.in-Some-find.ensures.within in
-    look_blocked m w label at apart found kept task within c.awaited.result c.awaited.ensures.holder c.in-Some-awaited.unit c.in-Some-awaited.is c.awaited.ensures.sound c.in-Some-awaited.ensures.is_open
+    let known = (goal.at.returns-in-Some-awaited c).In-Some in
+    let its = (goal.at.returns-in-Some-awaited c).In-Some-find in
+    look_blocked c.args.self.now.machine c.in-Some.wait.now c.args.label.now c.in-Some-find.at (apart its) (found known) (kept known) (task its) (within its)
+    c.awaited.result c.awaited.ensures.holder c.in-Some-awaited.unit c.in-Some-awaited.is c.awaited.ensures.sound c.in-Some-awaited.ensures.is_open

@@ -5,6 +5,14 @@ use Rattle.cics_dispatch.specs.Filed.{IsFiled}
 use Rattle.cics_dispatch.proofs.ShownNotes.{only_of, of_line_at}
 use Rattle.cics_dispatch.proofs.FiledNotes.{filed_parked, filed_line}
 use Rattle.cics_dispatch.proofs.notes.Notes.close.Goals as goal
+use Rattle.cics_dispatch.proofs.notes.Notes.close.Goals.{After-park_line}
+
+module _ (c : After-park_line) where
+  there : slice_get c.self.inside.rows.items c.args.at ≡ Some (Some c.args.note.now)
+  there = ap (λ v. slice_get v.rows c.args.at) c.self.view_is ∙ c.requires.there
+
+  within : c.args.line < length c.self.inside.lines.items
+  within = subst (λ v. c.args.line < length v.blockers) (sym c.self.view_is) c.requires.within
 
 pub invariant_of-self : goal.invariant_of-self
 invariant_of-self c =
@@ -26,29 +34,21 @@ invariant_of-self-in_err-join c =
     (filed_parked u.rows.items u.count u.resources.keys u.lines.items u.members.items u.parked.entries u.keys c.self.invariant c.park_line.new.parked.entries c.park_line.ensures.kept)
 
 pub join-requires : goal.join-requires
-join-requires c =
-    let u = c.self.inside in
-    let inside : c.args.line < length u.lines.items = subst (λ v. c.args.line < length v.blockers) (sym c.self.view_is) c.requires.within in
-    subst (λ k. c.args.line < k) (sym c.self.invariant.shown.sized) inside
+join-requires c = subst (λ k. c.args.line < k) (sym c.self.invariant.shown.sized) (within (goal.at.join-requires c).After-park_line)
 
 pub index_mut-requires-2 : goal.index_mut-requires-2
 index_mut-requires-2 c =
-    let u = c.self.inside in
-    let rows = u.rows.items in
-    let n = c.args.note.now in
-    let there : slice_get rows c.args.at ≡ Some (Some n) = ap (λ v. slice_get v.rows c.args.at) c.self.view_is ∙ c.requires.there in
-    let within = slice_get_within rows c.args.at (Some n) there in
-    let ok = u.rows.ok.0 in
-    omega (arith, within, ok)
+    let inside = slice_get_within c.self.inside.rows.items c.args.at (Some c.args.note.now) (there (goal.at.index_mut-requires-2 c).After-park_line) in
+    let ok = c.self.inside.rows.ok.0 in
+    omega (arith, inside, ok)
 
 pub invariant_of-self-2 : goal.invariant_of-self-2
 invariant_of-self-2 c =
     let u = c.self.inside in
     let rows = u.rows.items in
     let n = c.args.note.now in
-    let there : slice_get rows c.args.at ≡ Some (Some n) = ap (λ v. slice_get v.rows c.args.at) c.self.view_is ∙ c.requires.there in
     let j = c.in_ok-join.ensures.ok in
     let bs = slice_set u.lines.items c.args.line (Some c.args.unit) in
     subst (λ ms. IsFiled (slice_set rows c.args.at (Some (in_line c.args.line n))) u.count u.resources.keys bs ms c.park_line.new.parked.entries u.keys) (sym j.put)
     (filed_line rows u.count u.resources.keys u.lines.items u.members.items u.parked.entries u.keys c.self.invariant c.args.at c.args.unit c.args.line n j.old j.all c.park_line.new.parked.entries
-    there (only_of n.line c.args.line c.requires.only) j.there j.joined c.park_line.ensures.kept c.in_ok-park_line.ensures.added)
+    (there (goal.at.invariant_of-self-2 c).After-park_line) (only_of n.line c.args.line c.requires.only) j.there j.joined c.park_line.ensures.kept c.in_ok-park_line.ensures.added)

@@ -4,6 +4,10 @@ use Rattle.cics_dispatch.specs.Filed.{IsLeft}
 use Rattle.cics_dispatch.proofs.ShownNotes.{line_within, member_within}
 use Rattle.cics_dispatch.proofs.FiledNotes.{filed_parked, filed_alone}
 use Rattle.cics_dispatch.proofs.notes.Notes.set_alone.Goals as goal
+use Rattle.cics_dispatch.proofs.notes.Notes.set_alone.Goals.{After-park}
+
+there : (c : After-park) → slice_get c.self.inside.rows.items c.args.at ≡ Some (Some c.args.note.now)
+there c = ap (λ v. slice_get v.rows c.args.at) c.self.view_is ∙ c.requires.there
 
 pub invariant_of-self : goal.invariant_of-self
 invariant_of-self c =
@@ -13,10 +17,7 @@ invariant_of-self c =
 pub leave-requires-clause-line : goal.leave-requires-clause-line
 leave-requires-clause-line c =
     let u = c.self.inside in
-    let rows = u.rows.items in
-    let n = c.args.note.now in
-    let there : slice_get rows c.args.at ≡ Some (Some n) = ap (λ v. slice_get v.rows c.args.at) c.self.view_is ∙ c.requires.there in
-    line_within rows u.lines.items u.members.items u.keys c.self.invariant.shown c.args.at n there
+    line_within u.rows.items u.lines.items u.members.items u.keys c.self.invariant.shown c.args.at c.args.note.now (there (goal.at.leave-requires-clause-line c).After-park)
 
 pub leave-requires-clause-within : goal.leave-requires-clause-within
 leave-requires-clause-within c =
@@ -25,20 +26,14 @@ leave-requires-clause-within c =
 
 pub index_mut-requires : goal.index_mut-requires
 index_mut-requires c =
-    let u = c.self.inside in
-    let rows = u.rows.items in
-    let n = c.args.note.now in
-    let there : slice_get rows c.args.at ≡ Some (Some n) = ap (λ v. slice_get v.rows c.args.at) c.self.view_is ∙ c.requires.there in
-    let within = slice_get_within rows c.args.at (Some n) there in
-    let ok = u.rows.ok.0 in
+    let within = slice_get_within c.self.inside.rows.items c.args.at (Some c.args.note.now) (there (goal.at.index_mut-requires c).After-park) in
+    let ok = c.self.inside.rows.ok.0 in
     omega (arith, within, ok)
 
 pub invariant_of-self-2 : goal.invariant_of-self-2
 invariant_of-self-2 c =
     let u = c.self.inside in
-    let rows = u.rows.items in
     let n = c.args.note.now in
-    let there : slice_get rows c.args.at ≡ Some (Some n) = ap (λ v. slice_get v.rows c.args.at) c.self.view_is ∙ c.requires.there in
     let left = subst (λ bs. IsLeft c.args.at n.line bs u.members.items u.keys c.leave.new.members.items c.leave.new.keys) c.as_slice.ensures.value c.leave.ensures in
-    filed_alone rows u.count u.resources.keys u.lines.items u.members.items u.parked.entries u.keys c.self.invariant c.args.at c.args.unit n c.leave.new.members.items c.leave.new.keys
-    c.park.new.parked.entries there left c.park.ensures.kept c.in_ok-park.ensures.added
+    filed_alone u.rows.items u.count u.resources.keys u.lines.items u.members.items u.parked.entries u.keys c.self.invariant c.args.at c.args.unit n c.leave.new.members.items c.leave.new.keys
+    c.park.new.parked.entries (there (goal.at.invariant_of-self-2 c).After-park) left c.park.ensures.kept c.in_ok-park.ensures.added
