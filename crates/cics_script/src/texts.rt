@@ -22,6 +22,11 @@ pub fn push_str(out: &mut Vec<u8>, text: &str) -> Result<(), NoMemory>
 pub fn push_number(out: &mut Vec<u8>, number: u64) -> Result<(), NoMemory>
     ensures { OnOk result (out.new.items ≡ out.old.items ++ decimal number) }
 {
+    // Most numbers of a journal have one digit, and that needs no text of its own.
+    if number < 10 {
+        out.push(b'0' + number as u8)?;
+        return Ok(());
+    }
     let digits = number.to_string(*out.allocator())?;
     push_str(out, &digits)
 }
