@@ -1,5 +1,6 @@
 mod Changes
 pub mod Order
+pub mod Words
 pub mod Joins
 pub mod AreaEdits
 pub mod IntervalEdits

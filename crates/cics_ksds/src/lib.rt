@@ -3,6 +3,7 @@
 #![tactic(auto)]
 
 mod areas;
+mod comparing;
 mod dataset;
 mod definition;
 mod files;

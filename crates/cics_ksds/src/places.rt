@@ -16,6 +16,7 @@ ghost use Rattle.cics_ksds.specs.Places.{IsLastFrom, first_key_of};
 
 use crate::FileDef;
 use crate::areas::Area;
+use crate::comparing::order_of;
 use crate::dataset::Dataset;
 use crate::intervals::Interval;
 use cics_names::{NoMemory, Record};
@@ -105,7 +106,7 @@ fn search(definition: FileDef, places: &[Place], key: &[u8]) -> Result<usize, us
     let mut high = places.len();
     while low < high {
         let middle = low + (high - low) / 2;
-        match places[middle].key(definition).cmp(key) {
+        match order_of(places[middle].key(definition), key) {
             Ordering::Less => low = middle + 1,
             Ordering::Equal => return Ok(middle),
             Ordering::Greater => high = middle,
@@ -133,7 +134,7 @@ fn interval_of(definition: FileDef, intervals: &[Interval], key: &[u8]) -> usize
     let mut high = intervals.len();
     while high - low > 1 {
         let middle = low + (high - low) / 2;
-        match first_key(definition, &intervals[middle]).cmp(key) {
+        match order_of(first_key(definition, &intervals[middle]), key) {
             Ordering::Less => low = middle,
             Ordering::Equal => low = middle,
             Ordering::Greater => high = middle,
@@ -154,7 +155,7 @@ fn area_of(definition: FileDef, areas: &[Area], key: &[u8]) -> usize
     let mut high = areas.len();
     while high - low > 1 {
         let middle = low + (high - low) / 2;
-        match first_key(definition, &areas[middle].intervals()[0]).cmp(key) {
+        match order_of(first_key(definition, &areas[middle].intervals()[0]), key) {
             Ordering::Less => low = middle,
             Ordering::Equal => low = middle,
             Ordering::Greater => high = middle,
