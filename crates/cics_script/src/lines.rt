@@ -19,7 +19,7 @@ use crate::tokens::{Token, next_token, skip_blanks};
 use crate::values::{name4_of, name8_of, number_of, text_of};
 use crate::words::{
     CommandWord, DefineObject, Form, LoadObject, OptionWord, Start, capital_of, command_named,
-    define_object, is_spelled, load_object, queue_command, start_of,
+    define_object, is_of_queue, is_spelled, load_object, queue_command, start_of,
 };
 use cics_ksds::FileDef;
 use cics_names::{Command, Name4, Name8, Record};
@@ -335,6 +335,9 @@ fn read_shutdown(alloc: Global, bytes: &[u8]) -> Result<Line, LineFault>
 fn placed_command(verb: CommandWord, bytes: &[u8]) -> (CommandWord, &[u8])
     ensures { command_at verb (tokens bytes.now) ≡ (result.0, tokens result.1.now) }
 {
+    if !is_of_queue(verb) {
+        return (verb, bytes);
+    }
     match next_token(bytes) {
         Ok(Some((Token::Word(word), rest))) => match queue_command(verb, word) {
             Some(command) => (command, rest),

@@ -12,7 +12,9 @@ ghost use Rattle.cics_script.specs.Views.{Opens, Fills, Shuts, HasValue, Enters,
 use crate::faults::LineFault;
 use crate::literals::{Encoding, Literal, Notation};
 use crate::tokens::{Token, next_token};
-use crate::words::{Form, Kind, OptionWord, is_excluded, is_same, kind_of, option_named};
+use crate::words::{
+    Form, Kind, OptionWord, is_excluded, is_exclusive, is_same, kind_of, option_named,
+};
 use arrayvec::ArrayVec;
 use cics_names::{Name4, Name8};
 use std::alloc::Global;
@@ -204,6 +206,9 @@ pub fn has_option(found: &[Found<'_>], option: OptionWord) -> bool
 fn has_excluded(found: &[Found<'_>], option: OptionWord) -> bool
     ensures { result ≡ list_any (λ entry. excludes entry.0 option) (entries found.now) }
 {
+    if !is_exclusive(option) {
+        return false;
+    }
     for one in found {
         if is_excluded(one.option, option) {
             return true;

@@ -1,12 +1,13 @@
 //! The words of the grammar: which word begins which line, and what each line and command takes.
 
-ghost use Rattle.std.specs.Prelude.{◌≡◌, ◌||◌, ◌&&◌, Option, Some, None, map};
+ghost use Rattle.std.specs.Prelude.{◌≡◌, ◌||◌, ◌&&◌, ℕ, false, List, [], ◌∷◌, Option, Some, None, map};
+ghost use Rattle.std.specs.List.{list_any};
 ghost use Rattle.std.specs.Str.{bytes_eq};
 ghost use Rattle.cics_script.specs.Tokens.{capital};
 ghost use Rattle.cics_script.specs.Words.{lookup, starts, define_objects, load_objects};
 ghost use Rattle.cics_script.specs.Words.{commands, queue_words};
 ghost use Rattle.cics_script.specs.Words.{option_words, same, kind_among, kind_in};
-ghost use Rattle.cics_script.specs.Words.{options_of_command, is_pair_in, excludes};
+ghost use Rattle.cics_script.specs.Words.{options_of_command, exclusions, is_pair_in, excludes};
 
 /// What the first word of a line makes of it, where the word is no label.
 #[derive(Clone, Copy, Debug, PartialEq, Eq)]
@@ -154,26 +155,44 @@ static LOAD_OBJECTS: [(&str, LoadObject); 3] = [
     ("TDQUEUE", LoadObject::TdQueue),
 ];
 
-static COMMANDS: [(&str, CommandWord); 18] = [
-    ("READ", CommandWord::Read),
-    ("WRITE", CommandWord::Write),
-    ("REWRITE", CommandWord::Rewrite),
+// The verbs by their first letters.
+
+static COMMANDS_A: [(&str, CommandWord); 1] = [("ABEND", CommandWord::Abend)];
+
+static COMMANDS_D: [(&str, CommandWord); 3] = [
     ("DELETE", CommandWord::Delete),
-    ("UNLOCK", CommandWord::Unlock),
-    ("STARTBR", CommandWord::StartBr),
+    ("DELETEQ", CommandWord::DeleteqTs),
+    ("DEQ", CommandWord::Deq),
+];
+
+static COMMANDS_E: [(&str, CommandWord); 2] = [
+    ("ENDBR", CommandWord::EndBr),
+    ("ENQ", CommandWord::Enq),
+];
+
+static COMMANDS_R: [(&str, CommandWord); 7] = [
+    ("READ", CommandWord::Read),
+    ("REWRITE", CommandWord::Rewrite),
     ("RESETBR", CommandWord::ResetBr),
     ("READNEXT", CommandWord::ReadNext),
     ("READPREV", CommandWord::ReadPrev),
-    ("ENDBR", CommandWord::EndBr),
-    ("WRITEQ", CommandWord::WriteqTs),
     ("READQ", CommandWord::ReadqTs),
-    ("DELETEQ", CommandWord::DeleteqTs),
-    ("ENQ", CommandWord::Enq),
-    ("DEQ", CommandWord::Deq),
-    ("SYNCPOINT", CommandWord::Syncpoint),
     ("RETURN", CommandWord::Return),
-    ("ABEND", CommandWord::Abend),
 ];
+
+static COMMANDS_S: [(&str, CommandWord); 2] = [
+    ("STARTBR", CommandWord::StartBr),
+    ("SYNCPOINT", CommandWord::Syncpoint),
+];
+
+static COMMANDS_U: [(&str, CommandWord); 1] = [("UNLOCK", CommandWord::Unlock)];
+
+static COMMANDS_W: [(&str, CommandWord); 2] = [
+    ("WRITE", CommandWord::Write),
+    ("WRITEQ", CommandWord::WriteqTs),
+];
+
+static NO_COMMANDS: [(&str, CommandWord); 0] = [];
 
 static WRITEQ_WORDS: [(&str, CommandWord); 2] = [
     ("TS", CommandWord::WriteqTs),
@@ -190,47 +209,88 @@ static DELETEQ_WORDS: [(&str, CommandWord); 2] = [
     ("TD", CommandWord::DeleteqTd),
 ];
 
-static OPTION_WORDS: [(&str, OptionWord); 39] = [
-    ("FILE", OptionWord::File),
-    ("DATASET", OptionWord::File),
-    ("TSPREFIX", OptionWord::TsPrefix),
-    ("TDQUEUE", OptionWord::TdQueue),
-    ("KEYLENGTH", OptionWord::KeyLength),
-    ("KEYOFFSET", OptionWord::KeyOffset),
-    ("RECORDSIZE", OptionWord::RecordSize),
-    ("RECOVERABLE", OptionWord::Recoverable),
-    ("UNRECOVERABLE", OptionWord::Unrecoverable),
-    ("LOGICAL", OptionWord::Logical),
-    ("PHYSICAL", OptionWord::Physical),
-    ("NONE", OptionWord::Unrecovered),
-    ("FROM", OptionWord::From),
-    ("TRANSID", OptionWord::Transid),
-    ("DTIMOUT", OptionWord::Dtimout),
-    ("RIDFLD", OptionWord::Ridfld),
-    ("LENGTH", OptionWord::Length),
-    ("INTO", OptionWord::Into),
-    ("GENERIC", OptionWord::Generic),
-    ("EQUAL", OptionWord::Equal),
-    ("GTEQ", OptionWord::Gteq),
-    ("UPDATE", OptionWord::Update),
-    ("NUMREC", OptionWord::NumRec),
-    ("QUEUE", OptionWord::Queue),
-    ("ITEM", OptionWord::Item),
-    ("NEXT", OptionWord::Next),
-    ("REWRITE", OptionWord::Rewrite),
-    ("MAIN", OptionWord::Main),
+// The options by the first letters of their words: a line's word is compared with few others.
+
+static OPTIONS_A: [(&str, OptionWord); 2] = [
     ("AUXILIARY", OptionWord::Auxiliary),
-    ("RESOURCE", OptionWord::Resource),
-    ("NOSUSPEND", OptionWord::NoSuspend),
-    ("ROLLBACK", OptionWord::Rollback),
     ("ABCODE", OptionWord::AbCode),
-    ("CANCEL", OptionWord::Cancel),
-    ("NODUMP", OptionWord::NoDump),
-    ("RESP", OptionWord::Resp),
-    ("RESP2", OptionWord::Resp2),
-    ("NOHANDLE", OptionWord::NoHandle),
+];
+
+static OPTIONS_C: [(&str, OptionWord); 1] = [("CANCEL", OptionWord::Cancel)];
+
+static OPTIONS_D: [(&str, OptionWord); 2] = [
+    ("DATASET", OptionWord::File),
+    ("DTIMOUT", OptionWord::Dtimout),
+];
+
+static OPTIONS_E: [(&str, OptionWord); 2] = [
+    ("EQUAL", OptionWord::Equal),
     ("END-EXEC", OptionWord::EndExec),
 ];
+
+static OPTIONS_F: [(&str, OptionWord); 2] = [
+    ("FILE", OptionWord::File),
+    ("FROM", OptionWord::From),
+];
+
+static OPTIONS_G: [(&str, OptionWord); 2] = [
+    ("GENERIC", OptionWord::Generic),
+    ("GTEQ", OptionWord::Gteq),
+];
+
+static OPTIONS_I: [(&str, OptionWord); 2] = [
+    ("INTO", OptionWord::Into),
+    ("ITEM", OptionWord::Item),
+];
+
+static OPTIONS_K: [(&str, OptionWord); 2] = [
+    ("KEYLENGTH", OptionWord::KeyLength),
+    ("KEYOFFSET", OptionWord::KeyOffset),
+];
+
+static OPTIONS_L: [(&str, OptionWord); 2] = [
+    ("LOGICAL", OptionWord::Logical),
+    ("LENGTH", OptionWord::Length),
+];
+
+static OPTIONS_M: [(&str, OptionWord); 1] = [("MAIN", OptionWord::Main)];
+
+static OPTIONS_N: [(&str, OptionWord); 6] = [
+    ("NONE", OptionWord::Unrecovered),
+    ("NUMREC", OptionWord::NumRec),
+    ("NEXT", OptionWord::Next),
+    ("NOSUSPEND", OptionWord::NoSuspend),
+    ("NODUMP", OptionWord::NoDump),
+    ("NOHANDLE", OptionWord::NoHandle),
+];
+
+static OPTIONS_P: [(&str, OptionWord); 1] = [("PHYSICAL", OptionWord::Physical)];
+
+static OPTIONS_Q: [(&str, OptionWord); 1] = [("QUEUE", OptionWord::Queue)];
+
+static OPTIONS_R: [(&str, OptionWord); 8] = [
+    ("RECORDSIZE", OptionWord::RecordSize),
+    ("RECOVERABLE", OptionWord::Recoverable),
+    ("RIDFLD", OptionWord::Ridfld),
+    ("REWRITE", OptionWord::Rewrite),
+    ("RESOURCE", OptionWord::Resource),
+    ("ROLLBACK", OptionWord::Rollback),
+    ("RESP", OptionWord::Resp),
+    ("RESP2", OptionWord::Resp2),
+];
+
+static OPTIONS_T: [(&str, OptionWord); 3] = [
+    ("TSPREFIX", OptionWord::TsPrefix),
+    ("TDQUEUE", OptionWord::TdQueue),
+    ("TRANSID", OptionWord::Transid),
+];
+
+static OPTIONS_U: [(&str, OptionWord); 2] = [
+    ("UNRECOVERABLE", OptionWord::Unrecoverable),
+    ("UPDATE", OptionWord::Update),
+];
+
+static NO_OPTION_WORDS: [(&str, OptionWord); 0] = [];
 
 static DEFINE_FILE: [(OptionWord, Kind); 6] = [
     (OptionWord::File, Kind::Name8),
@@ -457,11 +517,41 @@ pub fn load_object(word: &[u8]) -> Option<LoadObject>
     find_row(&LOAD_OBJECTS, word)
 }
 
+// The verbs that begin with this capital.
+fn commands_beginning(letter: u8) -> &'static [(&'static str, CommandWord)]
+    ensures { (letters : List ℕ) →
+        lookup (letter ∷ letters) (map (λ row. (row.0.now, row.1)) result.now)
+        ≡ lookup (letter ∷ letters) commands }
+{
+    match letter {
+        b'A' => &COMMANDS_A,
+        b'D' => &COMMANDS_D,
+        b'E' => &COMMANDS_E,
+        b'R' => &COMMANDS_R,
+        b'S' => &COMMANDS_S,
+        b'U' => &COMMANDS_U,
+        b'W' => &COMMANDS_W,
+        _ => &NO_COMMANDS,
+    }
+}
+
 /// The command of this verb.
 pub fn command_named(word: &[u8]) -> Option<CommandWord>
     ensures { result ≡ lookup (map capital word.now) commands }
 {
-    find_row(&COMMANDS, word)
+    let (first, _) = word.split_first()?;
+    find_row(commands_beginning(capital_of(*first)), word)
+}
+
+/// Whether the verb acts on a queue of temporary storage where nothing else is said, so that TS or
+/// TD may stand right behind it.
+pub fn is_of_queue(verb: CommandWord) -> bool
+    ensures { result ≡ false → queue_words verb ≡ [] }
+{
+    matches!(
+        verb,
+        CommandWord::WriteqTs | CommandWord::ReadqTs | CommandWord::DeleteqTs
+    )
 }
 
 /// What a verb is with this word right behind it, where the word may stand there: TS or TD behind
@@ -477,11 +567,39 @@ pub fn queue_command(verb: CommandWord, word: &[u8]) -> Option<CommandWord>
     }
 }
 
+// The options whose words begin with this capital.
+fn options_beginning(letter: u8) -> &'static [(&'static str, OptionWord)]
+    ensures { (letters : List ℕ) →
+        lookup (letter ∷ letters) (map (λ row. (row.0.now, row.1)) result.now)
+        ≡ lookup (letter ∷ letters) option_words }
+{
+    match letter {
+        b'A' => &OPTIONS_A,
+        b'C' => &OPTIONS_C,
+        b'D' => &OPTIONS_D,
+        b'E' => &OPTIONS_E,
+        b'F' => &OPTIONS_F,
+        b'G' => &OPTIONS_G,
+        b'I' => &OPTIONS_I,
+        b'K' => &OPTIONS_K,
+        b'L' => &OPTIONS_L,
+        b'M' => &OPTIONS_M,
+        b'N' => &OPTIONS_N,
+        b'P' => &OPTIONS_P,
+        b'Q' => &OPTIONS_Q,
+        b'R' => &OPTIONS_R,
+        b'T' => &OPTIONS_T,
+        b'U' => &OPTIONS_U,
+        _ => &NO_OPTION_WORDS,
+    }
+}
+
 /// The option of this word, whatever the line.
 pub fn option_named(word: &[u8]) -> Option<OptionWord>
     ensures { result ≡ lookup (map capital word.now) option_words }
 {
-    find_row(&OPTION_WORDS, word)
+    let (first, _) = word.split_first()?;
+    find_row(options_beginning(capital_of(*first)), word)
 }
 
 /// Whether two options are the same.
@@ -561,6 +679,28 @@ fn has_pair(rows: &[(OptionWord, OptionWord)], first: OptionWord, second: Option
         }
     }
     false
+}
+
+/// Whether there are options that one line can't have beside this one. Most options have none.
+pub fn is_exclusive(option: OptionWord) -> bool
+    ensures { result ≡ list_any (λ row. same row.0 option || same row.1 option) exclusions }
+{
+    matches!(
+        option,
+        OptionWord::Recoverable
+            | OptionWord::Unrecoverable
+            | OptionWord::Logical
+            | OptionWord::Physical
+            | OptionWord::Unrecovered
+            | OptionWord::Equal
+            | OptionWord::Gteq
+            | OptionWord::Update
+            | OptionWord::Generic
+            | OptionWord::Item
+            | OptionWord::Next
+            | OptionWord::Main
+            | OptionWord::Auxiliary
+    )
 }
 
 /// Whether one line can't have both options.
