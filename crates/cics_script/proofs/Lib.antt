@@ -2,6 +2,7 @@ mod Characters
 mod Unfilled
 pub mod Numbers
 pub mod Copies
+pub mod Tables
 pub mod Digits
 pub mod TokenSteps
 pub mod OptionSteps
