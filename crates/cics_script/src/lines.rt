@@ -2,7 +2,8 @@
 
 ghost use Rattle.std.specs.Prelude.{◌≡◌, ◌≤◌, ◌||◌, Ok, length, map, take};
 ghost use Rattle.std.specs.List.{list_all};
-ghost use Rattle.cics_script.specs.Faults.{Reads};
+ghost use lib.Chars.{codes};
+ghost use Rattle.cics_script.specs.Faults.{◌>>=◌ as ◌and_next◌, Reads};
 ghost use Rattle.cics_script.specs.Tokens.{capital, tokens, after_blanks, is_capital, is_digit};
 ghost use Rattle.cics_script.specs.Views.{entries, GivesWord, GivesNumber, GivesRest};
 ghost use Rattle.cics_script.specs.Lines.{recovery_in, queue_recovery_in, definition_in};
@@ -384,15 +385,26 @@ fn read_command(alloc: Global, label: Name8, bytes: &[u8]) -> Result<Line, LineF
     read_issued(alloc, label, command, behind)
 }
 
+// The line behind EXEC and CICS.
+fn skip_exec_cics(bytes: &[u8]) -> Result<&[u8], LineFault>
+    ensures { GivesRest
+        (behind (codes "EXEC") (tokens bytes.now) and_next behind (codes "CICS")) result }
+{
+    // Most lines go on with just these bytes, in which no words need be looked for.
+    if let Some(rest) = bytes.strip_prefix(b" EXEC CICS ") {
+        return Ok(rest);
+    }
+    match skip_word(bytes, b"EXEC") {
+        Ok(rest) => skip_word(rest, b"CICS"),
+        Err(fault) => Err(fault),
+    }
+}
+
 // The command of a task behind its label.
 fn read_issue(alloc: Global, label: Name8, bytes: &[u8]) -> Result<Line, LineFault>
     ensures { Reads (issue label (tokens bytes.now)) result }
 {
-    let behind_exec = match skip_word(bytes, b"EXEC") {
-        Ok(rest) => rest,
-        Err(fault) => return Err(fault),
-    };
-    match skip_word(behind_exec, b"CICS") {
+    match skip_exec_cics(bytes) {
         Ok(rest) => read_command(alloc, label, rest),
         Err(fault) => Err(fault),
     }
