@@ -9,7 +9,7 @@ ghost use Rattle.cics_enqueue.specs.Resources.{count_of, IsFreeFor, IsFreeBut, H
 ghost use Rattle.cics_enqueue.specs.Resources.{most_count, taken, given_back, released};
 
 use crate::compact::{KEY, MOST, PREFIX, compact, file_bytes};
-use crate::overlaps::{least_holder, other_holder, shorter_holder};
+use crate::overlaps::{has_prefixes, least_holder, other_holder, shorter_holder};
 use crate::owned;
 use crate::resources::{Resource, UnitId};
 use cics_names::{Name8, NoMemory};
@@ -168,9 +168,11 @@ impl Enqueues {
         ensures least { IfSome result (HoldsLeast self.now
             (FilePrefix file (bytes_of prefix.now)) but_not) }
     {
-        let shorter = shorter_holder(&self.table, file, prefix, &but_not);
-        if shorter.is_some() {
-            return shorter;
+        if has_prefixes(&self.table) {
+            let shorter = shorter_holder(&self.table, file, prefix, &but_not);
+            if shorter.is_some() {
+                return shorter;
+            }
         }
         let mut bound = self.bound.replace(Vec::new(self.alloc));
         let least = least_holder(&self.table, &mut bound, file, prefix, &but_not);
@@ -184,11 +186,14 @@ impl Enqueues {
         requires most { length key.now ≤ 255 }
         ensures { result ≡ holder_over (FileKey file (bytes_of key.now)) asker.now self.now }
     {
+        let holder = other_holder(&self.table, file_bytes(KEY, file, key).as_slice(), asker);
+        if !has_prefixes(&self.table) {
+            return holder;
+        }
         let shorter = shorter_holder(&self.table, file, key, asker);
         if shorter.is_some() {
             return shorter;
         }
-        let holder = other_holder(&self.table, file_bytes(KEY, file, key).as_slice(), asker);
         if holder.is_some() {
             return holder;
         }

@@ -83,7 +83,7 @@ pub(crate) fn first_under<'t>(
 }
 
 // Whether a prefix of keys can be held: the bytes of one come before those of all else.
-fn has_prefixes(table: &BTreeMap<Vec<u8>, Holding>) -> bool
+pub(crate) fn has_prefixes(table: &BTreeMap<Vec<u8>, Holding>) -> bool
     ensures { OnFalse result ((b : Bytes) → lookup (finds (0 ∷ b)) table.now.entries ≡ None) }
 {
     match table.first_key_value() {
@@ -105,9 +105,6 @@ pub(crate) fn shorter_holder(
     requires most { length bytes.now ≤ 255 }
     ensures { result ≡ first_shorter asker.now table.now.entries file bytes.now }
 {
-    if !has_prefixes(table) {
-        return None;
-    }
     let mut key = file_bytes(PREFIX, file, &[]);
     for byte in bytes {
         let holder = other_holder(table, key.as_slice(), asker);

@@ -1,11 +1,8 @@
-use Rattle.std.proofs.Common.{◌∙◌, ◌∷◌, ◌++◌, [], length, sym, ap, is_some}
+use Rattle.std.proofs.Common.{◌∙◌, ◌∷◌, ◌++◌, [], sym, ap, is_some}
 use Rattle.std.specs.Map.{lookup}
 use Rattle.cics_enqueue.specs.Kept.{finds, first_cover, others_unit}
-use Rattle.cics_enqueue.proofs.Seeking.{first_cover-none, first_of-some, drop_there}
+use Rattle.cics_enqueue.proofs.Seeking.{first_of-some, drop_there}
 use Rattle.cics_enqueue.proofs.overlaps.shorter_holder.Goals as goal
-
-pub returns-then-not-has_prefixes : goal.returns-then-not-has_prefixes
-returns-then-not-has_prefixes c = sym (first_cover-none c.args.asker.now c.args.table.now.entries c.if-not-has_prefixes.ensures c.args.bytes.now (length c.args.file ∷ (c.args.file ++ [])))
 
 pub returns-then-is_some : goal.returns-then-is_some
 returns-then-is_some c =

@@ -1,11 +1,14 @@
-use Rattle.std.proofs.Common.{◌≡◌, ◌∙◌, [], ◌∷◌, ◌++◌, length, sym, refl}
-use Rattle.cics_enqueue.specs.Resources.{bytes_of, held_with_prefix}
+use Rattle.std.proofs.Common.{◌≡◌, ◌∙◌, [], ◌∷◌, ◌++◌, length, sym, refl, None}
+use Rattle.cics_enqueue.specs.Kept.{table_of}
+use Rattle.cics_enqueue.specs.Resources.{bytes_of, held_with_prefix, holder_of_shorter}
 use Rattle.cics_enqueue.specs.FreedomLaws.{free_if_none}
 use Rattle.cics_enqueue.specs.declared.resources.Resource.TheVariants.{FilePrefix}
 use Rattle.cics_enqueue.proofs.Least.{least_if_some}
 use Rattle.cics_enqueue.proofs.Tables.{in_order}
-use Rattle.cics_enqueue.proofs.Seeking.{first_of-found, first_of-passed, shorter-table_of, least_under-shown}
+use Rattle.cics_enqueue.proofs.Owning.{none_from}
+use Rattle.cics_enqueue.proofs.Seeking.{first_of-found, first_of-passed, shorter-none, shorter-table_of, least_under-shown}
 use Rattle.cics_enqueue.proofs.enqueues.Enqueues.held_with_prefix.Goals as goal
+use Rattle.cics_enqueue.proofs.enqueues.Enqueues.held_with_prefix.Goals.{then-has_prefixes+else-is_some, else-has_prefixes}
 
 pub returns-then-is_some : goal.returns-then-is_some
 returns-then-is_some c =
@@ -18,7 +21,10 @@ returns c =
     let es = c.self.inside.table.entries in
     let f = c.args.file in
     let p = c.args.prefix.now in
-    let shorter = c.shorter_holder-shorter.ensures ∙ sym (shorter-table_of f c.args.but_not es c.self.invariant.keys p []) in
-    let value : c.least_holder-least.result ≡ held_with_prefix f p c.args.but_not c.args.self.now = rw (← c.self.view_is) (first_of-passed _ _ _ _ shorter (sym c.if-is_some.ensures)
+    let shorter : holder_of_shorter f [] p c.args.but_not (table_of es) ≡ None = elim c.if-has_prefixes.branch [
+      | then-has_prefixes+else-is_some w ↦ shorter-table_of f c.args.but_not es c.self.invariant.keys p [] ∙ sym w.shorter_holder-shorter.ensures ∙ none_from _ (sym w.if-is_some.ensures)
+      | else-has_prefixes w ↦ shorter-none f p c.args.but_not es c.self.invariant.keys w.if-has_prefixes.ensures
+    ] in
+    let value : c.least_holder-least.result ≡ held_with_prefix f p c.args.but_not c.args.self.now = rw (← c.self.view_is) (first_of-passed None _ _ _ (sym shorter) refl
     (c.least_holder-least.ensures ∙ sym (least_under-shown f p c.args.but_not es c.self.invariant.keys (1 ∷ length f ∷ (f ++ p)) (0 ∷ length f ∷ (f ++ p)) refl refl))) in
     record { value = value; free = free_if_none _ _ (FilePrefix f (bytes_of p)) _ value; least = least_if_some _ _ (FilePrefix f (bytes_of p)) _ (in_order c.self.view_is c.self.invariant) value }

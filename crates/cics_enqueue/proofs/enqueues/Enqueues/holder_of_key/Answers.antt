@@ -1,8 +1,12 @@
 use Rattle.std.proofs.Common.{◌∙◌, [], sym}
 use Rattle.cics_enqueue.specs.Resources.{bytes_of}
 use Rattle.cics_enqueue.specs.declared.resources.Resource.TheVariants.{FileKey, FilePrefix}
-use Rattle.cics_enqueue.proofs.Seeking.{first_of-found, first_of-passed, shorter-table_of, other_than-table_of}
+use Rattle.cics_enqueue.proofs.Seeking.{first_of-found, first_of-passed, key_alone, shorter-table_of, other_than-table_of}
 use Rattle.cics_enqueue.proofs.enqueues.Enqueues.holder_of_key.Goals as goal
+
+pub returns-then-not-has_prefixes : goal.returns-then-not-has_prefixes
+returns-then-not-has_prefixes c =
+    rw (← c.self.view_is) (c.other_holder-holder.ensures ∙ key_alone c.args.file c.args.key.now c.as_slice.result.now (c.as_slice.ensures.value ∙ c.file_bytes.ensures.value) c.args.asker.now c.self.inside.table.entries c.self.invariant.keys c.if-not-has_prefixes.ensures)
 
 pub returns-then-is_some : goal.returns-then-is_some
 returns-then-is_some c =
