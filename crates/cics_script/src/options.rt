@@ -141,6 +141,10 @@ fn value_of<'a>(alloc: Global, kind: Kind, token: Token<'a>) -> Result<Value<'a>
 fn read_opening(kind: Kind, bytes: &[u8]) -> Result<&[u8], LineFault>
     ensures { Opens kind bytes.now result }
 {
+    // It stands right behind the option's word, with few exceptions.
+    if let Some((b'(', rest)) = bytes.split_first() {
+        return Ok(rest);
+    }
     match next_token(bytes) {
         Ok(Some((Token::Opening, rest))) => Ok(rest),
         Ok(_) => Err(wrong_value(kind)),
@@ -166,6 +170,10 @@ fn read_content(alloc: Global, kind: Kind, bytes: &[u8]) -> Result<(Value<'_>, &
 fn read_closing(kind: Kind, bytes: &[u8]) -> Result<&[u8], LineFault>
     ensures { Shuts kind bytes.now result }
 {
+    // It stands right behind the value, with few exceptions.
+    if let Some((b')', rest)) = bytes.split_first() {
+        return Ok(rest);
+    }
     match next_token(bytes) {
         Ok(Some((Token::Closing, rest))) => Ok(rest),
         Ok(_) => Err(wrong_value(kind)),

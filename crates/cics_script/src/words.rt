@@ -467,21 +467,12 @@ pub fn is_spelled(word: &[u8], name: &[u8]) -> bool
     if word.len() != name.len() {
         return false;
     }
-    let mut written = word;
-    let mut wanted = name;
-    'letters: loop {
-        match (written.split_first(), wanted.split_first()) {
-            (Some((letter, letters)), Some((capital, capitals))) => {
-                if capital_of(*letter) != *capital {
-                    return false;
-                }
-                written = letters;
-                wanted = capitals;
-            }
-            (None, None) => return true,
-            _ => return false,
+    for (i, letter) in word.iter().enumerate() {
+        if capital_of(*letter) != name[i] {
+            return false;
         }
     }
+    true
 }
 
 // What a table has for a word.
