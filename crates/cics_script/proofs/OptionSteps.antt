@@ -1,6 +1,8 @@
 -- Steps of reading options, one after another.
 use Rattle.std.proofs.Common.{◌≡◌, ◌≢◌, ◌<◌, ℕ, List, [], ◌∷◌, ◌++◌, length, refl, ap, sym, ◌∙◌, subst, Option, Some}
-use Rattle.std.specs.Prelude.{Result, Ok}
+use Rattle.std.specs.Prelude.{Result, Ok, Err}
+use Rattle.std.specs.Result.{result_map_both}
+use Rattle.arrayvec.specs.ArrayVec.{ArrayVec}
 use Rattle.std.proofs.lemmas.List.{map-append}
 use Rattle.std.specs.Borrow.{Bor}
 use Rattle.cics_script.specs.declared.faults.LineFault.{LineFault}
@@ -15,8 +17,8 @@ use Rattle.cics_script.specs.declared.words.Kind.TheVariants.{Flag, Text, Name8,
 use Rattle.cics_script.specs.Faults.{◌>>=◌, Refuses}
 use Rattle.cics_script.specs.Tokens.{Token, word, capital, tokens}
 use Rattle.cics_script.specs.Words.{lookup, option_words, kind_in}
-use Rattle.cics_script.specs.Options.{Entry, Place, at_option, at_opening, behind_option, reads, named, entered, allowed}
-use Rattle.cics_script.specs.Views.{Takes, Enters, view, content, entries}
+use Rattle.cics_script.specs.Options.{Entry, Place, at_option, at_opening, at_end, behind_option, reads, named, entered, allowed}
+use Rattle.cics_script.specs.Views.{Takes, Enters, Ends, GivesEntries, view, content, entries}
 use Rattle.std.specs.Prelude.{map}
 
 -- a fault behind a step is the fault of the whole
@@ -76,3 +78,10 @@ reads-past form last found bytes w behind next place whole so_far first enters h
     ap (λ es. reads form place es (tokens next.rest.now)) (entries-more found next.one)
     ∙ ap (λ p. reads form p (entries found ++ (next.one.option, content next.one.value) ∷ []) (tokens next.rest.now)) (sym here)
     ∙ sym enters.0 ∙ sym (ap (λ ts. reads form (at_option last) (entries found) ts) first) ∙ so_far
+
+-- where the line has to end, the options that were read are all
+pub ended : (form : Form) (bytes : List ℕ) (found : ArrayVec Found) (whole : Result (List Entry) LineFault) (result : Result (Unit {0}) LineFault)
+    → reads form at_end (entries found.items) (tokens bytes) ≡ whole → Ends bytes result
+    → GivesEntries whole (result_map_both (λ done. found) (λ fault. fault) result)
+ended form bytes found whole (Ok end) so_far ends = sym so_far ∙ ends form (entries found.items)
+ended form bytes found whole (Err fault) so_far ends = refuses_behind whole _ fault (sym so_far) (ends form (entries found.items))

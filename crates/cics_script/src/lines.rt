@@ -15,7 +15,7 @@ ghost use Rattle.cics_script.specs.Lines.{is_script_byte, is_empty_or_comment, l
 
 use crate::commands::{is_handled, verb_of};
 use crate::faults::LineFault;
-use crate::options::{Found, has_option, read_options};
+use crate::options::{Found, Options, has_option, read_options};
 use crate::tokens::{Token, next_token, skip_blanks};
 use crate::values::{name4_of, name8_of, number_of, text_of};
 use crate::words::{
@@ -245,8 +245,9 @@ fn read_define(alloc: Global, bytes: &[u8]) -> Result<Line, LineFault>
     let Some(object) = define_object(word) else {
         return Err(LineFault::UnknownWord);
     };
-    match read_options(alloc, Form::Define(object), bytes) {
-        Ok(found) => match object {
+    let mut found = Options::new();
+    match read_options(alloc, Form::Define(object), bytes, &mut found) {
+        Ok(()) => match object {
             DefineObject::File => file_definition(&found),
             DefineObject::TsPrefix => prefix_definition(&found),
             DefineObject::TdQueue => queue_definition(&found),
@@ -266,8 +267,9 @@ fn read_load(alloc: Global, bytes: &[u8]) -> Result<Line, LineFault>
     let Some(object) = load_object(word) else {
         return Err(LineFault::UnknownWord);
     };
-    match read_options(alloc, Form::Load(object), bytes) {
-        Ok(found) => match object {
+    let mut found = Options::new();
+    match read_options(alloc, Form::Load(object), bytes, &mut found) {
+        Ok(()) => match object {
             LoadObject::File => file_load(alloc, &found),
             LoadObject::TdQueue => queue_load(alloc, &found),
         },
@@ -287,8 +289,9 @@ fn read_attach(alloc: Global, bytes: &[u8]) -> Result<Line, LineFault>
         Ok(label) => label,
         Err(fault) => return Err(fault),
     };
-    match read_options(alloc, Form::Attach, rest) {
-        Ok(found) => attach_line(label, &found),
+    let mut found = Options::new();
+    match read_options(alloc, Form::Attach, rest, &mut found) {
+        Ok(()) => attach_line(label, &found),
         Err(fault) => Err(fault),
     }
 }
@@ -312,8 +315,9 @@ fn read_clock(alloc: Global, bytes: &[u8]) -> Result<Line, LineFault>
         Ok(first) => first,
         Err(fault) => return Err(fault),
     };
-    match read_options(alloc, Form::Clock, rest) {
-        Ok(_) => Ok(Line::Clock(seconds)),
+    let mut found = Options::new();
+    match read_options(alloc, Form::Clock, rest, &mut found) {
+        Ok(()) => Ok(Line::Clock(seconds)),
         Err(fault) => Err(fault),
     }
 }
@@ -326,8 +330,9 @@ fn read_shutdown(alloc: Global, bytes: &[u8]) -> Result<Line, LineFault>
         Ok(rest) => rest,
         Err(fault) => return Err(fault),
     };
-    match read_options(alloc, Form::Shutdown, rest) {
-        Ok(_) => Ok(Line::Shutdown),
+    let mut found = Options::new();
+    match read_options(alloc, Form::Shutdown, rest, &mut found) {
+        Ok(()) => Ok(Line::Shutdown),
         Err(fault) => Err(fault),
     }
 }
@@ -357,10 +362,10 @@ fn read_issued(
 ) -> Result<Line, LineFault>
     ensures { Reads (issued label (command, tokens bytes.now)) result }
 {
-    let found = match read_options(alloc, Form::Command(command), bytes) {
-        Ok(found) => found,
-        Err(fault) => return Err(fault),
-    };
+    let mut found = Options::new();
+    if let Err(fault) = read_options(alloc, Form::Command(command), bytes, &mut found) {
+        return Err(fault);
+    }
     match verb_of(alloc, command, &found) {
         Ok(verb) => {
             let resp = is_handled(&found);

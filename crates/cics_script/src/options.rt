@@ -1,6 +1,7 @@
 //! Reads the options of a line.
 
-ghost use Rattle.std.specs.Prelude.{◌≡◌, Option, Ok, IfOk, map};
+ghost use Rattle.std.specs.Prelude.{◌≡◌, [], Option, Ok, IfOk, map};
+ghost use Rattle.std.specs.Result.{result_map_both};
 ghost use Rattle.std.specs.List.{list_any};
 ghost use Rattle.cics_script.specs.Words.{same, excludes, kind_in};
 ghost use Rattle.cics_script.specs.Tokens.{tokens, capital};
@@ -30,12 +31,12 @@ pub type Options<'a> = ArrayVec<Found<'a>, MOST>;
 /// What stood in an option's parentheses.
 #[derive(Clone, Copy, Debug)]
 pub enum Value<'a> {
+    /// No parentheses, or what is read without effect.
+    Nothing,
     Text(Literal<'a>),
     Name8(Name8),
     Name4(Name4),
     Number(u64),
-    /// No parentheses, or what is read without effect.
-    Nothing,
 }
 
 /// An option that was read.
@@ -45,11 +46,12 @@ pub struct Found<'a> {
     pub value: Value<'a>,
 }
 
-// What lies in the places of `Options` that have no option yet.
+// What lies in the places of `Options` that have no option yet: the first variants, so that all
+// places are filled with zeros at once.
 impl Default for Found<'_> {
     fn default() -> Self {
         Found {
-            option: OptionWord::EndExec,
+            option: OptionWord::File,
             value: Value::Nothing,
         }
     }
@@ -293,16 +295,23 @@ fn read_end(bytes: &[u8]) -> Result<(), LineFault>
     }
 }
 
-/// The options of a line behind its fixed part.
-pub fn read_options(alloc: Global, form: Form, bytes: &[u8]) -> Result<Options<'_>, LineFault>
-    ensures { GivesEntries (options form (tokens bytes.now)) result }
+/// Reads the options of a line behind its fixed part into `found`, which has none yet: many places
+/// are not moved, as a result would be.
+pub fn read_options<'a>(
+    alloc: Global,
+    form: Form,
+    bytes: &'a [u8],
+    found: &mut Options<'a>,
+) -> Result<(), LineFault>
+    requires { found.old.items ≡ [] }
+    ensures { GivesEntries (options form (tokens bytes.entry.now))
+        (result_map_both (λ done. found.new) (λ fault. fault) result) }
 {
-    let mut found = ArrayVec::new();
     let mut last = None;
     let mut rest = bytes;
     'options: loop {
         let (token, behind) = match next_token(rest) {
-            Ok(None) => return Ok(found),
+            Ok(None) => return Ok(()),
             Ok(Some(next)) => next,
             Err(fault) => return Err(fault),
         };
@@ -311,14 +320,11 @@ pub fn read_options(alloc: Global, form: Form, bytes: &[u8]) -> Result<Options<'
             Token::Opening | Token::Closing => return Err(surplus_fault(last)),
             _ => return Err(LineFault::UnknownWord),
         };
-        match read_option(alloc, form, &found, word, behind) {
+        match read_option(alloc, form, found, word, behind) {
             Ok(next) => {
                 found.push(next.one);
                 match next.kind {
-                    Kind::Last => match read_end(next.rest) {
-                        Ok(()) => return Ok(found),
-                        Err(fault) => return Err(fault),
-                    },
+                    Kind::Last => return read_end(next.rest),
                     kind => {
                         last = Some(kind);
                         rest = next.rest;

@@ -2,7 +2,7 @@ use Rattle.std.proofs.Common.{arith, rules, ◌<◌, ◌∙◌, refl, sym, ap, l
 use Rattle.std.proofs.lemmas.List.{length-map}
 use Rattle.cics_script.specs.Options.{Entry, reads, at_option, behind_option}
 use Rattle.cics_script.specs.Views.{content, entries}
-use Rattle.cics_script.proofs.OptionSteps.{refuses_behind, first-word, behind_option-open, entries-more, reads-past}
+use Rattle.cics_script.proofs.OptionSteps.{refuses_behind, first-word, behind_option-open, entries-more, reads-past, ended}
 use Rattle.cics_script.proofs.OptionRoom.{once-none, once-more, once-room}
 use Rattle.cics_script.proofs.options.read_options.Goals as goal
 
@@ -30,24 +30,16 @@ options-preserved c =
       once = rw entries-more (once-more c.args.form (entries c.options.found.items) c.in-Ok.next.one.option _ c.in-Ok.next.kind c.options.invariant.once (rw c.deref.ensures.0 at c.in-Ok.ensures.allowed));
     }
 
-pub returns-in-Ok-read_end : goal.returns-in-Ok-read_end
-returns-in-Ok-read_end c =
+pub returns-in-Last : goal.returns-in-Last
+returns-in-Last c =
     let first = first-word c.options.rest.now c.in-Ok-Some.field-0 c.in-Ok-Some.next c.in-Word.word c.in-Ok-Some.ensures c.in-Ok-Some.field-0-is c.in-Word.is in
     let step = rw c.deref.ensures.0 at c.in-Ok.ensures.reading c.options.last in
-    rw c.push.ensures.items
-    (sym (reads-past c.args.form c.options.last c.options.found.items c.options.rest.now _ _ c.in-Ok.next _ _ c.options.invariant.read first.0 step (ap behind_option c.in-Last.is))
-    ∙ c.in-Ok-read_end.ensures c.args.form _)
-
-pub returns-in-Err-read_end : goal.returns-in-Err-read_end
-returns-in-Err-read_end c =
-    let first = first-word c.options.rest.now c.in-Ok-Some.field-0 c.in-Ok-Some.next c.in-Word.word c.in-Ok-Some.ensures c.in-Ok-Some.field-0-is c.in-Word.is in
-    let step = rw c.deref.ensures.0 at c.in-Ok.ensures.reading c.options.last in
-    refuses_behind _ _ c.in-Err-read_end.fault
-    (sym (reads-past c.args.form c.options.last c.options.found.items c.options.rest.now _ _ c.in-Ok.next _ _ c.options.invariant.read first.0 step (ap behind_option c.in-Last.is)))
-    (c.in-Err-read_end.ensures c.args.form _)
+    ended c.args.form c.in-Ok.next.rest.now _ _ _
+    (rw c.push.ensures.items (reads-past c.args.form c.options.last c.options.found.items c.options.rest.now _ _ c.in-Ok.next _ _ c.options.invariant.read first.0 step (ap behind_option c.in-Last.is)))
+    c.read_end.ensures
 
 pub options-init : goal.options-init
-options-init c = rw c.new-found.ensures record { read = refl; once = once-none c.args.form }
+options-init c = rw c.requires record { read = refl; once = once-none c.args.form }
 
 pub push-requires : goal.push-requires
 push-requires c =
