@@ -191,17 +191,13 @@ fn encoded_byte(encoding: Encoding, byte: u8) -> u8
     }
 }
 
-// Puts characters that stand for themselves behind a text.
-fn push_plain(text: &mut Vec<u8>, encoding: Encoding, plain: &[u8]) -> Result<(), AllocError>
-    ensures { OnOk result (text.new.items ≡ text.old.items ++ encoded_text encoding plain.now) }
+// Puts the code of each character over a text that is as long.
+fn put_codes(text: &mut [u8], plain: &[u8])
+    requires { length text.old ≡ length plain.now }
+    ensures { text.new ≡ encoded_text Encoding.Ebcdic plain.now }
 {
-    match encoding {
-        Encoding::AsWritten => text.extend_from_slice(plain),
-        Encoding::Ebcdic => text.extend(
-            plain
-                .iter()
-                .map(|byte| encoded_byte(Encoding::Ebcdic, *byte)),
-        ),
+    for (i, byte) in plain.iter().enumerate() {
+        text[i] = encoded_byte(Encoding::Ebcdic, *byte);
     }
 }
 
@@ -210,9 +206,10 @@ fn copy_plain(alloc: Global, encoding: Encoding, plain: &[u8]) -> Result<Vec<u8>
     ensures { IfOk result (λ text. text.items ≡ encoded_text encoding plain.now) }
 {
     let mut text = Vec::new(alloc);
-    // All the room is asked for first: where it is refused `extend` would make do with less.
-    text.reserve(plain.len())?;
-    push_plain(&mut text, encoding, plain)?;
+    text.extend_from_slice(plain)?;
+    if encoding == Encoding::Ebcdic {
+        put_codes(&mut text, plain);
+    }
     Ok(text)
 }
 
