@@ -1,15 +1,16 @@
 -- What a table of enqueues says of each resource after a take, after a gift back, and after all that a unit held was freed.
-use Rattle.std.specs.Prelude.{◌≡◌, ℕ, ◌+◌, ◌-◌, ◌==◌, Bool, true, false, not, ◌&&◌, cond, if◌then◌else◌, T, Option, Some, None, option_map, nat_le, nat_lt, [], ◌∷◌}
+use Rattle.std.specs.Prelude.{◌≡◌, ℕ, ◌+◌, ◌-◌, ◌==◌, Bool, true, false, not, ◌&&◌, cond, if◌then◌else◌, T, Option, Some, None, is_some, option_map, nat_le, nat_lt, [], ◌∷◌}
 use Rattle.std.proofs.Common.{refl, sym, ap, subst, ◌∙◌, arith}
 use Rattle.std.specs.declared.cmp.Ordering.{Ordering}
 use Rattle.std.specs.declared.cmp.Ordering.TheVariants.{Less, Equal, Greater}
 use Rattle.std.specs.Ordering.{is_eq, is_lt}
 use Rattle.std.specs.Cmp.{eq_by_cmp_equiv}
+use Rattle.std.specs.FinMap as map_by
 use Rattle.std.specs.FinMap.Entries.{find-put, find-where_key, is_sorted-put, is_sorted-where_key, same_entries, below_all}
-use Rattle.std.proofs.lemmas.Bool.{eq-eqb}
+use Rattle.std.proofs.lemmas.Bool.{eq-eqb, false≢true}
 use Rattle.cics_enqueue.specs.declared.resources.Resource.{Resource}
-use Rattle.cics_enqueue.specs.Resources.{Table, Held, held_at, holder_of, count_of, count_in, is_one, is_user, raised_count, is_in_order, resource_cmp, with_holder, freed, released, taken, given_back, given_back_of}
-use Rattle.cics_enqueue.specs.ResourceLaws.{resource_cmp_total, is_one-cmp, is_one-eq, is_one-self, same_resources}
+use Rattle.cics_enqueue.specs.Resources.{Table, Held, IsFreeFor, held_at, holder_of, count_of, count_in, is_one, is_user, raised_count, is_in_order, resource_cmp, with_holder, freed, released, taken, given_back, given_back_of}
+use Rattle.cics_enqueue.specs.ResourceLaws.{free_own, resource_cmp_total, is_one-cmp, is_one-eq, is_one-self, same_resources}
 
 -- a holding after a unit gave back one take
 abbrev pub held_less : ℕ → Option Held → Option Held
@@ -291,3 +292,39 @@ given_back-taken t r u rises free =
 
     all_less : held_less u (Some (record { unit = u; count = 1 })) ≡ None
     all_less = ap (λ b. if b then None else Some (record { unit = u; count = 1 })) (eq-eqb u u refl)
+
+-- ---- What a unit holds already
+
+-- to hold a resource as it is held changes nothing
+put-same : (r : Resource) (h : Held) (t : Table) → T (is_in_order t) → held_at r t ≡ Some h → map_by.put resource_cmp r h t ≡ t
+put-same r h t rises at = same_entries resource_cmp resource_cmp_total same_resources _ _ (is_sorted-put resource_cmp resource_cmp_total r h t rises) rises (λ q.
+    find-put resource_cmp resource_cmp_total q r h t
+    ∙ elim (resource_cmp q r) as (λ o. resource_cmp q r ≡ o → cond (is_eq o) (Some h) (held_at q t) ≡ held_at q t) [
+      | Less ↦ λ e. refl
+      | Equal ↦ λ e. sym (ap (λ s. held_at s t) (same_resources q r e) ∙ at)
+      | Greater ↦ λ e. refl
+    ] refl)
+
+-- a unit that takes what it holds, where it is no value, takes nothing
+pub taken-held : (t : Table) (r : Resource) (u : ℕ) → T (is_in_order t) → holder_of r t ≡ Some u → is_user r ≡ false → taken t r u ≡ t
+taken-held t r u rises held plain = by (held_at r t) refl held
+  where
+    by : (o : Option Held) → held_at r t ≡ o → option_map (λ h. h.unit) o ≡ Some u → taken t r u ≡ t
+    by None at is = absurd (none_some is)
+      where
+        none_some : None ≡ Some u → ⊥
+        none_some e = cc
+    by (Some h) at is =
+        let unit : h.unit ≡ u = cc in
+        ap (λ o. map_by.put resource_cmp r (record { unit = u; count = raised_count r o }) t) at
+        ∙ ap (λ n. map_by.put resource_cmp r (record { unit = u; count = n }) t) (ap (λ b. if b then h.count + 1 else h.count) plain)
+        ∙ ap (λ n. map_by.put resource_cmp r (record { unit = n; count = h.count }) t) (sym unit)
+        ∙ put-same r h t rises at
+
+-- a resource that is held, and that a unit may take, is held by that unit
+pub held_own : (t : Table) (r : Resource) (u : ℕ) → IsFreeFor t r u → is_some (holder_of r t) ≡ true → holder_of r t ≡ Some u
+held_own t r u free some = by (holder_of r t) refl some
+  where
+    by : (o : Option ℕ) → holder_of r t ≡ o → is_some o ≡ true → holder_of r t ≡ Some u
+    by None at is = absurd (false≢true is)
+    by (Some v) at is = at ∙ ap Some (free_own t r u free v at)

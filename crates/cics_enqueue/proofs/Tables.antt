@@ -1,6 +1,6 @@
 -- What the table says of each resource, and what it is after a change.
 use Rattle.std.proofs.Common.{◌≡◌, ◌+◌, ◌-◌, ℕ, ◌&&◌, ◌==◌, not, Bool, true, false, cond, T, Option, Some, None, [], ◌∷◌, nat_eq, refl, sym, ap, subst, ◌∙◌}
-use Rattle.std.specs.Prelude.{Result, Ok, Err, OnOk, OnErr, is_err, option_map, nat_le, nat_lt, if◌then◌else◌}
+use Rattle.std.specs.Prelude.{Result, Ok, Err, OnOk, OnErr, is_err, is_some, option_map, nat_le, nat_lt, if◌then◌else◌}
 use Rattle.std.specs.Map.{lookup, set_value, remove_entry}
 use Rattle.std.specs.Global.{Vec}
 use Rattle.std.specs.BTreeMap.{insert_entry}
@@ -39,11 +39,33 @@ module _ (r : Resource) (key : Bytes) (is : key ≡ resource_key r) where
       step true h = refl
       step false h = h
 
+  -- the resource is read back from its bytes, and has these
+  pub read_back : resource_of key ≡ r
+  read_back = ap resource_of is ∙ resource_of-resource_key r
+
+  pub own_key : resource_key (resource_of key) ≡ key
+  own_key = ap resource_key read_back ∙ sym is
+
+  -- where the table has nothing of a resource, its entries have nothing under its bytes
+  pub absent_here : (es : Entries) → AreKeys es → held_at r (table_of es) ≡ None → lookup (finds key) es ≡ None
+  absent_here es sound free = step (lookup (finds key) es) (sym (held_at-table_of es sound) ∙ free)
+    where
+      step : (o : Option Holding) → option_map seen o ≡ None → o ≡ None
+      step None e = refl
+      step (Some h) e = cc
+
   -- who holds a resource, and how many times
   pub holder_of-table_of : (es : Entries) (o : Option Holding) → AreKeys es → o ≡ lookup (finds key) es → holder_of r (table_of es) ≡ option_map (λ h. h.unit) o
   holder_of-table_of es o sound found = ap (option_map (λ h. h.unit)) (held_at-table_of es sound ∙ ap (option_map seen) (sym found)) ∙ step o
     where
       step : (o : Option Holding) → option_map (λ h. h.unit) (option_map seen o) ≡ option_map (λ h. h.unit) o
+      step None = refl
+      step (Some h) = refl
+
+  pub is_held-table_of : (es : Entries) → AreKeys es → is_some (holder_of r (table_of es)) ≡ is_some (lookup (finds key) es)
+  is_held-table_of es sound = ap is_some (holder_of-table_of es _ sound refl) ∙ step (lookup (finds key) es)
+    where
+      step : (o : Option Holding) → is_some (option_map (λ h. h.unit) o) ≡ is_some o
       step None = refl
       step (Some h) = refl
 

@@ -3,10 +3,13 @@
 ghost use Rattle.cics_enqueue.specs.declared.resources.Resource.TheVariants.{FileKey, FilePrefix};
 ghost use Rattle.std.specs.Prelude.{◌≡◌, ◌≤◌, IfNone, IfSome, length, [], ◌+◌, ◌&&◌, nat_le};
 ghost use Rattle.std.specs.Prelude.{if◌then◌else◌, IsTrue, true, false, ◌↔◌, OnOk, OnErr, IfErr};
+ghost use Rattle.std.specs.Prelude.{IfOk, None, is_some, not};
 ghost use Rattle.cics_enqueue.specs.Kept.{count_after, is_held_full};
 ghost use Rattle.cics_enqueue.specs.Resources.{bytes_of, holder_of, holder_over, held_with_prefix};
 ghost use Rattle.cics_enqueue.specs.Resources.{count_of, IsFreeFor, IsFreeBut, HoldsLeast, is_full};
 ghost use Rattle.cics_enqueue.specs.Resources.{most_count, taken, given_back, released};
+ghost use Rattle.cics_enqueue.specs.Resources.{held_at, is_user, resource_key};
+ghost use Rattle.cics_enqueue.specs.ResourceLaws.{resource_of};
 
 use crate::compact::{KEY, MOST, PREFIX, compact, file_bytes};
 use crate::overlaps::{has_prefixes, least_holder, other_holder, shorter_holder};
@@ -217,6 +220,40 @@ impl Enqueues {
         if let Some(holding) = self.table.get_mut(key) {
             return raise(holding, user);
         }
+        self.take_free(key, unit)?;
+        Ok(())
+    }
+
+    /// Takes a resource, any but a user's value, for a unit that may take it, unless the unit holds it
+    /// already, and tells whether it was free: where it was, `give_back` undoes the take. NoMemory
+    /// where memory is refused: then nothing has changed.
+    pub fn hold(&mut self, resource: &Resource, unit: UnitId) -> Result<bool, NoMemory>
+        requires plain { is_user resource.now ≡ false }
+        requires free { IsFreeFor self.old resource.now unit }
+        ensures was_free { IfOk result (λ was_free.
+            is_some (holder_of resource.now self.old) ≡ not was_free) }
+        ensures taken { OnOk result (self.new ≡ taken self.old resource.now unit) }
+        ensures undone { IfOk result (λ was_free. (if was_free
+            then given_back self.new resource.now unit
+            else self.new) ≡ self.old) }
+        ensures err { OnErr result (self.new ≡ self.old) }
+    {
+        let bytes = compact(resource);
+        let key = bytes.as_slice();
+        if self.table.contains_key(key) {
+            return Ok(false);
+        }
+        self.take_free(key, unit)?;
+        Ok(true)
+    }
+
+    // Takes a resource that nobody holds, by its bytes, for a unit.
+    fn take_free(&mut self, key: &[u8], unit: UnitId) -> Result<(), NoMemory>
+        requires key { resource_key (resource_of key.now) ≡ key.now }
+        requires free { held_at (resource_of key.now) self.old ≡ None }
+        ensures taken { OnOk result (self.new ≡ taken self.old (resource_of key.now) unit) }
+        ensures err { OnErr result (self.new ≡ self.old) }
+    {
         let bound = self.bound.get_mut();
         bound.clear();
         bound.reserve(MOST)?;
@@ -226,7 +263,7 @@ impl Enqueues {
         let holding = Holding { unit, count: 1 };
         if self.table.insert(kept, holding).is_err() {
             owned::remove(&mut self.owned, unit, key);
-            return Err(TakeFault::NoMemory);
+            return Err(NoMemory);
         }
         Ok(())
     }

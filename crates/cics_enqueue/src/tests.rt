@@ -2,7 +2,7 @@
 
 use crate::{Enqueues, Resource, TakeFault, UnitId};
 use arrayvec::ArrayVec;
-use cics_names::{Name4, Name8};
+use cics_names::{Name4, Name8, NoMemory};
 use std::test::Fail;
 
 fn value(byte: u8) -> Resource {
@@ -27,6 +27,21 @@ fn take(
         return None;
     }
     Some(enqueues.take(resource, unit))
+}
+
+// Holds a resource that isn't a user's value, if no other unit holds what overlaps it.
+fn hold(
+    enqueues: &mut Enqueues,
+    resource: &Resource,
+    unit: UnitId,
+) -> Option<Result<bool, NoMemory>> {
+    if resource.is_user() {
+        return None;
+    }
+    match enqueues.holder_over(resource, Some(unit)) {
+        Some(_) => None,
+        None => Some(enqueues.hold(resource, unit)),
+    }
 }
 
 #[test]
@@ -76,6 +91,23 @@ fn a_unit_frees_what_it_holds_and_no_more(rt: HostRuntime) -> Result<(), Fail> {
     assert!(rt; enqueues.holder(&Resource::TdRead(queue)).is_none());
     assert!(rt; enqueues.holder(&Resource::TdWrite(queue)) == Some(second));
     assert!(rt; enqueues.holder(&Resource::TsQueue(file)).is_none());
+    Ok(())
+}
+
+#[test]
+fn a_unit_is_told_what_was_free(rt: HostRuntime) -> Result<(), Fail> {
+    let file = Name8::new(b"ACCT")?;
+    let (first, second) = (UnitId::new(0), UnitId::new(1));
+    let mut enqueues = Enqueues::new(rt.alloc());
+    assert!(rt; hold(&mut enqueues, &key(file, 7), first) == Some(Ok(true)));
+    assert!(rt; hold(&mut enqueues, &key(file, 7), first) == Some(Ok(false)));
+    assert!(rt; enqueues.count(&key(file, 7)) == 1);
+    assert!(rt; hold(&mut enqueues, &key(file, 7), second).is_none());
+    assert!(rt; take(&mut enqueues, Resource::TsQueue(file), second) == Some(Ok(())));
+    assert!(rt; hold(&mut enqueues, &Resource::TsQueue(file), second) == Some(Ok(false)));
+    enqueues.give_back(&key(file, 7), first);
+    assert!(rt; hold(&mut enqueues, &key(file, 7), second) == Some(Ok(true)));
+    assert!(rt; enqueues.holder(&key(file, 7)) == Some(second));
     Ok(())
 }
 

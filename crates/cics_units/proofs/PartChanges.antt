@@ -1,19 +1,11 @@
 -- What the table of enqueues and the update reads are after a change of the parts.
-use Rattle.std.specs.Prelude.{◌≡◌, ℕ, ◌+◌, Bool, true, false, not, cond, ◌&&◌, ◌||◌, if◌then◌else◌, T, Option, Some, None, is_some, option_map, filter, List, [], ◌∷◌, refl}
+use Rattle.std.specs.Prelude.{◌≡◌, ℕ, Bool, true, false, not, ◌&&◌, ◌||◌, if◌then◌else◌, Option, Some, None, filter, List, [], ◌∷◌, refl}
 use Rattle.std.proofs.Common.{sym, ap, ◌∙◌, subst, eqb, inl, inr}
 use Rattle.std.specs.List.{list_any}
-use Rattle.std.specs.declared.cmp.Ordering.TheVariants.{Less, Equal, Greater}
-use Rattle.std.specs.Ordering.{is_eq}
-use Rattle.std.specs.FinMap as map_by
-use Rattle.std.specs.FinMap.Entries.{find-put, is_sorted-put, same_entries}
-use Rattle.std.proofs.lemmas.Bool.{true≢false, false≢true, cases_Bool, eqb-true, and_parts, false_from_ne_true}
+use Rattle.std.proofs.lemmas.Bool.{true≢false, cases_Bool, eqb-true, and_parts, false_from_ne_true}
 use Rattle.std.proofs.Math.Bool.{or-false}
 use Rattle.cics_names.specs.Keyed.{Bytes, is_same}
 use Rattle.cics_names.specs.KeyedLaws.{is_same-eq}
-use Rattle.cics_enqueue.specs.Resources.{Table, Held, held_at, holder_of, IsFreeFor, is_user, is_in_order, raised_count, resource_cmp, taken, given_back}
-use Rattle.cics_enqueue.proofs.TableLaws.{given_back-taken}
-use Rattle.cics_enqueue.specs.ResourceLaws.{free_own, resource_cmp_total, same_resources}
-use Rattle.cics_enqueue.specs.declared.resources.Resource.{Resource}
 use Rattle.cics_history.specs.Holding.{UpdateRead}
 use Rattle.cics_history.specs.Execution.{is_read_of, read_at, covers}
 use Rattle.cics_ksds.specs.Prefixes.{has_prefix}
@@ -24,32 +16,6 @@ use Rattle.cics_history.specs.declared.ops.Op.{Op}
 use Rattle.cics_history.specs.declared.ops.Op.TheVariants.{Write, Rewrite, Delete, DeleteGeneric, ReadUpdate, TsWrite, TsRewrite, TsDelete, TdWrite, TdRead, TdDelete}
 use Rattle.cics_history.proofs.Waiting.{any_more}
 use Rattle.cics_units.proofs.HeldReads.{any_never, OnEach, OnEach-map, read_keys, covers-own, covered_key, covered_at, covered_all}
-
--- to hold a resource as it is held changes nothing
-put-same : (r : Resource) (h : Held) (t : Table) → T (is_in_order t) → held_at r t ≡ Some h → map_by.put resource_cmp r h t ≡ t
-put-same r h t rises at = same_entries resource_cmp resource_cmp_total same_resources _ _ (is_sorted-put resource_cmp resource_cmp_total r h t rises) rises (λ q.
-    find-put resource_cmp resource_cmp_total q r h t
-    ∙ elim (resource_cmp q r) as (λ o. resource_cmp q r ≡ o → cond (is_eq o) (Some h) (held_at q t) ≡ held_at q t) [
-      | Less ↦ λ e. refl
-      | Equal ↦ λ e. sym (ap (λ s. held_at s t) (same_resources q r e) ∙ at)
-      | Greater ↦ λ e. refl
-    ] refl)
-
--- a unit that takes what it holds, where it is no value, takes nothing
-pub taken-held : (t : Table) (r : Resource) (u : ℕ) → T (is_in_order t) → holder_of r t ≡ Some u → is_user r ≡ false → taken t r u ≡ t
-taken-held t r u rises held plain = by (held_at r t) refl held
-  where
-    by : (o : Option Held) → held_at r t ≡ o → option_map (λ h. h.unit) o ≡ Some u → taken t r u ≡ t
-    by None at is = absurd (none_some is)
-      where
-        none_some : None ≡ Some u → ⊥
-        none_some e = cc
-    by (Some h) at is =
-        let unit : h.unit ≡ u = cc in
-        ap (λ o. map_by.put resource_cmp r (record { unit = u; count = raised_count r o }) t) at
-        ∙ ap (λ n. map_by.put resource_cmp r (record { unit = u; count = n }) t) (ap (λ b. if b then h.count + 1 else h.count) plain)
-        ∙ ap (λ n. map_by.put resource_cmp r (record { unit = n; count = h.count }) t) (sym unit)
-        ∙ put-same r h t rises at
 
 -- a test of the key of an update read, if there is one
 abbrev pub is_read_with : (Bytes → Bool) → Option Bytes → Bool
@@ -95,22 +61,6 @@ covered-under u f p reads once = covered-read_at (has_prefix p) u f reads once �
 pub ends_none : (reads : List UpdateRead) → filter (λ r. true) reads ≡ reads
 ends_none [] = refl
 ends_none (r ∷ rs) = ap (λ l. r ∷ l) (ends_none rs)
-
--- a resource that is held, and that a unit may take, is held by that unit
-pub held_own : (t : Table) (r : Resource) (u : ℕ) → IsFreeFor t r u → is_some (holder_of r t) ≡ true → holder_of r t ≡ Some u
-held_own t r u free some = by (holder_of r t) refl some
-  where
-    by : (o : Option ℕ) → holder_of r t ≡ o → is_some o ≡ true → holder_of r t ≡ Some u
-    by None at is = absurd (false≢true is)
-    by (Some v) at is = at ∙ ap Some (free_own t r u free v at)
-
--- what nobody held is free again once it is taken and given back
-pub taken-let_go : (t : Table) (r : Resource) (u : ℕ) → T (is_in_order t) → is_some (holder_of r t) ≡ false → given_back (taken t r u) r u ≡ t
-taken-let_go t r u rises none = given_back-taken t r u rises (nothing (held_at r t) none)
-  where
-    nothing : (o : Option Held) → is_some (option_map (λ h. h.unit) o) ≡ false → o ≡ None
-    nothing None e = refl
-    nothing (Some h) e = absurd (true≢false e)
 
 -- a command that is no REWRITE, no DELETE and no DELETE GENERIC covers no read
 module _ (u : ℕ) where

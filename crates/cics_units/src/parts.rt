@@ -2,7 +2,7 @@
 //! open update reads.
 
 ghost use Rattle.std.specs.Prelude.{◌≡◌, ◌==◌, ◌<◌, ◌≤◌, ℕ, Bool, true, false, not};
-ghost use Rattle.std.specs.Prelude.{[], None, length, filter, fold, List, T, IfOk};
+ghost use Rattle.std.specs.Prelude.{[], None, length, filter, fold, List, IfOk};
 ghost use Rattle.std.specs.Prelude.{IfErr, IfSome, OnOk, OnErr, All};
 ghost use Rattle.std.specs.List.{list_any};
 ghost use Rattle.std.specs.Option.{option_copied};
@@ -10,7 +10,7 @@ ghost use Rattle.cics_names.specs.Keyed.{value_at};
 ghost use Rattle.cics_names.specs.declared.conditions.Condition.TheVariants.{Normal};
 ghost use Rattle.cics_images.specs.Cells.{AreReadyInTurn, LeadBack, images_of, is_unnamed};
 ghost use Rattle.cics_images.specs.Cells.{all_swept};
-ghost use Rattle.cics_enqueue.specs.Resources.{IsFreeFor, is_full, is_in_order, is_user};
+ghost use Rattle.cics_enqueue.specs.Resources.{IsFreeFor, is_full, is_user};
 ghost use Rattle.cics_enqueue.specs.Resources.{holder_over};
 ghost use Rattle.cics_enqueue.specs.Resources.{given_back, released};
 ghost use Rattle.cics_history.specs.Execution.{covers, reads_after, read_at, with_read, is_read_of};
@@ -136,7 +136,6 @@ impl Parts {
     ) -> Result<(), NoMemory>
         requires plain { list_any is_user (listed uses.now) ≡ false }
         requires free { AreFreeFor self.old.table (listed uses.now) unit }
-        requires in_order { T (is_in_order self.old.table) }
         requires none_open { read_at self.old.reads unit file ≡ None }
         ensures parts { OnOk result (self.new ≡ record self.old {
           table = taken_all self.old.table unit (listed uses.now);
@@ -171,7 +170,6 @@ impl Parts {
             ≤ room_of self.old.stores.images unit }
         requires plain { list_any is_user (listed uses.now) ≡ false }
         requires free { AreFreeFor self.old.table (listed uses.now) unit }
-        requires in_order { T (is_in_order self.old.table) }
         requires once { AreOnce self.old.reads }
         ensures changed { OnOk result (AreChanged self.old.stores self.new.stores unit op.now) }
         ensures table { OnOk result (self.new.table
@@ -231,7 +229,6 @@ impl Parts {
             ≡ uses_if (is_recoverable_in
             (value_at (file_of op.now) self.old.stores.store.files)) op.now }
         requires free { AreFreeFor self.old.table (listed uses.now) unit }
-        requires in_order { T (is_in_order self.old.table) }
         requires once { AreOnce self.old.reads }
         requires none_open { is_read op.now ≡ true →
             read_at self.old.reads unit (file_of op.now) ≡ None }
@@ -319,7 +316,6 @@ impl Parts {
             ≡ uses_if (is_recoverable_in
             (value_at (file_of op.now) self.old.stores.store.files)) op.now }
         requires free { AreFreeFor self.old.table (listed uses.now) unit }
-        requires in_order { T (is_in_order self.old.table) }
         requires once { AreOnce self.old.reads }
         requires none_open { is_read op.now ≡ true →
             read_at self.old.reads unit (file_of op.now) ≡ None }
@@ -350,7 +346,6 @@ impl Parts {
         requires begun { unit ≤ length self.old.stores.images }
         requires used { listed uses.now ≡ uses_if recoverable op.now }
         requires free { AreFreeFor self.old.table (listed uses.now) unit }
-        requires in_order { T (is_in_order self.old.table) }
         ensures executed { IfOk result (λ answer.
             AreExecuted self.old self.new unit op.now recoverable answer) }
         ensures err { OnErr result (ArePartsKept self.old self.new) }
@@ -392,7 +387,6 @@ impl Parts {
         requires short { All (λ r. length r.key ≤ 255) self.old.reads }
         requires used { listed uses.now ≡ uses_if recoverable op.now }
         requires free { AreFreeFor self.old.table (listed uses.now) unit }
-        requires in_order { T (is_in_order self.old.table) }
         requires once { AreOnce self.old.reads }
         requires none_open { is_read op.now ≡ true →
             read_at self.old.reads unit (file_of op.now) ≡ None }

@@ -1,8 +1,8 @@
 //! What a command uses, and how its unit takes it: all of it, or nothing where memory is refused.
 
-ghost use Rattle.std.specs.Prelude.{◌≡◌, ◌≤◌, false, Some, length, T, IfOk, OnOk, OnErr};
+ghost use Rattle.std.specs.Prelude.{◌≡◌, ◌≤◌, false, Some, length, IfOk, OnOk, OnErr};
 ghost use Rattle.std.specs.List.{list_any};
-ghost use Rattle.cics_enqueue.specs.Resources.{IsFreeFor, is_in_order, is_user, taken};
+ghost use Rattle.cics_enqueue.specs.Resources.{is_user};
 ghost use Rattle.cics_history.specs.Holding.{named_if};
 ghost use Rattle.cics_history.specs.Records.{key_of};
 ghost use Rattle.cics_units.specs.Uses.{uses_if, listed, taken_all, AreFreeFor, holder_over_all};
@@ -71,39 +71,6 @@ pub(crate) fn uses_of(op: &Op, recoverable: bool) -> Uses
     }
 }
 
-// A copy of a resource.
-fn copy_of(resource: &Resource) -> Resource
-    ensures { result ≡ resource.now }
-{
-    match resource {
-        Resource::FileKey(file, key) => Resource::record(*file, key.as_slice()),
-        Resource::TsQueue(queue) => Resource::TsQueue(*queue),
-        Resource::TdRead(queue) => Resource::TdRead(*queue),
-        Resource::TdWrite(queue) => Resource::TdWrite(*queue),
-        Resource::User(value) => Resource::value(value.as_slice()),
-        Resource::FilePrefix(file, prefix) => Resource::prefix(*file, prefix.as_slice()),
-    }
-}
-
-// Takes a resource for a unit, unless the unit holds it already, and tells whether it was free.
-fn hold(enqueues: &mut Enqueues, resource: &Resource, unit: UnitId) -> Result<bool, NoMemory>
-    requires plain { is_user resource.now ≡ false }
-    requires free { IsFreeFor enqueues.old resource.now unit }
-    requires in_order { T (is_in_order enqueues.old) }
-    ensures taken { OnOk result (enqueues.new ≡ taken enqueues.old resource.now unit) }
-    ensures undone { IfOk result (λ was_free.
-        given_back_if was_free enqueues.new resource.now unit ≡ enqueues.old) }
-    ensures err { OnErr result (enqueues.new ≡ enqueues.old) }
-{
-    if enqueues.holder(resource).is_some() {
-        return Ok(false);
-    }
-    match enqueues.take(copy_of(resource), unit) {
-        Ok(()) => Ok(true),
-        Err(_) => Err(NoMemory),
-    }
-}
-
 // Gives a resource back that was free before its unit took it.
 fn let_go(enqueues: &mut Enqueues, resource: &Resource, unit: UnitId, was_free: bool)
     ensures { enqueues.new ≡ given_back_if was_free enqueues.old resource.now unit }
@@ -123,7 +90,6 @@ pub(crate) fn hold_all(
 ) -> Result<WereFree, NoMemory>
     requires plain { list_any is_user (listed uses.now) ≡ false }
     requires free { AreFreeFor enqueues.old (listed uses.now) unit }
-    requires in_order { T (is_in_order enqueues.old) }
     ensures taken { OnOk result (enqueues.new ≡ taken_all enqueues.old unit (listed uses.now)) }
     ensures undone { IfOk result (λ were_free.
         let_go enqueues.new uses.now were_free unit ≡ enqueues.old) }
@@ -135,15 +101,15 @@ pub(crate) fn hold_all(
             second: false,
         }),
         Uses::One(resource) => {
-            let first = hold(enqueues, resource, unit)?;
+            let first = enqueues.hold(resource, unit)?;
             Ok(WereFree {
                 first,
                 second: false,
             })
         }
         Uses::Two(one, other) => {
-            let first = hold(enqueues, one, unit)?;
-            match hold(enqueues, other, unit) {
+            let first = enqueues.hold(one, unit)?;
+            match enqueues.hold(other, unit) {
                 Ok(second) => Ok(WereFree { first, second }),
                 Err(refused) => {
                     let_go(enqueues, one, unit, first);

@@ -1,6 +1,5 @@
-use Rattle.std.proofs.Common.{sym, subst, T, [], ◌∷◌}
-use Rattle.cics_enqueue.specs.Resources.{IsFreeFor, is_in_order}
-use Rattle.cics_enqueue.proofs.TableLaws.{is_in_order-taken}
+use Rattle.std.proofs.Common.{sym, subst, [], ◌∷◌}
+use Rattle.cics_enqueue.specs.Resources.{IsFreeFor}
 use Rattle.cics_units.specs.Uses.{listed, AreFreeFor}
 use Rattle.cics_units.proofs.TableChanges.{free-taken}
 use Rattle.cics_units.proofs.uses.hold_all.Goals as goal
@@ -13,8 +12,3 @@ hold-requires-in-Two-2-clause-free c =
     let other = c.in-Two.other in
     let free : AreFreeFor t (one ∷ other ∷ []) c.args.unit = subst (λ u. AreFreeFor t (listed u) c.args.unit) c.in-Two.is c.requires.free in
     subst (λ x. IsFreeFor x other c.args.unit) (sym c.in_ok-first-in-Two.ensures.taken) (free-taken t one other c.args.unit free.1.0)
-
-pub hold-requires-in-Two-2-clause-in_order : goal.hold-requires-in-Two-2-clause-in_order
-hold-requires-in-Two-2-clause-in_order c =
-    subst (λ x. T (is_in_order x)) (sym c.in_ok-first-in-Two.ensures.taken)
-    (is_in_order-taken c.args.enqueues.now c.in-Two.one c.args.unit c.requires.in_order)
