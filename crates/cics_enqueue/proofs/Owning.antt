@@ -1,11 +1,11 @@
 -- What the units own after a change of one unit's keys.
-use Rattle.std.proofs.Common.{◌≡◌, ℕ, ◌&&◌, Bool, true, false, cond, Option, Some, None, is_some, [], nat_eq, refl, sym, ap, subst, ◌∙◌}
+use Rattle.std.proofs.Common.{◌≡◌, ℕ, ◌&&◌, Bool, true, false, cond, Option, Some, None, is_some, nat_eq, refl, sym, ap, subst, ◌∙◌}
 use Rattle.std.specs.Prelude.{IfNone, OnErr, Result, Ok, Err}
 use Rattle.std.specs.List.{list_any}
 use Rattle.std.specs.Global.{Vec}
 use Rattle.std.specs.Map.{lookup}
 use Rattle.std.specs.BTreeSet.{BTreeSet}
-use Rattle.std.proofs.lemmas.Bool.{eqb-true, eq-eqb}
+use Rattle.std.proofs.lemmas.Bool.{eqb-true}
 use Rattle.cics_names.specs.Keyed.{Bytes, is_same}
 use Rattle.cics_enqueue.specs.Kept.{Owned, finds, has_in, owns, Sets}
 
@@ -13,17 +13,6 @@ module _ (ls ms : Owned) (unit : ℕ) (w : BTreeSet (Vec ℕ)) (h : (q : ℕ) �
   -- a unit's keys are written, and the others stay
   pub owns-written : (u : ℕ) (k : Vec ℕ) → owns ms u k ≡ cond (nat_eq unit u) (list_any (finds k.items) w.keys) (owns ls u k)
   owns-written u k = ap (λ o. has_in o k) (h u) ∙ elim (nat_eq unit u) as (λ b. has_in (cond b (Some w) (lookup (nat_eq u) ls)) k ≡ cond b (list_any (finds k.items) w.keys) (owns ls u k)) [ true ↦ refl | false ↦ refl ]
-
-  -- the unit has a set
-  pub begun-there : is_some (lookup (nat_eq unit) ms) ≡ true
-  begun-there = ap is_some (h unit) ∙ ap (λ b. is_some (cond b (Some w) (lookup (nat_eq unit) ls))) (eq-eqb unit unit refl)
-
-  -- a unit that had none gets no key
-  pub owns-begun : lookup (nat_eq unit) ls ≡ None → w.keys ≡ [] → (u : ℕ) (k : Vec ℕ) → owns ms u k ≡ owns ls u k
-  owns-begun absent none u k = owns-written u k ∙ elim (nat_eq unit u) as (λ t. nat_eq unit u ≡ t → cond t (list_any (finds k.items) w.keys) (owns ls u k) ≡ owns ls u k) [
-    | true ↦ λ t. ap (list_any (finds k.items)) none ∙ sym (ap (λ o. has_in o k) (subst (λ x. lookup (nat_eq x) ls ≡ None) (eqb-true unit u t) absent))
-    | false ↦ λ t. refl
-  ] refl
 
   module _ (v : BTreeSet (Vec ℕ)) (there : lookup (nat_eq unit) ls ≡ Some v) where
     own : (k : Vec ℕ) (u : ℕ) → nat_eq unit u ≡ true → owns ls u k ≡ list_any (finds k.items) v.keys
@@ -36,12 +25,12 @@ module _ (ls ms : Owned) (unit : ℕ) (w : BTreeSet (Vec ℕ)) (h : (q : ℕ) �
       | false ↦ λ t. refl
     ] refl
 
-    -- a key comes in or goes
-    pub owns-set : (b : Bool) (key : Bytes) → ((k : Vec ℕ) → list_any (finds k.items) w.keys ≡ cond (is_same key k.items) b (list_any (finds k.items) v.keys)) → Sets b unit key ls ms
-    owns-set b key set u k = owns-written u k ∙ elim (nat_eq unit u) as (λ t. nat_eq unit u ≡ t → cond t (list_any (finds k.items) w.keys) (owns ls u k) ≡ cond (t && is_same key k.items) b (owns ls u k)) [
-      | true ↦ λ t. set k ∙ ap (cond (is_same key k.items) b) (sym (own k u t))
-      | false ↦ λ t. refl
-    ] refl
+  -- a key of a unit, which may have had none, comes in or goes
+  pub owns-set : (o : Option (BTreeSet (Vec ℕ))) → lookup (nat_eq unit) ls ≡ o → (b : Bool) (key : Bytes) → ((k : Vec ℕ) → list_any (finds k.items) w.keys ≡ cond (is_same key k.items) b (has_in o k)) → Sets b unit key ls ms
+  owns-set o there b key set u k = owns-written u k ∙ elim (nat_eq unit u) as (λ t. nat_eq unit u ≡ t → cond t (list_any (finds k.items) w.keys) (owns ls u k) ≡ cond (t && is_same key k.items) b (owns ls u k)) [
+    | true ↦ λ t. set k ∙ ap (cond (is_same key k.items) b) (sym (ap (λ o. has_in o k) (subst (λ x. lookup (nat_eq x) ls ≡ o) (eqb-true unit u t) there)))
+    | false ↦ λ t. refl
+  ] refl
 
 -- what is not there is nothing
 pub none_from : {X : Type 0} (o : Option X) → is_some o ≡ false → o ≡ None

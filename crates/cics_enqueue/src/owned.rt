@@ -12,21 +12,6 @@ use indexmap::IndexMap;
 use std::alloc::Global;
 use std::collections::BTreeSet;
 
-// Gives a unit a set, if it has none.
-fn begin(
-    owned: &mut IndexMap<UnitId, BTreeSet<Vec<u8>>>,
-    alloc: Global,
-    unit: UnitId,
-) -> Result<(), NoMemory>
-    ensures same { OwnsSame owned.old.entries owned.new.entries }
-    ensures there { OnOk result (is_some (lookup (nat_eq unit) owned.new.entries) ≡ true) }
-{
-    if !owned.contains_key(&unit) {
-        owned.insert(unit, BTreeSet::new(alloc))?;
-    }
-    Ok(())
-}
-
 // Adds a key to those of a unit.
 pub(crate) fn add(
     owned: &mut IndexMap<UnitId, BTreeSet<Vec<u8>>>,
@@ -37,11 +22,13 @@ pub(crate) fn add(
     ensures added { OnOk result (Sets true unit key.items owned.old.entries owned.new.entries) }
     ensures err { OnErr result (OwnsSame owned.old.entries owned.new.entries) }
 {
-    begin(owned, alloc, unit)?;
-    let Some(keys) = owned.get_mut(&unit) else {
-        unreachable!()
-    };
+    if let Some(keys) = owned.get_mut(&unit) {
+        keys.insert(key)?;
+        return Ok(());
+    }
+    let mut keys = BTreeSet::new(alloc);
     keys.insert(key)?;
+    owned.insert(unit, keys)?;
     Ok(())
 }
 
