@@ -448,3 +448,13 @@ holder_over-least t asker rises (User w) v is = plain_least t asker (User w) v (
 pub least_if_some : (o : Option ℕ) (t : Table) (r : Resource) (asker : Option ℕ) → T (is_in_order t) → o ≡ holder_over r asker t → IfSome o (HoldsLeast t r asker)
 least_if_some None t r asker rises is = tt
 least_if_some (Some v) t r asker rises is = holder_over-least t asker rises r v (sym is)
+
+-- where no other unit holds anything, none stands in the way
+pub none_alone : (t : Table) (r : Resource) (asker : Option ℕ) → T (is_in_order t) → ((s : Resource) → other_than asker (holder_of s t) ≡ None) → None ≡ holder_over r asker t
+none_alone t r asker rises alone = by (holder_over r asker t) refl
+  where
+    by : (o : Option ℕ) → holder_over r asker t ≡ o → None ≡ holder_over r asker t
+    by None is = sym is
+    by (Some v) is =
+        let least = holder_over-least t asker rises r v is in
+        let wrong : Some v ≡ None = sym (ap (λ b. if b then Some v else None) least.1.2) ∙ sym (ap (other_than asker) least.1.1) ∙ alone least.0 in cc

@@ -1,6 +1,7 @@
 -- What the units own after a change of one unit's keys.
-use Rattle.std.proofs.Common.{◌≡◌, ℕ, ◌&&◌, Bool, true, false, cond, Option, Some, None, is_some, nat_eq, refl, sym, ap, subst, ◌∙◌}
-use Rattle.std.specs.Prelude.{IfNone, OnErr, Result, Ok, Err}
+use Rattle.std.proofs.Common.{◌≡◌, ℕ, ◌&&◌, Bool, true, false, cond, Option, Some, None, is_some, nat_eq, arith, refl, sym, ap, subst, ◌∙◌, ◌≤◌, [], ◌∷◌, length}
+use Rattle.std.specs.Bool.{OnTrue}
+use Rattle.std.specs.Prelude.{IfNone, not, OnErr, Result, Ok, Err, slice_get}
 use Rattle.std.specs.List.{list_any}
 use Rattle.std.specs.Global.{Vec}
 use Rattle.std.specs.Map.{lookup}
@@ -8,6 +9,7 @@ use Rattle.std.specs.BTreeSet.{BTreeSet}
 use Rattle.std.proofs.lemmas.Bool.{eqb-true}
 use Rattle.cics_names.specs.Keyed.{Bytes, is_same}
 use Rattle.cics_enqueue.specs.Kept.{Owned, finds, has_in, owns, Sets}
+use Rattle.cics_enqueue.specs.Resources.{is_other}
 
 module _ (ls ms : Owned) (unit : ℕ) (w : BTreeSet (Vec ℕ)) (h : (q : ℕ) → lookup (nat_eq q) ms ≡ cond (nat_eq unit q) (Some w) (lookup (nat_eq q) ls)) where
   -- a unit's keys are written, and the others stay
@@ -47,3 +49,19 @@ pub owns-popped : (ls ms : Owned) (unit : ℕ) (w : BTreeSet (Vec ℕ)) → ((q 
     (o : Option (Vec ℕ)) → IfNone o (w.keys ≡ v.keys) → IfNone o ((u : ℕ) (k : Vec ℕ) → owns ms u k ≡ owns ls u k)
 owns-popped ls ms unit w h v there None same = owns-same ls ms unit w h v there same
 owns-popped ls ms unit w h v there (Some key) same = tt
+
+-- what holds where a test fails holds where its opposite passes
+pub on_not_by : {Q : Type 0} (b : Bool) → (b ≡ false → Q) → OnTrue (not b) Q
+on_not_by true h = tt
+on_not_by false h = h refl
+
+-- where one unit alone has a set, and it is the asker, no other unit owns a key
+pub owns_alone : (own : Owned) (asker : Option ℕ) (e : ℕ × BTreeSet (Vec ℕ)) → slice_get own 0 ≡ Some e → length own ≤ 1 → is_other asker e.0 ≡ false → (u : ℕ) (k : Vec ℕ) → is_other asker u ≡ true → owns own u k ≡ false
+owns_alone [] asker e at one mine u k other = refl
+owns_alone (d ∷ c ∷ rest) asker e at one mine u k other = absurd (omega arith)
+owns_alone (d ∷ []) asker e at one mine u k other = elim (nat_eq u d.0) as (λ b. nat_eq u d.0 ≡ b → has_in (cond b (Some d.1) None) k ≡ false) [
+  | true ↦ λ t.
+      let here : d ≡ e = cc in
+      let wrong : true ≡ false = sym other ∙ ap (is_other asker) (eqb-true u d.0 t ∙ ap (λ x. x.0) here) ∙ mine in cc
+  | false ↦ λ f. refl
+] refl

@@ -18,10 +18,10 @@ use Rattle.cics_names.specs.KeyedLaws.{is_same-eq}
 use Rattle.cics_enqueue.specs.declared.enqueues.Holding.{Holding}
 use Rattle.cics_enqueue.specs.declared.resources.Resource.{Resource}
 use Rattle.cics_enqueue.specs.declared.resources.Resource.TheVariants.{FileKey, TsQueue, TdRead, TdWrite, User, FilePrefix}
-use Rattle.cics_enqueue.specs.Kept.{Entries, AreKeys, table_of, seen, shown, finds, first_entry, is_others_under, others_unit, first_cover, lesser_shown}
+use Rattle.cics_enqueue.specs.Kept.{Entries, Owned, IsKept, owns, is_units, AreKeys, table_of, seen, shown, finds, first_entry, is_others_under, others_unit, first_cover, lesser_shown}
 use Rattle.cics_enqueue.specs.Resources.{Table, Held, holder_over, bytes_of, resource_key, begins_with, is_other, is_under, first_that, first_of, lesser, least_under, other_than, holder_of, holder_of_shorter}
 use Rattle.cics_enqueue.specs.ResourceLaws.{resource_of}
-use Rattle.cics_enqueue.proofs.Tables.{key_cmp, holder_of-table_of}
+use Rattle.cics_enqueue.proofs.Tables.{key_cmp, key_found, holder_of-table_of}
 
 -- ---- bytes that begin with others
 pub starts_with-begins : (p b : Bytes) → pointwise nat_eq p (take (length p) b) ≡ begins_with p b
@@ -221,6 +221,20 @@ other_than-table_of r key is asker es sound = ap (other_than asker) (holder_of-t
     step : (o : Option Holding) → other_than asker (option_map (λ h. h.unit) o) ≡ others_unit asker o
     step None = refl
     step (Some h) = refl
+
+-- where no other unit owns a key, none holds a resource
+pub alone-table_of : (es : Entries) (own : Owned) (asker : Option ℕ) → IsKept es own → ((u : ℕ) (k : Vec ℕ) → is_other asker u ≡ true → owns own u k ≡ false) → (s : Resource) → other_than asker (holder_of s (table_of es)) ≡ None
+alone-table_of es own asker kept alone s = other_than-table_of s (resource_key s) refl asker es kept.keys ∙ step (lookup (finds (resource_key s)) es) refl
+  where
+    step : (o : Option Holding) → lookup (finds (resource_key s)) es ≡ o → others_unit asker o ≡ None
+    step None at = refl
+    step (Some h) at = elim (is_other asker h.unit) as (λ b. is_other asker h.unit ≡ b → (if b then Some h.unit else None) ≡ None) [
+      | true ↦ λ other.
+          let k = key_found (resource_key s) h es at in
+          let own_key : is_units h.unit (Some h) ≡ false = sym (ap (is_units h.unit) (ap (λ b. lookup (finds b) es) k.1 ∙ at)) ∙ sym (kept.owned h.unit k.0) ∙ alone h.unit k.0 other in
+          let wrong : true ≡ false = sym (eq-eqb h.unit h.unit refl) ∙ own_key in cc
+      | false ↦ λ same. refl
+    ] refl
 
 -- the holder of a shorter prefix
 pub shorter-table_of : (f : Bytes) (asker : Option ℕ) (es : Entries) → AreKeys es → (rest p : Bytes) → holder_of_shorter f p rest asker (table_of es) ≡ first_cover asker es (0 ∷ length f ∷ (f ++ p)) rest

@@ -293,7 +293,7 @@ released-freed (e ∷ es) r u rises own_held =
     ] refl
 
 -- an entry that is found has the bytes that ask for it
-key_found : (b : Bytes) (h : Holding) (es : Entries) → lookup (finds b) es ≡ Some h → (k : Vec ℕ) × (k.items ≡ b)
+pub key_found : (b : Bytes) (h : Holding) (es : Entries) → lookup (finds b) es ≡ Some h → (k : Vec ℕ) × (k.items ≡ b)
 key_found b h [] = λ at. cc
 key_found b h (e ∷ es) = elim (finds b e.0) as (λ t. finds b e.0 ≡ t → cond t (Some e.1) (lookup (finds b) es) ≡ Some h → (k : Vec ℕ) × (k.items ≡ b)) [
   | true ↦ λ t at. (e.0, sym (is_same-eq b e.0.items t))

@@ -16,7 +16,7 @@ use cics_names::Name8;
 use std::collections::BTreeMap;
 
 // Whether a unit is another than the asker.
-fn is_another(asker: &Option<UnitId>, unit: UnitId) -> bool
+pub(crate) fn is_another(asker: &Option<UnitId>, unit: UnitId) -> bool
     ensures { result ≡ is_other asker.now unit }
 {
     match asker {

@@ -4,13 +4,30 @@ ghost use Rattle.std.specs.Prelude.{◌≡◌, ◌<◌, ℕ, true, false, nat_eq
 ghost use Rattle.std.specs.Prelude.{OnOk, OnErr};
 ghost use Rattle.std.specs.Map.{lookup};
 ghost use Rattle.std.specs.Global.{Vec};
+ghost use Rattle.std.specs.Bool.{OnTrue};
 ghost use Rattle.cics_enqueue.specs.Kept.{owns, own_count, OwnsSame, Sets};
+ghost use Rattle.cics_enqueue.specs.Resources.{is_other};
 
+use crate::overlaps::is_another;
 use crate::resources::UnitId;
 use cics_names::NoMemory;
 use indexmap::IndexMap;
 use std::alloc::Global;
 use std::collections::BTreeSet;
+
+// Whether no unit but the asker has any keys. It costs the same whatever they have.
+pub(crate) fn is_alone(owned: &IndexMap<UnitId, BTreeSet<Vec<u8>>>, asker: &Option<UnitId>) -> bool
+    ensures { OnTrue result ((u : ℕ) (k : Vec ℕ) →
+        is_other asker.now u ≡ true → owns owned.now.entries u k ≡ false) }
+{
+    if owned.len() > 1 {
+        return false;
+    }
+    match owned.first() {
+        Some((unit, _)) => !is_another(asker, *unit),
+        None => true,
+    }
+}
 
 // Adds a key to those of a unit.
 pub(crate) fn add(

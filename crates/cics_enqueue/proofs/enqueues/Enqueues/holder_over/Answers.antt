@@ -1,10 +1,11 @@
 use Rattle.std.proofs.Common.{◌≡◌, ◌∙◌, sym, ap}
-use Rattle.cics_enqueue.specs.FreedomLaws.{free_if_none}
+use Rattle.cics_enqueue.specs.Kept.{table_of}
+use Rattle.cics_enqueue.specs.FreedomLaws.{free_if_none, free_where_none}
 use Rattle.cics_enqueue.specs.Resources.{bytes_of, holder_over}
 use Rattle.cics_enqueue.specs.declared.resources.Resource.TheVariants.{FileKey, FilePrefix}
-use Rattle.cics_enqueue.proofs.Least.{least_if_some}
+use Rattle.cics_enqueue.proofs.Least.{least_if_some, none_alone}
 use Rattle.cics_enqueue.proofs.Tables.{in_order}
-use Rattle.cics_enqueue.proofs.Seeking.{other_than-table_of, holder_over-plain}
+use Rattle.cics_enqueue.proofs.Seeking.{alone-table_of, other_than-table_of, holder_over-plain}
 use Rattle.cics_enqueue.proofs.enqueues.Enqueues.holder_over.Goals as goal
 
 pub returns-in-FilePrefix-clause-free : goal.returns-in-FilePrefix-clause-free
@@ -29,3 +30,12 @@ pub returns-in-FilePrefix-clause-least : goal.returns-in-FilePrefix-clause-least
 returns-in-FilePrefix-clause-least c = least_if_some _ c.args.self.now c.args.resource.now c.args.but_not (in_order c.self.view_is c.self.invariant)
     (c.held_with_prefix.ensures.value ∙ ap (λ b. holder_over (FilePrefix c.in-FilePrefix.file (bytes_of b)) c.args.but_not c.args.self.now) c.as_slice.ensures.value
     ∙ ap (λ r. holder_over r c.args.but_not c.args.self.now) (sym c.in-FilePrefix.is))
+
+-- where no other unit holds anything, none is in the way
+pub returns-then-is_alone-clause-value : goal.returns-then-is_alone-clause-value
+returns-then-is_alone-clause-value c =
+    rw (← c.self.view_is) (none_alone (table_of c.self.inside.table.entries) c.args.resource.now c.args.but_not c.self.invariant.in_order
+    (alone-table_of c.self.inside.table.entries c.self.inside.owned.entries c.args.but_not c.self.invariant c.if-is_alone.ensures))
+
+pub returns-then-is_alone-clause-free : goal.returns-then-is_alone-clause-free
+returns-then-is_alone-clause-free c = free_where_none c.args.self.now c.args.resource.now c.args.but_not (sym (returns-then-is_alone-clause-value c))
