@@ -9,7 +9,7 @@ use Rattle.std.specs.FinMap as map_by
 use Rattle.std.specs.FinMap.Entries.{find-put, find-where_key, is_sorted-put, is_sorted-where_key, same_entries, below_all}
 use Rattle.std.proofs.lemmas.Bool.{eq-eqb, false≢true}
 use Rattle.cics_enqueue.specs.declared.resources.Resource.{Resource}
-use Rattle.cics_enqueue.specs.Resources.{Table, Held, IsFreeFor, held_at, holder_of, count_of, count_in, is_one, is_user, raised_count, is_in_order, resource_cmp, with_holder, freed, released, taken, given_back, given_back_of}
+use Rattle.cics_enqueue.specs.Resources.{Table, Held, IsFreeFor, other_than, held_at, holder_of, count_of, count_in, is_one, is_user, raised_count, is_in_order, resource_cmp, with_holder, freed, released, taken, given_back, given_back_of}
 use Rattle.cics_enqueue.specs.ResourceLaws.{free_own, resource_cmp_total, is_one-cmp, is_one-eq, is_one-self, same_resources}
 
 -- a holding after a unit gave back one take
@@ -268,6 +268,14 @@ once-released t u q rises single = ap is_once (held_at-released t u q rises) ∙
     without : (o : Option Held) → is_once o ≡ true → is_once (held_without u o) ≡ true
     without None h = refl
     without (Some held) h = elim (held.unit == u) as (λ b. is_once (if b then None else Some held) ≡ true) [ true ↦ refl | false ↦ h ]
+
+-- all goes where no other unit holds anything
+pub released-alone : (t : Table) (u : ℕ) → T (is_in_order t) → ((s : Resource) → other_than (Some u) (holder_of s t) ≡ None) → released t u ≡ []
+released-alone t u rises alone = same_entries resource_cmp resource_cmp_total same_resources (released t u) [] (is_in_order-released t u rises) tt (λ q. held_at-released t u q rises ∙ step (held_at q t) (alone q))
+  where
+    step : (o : Option Held) → other_than (Some u) (option_map (λ h. h.unit) o) ≡ None → held_without u o ≡ None
+    step None e = refl
+    step (Some h) e = elim (h.unit == u) as (λ b. (if not b then Some h.unit else None) ≡ None → (if b then None else Some h) ≡ None) [ true ↦ λ e. refl | false ↦ λ e. cc ] e
 
 -- ---- A take that is given back
 

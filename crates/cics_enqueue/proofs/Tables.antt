@@ -15,7 +15,7 @@ use Rattle.cics_names.specs.KeyedLaws.{is_same-eq}
 use Rattle.cics_enqueue.specs.declared.resources.Resource.{Resource}
 use Rattle.cics_enqueue.specs.declared.enqueues.Holding.{Holding}
 use Rattle.cics_enqueue.specs.Kept.{Entries, Owned, table_of, seen, finds, AreKeys, AreOwned, Sets, owns, has_in, is_units, is_place, IsKept}
-use Rattle.cics_enqueue.specs.Resources.{Table, Held, held_at, holder_of, count_of, count_in, is_one, is_user, is_full, most_count, raised_count, is_in_order, resource_cmp, resource_key, with_holder, freed, released, taken, given_back, given_back_of}
+use Rattle.cics_enqueue.specs.Resources.{Table, Held, is_other, held_at, holder_of, count_of, count_in, is_one, is_user, is_full, most_count, raised_count, is_in_order, resource_cmp, resource_key, with_holder, freed, released, taken, given_back, given_back_of}
 use Rattle.cics_enqueue.specs.ResourceLaws.{resource_cmp_total, is_one-cmp, is_one-eq, same_resources, resource_of, resource_of-resource_key}
 use Rattle.cics_enqueue.proofs.TableLaws.{left_of, right_of, not_tied, held_before, held_without, held_at-released, is_in_order-released}
 
@@ -326,6 +326,24 @@ IsKept-ended es own between after unit none stays ended kept = record {
     | false ↦ λ t. stays u k ∙ kept.owned u k
   ] refl;
 }
+
+-- the keys of a unit can go with all entries where no other unit owns any
+pub IsKept-emptied : (es : Entries) (own after : Owned) (unit : ℕ) → es ≡ [] → ((u : ℕ) (k : Vec ℕ) → is_other (Some unit) u ≡ true → owns own u k ≡ false) →
+    ((q : ℕ) → lookup (nat_eq q) after ≡ cond (nat_eq unit q) None (lookup (nat_eq q) own)) → IsKept es after
+IsKept-emptied es own after unit empty alone ended = subst (λ fs. IsKept fs after) (sym empty) (record {
+  keys = tt;
+  in_order = tt;
+  owned = λ u k. ap (λ o. has_in o k) (ended u) ∙ elim (nat_eq unit u) as (λ b. nat_eq unit u ≡ b → has_in (cond b None (lookup (nat_eq u) own)) k ≡ false) [
+    | true ↦ λ t. refl
+    | false ↦ λ f. alone u k (turned u f)
+  ] refl;
+})
+  where
+    turned : (u : ℕ) → nat_eq unit u ≡ false → not (u == unit) ≡ true
+    turned u f = elim (u == unit) as (λ b. (u == unit) ≡ b → not b ≡ true) [
+      | true ↦ λ t. let wrong : true ≡ false = sym (eq-eqb unit u (sym (eqb-true u unit t))) ∙ f in cc
+      | false ↦ λ n. refl
+    ] refl
 
 -- the holding of a key that a unit owns
 pub held_by_owner : (es : Entries) (own : Owned) (u : ℕ) (k : Vec ℕ) → AreOwned es own → owns own u k ≡ true → (h : Holding) × (lookup (finds k.items) es ≡ Some h) × (h.unit ≡ u)

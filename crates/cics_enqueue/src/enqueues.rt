@@ -137,8 +137,9 @@ impl Enqueues {
     /// any of it: then `but_not` may take the resource.
     ///
     /// A key of a file is overlapped by itself and by each prefix of it that is held, a prefix by what begins with it, too.
-    /// The least is that in byte order, a held prefix by its own bytes. Where no other unit holds anything it costs no look-up.
-    /// While any prefix is held it costs one for each byte of the key or prefix, and for a prefix what `held_with_prefix` costs.
+    /// The least is that in byte order, a held prefix by its own bytes. Where no other unit holds
+    /// anything it costs no look-up. While any prefix is held it costs one for each byte of the key or
+    /// prefix, and for a prefix what `held_with_prefix` costs.
     pub fn holder_over(&self, resource: &Resource, but_not: Option<UnitId>) -> Option<UnitId>
         ensures value { result ≡ holder_over resource.now but_not self.now }
         ensures free { IfNone result (IsFreeBut self.now resource.now but_not) }
@@ -298,6 +299,12 @@ impl Enqueues {
     pub fn release_all(&mut self, unit: UnitId)
         ensures { self.new ≡ released self.old unit }
     {
+        // Where nobody else holds anything, all goes at once, with no look-up for each key.
+        if owned::is_alone(&self.owned, &Some(unit)) {
+            self.table.clear();
+            self.owned.swap_remove(&unit);
+            return;
+        }
         while let Some(key) = owned::pop(&mut self.owned, unit) {
             self.table.remove(key.as_slice());
         }

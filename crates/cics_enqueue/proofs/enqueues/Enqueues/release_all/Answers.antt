@@ -3,7 +3,9 @@ use Rattle.std.specs.Map.{lookup}
 use Rattle.cics_enqueue.specs.Kept.{table_of, seen, finds, Sets}
 use Rattle.cics_enqueue.specs.Resources.{released, resource_key}
 use Rattle.cics_enqueue.specs.ResourceLaws.{resource_of}
-use Rattle.cics_enqueue.proofs.Tables.{held_by_owner, key_sound, held_here, table_of-removed, released-freed, released-nothing, IsKept-removed, IsKept-ended}
+use Rattle.cics_enqueue.proofs.Seeking.{alone-table_of}
+use Rattle.cics_enqueue.proofs.TableLaws.{released-alone}
+use Rattle.cics_enqueue.proofs.Tables.{held_by_owner, key_sound, held_here, table_of-removed, released-freed, released-nothing, IsKept-removed, IsKept-emptied, IsKept-ended}
 use Rattle.cics_enqueue.proofs.enqueues.Enqueues.release_all.Goals as goal
 
 pub loop-key-preserved : goal.loop-key-preserved
@@ -27,9 +29,19 @@ loop-key-preserved c =
 
 pub invariant_of-self : goal.invariant_of-self
 invariant_of-self c =
-    IsKept-ended c.loop-key.self-inside.table.entries c.loop-key.self-inside.owned.entries c.pop.new.owned.entries c.swap_remove.new.self.entries c.args.unit c.in_default.ensures.none c.in_default.ensures.stays c.swap_remove.ensures.updates.0
+    IsKept-emptied c.clear.new.self.entries c.self.inside.owned.entries c.swap_remove.new.self.entries c.args.unit c.clear.ensures.empty c.if-is_alone.ensures c.swap_remove.ensures.updates.0
+
+pub invariant_of-self-2 : goal.invariant_of-self-2
+invariant_of-self-2 c =
+    IsKept-ended c.loop-key.self-inside.table.entries c.loop-key.self-inside.owned.entries c.pop.new.owned.entries c.swap_remove-2.new.self.entries c.args.unit c.in_default.ensures.none c.in_default.ensures.stays c.swap_remove-2.ensures.updates.0
     c.loop-key.invariant.kept
 
 pub returns : goal.returns
 returns c =
     sym (released-nothing c.loop-key.self-inside.table.entries c.loop-key.self-inside.owned.entries c.args.unit c.loop-key.invariant.kept c.in_default.ensures.none) ∙ c.loop-key.invariant.rest
+
+pub returns-then-is_alone : goal.returns-then-is_alone
+returns-then-is_alone c =
+    let es = c.self.inside.table.entries in
+    rw (← c.self.view_is) (ap table_of c.clear.ensures.empty
+    ∙ sym (released-alone (table_of es) c.args.unit c.self.invariant.in_order (alone-table_of es c.self.inside.owned.entries (Some c.args.unit) c.self.invariant c.if-is_alone.ensures)))
