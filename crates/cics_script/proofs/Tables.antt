@@ -1,5 +1,5 @@
 -- Tables are read as functions of the index.
-use Rattle.std.proofs.Common.{◌≡◌, ◌<◌, ℕ, zero, suc, ◌+◌, ◌==◌, ◌&&◌, Bool, true, false, List, [], ◌∷◌, length, get_or, refl, ap, sym, ◌∙◌, arith, zero-add}
+use Rattle.std.proofs.Common.{◌≡◌, ◌<◌, ℕ, zero, suc, ◌+◌, ◌==◌, ◌&&◌, Bool, true, false, List, [], ◌∷◌, length, get_or, refl, ap, ◌∙◌, arith, zero-add}
 use Rattle.std.proofs.lemmas.Bool.{and_parts}
 use Rattle.cics_names.specs.Ebcdic.{code_of}
 use Rattle.cics_script.specs.Tokens.{is_word_byte}

@@ -1,6 +1,7 @@
 -- Tokens, one further.
-use Rattle.std.proofs.Common.{◌≡◌, ℕ, zero, suc, Bool, true, false, ◌==◌, ◌&&◌, ◌+◌, ◌*◌, ◌≤◌, ◌<◌, ◌^◌, cond, List, [], ◌∷◌, length, drop, refl, arith, ap, sym, ◌∙◌, subst, Option, Some, None, inl, inr, length-drop}
+use Rattle.std.proofs.Common.{◌≡◌, ℕ, zero, suc, Bool, true, false, ◌==◌, ◌&&◌, ◌+◌, ◌*◌, ◌≤◌, ◌<◌, ◌≢◌, ◌^◌, cond, List, [], ◌∷◌, length, map, take, drop, refl, arith, ap, sym, ◌∙◌, subst, Option, Some, None, inl, inr, length-drop}
 use Rattle.std.proofs.lemmas.Bool.{cases_Bool}
+use Rattle.std.proofs.lemmas.Bool.Decides.{nat_tests}
 use Rattle.std.specs.List.{prefix_len}
 use Rattle.std.specs.Prelude.{nat_lt, if◌then◌else◌, IfSome, is_some, option_map, unwrap_or}
 use Rattle.cics_names.specs.Ebcdic.{code_of}
@@ -9,7 +10,7 @@ use Rattle.cics_script.specs.declared.faults.LineFault.TheVariants.{UnknownWord,
 use Rattle.cics_script.specs.declared.literals.Notation.{Notation}
 use Rattle.cics_script.specs.declared.literals.Notation.TheVariants.{Quoted, Hexadecimal}
 use Rattle.cics_script.specs.Literals.{said}
-use Rattle.cics_script.specs.Tokens.{Text, Token, broken, literal, opening, closing, with_byte, with_pair, characters_from, digit_pairs, text_in, hex_value, as_literal}
+use Rattle.cics_script.specs.Tokens.{Text, Token, word, word_at, broken, literal, opening, closing, with_byte, with_pair, characters_from, digit_pairs, text_in, hex_value, as_literal}
 use Rattle.cics_script.specs.Tokens.{as_number, behind_x, hexadecimal_or, plain_at, token_at, tokens_in, tokens, after_blanks, is_quote, is_letter, is_digit, is_word_byte, capital}
 
 some-same : {A : Type 0} (x y : A) → Some y ≡ Some x → x ≡ y
@@ -155,3 +156,18 @@ taken bytes token rest some e =
 
 pub not_taken : (bytes : List ℕ) (fault : LineFault) → 0 < length (after_blanks bytes) → token_at (after_blanks bytes) ≡ (broken fault, []) → tokens bytes ≡ broken fault ∷ []
 not_taken bytes fault some e = (taken bytes (broken fault) [] some e).0
+
+-- a word whose first letter is no X
+token_at-letter : (c : ℕ) (others : List ℕ) → is_letter c ≡ true → (capital c == 88) ≡ false → token_at (c ∷ others) ≡ word_at (c ∷ others)
+token_at-letter c [] letter other = rw letter refl
+token_at-letter c (d ∷ others) letter other = rw (other, letter) refl
+
+pub taken_word : (bytes front w rest : List ℕ) (c : ℕ) (others : List ℕ) (n : ℕ) → front ≡ after_blanks bytes → front ≡ c ∷ others
+    → is_letter c ≡ true → capital c ≢ 88 → n ≡ prefix_len is_word_byte front → w ≡ take n front → rest ≡ drop n front
+    → (tokens bytes ≡ word (map capital w) ∷ tokens rest) × (length rest < length bytes)
+taken_word bytes front w rest c others n here is letter no_x count whole behind =
+    let other : (capital c == 88) ≡ false = grind (arith, nat_tests, no_x) in
+    let read : word_at front ≡ (word (map capital w), rest) = rw (whole, behind, count) refl in
+    let some : 0 < length (after_blanks bytes) = rw (sym here ∙ is) (omega arith) in
+    taken bytes (word (map capital w)) rest some
+    (ap token_at (sym here ∙ is) ∙ token_at-letter c others letter other ∙ ap word_at (sym is) ∙ read)

@@ -16,7 +16,7 @@ ghost use Rattle.cics_script.specs.Lines.{is_script_byte, is_empty_or_comment, l
 use crate::commands::{is_handled, verb_of};
 use crate::faults::LineFault;
 use crate::options::{Found, Options, has_option, read_options};
-use crate::tokens::{Token, next_token, skip_blanks};
+use crate::tokens::{Token, next_token, next_word, skip_blanks};
 use crate::values::{name4_of, name8_of, number_of, text_of};
 use crate::words::{
     CommandWord, DefineObject, Form, LoadObject, OptionWord, Start, capital_of, command_named,
@@ -175,6 +175,10 @@ fn attach_line(label: Name8, found: &[Found<'_>]) -> Result<Line, LineFault>
 fn first_word(bytes: &[u8]) -> Result<(&[u8], &[u8]), LineFault>
     ensures { GivesWord (word_first (tokens bytes.now)) result }
 {
+    // Here stands a word, unless the line has a fault, and few words begin with X.
+    if let Some(found) = next_word(bytes) {
+        return Ok(found);
+    }
     match next_token(bytes) {
         Ok(Some((Token::Word(word), rest))) => Ok((word, rest)),
         Ok(_) => Err(LineFault::UnknownWord),

@@ -1,18 +1,19 @@
 //! Reads the options of a line.
 
-ghost use Rattle.std.specs.Prelude.{◌≡◌, [], Option, Ok, IfOk, map};
+ghost use Rattle.std.specs.Prelude.{◌≡◌, ◌<◌, List, [], ◌∷◌, Option, None, Ok, Err, IfSome};
+ghost use Rattle.std.specs.Prelude.{IfOk, IfErr, map, length};
 ghost use Rattle.std.specs.Result.{result_map_both};
 ghost use Rattle.std.specs.List.{list_any};
 ghost use Rattle.cics_script.specs.Words.{same, excludes, kind_in};
-ghost use Rattle.cics_script.specs.Tokens.{tokens, capital};
+ghost use Rattle.cics_script.specs.Tokens.{tokens, word, capital};
 ghost use Rattle.cics_script.specs.Options.{fault_of, quoted, content_in, surplus, allowed};
-ghost use Rattle.cics_script.specs.Options.{options};
+ghost use Rattle.cics_script.specs.Options.{Entry, reads, at_option, options};
 ghost use Rattle.cics_script.specs.Views.{view, entries, GivesText, GivesContent, GivesEntries};
 ghost use Rattle.cics_script.specs.Views.{Opens, Fills, Shuts, HasValue, Enters, Ends};
 
 use crate::faults::LineFault;
 use crate::literals::{Encoding, Literal, Notation};
-use crate::tokens::{Token, next_token};
+use crate::tokens::{Token, next_token, next_word};
 use crate::words::{
     Form, Kind, OptionWord, is_excluded, is_exclusive, is_same, kind_of, option_named,
 };
@@ -295,8 +296,33 @@ fn read_end(bytes: &[u8]) -> Result<(), LineFault>
     }
 }
 
-/// Reads the options of a line behind its fixed part into `found`, which has none yet: many places
-/// are not moved, as a result would be.
+// The word of the option that stands next and the line behind it, or nothing at the line's end.
+fn option_word(last: Option<Kind>, bytes: &[u8]) -> Result<Option<(&[u8], &[u8])>, LineFault>
+    ensures none { IfOk result (λ found.
+        found ≡ None → tokens bytes.entry.now ≡ []) }
+    ensures some { IfOk result (λ found. IfSome found (λ next.
+        (tokens bytes.entry.now ≡ word (map capital next.0.now) ∷ tokens next.1.now)
+        × (length next.1.now < length bytes.entry.now))) }
+    ensures fault { IfErr result (λ fault. (form : Form) (found : List Entry) →
+        reads form (at_option last) found (tokens bytes.entry.now) ≡ Err fault) }
+{
+    // Here stands a word, unless the line ends or has a fault.
+    if let Some(found) = next_word(bytes) {
+        return Ok(Some(found));
+    }
+    match next_token(bytes) {
+        Ok(None) => Ok(None),
+        Ok(Some((token, rest))) => match token {
+            Token::Word(word) => Ok(Some((word, rest))),
+            Token::Opening | Token::Closing => Err(surplus_fault(last)),
+            Token::Number(_) | Token::Literal(_) => Err(LineFault::UnknownWord),
+        },
+        Err(fault) => Err(fault),
+    }
+}
+
+/// Reads the options of a line behind its fixed part into `found`, which has none yet. They are no
+/// result, which would be moved with all its places.
 pub fn read_options<'a>(
     alloc: Global,
     form: Form,
@@ -310,15 +336,10 @@ pub fn read_options<'a>(
     let mut last = None;
     let mut rest = bytes;
     'options: loop {
-        let (token, behind) = match next_token(rest) {
-            Ok(None) => return Ok(()),
+        let (word, behind) = match option_word(last, rest) {
             Ok(Some(next)) => next,
+            Ok(None) => return Ok(()),
             Err(fault) => return Err(fault),
-        };
-        let word = match token {
-            Token::Word(word) => word,
-            Token::Opening | Token::Closing => return Err(surplus_fault(last)),
-            _ => return Err(LineFault::UnknownWord),
         };
         match read_option(alloc, form, found, word, behind) {
             Ok(next) => {

@@ -1,7 +1,7 @@
 //! The tokens of a line: words, numbers, literals and parentheses.
 
 ghost use Rattle.std.specs.Prelude.{◌≡◌, ◌==◌, ◌+◌, ◌-◌, ◌*◌, ◌<◌, ◌≤◌, ◌^◌, Option, Some, None};
-ghost use Rattle.std.specs.Prelude.{length, nat_lt, if◌then◌else◌, option_map};
+ghost use Rattle.std.specs.Prelude.{Ok, IfSome, length, nat_lt, if◌then◌else◌, option_map};
 ghost use Rattle.std.specs.List.{prefix_len};
 ghost use Rattle.cics_script.specs.Tokens.{is_blank, is_digit, is_letter, is_word_byte};
 ghost use Rattle.cics_script.specs.Tokens.{after_blanks, value_of, text_in, token_at, number_at};
@@ -10,6 +10,7 @@ ghost use Rattle.cics_script.specs.Views.{GivesToken, Takes};
 
 use crate::faults::LineFault;
 use crate::literals::{Literal, Notation, is_quote_byte, literal_at};
+use crate::words::capital_of;
 
 /// A token where it stands in its line.
 #[derive(Clone, Copy, Debug)]
@@ -187,6 +188,20 @@ fn read_token(bytes: &[u8]) -> Result<(Token<'_>, &[u8]), LineFault>
         b')' => Ok((Token::Closing, rest)),
         _ => Err(LineFault::UnknownWord),
     }
+}
+
+/// The next token and the line behind it where it is a word whose first letter is no X, which may
+/// begin a hexadecimal literal. `None` says nothing of the line: then `next_token` tells.
+pub fn next_word(bytes: &[u8]) -> Option<(&[u8], &[u8])>
+    ensures { IfSome result (λ found.
+        Takes bytes.entry.now (Ok (Some (Token.Word found.0, found.1)))) }
+{
+    let front = skip_blanks(bytes);
+    let (first, _) = front.split_first()?;
+    if !is_letter_byte(*first) || capital_of(*first) == b'X' {
+        return None;
+    }
+    Some(front.split_at(word_len(front)))
 }
 
 /// The next token and the line behind it, or nothing at the line's end.

@@ -2,37 +2,37 @@ use Rattle.std.proofs.Common.{arith, rules, ◌<◌, ◌∙◌, refl, sym, ap, l
 use Rattle.std.proofs.lemmas.List.{length-map}
 use Rattle.cics_script.specs.Options.{Entry, reads, at_option, behind_option}
 use Rattle.cics_script.specs.Views.{content, entries}
-use Rattle.cics_script.proofs.OptionSteps.{refuses_behind, first-word, behind_option-open, entries-more, reads-past, ended}
+use Rattle.cics_script.proofs.OptionSteps.{refuses_behind, behind_option-open, entries-more, reads-past, ended}
 use Rattle.cics_script.proofs.OptionRoom.{once-none, once-more, once-room}
 use Rattle.cics_script.proofs.options.read_options.Goals as goal
 
 pub returns-in-Err-read_option : goal.returns-in-Err-read_option
 returns-in-Err-read_option c =
-    let first = first-word c.options.rest.now c.in-Ok-Some.field-0 c.in-Ok-Some.next c.in-Word.word c.in-Ok-Some.ensures c.in-Ok-Some.field-0-is c.in-Word.is in
+    let first = rw c.in-Ok-Some.field-0-is at c.in-Ok-Some.ensures.some in
     refuses_behind _ _ c.in-Err-read_option.fault
     (sym c.options.invariant.read ∙ ap (λ ts. reads c.args.form (at_option c.options.last) (entries c.options.found.items) ts) first.0)
     (rw c.deref.ensures.0 at (c.in-Err-read_option.ensures.reading c.options.last))
 
 pub options-smaller : goal.options-smaller
 options-smaller c =
-    let first = first-word c.options.rest.now c.in-Ok-Some.field-0 c.in-Ok-Some.next c.in-Word.word c.in-Ok-Some.ensures c.in-Ok-Some.field-0-is c.in-Word.is in
+    let first = rw c.in-Ok-Some.field-0-is at c.in-Ok-Some.ensures.some in
     let shorter = (c.in-Ok.ensures.reading c.options.last).1 in
     let goes : length c.in-Ok.next.rest.now < length c.options.rest.now = omega (arith, first.1, shorter) in
     goes
 
 pub options-preserved : goal.options-preserved
 options-preserved c =
-    let first = first-word c.options.rest.now c.in-Ok-Some.field-0 c.in-Ok-Some.next c.in-Word.word c.in-Ok-Some.ensures c.in-Ok-Some.field-0-is c.in-Word.is in
+    let first = rw c.in-Ok-Some.field-0-is at c.in-Ok-Some.ensures.some in
     let step = rw c.deref.ensures.0 at c.in-Ok.ensures.reading c.options.last in
     rw c.push.ensures.items
     record {
-      read = reads-past c.args.form c.options.last c.options.found.items c.options.rest.now _ _ c.in-Ok.next _ _ c.options.invariant.read first.0 step (behind_option-open c.in-Ok.next.kind c.in_default-kind.not-Last);
+      read = reads-past c.args.form c.options.last c.options.found.items c.options.rest.now _ _ c.in-Ok.next _ _ c.options.invariant.read first.0 step (behind_option-open c.in-Ok.next.kind c.in_default.not-Last);
       once = rw entries-more (once-more c.args.form (entries c.options.found.items) c.in-Ok.next.one.option _ c.in-Ok.next.kind c.options.invariant.once (rw c.deref.ensures.0 at c.in-Ok.ensures.allowed));
     }
 
 pub returns-in-Last : goal.returns-in-Last
 returns-in-Last c =
-    let first = first-word c.options.rest.now c.in-Ok-Some.field-0 c.in-Ok-Some.next c.in-Word.word c.in-Ok-Some.ensures c.in-Ok-Some.field-0-is c.in-Word.is in
+    let first = rw c.in-Ok-Some.field-0-is at c.in-Ok-Some.ensures.some in
     let step = rw c.deref.ensures.0 at c.in-Ok.ensures.reading c.options.last in
     ended c.args.form c.in-Ok.next.rest.now _ _ _
     (rw c.push.ensures.items (reads-past c.args.form c.options.last c.options.found.items c.options.rest.now _ _ c.in-Ok.next _ _ c.options.invariant.read first.0 step (ap behind_option c.in-Last.is)))
