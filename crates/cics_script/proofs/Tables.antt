@@ -2,9 +2,10 @@
 use Rattle.std.proofs.Common.{◌≡◌, ◌<◌, ℕ, zero, suc, ◌+◌, ◌==◌, ◌&&◌, Bool, true, false, List, [], ◌∷◌, length, get_or, refl, ap, ◌∙◌, arith, zero-add}
 use Rattle.std.proofs.lemmas.Bool.{and_parts}
 use Rattle.cics_names.specs.Ebcdic.{code_of}
-use Rattle.cics_script.specs.Tokens.{is_word_byte}
+use Rattle.cics_script.specs.Tokens.{is_word_byte, capital}
 use Rattle.cics_script.specs.Literals.{is_plain, ebcdic}
 use Rattle.cics_script.specs.declared.tokens.TheConstants.{IN_WORD}
+use Rattle.cics_script.specs.declared.words.TheConstants.{CAPITALS}
 use Rattle.cics_script.specs.declared.literals.TheConstants.{PLAIN, EBCDIC}
 
 -- whether each entry, from an index on, is read as what a function tells, by a test of when two are one
@@ -58,3 +59,7 @@ eqb-eq a b e = grind (arith, e)
 pub read-EBCDIC : (n : ℕ) → n < 256 → get_or EBCDIC n 0 ≡ ebcdic n
 unfolding tells code_of
 read-EBCDIC n within = table_read (λ b. b) (λ a b. a == b) eqb-eq ebcdic EBCDIC 0 refl n within
+
+pub read-CAPITALS : (n : ℕ) → n < 256 → get_or CAPITALS n 0 ≡ capital n
+unfolding tells
+read-CAPITALS n within = table_read (λ b. b) (λ a b. a == b) eqb-eq capital CAPITALS 0 refl n within
