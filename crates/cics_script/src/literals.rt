@@ -1,8 +1,7 @@
 //! Literals of a line: `'characters'`, with `''` for a quote, and `X'hexadecimal digits'`.
 
-ghost use Rattle.std.specs.Prelude.{◌≡◌, ◌≤◌, ◌++◌, IfOk, IfSome, OnOk, length, option_map};
+ghost use Rattle.std.specs.Prelude.{◌≡◌, ◌≤◌, true, IfOk, IfSome, length, option_map, take};
 ghost use Rattle.std.specs.List.{prefix_len};
-ghost use Rattle.std.specs.Option.{ForSome};
 ghost use Rattle.cics_script.specs.Tokens.{is_quote, hex_value, text_in};
 ghost use Rattle.cics_script.specs.Literals.{Begins, is_plain, said, encoded, encoded_text};
 ghost use Rattle.cics_script.specs.Literals.{recorded, IsWrittenAs};
@@ -23,11 +22,15 @@ pub enum Notation {
 #[derive(Clone, Copy, Debug)]
 pub struct Literal<'a> {
     pub notation: Notation,
+    // Whether each character between the quotes of a quoted literal stands for itself.
+    is_plain: bool,
+    // How many these are. No `Option`, as a literal is moved often and that takes more room.
+    plain_len: usize,
     /// The line behind the literal's first quote, up to the line's end.
     pub behind_quote: &'a [u8],
-    // What stands between the quotes of a quoted literal, where each character stands for itself.
-    plain: Option<&'a [u8]>,
-    ghost as_written: { ForSome plain (λ text. IsWrittenAs notation behind_quote.now text.now) },
+    ghost within: { plain_len ≤ length behind_quote.now },
+    ghost as_written: { is_plain ≡ true →
+        IsWrittenAs notation behind_quote.now (take plain_len behind_quote.now) },
 }
 
 /// In which code a literal's bytes are copied.
@@ -260,25 +263,25 @@ fn quoted_at(behind_quote: &[u8]) -> Option<(Literal<'_>, &[u8])>
         × (found.0.behind_quote.now ≡ behind_quote.now)) }
 {
     let notation = Notation::Quoted;
-    let (text, behind) = behind_quote.split_at(plain_len(behind_quote));
+    let plain_len = plain_len(behind_quote);
+    let (_, behind) = behind_quote.split_at(plain_len);
     match next_character(behind) {
-        Piece::End(rest) => {
-            let plain = Some(text);
-            Some((
-                Literal {
-                    notation,
-                    behind_quote,
-                    plain,
-                },
-                rest,
-            ))
-        }
+        Piece::End(rest) => Some((
+            Literal {
+                notation,
+                is_plain: true,
+                plain_len,
+                behind_quote,
+            },
+            rest,
+        )),
         Piece::Byte(_, after) => match behind_pieces(notation, after) {
             Some(rest) => Some((
                 Literal {
                     notation,
+                    is_plain: false,
+                    plain_len,
                     behind_quote,
-                    plain: None,
                 },
                 rest,
             )),
@@ -300,8 +303,9 @@ fn hexadecimal_at(behind_quote: &[u8]) -> Option<(Literal<'_>, &[u8])>
         Some(rest) => Some((
             Literal {
                 notation,
+                is_plain: false,
+                plain_len: 0,
                 behind_quote,
-                plain: None,
             },
             rest,
         )),
@@ -330,7 +334,11 @@ impl<'a> Literal<'a> {
         ensures { IfSome result (λ text.
             IsWrittenAs self.entry.notation self.entry.behind_quote.now text.now) }
     {
-        self.plain
+        if self.is_plain {
+            Some(self.behind_quote.split_at(self.plain_len).0)
+        } else {
+            None
+        }
     }
 
     /// What the literal says: its characters with `''` once, or the bytes that its digits make.
@@ -339,7 +347,7 @@ impl<'a> Literal<'a> {
             ≡ encoded_text encoding
             (said (text_in self.entry.notation self.entry.behind_quote.now))) }
     {
-        match self.plain {
+        match self.plain() {
             Some(text) => copy_plain(alloc, encoding, text),
             None => copy_pieces(alloc, encoding, self.notation, self.behind_quote),
         }
