@@ -7,106 +7,89 @@
 //!   `drop QUEUE` (DELETEQ TS);
 //! - on transient data `put DEST one` (WRITEQ TD), `get DEST` (READQ TD) and `purge DEST` (DELETEQ TD).
 
-use crate::fixtures::{KEYED, delete, delete_generic, read_update, rewrite, write};
-use crate::scenarios::cut;
+use crate::texts::cut;
 use cics_names::{Name4, Name8, NoMemory, Record};
 use cics_units::Op;
 use std::alloc::Global;
 
+/// The length of the keys: a record begins with its key.
+const KEY_LENGTH: usize = 2;
+
 // The key with which a record begins.
 fn key_of(from: &[u8]) -> &[u8] {
-    if KEYED.fits(from) {
-        KEYED.key_in(from)
-    } else {
-        from
-    }
+    &from[..from.len().min(KEY_LENGTH)]
 }
 
-// A WRITE under a key that doesn't lie in the record.
-fn store(alloc: Global, file: Name8, rest: &str) -> Result<Op, NoMemory> {
-    let (key, from) = cut(rest);
-    write(alloc, file, key.as_bytes(), from.as_bytes())
+/// A WRITE of a record under a key.
+pub(crate) fn write(alloc: Global, file: Name8, key: &[u8], from: &[u8]) -> Result<Op, NoMemory> {
+    Ok(Op::Write {
+        file,
+        key: Record::from_slice(alloc, key)?,
+        from: Record::from_slice(alloc, from)?,
+    })
 }
 
 // The command on a file of a word, if it is one.
-fn on_file(alloc: Global, word: &str, name: &str, rest: &str) -> Result<Option<Op>, NoMemory> {
-    let Ok(file) = Name8::new(name.as_bytes()) else {
-        return Ok(None);
-    };
-    let record = rest.as_bytes();
+fn on_file(alloc: Global, word: &str, file: Name8, rest: &str) -> Result<Option<Op>, NoMemory> {
+    let from = Record::from_slice(alloc, rest.as_bytes())?;
+    let key = Record::from_slice(alloc, key_of(rest.as_bytes()))?;
     Ok(match word {
-        "write" => Some(write(alloc, file, key_of(record), record)?),
-        "rewrite" => Some(rewrite(alloc, file, key_of(record), record)?),
-        "delete" => Some(delete(alloc, file, record)?),
-        "clear" => Some(delete_generic(alloc, file, record)?),
-        "read" => Some(read_update(alloc, file, record)?),
-        "store" => Some(store(alloc, file, rest)?),
+        "write" => Some(Op::Write { file, key, from }),
+        "rewrite" => Some(Op::Rewrite { file, key, from }),
+        "delete" => Some(Op::Delete { file, key: from }),
+        "clear" => Some(Op::DeleteGeneric { file, prefix: from }),
+        "read" => Some(Op::ReadUpdate { file, key: from }),
+        "store" => {
+            let (key, from) = cut(rest);
+            Some(write(alloc, file, key.as_bytes(), from.as_bytes())?)
+        }
         _ => None,
     })
 }
 
-// A new item of a queue in the place of another; None where its number is none.
-fn new_item(alloc: Global, queue: Name8, rest: &str) -> Result<Option<Op>, NoMemory> {
-    let (item, from) = cut(rest);
-    let Ok(item) = item.parse::<u64>() else {
-        return Ok(None);
-    };
-    let from = Record::from_slice(alloc, from.as_bytes())?;
-    Ok(Some(Op::TsRewrite { queue, item, from }))
-}
-
-/// WRITEQ TS of an item behind the others of a queue.
-pub(crate) fn append(alloc: Global, queue: Name8, from: &[u8]) -> Result<Op, NoMemory> {
-    let from = Record::from_slice(alloc, from)?;
-    Ok(Op::TsWrite { queue, from })
-}
-
 // The command on temporary storage of a word, if it is one.
-fn on_temp_storage(
-    alloc: Global,
-    word: &str,
-    name: &str,
-    rest: &str,
-) -> Result<Option<Op>, NoMemory> {
-    let Ok(queue) = Name8::new(name.as_bytes()) else {
-        return Ok(None);
-    };
-    match word {
-        "append" => Ok(Some(append(alloc, queue, rest.as_bytes())?)),
-        "item" => new_item(alloc, queue, rest),
-        "drop" => Ok(Some(Op::TsDelete { queue })),
-        _ => Ok(None),
-    }
+fn on_ts(alloc: Global, word: &str, queue: Name8, rest: &str) -> Result<Option<Op>, NoMemory> {
+    let (item, new) = cut(rest);
+    Ok(match (word, item.parse::<u64>()) {
+        ("append", _) => {
+            let from = Record::from_slice(alloc, rest.as_bytes())?;
+            Some(Op::TsWrite { queue, from })
+        }
+        ("item", Ok(item)) => {
+            let from = Record::from_slice(alloc, new.as_bytes())?;
+            Some(Op::TsRewrite { queue, item, from })
+        }
+        ("drop", _) => Some(Op::TsDelete { queue }),
+        _ => None,
+    })
 }
 
 // The command on transient data of a word, if it is one.
-fn on_trans_data(
-    alloc: Global,
-    word: &str,
-    name: &str,
-    from: &str,
-) -> Result<Option<Op>, NoMemory> {
-    let Ok(queue) = Name4::new(name.as_bytes()) else {
-        return Ok(None);
-    };
+fn on_td(alloc: Global, word: &str, queue: Name4, rest: &str) -> Result<Option<Op>, NoMemory> {
+    let from = Record::from_slice(alloc, rest.as_bytes())?;
     Ok(match word {
-        "put" => Some(Op::TdWrite {
-            queue,
-            from: Record::from_slice(alloc, from.as_bytes())?,
-        }),
+        "put" => Some(Op::TdWrite { queue, from }),
         "get" => Some(Op::TdRead { queue }),
         "purge" => Some(Op::TdDelete { queue }),
         _ => None,
     })
 }
 
-/// The command of a text, if it is one.
+/// The command of a text, if it is one: a word, the name of a file or of a queue, and the rest.
 pub(crate) fn command(alloc: Global, text: &str) -> Result<Option<Op>, NoMemory> {
     let (word, rest) = cut(text);
     let (name, rest) = cut(rest);
+    if matches!(word, "put" | "get" | "purge") {
+        return match Name4::new(name.as_bytes()) {
+            Ok(queue) => on_td(alloc, word, queue, rest),
+            Err(_) => Ok(None),
+        };
+    }
+    let Ok(name) = Name8::new(name.as_bytes()) else {
+        return Ok(None);
+    };
     match word {
-        "append" | "item" | "drop" => on_temp_storage(alloc, word, name, rest),
-        "put" | "get" | "purge" => on_trans_data(alloc, word, name, rest),
+        "append" | "item" | "drop" => on_ts(alloc, word, name, rest),
         _ => on_file(alloc, word, name, rest),
     }
 }

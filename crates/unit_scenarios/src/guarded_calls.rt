@@ -1,4 +1,4 @@
-//! Calls on units for tests: each sees to what its call needs, and tells where that isn't so.
+//! Calls on units: each sees to what its call needs, and tells where that isn't so.
 
 ghost use Rattle.std.specs.Prelude.{◌≡◌, true};
 ghost use Rattle.std.specs.Option.{option_copied};

@@ -1,59 +1,92 @@
-//! Commands that a unit makes many times, each on a record or an item of its own.
+//! Commands that a unit makes many times, each on a record or an item of its own:
+//!
+//! - `0 writes 2000 ACCT`, `0 deletes 2000 ACCT`: as many records of a file are written or deleted; what comes of the line is
+//!   what came of each of them;
+//! - `0 appends 9 RQ`: items that get the numbers from 2 to 9; nothing comes of the line where they do.
 
-use crate::answers::is_told;
-use crate::commands::append;
-use crate::fixtures::{delete, write};
+use crate::commands::{command, write};
 use crate::guarded_calls::execute;
+use crate::looks::unit_of;
+use crate::texts::{counted, cut, told_text};
 use cics_enqueue::UnitId;
-use cics_names::{Name8, NoMemory};
+use cics_names::{Name8, NoMemory, Record};
 use cics_units::{Op, Units};
 use std::alloc::Global;
 
 // A WRITE of the record of this number, or the DELETE of it.
-fn command(alloc: Global, file: Name8, number: u16, is_write: bool) -> Result<Op, NoMemory> {
+fn numbered(alloc: Global, file: Name8, number: u16, is_write: bool) -> Result<Op, NoMemory> {
     let [high, low] = number.to_be_bytes();
     if is_write {
-        write(alloc, file, &[high, low], &[high, low, b'x'])
-    } else {
-        delete(alloc, file, &[high, low])
+        return write(alloc, file, &[high, low], &[high, low, b'x']);
     }
+    let key = Record::from_slice(alloc, &[high, low])?;
+    Ok(Op::Delete { file, key })
 }
 
-/// Writes so many records to a file for a unit, or deletes them, and tells whether each command comes out
-/// as it says.
-pub(crate) fn all_come_out(
+// Writes so many records to a file for a unit, or deletes them, and tells what came of each, or what came of two of them.
+fn each(
     units: &mut Units,
     alloc: Global,
     unit: UnitId,
     file: Name8,
     count: u16,
     is_write: bool,
-    expected: &str,
-) -> Result<bool, NoMemory> {
+) -> Result<String, NoMemory> {
+    let mut told = String::new(alloc);
     for number in 0..count {
-        let op = command(alloc, file, number, is_write)?;
-        if !is_told(&execute(units, Some(unit), &op)?, expected) {
-            return Ok(false);
+        let op = numbered(alloc, file, number, is_write)?;
+        let came = told_text(alloc, &execute(units, Some(unit), &op)?, counted(&op))?;
+        if number > 0 && came.as_str() != told.as_str() {
+            return Ok(format!(in alloc; "{told}, and then {came}")?);
         }
+        told = came;
     }
-    Ok(true)
+    Ok(told)
 }
 
-/// Writes items to a queue for a unit, and tells whether they get the numbers from 2 to this one.
-pub(crate) fn all_are_numbered(
+// Writes items to a queue for a unit, and tells the first that doesn't get its number, from 2 to this one.
+fn appended(
     units: &mut Units,
     alloc: Global,
     unit: UnitId,
-    queue: Name8,
-    last: u64,
-) -> Result<bool, NoMemory> {
-    let op = append(alloc, queue, b"i")?;
-    for number in 2..=last {
+    queue: &str,
+    last: u16,
+) -> Result<String, NoMemory> {
+    let text = format!(in alloc; "append {queue} i")?;
+    let Some(op) = command(alloc, &text)? else {
+        return Ok("no command".to_string(alloc)?);
+    };
+    for number in 2..=u64::from(last) {
         execute(units, Some(unit), &op)?;
         let given = units.trace().last().and_then(|entry| entry.answer.number);
         if given != Some(number) {
-            return Ok(false);
+            return Ok(format!(in alloc; "not {number}")?);
         }
     }
-    Ok(true)
+    Ok(String::new(alloc))
+}
+
+/// Whether a call is one of many commands.
+pub(crate) fn is_of_many(call: &str) -> bool {
+    let (_, text) = cut(call);
+    let (word, _) = cut(text);
+    matches!(word, "writes" | "deletes" | "appends")
+}
+
+/// Makes the many commands of a call, and tells what came of them.
+pub(crate) fn make_many(units: &mut Units, alloc: Global, call: &str) -> Result<String, NoMemory> {
+    let (unit, text) = cut(call);
+    let (word, rest) = cut(text);
+    let (count, name) = cut(rest);
+    let (Some(unit), Ok(count), Ok(file)) = (
+        unit_of(unit),
+        count.parse::<u16>(),
+        Name8::new(name.as_bytes()),
+    ) else {
+        return Ok("no call".to_string(alloc)?);
+    };
+    if word == "appends" {
+        return appended(units, alloc, unit, name, count);
+    }
+    each(units, alloc, unit, file, count, word == "writes")
 }
