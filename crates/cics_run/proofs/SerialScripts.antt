@@ -1,9 +1,7 @@
 -- A worked serial run: what a run of it writes, computed from the bytes of the script.
-use Rattle.std.proofs.Common.{◌≡◌, ◌∷◌, [], refl}
+use Rattle.std.proofs.Common.{◌∷◌, [], refl}
 use Rattle.std.specs.Fmt.{digits}
 use Rattle.cics_names.specs.Ebcdic.{code_of, character_of}
-use Rattle.cics_run.specs.Journal.{line}
-use Rattle.cics_run.specs.Running.{output}
 use Rattle.cics_run.specs.Settling.{turn, settled}
 use Rattle.cics_run.proofs.Scripts.{Writes, listed}
 use lib.Chars.{codes}

@@ -1,5 +1,5 @@
 -- The lines of each unit, one command further.
-use Rattle.std.proofs.Common.{◌≡◌, ℕ, zero, suc, ◌+◌, ◌<◌, Bool, true, false, ◌==◌, ◌&&◌, cond, List, [], ◌∷◌, ◌++◌, length, length-take-le, take, get_or, slice_get, slice_set, nat_eq, is_some, refl, ap, sym, ◌∙◌, arith, append_assoc, append-nil, Option, Some, None, inl, inr}
+use Rattle.std.proofs.Common.{◌≡◌, ℕ, zero, suc, ◌+◌, ◌<◌, Bool, true, false, ◌==◌, ◌&&◌, cond, List, [], ◌∷◌, ◌++◌, length, length-take-le, take, get_or, slice_get, slice_set, nat_eq, is_some, refl, ap, sym, ◌∙◌, arith, append_assoc, append-nil, Some, None, inl, inr}
 use Rattle.std.specs.Prelude.{if◌then◌else◌, codes}
 use Rattle.std.specs.Global.{Vec}
 use Rattle.std.specs.List.{flat_map, filter}

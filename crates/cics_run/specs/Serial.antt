@@ -1,6 +1,6 @@
 -- The serial run: a script in which the units of work that committed come one after the other, in the order of their commits,
 -- with what each did to recoverable files and queues, and behind them the units that are open.
-use Rattle.std.specs.Prelude.{ℕ, ◌+◌, Bool, false, true, Option, None, Some, List, [], ◌∷◌, ◌++◌, codes}
+use Rattle.std.specs.Prelude.{ℕ, ◌+◌, false, true, None, Some, List, [], ◌∷◌, ◌++◌, codes}
 use Rattle.std.specs.List.{flat_map}
 use Rattle.std.specs.Fmt.{decimal}
 use Rattle.cics_names.specs.Keyed.{Bytes}

@@ -2,7 +2,7 @@
 
 ghost use Rattle.std.specs.Prelude.{◌≡◌, true, [], ◌++◌, ◌+◌, ◌<◌, ◌≤◌, ◌^◌, length, if◌then◌else◌};
 ghost use Rattle.std.specs.Prelude.{IfOk, OnOk, OnErr};
-ghost use Rattle.std.specs.List.{prefix_len};
+ghost use Rattle.std.specs.List.{prefix_len, list_all};
 ghost use Rattle.std.specs.Io.BufRead.{strip_last};
 ghost use Rattle.cics_run.specs.Lines.{is_in_line};
 ghost use Rattle.cics_run.specs.Stages.{step, first_stage, listing_at, replay_at, serial_at};
@@ -48,12 +48,41 @@ fn without_cr(line: &[u8]) -> &[u8]
     }
 }
 
+// Whether bytes have no LF. Each is looked at, also behind an LF: so many are looked at at once.
+fn are_in_line(bytes: &[u8]) -> bool
+    ensures { result ≡ list_all is_in_line bytes.now }
+{
+    let mut all = true;
+    for byte in bytes {
+        all &= *byte != LF;
+    }
+    all
+}
+
+// The same as `line_len`, byte by byte.
+fn short_line_len(bytes: &[u8]) -> usize
+    ensures value { result ≡ prefix_len is_in_line bytes.now }
+    ensures within { result ≤ length bytes.now }
+{
+    bytes.iter().take_while(|byte| **byte != LF).count()
+}
+
 // How many bytes stand before the first LF, or before the end where there is none.
 fn line_len(bytes: &[u8]) -> usize
     ensures value { result ≡ prefix_len is_in_line bytes.now }
     ensures within { result ≤ length bytes.now }
 {
-    bytes.iter().take_while(|byte| **byte != LF).count()
+    let mut passed = 0;
+    let mut rest = bytes;
+    'blocks: loop {
+        match rest.split_first_chunk::<16>() {
+            Some((block, behind)) if are_in_line(block) => {
+                passed += 16;
+                rest = behind;
+            }
+            _ => return passed + short_line_len(rest),
+        }
+    }
 }
 
 // Runs a line and prints what comes of it, and tells whether that is a fault. A fault is written
