@@ -137,9 +137,9 @@ impl Enqueues {
     /// any of it: then `but_not` may take the resource.
     ///
     /// A key of a file is overlapped by itself and by each prefix of it that is held, a prefix by what begins with it, too.
-    /// The least is that in byte order, a held prefix by its own bytes. Where no other unit holds
-    /// anything it costs no look-up. While any prefix is held it costs one for each byte of the key or
-    /// prefix, and for a prefix what `held_with_prefix` costs.
+    /// The least is that in byte order, a held prefix by its own bytes. Where no other unit that is
+    /// open has taken anything it costs no look-up. While any prefix is held it costs one for each byte
+    /// of the key or prefix, and for a prefix what `held_with_prefix` costs.
     pub fn holder_over(&self, resource: &Resource, but_not: Option<UnitId>) -> Option<UnitId>
         ensures value { result ≡ holder_over resource.now but_not self.now }
         ensures free { IfNone result (IsFreeBut self.now resource.now but_not) }

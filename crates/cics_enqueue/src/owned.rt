@@ -15,7 +15,8 @@ use indexmap::IndexMap;
 use std::alloc::Global;
 use std::collections::BTreeSet;
 
-// Whether no unit but the asker has any keys. It costs the same whatever they have.
+// True only where no unit but the asker has any keys; false says nothing, as a unit that gave all its
+// keys back stands here until it ends. It costs the same whatever the units have.
 pub(crate) fn is_alone(owned: &IndexMap<UnitId, BTreeSet<Vec<u8>>>, asker: &Option<UnitId>) -> bool
     ensures { OnTrue result ((u : ℕ) (k : Vec ℕ) →
         is_other asker.now u ≡ true → owns owned.now.entries u k ≡ false) }

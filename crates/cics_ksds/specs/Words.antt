@@ -7,6 +7,6 @@ abbrev pub number : ℕ → List ℕ → ℕ
 number high [] = high
 number high (byte ∷ bytes) = number (high * 256 + byte) bytes
 
--- the first so many of them are bytes
+-- the first so many of these numbers are bytes
 abbrev pub AreBytes : ℕ → List ℕ → Type 0
 AreBytes count bytes = (i : ℕ) → i < count → slice_index bytes i < 256

@@ -22,7 +22,8 @@ fn word_of(key: &[u8]) -> u64
 
 /// The order of two keys: that of the first bytes that differ, unsigned, or else of their lengths.
 ///
-/// The first eight bytes of each are compared as one number, which has the order of the bytes.
+/// Where both have eight bytes the first eight are compared as one number, which has the order of
+/// the bytes.
 pub(crate) fn order_of(left: &[u8], right: &[u8]) -> Ordering
     ensures { result ≡ bytes_cmp left.now right.now }
 {

@@ -48,7 +48,7 @@ fn without_cr(line: &[u8]) -> &[u8]
     }
 }
 
-// Whether bytes have no LF. Each is looked at, also behind an LF: so many are looked at at once.
+// Whether bytes have no LF. The loop doesn't stop at one, so that the bytes are compared together.
 fn are_in_line(bytes: &[u8]) -> bool
     ensures { result ≡ list_all is_in_line bytes.now }
 {
@@ -128,8 +128,9 @@ impl Session {
         }
     }
 
-    /// Writes all that was printed and not yet written, and keeps none of it. `Stop::WriteFault` is
-    /// the writer's refusal: a front of the text has then been written.
+    /// Writes all that was printed and not yet written, and keeps none of it where all is written.
+    /// `Stop::WriteFault` comes where the writer fails or takes no byte: a front of the text has then
+    /// been written.
     pub fn write<W: Write>(&mut self, writer: &mut W) -> Result<(), Stop>
         ensures { WhereverStands (W.contents writer.old) self.old (λ bytes before.
             Writes bytes before (W.contents writer.new) self.new result) }

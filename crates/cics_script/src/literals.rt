@@ -24,7 +24,8 @@ pub struct Literal<'a> {
     pub notation: Notation,
     // Whether each character between the quotes of a quoted literal stands for itself.
     is_plain: bool,
-    // How many these are. No `Option`, as a literal is moved often and that takes more room.
+    // How many characters in front stand for themselves; 0 of a hexadecimal literal. No `Option`, as
+    // a literal is moved often and that takes more room.
     plain_len: usize,
     /// The line behind the literal's first quote, up to the line's end.
     pub behind_quote: &'a [u8],

@@ -321,8 +321,8 @@ fn option_word(last: Option<Kind>, bytes: &[u8]) -> Result<Option<(&[u8], &[u8])
     }
 }
 
-/// Reads the options of a line behind its fixed part into `found`, which has none yet. They are no
-/// result, which would be moved with all its places.
+/// Reads the options of a line behind its fixed part into `found`, which has none yet; at a fault it
+/// has those that were read before. They are no result, which would be moved with all its places.
 pub fn read_options<'a>(
     alloc: Global,
     form: Form,
