@@ -1,11 +1,12 @@
 //! Commands of units as texts:
 //!
-//! - on files `write ACCT k1 one`, `rewrite ACCT k1 one`, `delete ACCT k1`, `read ACCT k1` (READ UPDATE)
-//!   and `clear ACCT k` (DELETE GENERIC); a record's key is the 2 bytes with which it begins, but that
-//!   of `store LOG k3 one` is a word of its own, which doesn't lie in the record;
-//! - on temporary storage `append QUEUE one` (WRITEQ TS), `item QUEUE 2 two` (WRITEQ TS REWRITE) and
-//!   `drop QUEUE` (DELETEQ TS);
-//! - on transient data `put DEST one` (WRITEQ TD), `get DEST` (READQ TD) and `purge DEST` (DELETEQ TD).
+//! - on files `write ACCT k1 one`, `rewrite ACCT k1 one`, `delete ACCT k1`, `read ACCT k1` (READ
+//!   UPDATE) and `clear ACCT k` (DELETE GENERIC); a record's key is the 2 bytes with which it
+//!   begins, but that of `store LOG k3 one` is a word of its own, which doesn't lie in the record;
+//! - on temporary storage `append QUEUE one` (WRITEQ TS), `item QUEUE 2 two` (WRITEQ TS REWRITE)
+//!   and `drop QUEUE` (DELETEQ TS);
+//! - on transient data `put DEST one` (WRITEQ TD), `get DEST` (READQ TD) and `purge DEST` (DELETEQ
+//!   TD).
 
 use crate::texts::cut;
 use cics_names::{Name4, Name8, NoMemory, Record};
@@ -59,7 +60,7 @@ fn on_ts(alloc: Global, word: &str, queue: Name8, rest: &str) -> Result<Option<O
             let from = Record::from_slice(alloc, new.as_bytes())?;
             Some(Op::TsRewrite { queue, item, from })
         }
-        ("drop", _) => Some(Op::TsDelete { queue }),
+        ("drop", _) if rest.is_empty() => Some(Op::TsDelete { queue }),
         _ => None,
     })
 }
@@ -69,8 +70,8 @@ fn on_td(alloc: Global, word: &str, queue: Name4, rest: &str) -> Result<Option<O
     let from = Record::from_slice(alloc, rest.as_bytes())?;
     Ok(match word {
         "put" => Some(Op::TdWrite { queue, from }),
-        "get" => Some(Op::TdRead { queue }),
-        "purge" => Some(Op::TdDelete { queue }),
+        "get" if rest.is_empty() => Some(Op::TdRead { queue }),
+        "purge" if rest.is_empty() => Some(Op::TdDelete { queue }),
         _ => None,
     })
 }
