@@ -27,9 +27,15 @@ pub(crate) enum Told {
     Waits(u64),
     /// What answers nothing was done.
     Done,
+    /// The file isn't defined, and nothing was done.
+    NoFile,
     /// The call may not be made here, and wasn't.
     MayNot,
 }
+
+/// That a call may not be made here.
+#[derive(Drop)]
+pub(crate) struct MayNot;
 
 /// Whether a unit has begun and not ended.
 pub(crate) fn is_open(units: &Units, unit: UnitId) -> bool
@@ -150,15 +156,20 @@ pub(crate) fn execute(units: &mut Units, unit: Option<UnitId>, op: &Op) -> Resul
     })
 }
 
-/// The unit that a command of a unit, or of the next one to begin, has to wait for.
-pub(crate) fn awaited(units: &Units, unit: Option<UnitId>, op: &Op) -> Option<UnitId> {
+/// The unit that a command of a unit, or of the next one to begin, has to wait for; an Err where it
+/// may not be executed.
+pub(crate) fn awaited(
+    units: &Units,
+    unit: Option<UnitId>,
+    op: &Op,
+) -> Result<Option<UnitId>, MayNot> {
     // A copy for each call that the unit is handed to.
     let open = unit;
     let ready = unit;
     if !is_open_or_none(units, open) || !is_ready(units, ready, op) {
-        return None;
+        return Err(MayNot);
     }
-    units.awaited(unit, op)
+    Ok(units.awaited(unit, op))
 }
 
 /// Enqueues on a value where that may be done, and tells what came of it.
@@ -182,8 +193,11 @@ pub(crate) fn deq(units: &mut Units, unit: UnitId, value: &[u8]) -> Told {
     Told::Done
 }
 
-/// Unlocks a file for a unit, where the unit is open.
+/// Unlocks a file for a unit, where the file is defined and the unit is open.
 pub(crate) fn unlock(units: &mut Units, unit: UnitId, file: &Name8) -> Told {
+    if !is_defined(units, file) {
+        return Told::NoFile;
+    }
     if !is_open(units, unit) {
         return Told::MayNot;
     }
@@ -213,10 +227,16 @@ pub(crate) fn outcome(units: &Units, unit: UnitId) -> Option<UnitState> {
     }
 }
 
-/// The unit that an ENQ of a value has to wait for.
-pub(crate) fn value_holder(units: &Units, unit: Option<UnitId>, value: &[u8]) -> Option<UnitId> {
-    if value.len() > 255 {
-        return None;
+/// The unit that an ENQ of a value has to wait for; an Err where it may not be made.
+pub(crate) fn value_holder(
+    units: &Units,
+    unit: Option<UnitId>,
+    value: &[u8],
+) -> Result<Option<UnitId>, MayNot> {
+    // A copy for each call that the unit is handed to.
+    let open = unit;
+    if value.len() > 255 || !is_open_or_none(units, open) {
+        return Err(MayNot);
     }
-    units.value_holder(unit, value)
+    Ok(units.value_holder(unit, value))
 }

@@ -2,24 +2,25 @@
 //!
 //! - `file ACCT`, `loaded ACCT`: the records of a file as it stands, and as it was loaded, with a
 //!   stroke between them; `empty` without a record, and `none` without a file;
-//! - `definition ACCT`: the length of a file's keys, where they begin, the size of its records and whether it is
-//!   recoverable; `record ACCT k1`: the record under a key; `intervals ACCT`: how many control intervals it has;
-//! - `ts QUEUE`: `recoverable` or `plain` and the items of a temporary storage queue, a stroke between them,
-//!   or `none`; `place QUEUE`: its NEXT place;
-//! - `td DEST`: `logical`, `physical` or `none` and the records of a transient data queue, a stroke between
-//!   them, or `no` where none is defined; `recovery DEST`: the first word of these alone;
-//! - `listing`: all files and queues; `files`: how many files there are; `prefixes`: the prefixes of recoverable temporary
-//!   storage queues;
+//! - `definition ACCT`: the length of a file's keys, where they begin, the size of its records and
+//!   whether it is recoverable; `record ACCT k1`: the record under a key; `intervals ACCT`: how
+//!   many control intervals it has;
+//! - `ts QUEUE`: `recoverable` or `plain` and the items of a temporary storage queue, a stroke
+//!   between them, or `none`; `place QUEUE`: its NEXT place;
+//! - `td DEST`: `logical`, `physical` or `none` and the records of a transient data queue, a stroke
+//!   between them, or `no` where none is defined; `recovery DEST`: the first word of these alone;
+//! - `listing`: all files and queues; `files`: how many files there are; `prefixes`: the prefixes
+//!   of recoverable temporary storage queues;
 //! - `read 0 ACCT`: the key of the record that a unit has read for update in a file, or `none`;
-//! - `awaited - delete ACCT k1`: the unit that a command of this unit, or of the next one to begin, would
-//!   have to wait for, or `none`; `value 0 A`: the unit that an ENQ would have to wait for;
+//! - `awaited - delete ACCT k1`: the unit that a command of this unit, or of the next one to begin,
+//!   would have to wait for, or `none`; `value 0 A`: the unit that an ENQ would have to wait for;
 //! - `outcome 0`: how a unit stands, or `none` where it has yet to begin;
 //! - `entry 0`: what an executed command was answered;
-//! - `entries`, `units`: how many commands were executed, and how many units have begun; `commits`: the units that have
-//!   committed, in the order of their commits.
+//! - `entries`, `units`: how many commands were executed, and how many units have begun; `commits`:
+//!   the units that have committed, in the order of their commits.
 
 use crate::commands::command;
-use crate::guarded_calls::{awaited, outcome, read_key, value_holder};
+use crate::guarded_calls::{MayNot, awaited, outcome, read_key, value_holder};
 use crate::texts::{
     cut, entry_text, listing_text, push_bytes, push_name, push_records, push_stored,
     recoverable_word, recovery_word,
@@ -30,10 +31,14 @@ use cics_names::{Items, Name4, Name8, NoMemory, Record};
 use cics_units::{Listing, UnitState, Units, plain_replay};
 use std::alloc::Global;
 use std::fmt::Write;
+use std::num::ParseIntError;
 
-/// The unit of a number; None for a text that is no number.
-pub(crate) fn unit_of(text: &str) -> Option<UnitId> {
-    text.parse::<u64>().ok().map(UnitId::new)
+/// The unit of a text: that of a number, and none of `-`; an Err for any other text.
+pub(crate) fn unit_of(text: &str) -> Result<Option<UnitId>, ParseIntError> {
+    match text {
+        "-" => Ok(None),
+        _ => Ok(Some(UnitId::new(text.parse::<u64>()?))),
+    }
 }
 
 // Puts the records of a file at the end, as far as they are there.
@@ -85,12 +90,13 @@ fn push_file_look(text: &mut String, file: &File, word: &str, key: &str) -> Resu
             write!(text, "{} ", definition.record_size)?;
             Ok(text.push_str(recoverable_word(definition.recoverable))?)
         }
-        _ => {
+        "record" => {
             match file.read(key.as_bytes()) {
                 Some(record) => push_bytes(text, record.bytes()),
                 None => Ok(text.push_str("none")?),
             }
         }
+        _ => Ok(text.push_str("no look")?),
     }
 }
 
@@ -143,6 +149,14 @@ fn push_unit(text: &mut String, unit: Option<UnitId>) -> Result<(), NoMemory> {
     }
 }
 
+// Puts the unit that a call would have to wait for at the end, or that the call may not be made.
+fn push_holder(text: &mut String, holder: Result<Option<UnitId>, MayNot>) -> Result<(), NoMemory> {
+    match holder {
+        Ok(holder) => push_unit(text, holder),
+        Err(MayNot) => Ok(text.push_str("no")?),
+    }
+}
+
 // How a unit stands, as a text.
 fn outcome_text(outcome: Option<UnitState>) -> &'static str {
     match outcome {
@@ -176,18 +190,18 @@ fn push_unit_look(
     match (word, unit) {
         ("awaited", _) => {
             match command(alloc, rest)? {
-                Some(op) => push_unit(text, awaited(units, unit, &op)),
+                Some(op) => push_holder(text, awaited(units, unit, &op)),
                 None => Ok(text.push_str("no command")?),
             }
         }
-        ("value", _) => push_unit(text, value_holder(units, unit, rest.as_bytes())),
+        ("value", _) => push_holder(text, value_holder(units, unit, rest.as_bytes())),
         ("read", Some(unit)) => push_read(text, units, unit, rest),
         ("outcome", Some(unit)) => Ok(text.push_str(outcome_text(outcome(units, unit)))?),
         _ => Ok(text.push_str("no unit")?),
     }
 }
 
-// Puts prefixes or units at the end, with a blank between them.
+// Puts prefixes at the end, with a blank between them.
 fn push_prefixes(text: &mut String, prefixes: &[Name8]) -> Result<(), NoMemory> {
     for prefix in prefixes {
         if !text.is_empty() {
@@ -221,11 +235,28 @@ fn entry_at(alloc: Global, units: &Units, place: &str) -> Result<String, NoMemor
     }
 }
 
-/// What a look at the units shows.
+// Whether there is a look of this word with so much behind it, of which `key` is what stands behind
+// the first word.
+fn is_look(word: &str, rest: &str, key: &str) -> bool {
+    match word {
+        "listing" | "files" | "entries" | "units" | "commits" | "prefixes" => rest.is_empty(),
+        "file" | "loaded" | "definition" | "intervals" | "ts" | "place" => key.is_empty(),
+        "td" | "recovery" | "outcome" | "entry" => key.is_empty(),
+        "read" => !key.contains(' '),
+        "record" | "awaited" | "value" => true,
+        _ => false,
+    }
+}
+
+/// What a look at the units shows; `no look` where its word is none, or more stands behind it than
+/// belongs there.
 pub(crate) fn look(alloc: Global, units: &Units, look: &str) -> Result<String, NoMemory> {
     let (word, rest) = cut(look);
     let (name, key) = cut(rest);
     let mut text = String::new(alloc);
+    if !is_look(word, rest, key) {
+        return Ok("no look".to_string(alloc)?);
+    }
     match word {
         "listing" => return listing_text(alloc, &units.listing()?),
         "entry" => return entry_at(alloc, units, rest),
@@ -236,7 +267,10 @@ pub(crate) fn look(alloc: Global, units: &Units, look: &str) -> Result<String, N
         "prefixes" => push_prefixes(&mut text, units.opening().prefixes())?,
         "td" | "recovery" => push_name4_look(&mut text, units, word, name)?,
         "awaited" | "value" | "read" | "outcome" => {
-            push_unit_look(&mut text, units, alloc, word, unit_of(name), key)?;
+            match unit_of(name) {
+                Ok(unit) => push_unit_look(&mut text, units, alloc, word, unit, key)?,
+                Err(_) => text.push_str("no unit")?,
+            }
         }
         _ => push_name8_look(&mut text, units, alloc, word, name, key)?,
     }

@@ -1,12 +1,12 @@
 //! Commands that a unit makes many times, each on a record or an item of its own:
 //!
-//! - `0 writes 2000 ACCT`, `0 deletes 2000 ACCT`: as many records of a file are written or deleted; what comes of the line is
-//!   what came of each of them;
-//! - `0 appends 9 RQ`: items that get the numbers from 2 to 9; nothing comes of the line where they do.
+//! - `0 writes 2000 ACCT`, `0 deletes 2000 ACCT`: as many records of a file are written or deleted;
+//!   what comes of the line is what came of each of them;
+//! - `0 appends 9 RQ`: items that get the numbers from 2 to 9; nothing comes of the line where they
+//!   do.
 
 use crate::commands::{command, write};
 use crate::guarded_calls::execute;
-use crate::looks::unit_of;
 use crate::texts::{counted, cut, told_text};
 use cics_enqueue::UnitId;
 use cics_names::{Name8, NoMemory, Record};
@@ -23,7 +23,8 @@ fn numbered(alloc: Global, file: Name8, number: u16, is_write: bool) -> Result<O
     Ok(Op::Delete { file, key })
 }
 
-// Writes so many records to a file for a unit, or deletes them, and tells what came of each, or what came of two of them.
+// Writes so many records to a file for a unit, or deletes them, and tells what came of each, or
+// what came of two of them.
 fn each(
     units: &mut Units,
     alloc: Global,
@@ -44,7 +45,8 @@ fn each(
     Ok(told)
 }
 
-// Writes items to a queue for a unit, and tells the first that doesn't get its number, from 2 to this one.
+// Writes items to a queue for a unit, and tells the first that doesn't get its number, from 2 to
+// this one.
 fn appended(
     units: &mut Units,
     alloc: Global,
@@ -66,25 +68,34 @@ fn appended(
     Ok(String::new(alloc))
 }
 
-/// Whether a call is one of many commands.
-pub(crate) fn is_of_many(call: &str) -> bool {
-    let (_, text) = cut(call);
-    let (word, _) = cut(text);
+/// Whether a word is that of many commands.
+pub(crate) fn is_of_many(word: &str) -> bool {
     matches!(word, "writes" | "deletes" | "appends")
 }
 
-/// Makes the many commands of a call, and tells what came of them.
-pub(crate) fn make_many(units: &mut Units, alloc: Global, call: &str) -> Result<String, NoMemory> {
-    let (unit, text) = cut(call);
-    let (word, rest) = cut(text);
+/// Makes the many commands of a word for a unit, and tells what came of them; `no number` where
+/// they would be none.
+pub(crate) fn make_many(
+    units: &mut Units,
+    alloc: Global,
+    unit: Option<UnitId>,
+    word: &str,
+    rest: &str,
+) -> Result<String, NoMemory> {
     let (count, name) = cut(rest);
-    let (Some(unit), Ok(count), Ok(file)) = (
-        unit_of(unit),
+    let (Some(unit), Ok(count), Ok(file), false) = (
+        unit,
         count.parse::<u16>(),
         Name8::new(name.as_bytes()),
+        name.contains(' '),
     ) else {
         return Ok("no call".to_string(alloc)?);
     };
+    // The items of `appends` are numbered from 2 on.
+    let least = if word == "appends" { 2 } else { 1 };
+    if count < least {
+        return Ok("no number".to_string(alloc)?);
+    }
     if word == "appends" {
         return appended(units, alloc, unit, name, count);
     }

@@ -1,10 +1,10 @@
 //! Definitions and loads as texts:
 //!
-//! - `define ACCT 4 2 10` a recoverable file, by the length of the key, where it begins and the size of a
-//!   record, `plain LOG 4 2 10` one that isn't, `load ACCT xx0001` a record of it;
+//! - `define ACCT 4 2 10` a recoverable file, by the length of the key, where it begins and the
+//!   size of a record, `plain LOG 4 2 10` one that isn't, `load ACCT xx0001` a record of it;
 //! - `prefix PAY` a prefix of recoverable temporary storage queues;
-//! - `queue PAYQ logical` a transient data queue, which may be `physical` or `none` too, `put PAYQ one` a
-//!   record of it, `fill PAYQ 32767` one of so many bytes.
+//! - `queue PAYQ logical` a transient data queue, which may be `physical` or `none` too, `put PAYQ
+//!   one` a record of it, `fill PAYQ 32767` one of so many bytes.
 //!
 //! What comes of one is nothing, or its fault: `duplicate`, `bad length`, `bad key` or `not there`.
 
@@ -70,7 +70,7 @@ fn make_by_name8(
     Ok(match (word, file) {
         ("define" | "plain", Some(file)) => Some(opening.define_file(name, file)),
         ("load", _) => Some(opening.load_file(name, record(alloc, rest, false)?)),
-        ("prefix", _) => Some(opening.define_ts_prefix(name)),
+        ("prefix", _) if rest.is_empty() => Some(opening.define_ts_prefix(name)),
         _ => None,
     })
 }

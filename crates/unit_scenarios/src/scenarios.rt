@@ -1,22 +1,26 @@
 //! Scenarios of units, as texts of a line for each call, with what is to come of it:
 //!
-//! - `# what it shows` is its heading. Where that begins with one `#`, it opens with what the first text defines; where it
-//!   begins with two, with nothing. Lines behind it that begin with `#` are read by people.
-//! - `+ load ACCT k1 old`: a definition or a load (`openings`), with its fault behind an equals sign if it has one. The units
-//!   start behind the last of these.
-//! - `- write ACCT k1 one = NORMAL 0`: a command (`commands`) of the unit with this number, or of the next
-//!   one to begin (`-`), and what comes of it (`texts`). A call that is answered nothing stands alone, as
-//!   `0 commit`, `0 backout`, `0 unlock ACCT` and `0 deq A`.
-//! - `- next QUEUE = NORMAL ITEM 1 DATA one`, `- readitem QUEUE 2 = ITEMERR`: READQ TS, which is of no unit.
+//! - `# what it shows` is its heading. Where that begins with one `#`, it opens with the first
+//!   text; where it begins with two, with nothing. Lines behind it that begin with `#` are read by
+//!   people.
+//! - `+ load ACCT k1 old`: a definition or a load (`openings`), with its fault behind an equals
+//!   sign if it has one. The units start behind the last of these.
+//! - `- write ACCT k1 one = NORMAL 0`: a command (`commands`) of the unit with this number, or of
+//!   the next one to begin (`-`), and what comes of it (`texts`). A call that is answered nothing
+//!   stands alone, as `0 commit`, `0 backout`, `0 unlock ACCT` and `0 deq A`.
+//! - `- next QUEUE = NORMAL ITEM 1 DATA one`, `- readitem QUEUE 2 = ITEMERR`: READQ TS, which is of
+//!   no unit.
 //! - `9 times 0 enq A = taken 0`: a call that is made so often, with the same answer each time.
 //! - `0 writes 2000 ACCT = NORMAL 0` and the like: many commands (`many`).
 //! - `? file ACCT = k1 one|k2 two`: a look at the units, and what they show (`looks`).
-//! - `> 0 append PAY one`: a command that is executed by nobody, and stands in a trace of its own; `? replayed open backed-out
-//!   = listing`: what the plain replay of that trace lists where the units ended so.
-//! - `or`: what follows, up to the next such line, is played behind the lines before the first of them, from the beginning.
+//! - `> 0 append PAY one`: a command that is executed by nobody, and stands in a trace of its own;
+//!   `? replayed open backed-out = listing`: what the plain replay of that trace lists where the
+//!   units ended so.
+//! - `or`: what follows, up to the next such line, is played behind the lines before the first of
+//!   them, from the beginning. Each part has a line that isn't read by people alone.
 //!
-//! What a command is answered stands in the newest entry of the trace too, and after each line what the
-//! files and queues list is held against the plain replay of what was executed.
+//! What a command is answered stands in the newest entry of the trace too, and after each line what
+//! the files and queues list is held against the plain replay of what was executed.
 
 use crate::commands::command;
 use crate::guarded_calls::{Told, deq, end, enq, execute, unlock};
@@ -39,15 +43,18 @@ pub(crate) struct Wrong<'a> {
     pub(crate) came: String,
 }
 
-// READQ TS of the item behind the one that was read last, or with its number behind the queue; None for a
-// text that names no queue.
+// READQ TS of the item behind the one that was read last, or with its number behind the queue; None
+// for a text that names no queue, or has more or less behind it.
 fn read_ts(units: &mut Units, is_next: bool, rest: &str) -> Result<Option<Told>, NoMemory> {
     let (queue, item) = cut(rest);
-    let item = item.parse::<u64>().ok();
+    let number = item.parse::<u64>().ok();
+    let is_whole = if is_next {
+        item.is_empty()
+    } else {
+        number.is_some()
+    };
     match Name8::new(queue.as_bytes()) {
-        Ok(queue) if is_next == item.is_none() => Ok(Some(Told::Read(units.read_ts(
-            &queue, item,
-        )?))),
+        Ok(queue) if is_whole => Ok(Some(Told::Read(units.read_ts(&queue, number)?))),
         _ => Ok(None),
     }
 }
@@ -62,15 +69,16 @@ fn make(
     Ok(match (word, unit, Name8::new(rest.as_bytes())) {
         ("enq", _, _) => Some(enq(units, unit, rest.as_bytes())?),
         ("deq", Some(unit), _) => Some(deq(units, unit, rest.as_bytes())),
-        ("commit", Some(unit), _) => Some(end(units, unit, true)),
-        ("backout", Some(unit), _) => Some(end(units, unit, false)),
+        ("commit", Some(unit), _) if rest.is_empty() => Some(end(units, unit, true)),
+        ("backout", Some(unit), _) if rest.is_empty() => Some(end(units, unit, false)),
         ("unlock", Some(unit), Ok(file)) => Some(unlock(units, unit, &file)),
-        ("next" | "readitem", _, _) => read_ts(units, word == "next", rest)?,
+        ("next" | "readitem", None, _) => read_ts(units, word == "next", rest)?,
         _ => None,
     })
 }
 
-// Puts at the end what the newest entry has, where that isn't what came of a command that was executed.
+// Puts at the end what the newest entry has, where that isn't what came of a command that was
+// executed.
 fn push_entered(text: &mut String, alloc: Global, units: &Units) -> Result<(), NoMemory> {
     let Some(newest) = units.trace().last() else {
         return Ok(text.push_str(", and no entry")?);
@@ -103,14 +111,17 @@ fn execute_text(
 
 // Makes the call of a line, and tells what came of it.
 fn came_of_call(units: &mut Units, alloc: Global, call: &str) -> Result<String, NoMemory> {
-    if is_of_many(call) {
-        return make_many(units, alloc, call);
-    }
     let (unit, text) = cut(call);
+    let Ok(unit) = unit_of(unit) else {
+        return Ok("no unit".to_string(alloc)?);
+    };
     let (word, rest) = cut(text);
-    match make(units, unit_of(unit), word, rest)? {
+    if is_of_many(word) {
+        return make_many(units, alloc, unit, word, rest);
+    }
+    match make(units, unit, word, rest)? {
         Some(told) => told_text(alloc, &told, "ITEM"),
-        None => execute_text(units, alloc, unit_of(unit), text),
+        None => execute_text(units, alloc, unit, text),
     }
 }
 
@@ -146,6 +157,7 @@ impl Stage {
         match cut(line) {
             ("?", text) => self.look(alloc, text),
             (">", text) => self.enter(alloc, text),
+            _ if line.starts_with("+") => Ok("no definition".to_string(alloc)?),
             _ => came_of_call(&mut self.units, alloc, line),
         }
     }
@@ -158,13 +170,14 @@ impl Stage {
         Ok(stored.as_str() == listing_text(alloc, &replayed)?.as_str())
     }
 
-    // Plays a line, and tells what came of it where that isn't what it says, or where the files and queues then aren't what
-    // the plain replay gives.
+    // Plays a line, and tells what came of it where that isn't what it says, or where the files and
+    // queues then aren't what the plain replay gives.
     fn play(&mut self, alloc: Global, line: &str) -> Result<Option<String>, NoMemory> {
         let (times, line) = line.split_once(" times ").unwrap_or(("1", line));
         let (call, expected) = halves(line);
-        let Ok(times) = times.parse::<u64>() else {
-            return Ok(Some("no number".to_string(alloc)?));
+        let times = match times.parse::<u64>() {
+            Ok(times) if times > 0 => times,
+            _ => return Ok(Some("no number".to_string(alloc)?)),
         };
         for _ in 0..times {
             let came = self.came_of(alloc, call)?;
@@ -180,7 +193,8 @@ impl Stage {
     }
 }
 
-// Makes the definitions and loads among the lines of a text, and answers the first of which something else came.
+// Makes the definitions and loads among the lines of a text, and answers the first of which
+// something else came.
 fn first_wrong_definition<'a>(
     opening: &mut Opening,
     alloc: Global,
@@ -199,14 +213,16 @@ fn first_wrong_definition<'a>(
     Ok(None)
 }
 
-// Plays the lines of a text in turn, and answers the first of which something else came.
+// Plays the lines of a text in turn, and answers the first of which something else came. Those that
+// `first_wrong_definition` has made are passed over, where the text is one that defines something.
 fn first_wrong_line<'a>(
     stage: &mut Stage,
     alloc: Global,
     lines: &'a str,
+    defines: bool,
 ) -> Result<Option<Wrong<'a>>, NoMemory> {
     for line in lines.lines() {
-        if line.starts_with("+") || line.starts_with("#") {
+        if line.starts_with("#") || (defines && line.starts_with("+ ")) {
             continue;
         }
         if let Some(came) = stage.play(alloc, line)? {
@@ -216,10 +232,11 @@ fn first_wrong_line<'a>(
     Ok(None)
 }
 
-// Plays two texts in turn from the beginning.
-fn first_wrong_of_both<'a>(
+// Plays three texts in turn from the beginning, the first two of which define something.
+fn first_wrong_of_all<'a>(
     alloc: Global,
     opening: Opening,
+    first: &'a str,
     lines: &'a str,
     then: &'a str,
 ) -> Result<Option<Wrong<'a>>, NoMemory> {
@@ -228,20 +245,38 @@ fn first_wrong_of_both<'a>(
     };
     let trace = Vec::new(alloc);
     let mut stage = Stage { units, trace };
-    let wrong = first_wrong_line(&mut stage, alloc, lines)?;
-    if wrong.is_some() {
-        return Ok(wrong);
+    for (text, defines) in [(first, true), (lines, true), (then, false)] {
+        let wrong = first_wrong_line(&mut stage, alloc, text, defines)?;
+        if wrong.is_some() {
+            return Ok(wrong);
+        }
     }
-    first_wrong_line(&mut stage, alloc, then)
+    Ok(None)
 }
 
-/// Plays a scenario behind what the first text defines, and answers the first line of which something else came, or after
-/// which the files and queues aren't what the plain replay gives.
+// The first part of a scenario without a line that is made or played.
+fn first_idle<'a>(alloc: Global, scenario: &'a str) -> Result<Option<Wrong<'a>>, NoMemory> {
+    for part in scenario.split("\nor\n") {
+        if part.lines().all(|line| line.starts_with("#")) {
+            let line = part.lines().next().unwrap_or("");
+            let came = "plays nothing".to_string(alloc)?;
+            return Ok(Some(Wrong { line, came }));
+        }
+    }
+    Ok(None)
+}
+
+/// Plays a scenario behind what the first text defines, and answers the first line of which
+/// something else came, or after which the files and queues aren't what the plain replay gives.
 pub(crate) fn first_wrong<'a>(
     alloc: Global,
     first: &'a str,
     scenario: &'a str,
 ) -> Result<Option<Wrong<'a>>, NoMemory> {
+    let idle = first_idle(alloc, scenario)?;
+    if idle.is_some() {
+        return Ok(idle);
+    }
     let (lines, ends) = scenario.split_once("\nor\n").unwrap_or((scenario, ""));
     let first = if lines.starts_with("##") { "" } else { first };
     for then in ends.split("\nor\n") {
@@ -252,7 +287,7 @@ pub(crate) fn first_wrong<'a>(
                 return Ok(wrong);
             }
         }
-        let wrong = first_wrong_of_both(alloc, opening, lines, then)?;
+        let wrong = first_wrong_of_all(alloc, opening, first, lines, then)?;
         if wrong.is_some() {
             return Ok(wrong);
         }

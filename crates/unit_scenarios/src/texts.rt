@@ -2,12 +2,14 @@
 //!
 //! What comes of a call:
 //!
-//! - `NORMAL 0 DATA k1 old`: the condition, the unit that executed the command, and what else the answer
-//!   has: the number of an item (`ITEM 2`) or of the records that went (`NUMREC 2`), and the record that
-//!   was read. READQ TS is answered without a unit, as `NORMAL ITEM 1 DATA one`.
+//! - `NORMAL 0 DATA k1 old`: the condition, the unit that executed the command, and what else the
+//!   answer has: the number of an item (`ITEM 2`) or of the records that went (`NUMREC 2`), and the
+//!   record that was read. READQ TS is answered without a unit, as `NORMAL ITEM 1 DATA one`.
 //! - `waits 0`: the unit that the call has to wait for.
-//! - `taken 0`: the unit that an enqueued value is of; `full` where that unit has it as often as it may.
-//! - `no` for a call that may not be made, and nothing for one that is answered nothing.
+//! - `taken 0`: the unit that an enqueued value is of; `full` where that unit has it as often as it
+//!   may.
+//! - `no` for a call that may not be made, `no file` for UNLOCK of a file that isn't defined, and
+//!   nothing for one that is answered nothing.
 
 use crate::guarded_calls::Told;
 use cics_names::{Items, Name8, NoMemory, Record, from_ebcdic};
@@ -28,8 +30,8 @@ pub(crate) fn halves(line: &str) -> (&str, &str) {
     line.split_once(" = ").unwrap_or((line, ""))
 }
 
-/// Puts bytes at the end, each as the character of its number. Those that stand between records and between files are put
-/// behind a backslash, so that no two lists have the same text.
+/// Puts bytes at the end, each as the character of its number. Those that stand between records and
+/// between files are put behind a backslash, so that no two lists have the same text.
 pub(crate) fn push_bytes(text: &mut String, bytes: &[u8]) -> Result<(), NoMemory> {
     for byte in bytes {
         if matches!(byte, b'|' | b',' | b'\\') {
@@ -111,8 +113,8 @@ fn push_listed(
     Ok(())
 }
 
-/// A listing as a text: `file ACCT recoverable k1 one|k2 two, ts RQ plain a, td TDQ1 logical r1`, and `tasks` behind that
-/// where it has any.
+/// A listing as a text: `file ACCT recoverable k1 one|k2 two, ts RQ plain a, td TDQ1 logical r1`,
+/// and `tasks` behind that where it has any.
 pub(crate) fn listing_text(alloc: Global, listing: &Listing) -> Result<String, NoMemory> {
     let mut text = String::new(alloc);
     push_listed(&mut text, "file ", &listing.files)?;
@@ -178,6 +180,7 @@ pub(crate) fn told_text(alloc: Global, told: &Told, counted: &str) -> Result<Str
         Told::Waits(unit) => write!(text, "waits {unit}")?,
         Told::Full => text.push_str("full")?,
         Told::Done => {}
+        Told::NoFile => text.push_str("no file")?,
         Told::MayNot => text.push_str("no")?,
     }
     Ok(text)
