@@ -1,13 +1,13 @@
 //! The enqueue table.
 
 ghost use Rattle.cics_enqueue.specs.declared.resources.Resource.TheVariants.{FileKey, FilePrefix};
-ghost use Rattle.std.specs.Prelude.{◌≡◌, ◌≤◌, IfNone, IfSome, length, [], ◌+◌, ◌&&◌, nat_le};
+ghost use Rattle.std.specs.Prelude.{◌≡◌, ◌≤◌, IfNone, IfSome, length, [], ◌+◌};
 ghost use Rattle.std.specs.Prelude.{if◌then◌else◌, IsTrue, true, false, ◌↔◌, OnOk, OnErr, IfErr};
 ghost use Rattle.std.specs.Prelude.{IfOk, None, is_some, not};
 ghost use Rattle.cics_enqueue.specs.Kept.{count_after, is_held_full};
 ghost use Rattle.cics_enqueue.specs.Resources.{bytes_of, holder_of, holder_over, held_with_prefix};
 ghost use Rattle.cics_enqueue.specs.Resources.{count_of, IsFreeFor, IsFreeBut, HoldsLeast, is_full};
-ghost use Rattle.cics_enqueue.specs.Resources.{most_count, taken, given_back, released};
+ghost use Rattle.cics_enqueue.specs.Resources.{taken, given_back, released};
 ghost use Rattle.cics_enqueue.specs.Resources.{held_at, is_user, resource_key};
 ghost use Rattle.cics_enqueue.specs.ResourceLaws.{resource_of};
 

@@ -2,7 +2,7 @@
 //!
 //! Its contract is the law, and its body is empty: nothing is computed here.
 
-ghost use Rattle.std.specs.Prelude.{◌≡◌, ℕ, []};
+ghost use Rattle.std.specs.Prelude.{ℕ, []};
 ghost use Rattle.cics_enqueue.specs.declared.resources.Resource.{Resource};
 ghost use Rattle.cics_enqueue.specs.Resources.{Table, IsLawful, IsFreeFor};
 ghost use Rattle.cics_enqueue.specs.Resources.{taken, given_back, released};

@@ -1,6 +1,6 @@
 //! Look-ups of what overlaps a resource and is another unit's.
 
-ghost use Rattle.std.specs.Prelude.{◌≡◌, ◌≤◌, ◌∷◌, ◌++◌, [], length, drop, None, true};
+ghost use Rattle.std.specs.Prelude.{◌≡◌, ◌≤◌, ◌∷◌, [], length, drop, None, true};
 ghost use Rattle.std.specs.Prelude.{if◌then◌else◌, option_map};
 ghost use Rattle.std.specs.Bool.{OnFalse};
 ghost use Rattle.cics_names.specs.Keyed.{Bytes, is_below};

@@ -1,8 +1,7 @@
 //! For each unit, the keys that it holds.
 
-ghost use Rattle.std.specs.Prelude.{◌≡◌, ◌<◌, ℕ, true, false, nat_eq, is_some, IfSome, IfNone};
+ghost use Rattle.std.specs.Prelude.{◌≡◌, ◌<◌, ℕ, true, false, IfSome, IfNone};
 ghost use Rattle.std.specs.Prelude.{OnOk, OnErr};
-ghost use Rattle.std.specs.Map.{lookup};
 ghost use Rattle.std.specs.Global.{Vec};
 ghost use Rattle.std.specs.Bool.{OnTrue};
 ghost use Rattle.cics_enqueue.specs.Kept.{owns, own_count, OwnsSame, Sets};

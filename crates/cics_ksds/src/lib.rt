@@ -14,8 +14,6 @@ mod places;
 mod prefixes;
 mod ranges;
 mod rooms;
-#[cfg(test)]
-mod tests;
 mod undoing;
 
 pub use definition::FileDef;

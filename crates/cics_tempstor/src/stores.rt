@@ -1,9 +1,9 @@
 //! Temporary storage.
 
-ghost use Rattle.std.specs.Prelude.{◌≡◌, ◌+◌, [], true, if◌then◌else◌, Some, T, IfOk, IfSome, OnOk};
+ghost use Rattle.std.specs.Prelude.{◌≡◌, [], true, if◌then◌else◌, Some, T, IfOk, IfSome, OnOk};
 ghost use Rattle.std.specs.Prelude.{OnErr};
-ghost use Rattle.cics_names.specs.Keyed.{has_key, with_value, without, is_rising};
-ghost use Rattle.cics_tempstor.specs.Queues.{is_there, row_at, queue_at, next_place, queues_of};
+ghost use Rattle.cics_names.specs.Keyed.{with_value, without, is_rising};
+ghost use Rattle.cics_tempstor.specs.Queues.{is_there, queue_at, next_place, queues_of};
 ghost use Rattle.cics_tempstor.specs.Queues.{places_of};
 ghost use Rattle.cics_tempstor.specs.Tables.{rows_of, those_there};
 ghost use Rattle.cics_tempstor.specs.Undo.{undone_at};
