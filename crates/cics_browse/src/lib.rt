@@ -2,7 +2,5 @@
 #![tactic(auto)]
 
 mod browses;
-#[cfg(test)]
-mod tests;
 
 pub use browses::{Browse, Browsed};

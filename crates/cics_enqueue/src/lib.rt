@@ -10,8 +10,6 @@ mod laws;
 mod overlaps;
 mod owned;
 mod resources;
-#[cfg(test)]
-mod tests;
 
 pub use enqueues::{Enqueues, TakeFault};
 pub use laws::tables_stay_lawful;

@@ -8,8 +8,6 @@ mod item_lists;
 pub mod laws;
 mod queue_rows;
 mod stores;
-#[cfg(test)]
-mod tests;
 mod undoing;
 
 pub use answers::{TsRead, TsWritten};
