@@ -233,6 +233,18 @@ impl Stage {
         ensures ok { OnOk result (self.new ≡ Running (region_of self.old)) }
         ensures err { OnErr result (self.new ≡ self.old) }
     {
+        match self {
+            Stage::Running(_) => Ok(()),
+            Stage::Opening(_) => self.make_region(),
+        }
+    }
+
+    // Makes the region of the definitions: once in a run, where `open` comes with every line of a
+    // task.
+    fn make_region(&mut self) -> Result<(), NoMemory>
+        ensures ok { OnOk result (self.new ≡ Running (region_of self.old)) }
+        ensures err { OnErr result (self.new ≡ self.old) }
+    {
         let Stage::Opening(opening) = self else {
             return Ok(());
         };

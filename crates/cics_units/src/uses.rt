@@ -1,9 +1,11 @@
 //! What a command uses, and how its unit takes it: all of it, or nothing where memory is refused.
 
-ghost use Rattle.std.specs.Prelude.{◌≡◌, ◌≤◌, false, Some, length, IfOk, OnOk, OnErr};
+ghost use Rattle.std.specs.Prelude.{◌≡◌, ◌≤◌, ◌∷◌, [], false, Some, length, IfOk, OnOk, OnErr};
 ghost use Rattle.std.specs.List.{list_any};
-ghost use Rattle.cics_enqueue.specs.Resources.{is_user};
-ghost use Rattle.cics_history.specs.Holding.{named_if};
+ghost use Rattle.cics_enqueue.specs.Resources.{is_user, bytes_of};
+ghost use Rattle.cics_enqueue.specs.declared.resources.Resource.TheVariants.{FileKey, FilePrefix};
+ghost use Rattle.cics_enqueue.specs.declared.resources.Resource.TheVariants.{TsQueue};
+ghost use Rattle.cics_enqueue.specs.declared.resources.Resource.TheVariants.{TdRead, TdWrite};
 ghost use Rattle.cics_history.specs.Records.{key_of};
 ghost use Rattle.cics_units.specs.Uses.{uses_if, listed, taken_all, AreFreeFor, holder_over_all};
 ghost use Rattle.cics_units.specs.Uses.{given_back_if, let_go};
@@ -11,7 +13,7 @@ ghost use Rattle.cics_units.specs.Awaiting.{writer_of};
 
 use cics_enqueue::{Enqueues, Resource, UnitId};
 use cics_history::Op;
-use cics_names::{Name4, NoMemory};
+use cics_names::{Name4, Name8, NoMemory};
 use cics_transdata::TransQueue;
 
 /// What a command uses: two resources at most, the reading end of a queue before its writing end.
@@ -32,15 +34,51 @@ pub(crate) struct WereFree {
     second: bool,
 }
 
-// A resource where it is recoverable, else nothing.
-fn if_recoverable(recoverable: bool, resource: Resource) -> Uses
-    ensures { listed result ≡ named_if recoverable resource }
+// The record of a file.
+//
+// Each kind of resource is built in a function of its own: where a function has many values of this
+// size, all of them are made room for at its beginning, whichever it then uses.
+fn record(file: Name8, key: &[u8]) -> Uses
+    requires most { length key.now ≤ 255 }
+    ensures { listed result ≡ FileKey file (bytes_of key.now) ∷ [] }
 {
-    if recoverable {
-        Uses::One(resource)
-    } else {
-        Uses::Nothing
-    }
+    Uses::One(Resource::record(file, key))
+}
+
+// The records of a file under a prefix.
+fn records_under(file: Name8, prefix: &[u8]) -> Uses
+    requires most { length prefix.now ≤ 255 }
+    ensures { listed result ≡ FilePrefix file (bytes_of prefix.now) ∷ [] }
+{
+    Uses::One(Resource::prefix(file, prefix))
+}
+
+// The name of a temporary storage queue that is recoverable.
+fn ts_queue(queue: Name8) -> Uses
+    ensures { listed result ≡ TsQueue queue ∷ [] }
+{
+    Uses::One(Resource::TsQueue(queue))
+}
+
+// The end of a LOGICAL queue at which records are written.
+fn writing_end(queue: Name4) -> Uses
+    ensures { listed result ≡ TdWrite queue ∷ [] }
+{
+    Uses::One(Resource::TdWrite(queue))
+}
+
+// The end of a LOGICAL queue at which records are read.
+fn reading_end(queue: Name4) -> Uses
+    ensures { listed result ≡ TdRead queue ∷ [] }
+{
+    Uses::One(Resource::TdRead(queue))
+}
+
+// Both ends of a LOGICAL queue.
+fn both_ends(queue: Name4) -> Uses
+    ensures { listed result ≡ TdRead queue ∷ TdWrite queue ∷ [] }
+{
+    Uses::Two(Resource::TdRead(queue), Resource::TdWrite(queue))
 }
 
 /// What a command uses, by whether its file or queue is recoverable: the record of a file, there or
@@ -51,23 +89,18 @@ pub(crate) fn uses_of(op: &Op, recoverable: bool) -> Uses
     ensures { listed result ≡ uses_if recoverable op.now }
 {
     match op {
-        Op::Write { file, key, .. } => Uses::One(Resource::record(*file, key.bytes())),
-        Op::Rewrite { file, key, .. } => Uses::One(Resource::record(*file, key.bytes())),
-        Op::Delete { file, key } => Uses::One(Resource::record(*file, key.bytes())),
-        Op::DeleteGeneric { file, prefix } => Uses::One(Resource::prefix(*file, prefix.bytes())),
-        Op::ReadUpdate { file, key } => Uses::One(Resource::record(*file, key.bytes())),
-        Op::TsWrite { queue, .. } => if_recoverable(recoverable, Resource::TsQueue(*queue)),
-        Op::TsRewrite { queue, .. } => if_recoverable(recoverable, Resource::TsQueue(*queue)),
-        Op::TsDelete { queue } => if_recoverable(recoverable, Resource::TsQueue(*queue)),
-        Op::TdWrite { queue, .. } => if_recoverable(recoverable, Resource::TdWrite(*queue)),
-        Op::TdRead { queue } => if_recoverable(recoverable, Resource::TdRead(*queue)),
-        Op::TdDelete { queue } => {
-            if recoverable {
-                Uses::Two(Resource::TdRead(*queue), Resource::TdWrite(*queue))
-            } else {
-                Uses::Nothing
-            }
-        }
+        Op::Write { file, key, .. } => record(*file, key.bytes()),
+        Op::Rewrite { file, key, .. } => record(*file, key.bytes()),
+        Op::Delete { file, key } => record(*file, key.bytes()),
+        Op::DeleteGeneric { file, prefix } => records_under(*file, prefix.bytes()),
+        Op::ReadUpdate { file, key } => record(*file, key.bytes()),
+        _ if !recoverable => Uses::Nothing,
+        Op::TsWrite { queue, .. } => ts_queue(*queue),
+        Op::TsRewrite { queue, .. } => ts_queue(*queue),
+        Op::TsDelete { queue } => ts_queue(*queue),
+        Op::TdWrite { queue, .. } => writing_end(*queue),
+        Op::TdRead { queue } => reading_end(*queue),
+        Op::TdDelete { queue } => both_ends(*queue),
     }
 }
 
