@@ -1,6 +1,7 @@
 -- Bytes as one number.
-use Rattle.std.specs.Prelude.{ℕ, ◌+◌, ◌*◌, ◌<◌, List, [], ◌∷◌}
+use Rattle.std.specs.Prelude.{◌≡◌, ℕ, ◌+◌, ◌-◌, ◌*◌, ◌<◌, ◌≤◌, List, [], ◌∷◌, length, take, drop}
 use Rattle.std.specs.List.{slice_index}
+use Rattle.cics_ksds.specs.declared.comparing.Numbers.{Numbers}
 
 -- the number that bytes are as digits of base 256, the highest first, behind those of a number
 abbrev pub number : ℕ → List ℕ → ℕ
@@ -10,3 +11,15 @@ number high (byte ∷ bytes) = number (high * 256 + byte) bytes
 -- the first so many of these numbers are bytes
 abbrev pub AreBytes : ℕ → List ℕ → Type 0
 AreBytes count bytes = (i : ℕ) → i < count → slice_index bytes i < 256
+
+-- where the second eight bytes of a key begin: behind the first, or so that they end with the key where it has fewer than 16
+abbrev pub second_at : List ℕ → ℕ
+second_at key = 8 - (16 - length key)
+
+-- the numbers are those of the key
+pub record AreNumbers (key : List ℕ) (n : Numbers) : Type 0 where
+  pub long : 8 ≤ length key
+  pub first : n.first ≡ number 0 (take 8 key)
+  pub second : n.second ≡ number 0 (take 8 (drop (second_at key) key))
+  pub first_bytes : AreBytes 8 key
+  pub second_bytes : AreBytes 8 (drop (second_at key) key)

@@ -1,8 +1,9 @@
 //! The order of keys, by which the places of a file stand.
 
 ghost use Rattle.std.specs.Prelude.{◌≡◌, ◌≤◌, length, take};
+ghost use Rattle.std.specs.Ordering.{nat_cmp, ordering_then};
 ghost use Rattle.cics_names.specs.Keyed.{bytes_cmp};
-ghost use Rattle.cics_ksds.specs.Words.{number, AreBytes};
+ghost use Rattle.cics_ksds.specs.Words.{number, AreBytes, AreNumbers};
 
 use std::cmp::Ordering;
 
@@ -20,6 +21,46 @@ fn word_of(key: &[u8]) -> u64
     ])
 }
 
+/// The first 16 bytes of a key as two numbers, by which keys of the same length are compared
+/// without their bytes.
+///
+/// Of a key with fewer than 16 bytes, the second number is that of its last eight: those that it
+/// has in common with the first don't change the order where the first numbers are equal.
+#[derive(Clone, Copy, Debug)]
+pub(crate) struct Numbers {
+    pub(crate) first: u64,
+    pub(crate) second: u64,
+}
+
+impl Numbers {
+    /// How many bytes of a key the two numbers hold.
+    pub(crate) const BYTES: usize = 16;
+
+    /// The numbers of a key that has eight bytes.
+    pub(crate) fn of(key: &[u8]) -> Numbers
+        requires { 8 ≤ length key.now }
+        ensures { AreNumbers key.now result }
+    {
+        let common = Numbers::BYTES.saturating_sub(key.len());
+        Numbers {
+            first: word_of(key),
+            second: word_of(key.split_at(WORD - common).1),
+        }
+    }
+
+    /// The order of the first numbers, or that of the second where those are equal.
+    pub(crate) fn order(self, other: Numbers) -> Ordering
+        ensures { result ≡ ordering_then (nat_cmp self.first other.first)
+            (nat_cmp self.second other.second) }
+    {
+        if self.first == other.first {
+            self.second.cmp(&other.second)
+        } else {
+            self.first.cmp(&other.first)
+        }
+    }
+}
+
 /// The order of two keys: that of the first bytes that differ, unsigned, or else of their lengths.
 ///
 /// Where both have eight bytes the first eight are compared as one number, which has the order of
@@ -32,8 +73,26 @@ pub(crate) fn order_of(left: &[u8], right: &[u8]) -> Ordering
     }
     let (x, y) = (word_of(left), word_of(right));
     if x == y {
-        left.split_at(WORD).1.cmp(right.split_at(WORD).1)
+        order_of_long(left, right)
     } else {
         x.cmp(&y)
+    }
+}
+
+/// The order of two keys that have eight bytes: where they are of one length, most often that of
+/// their numbers.
+fn order_of_long(left: &[u8], right: &[u8]) -> Ordering
+    requires left { 8 ≤ length left.now }
+    requires right { 8 ≤ length right.now }
+    ensures { result ≡ bytes_cmp left.now right.now }
+{
+    if left.len() != right.len() {
+        return left.cmp(right);
+    }
+    let order = Numbers::of(left).order(Numbers::of(right));
+    if left.len() > Numbers::BYTES && order.is_eq() {
+        left.cmp(right)
+    } else {
+        order
     }
 }

@@ -1,8 +1,8 @@
-use Rattle.std.proofs.Common.{◌≡◌, ◌∙◌, sym, ap, take, drop, List, ℕ, arith}
+use Rattle.std.proofs.Common.{◌≡◌, ◌∙◌, sym, ap, take, drop, ℕ, arith}
 use Rattle.std.specs.Ordering.{nat_cmp, ordering_then}
 use Rattle.cics_names.specs.Keyed.{bytes_cmp}
 use Rattle.cics_ksds.specs.Words.{number}
-use Rattle.cics_ksds.proofs.Words.{compared, decided, tied}
+use Rattle.cics_ksds.proofs.Words.{compared, decided}
 use Rattle.cics_ksds.proofs.comparing.order_of.Goals as goal
 use Rattle.cics_ksds.proofs.comparing.order_of.Goals.{After-word_of-y}
 
@@ -14,13 +14,6 @@ by_words c =
     ap (λ (x : ℕ). ordering_then (nat_cmp x c.word_of-y.result) (bytes_cmp (drop 8 c.args.left.now) (drop 8 c.args.right.now))) first.value
     ∙ ap (λ (y : ℕ). ordering_then (nat_cmp (number 0 (take 8 c.args.left.now)) y) (bytes_cmp (drop 8 c.args.left.now) (drop 8 c.args.right.now))) second.value
     ∙ sym (compared 8 0 c.args.left.now c.args.right.now (omega (arith, c.if-left-lt-WORD.false)) (omega (arith, c.if-right-lt-WORD.false)) first.bytes second.bytes)
-
-pub returns-then-x-y : goal.returns-then-x-y
-returns-then-x-y c =
-    c.cmp-then-x-y.ensures
-    ∙ ap (λ (rest : List ℕ). bytes_cmp rest c.split_at-then-x-y.result.1.now) c.split_at.ensures.back
-    ∙ ap (λ (rest : List ℕ). bytes_cmp (drop 8 c.args.left.now) rest) c.split_at-then-x-y.ensures.back
-    ∙ sym (tied _ _ _ c.if-x-y.true) ∙ by_words (goal.at.returns-then-x-y c).After-word_of-y
 
 pub returns-else-x-y : goal.returns-else-x-y
 returns-else-x-y c = c.cmp-else-x-y.ensures ∙ sym (decided _ _ _ c.if-x-y.false) ∙ by_words (goal.at.returns-else-x-y c).After-word_of-y
