@@ -4,6 +4,7 @@ use Rattle.std.specs.List.{flat_map, insert, remove}
 use Rattle.std.specs.declared.cmp.Ordering.TheVariants.{Less}
 use Rattle.cics_names.specs.Keyed.{Bytes, Map, bytes_cmp, is_rising, value_at, has_key, is_key_in, is_below}
 use Rattle.cics_ksds.specs.declared.definition.FileDef.{FileDef}
+use Rattle.cics_ksds.specs.declared.comparing.Numbers.{Numbers}
 use Rattle.cics_ksds.specs.declared.places.Place.{Place}
 use Rattle.cics_ksds.specs.declared.places.Place.TheVariants.{Filled, Empty}
 use Rattle.cics_ksds.specs.declared.places.Position.{Position}
@@ -11,11 +12,17 @@ use Rattle.cics_ksds.specs.declared.places.Spot.{Spot}
 use Rattle.cics_ksds.specs.declared.places.Spot.TheVariants.{At, AtEmpty, Gap}
 use Rattle.cics_ksds.specs.Files.{FileValue, key_of, fits_file, filled, emptied, later}
 use Rattle.cics_ksds.specs.Prefixes.{has_prefix, under}
+use Rattle.cics_ksds.specs.Words.{AreNumbers}
 
 -- a record holds its own key, an empty place the key alone
 abbrev pub place_key : FileDef → Place → Bytes
 place_key d (Filled r) = key_of d r
 place_key d (Empty key) = key
+
+-- the numbers are those of a whole key of the file
+pub record AreKeyNumbers (d : FileDef) (key : Bytes) (n : Numbers) : Type 0 where
+  pub whole : length key ≡ d.key_length
+  pub numbers : AreNumbers key n
 
 -- the record in a place fits its file
 abbrev pub IsPlace : FileDef → Place → Type 0

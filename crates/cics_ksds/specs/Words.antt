@@ -2,6 +2,7 @@
 use Rattle.std.specs.Prelude.{◌≡◌, ℕ, ◌+◌, ◌-◌, ◌*◌, ◌<◌, ◌≤◌, List, [], ◌∷◌, length, take, drop}
 use Rattle.std.specs.List.{slice_index}
 use Rattle.cics_ksds.specs.declared.comparing.Numbers.{Numbers}
+use Rattle.cics_ksds.specs.declared.numbered.Mark.{Mark}
 
 -- the number that bytes are as digits of base 256, the highest first, behind those of a number
 abbrev pub number : ℕ → List ℕ → ℕ
@@ -23,3 +24,7 @@ pub record AreNumbers (key : List ℕ) (n : Numbers) : Type 0 where
   pub second : n.second ≡ number 0 (take 8 (drop (second_at key) key))
   pub first_bytes : AreBytes 8 key
   pub second_bytes : AreBytes 8 (drop (second_at key) key)
+
+-- where the mark has numbers, they are those of the key that lies in the bytes
+abbrev pub IsMarked : List ℕ → Mark → Type 0
+IsMarked bytes mark = 0 < mark.length → AreNumbers (take mark.length (drop mark.offset bytes)) mark.numbers

@@ -8,7 +8,7 @@ ghost use Rattle.cics_ksds.specs.Words.{number, AreBytes, AreNumbers};
 use std::cmp::Ordering;
 
 /// How many bytes are compared as one number.
-const WORD: usize = 8;
+pub(crate) const WORD: usize = 8;
 
 /// The first eight bytes of a key as a number, whose highest digit is the first of them.
 fn word_of(key: &[u8]) -> u64

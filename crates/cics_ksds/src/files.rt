@@ -175,7 +175,12 @@ impl File {
             Spot::At(_) => Ok(not_made(Condition::Duprec)),
             Spot::AtEmpty(at) => {
                 let image = added(self.alloc, definition, key, keep)?;
-                let _ = put_at(definition, &mut self.places, at, Place::Filled(content));
+                let _ = put_at(
+                    definition,
+                    &mut self.places,
+                    at,
+                    Place::filled(definition, content),
+                );
                 Ok(made(image))
             }
             Spot::Gap(at) => {
@@ -186,7 +191,7 @@ impl File {
                     definition,
                     &mut self.places,
                     at,
-                    Place::Filled(content),
+                    Place::filled(definition, content),
                 )?;
                 Ok(made(image))
             }
@@ -211,7 +216,12 @@ impl File {
         let key = definition.key_in(content.bytes());
         match spot_of(definition, &self.places, key) {
             Spot::At(at) => {
-                let old = put_at(definition, &mut self.places, at, Place::Filled(content));
+                let old = put_at(
+                    definition,
+                    &mut self.places,
+                    at,
+                    Place::filled(definition, content),
+                );
                 made(replaced(definition, old, keep))
             }
             _ => not_made(Condition::Notfnd),
@@ -241,7 +251,7 @@ impl File {
             Spot::At(at) => {
                 if keep {
                     let empty = Record::from_slice(self.alloc, key)?;
-                    let old = put_at(definition, &mut self.places, at, Place::Empty(empty));
+                    let old = put_at(definition, &mut self.places, at, Place::empty(empty));
                     return Ok(made(removed(definition, old)));
                 }
                 drop(take_at(definition, &mut self.places, at));

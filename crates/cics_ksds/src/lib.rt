@@ -9,6 +9,7 @@ mod definition;
 mod files;
 mod images;
 mod intervals;
+mod numbered;
 mod ordered;
 mod places;
 mod prefixes;

@@ -4,21 +4,23 @@
 //! backed out, and the place is kept so that putting the record back takes no memory.
 
 ghost use Rattle.std.specs.Prelude.{◌≡◌, ◌<◌, [], ◌∷◌, All, length, slice_index_or};
-ghost use Rattle.std.specs.Prelude.{IfOk, IfErr, OnOk, OnErr};
+ghost use Rattle.std.specs.Prelude.{IfOk, IfErr, IfSome, OnOk, OnErr};
 ghost use Rattle.std.specs.Option.{option_copied};
-ghost use Rattle.cics_names.specs.Keyed.{value_at};
+ghost use Rattle.cics_names.specs.Keyed.{value_at, bytes_cmp};
 ghost use Rattle.cics_ksds.specs.Files.{dropped};
 ghost use Rattle.cics_ksds.specs.Places.{IsPlace, ArePlaces, IsAt, IsGapFor, Shows, HasPlace};
 ghost use Rattle.cics_ksds.specs.Places.{place_key, key_at, file_of, placed, places_in};
 ghost use Rattle.cics_ksds.specs.Places.{empty_in, listed, interval_in, interval_at, index_of};
 ghost use Rattle.cics_ksds.specs.Places.{IsSpot, IsThere, IsPlaceOf, IsGapAt, HasFirst};
-ghost use Rattle.cics_ksds.specs.Places.{IsLastFrom, first_key_of};
+ghost use Rattle.cics_ksds.specs.Places.{IsLastFrom, first_key_of, AreKeyNumbers};
+ghost use Rattle.cics_ksds.specs.declared.places.Place.TheVariants.{Filled, Empty};
 
 use crate::FileDef;
 use crate::areas::Area;
-use crate::comparing::order_of;
+use crate::comparing::{Numbers, WORD, order_of};
 use crate::dataset::Dataset;
 use crate::intervals::Interval;
+use crate::numbered::Numbered;
 use cics_names::{NoMemory, Record};
 use std::alloc::Global;
 use std::cmp::Ordering;
@@ -27,12 +29,27 @@ use std::cmp::Ordering;
 #[derive(Debug, Drop)]
 pub(crate) enum Place {
     /// A record, which holds its own key.
-    Filled(Record),
+    Filled(Numbered),
     /// The key of a place without a record.
-    Empty(Record),
+    Empty(Numbered),
 }
 
 impl Place {
+    /// The place of a record.
+    pub(crate) fn filled(definition: FileDef, content: Record) -> Place
+        ensures { result ≡ Filled content }
+    {
+        Place::Filled(Numbered::new(content, definition.key_offset, definition.key_length))
+    }
+
+    /// The empty place of a key.
+    pub(crate) fn empty(key: Record) -> Place
+        ensures { result ≡ Empty key }
+    {
+        let length = key.len() as u64;
+        Place::Empty(Numbered::new(key, 0, length))
+    }
+
     /// The key that the place is found by.
     pub(crate) fn key(&self, definition: FileDef) -> &[u8]
         requires { IsPlace definition self.now }
@@ -41,6 +58,44 @@ impl Place {
         match self {
             Place::Filled(record) => definition.key_in(record.bytes()),
             Place::Empty(key) => key.bytes(),
+        }
+    }
+
+    /// The numbers of the key, where they are kept and it is a whole key.
+    fn numbers(&self, definition: FileDef) -> Option<Numbers>
+        requires { IsPlace definition self.now }
+        ensures { IfSome result (AreKeyNumbers definition (place_key definition self.now)) }
+    {
+        match self {
+            Place::Filled(record) => {
+                record.numbers(definition.key_offset, definition.key_length)
+            }
+            Place::Empty(key) => {
+                if key.bytes().len() as u64 != definition.key_length {
+                    return None;
+                }
+                key.numbers(0, definition.key_length)
+            }
+        }
+    }
+
+    /// How the key stands to one that is sought, whose numbers are known where it is a whole key.
+    fn order_to(&self, definition: FileDef, key: &[u8], sought: Option<Numbers>) -> Ordering
+        requires place { IsPlace definition self.now }
+        requires sought { IfSome sought (AreKeyNumbers definition key.now) }
+        ensures { result ≡ bytes_cmp (place_key definition self.now) key.now }
+    {
+        let Some(sought) = sought else {
+            return order_of(self.key(definition), key);
+        };
+        let Some(own) = self.numbers(definition) else {
+            return order_of(self.key(definition), key);
+        };
+        let order = own.order(sought);
+        if key.len() > Numbers::BYTES && order.is_eq() {
+            order_of(self.key(definition), key)
+        } else {
+            order
         }
     }
 
@@ -69,8 +124,8 @@ impl Place {
         ensures { IfOk result (λ copy. copy ≡ self.now) }
     {
         match self {
-            Place::Filled(record) => Ok(Place::Filled(Record::from_slice(alloc, record.bytes())?)),
-            Place::Empty(key) => Ok(Place::Empty(Record::from_slice(alloc, key.bytes())?)),
+            Place::Filled(record) => Ok(Place::Filled(record.copy(alloc)?)),
+            Place::Empty(key) => Ok(Place::Empty(key.copy(alloc)?)),
         }
     }
 }
@@ -95,10 +150,26 @@ pub(crate) enum Spot {
     Gap(Position),
 }
 
+/// The numbers of a key that is sought, where it is a whole key and long enough.
+fn numbers_of(definition: FileDef, key: &[u8]) -> Option<Numbers>
+    ensures { IfSome result (AreKeyNumbers definition key.now) }
+{
+    if key.len() < WORD || key.len() as u64 != definition.key_length {
+        return None;
+    }
+    Some(Numbers::of(key))
+}
+
 /// The index of a key's place in an interval, or else the one where it would be put in. The keys
 /// rise, so half of the places that are left fall away at each step.
-fn search(definition: FileDef, places: &[Place], key: &[u8]) -> Result<usize, usize>
-    requires { ArePlaces definition places.now }
+fn search(
+    definition: FileDef,
+    places: &[Place],
+    key: &[u8],
+    sought: Option<Numbers>,
+) -> Result<usize, usize>
+    requires places { ArePlaces definition places.now }
+    requires sought { IfSome sought (AreKeyNumbers definition key.now) }
     ensures found { IfOk result (IsAt definition places.now key.now) }
     ensures absent { IfErr result (IsGapFor definition places.now key.now) }
 {
@@ -106,7 +177,7 @@ fn search(definition: FileDef, places: &[Place], key: &[u8]) -> Result<usize, us
     let mut high = places.len();
     while low < high {
         let middle = low + (high - low) / 2;
-        match order_of(places[middle].key(definition), key) {
+        match places[middle].order_to(definition, key, sought) {
             Ordering::Less => low = middle + 1,
             Ordering::Equal => return Ok(middle),
             Ordering::Greater => high = middle,
@@ -115,18 +186,30 @@ fn search(definition: FileDef, places: &[Place], key: &[u8]) -> Result<usize, us
     Err(low)
 }
 
-/// The key of the first place of an interval.
-fn first_key(definition: FileDef, interval: &Interval) -> &[u8]
-    requires { HasFirst definition interval.now }
-    ensures { result.now ≡ key_at definition interval.now 0 }
+/// How the key of the first place of an interval stands to one that is sought.
+fn first_order(
+    definition: FileDef,
+    interval: &Interval,
+    key: &[u8],
+    sought: Option<Numbers>,
+) -> Ordering
+    requires first { HasFirst definition interval.now }
+    requires sought { IfSome sought (AreKeyNumbers definition key.now) }
+    ensures { result ≡ bytes_cmp (key_at definition interval.now 0) key.now }
 {
-    interval.places()[0].key(definition)
+    interval.places()[0].order_to(definition, key, sought)
 }
 
 /// The number of the last interval whose first key isn't above the key, or else of the first one.
-fn interval_of(definition: FileDef, intervals: &[Interval], key: &[u8]) -> usize
+fn interval_of(
+    definition: FileDef,
+    intervals: &[Interval],
+    key: &[u8],
+    sought: Option<Numbers>,
+) -> usize
     requires some { 0 < length intervals.now }
     requires each { All (HasFirst definition) intervals.now }
+    requires sought { IfSome sought (AreKeyNumbers definition key.now) }
     ensures { IsLastFrom (λ i. key_at definition (interval_in intervals.now i) 0)
         (length intervals.now) key.now result }
 {
@@ -134,7 +217,7 @@ fn interval_of(definition: FileDef, intervals: &[Interval], key: &[u8]) -> usize
     let mut high = intervals.len();
     while high - low > 1 {
         let middle = low + (high - low) / 2;
-        match order_of(first_key(definition, &intervals[middle]), key) {
+        match first_order(definition, &intervals[middle], key, sought) {
             Ordering::Less => low = middle,
             Ordering::Equal => low = middle,
             Ordering::Greater => high = middle,
@@ -144,10 +227,11 @@ fn interval_of(definition: FileDef, intervals: &[Interval], key: &[u8]) -> usize
 }
 
 /// The number of the last area whose first key isn't above the key, or else of the first one.
-fn area_of(definition: FileDef, areas: &[Area], key: &[u8]) -> usize
+fn area_of(definition: FileDef, areas: &[Area], key: &[u8], sought: Option<Numbers>) -> usize
     requires some { 0 < length areas.now }
     requires each { All (λ area. (0 < length area) × HasFirst definition (interval_in area 0))
         areas.now }
+    requires sought { IfSome sought (AreKeyNumbers definition key.now) }
     ensures { IsLastFrom (λ i. first_key_of definition (slice_index_or areas.now i []))
         (length areas.now) key.now result }
 {
@@ -155,7 +239,7 @@ fn area_of(definition: FileDef, areas: &[Area], key: &[u8]) -> usize
     let mut high = areas.len();
     while high - low > 1 {
         let middle = low + (high - low) / 2;
-        match order_of(first_key(definition, &areas[middle].intervals()[0]), key) {
+        match first_order(definition, &areas[middle].intervals()[0], key, sought) {
             Ordering::Less => low = middle,
             Ordering::Equal => low = middle,
             Ordering::Greater => high = middle,
@@ -178,9 +262,10 @@ pub(crate) fn find(definition: FileDef, places: &Dataset, key: &[u8]) -> Result<
             place: 0,
         });
     }
-    let area = area_of(definition, places.areas(), key);
-    let interval = interval_of(definition, places.intervals(area), key);
-    match search(definition, places.places(area, interval), key) {
+    let sought = numbers_of(definition, key);
+    let area = area_of(definition, places.areas(), key, sought);
+    let interval = interval_of(definition, places.intervals(area), key, sought);
+    match search(definition, places.places(area, interval), key, sought) {
         Ok(place) => Ok(Position {
             area,
             interval,
@@ -229,7 +314,7 @@ pub(crate) fn record_of<'a>(
 {
     match find(definition, places, key) {
         Ok(at) => match place_at(places, at) {
-            Place::Filled(record) => Some(record),
+            Place::Filled(record) => Some(record.record()),
             Place::Empty(_key) => None,
         },
         Err(_) => None,

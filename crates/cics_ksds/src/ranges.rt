@@ -56,7 +56,7 @@ fn first_filled(definition: FileDef, places: &[Place]) -> Option<&Record>
 {
     for place in places {
         if let Place::Filled(record) = place {
-            return Some(record);
+            return Some(record.record());
         }
     }
     None
@@ -72,7 +72,7 @@ fn last_filled(definition: FileDef, places: &[Place]) -> Option<&Record>
     while left > 0 {
         left -= 1;
         if let Place::Filled(record) = &places[left] {
-            return Some(record);
+            return Some(record.record());
         }
     }
     None

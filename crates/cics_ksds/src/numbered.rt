@@ -1,0 +1,126 @@
+//! Records beside the numbers of their keys.
+
+ghost use Rattle.std.specs.Prelude.{◌≡◌, IfOk, IfSome, take, drop};
+ghost use Rattle.cics_ksds.specs.Words.{AreNumbers, IsMarked};
+
+use crate::comparing::{Numbers, WORD};
+use cics_names::{NoMemory, Record};
+use std::alloc::Global;
+use std::marker::Model;
+
+/// Where a key lies in a record, and the numbers of that key.
+#[derive(Clone, Copy, Debug)]
+pub(crate) struct Mark {
+    /// How many bytes of the record stand before the key.
+    offset: u32,
+    /// How many bytes the key has. It is 0 where there are no numbers of it.
+    length: u32,
+    numbers: Numbers,
+}
+
+/// How far into a record a key may begin that has numbers, and how long it may be: no key of a
+/// record of up to 32,767 bytes is left out.
+const FARTHEST: u64 = 32_767;
+
+impl Mark {
+    /// The mark of the key of `length` bytes at `offset`. It has no numbers where that key is
+    /// shorter than a number, or reaches out of the record.
+    fn of(bytes: &[u8], offset: u64, length: u64) -> Mark
+        ensures { IsMarked bytes.now result }
+    {
+        if length < WORD as u64
+            || length > FARTHEST
+            || offset > FARTHEST
+            || (bytes.len() as u64) < offset + length
+        {
+            return Mark {
+                offset: 0,
+                length: 0,
+                numbers: Numbers {
+                    first: 0,
+                    second: 0,
+                },
+            };
+        }
+        let start = offset as usize;
+        let end = start + length as usize;
+        Mark {
+            offset: offset as u32,
+            length: length as u32,
+            numbers: Numbers::of(&bytes[start..end]),
+        }
+    }
+}
+
+/// A record, or the key of one, and beside it the numbers of the key that lies in it: so a search
+/// compares keys without reading the records, which lie elsewhere in memory.
+///
+/// Contracts see the bytes of the record alone.
+#[derive(Debug, Drop)]
+pub(crate) struct Numbered {
+    content: Record,
+    mark: Mark,
+}
+
+impl Model for Numbered {
+    ghost use Rattle.std.specs.Prelude.{ℕ, List};
+    ghost use Rattle.cics_ksds.specs.Words.{IsMarked};
+
+    ghost Value = { List ℕ };
+
+    ghost view = { λ n. n.content };
+
+    ghost invariant = { λ n. IsMarked n.content n.mark };
+}
+
+impl Numbered {
+    /// The record with the numbers of the key of `length` bytes at `offset`.
+    pub(crate) fn new(content: Record, offset: u64, length: u64) -> Numbered
+        ensures { result ≡ content }
+    {
+        let mark = Mark::of(content.bytes(), offset, length);
+        Numbered { content, mark }
+    }
+
+    /// A record with the same bytes and numbers. `NoMemory` where the memory for it is refused.
+    pub(crate) fn copy(&self, alloc: Global) -> Result<Numbered, NoMemory>
+        ensures { IfOk result (λ copy. copy ≡ self.now) }
+    {
+        Ok(Numbered {
+            content: Record::from_slice(alloc, self.content.bytes())?,
+            mark: self.mark,
+        })
+    }
+
+    /// The record.
+    pub(crate) fn record(&self) -> &Record
+        ensures { result.now ≡ self.now }
+    {
+        &self.content
+    }
+
+    /// The bytes of the record.
+    pub(crate) fn bytes(&self) -> &[u8]
+        ensures { result.now ≡ self.now }
+    {
+        self.content.bytes()
+    }
+
+    /// The record alone.
+    pub(crate) fn into_record(self) -> Record
+        ensures { result ≡ self }
+    {
+        self.content
+    }
+
+    /// The numbers of the key of `length` bytes at `offset`, where they are kept.
+    pub(crate) fn numbers(&self, offset: u64, length: u64) -> Option<Numbers>
+        ensures { IfSome result (AreNumbers (take length (drop offset self.now))) }
+    {
+        let mark = self.mark;
+        if mark.length == 0 || mark.length as u64 != length || mark.offset as u64 != offset {
+            return None;
+        }
+        Some(mark.numbers)
+    }
+}
