@@ -4,8 +4,10 @@ ghost use Rattle.std.specs.Prelude.{◌≡◌, ◌<◌, ◌≤◌, [], suc, IfOk
 ghost use Rattle.std.specs.Prelude.{slice_set, slice_index_or};
 ghost use Rattle.std.specs.List.{insert, remove};
 ghost use Rattle.cics_ksds.specs.Places.{interval_in};
+ghost use Rattle.cics_ksds.specs.Heads.{IsAreaHead};
 
 use crate::intervals::Interval;
+use crate::numbered::Mark;
 use crate::places::Place;
 use crate::rooms::{insert_reserved, move_tail};
 use cics_names::NoMemory;
@@ -23,11 +25,14 @@ pub(crate) const HALF: usize = 32;
 #[derive(Debug, Drop)]
 pub(crate) struct Area {
     intervals: Vec<Interval>,
+    /// The mark of the first place, by which an area is found without reading its intervals.
+    head: Mark,
 }
 
 impl Model for Area {
     ghost use Rattle.std.specs.Prelude.{◌≡◌, ◌≤◌, List, length, vec_capacity};
     ghost use Rattle.cics_ksds.specs.declared.places.Place.{Place};
+    ghost use Rattle.cics_ksds.specs.Heads.{IsAreaHead};
 
     ghost Value = { List (List Place) };
 
@@ -36,6 +41,7 @@ impl Model for Area {
     ghost invariant = { λ a. record {
       at_most : length a.intervals.items ≤ 64;
       room : vec_capacity a.intervals ≡ 64;
+      head : IsAreaHead a.intervals.items a.head;
     } };
 }
 
@@ -46,6 +52,7 @@ impl Area {
     {
         Ok(Area {
             intervals: Vec::with_capacity(alloc, FULL)?,
+            head: Mark::none(),
         })
     }
 
@@ -54,6 +61,13 @@ impl Area {
         ensures intervals { result.now ≡ self.now }
     {
         self.intervals.as_slice()
+    }
+
+    /// The mark of the first place, where there is one. It is kept beside the intervals.
+    pub(crate) fn head(&self) -> Mark
+        ensures { IsAreaHead self.now result }
+    {
+        self.head
     }
 
     /// How many intervals there are.
@@ -73,7 +87,10 @@ impl Area {
         for interval in from {
             intervals.push_reserved(interval.copy(alloc)?);
         }
-        Ok(Area { intervals })
+        Ok(Area {
+            intervals,
+            head: self.head,
+        })
     }
 
     /// Puts a place in the stead of another, and answers that one.
@@ -84,7 +101,9 @@ impl Area {
             ≡ slice_set self.old interval (slice_set (interval_in self.old interval) at place) }
         ensures old { result ≡ slice_index_or (interval_in self.old interval) at result }
     {
-        self.intervals[interval].put(at, place)
+        let old = self.intervals[interval].put(at, place);
+        self.head = head_of(self.intervals.as_slice());
+        old
     }
 
     /// Puts a place into an interval that has room for it.
@@ -96,6 +115,7 @@ impl Area {
             ≡ slice_set self.old interval (insert (interval_in self.old interval) at place) }
     {
         self.intervals[interval].insert(at, place);
+        self.head = head_of(self.intervals.as_slice());
     }
 
     /// Takes a place out, and answers it. The interval may be left without places.
@@ -106,7 +126,9 @@ impl Area {
             ≡ slice_set self.old interval (remove (interval_in self.old interval) at) }
         ensures old { result ≡ slice_index_or (interval_in self.old interval) at result }
     {
-        self.intervals[interval].remove(at)
+        let old = self.intervals[interval].remove(at);
+        self.head = head_of(self.intervals.as_slice());
+        old
     }
 
     /// Takes an interval out, and answers it.
@@ -115,7 +137,9 @@ impl Area {
         ensures intervals { self.new ≡ remove self.old interval }
         ensures old { result ≡ slice_index_or self.old interval result }
     {
-        self.intervals.remove(interval)
+        let old = self.intervals.remove(interval);
+        self.head = head_of(self.intervals.as_slice());
+        old
     }
 
     /// Adds an interval behind the others. There must be room for it.
@@ -125,6 +149,7 @@ impl Area {
     {
         let count = self.intervals.len();
         insert_reserved(&mut self.intervals, count, interval);
+        self.head = head_of(self.intervals.as_slice());
     }
 
     /// Splits a full interval in two. The second half moves to `right`, which comes behind it;
@@ -140,6 +165,7 @@ impl Area {
     {
         self.intervals[interval].split(&mut right);
         insert_reserved(&mut self.intervals, interval + 1, right);
+        self.head = head_of(self.intervals.as_slice());
     }
 
     /// Moves all intervals but the first 32 to an area that has none.
@@ -150,5 +176,17 @@ impl Area {
         ensures right { right.new ≡ drop 32 self.old }
     {
         move_tail(&mut self.intervals, HALF, &mut right.intervals);
+        right.head = head_of(right.intervals.as_slice());
+        self.head = head_of(self.intervals.as_slice());
     }
+}
+
+/// The mark of the first place of the first interval, or of none.
+fn head_of(intervals: &[Interval]) -> Mark
+    ensures { IsAreaHead intervals.now result }
+{
+    if intervals.is_empty() {
+        return Mark::none();
+    }
+    intervals[0].head()
 }

@@ -4,7 +4,9 @@ ghost use Rattle.std.specs.Prelude.{◌≡◌, ◌<◌, ◌≤◌, [], IfOk, len
 ghost use Rattle.std.specs.Prelude.{slice_set, slice_index_or};
 ghost use Rattle.std.specs.List.{insert, remove};
 ghost use Rattle.cics_ksds.specs.Places.{listed};
+ghost use Rattle.cics_ksds.specs.Heads.{IsHead};
 
+use crate::numbered::Mark;
 use crate::places::Place;
 use crate::rooms::{insert_reserved, move_tail};
 use cics_names::NoMemory;
@@ -25,12 +27,15 @@ pub(crate) struct Interval {
     places: Vec<Place>,
     /// How many of the places have a record.
     records: u64,
+    /// The mark of the first place, by which an interval is found without reading its places.
+    head: Mark,
 }
 
 impl Model for Interval {
     ghost use Rattle.std.specs.Prelude.{◌≡◌, ◌≤◌, List, length, vec_capacity};
     ghost use Rattle.cics_ksds.specs.declared.places.Place.{Place};
     ghost use Rattle.cics_ksds.specs.Places.{listed};
+    ghost use Rattle.cics_ksds.specs.Heads.{IsHead};
 
     ghost Value = { List Place };
 
@@ -40,6 +45,7 @@ impl Model for Interval {
       at_most : length i.places.items ≤ 16;
       room : vec_capacity i.places ≡ 16;
       counted : i.records ≡ length (listed i.places.items);
+      head : IsHead i.places.items i.head;
     } };
 }
 
@@ -51,6 +57,7 @@ impl Interval {
         Ok(Interval {
             places: Vec::with_capacity(alloc, FULL)?,
             records: 0,
+            head: Mark::none(),
         })
     }
 
@@ -67,6 +74,13 @@ impl Interval {
         ensures at_most { length self.now ≤ 16 }
     {
         self.places.len()
+    }
+
+    /// The mark of the first place, where there is one. It is kept beside the places.
+    pub(crate) fn head(&self) -> Mark
+        ensures { IsHead self.now result }
+    {
+        self.head
     }
 
     /// How many of the places have a record. It is kept beside them, and not counted anew.
@@ -88,6 +102,7 @@ impl Interval {
         Ok(Interval {
             places,
             records: self.records,
+            head: self.head,
         })
     }
 
@@ -100,6 +115,7 @@ impl Interval {
         let comes = place.records();
         let old = mem::replace(&mut self.places[at], place);
         self.records = self.records - old.records() + comes;
+        self.head = head_of(self.places.as_slice());
         old
     }
 
@@ -111,6 +127,7 @@ impl Interval {
     {
         self.records += place.records();
         insert_reserved(&mut self.places, at, place);
+        self.head = head_of(self.places.as_slice());
     }
 
     /// Takes a place out, and answers it.
@@ -121,6 +138,7 @@ impl Interval {
     {
         let old = self.places.remove(at);
         self.records -= old.records();
+        self.head = head_of(self.places.as_slice());
         old
     }
 
@@ -134,8 +152,20 @@ impl Interval {
         move_tail(&mut self.places, HALF, &mut right.places);
         let moved = records_in(right.places.as_slice());
         right.records = moved;
+        right.head = head_of(right.places.as_slice());
         self.records -= moved;
+        self.head = head_of(self.places.as_slice());
     }
+}
+
+/// The mark of the first of the places, or of none.
+fn head_of(places: &[Place]) -> Mark
+    ensures { IsHead places.now result }
+{
+    if places.is_empty() {
+        return Mark::none();
+    }
+    places[0].mark()
 }
 
 /// How many of the places have a record.

@@ -1,6 +1,6 @@
 //! Records beside the numbers of their keys.
 
-ghost use Rattle.std.specs.Prelude.{◌≡◌, IfOk, IfSome, take, drop};
+ghost use Rattle.std.specs.Prelude.{◌≡◌, ◌<◌, IfOk, length};
 ghost use Rattle.cics_ksds.specs.Words.{AreNumbers, IsMarked};
 
 use crate::comparing::{Numbers, WORD};
@@ -12,10 +12,10 @@ use std::marker::Model;
 #[derive(Clone, Copy, Debug)]
 pub(crate) struct Mark {
     /// How many bytes of the record stand before the key.
-    offset: u32,
+    pub(crate) offset: u32,
     /// How many bytes the key has. It is 0 where there are no numbers of it.
-    length: u32,
-    numbers: Numbers,
+    pub(crate) length: u32,
+    pub(crate) numbers: Numbers,
 }
 
 /// How far into a record a key may begin that has numbers, and how long it may be: no key of a
@@ -23,6 +23,20 @@ pub(crate) struct Mark {
 const FARTHEST: u64 = 32_767;
 
 impl Mark {
+    /// The mark of no key.
+    pub(crate) fn none() -> Mark
+        ensures { result.length ≡ 0 }
+    {
+        Mark {
+            offset: 0,
+            length: 0,
+            numbers: Numbers {
+                first: 0,
+                second: 0,
+            },
+        }
+    }
+
     /// The mark of the key of `length` bytes at `offset`. It has no numbers where that key is
     /// shorter than a number, or reaches out of the record.
     fn of(bytes: &[u8], offset: u64, length: u64) -> Mark
@@ -33,14 +47,7 @@ impl Mark {
             || offset > FARTHEST
             || (bytes.len() as u64) < offset + length
         {
-            return Mark {
-                offset: 0,
-                length: 0,
-                numbers: Numbers {
-                    first: 0,
-                    second: 0,
-                },
-            };
+            return Mark::none();
         }
         let start = offset as usize;
         let end = start + length as usize;
@@ -113,14 +120,22 @@ impl Numbered {
         self.content
     }
 
-    /// The numbers of the key of `length` bytes at `offset`, where they are kept.
-    pub(crate) fn numbers(&self, offset: u64, length: u64) -> Option<Numbers>
-        ensures { IfSome result (AreNumbers (take length (drop offset self.now))) }
+    /// The mark of the key that lies in the record.
+    pub(crate) fn mark(&self) -> Mark
+        ensures { IsMarked self.now result }
+    {
+        self.mark
+    }
+
+    /// The mark of a key that is all there is, or of none.
+    pub(crate) fn whole_mark(&self) -> Mark
+        ensures { 0 < result.length
+            → (length self.now ≡ result.length) × AreNumbers self.now result.numbers }
     {
         let mark = self.mark;
-        if mark.length == 0 || mark.length as u64 != length || mark.offset as u64 != offset {
-            return None;
+        if mark.offset != 0 || mark.length as usize != self.content.len() {
+            return Mark::none();
         }
-        Some(mark.numbers)
+        mark
     }
 }

@@ -8,6 +8,7 @@ ghost use Rattle.std.specs.Prelude.{IfOk, IfErr, IfSome, OnOk, OnErr};
 ghost use Rattle.std.specs.Option.{option_copied};
 ghost use Rattle.cics_names.specs.Keyed.{value_at, bytes_cmp};
 ghost use Rattle.cics_ksds.specs.Files.{dropped};
+ghost use Rattle.cics_ksds.specs.Heads.{IsPlaceMark};
 ghost use Rattle.cics_ksds.specs.Places.{IsPlace, ArePlaces, IsAt, IsGapFor, Shows, HasPlace};
 ghost use Rattle.cics_ksds.specs.Places.{place_key, key_at, file_of, placed, places_in};
 ghost use Rattle.cics_ksds.specs.Places.{empty_in, listed, interval_in, interval_at, index_of};
@@ -20,7 +21,7 @@ use crate::areas::Area;
 use crate::comparing::{Numbers, WORD, order_of};
 use crate::dataset::Dataset;
 use crate::intervals::Interval;
-use crate::numbered::Numbered;
+use crate::numbered::{Mark, Numbered};
 use cics_names::{NoMemory, Record};
 use std::alloc::Global;
 use std::cmp::Ordering;
@@ -61,21 +62,13 @@ impl Place {
         }
     }
 
-    /// The numbers of the key, where they are kept and it is a whole key.
-    fn numbers(&self, definition: FileDef) -> Option<Numbers>
-        requires { IsPlace definition self.now }
-        ensures { IfSome result (AreKeyNumbers definition (place_key definition self.now)) }
+    /// The mark of the key.
+    pub(crate) fn mark(&self) -> Mark
+        ensures { IsPlaceMark self.now result }
     {
         match self {
-            Place::Filled(record) => {
-                record.numbers(definition.key_offset, definition.key_length)
-            }
-            Place::Empty(key) => {
-                if key.bytes().len() as u64 != definition.key_length {
-                    return None;
-                }
-                key.numbers(0, definition.key_length)
-            }
+            Place::Filled(record) => record.mark(),
+            Place::Empty(key) => key.whole_mark(),
         }
     }
 
@@ -85,17 +78,9 @@ impl Place {
         requires sought { IfSome sought (AreKeyNumbers definition key.now) }
         ensures { result ≡ bytes_cmp (place_key definition self.now) key.now }
     {
-        let Some(sought) = sought else {
-            return order_of(self.key(definition), key);
-        };
-        let Some(own) = self.numbers(definition) else {
-            return order_of(self.key(definition), key);
-        };
-        let order = own.order(sought);
-        if key.len() > Numbers::BYTES && order.is_eq() {
-            order_of(self.key(definition), key)
-        } else {
-            order
+        match marked_order(self.mark(), definition, key, sought) {
+            Some(order) => order,
+            None => order_of(self.key(definition), key),
         }
     }
 
@@ -160,6 +145,30 @@ fn numbers_of(definition: FileDef, key: &[u8]) -> Option<Numbers>
     Some(Numbers::of(key))
 }
 
+/// How a key with this mark stands to one that is sought. None where the numbers don't tell.
+fn marked_order(
+    mark: Mark,
+    definition: FileDef,
+    key: &[u8],
+    sought: Option<Numbers>,
+) -> Option<Ordering>
+    requires { IfSome sought (AreKeyNumbers definition key.now) }
+    ensures { IfSome result (λ order. (place : Place) → IsPlace definition place
+        → IsPlaceMark place mark → order ≡ bytes_cmp (place_key definition place) key.now) }
+{
+    let Some(sought) = sought else {
+        return None;
+    };
+    if mark.length as u64 != definition.key_length || mark.offset as u64 != definition.key_offset {
+        return None;
+    }
+    let order = mark.numbers.order(sought);
+    if key.len() > Numbers::BYTES && order.is_eq() {
+        return None;
+    }
+    Some(order)
+}
+
 /// The index of a key's place in an interval, or else the one where it would be put in. The keys
 /// rise, so half of the places that are left fall away at each step.
 fn search(
@@ -197,7 +206,23 @@ fn first_order(
     requires sought { IfSome sought (AreKeyNumbers definition key.now) }
     ensures { result ≡ bytes_cmp (key_at definition interval.now 0) key.now }
 {
-    interval.places()[0].order_to(definition, key, sought)
+    match marked_order(interval.head(), definition, key, sought) {
+        Some(order) => order,
+        None => order_of(interval.places()[0].key(definition), key),
+    }
+}
+
+/// How the first key of an area stands to one that is sought.
+fn area_order(definition: FileDef, area: &Area, key: &[u8], sought: Option<Numbers>) -> Ordering
+    requires some { 0 < length area.now }
+    requires first { HasFirst definition (interval_in area.now 0) }
+    requires sought { IfSome sought (AreKeyNumbers definition key.now) }
+    ensures { result ≡ bytes_cmp (first_key_of definition area.now) key.now }
+{
+    match marked_order(area.head(), definition, key, sought) {
+        Some(order) => order,
+        None => order_of(area.intervals()[0].places()[0].key(definition), key),
+    }
 }
 
 /// The number of the last interval whose first key isn't above the key, or else of the first one.
@@ -239,7 +264,7 @@ fn area_of(definition: FileDef, areas: &[Area], key: &[u8], sought: Option<Numbe
     let mut high = areas.len();
     while high - low > 1 {
         let middle = low + (high - low) / 2;
-        match first_order(definition, &areas[middle].intervals()[0], key, sought) {
+        match area_order(definition, &areas[middle], key, sought) {
             Ordering::Less => low = middle,
             Ordering::Equal => low = middle,
             Ordering::Greater => high = middle,

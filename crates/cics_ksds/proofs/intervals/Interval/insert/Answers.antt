@@ -1,5 +1,7 @@
-use Rattle.std.proofs.Common.{◌≤◌, [], ◌∷◌, ◌∙◌, length, ap, arith}
+use Rattle.std.proofs.Common.{◌≤◌, [], ◌∷◌, ◌∙◌, length, ap, List, subst, arith}
 use Rattle.std.proofs.lemmas.List.Edits.{length-insert}
+use Rattle.cics_ksds.specs.Heads.{IsHead}
+use Rattle.cics_ksds.specs.declared.places.Place.{Place}
 use Rattle.cics_ksds.specs.Places.{listed}
 use Rattle.cics_ksds.proofs.Counts.{records_insert, records_others}
 use Rattle.cics_ksds.proofs.intervals.Interval.insert.Goals as goal
@@ -14,4 +16,5 @@ invariant_of-self c =
       at_most = omega (arith, ap length c.insert_reserved.ensures.items, length-insert c.self.inside.places.items c.args.at c.args.place le, ap length c.self.view_is, c.requires.room);
       room = c.insert_reserved.ensures.capacity ∙ c.self.invariant.room;
       counted = omega (arith, ap (λ l. length (listed l)) c.insert_reserved.ensures.items, records_insert c.self.inside.places.items c.args.at c.args.place le, c.self.invariant.counted, c.records.ensures);
+      head = subst (λ (l : List Place). IsHead l c.head_of-self-inside.result) c.as_slice.ensures.value c.head_of-self-inside.ensures;
     }

@@ -1,5 +1,7 @@
-use Rattle.std.proofs.Common.{◌≡◌, ◌<◌, length, get_or, set, ◌∙◌, ap, arith}
+use Rattle.std.proofs.Common.{◌≡◌, ◌<◌, length, get_or, set, ◌∙◌, ap, List, subst, arith}
 use Rattle.std.proofs.lemmas.List.{length-set, get_or_default}
+use Rattle.cics_ksds.specs.Heads.{IsHead}
+use Rattle.cics_ksds.specs.declared.places.Place.{Place}
 use Rattle.cics_ksds.specs.Places.{listed}
 use Rattle.cics_ksds.proofs.Counts.{records_set, records_remove, records_others}
 use Rattle.cics_ksds.proofs.intervals.Interval.put.Goals as goal
@@ -45,4 +47,5 @@ invariant_of-self c =
         c.records.ensures,
         c.records-comes.ensures,
       );
+      head = subst (λ (l : List Place). IsHead l c.head_of-self-inside.result) c.as_slice.ensures.value c.head_of-self-inside.ensures;
     }

@@ -1,5 +1,7 @@
-use Rattle.std.proofs.Common.{◌<◌, ◌∙◌, length, ap, arith}
+use Rattle.std.proofs.Common.{◌<◌, ◌∙◌, length, ap, List, subst, arith}
 use Rattle.std.proofs.lemmas.List.Edits.{length-remove}
+use Rattle.cics_ksds.specs.Heads.{IsHead}
+use Rattle.cics_ksds.specs.declared.places.Place.{Place}
 use Rattle.cics_ksds.specs.Places.{listed}
 use Rattle.cics_ksds.proofs.Counts.{records_remove}
 use Rattle.cics_ksds.proofs.intervals.Interval.remove.Goals as goal
@@ -26,4 +28,5 @@ invariant_of-self c =
         c.self.invariant.counted,
         c.records.ensures,
       );
+      head = subst (λ (l : List Place). IsHead l c.head_of-self-inside.result) c.as_slice.ensures.value c.head_of-self-inside.ensures;
     }

@@ -1,4 +1,6 @@
-use Rattle.std.proofs.Common.{◌∙◌, length, ap, arith, length-take-le}
+use Rattle.std.proofs.Common.{◌∙◌, length, ap, List, subst, arith, length-take-le}
+use Rattle.cics_ksds.specs.Heads.{IsHead}
+use Rattle.cics_ksds.specs.declared.places.Place.{Place}
 use Rattle.cics_ksds.specs.Places.{listed}
 use Rattle.cics_ksds.proofs.Counts.{records_halves}
 use Rattle.cics_ksds.proofs.intervals.Interval.split.Goals as goal
@@ -15,4 +17,5 @@ invariant_of-self c = record {
     c.records_in-moved.ensures,
     c.self.invariant.counted,
   );
+  head = subst (λ (l : List Place). IsHead l c.head_of-self-inside.result) c.as_slice-3.ensures.value c.head_of-self-inside.ensures;
 }
