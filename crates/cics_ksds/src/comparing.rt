@@ -28,7 +28,9 @@ fn word_of(key: &[u8]) -> u64
 /// has in common with the first don't change the order where the first numbers are equal.
 #[derive(Clone, Copy, Debug)]
 pub(crate) struct Numbers {
+    /// The first eight bytes.
     pub(crate) first: u64,
+    /// The next eight bytes, or the last eight of a key with fewer than 16.
     pub(crate) second: u64,
 }
 

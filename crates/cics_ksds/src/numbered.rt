@@ -15,6 +15,7 @@ pub(crate) struct Mark {
     pub(crate) offset: u32,
     /// How many bytes the key has. It is 0 where there are no numbers of it.
     pub(crate) length: u32,
+    /// Its first bytes, by which it is compared.
     pub(crate) numbers: Numbers,
 }
 
@@ -66,6 +67,7 @@ impl Mark {
 #[derive(Debug, Drop)]
 pub(crate) struct Numbered {
     content: Record,
+    /// Where the key lies in the record, and its numbers.
     mark: Mark,
 }
 
