@@ -1,5 +1,5 @@
 -- The numbers of the first key of an interval, and of an area, which are kept beside them.
-use Rattle.std.specs.Prelude.{◌≡◌, ℕ, ◌<◌, List, [], ◌∷◌, length}
+use Rattle.std.specs.Prelude.{◌≡◌, ◌<◌, List, [], ◌∷◌, length}
 use Rattle.cics_ksds.specs.declared.numbered.Mark.{Mark}
 use Rattle.cics_ksds.specs.declared.places.Place.{Place}
 use Rattle.cics_ksds.specs.declared.places.Place.TheVariants.{Filled, Empty}

@@ -1,10 +1,8 @@
-use Rattle.std.proofs.Common.{◌≡◌, ◌≤◌, ◌<◌, ◌+◌, ℕ, List, IfSome, IsTrue, length, take, drop, false, true, refl, sym, ◌∙◌, ap, subst, arith}
+use Rattle.std.proofs.Common.{◌≡◌, ◌≤◌, ◌<◌, ◌+◌, ℕ, IfSome, IsTrue, length, take, drop, false, true, sym, ◌∙◌, ap, subst, arith}
 use Rattle.std.proofs.lemmas.List.{length-take-le, length-drop}
-use Rattle.std.specs.declared.cmp.Ordering.{Ordering}
 use Rattle.std.specs.declared.cmp.Ordering.TheVariants.{Equal}
-use Rattle.std.specs.Ordering.{is_eq, nat_cmp, ordering_then}
-use Rattle.cics_names.specs.Keyed.{Bytes, bytes_cmp}
-use Rattle.cics_ksds.specs.declared.comparing.Numbers.{Numbers}
+use Rattle.std.specs.Ordering.{is_eq}
+use Rattle.cics_names.specs.Keyed.{Bytes}
 use Rattle.cics_ksds.specs.declared.definition.FileDef.{FileDef}
 use Rattle.cics_ksds.specs.declared.numbered.Mark.{Mark}
 use Rattle.cics_ksds.specs.declared.places.Place.{Place}
