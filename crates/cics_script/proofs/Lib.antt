@@ -3,6 +3,7 @@ mod Unfilled
 pub mod Numbers
 pub mod Copies
 pub mod Tables
+pub mod PlainTexts
 pub mod Digits
 pub mod TokenSteps
 pub mod OptionSteps

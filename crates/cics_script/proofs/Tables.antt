@@ -1,12 +1,14 @@
 -- Tables are read as functions of the index.
 use Rattle.std.proofs.Common.{◌≡◌, ◌<◌, ℕ, zero, suc, ◌+◌, ◌==◌, ◌&&◌, Bool, true, false, List, [], ◌∷◌, length, get_or, refl, ap, ◌∙◌, arith, zero-add}
 use Rattle.std.proofs.lemmas.Bool.{and_parts}
-use Rattle.cics_names.specs.Ebcdic.{code_of}
+use Rattle.cics_names.specs.Ebcdic.{code_of, character_of}
 use Rattle.cics_script.specs.Tokens.{is_word_byte, capital}
 use Rattle.cics_script.specs.Literals.{is_plain, ebcdic}
+use Rattle.cics_script.specs.Texts.{plain}
 use Rattle.cics_script.specs.declared.tokens.TheConstants.{IN_WORD}
 use Rattle.cics_script.specs.declared.words.TheConstants.{CAPITALS}
 use Rattle.cics_script.specs.declared.literals.TheConstants.{PLAIN, EBCDIC}
+use Rattle.cics_script.specs.declared.texts.TheConstants.{CHARACTERS}
 
 -- whether each entry, from an index on, is read as what a function tells, by a test of when two are one
 unfoldable pub tells : {X Y : Type 0} → (X → Y) → (Y → Y → Bool) → (ℕ → Y) → ℕ → List X → Bool
@@ -63,3 +65,7 @@ read-EBCDIC n within = table_read (λ b. b) (λ a b. a == b) eqb-eq ebcdic EBCDI
 pub read-CAPITALS : (n : ℕ) → n < 256 → get_or CAPITALS n 0 ≡ capital n
 unfolding tells
 read-CAPITALS n within = table_read (λ b. b) (λ a b. a == b) eqb-eq capital CAPITALS 0 refl n within
+
+pub read-CHARACTERS : (n : ℕ) → n < 256 → get_or CHARACTERS n 0 ≡ plain n
+unfolding tells character_of
+read-CHARACTERS n within = table_read (λ b. b) (λ a b. a == b) eqb-eq plain CHARACTERS 0 refl n within

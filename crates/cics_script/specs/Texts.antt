@@ -1,6 +1,6 @@
 -- How byte strings and names are printed: in the characters of EBCDIC code page 037 where they have them, else in
 -- hexadecimal.
-use Rattle.std.specs.Prelude.{ℕ, Bool, ◌+◌, ◌/◌, ◌%◌, ◌==◌, nat_lt, if◌then◌else◌, List, [], ◌∷◌, ◌++◌, codes, is_some}
+use Rattle.std.specs.Prelude.{ℕ, Bool, not, Option, None, Some, ◌+◌, ◌/◌, ◌%◌, ◌==◌, nat_lt, if◌then◌else◌, List, [], ◌∷◌, ◌++◌, codes, is_some}
 use Rattle.std.specs.List.{flat_map, list_all}
 use Rattle.std.specs.Option.{option_to_list}
 use Rattle.cics_names.specs.Ebcdic.{character_of}
@@ -21,6 +21,19 @@ doubled c = if c == 39 then 39 ∷ 39 ∷ [] else c ∷ []
 -- the character of a byte, as it stands between quotes
 abbrev pub quoted : ℕ → List ℕ
 quoted code = flat_map doubled (shown code)
+
+-- a character that stands for itself between quotes, and 0 for a quote or none
+abbrev pub unless_quote : Option ℕ → ℕ
+unless_quote None = 0
+unless_quote (Some c) = if c == 39 then 0 else c
+
+-- the character of a byte that has one which stands for itself between quotes, else 0
+abbrev pub plain : ℕ → ℕ
+plain code = unless_quote (character_of code)
+
+-- whether a byte has such a character
+abbrev pub is_plain : ℕ → Bool
+is_plain code = not (plain code == 0)
 
 -- a hexadecimal digit, the letters as capitals
 abbrev pub digit : ℕ → ℕ

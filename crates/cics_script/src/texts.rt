@@ -1,10 +1,10 @@
 //! The texts of byte strings, names and numbers, each put at the end of what was printed before.
 
-ghost use Rattle.std.specs.Prelude.{◌≡◌, ◌++◌, ◌<◌, OnOk};
+ghost use Rattle.std.specs.Prelude.{◌≡◌, ◌++◌, ◌+◌, ◌<◌, true, length, map, take, OnOk};
 ghost use Rattle.std.specs.List.{flat_map, list_all};
 ghost use Rattle.std.specs.Fmt.{decimal};
 ghost use Rattle.cics_script.specs.Texts.{has_character, quoted, digit, hexadecimal, text_of};
-ghost use Rattle.cics_script.specs.Texts.{unfilled, name_text, bare, shown};
+ghost use Rattle.cics_script.specs.Texts.{unfilled, name_text, bare, shown, plain, is_plain};
 
 use cics_names::{NoMemory, from_ebcdic};
 
@@ -36,14 +36,12 @@ pub fn push_number(out: &mut Vec<u8>, number: u64) -> Result<(), NoMemory>
 pub fn push_text(out: &mut Vec<u8>, bytes: &[u8]) -> Result<(), NoMemory>
     ensures { OnOk result (out.new.items ≡ out.old.items ++ text_of bytes.now) }
 {
-    if has_characters(bytes) {
-        push_str(out, "'")?;
-        push_quoted(out, bytes)?;
+    // Most texts are characters with no quote among them, which are put there at once.
+    if are_plain(bytes) {
+        push_plain(out, bytes)
     } else {
-        push_str(out, "X'")?;
-        push_hexadecimal(out, bytes)?;
+        push_any(out, bytes)
     }
-    push_str(out, "'")
 }
 
 /// Puts a name at the end, in quotes and without the blanks that fill it up.
@@ -62,6 +60,73 @@ pub fn push_bare(out: &mut Vec<u8>, name: &[u8]) -> Result<(), NoMemory>
         push_shown(out, *code)?;
     }
     Ok(())
+}
+
+// The character of each byte that is the code of one other than the quote, and 0 for any other byte.
+// A table, as each byte of a text is looked at twice.
+static CHARACTERS: [u8; 256] = [
+    0, 0, 0, 0, 0, 0, 0, 0, 0, 0, 0, 0, 0, 0, 0, 0, 0, 0, 0, 0, 0, 0, 0, 0, 0, 0, 0, 0, 0, 0, 0, 0,
+    0, 0, 0, 0, 0, 0, 0, 0, 0, 0, 0, 0, 0, 0, 0, 0, 0, 0, 0, 0, 0, 0, 0, 0, 0, 0, 0, 0, 0, 0, 0, 0,
+    32, 0, 0, 0, 0, 0, 0, 0, 0, 0, 0, 46, 60, 40, 43, 0, 38, 0, 0, 0, 0, 0, 0, 0, 0, 0, 0, 36, 42,
+    41, 59, 0, 45, 47, 0, 0, 0, 0, 0, 0, 0, 0, 0, 44, 37, 95, 62, 63, 0, 0, 0, 0, 0, 0, 0, 0, 0, 0,
+    58, 35, 64, 0, 61, 34, 0, 97, 98, 99, 100, 101, 102, 103, 104, 105, 0, 0, 0, 0, 0, 0, 0, 106,
+    107, 108, 109, 110, 111, 112, 113, 114, 0, 0, 0, 0, 0, 0, 0, 0, 115, 116, 117, 118, 119, 120,
+    121, 122, 0, 0, 0, 0, 0, 0, 0, 0, 0, 0, 0, 0, 0, 0, 0, 0, 0, 0, 0, 0, 0, 0, 0, 65, 66, 67, 68,
+    69, 70, 71, 72, 73, 0, 0, 0, 0, 0, 0, 0, 74, 75, 76, 77, 78, 79, 80, 81, 82, 0, 0, 0, 0, 0, 0,
+    0, 0, 83, 84, 85, 86, 87, 88, 89, 90, 0, 0, 0, 0, 0, 0, 48, 49, 50, 51, 52, 53, 54, 55, 56, 57,
+    0, 0, 0, 0, 0, 0,
+];
+
+// The character of a byte that has one other than the quote, else 0.
+fn plain_character(code: u8) -> u8
+    ensures { result ≡ plain code }
+{
+    CHARACTERS[usize::from(code)]
+}
+
+// Whether every byte is the code of a character other than the quote.
+fn are_plain(bytes: &[u8]) -> bool
+    ensures { result ≡ list_all is_plain bytes.now }
+{
+    bytes.iter().all(|code| plain_character(*code) != 0)
+}
+
+// Puts the character of each code over the end of a text, from this place on.
+fn put_characters(text: &mut [u8], start: usize, codes: &[u8])
+    requires { start + length codes.now ≡ length text.old }
+    ensures { text.new ≡ take start text.old ++ map plain codes.now }
+{
+    for (i, code) in codes.iter().enumerate() {
+        text[start + i] = plain_character(*code);
+    }
+}
+
+// A text of characters with no quote among them.
+fn push_plain(out: &mut Vec<u8>, bytes: &[u8]) -> Result<(), NoMemory>
+    requires { list_all is_plain bytes.now ≡ true }
+    ensures { OnOk result (out.new.items ≡ out.old.items ++ text_of bytes.now) }
+{
+    out.push(b'\'')?;
+    let start = out.len();
+    out.extend_from_slice(bytes)?;
+    put_characters(out, start, bytes);
+    out.push(b'\'')?;
+    Ok(())
+}
+
+// A text of any bytes.
+#[inline(never)]
+fn push_any(out: &mut Vec<u8>, bytes: &[u8]) -> Result<(), NoMemory>
+    ensures { OnOk result (out.new.items ≡ out.old.items ++ text_of bytes.now) }
+{
+    if has_characters(bytes) {
+        push_str(out, "'")?;
+        push_quoted(out, bytes)?;
+    } else {
+        push_str(out, "X'")?;
+        push_hexadecimal(out, bytes)?;
+    }
+    push_str(out, "'")
 }
 
 // Whether a byte is the code of a character.

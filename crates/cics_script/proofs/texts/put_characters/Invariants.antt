@@ -1,0 +1,6 @@
+use Rattle.std.proofs.Common.{◌≡◌, ◌+◌, ◌++◌, length, map, take}
+use Rattle.cics_script.specs.Texts.{plain}
+use Rattle.cics_script.proofs.texts.put_characters.Given as goal
+
+abbrev pub invariant-loop-i : goal.invariant-loop-i
+invariant-loop-i l = (length l.text ≡ length l.fn.text) × (take (l.start + l.i) l.text ≡ take l.start l.fn.text ++ map plain (take l.i l.codes))
