@@ -12,10 +12,10 @@ use Rattle.cics_script.specs.declared.words.OptionWord.{OptionWord}
 use Rattle.cics_script.specs.declared.words.Kind.{Kind}
 use Rattle.cics_script.specs.declared.words.Kind.TheVariants.{Flag, Text, Name8, Name4, Number, Area, Last}
 use Rattle.cics_script.specs.Faults.{◌>>=◌, Refuses}
-use Rattle.cics_script.specs.Tokens.{Token, word, tokens}
+use Rattle.cics_script.specs.Tokens.{Token, word, number, literal, opening, closing, broken, tokens}
 use Rattle.cics_script.specs.Words.{lookup, option_words, kind_in}
-use Rattle.cics_script.specs.Options.{Entry, Place, at_option, at_opening, at_end, behind_option, reads, named, entered, allowed}
-use Rattle.cics_script.specs.Views.{Enters, Ends, GivesEntries, content, entries}
+use Rattle.cics_script.specs.Options.{Content, Entry, Place, at_option, at_opening, at_value, at_closing, at_end, behind_option, reads, moves, named, entered, allowed, content_in}
+use Rattle.cics_script.specs.Views.{Enters, Ends, GivesEntries, PutsContent, content, entries}
 
 -- a fault behind a step is the fault of the whole
 pub refuses_behind : {A : Type 0} (read rest : Result A LineFault) (fault : LineFault) → read ≡ rest → Refuses rest fault → Refuses read fault
@@ -58,14 +58,37 @@ pub entries-more : (found : List Found) (one : Found) → entries (found ++ one 
 entries-more found one = map-append (λ f. (f.option, content f.value)) found (one ∷ [])
 
 -- what is still to be read from the place behind an option that was read
-pub reads-past : (form : Form) (last : Option Kind) (found : List Found) (bytes w behind : List ℕ) (next : Next) (place : Place) (whole : Result (List Entry) LineFault)
-    → reads form (at_option last) (entries found) (tokens bytes) ≡ whole → tokens bytes ≡ word w ∷ tokens behind
-    → Enters form last (entries found) w behind (Ok next) → behind_option next.kind ≡ place
-    → reads form place (entries (found ++ next.one ∷ [])) (tokens next.rest.now) ≡ whole
-reads-past form last found bytes w behind next place whole so_far first enters here =
-    ap (λ es. reads form place es (tokens next.rest.now)) (entries-more found next.one)
-    ∙ ap (λ p. reads form p (entries found ++ (next.one.option, content next.one.value) ∷ []) (tokens next.rest.now)) (sym here)
-    ∙ sym enters.0 ∙ sym (ap (λ ts. reads form (at_option last) (entries found) ts) first) ∙ so_far
+pub reads-past : (form : Form) (last : Option Kind) (found after : List Entry) (bytes w behind : List ℕ) (next : Next) (place : Place) (whole : Result (List Entry) LineFault)
+    → reads form (at_option last) found (tokens bytes) ≡ whole → tokens bytes ≡ word w ∷ tokens behind
+    → Enters form last found after w behind (Ok next) → behind_option next.kind ≡ place
+    → reads form place after (tokens next.rest.now) ≡ whole
+reads-past form last found after bytes w behind next place whole so_far first enters here =
+    ap (λ p. reads form p after (tokens next.rest.now)) (sym here)
+    ∙ sym enters.0 ∙ sym (ap (λ ts. reads form (at_option last) found ts) first) ∙ so_far
+
+-- a token as a value
+moves-value : (form : Form) (option : OptionWord) (kind : Kind) (found : List Entry) (t : Token)
+    → moves form (at_value option kind) found t ≡ (content_in kind t >>= λ c. Ok (at_closing option kind c, found))
+moves-value form option kind found (word w) = refl
+moves-value form option kind found (number n) = refl
+moves-value form option kind found (literal notation text) = refl
+moves-value form option kind found opening = refl
+moves-value form option kind found closing = refl
+moves-value form option kind found (broken fault) = refl
+
+pub value-step : (form : Form) (option : OptionWord) (kind : Kind) (found : List Entry) (t : Token) (bytes rest : List ℕ) (c : Content)
+    → tokens bytes ≡ t ∷ tokens rest → content_in kind t ≡ Ok c
+    → reads form (at_value option kind) found (tokens bytes) ≡ reads form (at_closing option kind c) found (tokens rest)
+value-step form option kind found t bytes rest c first is =
+    ap (λ ts. reads form (at_value option kind) found ts) first
+    ∙ ap (λ m. m >>= λ s. reads form s.0 s.1 (tokens rest)) (moves-value form option kind found t ∙ ap (λ r. r >>= λ c. Ok (at_closing option kind c, found)) is)
+
+pub value-refused : (form : Form) (option : OptionWord) (kind : Kind) (found : List Entry) (t : Token) (bytes rest : List ℕ) (fault : LineFault)
+    → tokens bytes ≡ t ∷ tokens rest → Refuses (content_in kind t) fault
+    → Refuses (reads form (at_value option kind) found (tokens bytes)) fault
+value-refused form option kind found t bytes rest fault first refuses = λ remembered.
+    ap (λ ts. reads form (at_value option kind) found ts) first
+    ∙ ap (λ m. m >>= λ s. reads form s.0 s.1 (tokens rest)) (moves-value form option kind found t ∙ ap (λ r. r >>= λ c. Ok (at_closing option kind c, found)) (refuses remembered))
 
 -- where the line has to end, the options that were read are all
 pub ended : (form : Form) (bytes : List ℕ) (found : ArrayVec Found) (whole : Result (List Entry) LineFault) (result : Result (Unit {0}) LineFault)
@@ -73,3 +96,8 @@ pub ended : (form : Form) (bytes : List ℕ) (found : ArrayVec Found) (whole : R
     → GivesEntries whole (result_map_both (λ done. found) (λ fault. fault) result)
 ended form bytes found whole (Ok end) so_far ends = sym so_far ∙ ends form (entries found.items)
 ended form bytes found whole (Err fault) so_far ends = refuses_behind whole _ fault (sym so_far) (ends form (entries found.items))
+
+-- an option put behind others, with the content that was read
+pub put-one : (read : Result Content LineFault) (found after : List Found) (one : Found) → read ≡ Ok (content one.value) → after ≡ found ++ one ∷ []
+    → PutsContent read one.option (entries found) (entries after) (Ok tt)
+put-one read found after one is items = (content one.value, is, ap entries items ∙ entries-more found one)

@@ -171,3 +171,16 @@ taken_word bytes front w rest c others n here is letter no_x count whole behind 
     let some : 0 < length (after_blanks bytes) = rw (sym here ∙ is) (omega arith) in
     taken bytes (word (map capital w)) rest some
     (ap token_at (sym here ∙ is) ∙ token_at-letter c others letter other ∙ ap word_at (sym is) ∙ read)
+
+-- a literal in quotes, with no blank in front
+quote-front : (behind : List ℕ) → token_at (39 ∷ behind) ≡ as_literal Quoted (text_in Quoted behind)
+quote-front [] = refl
+quote-front (d ∷ behind) = refl
+
+pub taken_quoted : (bytes behind rest : List ℕ) (c : ℕ) → bytes ≡ c ∷ behind → is_quote c ≡ true → Some rest ≡ option_map (λ t. t.1) (text_in Quoted behind)
+    → (tokens bytes ≡ literal Quoted (said (text_in Quoted behind)) ∷ tokens rest) × (length rest < length bytes)
+taken_quoted bytes behind rest c is quote ends =
+    let same : c ≡ 39 = grind (arith, nat_tests, quote) in
+    let here : bytes ≡ 39 ∷ behind = is ∙ ap (λ q. q ∷ behind) same in
+    subst (λ b. (tokens b ≡ literal Quoted (said (text_in Quoted behind)) ∷ tokens rest) × (length rest < length b)) (sym here)
+    (taken (39 ∷ behind) _ rest (omega arith) (quote-front behind ∙ as_literal-ends Quoted (text_in Quoted behind) rest ends))

@@ -71,10 +71,15 @@ abbrev pub GivesText : Result (List ℕ) LineFault → Result (CowSlice ℕ Glob
 GivesText read (Ok made) = read ≡ Ok (cow_slice_items made)
 GivesText read (Err fault) = Refuses read fault
 
--- what reading a value gave
-abbrev pub GivesContent : Result Content LineFault → Result Value LineFault → Type 0
-GivesContent read (Ok value) = read ≡ Ok (content value)
-GivesContent read (Err fault) = Refuses read fault
+-- what reading a name gave
+abbrev pub GivesName : (List ℕ → Content) → Result Content LineFault → Result (List ℕ) LineFault → Type 0
+GivesName made read (Ok name) = read ≡ Ok (made name)
+GivesName made read (Err fault) = Refuses read fault
+
+-- what putting an option with its content behind others gave
+abbrev pub PutsContent : Result Content LineFault → OptionWord → List Entry → List Entry → Result (Unit {0}) LineFault → Type 0
+PutsContent read option before after (Ok done) = (c : Content) × (read ≡ Ok c) × (after ≡ before ++ (option, c) ∷ [])
+PutsContent read option before after (Err fault) = Refuses read fault
 
 -- what a step of the options gave: a place further on, with the same reading from there, or the reading's fault
 abbrev pub Steps : {X : Type 0} → Form → List Entry → Place → List ℕ → (X → Place × List Entry × List ℕ) → Result X LineFault → Type 0
@@ -87,27 +92,30 @@ abbrev pub Opens : Kind → List ℕ → Result (Bor (List ℕ)) LineFault → T
 Opens kind bytes result = (f : Form) (found : List Entry) (w : OptionWord)
     → Steps f found (at_opening w kind) bytes (λ rest. (at_value w kind, found, rest.now)) result
 
--- what reading the content of parentheses gave
-abbrev pub Fills : Kind → List ℕ → Result (Value × Bor (List ℕ)) LineFault → Type 0
-Fills kind bytes result = (f : Form) (found : List Entry) (w : OptionWord)
-    → Steps f found (at_value w kind) bytes (λ x. (at_closing w kind (content x.0), found, x.1.now)) result
+-- what reading the content of parentheses gave, with the option put behind others
+abbrev pub Fills : Kind → OptionWord → List Entry → List Entry → List ℕ → Result (Bor (List ℕ)) LineFault → Type 0
+Fills kind option before after bytes (Ok rest) =
+    (c : Content) × (after ≡ before ++ (option, c) ∷ [])
+    × ((f : Form) → reads f (at_value option kind) before (tokens bytes) ≡ reads f (at_closing option kind c) before (tokens rest.now))
+    × (length rest.now < length bytes)
+Fills kind option before after bytes (Err fault) = (f : Form) → Refuses (reads f (at_value option kind) before (tokens bytes)) fault
 
 -- what reading a closing parenthesis gave, behind whatever content
 abbrev pub Shuts : Kind → List ℕ → Result (Bor (List ℕ)) LineFault → Type 0
 Shuts kind bytes result = (f : Form) (found : List Entry) (w : OptionWord) (c : Content)
     → Steps f found (at_closing w kind c) bytes (λ rest. (at_option (Some kind), found ++ (w, c) ∷ [], rest.now)) result
 
--- what reading a value with its parentheses gave
-abbrev pub HasValue : Kind → List ℕ → Result (Value × Bor (List ℕ)) LineFault → Type 0
-HasValue kind bytes result = (f : Form) (found : List Entry) (w : OptionWord)
-    → Steps f found (at_opening w kind) bytes (λ x. (at_option (Some kind), found ++ (w, content x.0) ∷ [], x.1.now)) result
+-- what reading a value with its parentheses gave, with the option put behind others
+abbrev pub HasValue : Kind → OptionWord → List Entry → List Entry → List ℕ → Result (Bor (List ℕ)) LineFault → Type 0
+HasValue kind option before after bytes result = (f : Form)
+    → Steps f before (at_opening option kind) bytes (λ rest. (at_option (Some kind), after, rest.now)) result
 
--- what reading an option behind its word gave
-abbrev pub Enters : Form → Option Kind → List Entry → List ℕ → List ℕ → Result Next LineFault → Type 0
-Enters form last found w bytes (Ok next) =
-    (reads form (at_option last) found (word w ∷ tokens bytes) ≡ reads form (behind_option next.kind) (found ++ (next.one.option, content next.one.value) ∷ []) (tokens next.rest.now))
+-- what reading an option behind its word gave, with the option put behind others
+abbrev pub Enters : Form → Option Kind → List Entry → List Entry → List ℕ → List ℕ → Result Next LineFault → Type 0
+Enters form last before after w bytes (Ok next) =
+    (reads form (at_option last) before (word w ∷ tokens bytes) ≡ reads form (behind_option next.kind) after (tokens next.rest.now))
     × (length next.rest.now ≤ length bytes)
-Enters form last found w bytes (Err fault) = Refuses (reads form (at_option last) found (word w ∷ tokens bytes)) fault
+Enters form last before after w bytes (Err fault) = Refuses (reads form (at_option last) before (word w ∷ tokens bytes)) fault
 
 -- what looking for the line's end gave
 abbrev pub Ends : List ℕ → Result Unit LineFault → Type 0

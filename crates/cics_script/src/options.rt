@@ -1,19 +1,19 @@
 //! Reads the options of a line.
 
-ghost use Rattle.std.specs.Prelude.{◌≡◌, ◌<◌, List, [], ◌∷◌, Option, None, Ok, Err, IfSome};
+ghost use Rattle.std.specs.Prelude.{◌≡◌, ◌<◌, List, [], ◌∷◌, ◌++◌, Option, None, Ok, Err, IfSome};
 ghost use Rattle.std.specs.Prelude.{IfOk, IfErr, map, length};
 ghost use Rattle.std.specs.Result.{result_map_both};
 ghost use Rattle.std.specs.List.{list_any};
 ghost use Rattle.cics_script.specs.Words.{same, excludes, kind_in};
 ghost use Rattle.cics_script.specs.Tokens.{tokens, word, capital};
 ghost use Rattle.cics_script.specs.Options.{fault_of, quoted, content_in, surplus, allowed};
-ghost use Rattle.cics_script.specs.Options.{Entry, reads, at_option, options};
-ghost use Rattle.cics_script.specs.Views.{view, entries, GivesText, GivesContent, GivesEntries};
+ghost use Rattle.cics_script.specs.Options.{Content, Entry, reads, at_option, options};
+ghost use Rattle.cics_script.specs.Views.{view, entries, GivesText, GivesName, PutsContent, GivesEntries};
 ghost use Rattle.cics_script.specs.Views.{Opens, Fills, Shuts, HasValue, Enters, Ends};
 
 use crate::faults::LineFault;
 use crate::literals::{Encoding, Literal, Notation};
-use crate::tokens::{Token, next_token, next_word};
+use crate::tokens::{Token, next_quoted, next_token, next_word};
 use crate::words::{
     Form, Kind, OptionWord, is_excluded, is_exclusive, is_same, kind_of, option_named,
 };
@@ -58,10 +58,9 @@ impl Default for Found<'_> {
     }
 }
 
-/// An option that was read, and the line behind it.
+/// What an option that was read takes, and the line behind it.
 #[derive(Clone, Copy, Debug)]
 struct Next<'a> {
-    one: Found<'a>,
     kind: Kind,
     rest: &'a [u8],
 }
@@ -102,40 +101,101 @@ fn quoted_text(alloc: Global, literal: Literal<'_>) -> Result<CowSlice<'_, u8, G
     }
 }
 
-fn name8_of(alloc: Global, literal: Literal<'_>) -> Result<Value<'_>, LineFault>
-    ensures { GivesContent (content_in Kind.Name8 (view (Token.Literal literal.entry))) result }
+fn name8_of(alloc: Global, literal: Literal<'_>) -> Result<Name8, LineFault>
+    ensures { GivesName Content.name8
+        (content_in Kind.Name8 (view (Token.Literal literal.entry))) result }
 {
     match quoted_text(alloc, literal) {
         Ok(text) => match Name8::new(&text) {
-            Ok(name) => Ok(Value::Name8(name)),
+            Ok(name) => Ok(name),
             Err(_) => Err(LineFault::BadLiteral),
         },
         Err(fault) => Err(fault),
     }
 }
 
-fn name4_of(alloc: Global, literal: Literal<'_>) -> Result<Value<'_>, LineFault>
-    ensures { GivesContent (content_in Kind.Name4 (view (Token.Literal literal.entry))) result }
+fn name4_of(alloc: Global, literal: Literal<'_>) -> Result<Name4, LineFault>
+    ensures { GivesName Content.name4
+        (content_in Kind.Name4 (view (Token.Literal literal.entry))) result }
 {
     match quoted_text(alloc, literal) {
         Ok(text) => match Name4::new(&text) {
-            Ok(name) => Ok(Value::Name4(name)),
+            Ok(name) => Ok(name),
             Err(_) => Err(LineFault::BadLiteral),
         },
         Err(fault) => Err(fault),
     }
 }
 
-// A token as a value of this kind.
-fn value_of<'a>(alloc: Global, kind: Kind, token: Token<'a>) -> Result<Value<'a>, LineFault>
-    ensures { GivesContent (content_in kind (view token.entry)) result }
+// Puts an option with a literal of its kind behind those that were read. Each kind of value is put
+// where it is made: one that is handed on is moved again and again.
+fn put_literal<'a>(
+    alloc: Global,
+    kind: Kind,
+    literal: Literal<'a>,
+    option: OptionWord,
+    found: &mut Options<'a>,
+) -> Result<(), LineFault>
+    requires { length found.old.items < 13 }
+    ensures { PutsContent (content_in kind (view (Token.Literal literal.entry))) option
+        (entries found.old.items) (entries found.new.items) result }
+{
+    match kind {
+        Kind::Text => found.push(Found {
+            option,
+            value: Value::Text(literal),
+        }),
+        Kind::Name8 => match name8_of(alloc, literal) {
+            Ok(name) => found.push(Found {
+                option,
+                value: Value::Name8(name),
+            }),
+            Err(fault) => return Err(fault),
+        },
+        Kind::Name4 => match name4_of(alloc, literal) {
+            Ok(name) => found.push(Found {
+                option,
+                value: Value::Name4(name),
+            }),
+            Err(fault) => return Err(fault),
+        },
+        Kind::Area => found.push(Found {
+            option,
+            value: Value::Nothing,
+        }),
+        _ => return Err(wrong_value(kind)),
+    }
+    Ok(())
+}
+
+// Puts an option with a token as a value of its kind behind those that were read.
+fn put_token<'a>(
+    alloc: Global,
+    kind: Kind,
+    token: Token<'a>,
+    option: OptionWord,
+    found: &mut Options<'a>,
+) -> Result<(), LineFault>
+    requires { length found.old.items < 13 }
+    ensures { PutsContent (content_in kind (view token.entry)) option
+        (entries found.old.items) (entries found.new.items) result }
 {
     match (kind, token) {
-        (Kind::Text, Token::Literal(literal)) => Ok(Value::Text(literal)),
-        (Kind::Name8, Token::Literal(literal)) => name8_of(alloc, literal),
-        (Kind::Name4, Token::Literal(literal)) => name4_of(alloc, literal),
-        (Kind::Number | Kind::Area, Token::Number(number)) => Ok(Value::Number(number)),
-        (Kind::Area, Token::Literal(_) | Token::Word(_)) => Ok(Value::Nothing),
+        (_, Token::Literal(literal)) => put_literal(alloc, kind, literal, option, found),
+        (Kind::Number | Kind::Area, Token::Number(number)) => {
+            found.push(Found {
+                option,
+                value: Value::Number(number),
+            });
+            Ok(())
+        }
+        (Kind::Area, Token::Word(_)) => {
+            found.push(Found {
+                option,
+                value: Value::Nothing,
+            });
+            Ok(())
+        }
         _ => Err(wrong_value(kind)),
     }
 }
@@ -155,13 +215,29 @@ fn read_opening(kind: Kind, bytes: &[u8]) -> Result<&[u8], LineFault>
     }
 }
 
-// An option's value, and the line behind it.
-fn read_content(alloc: Global, kind: Kind, bytes: &[u8]) -> Result<(Value<'_>, &[u8]), LineFault>
-    ensures { Fills kind bytes.now result }
+// Puts an option with what stands as its value behind those that were read. The line behind the
+// value.
+fn read_content<'a>(
+    alloc: Global,
+    kind: Kind,
+    bytes: &'a [u8],
+    option: OptionWord,
+    found: &mut Options<'a>,
+) -> Result<&'a [u8], LineFault>
+    requires { length found.old.items < 13 }
+    ensures { Fills kind option (entries found.old.items) (entries found.new.items)
+        bytes.entry.now result }
 {
+    // Most values are literals in quotes, right behind the parenthesis.
+    if let Some((literal, rest)) = next_quoted(bytes) {
+        return match put_literal(alloc, kind, literal, option, found) {
+            Ok(()) => Ok(rest),
+            Err(fault) => Err(fault),
+        };
+    }
     match next_token(bytes) {
-        Ok(Some((token, rest))) => match value_of(alloc, kind, token) {
-            Ok(value) => Ok((value, rest)),
+        Ok(Some((token, rest))) => match put_token(alloc, kind, token, option, found) {
+            Ok(()) => Ok(rest),
             Err(fault) => Err(fault),
         },
         Ok(None) => Err(wrong_value(kind)),
@@ -184,20 +260,30 @@ fn read_closing(kind: Kind, bytes: &[u8]) -> Result<&[u8], LineFault>
     }
 }
 
-// An option's value with its parentheses, and the line behind them.
-fn read_value(alloc: Global, kind: Kind, bytes: &[u8]) -> Result<(Value<'_>, &[u8]), LineFault>
-    ensures { HasValue kind bytes.now result }
+// Puts an option with its value in parentheses behind those that were read. The line behind them.
+fn read_value<'a>(
+    alloc: Global,
+    kind: Kind,
+    bytes: &'a [u8],
+    option: OptionWord,
+    found: &mut Options<'a>,
+) -> Result<&'a [u8], LineFault>
+    requires { length found.old.items < 13 }
+    ensures put { IfOk result (λ rest. (content : Content)
+        × (entries found.new.items ≡ entries found.old.items ++ (option, content) ∷ [])) }
+    ensures value { HasValue kind option (entries found.old.items) (entries found.new.items)
+        bytes.entry.now result }
 {
     let inside = match read_opening(kind, bytes) {
         Ok(inside) => inside,
         Err(fault) => return Err(fault),
     };
-    let (value, behind) = match read_content(alloc, kind, inside) {
-        Ok(found) => found,
+    let behind = match read_content(alloc, kind, inside, option, found) {
+        Ok(behind) => behind,
         Err(fault) => return Err(fault),
     };
     match read_closing(kind, behind) {
-        Ok(rest) => Ok((value, rest)),
+        Ok(rest) => Ok(rest),
         Err(fault) => Err(fault),
     }
 }
@@ -244,19 +330,23 @@ fn allowed_kind(form: Form, found: &[Found<'_>], option: OptionWord) -> Result<K
     Ok(kind)
 }
 
-// The option of a word, with its value, and the line behind it.
+// Puts the option of a word, with its value, behind those that were read.
 fn read_option<'a>(
     alloc: Global,
     form: Form,
-    found: &[Found<'a>],
+    found: &mut Options<'a>,
     word: &[u8],
     bytes: &'a [u8],
 ) -> Result<Next<'a>, LineFault>
-    ensures allowed { IfOk result (λ next.
-        allowed (entries found.now) next.one.option (kind_in form next.one.option)
-        ≡ Ok next.kind) }
+    requires { (option : OptionWord) (kind : Kind) →
+        allowed (entries found.old.items) option (kind_in form option) ≡ Ok kind →
+        length found.old.items < 13 }
+    ensures allowed { IfOk result (λ next. (option : OptionWord) × (content : Content)
+        × (entries found.new.items ≡ entries found.old.items ++ (option, content) ∷ [])
+        × (allowed (entries found.old.items) option (kind_in form option) ≡ Ok next.kind)) }
     ensures reading { (last : Option Kind) →
-        Enters form last (entries found.now) (map capital word.now) bytes.entry.now result }
+        Enters form last (entries found.old.items) (entries found.new.items)
+        (map capital word.now) bytes.entry.now result }
 {
     let Some(option) = option_named(word) else {
         return Err(LineFault::UnknownWord);
@@ -266,20 +356,15 @@ fn read_option<'a>(
         Err(fault) => return Err(fault),
     };
     match kind {
-        Kind::Flag | Kind::Last => Ok(Next {
-            one: Found {
+        Kind::Flag | Kind::Last => {
+            found.push(Found {
                 option,
                 value: Value::Nothing,
-            },
-            kind,
-            rest: bytes,
-        }),
-        _ => match read_value(alloc, kind, bytes) {
-            Ok((value, rest)) => Ok(Next {
-                one: Found { option, value },
-                kind,
-                rest,
-            }),
+            });
+            Ok(Next { kind, rest: bytes })
+        }
+        _ => match read_value(alloc, kind, bytes, option, found) {
+            Ok(rest) => Ok(Next { kind, rest }),
             Err(fault) => Err(fault),
         },
     }
@@ -342,16 +427,13 @@ pub fn read_options<'a>(
             Err(fault) => return Err(fault),
         };
         match read_option(alloc, form, found, word, behind) {
-            Ok(next) => {
-                found.push(next.one);
-                match next.kind {
-                    Kind::Last => return read_end(next.rest),
-                    kind => {
-                        last = Some(kind);
-                        rest = next.rest;
-                    }
+            Ok(next) => match next.kind {
+                Kind::Last => return read_end(next.rest),
+                kind => {
+                    last = Some(kind);
+                    rest = next.rest;
                 }
-            }
+            },
             Err(fault) => return Err(fault),
         }
     }

@@ -88,7 +88,12 @@ fn plain_character(code: u8) -> u8
 fn are_plain(bytes: &[u8]) -> bool
     ensures { result ≡ list_all is_plain bytes.now }
 {
-    bytes.iter().all(|code| plain_character(*code) != 0)
+    // Each is looked at, also behind one that is none: most texts have no other.
+    let mut all = true;
+    for code in bytes {
+        all &= plain_character(*code) != 0;
+    }
+    all
 }
 
 // Puts the character of each code over the end of a text, from this place on.

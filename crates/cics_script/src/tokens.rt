@@ -204,6 +204,19 @@ pub fn next_word(bytes: &[u8]) -> Option<(&[u8], &[u8])>
     Some(front.split_at(word_len(front)))
 }
 
+/// The next token and the line behind it where it is a literal in quotes with no blank in front.
+/// `None` says nothing of the line: then `next_token` tells.
+pub fn next_quoted(bytes: &[u8]) -> Option<(Literal<'_>, &[u8])>
+    ensures { IfSome result (λ found.
+        Takes bytes.now (Ok (Some (Token.Literal found.0, found.1)))) }
+{
+    let (first, behind_quote) = bytes.split_first()?;
+    if !is_quote_byte(*first) {
+        return None;
+    }
+    literal_at(Notation::Quoted, behind_quote)
+}
+
 /// The next token and the line behind it, or nothing at the line's end.
 pub fn next_token(bytes: &[u8]) -> Result<Option<(Token<'_>, &[u8])>, LineFault>
     ensures { Takes bytes.now result }

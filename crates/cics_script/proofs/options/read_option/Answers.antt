@@ -1,4 +1,4 @@
-use Rattle.std.proofs.Common.{arith, ◌∙◌, map}
+use Rattle.std.proofs.Common.{arith, sym, ◌∙◌, map}
 use Rattle.cics_script.specs.Tokens.{capital}
 use Rattle.cics_script.specs.Views.{entries}
 use Rattle.cics_script.proofs.OptionSteps.{refuses_behind, reads-opening, reads-further}
@@ -6,9 +6,9 @@ use Rattle.cics_script.proofs.options.read_option.Goals as goal
 
 pub returns-in-Ok-read_value-clause-reading : goal.returns-in-Ok-read_value-clause-reading
 returns-in-Ok-read_value-clause-reading c last =
-    let step = c.in-Ok-read_value.ensures c.args.form (entries c.args.found.now) c.in-Some.option in (
-      reads-opening c.args.form last (entries c.args.found.now) (map capital c.args.word.now)
-          c.in-Some.option c.in-Ok.kind _ c.in-Some.ensures c.in-Ok.ensures
+    let step = c.in-Ok-read_value.ensures.value c.args.form in (
+      reads-opening c.args.form last (entries c.args.found.now.items) (map capital c.args.word.now)
+          c.in-Some.option c.in-Ok.kind _ c.in-Some.ensures (rw c.deref.ensures.0 at c.in-Ok.ensures)
           c.in_default-kind.not-Flag c.in_default-kind.not-Last ∙ step.0
           ∙ reads-further c.args.form c.in-Ok.kind _ _ c.in_default-kind.not-Last,
       omega (arith, step.1),
@@ -17,5 +17,9 @@ returns-in-Ok-read_value-clause-reading c last =
 pub returns-in-Err-read_value-clause-reading : goal.returns-in-Err-read_value-clause-reading
 returns-in-Err-read_value-clause-reading c last =
     refuses_behind _ _ c.in-Err-read_value.fault
-    (reads-opening c.args.form last (entries c.args.found.now) (map capital c.args.word.now) c.in-Some.option c.in-Ok.kind _ c.in-Some.ensures c.in-Ok.ensures c.in_default-kind.not-Flag c.in_default-kind.not-Last)
-    (c.in-Err-read_value.ensures c.args.form (entries c.args.found.now) c.in-Some.option)
+    (reads-opening c.args.form last (entries c.args.found.now.items) (map capital c.args.word.now) c.in-Some.option c.in-Ok.kind _ c.in-Some.ensures (rw c.deref.ensures.0 at c.in-Ok.ensures) c.in_default-kind.not-Flag c.in_default-kind.not-Last)
+    (c.in-Err-read_value.ensures.value c.args.form)
+
+pub returns-in-Ok-read_value-clause-allowed : goal.returns-in-Ok-read_value-clause-allowed
+returns-in-Ok-read_value-clause-allowed c =
+    (c.in-Some.option, c.in-Ok-read_value.ensures.put.0, c.in-Ok-read_value.ensures.put.1, sym (rw c.deref.ensures.0 at c.in-Ok.ensures))

@@ -1,9 +1,9 @@
-use Rattle.std.proofs.Common.{arith, rules, ◌<◌, ◌∙◌, refl, sym, ap, length}
+use Rattle.std.proofs.Common.{arith, ◌<◌, ◌≡◌, ◌∙◌, refl, sym, ap, subst, length}
 use Rattle.std.proofs.lemmas.List.{length-map}
 use Rattle.cics_script.specs.Options.{Entry, reads, at_option, behind_option}
 use Rattle.cics_script.specs.Views.{content, entries}
-use Rattle.cics_script.proofs.OptionSteps.{refuses_behind, behind_option-open, entries-more, reads-past, ended}
-use Rattle.cics_script.proofs.OptionRoom.{once-none, once-more, once-room}
+use Rattle.cics_script.proofs.OptionSteps.{refuses_behind, behind_option-open, reads-past, ended}
+use Rattle.cics_script.proofs.OptionRoom.{AreOnce, once-none, once-more, once-room}
 use Rattle.cics_script.proofs.options.read_options.Goals as goal
 
 pub returns-in-Err-read_option : goal.returns-in-Err-read_option
@@ -11,7 +11,7 @@ returns-in-Err-read_option c =
     let first = rw c.in-Ok-Some.field-0-is at c.in-Ok-Some.ensures.some in
     refuses_behind _ _ c.in-Err-read_option.fault
     (sym c.options.invariant.read ∙ ap (λ ts. reads c.args.form (at_option c.options.last) (entries c.options.found.items) ts) first.0)
-    (rw c.deref.ensures.0 at (c.in-Err-read_option.ensures.reading c.options.last))
+    (c.in-Err-read_option.ensures.reading c.options.last)
 
 pub options-smaller : goal.options-smaller
 options-smaller c =
@@ -23,26 +23,24 @@ options-smaller c =
 pub options-preserved : goal.options-preserved
 options-preserved c =
     let first = rw c.in-Ok-Some.field-0-is at c.in-Ok-Some.ensures.some in
-    let step = rw c.deref.ensures.0 at c.in-Ok.ensures.reading c.options.last in
-    rw c.push.ensures.items
+    let may = c.in-Ok.ensures.allowed in
     record {
-      read = reads-past c.args.form c.options.last c.options.found.items c.options.rest.now _ _ c.in-Ok.next _ _ c.options.invariant.read first.0 step (behind_option-open c.in-Ok.next.kind c.in_default.not-Last);
-      once = rw entries-more (once-more c.args.form (entries c.options.found.items) c.in-Ok.next.one.option _ c.in-Ok.next.kind c.options.invariant.once (rw c.deref.ensures.0 at c.in-Ok.ensures.allowed));
+      read = reads-past c.args.form c.options.last (entries c.options.found.items) _ c.options.rest.now _ _ c.in-Ok.next _ _ c.options.invariant.read first.0 (c.in-Ok.ensures.reading c.options.last) (behind_option-open c.in-Ok.next.kind c.in_default.not-Last);
+      once = subst (AreOnce c.args.form) (sym may.2) (once-more c.args.form (entries c.options.found.items) may.0 may.1 c.in-Ok.next.kind c.options.invariant.once may.3);
     }
 
 pub returns-in-Last : goal.returns-in-Last
 returns-in-Last c =
     let first = rw c.in-Ok-Some.field-0-is at c.in-Ok-Some.ensures.some in
-    let step = rw c.deref.ensures.0 at c.in-Ok.ensures.reading c.options.last in
     ended c.args.form c.in-Ok.next.rest.now _ _ _
-    (rw c.push.ensures.items (reads-past c.args.form c.options.last c.options.found.items c.options.rest.now _ _ c.in-Ok.next _ _ c.options.invariant.read first.0 step (ap behind_option c.in-Last.is)))
+    (reads-past c.args.form c.options.last (entries c.options.found.items) _ c.options.rest.now _ _ c.in-Ok.next _ _ c.options.invariant.read first.0 (c.in-Ok.ensures.reading c.options.last) (ap behind_option c.in-Last.is))
     c.read_end.ensures
 
 pub options-init : goal.options-init
 options-init c = rw c.requires record { read = refl; once = once-none c.args.form }
 
-pub push-requires : goal.push-requires
-push-requires c =
+pub read_option-requires : goal.read_option-requires
+read_option-requires c = λ option kind may.
     let found = c.options.found.items in
-    let room = once-room c.args.form (entries found) c.in-Ok.next.one.option c.in-Ok.next.kind c.options.invariant.once (rw c.deref.ensures.0 at c.in-Ok.ensures.allowed) in
-    (search rules, omega (arith, room, length-map {B = Entry} found (λ one. (one.option, content one.value))))
+    let room = once-room c.args.form (entries found) option kind c.options.invariant.once may in
+    omega (arith, room, length-map {B = Entry} found (λ one. (one.option, content one.value)))
