@@ -171,6 +171,18 @@ fn attach_line(label: Name8, found: &[Found<'_>]) -> Result<Line, LineFault>
     }
 }
 
+// The word that is the next token, and the line behind it.
+#[inline(never)]
+fn find_word(bytes: &[u8]) -> Result<(&[u8], &[u8]), LineFault>
+    ensures { GivesWord (word_first (tokens bytes.now)) result }
+{
+    match next_token(bytes) {
+        Ok(Some((Token::Word(word), rest))) => Ok((word, rest)),
+        Ok(_) => Err(LineFault::UnknownWord),
+        Err(fault) => Err(fault),
+    }
+}
+
 // The word in front, and the line behind it.
 fn first_word(bytes: &[u8]) -> Result<(&[u8], &[u8]), LineFault>
     ensures { GivesWord (word_first (tokens bytes.now)) result }
@@ -179,11 +191,7 @@ fn first_word(bytes: &[u8]) -> Result<(&[u8], &[u8]), LineFault>
     if let Some(found) = next_word(bytes) {
         return Ok(found);
     }
-    match next_token(bytes) {
-        Ok(Some((Token::Word(word), rest))) => Ok((word, rest)),
-        Ok(_) => Err(LineFault::UnknownWord),
-        Err(fault) => Err(fault),
-    }
+    find_word(bytes)
 }
 
 // The line behind a word that has to stand in front.
@@ -341,13 +349,11 @@ fn read_shutdown(alloc: Global, bytes: &[u8]) -> Result<Line, LineFault>
     }
 }
 
-// The command that a verb and the word right behind it are, and the line behind them.
-fn placed_command(verb: CommandWord, bytes: &[u8]) -> (CommandWord, &[u8])
+// The command that a verb and the next token are, and the line behind them.
+#[inline(never)]
+fn placed_queue_command(verb: CommandWord, bytes: &[u8]) -> (CommandWord, &[u8])
     ensures { command_at verb (tokens bytes.now) ≡ (result.0, tokens result.1.now) }
 {
-    if !is_of_queue(verb) {
-        return (verb, bytes);
-    }
     match next_token(bytes) {
         Ok(Some((Token::Word(word), rest))) => match queue_command(verb, word) {
             Some(command) => (command, rest),
@@ -355,6 +361,22 @@ fn placed_command(verb: CommandWord, bytes: &[u8]) -> (CommandWord, &[u8])
         },
         _ => (verb, bytes),
     }
+}
+
+// The command that a verb and the word right behind it are, and the line behind them.
+fn placed_command(verb: CommandWord, bytes: &[u8]) -> (CommandWord, &[u8])
+    ensures { command_at verb (tokens bytes.now) ≡ (result.0, tokens result.1.now) }
+{
+    if !is_of_queue(verb) {
+        return (verb, bytes);
+    }
+    if let Some((word, rest)) = next_word(bytes) {
+        return match queue_command(verb, word) {
+            Some(command) => (command, rest),
+            None => (verb, bytes),
+        };
+    }
+    placed_queue_command(verb, bytes)
 }
 
 // A command behind its verb, and behind TS or TD where it stands there.
@@ -394,6 +416,18 @@ fn read_command(alloc: Global, label: Name8, bytes: &[u8]) -> Result<Line, LineF
     read_issued(alloc, label, command, behind)
 }
 
+// The line behind the words EXEC and CICS.
+#[inline(never)]
+fn skip_both_words(bytes: &[u8]) -> Result<&[u8], LineFault>
+    ensures { GivesRest
+        (behind (codes "EXEC") (tokens bytes.now) and_next behind (codes "CICS")) result }
+{
+    match skip_word(bytes, b"EXEC") {
+        Ok(rest) => skip_word(rest, b"CICS"),
+        Err(fault) => Err(fault),
+    }
+}
+
 // The line behind EXEC and CICS.
 fn skip_exec_cics(bytes: &[u8]) -> Result<&[u8], LineFault>
     ensures { GivesRest
@@ -403,10 +437,7 @@ fn skip_exec_cics(bytes: &[u8]) -> Result<&[u8], LineFault>
     if let Some(rest) = bytes.strip_prefix(b" EXEC CICS ") {
         return Ok(rest);
     }
-    match skip_word(bytes, b"EXEC") {
-        Ok(rest) => skip_word(rest, b"CICS"),
-        Err(fault) => Err(fault),
-    }
+    skip_both_words(bytes)
 }
 
 // The command of a task behind its label.

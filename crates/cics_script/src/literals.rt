@@ -218,6 +218,7 @@ fn copy_plain(alloc: Global, encoding: Encoding, plain: &[u8]) -> Result<Vec<u8>
 }
 
 // What follows a literal, from behind its first quote.
+#[inline(never)]
 fn behind_pieces(notation: Notation, bytes: &[u8]) -> Option<&[u8]>
     ensures { option_map (λ rest. rest.now) result
         ≡ option_map (λ t. t.1) (text_in notation bytes.now) }
@@ -233,6 +234,7 @@ fn behind_pieces(notation: Notation, bytes: &[u8]) -> Option<&[u8]>
 }
 
 // What a literal says, from behind its first quote.
+#[inline(never)]
 fn copy_pieces(
     alloc: Global,
     encoding: Encoding,

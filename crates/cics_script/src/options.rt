@@ -200,6 +200,18 @@ fn put_token<'a>(
     }
 }
 
+// The line behind an opening parenthesis, where one is the next token.
+#[inline(never)]
+fn find_opening(kind: Kind, bytes: &[u8]) -> Result<&[u8], LineFault>
+    ensures { Opens kind bytes.now result }
+{
+    match next_token(bytes) {
+        Ok(Some((Token::Opening, rest))) => Ok(rest),
+        Ok(_) => Err(wrong_value(kind)),
+        Err(fault) => Err(fault),
+    }
+}
+
 // The line behind an opening parenthesis.
 fn read_opening(kind: Kind, bytes: &[u8]) -> Result<&[u8], LineFault>
     ensures { Opens kind bytes.now result }
@@ -208,9 +220,29 @@ fn read_opening(kind: Kind, bytes: &[u8]) -> Result<&[u8], LineFault>
     if let Some((b'(', rest)) = bytes.split_first() {
         return Ok(rest);
     }
+    find_opening(kind, bytes)
+}
+
+// Puts an option with the next token as its value behind those that were read. The line behind the
+// value.
+#[inline(never)]
+fn find_content<'a>(
+    alloc: Global,
+    kind: Kind,
+    bytes: &'a [u8],
+    option: OptionWord,
+    found: &mut Options<'a>,
+) -> Result<&'a [u8], LineFault>
+    requires { length found.old.items < 13 }
+    ensures { Fills kind option (entries found.old.items) (entries found.new.items)
+        bytes.entry.now result }
+{
     match next_token(bytes) {
-        Ok(Some((Token::Opening, rest))) => Ok(rest),
-        Ok(_) => Err(wrong_value(kind)),
+        Ok(Some((token, rest))) => match put_token(alloc, kind, token, option, found) {
+            Ok(()) => Ok(rest),
+            Err(fault) => Err(fault),
+        },
+        Ok(None) => Err(wrong_value(kind)),
         Err(fault) => Err(fault),
     }
 }
@@ -235,12 +267,17 @@ fn read_content<'a>(
             Err(fault) => Err(fault),
         };
     }
+    find_content(alloc, kind, bytes, option, found)
+}
+
+// The line behind a closing parenthesis, where one is the next token.
+#[inline(never)]
+fn find_closing(kind: Kind, bytes: &[u8]) -> Result<&[u8], LineFault>
+    ensures { Shuts kind bytes.now result }
+{
     match next_token(bytes) {
-        Ok(Some((token, rest))) => match put_token(alloc, kind, token, option, found) {
-            Ok(()) => Ok(rest),
-            Err(fault) => Err(fault),
-        },
-        Ok(None) => Err(wrong_value(kind)),
+        Ok(Some((Token::Closing, rest))) => Ok(rest),
+        Ok(_) => Err(wrong_value(kind)),
         Err(fault) => Err(fault),
     }
 }
@@ -253,11 +290,7 @@ fn read_closing(kind: Kind, bytes: &[u8]) -> Result<&[u8], LineFault>
     if let Some((b')', rest)) = bytes.split_first() {
         return Ok(rest);
     }
-    match next_token(bytes) {
-        Ok(Some((Token::Closing, rest))) => Ok(rest),
-        Ok(_) => Err(wrong_value(kind)),
-        Err(fault) => Err(fault),
-    }
+    find_closing(kind, bytes)
 }
 
 // Puts an option with its value in parentheses behind those that were read. The line behind them.
@@ -381,6 +414,28 @@ fn read_end(bytes: &[u8]) -> Result<(), LineFault>
     }
 }
 
+// The word of the option that is the next token and the line behind it, or nothing at the line's end.
+#[inline(never)]
+fn find_option_word(last: Option<Kind>, bytes: &[u8]) -> Result<Option<(&[u8], &[u8])>, LineFault>
+    ensures none { IfOk result (λ found.
+        found ≡ None → tokens bytes.now ≡ []) }
+    ensures some { IfOk result (λ found. IfSome found (λ next.
+        (tokens bytes.now ≡ word (map capital next.0.now) ∷ tokens next.1.now)
+        × (length next.1.now < length bytes.now))) }
+    ensures fault { IfErr result (λ fault. (form : Form) (found : List Entry) →
+        reads form (at_option last) found (tokens bytes.now) ≡ Err fault) }
+{
+    match next_token(bytes) {
+        Ok(None) => Ok(None),
+        Ok(Some((token, rest))) => match token {
+            Token::Word(word) => Ok(Some((word, rest))),
+            Token::Opening | Token::Closing => Err(surplus_fault(last)),
+            Token::Number(_) | Token::Literal(_) => Err(LineFault::UnknownWord),
+        },
+        Err(fault) => Err(fault),
+    }
+}
+
 // The word of the option that stands next and the line behind it, or nothing at the line's end.
 fn option_word(last: Option<Kind>, bytes: &[u8]) -> Result<Option<(&[u8], &[u8])>, LineFault>
     ensures none { IfOk result (λ found.
@@ -395,15 +450,10 @@ fn option_word(last: Option<Kind>, bytes: &[u8]) -> Result<Option<(&[u8], &[u8])
     if let Some(found) = next_word(bytes) {
         return Ok(Some(found));
     }
-    match next_token(bytes) {
-        Ok(None) => Ok(None),
-        Ok(Some((token, rest))) => match token {
-            Token::Word(word) => Ok(Some((word, rest))),
-            Token::Opening | Token::Closing => Err(surplus_fault(last)),
-            Token::Number(_) | Token::Literal(_) => Err(LineFault::UnknownWord),
-        },
-        Err(fault) => Err(fault),
+    if bytes.is_empty() {
+        return Ok(None);
     }
+    find_option_word(last, bytes)
 }
 
 /// Reads the options of a line behind its fixed part into `found`, which has none yet; at a fault it

@@ -1,4 +1,4 @@
-use Rattle.std.proofs.Common.{arith, ◌<◌, ◌≡◌, ◌∙◌, refl, sym, ap, subst, length}
+use Rattle.std.proofs.Common.{arith, ◌<◌, ◌∙◌, refl, sym, ap, subst, length}
 use Rattle.std.proofs.lemmas.List.{length-map}
 use Rattle.cics_script.specs.Options.{Entry, reads, at_option, behind_option}
 use Rattle.cics_script.specs.Views.{content, entries}
