@@ -1,6 +1,6 @@
 //! The lines of a script.
 
-ghost use Rattle.std.specs.Prelude.{◌≡◌, ◌≤◌, ◌||◌, Ok, length, map, take};
+ghost use Rattle.std.specs.Prelude.{◌≡◌, ◌≤◌, ◌||◌, ◌++◌, Ok, true, length, map, take, drop};
 ghost use Rattle.std.specs.List.{list_all};
 ghost use lib.Chars.{codes};
 ghost use Rattle.cics_script.specs.Faults.{◌>>=◌ as ◌and_next◌, Reads};
@@ -428,14 +428,30 @@ fn skip_both_words(bytes: &[u8]) -> Result<&[u8], LineFault>
     }
 }
 
+// Whether a line begins with a text. Where the text is known, no byte of it is read.
+fn begins_with(bytes: &[u8], text: &[u8]) -> bool
+    ensures { result ≡ true →
+        bytes.now ≡ text.now ++ drop (length text.now) bytes.now }
+{
+    if bytes.len() < text.len() {
+        return false;
+    }
+    for (i, byte) in text.iter().enumerate() {
+        if bytes[i] != *byte {
+            return false;
+        }
+    }
+    true
+}
+
 // The line behind EXEC and CICS.
 fn skip_exec_cics(bytes: &[u8]) -> Result<&[u8], LineFault>
     ensures { GivesRest
         (behind (codes "EXEC") (tokens bytes.now) and_next behind (codes "CICS")) result }
 {
     // Most lines go on with just these bytes, in which no words need be looked for.
-    if let Some(rest) = bytes.strip_prefix(b" EXEC CICS ") {
-        return Ok(rest);
+    if begins_with(bytes, b" EXEC CICS ") {
+        return Ok(bytes.split_at(11).1);
     }
     skip_both_words(bytes)
 }

@@ -356,6 +356,19 @@ impl<'a> Literal<'a> {
         }
     }
 
+    // The record that a quoted literal writes, in EBCDIC.
+    fn quoted_record(self, alloc: Global) -> Result<Record, NoMemory>
+        requires { self.notation ≡ Notation.Quoted }
+        ensures { IfOk result (λ made. made
+            ≡ recorded self.entry.notation
+            (said (text_in self.entry.notation self.entry.behind_quote.now))) }
+    {
+        match self.plain() {
+            Some(text) => Ok(Record::new(copy_plain(alloc, Encoding::Ebcdic, text)?)),
+            None => Ok(Record::new(self.copy(alloc, Encoding::Ebcdic)?)),
+        }
+    }
+
     /// The record that the literal writes: a quoted one in EBCDIC.
     pub fn record(self, alloc: Global) -> Result<Record, NoMemory>
         ensures { IfOk result (λ made. made
@@ -363,7 +376,7 @@ impl<'a> Literal<'a> {
             (said (text_in self.entry.notation self.entry.behind_quote.now))) }
     {
         match self.notation {
-            Notation::Quoted => Ok(Record::new(self.copy(alloc, Encoding::Ebcdic)?)),
+            Notation::Quoted => self.quoted_record(alloc),
             Notation::Hexadecimal => Ok(Record::new(self.copy(alloc, Encoding::AsWritten)?)),
         }
     }

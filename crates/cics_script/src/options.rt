@@ -129,6 +129,7 @@ fn name4_of(alloc: Global, literal: Literal<'_>) -> Result<Name4, LineFault>
 
 // Puts an option with a literal of its kind behind those that were read. Each kind of value is put
 // where it is made: one that is handed on is moved again and again.
+#[inline(always)]
 fn put_literal<'a>(
     alloc: Global,
     kind: Kind,

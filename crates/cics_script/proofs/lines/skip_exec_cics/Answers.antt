@@ -1,6 +1,4 @@
-use Rattle.std.proofs.Common.{◌≡◌, ℕ, List, ◌∷◌, ◌++◌, refl, ap, ◌∙◌, Some}
-use Rattle.std.proofs.lemmas.Bool.Decides.{Decides-eqb}
-use Rattle.std.proofs.lemmas.Slice.Eq.{strip_prefix_is}
+use Rattle.std.proofs.Common.{◌≡◌, ℕ, List, ◌∷◌, ◌++◌, refl, ap, sym, ◌∙◌}
 use Rattle.cics_script.specs.Faults.{◌>>=◌}
 use Rattle.cics_script.specs.Tokens.{word, tokens}
 use Rattle.cics_script.specs.Lines.{behind}
@@ -16,9 +14,9 @@ tokens-exec_cics rest =
     (tokens-blank (codes "CICS " ++ rest) ∙ tokens-written (word (codes "CICS")) (codes " " ++ rest) refl refl
     ∙ ap (λ ts. word (codes "CICS") ∷ ts) (tokens-blank rest))
 
-pub returns-in-Some : goal.returns-in-Some
-returns-in-Some c =
-    let here : c.args.bytes.now ≡ codes " EXEC CICS " ++ c.in-Some.rest.now =
-    strip_prefix_is Decides-eqb c.args.bytes.now (codes " EXEC CICS ") (Some c.in-Some.rest) c.in-Some.ensures.cases in
+pub returns-then-begins_with : goal.returns-then-begins_with
+returns-then-begins_with c =
+    let here : c.args.bytes.now ≡ codes " EXEC CICS " ++ c.split_at.result.1.now =
+    c.begins_with.ensures c.if-begins_with.true ∙ ap (λ rest. codes " EXEC CICS " ++ rest) (sym c.split_at.ensures.back) in
     ap (λ bytes. behind (codes "EXEC") (tokens bytes) >>= λ rest. behind (codes "CICS") rest) here
-    ∙ ap (λ ts. behind (codes "EXEC") ts >>= λ rest. behind (codes "CICS") rest) (tokens-exec_cics c.in-Some.rest.now)
+    ∙ ap (λ ts. behind (codes "EXEC") ts >>= λ rest. behind (codes "CICS") rest) (tokens-exec_cics c.split_at.result.1.now)
