@@ -76,6 +76,11 @@ abbrev pub GivesName : (List ℕ → Content) → Result Content LineFault → R
 GivesName made read (Ok name) = read ≡ Ok (made name)
 GivesName made read (Err fault) = Refuses read fault
 
+-- what reading a value gave
+abbrev pub GivesContent : Result Content LineFault → Result Value LineFault → Type 0
+GivesContent read (Ok value) = read ≡ Ok (content value)
+GivesContent read (Err fault) = Refuses read fault
+
 -- what putting an option with its content behind others gave
 abbrev pub PutsContent : Result Content LineFault → OptionWord → List Entry → List Entry → Result (Unit {0}) LineFault → Type 0
 PutsContent read option before after (Ok done) = (c : Content) × (read ≡ Ok c) × (after ≡ before ++ (option, c) ∷ [])

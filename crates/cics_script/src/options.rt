@@ -8,7 +8,7 @@ ghost use Rattle.cics_script.specs.Words.{same, excludes, kind_in};
 ghost use Rattle.cics_script.specs.Tokens.{tokens, word, capital};
 ghost use Rattle.cics_script.specs.Options.{fault_of, quoted, content_in, surplus, allowed};
 ghost use Rattle.cics_script.specs.Options.{Content, Entry, reads, at_option, options};
-ghost use Rattle.cics_script.specs.Views.{view, entries, GivesText, GivesName, PutsContent, GivesEntries};
+ghost use Rattle.cics_script.specs.Views.{view, entries, GivesText, GivesName, GivesContent, PutsContent, GivesEntries};
 ghost use Rattle.cics_script.specs.Views.{Opens, Fills, Shuts, HasValue, Enters, Ends};
 
 use crate::faults::LineFault;
@@ -127,9 +127,50 @@ fn name4_of(alloc: Global, literal: Literal<'_>) -> Result<Name4, LineFault>
     }
 }
 
-// Puts an option with a literal of its kind behind those that were read. Each kind of value is put
-// where it is made: one that is handed on is moved again and again.
-#[inline(always)]
+// A token as a value of this kind.
+fn value_of<'a>(alloc: Global, kind: Kind, token: Token<'a>) -> Result<Value<'a>, LineFault>
+    ensures { GivesContent (content_in kind (view token.entry)) result }
+{
+    match (kind, token) {
+        (Kind::Text, Token::Literal(literal)) => Ok(Value::Text(literal)),
+        (Kind::Name8, Token::Literal(literal)) => match name8_of(alloc, literal) {
+            Ok(name) => Ok(Value::Name8(name)),
+            Err(fault) => Err(fault),
+        },
+        (Kind::Name4, Token::Literal(literal)) => match name4_of(alloc, literal) {
+            Ok(name) => Ok(Value::Name4(name)),
+            Err(fault) => Err(fault),
+        },
+        (Kind::Number | Kind::Area, Token::Number(number)) => Ok(Value::Number(number)),
+        (Kind::Area, Token::Literal(_) | Token::Word(_)) => Ok(Value::Nothing),
+        _ => Err(wrong_value(kind)),
+    }
+}
+
+// Puts an option with a token as a value of its kind behind those that were read.
+#[inline(never)]
+fn put_token<'a>(
+    alloc: Global,
+    kind: Kind,
+    token: Token<'a>,
+    option: OptionWord,
+    found: &mut Options<'a>,
+) -> Result<(), LineFault>
+    requires { length found.old.items < 13 }
+    ensures { PutsContent (content_in kind (view token.entry)) option
+        (entries found.old.items) (entries found.new.items) result }
+{
+    match value_of(alloc, kind, token) {
+        Ok(value) => {
+            found.push(Found { option, value });
+            Ok(())
+        }
+        Err(fault) => Err(fault),
+    }
+}
+
+// Puts an option with a literal of its kind behind those that were read. The texts and names of
+// which most lines are made are put where they are made: what is handed on is moved each time.
 fn put_literal<'a>(
     alloc: Global,
     kind: Kind,
@@ -160,45 +201,9 @@ fn put_literal<'a>(
             }),
             Err(fault) => return Err(fault),
         },
-        Kind::Area => found.push(Found {
-            option,
-            value: Value::Nothing,
-        }),
-        _ => return Err(wrong_value(kind)),
+        _ => return put_token(alloc, kind, Token::Literal(literal), option, found),
     }
     Ok(())
-}
-
-// Puts an option with a token as a value of its kind behind those that were read.
-fn put_token<'a>(
-    alloc: Global,
-    kind: Kind,
-    token: Token<'a>,
-    option: OptionWord,
-    found: &mut Options<'a>,
-) -> Result<(), LineFault>
-    requires { length found.old.items < 13 }
-    ensures { PutsContent (content_in kind (view token.entry)) option
-        (entries found.old.items) (entries found.new.items) result }
-{
-    match (kind, token) {
-        (_, Token::Literal(literal)) => put_literal(alloc, kind, literal, option, found),
-        (Kind::Number | Kind::Area, Token::Number(number)) => {
-            found.push(Found {
-                option,
-                value: Value::Number(number),
-            });
-            Ok(())
-        }
-        (Kind::Area, Token::Word(_)) => {
-            found.push(Found {
-                option,
-                value: Value::Nothing,
-            });
-            Ok(())
-        }
-        _ => Err(wrong_value(kind)),
-    }
 }
 
 // The line behind an opening parenthesis, where one is the next token.
