@@ -21,7 +21,7 @@ use Rattle.cics_enqueue.specs.declared.resources.Resource.TheVariants.{FileKey, 
 use Rattle.cics_enqueue.specs.Kept.{Entries, Owned, IsKept, owns, is_units, AreKeys, table_of, seen, shown, finds, first_entry, is_others_under, others_unit, first_cover, lesser_shown}
 use Rattle.cics_enqueue.specs.Resources.{Table, Held, holder_over, bytes_of, resource_key, begins_with, is_other, is_under, first_that, first_of, lesser, least_under, other_than, holder_of, holder_of_shorter}
 use Rattle.cics_enqueue.specs.ResourceLaws.{resource_of}
-use Rattle.cics_enqueue.proofs.Tables.{key_cmp, key_found, holder_of-table_of}
+use Rattle.cics_enqueue.proofs.Tables.{key_cmp, key_found, holder_of-table_of, unheld}
 
 -- ---- bytes that begin with others
 pub starts_with-begins : (p b : Bytes) → pointwise nat_eq p (take (length p) b) ≡ begins_with p b
@@ -231,7 +231,7 @@ alone-table_of es own asker kept alone s = other_than-table_of s (resource_key s
     step (Some h) at = elim (is_other asker h.unit) as (λ b. is_other asker h.unit ≡ b → (if b then Some h.unit else None) ≡ None) [
       | true ↦ λ other.
           let k = key_found (resource_key s) h es at in
-          let own_key : is_units h.unit (Some h) ≡ false = sym (ap (is_units h.unit) (ap (λ b. lookup (finds b) es) k.1 ∙ at)) ∙ sym (kept.owned h.unit k.0) ∙ alone h.unit k.0 other in
+          let own_key : is_units h.unit (Some h) ≡ false = sym (ap (is_units h.unit) (ap (λ b. lookup (finds b) es) k.1 ∙ at)) ∙ unheld es own h.unit k.0 kept.owned (alone h.unit k.0 other) in
           let wrong : true ≡ false = sym (eq-eqb h.unit h.unit refl) ∙ own_key in cc
       | false ↦ λ same. refl
     ] refl

@@ -1,6 +1,6 @@
 -- What the table says of each resource, and what it is after a change.
 use Rattle.std.proofs.Common.{◌≡◌, ◌+◌, ◌-◌, ℕ, ◌&&◌, ◌==◌, not, Bool, true, false, cond, T, Option, Some, None, [], ◌∷◌, nat_eq, refl, sym, ap, subst, ◌∙◌}
-use Rattle.std.specs.Prelude.{Result, Ok, Err, OnOk, OnErr, is_err, is_some, option_map, nat_le, nat_lt, if◌then◌else◌}
+use Rattle.std.specs.Prelude.{is_some, option_map, nat_le, nat_lt, if◌then◌else◌}
 use Rattle.std.specs.Map.{lookup, set_value, remove_entry}
 use Rattle.std.specs.Global.{Vec}
 use Rattle.std.specs.BTreeMap.{insert_entry}
@@ -9,13 +9,13 @@ use Rattle.std.specs.declared.cmp.Ordering.TheVariants.{Less, Equal, Greater}
 use Rattle.std.specs.Ordering.{is_eq, match_ordering}
 use Rattle.std.specs.FinMap as map_by
 use Rattle.std.specs.FinMap.Entries.{below_all, by_order, is_sorted-put, is_sorted-where_key, same_entries}
-use Rattle.std.proofs.lemmas.Bool.{eq-eqb, eqb-true}
-use Rattle.cics_names.specs.Keyed.{Bytes, bytes_cmp}
+use Rattle.std.proofs.lemmas.Bool.{eq-eqb, eqb-true, and_parts}
+use Rattle.cics_names.specs.Keyed.{Bytes, bytes_cmp, is_same}
 use Rattle.cics_names.specs.KeyedLaws.{is_same-eq}
 use Rattle.cics_enqueue.specs.declared.resources.Resource.{Resource}
 use Rattle.cics_enqueue.specs.declared.enqueues.Holding.{Holding}
-use Rattle.cics_enqueue.specs.Kept.{Entries, Owned, table_of, seen, finds, AreKeys, AreOwned, Sets, owns, has_in, is_units, is_place, IsKept}
-use Rattle.cics_enqueue.specs.Resources.{Table, Held, is_other, held_at, holder_of, count_of, count_in, is_one, is_user, is_full, most_count, raised_count, is_in_order, resource_cmp, resource_key, with_holder, freed, released, taken, given_back, given_back_of}
+use Rattle.cics_enqueue.specs.Kept.{Entries, Owned, table_of, seen, finds, AreKeys, AreOwned, Adds, Drops, owns, has_in, is_units, is_place, IsKept, let_go, LetsGo}
+use Rattle.cics_enqueue.specs.Resources.{Table, Held, held_at, holder_of, count_of, count_in, is_one, is_user, is_full, most_count, raised_count, is_in_order, resource_cmp, resource_key, with_holder, freed, released, taken, given_back, given_back_of}
 use Rattle.cics_enqueue.specs.ResourceLaws.{resource_cmp_total, is_one-cmp, is_one-eq, same_resources, resource_of, resource_of-resource_key}
 use Rattle.cics_enqueue.proofs.TableLaws.{left_of, right_of, not_tied, held_before, held_without, held_at-released, is_in_order-released}
 
@@ -162,43 +162,40 @@ module _ (r : Resource) (key : Bytes) (is : key ≡ resource_key r) where
 
     -- what is held under each key
     module _ (es fs : Entries) (own : Owned) (found : lookup (finds key) es ≡ Some v) (updated : (k : Vec ℕ) → lookup (finds k.items) fs ≡ cond (finds key k) (Some w) (lookup (finds k.items) es)) where
-      -- each unit owns the keys that it holds where a holding keeps its unit
+      -- the keys that a unit holds stay in its list where a holding keeps its unit
       pub AreOwned-written : w.unit ≡ v.unit → AreOwned es own → AreOwned fs own
-      AreOwned-written unit owned u k = owned u k ∙ sym (ap (is_units u) (updated k) ∙ elim (finds key k) as (λ b. finds key k ≡ b → is_units u (cond b (Some w) (lookup (finds k.items) es)) ≡ is_units u (lookup (finds k.items) es)) [
+      AreOwned-written unit owned u k = subst (λ b. b ≡ true → owns own u k ≡ true) (sym (ap (is_units u) (updated k) ∙ elim (finds key k) as (λ b. finds key k ≡ b → is_units u (cond b (Some w) (lookup (finds k.items) es)) ≡ is_units u (lookup (finds k.items) es)) [
         | true ↦ λ t. ap (λ n. n == u) unit ∙ sym (ap (is_units u) (ap (λ b. lookup (finds b) es) (sym (is_same-eq key k.items t)) ∙ found))
         | false ↦ λ t. refl
-      ] refl)
-
-  -- where nobody holds a key, no unit owns it
-  unowned : (es : Entries) (own : Owned) → lookup (finds key) es ≡ None → AreOwned es own → (u : ℕ) (k : Vec ℕ) → finds key k ≡ true → owns own u k ≡ false
-  unowned es own absent owned u k t = owned u k ∙ ap (is_units u) (ap (λ b. lookup (finds b) es) (sym (is_same-eq key k.items t)) ∙ absent)
+      ] refl)) (owned u k)
 
   -- a new holding
-  pub AreOwned-added : (es fs : Entries) (own after : Owned) (h : Holding) → lookup (finds key) es ≡ None → ((k : Vec ℕ) → lookup (finds k.items) fs ≡ cond (finds key k) (Some h) (lookup (finds k.items) es)) →
-      Sets true h.unit key own after → AreOwned es own → AreOwned fs after
-  AreOwned-added es fs own after h absent updated sets owned u k = sets u k ∙ elim (finds key k) as (λ b. finds key k ≡ b → (if nat_eq h.unit u && b then true else owns own u k) ≡ is_units u (cond b (Some h) (lookup (finds k.items) es))) [
-    | true ↦ λ t. elim (nat_eq h.unit u) as (λ b. (if b && true then true else owns own u k) ≡ b) [ true ↦ refl | false ↦ unowned es own absent owned u k t ]
-    | false ↦ λ t. elim (nat_eq h.unit u) as (λ b. (if b && false then true else owns own u k) ≡ is_units u (lookup (finds k.items) es)) [ true ↦ owned u k | false ↦ owned u k ]
-  ] refl ∙ sym (ap (is_units u) (updated k))
+  pub AreOwned-added : (es fs : Entries) (own after : Owned) (h : Holding) → ((k : Vec ℕ) → lookup (finds k.items) fs ≡ cond (finds key k) (Some h) (lookup (finds k.items) es)) →
+      Adds h.unit key own after → AreOwned es own → AreOwned fs after
+  AreOwned-added es fs own after h updated adds owned u k held = adds u k (elim (finds key k) as (λ b. is_units u (cond b (Some h) (lookup (finds k.items) es)) ≡ true → (if nat_eq h.unit u && b then true else owns own u k) ≡ true) [
+    | true ↦ elim (nat_eq h.unit u) as (λ b. b ≡ true → (if b && true then true else owns own u k) ≡ true) [ true ↦ λ mine. refl | false ↦ λ mine. cc ]
+    | false ↦ λ mine. ap (λ b. if b then true else owns own u k) (never (nat_eq h.unit u)) ∙ owned u k mine
+  ] (sym (ap (is_units u) (updated k)) ∙ held))
+    where
+      never : (b : Bool) → (b && false) ≡ false
+      never true = refl
+      never false = refl
 
-  -- a key that came in and went
-  pub AreOwned-undone : (es : Entries) (own between after : Owned) (unit : ℕ) → lookup (finds key) es ≡ None → Sets true unit key own between → Sets false unit key between after → AreOwned es own → AreOwned es after
-  AreOwned-undone es own between after unit absent came went owned u k = went u k ∙ ap (λ b. if is_place unit key u k then false else b) (came u k)
-      ∙ elim (finds key k) as (λ b. finds key k ≡ b → (if nat_eq unit u && b then false else (if nat_eq unit u && b then true else owns own u k)) ≡ is_units u (lookup (finds k.items) es)) [
-        | true ↦ λ t. elim (nat_eq unit u) as (λ b. (if b && true then false else (if b && true then true else owns own u k)) ≡ is_units u (lookup (finds k.items) es)) [ true ↦ sym (unowned es own absent owned u k t) ∙ owned u k | false ↦ owned u k ]
-        | false ↦ λ t. elim (nat_eq unit u) as (λ b. (if b && false then false else (if b && false then true else owns own u k)) ≡ is_units u (lookup (finds k.items) es)) [ true ↦ owned u k | false ↦ owned u k ]
-      ] refl
+  -- a key that stands in the list alone changes nothing
+  pub AreOwned-more : (es : Entries) (own after : Owned) (unit : ℕ) → Adds unit key own after → AreOwned es own → AreOwned es after
+  AreOwned-more es own after unit adds owned u k held = adds u k (elim (is_place unit key u k) as (λ b. (if b then true else owns own u k) ≡ true) [ true ↦ refl | false ↦ owned u k held ])
 
   -- a holding that went
-  pub AreOwned-removed : (es fs : Entries) (own after : Owned) (v : Holding) (unit : ℕ) → lookup (finds key) es ≡ Some v → v.unit ≡ unit → ((k : Vec ℕ) → lookup (finds k.items) fs ≡ cond (finds key k) None (lookup (finds k.items) es)) →
-      Sets false unit key own after → AreOwned es own → AreOwned fs after
-  AreOwned-removed es fs own after v unit found mine updated sets owned u k = sets u k ∙ elim (finds key k) as (λ b. finds key k ≡ b → (if nat_eq unit u && b then false else owns own u k) ≡ is_units u (cond b None (lookup (finds k.items) es))) [
-    | true ↦ λ t. elim (nat_eq unit u) as (λ b. nat_eq unit u ≡ b → (if b && true then false else owns own u k) ≡ false) [
-      | true ↦ λ n. refl
-      | false ↦ λ n. owned u k ∙ ap (is_units u) (ap (λ b. lookup (finds b) es) (sym (is_same-eq key k.items t)) ∙ found) ∙ ap (λ x. x == u) mine ∙ n
-    ] refl
-    | false ↦ λ t. elim (nat_eq unit u) as (λ b. (if b && false then false else owns own u k) ≡ is_units u (lookup (finds k.items) es)) [ true ↦ owned u k | false ↦ owned u k ]
-  ] refl ∙ sym (ap (is_units u) (updated k))
+  pub AreOwned-removed : (es fs : Entries) (own after : Owned) (unit : ℕ) → ((k : Vec ℕ) → lookup (finds k.items) fs ≡ cond (finds key k) None (lookup (finds k.items) es)) →
+      Drops unit key own after → AreOwned es own → AreOwned fs after
+  AreOwned-removed es fs own after unit updated drops owned u k held = elim (finds key k) as (λ b. finds key k ≡ b → is_units u (cond b None (lookup (finds k.items) es)) ≡ true → owns after u k ≡ true) [
+    | true ↦ λ t mine. cc
+    | false ↦ λ t mine. drops u k (ap (λ b. nat_eq unit u && b) t ∙ never (nat_eq unit u)) (owned u k mine)
+  ] refl (sym (ap (is_units u) (updated k)) ∙ held)
+    where
+      never : (b : Bool) → (b && false) ≡ false
+      never true = refl
+      never false = refl
 
   -- ---- takes
   module _ (es : Entries) (sound : AreKeys es) where
@@ -261,20 +258,20 @@ module _ (r : Resource) (key : Bytes) (is : key ≡ resource_key r) where
         owned = AreOwned-written v w es fs own found updated unit kept.owned;
       }
 
-      pub IsKept-added : (k : Vec ℕ) (h : Holding) (fs : Entries) (after : Owned) → k.items ≡ key → fs ≡ insert_entry key_cmp es k h → lookup (finds key) es ≡ None →
-          ((k : Vec ℕ) → lookup (finds k.items) fs ≡ cond (finds key k) (Some h) (lookup (finds k.items) es)) → Sets true h.unit key own after → IsKept fs after
-      IsKept-added k h fs after same inserted absent updated sets = record {
+      pub IsKept-added : (k : Vec ℕ) (h : Holding) (fs : Entries) (after : Owned) → k.items ≡ key → fs ≡ insert_entry key_cmp es k h →
+          ((k : Vec ℕ) → lookup (finds k.items) fs ≡ cond (finds key k) (Some h) (lookup (finds k.items) es)) → Adds h.unit key own after → IsKept fs after
+      IsKept-added k h fs after same inserted updated adds = record {
         keys = subst AreKeys (sym inserted) (AreKeys-inserted k h es same sound);
         in_order = subst (λ t. T (is_in_order t)) (sym (ap table_of inserted ∙ table_of-inserted k h es same sound)) (is_sorted-put resource_cmp resource_cmp_total r (seen h) (table_of es) kept.in_order);
-        owned = AreOwned-added es fs own after h absent updated sets kept.owned;
+        owned = AreOwned-added es fs own after h updated adds kept.owned;
       }
 
-      pub IsKept-removed : (v : Holding) (unit : ℕ) (fs : Entries) (after : Owned) → fs ≡ remove_entry (finds key) es → lookup (finds key) es ≡ Some v → v.unit ≡ unit →
-          ((k : Vec ℕ) → lookup (finds k.items) fs ≡ cond (finds key k) None (lookup (finds k.items) es)) → Sets false unit key own after → IsKept fs after
-      IsKept-removed v unit fs after removed found mine updated sets = record {
+      pub IsKept-removed : (unit : ℕ) (fs : Entries) (after : Owned) → fs ≡ remove_entry (finds key) es →
+          ((k : Vec ℕ) → lookup (finds k.items) fs ≡ cond (finds key k) None (lookup (finds k.items) es)) → Drops unit key own after → IsKept fs after
+      IsKept-removed unit fs after removed updated drops = record {
         keys = subst AreKeys (sym removed) (AreKeys-removed es sound);
         in_order = subst (λ t. T (is_in_order t)) (sym (ap table_of removed ∙ table_of-removed es sound kept.in_order)) (is_sorted-where_key resource_cmp (λ s. not (is_one r s)) (table_of es) kept.in_order);
-        owned = AreOwned-removed es fs own after v unit found mine updated sets kept.owned;
+        owned = AreOwned-removed es fs own after unit updated drops kept.owned;
       }
 
 -- ---- what a unit gives up
@@ -300,6 +297,60 @@ key_found b h (e ∷ es) = elim (finds b e.0) as (λ t. finds b e.0 ≡ t → co
   | false ↦ λ t at. key_found b h es at
 ] refl
 
+-- the bytes of an entry are its resource's
+pub key_sound : (es : Entries) (b : Bytes) (h : Holding) → AreKeys es → lookup (finds b) es ≡ Some h → b ≡ resource_key (resource_of b)
+key_sound [] b h sound at = cc
+key_sound (e ∷ es) b h sound at = elim (finds b e.0) as (λ t. finds b e.0 ≡ t → cond t (Some e.1) (lookup (finds b) es) ≡ Some h → b ≡ resource_key (resource_of b)) [
+  | true ↦ λ t f. subst (λ x. x ≡ resource_key (resource_of x)) (sym (is_same-eq b e.0.items t)) (sym sound.0)
+  | false ↦ λ t f. key_sound es b h sound.1 f
+] refl at
+
+-- a unit doesn't hold what isn't in its list
+pub unheld : (es : Entries) (own : Owned) (u : ℕ) (k : Vec ℕ) → AreOwned es own → owns own u k ≡ false → is_units u (lookup (finds k.items) es) ≡ false
+unheld es own u k owned none = elim (is_units u (lookup (finds k.items) es)) as (λ b. is_units u (lookup (finds k.items) es) ≡ b → b ≡ false) [
+  | true ↦ λ t. let wrong : false ≡ true = sym none ∙ owned u k t in cc
+  | false ↦ λ f. refl
+] refl
+
+-- to free first what a unit holds under a key changes nothing of what its end leaves
+pub released-let_go : (es : Entries) (key : Bytes) (unit : ℕ) → AreKeys es → T (is_in_order (table_of es)) → released (table_of (let_go unit key es)) unit ≡ released (table_of es) unit
+released-let_go es key unit sound rises = by (lookup (finds key) es) refl
+  where
+    by : (o : Option Holding) → lookup (finds key) es ≡ o → released (table_of (if is_units unit o then remove_entry (finds key) es else es)) unit ≡ released (table_of es) unit
+    by None at = refl
+    by (Some h) at = elim (h.unit == unit) as (λ b. (h.unit == unit) ≡ b → released (table_of (if b then remove_entry (finds key) es else es)) unit ≡ released (table_of es) unit) [
+      | true ↦ λ mine.
+          let r = resource_of key in
+          let is = key_sound es key h sound at in
+          ap (λ t. released t unit) (table_of-removed r key is es sound rises)
+          ∙ released-freed (table_of es) r unit rises (λ g gt. let some : Some g ≡ Some (seen h) = sym gt ∙ held_here r key is es sound h at in let same : g ≡ seen h = cc in ap (λ x. x.unit) same ∙ eqb-true h.unit unit mine)
+      | false ↦ λ other. refl
+    ] refl
+
+-- a key that a unit's list lost, and that isn't its own
+AreOwned-passed : (key : Bytes) (es : Entries) (own after : Owned) (unit : ℕ) → is_units unit (lookup (finds key) es) ≡ false → Drops unit key own after → AreOwned es own → AreOwned es after
+AreOwned-passed key es own after unit other drops owned u k held = drops u k (not_place (is_place unit key u k) refl) (owned u k held)
+  where
+    not_place : (b : Bool) → is_place unit key u k ≡ b → is_place unit key u k ≡ false
+    not_place true t =
+        let p = and_parts (nat_eq unit u) (is_same key k.items) t in
+        let wrong : false ≡ true = sym other ∙ ap (λ x. is_units x (lookup (finds key) es)) (eqb-true unit u p.0) ∙ ap (λ b. is_units u (lookup (finds b) es)) (is_same-eq key k.items p.1) ∙ held in cc
+    not_place false f = f
+
+-- a key that came off a unit's list went from the entries where it was the unit's
+pub IsKept-let_go : (key : Bytes) (es : Entries) (own : Owned) (unit : ℕ) (fs : Entries) (after : Owned) → fs ≡ let_go unit key es → LetsGo unit key es fs → Drops unit key own after → IsKept es own → IsKept fs after
+IsKept-let_go key es own unit fs after went each drops kept = by (is_units unit (lookup (finds key) es)) refl went each
+  where
+    found_own : (o : Option Holding) → is_units unit o ≡ true → (h : Holding) × (o ≡ Some h)
+    found_own None t = cc
+    found_own (Some h) t = (h, refl)
+
+    by : (b : Bool) → is_units unit (lookup (finds key) es) ≡ b → fs ≡ (if b then remove_entry (finds key) es else es) → ((k : Vec ℕ) → lookup (finds k.items) fs ≡ (if b && finds key k then None else lookup (finds k.items) es)) → IsKept fs after
+    by true t went each =
+        let held = found_own (lookup (finds key) es) t in
+        IsKept-removed (resource_of key) key (key_sound es key held.0 kept.keys held.1) es kept.keys own kept unit fs after went each drops
+    by false f went each = subst (λ fs. IsKept fs after) (sym went) (record { keys = kept.keys; in_order = kept.in_order; owned = AreOwned-passed key es own after unit f drops kept.owned })
+
 -- a unit that owns nothing gives up nothing
 pub released-nothing : (es : Entries) (own : Owned) (u : ℕ) → IsKept es own → ((k : Vec ℕ) → owns own u k ≡ false) → released (table_of es) u ≡ table_of es
 released-nothing es own u kept none = same_entries resource_cmp resource_cmp_total same_resources (released (table_of es) u) (table_of es) (is_in_order-released (table_of es) u kept.in_order) kept.in_order
@@ -312,7 +363,7 @@ released-nothing es own u kept none = same_entries resource_cmp resource_cmp_tot
     others q None at = refl
     others q (Some h) at =
         let k = key_found (resource_key q) h es at in
-        let other : (h.unit == u) ≡ false = ap (is_units u) (sym at) ∙ ap (λ b. is_units u (lookup (finds b) es)) (sym k.1) ∙ sym (kept.owned u k.0) ∙ none k.0 in
+        let other : (h.unit == u) ≡ false = ap (is_units u) (sym at) ∙ ap (λ b. is_units u (lookup (finds b) es)) (sym k.1) ∙ unheld es own u k.0 kept.owned (none k.0) in
         ap (λ b. if b then None else Some (seen h)) other
 
 -- the keys of a unit that owns none can go
@@ -321,54 +372,15 @@ pub IsKept-ended : (es : Entries) (own between after : Owned) (unit : ℕ) → (
 IsKept-ended es own between after unit none stays ended kept = record {
   keys = kept.keys;
   in_order = kept.in_order;
-  owned = λ u k. ap (λ o. has_in o k) (ended u) ∙ elim (nat_eq unit u) as (λ b. nat_eq unit u ≡ b → has_in (cond b None (lookup (nat_eq u) between)) k ≡ is_units u (lookup (finds k.items) es)) [
-    | true ↦ λ t. sym (sym (kept.owned u k) ∙ subst (λ x. owns own x k ≡ false) (eqb-true unit u t) (none k))
-    | false ↦ λ t. stays u k ∙ kept.owned u k
+  owned = λ u k held. ap (λ o. has_in o k) (ended u) ∙ elim (nat_eq unit u) as (λ b. nat_eq unit u ≡ b → has_in (cond b None (lookup (nat_eq u) between)) k ≡ true) [
+    | true ↦ λ t. let wrong : false ≡ true = sym (subst (λ x. owns own x k ≡ false) (eqb-true unit u t) (none k)) ∙ kept.owned u k held in cc
+    | false ↦ λ t. stays u k ∙ kept.owned u k held
   ] refl;
 }
 
--- the keys of a unit can go with all entries where no other unit owns any
-pub IsKept-emptied : (es : Entries) (own after : Owned) (unit : ℕ) → es ≡ [] → ((u : ℕ) (k : Vec ℕ) → is_other (Some unit) u ≡ true → owns own u k ≡ false) →
-    ((q : ℕ) → lookup (nat_eq q) after ≡ cond (nat_eq unit q) None (lookup (nat_eq q) own)) → IsKept es after
-IsKept-emptied es own after unit empty alone ended = subst (λ fs. IsKept fs after) (sym empty) (record {
-  keys = tt;
-  in_order = tt;
-  owned = λ u k. ap (λ o. has_in o k) (ended u) ∙ elim (nat_eq unit u) as (λ b. nat_eq unit u ≡ b → has_in (cond b None (lookup (nat_eq u) own)) k ≡ false) [
-    | true ↦ λ t. refl
-    | false ↦ λ f. alone u k (turned u f)
-  ] refl;
-})
-  where
-    turned : (u : ℕ) → nat_eq unit u ≡ false → not (u == unit) ≡ true
-    turned u f = elim (u == unit) as (λ b. (u == unit) ≡ b → not b ≡ true) [
-      | true ↦ λ t. let wrong : true ≡ false = sym (eq-eqb unit u (sym (eqb-true u unit t))) ∙ f in cc
-      | false ↦ λ n. refl
-    ] refl
-
--- the holding of a key that a unit owns
-pub held_by_owner : (es : Entries) (own : Owned) (u : ℕ) (k : Vec ℕ) → AreOwned es own → owns own u k ≡ true → (h : Holding) × (lookup (finds k.items) es ≡ Some h) × (h.unit ≡ u)
-held_by_owner es own u k owned has = step (lookup (finds k.items) es) refl (sym (owned u k) ∙ has)
-  where
-    step : (o : Option Holding) → lookup (finds k.items) es ≡ o → is_units u o ≡ true → (h : Holding) × (lookup (finds k.items) es ≡ Some h) × (h.unit ≡ u)
-    step None at is = cc
-    step (Some h) at is = (h, at, eqb-true h.unit u is)
-
--- the bytes of an entry are its resource's
-pub key_sound : (es : Entries) (b : Bytes) (h : Holding) → AreKeys es → lookup (finds b) es ≡ Some h → b ≡ resource_key (resource_of b)
-key_sound [] b h sound at = cc
-key_sound (e ∷ es) b h sound at = elim (finds b e.0) as (λ t. finds b e.0 ≡ t → cond t (Some e.1) (lookup (finds b) es) ≡ Some h → b ≡ resource_key (resource_of b)) [
-  | true ↦ λ t f. subst (λ x. x ≡ resource_key (resource_of x)) (sym (is_same-eq b e.0.items t)) (sym sound.0)
-  | false ↦ λ t f. key_sound es b h sound.1 f
-] refl at
-
--- what holds on success, of what succeeded, and on a refusal, of what was refused
-pub ok_holds : {X E P : Type 0} (r : Result X E) → is_err r ≡ false → OnOk r P → P
-ok_holds (Ok x) e p = p
-ok_holds (Err x) e p = cc
-
-pub err_holds : {X E P : Type 0} (r : Result X E) → is_err r ≡ true → OnErr r P → P
-err_holds (Ok x) e p = cc
-err_holds (Err x) e p = p
+-- any lists do for no entries
+pub IsKept-emptied : (es : Entries) (after : Owned) → es ≡ [] → IsKept es after
+IsKept-emptied es after empty = subst (λ fs. IsKept fs after) (sym empty) (record { keys = tt; in_order = tt; owned = λ u k held. cc })
 
 -- the table that others see is in order
 pub in_order : {t : Table} {es : Entries} {own : Owned} → table_of es ≡ t → IsKept es own → T (is_in_order t)

@@ -1,9 +1,8 @@
 -- The table as it is kept: what each unit holds can be found without a look at what the others hold.
-use Rattle.std.specs.Prelude.{◌≡◌, ℕ, ◌==◌, ◌+◌, nat_le, Bool, false, ◌&&◌, ◌++◌, if◌then◌else◌, T, Option, Some, None, option_map, nat_eq, length, drop, List, [], ◌∷◌}
+use Rattle.std.specs.Prelude.{◌≡◌, ℕ, ◌==◌, ◌+◌, nat_le, Bool, true, false, ◌&&◌, ◌++◌, if◌then◌else◌, T, Option, Some, None, option_map, nat_eq, length, drop, List, [], ◌∷◌}
 use Rattle.std.specs.List.{list_any}
 use Rattle.std.specs.Global.{Vec}
-use Rattle.std.specs.Map.{lookup}
-use Rattle.std.specs.BTreeSet.{BTreeSet}
+use Rattle.std.specs.Map.{lookup, remove_entry}
 use Rattle.cics_names.specs.Keyed.{Bytes, is_same, is_below}
 use Rattle.cics_enqueue.specs.declared.enqueues.Holding.{Holding}
 use Rattle.cics_enqueue.specs.Resources.{Table, Held, resource_key, is_in_order, begins_with, is_other, first_of, most_count}
@@ -13,9 +12,9 @@ use Rattle.cics_enqueue.specs.ResourceLaws.{resource_of}
 abbrev pub Entries : Type 0
 Entries = List (Vec ℕ × Holding)
 
--- the keys that each unit owns
+-- for each unit the keys that it took, in this order, among which may be some that it gave back since
 abbrev pub Owned : Type 0
-Owned = List (ℕ × BTreeSet (Vec ℕ))
+Owned = List (ℕ × Vec (Vec ℕ))
 
 -- what others see of a holding
 abbrev pub seen : Holding → Held
@@ -35,21 +34,21 @@ AreKeys (e ∷ es) = (resource_key (resource_of e.0.items) ≡ e.0.items) × Are
 abbrev pub finds : Bytes → Vec ℕ → Bool
 finds key k = is_same key k.items
 
--- whether a set has a key
-abbrev pub has_in : Option (BTreeSet (Vec ℕ)) → Vec ℕ → Bool
+-- whether a list has a key
+abbrev pub has_in : Option (Vec (Vec ℕ)) → Vec ℕ → Bool
 has_in None k = false
-has_in (Some set) k = list_any (finds k.items) set.keys
+has_in (Some keys) k = list_any (finds k.items) keys.items
 
--- whether a unit owns a key
+-- whether a key is among those that a unit took
 abbrev pub owns : Owned → ℕ → Vec ℕ → Bool
 owns owned u k = has_in (lookup (nat_eq u) owned) k
 
--- how many keys a set has
-abbrev pub size_in : Option (BTreeSet (Vec ℕ)) → ℕ
+-- how many keys a list has
+abbrev pub size_in : Option (Vec (Vec ℕ)) → ℕ
 size_in None = 0
-size_in (Some set) = length set.keys
+size_in (Some keys) = length keys.items
 
--- how many keys a unit owns
+-- how many keys stand in a unit's list
 abbrev pub own_count : Owned → ℕ → ℕ
 own_count owned u = size_in (lookup (nat_eq u) owned)
 
@@ -61,9 +60,13 @@ is_place unit key u k = nat_eq unit u && is_same key k.items
 abbrev pub OwnsSame : Owned → Owned → Type 0
 OwnsSame old new = (u : ℕ) (k : Vec ℕ) → owns new u k ≡ owns old u k
 
--- each unit owns what it owned, but that this unit owns this key or doesn't, as is said
-abbrev pub Sets : Bool → ℕ → Bytes → Owned → Owned → Type 0
-Sets has unit key old new = (u : ℕ) (k : Vec ℕ) → owns new u k ≡ (if is_place unit key u k then has else owns old u k)
+-- a unit has one key more, and all that the units had
+abbrev pub Adds : ℕ → Bytes → Owned → Owned → Type 0
+Adds unit key old new = (u : ℕ) (k : Vec ℕ) → (if is_place unit key u k then true else owns old u k) ≡ true → owns new u k ≡ true
+
+-- the units have all that they had, but that a unit may have lost a key
+abbrev pub Drops : ℕ → Bytes → Owned → Owned → Type 0
+Drops unit key old new = (u : ℕ) (k : Vec ℕ) → is_place unit key u k ≡ false → owns old u k ≡ true → owns new u k ≡ true
 
 -- the count of a holding after one take more of it
 abbrev pub count_after : Bool → Holding → ℕ
@@ -78,9 +81,17 @@ abbrev pub is_units : ℕ → Option Holding → Bool
 is_units u None = false
 is_units u (Some h) = h.unit == u
 
--- each unit owns the keys that it holds
+-- the keys that a unit holds stand in its list
 abbrev pub AreOwned : Entries → Owned → Type 0
-AreOwned es owned = (u : ℕ) (k : Vec ℕ) → owns owned u k ≡ is_units u (lookup (finds k.items) es)
+AreOwned es owned = (u : ℕ) (k : Vec ℕ) → is_units u (lookup (finds k.items) es) ≡ true → owns owned u k ≡ true
+
+-- the entries without a key where it is this unit's
+abbrev pub let_go : ℕ → Bytes → Entries → Entries
+let_go u key es = if is_units u (lookup (finds key) es) then remove_entry (finds key) es else es
+
+-- what the entries say of each key after that
+abbrev pub LetsGo : ℕ → Bytes → Entries → Entries → Type 0
+LetsGo u key es fs = (k : Vec ℕ) → lookup (finds k.items) fs ≡ (if is_units u (lookup (finds key) es) && finds key k then None else lookup (finds k.items) es)
 
 -- the entries and the keys of the units are one table
 pub record IsKept (es : Entries) (own : Owned) : Type 0 where

@@ -4,7 +4,7 @@ ghost use Rattle.cics_enqueue.specs.declared.resources.Resource.TheVariants.{Fil
 ghost use Rattle.std.specs.Prelude.{◌≡◌, ◌≤◌, IfNone, IfSome, length, [], ◌+◌};
 ghost use Rattle.std.specs.Prelude.{if◌then◌else◌, IsTrue, true, false, ◌↔◌, OnOk, OnErr, IfErr};
 ghost use Rattle.std.specs.Prelude.{IfOk, None, is_some, not};
-ghost use Rattle.cics_enqueue.specs.Kept.{count_after, is_held_full};
+ghost use Rattle.cics_enqueue.specs.Kept.{count_after, is_held_full, let_go, LetsGo};
 ghost use Rattle.cics_enqueue.specs.Resources.{bytes_of, holder_of, holder_over, held_with_prefix};
 ghost use Rattle.cics_enqueue.specs.Resources.{count_of, IsFreeFor, IsFreeBut, HoldsLeast, is_full};
 ghost use Rattle.cics_enqueue.specs.Resources.{taken, given_back, released};
@@ -13,13 +13,13 @@ ghost use Rattle.cics_enqueue.specs.ResourceLaws.{resource_of};
 
 use crate::compact::{KEY, MOST, PREFIX, compact, file_bytes};
 use crate::overlaps::{has_prefixes, least_holder, other_holder, shorter_holder};
-use crate::owned;
+use crate::owned::{self, Owned};
 use crate::resources::{Resource, UnitId};
 use cics_names::{Name8, NoMemory};
 use indexmap::IndexMap;
 use std::alloc::{AllocError, Global};
 use std::cell::Cell;
-use std::collections::{BTreeMap, BTreeSet};
+use std::collections::BTreeMap;
 use std::marker::Model;
 
 /// Why a resource wasn't taken.
@@ -66,7 +66,7 @@ pub(crate) struct Holding {
 #[derive(Drop)]
 pub struct Enqueues {
     table: BTreeMap<Vec<u8>, Holding>,
-    owned: IndexMap<UnitId, BTreeSet<Vec<u8>>>,
+    owned: Owned,
     // The bytes at which a look-up by prefix begins. A take makes room for any, so that no look-up needs memory.
     bound: Cell<Vec<u8>>,
     alloc: Global,
@@ -100,6 +100,20 @@ fn raise(holding: &mut Holding, user: bool) -> Result<(), TakeFault>
         holding.count += 1;
     }
     Ok(())
+}
+
+// Frees what is kept under a key, if it is this unit's: one that the unit gave back may be another's by now.
+fn let_go(table: &mut BTreeMap<Vec<u8>, Holding>, key: &[u8], unit: UnitId)
+    ensures entries { table.new.entries ≡ let_go unit key.now table.old.entries }
+    ensures each { LetsGo unit key.now table.old.entries table.new.entries }
+{
+    let is_own = match table.get(key) {
+        Some(holding) => holding.unit == unit,
+        None => false,
+    };
+    if is_own {
+        table.remove(key);
+    }
 }
 
 impl Enqueues {
@@ -264,11 +278,7 @@ impl Enqueues {
         let kept = Vec::from_slice(self.alloc, key)?;
         let own = Vec::from_slice(self.alloc, key)?;
         owned::add(&mut self.owned, self.alloc, unit, own)?;
-        let holding = Holding { unit, count: 1 };
-        if self.table.insert(kept, holding).is_err() {
-            owned::remove(&mut self.owned, unit, key);
-            return Err(NoMemory);
-        }
+        self.table.insert(kept, Holding { unit, count: 1 })?;
         Ok(())
     }
 
@@ -306,7 +316,7 @@ impl Enqueues {
             return;
         }
         while let Some(key) = owned::pop(&mut self.owned, unit) {
-            self.table.remove(key.as_slice());
+            let_go(&mut self.table, key.as_slice(), unit);
         }
         self.owned.swap_remove(&unit);
     }

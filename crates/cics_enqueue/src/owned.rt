@@ -1,10 +1,12 @@
-//! For each unit, the keys that it holds.
+//! For each unit, the keys that it took.
 
 ghost use Rattle.std.specs.Prelude.{◌≡◌, ◌<◌, ℕ, true, false, IfSome, IfNone};
 ghost use Rattle.std.specs.Prelude.{OnOk, OnErr};
 ghost use Rattle.std.specs.Global.{Vec};
+ghost use Rattle.std.specs.List.{list_any};
 ghost use Rattle.std.specs.Bool.{OnTrue};
-ghost use Rattle.cics_enqueue.specs.Kept.{owns, own_count, OwnsSame, Sets};
+ghost use Rattle.cics_names.specs.Keyed.{is_same};
+ghost use Rattle.cics_enqueue.specs.Kept.{finds, owns, own_count, OwnsSame, Adds, Drops};
 ghost use Rattle.cics_enqueue.specs.Resources.{is_other};
 
 use crate::overlaps::is_another;
@@ -12,11 +14,14 @@ use crate::resources::UnitId;
 use cics_names::NoMemory;
 use indexmap::IndexMap;
 use std::alloc::Global;
-use std::collections::BTreeSet;
+
+// For each unit its keys in the order in which it took them. One that is given back before later ones stands here
+// until the unit ends: to look for it would cost more than to pass it over then.
+pub(crate) type Owned = IndexMap<UnitId, Vec<Vec<u8>>>;
 
 // True only where no unit but the asker has any keys; false says nothing, as a unit that gave all its
 // keys back stands here until it ends. It costs the same whatever the units have.
-pub(crate) fn is_alone(owned: &IndexMap<UnitId, BTreeSet<Vec<u8>>>, asker: &Option<UnitId>) -> bool
+pub(crate) fn is_alone(owned: &Owned, asker: &Option<UnitId>) -> bool
     ensures { OnTrue result ((u : ℕ) (k : Vec ℕ) →
         is_other asker.now u ≡ true → owns owned.now.entries u k ≡ false) }
 {
@@ -31,42 +36,56 @@ pub(crate) fn is_alone(owned: &IndexMap<UnitId, BTreeSet<Vec<u8>>>, asker: &Opti
 
 // Adds a key to those of a unit.
 pub(crate) fn add(
-    owned: &mut IndexMap<UnitId, BTreeSet<Vec<u8>>>,
+    owned: &mut Owned,
     alloc: Global,
     unit: UnitId,
     key: Vec<u8>,
 ) -> Result<(), NoMemory>
-    ensures added { OnOk result (Sets true unit key.items owned.old.entries owned.new.entries) }
+    ensures added { OnOk result (Adds unit key.items owned.old.entries owned.new.entries) }
     ensures err { OnErr result (OwnsSame owned.old.entries owned.new.entries) }
 {
     if let Some(keys) = owned.get_mut(&unit) {
-        keys.insert(key)?;
+        keys.push(key)?;
         return Ok(());
     }
-    let mut keys = BTreeSet::new(alloc);
-    keys.insert(key)?;
+    let mut keys = Vec::new(alloc);
+    keys.push(key)?;
     owned.insert(unit, keys)?;
     Ok(())
 }
 
-// Takes a key from those of a unit.
-pub(crate) fn remove(owned: &mut IndexMap<UnitId, BTreeSet<Vec<u8>>>, unit: UnitId, key: &[u8])
-    ensures { Sets false unit key.now owned.old.entries owned.new.entries }
+// Takes a key away where it is the last one.
+fn drop_last(keys: &mut Vec<Vec<u8>>, key: &[u8])
+    ensures { (k : Vec ℕ) → is_same key.now k.items ≡ false →
+        list_any (finds k.items) keys.old.items ≡ true →
+        list_any (finds k.items) keys.new.items ≡ true }
+{
+    let is_last = match keys.last() {
+        Some(last) => last.as_slice() == key,
+        None => false,
+    };
+    if is_last {
+        keys.pop();
+    }
+}
+
+// Takes a key from those of a unit where it is the one that the unit took last, and else leaves it there.
+pub(crate) fn remove(owned: &mut Owned, unit: UnitId, key: &[u8])
+    ensures { Drops unit key.now owned.old.entries owned.new.entries }
 {
     if let Some(keys) = owned.get_mut(&unit) {
-        keys.remove(key);
+        drop_last(keys, key);
     }
 }
 
 // Takes one of a unit's keys, if it has any.
-pub(crate) fn pop(owned: &mut IndexMap<UnitId, BTreeSet<Vec<u8>>>, unit: UnitId) -> Option<Vec<u8>>
+pub(crate) fn pop(owned: &mut Owned, unit: UnitId) -> Option<Vec<u8>>
     ensures fewer { IfSome result (λ key. own_count owned.new.entries unit
         < own_count owned.old.entries unit) }
-    ensures had { IfSome result (λ key. owns owned.old.entries unit key ≡ true) }
-    ensures taken { IfSome result (λ key. Sets false unit key.items owned.old.entries
+    ensures taken { IfSome result (λ key. Drops unit key.items owned.old.entries
         owned.new.entries) }
     ensures none { IfNone result ((k : Vec ℕ) → owns owned.old.entries unit k ≡ false) }
     ensures stays { IfNone result (OwnsSame owned.old.entries owned.new.entries) }
 {
-    owned.get_mut(&unit)?.pop_last()
+    owned.get_mut(&unit)?.pop()
 }

@@ -53,11 +53,8 @@ returns-then-holding-gt1 c =
     ∙ ap (λ u. with_holder (table_of es) r u (v.count - 1)) (eqb-true v.unit c.args.unit mine) ∙ sym (given_back-once r key is es c.self.invariant.keys v found c.args.unit mine more))
 
 pub invariant_of-self-2 : goal.invariant_of-self-2
-invariant_of-self-2 c =
-    let v = c.in-Some.holding.now in
-    let found : lookup (finds c.as_slice-key.result.now) c.self.inside.table.entries ≡ Some v = sym c.get.ensures.value ∙ ap option_copied c.in-Some.is in
-    IsKept-removed c.args.resource.now c.as_slice-key.result.now (c.as_slice-key.ensures.value ∙ c.compact-bytes.ensures) c.self.inside.table.entries c.self.invariant.keys c.self.inside.owned.entries c.self.invariant v c.args.unit c.remove.new.self.entries c.remove-2.new.owned.entries
-    c.remove.ensures.entries found (eqb-true v.unit c.args.unit (not-false _ (sym c.ne.ensures ∙ c.if-ne.false))) c.remove.ensures.updates.0 c.remove-2.ensures
+invariant_of-self-2 c = IsKept-removed c.args.resource.now c.as_slice-key.result.now (c.as_slice-key.ensures.value ∙ c.compact-bytes.ensures) c.self.inside.table.entries c.self.invariant.keys c.self.inside.owned.entries c.self.invariant c.args.unit
+    c.remove.new.self.entries c.remove-2.new.owned.entries c.remove.ensures.entries c.remove.ensures.updates.0 c.remove-2.ensures
 
 pub returns : goal.returns
 returns c =
