@@ -18,10 +18,10 @@ use Rattle.cics_names.specs.KeyedLaws.{is_same-eq}
 use Rattle.cics_enqueue.specs.declared.enqueues.Holding.{Holding}
 use Rattle.cics_enqueue.specs.declared.resources.Resource.{Resource}
 use Rattle.cics_enqueue.specs.declared.resources.Resource.TheVariants.{FileKey, TsQueue, TdRead, TdWrite, User, FilePrefix}
-use Rattle.cics_enqueue.specs.Kept.{Entries, Owned, IsKept, owns, is_units, AreKeys, table_of, seen, shown, finds, first_entry, is_others_under, others_unit, first_cover, lesser_shown}
+use Rattle.cics_enqueue.specs.Kept.{key_cmp, Entries, Owned, IsKept, owns, is_units, AreKeys, table_of, seen, shown, finds, first_entry, is_others_under, others_unit, first_cover, lesser_shown}
 use Rattle.cics_enqueue.specs.Resources.{Table, Held, holder_over, bytes_of, resource_key, begins_with, is_other, is_under, first_that, first_of, lesser, least_under, other_than, holder_of, holder_of_shorter}
 use Rattle.cics_enqueue.specs.ResourceLaws.{resource_of}
-use Rattle.cics_enqueue.proofs.Tables.{key_cmp, key_found, holder_of-table_of, unheld}
+use Rattle.cics_enqueue.proofs.Tables.{key_found, holder_of-table_of, unheld}
 
 -- ---- bytes that begin with others
 pub starts_with-begins : (p b : Bytes) → pointwise nat_eq p (take (length p) b) ≡ begins_with p b

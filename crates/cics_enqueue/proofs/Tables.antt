@@ -1,27 +1,67 @@
 -- What the table says of each resource, and what it is after a change.
-use Rattle.std.proofs.Common.{◌≡◌, ◌+◌, ◌-◌, ℕ, ◌&&◌, ◌==◌, not, Bool, true, false, cond, T, Option, Some, None, [], ◌∷◌, nat_eq, refl, sym, ap, subst, ◌∙◌}
-use Rattle.std.specs.Prelude.{is_some, option_map, nat_le, nat_lt, if◌then◌else◌}
-use Rattle.std.specs.Map.{lookup, set_value, remove_entry}
+use Rattle.std.proofs.Common.{arith, ◌≤◌, ◌≡◌, ◌+◌, ◌-◌, ℕ, ◌&&◌, ◌==◌, not, Bool, true, false, cond, T, Option, Some, None, [], ◌∷◌, nat_eq, refl, sym, ap, subst, ◌∙◌}
+use Rattle.std.specs.Prelude.{IfSome, Result, Ok, Err, OnOk, OnErr, is_err, is_some, option_map, nat_le, nat_lt, if◌then◌else◌}
+use Rattle.std.specs.Map.{lookup, keys_of, set_value, remove_entry}
+use Rattle.std.specs.List.Sorted.{IsStrictlySortedBy}
+use Rattle.std.specs.Cmp.{IsTotalOrder}
+use Rattle.std.specs.Cmp.Lexicographic.{nat_list_cmp_total}
+use Rattle.std.proofs.lemmas.Map.{lookup-none}
+use Rattle.std.proofs.lemmas.Map.Keys.{sorted_tail}
+use Rattle.std.proofs.lemmas.Map.Entries.{none_below_head}
 use Rattle.std.specs.Global.{Vec}
 use Rattle.std.specs.BTreeMap.{insert_entry}
-use Rattle.std.specs.declared.cmp.Ordering.{Ordering}
+use Rattle.std.specs.Option.{unwrap_or}
 use Rattle.std.specs.declared.cmp.Ordering.TheVariants.{Less, Equal, Greater}
 use Rattle.std.specs.Ordering.{is_eq, match_ordering}
 use Rattle.std.specs.FinMap as map_by
 use Rattle.std.specs.FinMap.Entries.{below_all, by_order, is_sorted-put, is_sorted-where_key, same_entries}
 use Rattle.std.proofs.lemmas.Bool.{eq-eqb, eqb-true, and_parts}
 use Rattle.cics_names.specs.Keyed.{Bytes, bytes_cmp, is_same}
-use Rattle.cics_names.specs.KeyedLaws.{is_same-eq}
+use Rattle.cics_names.specs.KeyedLaws.{is_same-eq, is_same-self}
 use Rattle.cics_enqueue.specs.declared.resources.Resource.{Resource}
 use Rattle.cics_enqueue.specs.declared.enqueues.Holding.{Holding}
-use Rattle.cics_enqueue.specs.Kept.{Entries, Owned, table_of, seen, finds, AreKeys, AreOwned, Adds, Drops, owns, has_in, is_units, is_place, IsKept, let_go, LetsGo}
-use Rattle.cics_enqueue.specs.Resources.{Table, Held, held_at, holder_of, count_of, count_in, is_one, is_user, is_full, most_count, raised_count, is_in_order, resource_cmp, resource_key, with_holder, freed, released, taken, given_back, given_back_of}
-use Rattle.cics_enqueue.specs.ResourceLaws.{resource_cmp_total, is_one-cmp, is_one-eq, same_resources, resource_of, resource_of-resource_key}
-use Rattle.cics_enqueue.proofs.TableLaws.{left_of, right_of, not_tied, held_before, held_without, held_at-released, is_in_order-released}
+use Rattle.cics_enqueue.specs.Kept.{key_cmp, Entries, Owned, table_of, seen, finds, AreKeys, AreOwned, Adds, Drops, owns, has_in, is_units, is_place, IsKept, let_go, LetsGo}
+use Rattle.cics_enqueue.specs.Resources.{IsFreeFor, Table, Held, held_at, holder_of, count_of, count_in, is_one, is_user, is_full, most_count, raised_count, is_in_order, resource_cmp, resource_key, with_holder, freed, released, taken, given_back, given_back_of}
+use Rattle.cics_enqueue.specs.ResourceLaws.{overlaps-self, resource_cmp_total, is_one-cmp, is_one-eq, same_resources, resource_of, resource_of-resource_key}
+use Rattle.cics_enqueue.proofs.TableLaws.{taken-held, held_own, given_back-taken, left_of, right_of, not_tied, held_before, held_without, held_at-released, is_in_order-released}
 
--- how keys are ordered
-abbrev pub key_cmp : Vec ℕ → Vec ℕ → Ordering
-key_cmp k l = bytes_cmp k.items l.items
+-- keys are ordered totally
+key_cmp_total : IsTotalOrder key_cmp
+key_cmp_total = record {
+  antisymm = λ x y. nat_list_cmp_total.antisymm x.items y.items;
+  trans = λ x y z. nat_list_cmp_total.trans x.items y.items z.items;
+  congr = λ x y z. nat_list_cmp_total.congr x.items y.items z.items;
+}
+
+-- what is kept, put under its key once more, changes nothing
+pub insert_same : (es : Entries) (k : Vec ℕ) (v : Holding) → IsStrictlySortedBy key_cmp (keys_of es) → lookup (finds k.items) es ≡ Some v → insert_entry key_cmp es k v ≡ es
+insert_same [] k v rises at = cc
+insert_same (e ∷ es) k v rises at =
+    let rest : lookup (finds k.items) es ≡ Some v → insert_entry key_cmp es k v ≡ es = insert_same es k v (sorted_tail key_cmp e.0 (keys_of es) rises) in
+    elim (key_cmp k e.0) as (λ c. key_cmp k e.0 ≡ c → cond (is_eq c) (Some e.1) (lookup (finds k.items) es) ≡ Some v → match_ordering c ((k, v) ∷ e ∷ es) ((e.0, v) ∷ es) (e ∷ insert_entry key_cmp es k v) ≡ e ∷ es) [
+      | Less ↦ λ less at.
+          let wrong : None ≡ Some v = sym (lookup-none (finds k.items) es (none_below_head key_cmp_total k e es rises less).1) ∙ at in cc
+      | Equal ↦ λ same at. let one : e.1 ≡ v = cc in ap (λ x. (e.0, x) ∷ es) (sym one)
+      | Greater ↦ λ more at. ap (λ t. e ∷ t) (rest at)
+    ] refl at
+
+-- where the entries became no more, what was put is what was there
+pub insert_kept : (es : Entries) (k : Vec ℕ) (v w : Holding) → IsStrictlySortedBy key_cmp (keys_of es) → v ≡ unwrap_or (lookup (finds k.items) es) w → (if is_some (lookup (finds k.items) es) then 0 else 1) ≤ 0 → insert_entry key_cmp es k v ≡ es
+insert_kept es k v w rises is more = by (lookup (finds k.items) es) refl is more
+  where
+    by : (o : Option Holding) → lookup (finds k.items) es ≡ o → v ≡ unwrap_or o w → (if is_some o then 0 else 1) ≤ 0 → insert_entry key_cmp es k v ≡ es
+    by None at is more = absurd (omega arith)
+    by (Some h) at is more = insert_same es k v rises (at ∙ ap Some (sym is))
+
+-- what came in under a key goes again
+pub insert_undone : (es : Entries) (k : Vec ℕ) (v : Holding) → lookup (finds k.items) es ≡ None → remove_entry (finds k.items) (insert_entry key_cmp es k v) ≡ es
+insert_undone [] k v absent = ap (λ b. cond b [] ((k, v) ∷ [])) (is_same-self k.items)
+insert_undone (e ∷ es) k v absent =
+    elim (key_cmp k e.0) as (λ c. key_cmp k e.0 ≡ c → cond (is_eq c) (Some e.1) (lookup (finds k.items) es) ≡ None → remove_entry (finds k.items) (match_ordering c ((k, v) ∷ e ∷ es) ((e.0, v) ∷ es) (e ∷ insert_entry key_cmp es k v)) ≡ e ∷ es) [
+      | Less ↦ λ less at. ap (λ b. cond b (e ∷ es) ((k, v) ∷ remove_entry (finds k.items) (e ∷ es))) (is_same-self k.items)
+      | Equal ↦ λ same at. cc
+      | Greater ↦ λ more at. ap (λ c. cond (is_eq c) (insert_entry key_cmp es k v) (e ∷ remove_entry (finds k.items) (insert_entry key_cmp es k v))) more ∙ ap (λ t. e ∷ t) (insert_undone es k v at)
+    ] refl absent
 
 module _ (r : Resource) (key : Bytes) (is : key ≡ resource_key r) where
   -- a resource compares to an entry's as its bytes do
@@ -381,6 +421,34 @@ IsKept-ended es own between after unit none stays ended kept = record {
 -- any lists do for no entries
 pub IsKept-emptied : (es : Entries) (after : Owned) → es ≡ [] → IsKept es after
 IsKept-emptied es after empty = subst (λ fs. IsKept fs after) (sym empty) (record { keys = tt; in_order = tt; owned = λ u k held. cc })
+
+-- what holds on success, of what succeeded, and on a refusal, of what was refused
+pub ok_holds : {X E P : Type 0} (r : Result X E) → is_err r ≡ false → OnOk r P → P
+ok_holds (Ok x) e p = p
+ok_holds (Err x) e p = cc
+
+pub err_holds : {X E P : Type 0} (r : Result X E) → is_err r ≡ true → OnErr r P → P
+err_holds (Ok x) e p = cc
+err_holds (Err x) e p = p
+
+-- a unit that may take a resource is the one that holds it, if any does
+pub holder_own : (t : Table) (r : Resource) (u : ℕ) → IsFreeFor t r u → IfSome (holder_of r t) (λ v. v ≡ u)
+holder_own t r u free = by (holder_of r t) refl
+  where
+    by : (o : Option ℕ) → holder_of r t ≡ o → IfSome o (λ v. v ≡ u)
+    by None at = tt
+    by (Some v) at = free r v (overlaps-self r) at
+
+-- a table after what isn't a user's value was held, if it was free
+pub hold_taken : (t s : Table) (r : Resource) (u : ℕ) (o : Option Holding) → T (is_in_order t) → IsFreeFor t r u → is_user r ≡ false → option_map seen o ≡ held_at r t → s ≡ (if is_some o then t else taken t r u) → s ≡ taken t r u
+hold_taken t s r u None rises free plain at new = new
+hold_taken t s r u (Some h) rises free plain at new = new ∙ sym (taken-held t r u rises (held_own t r u free (ap is_some (ap (option_map (λ h. h.unit)) (sym at)))) plain)
+
+pub hold_undone : (t s : Table) (r : Resource) (u : ℕ) (o : Option Holding) (b : Bool) → T (is_in_order t) → option_map seen o ≡ held_at r t → s ≡ (if is_some o then t else taken t r u) → is_some o ≡ not b → (if b then given_back s r u else s) ≡ t
+hold_undone t s r u None true rises at new same = ap (λ t. given_back t r u) new ∙ given_back-taken t r u rises (sym at)
+hold_undone t s r u None false rises at new same = cc
+hold_undone t s r u (Some h) true rises at new same = cc
+hold_undone t s r u (Some h) false rises at new same = new
 
 -- the table that others see is in order
 pub in_order : {t : Table} {es : Entries} {own : Owned} → table_of es ≡ t → IsKept es own → T (is_in_order t)

@@ -3,7 +3,9 @@ use Rattle.std.specs.Prelude.{◌≡◌, ℕ, ◌==◌, ◌+◌, nat_le, Bool, t
 use Rattle.std.specs.List.{list_any}
 use Rattle.std.specs.Global.{Vec}
 use Rattle.std.specs.Map.{lookup, remove_entry}
-use Rattle.cics_names.specs.Keyed.{Bytes, is_same, is_below}
+use Rattle.std.specs.BTreeMap.{insert_entry}
+use Rattle.std.specs.declared.cmp.Ordering.{Ordering}
+use Rattle.cics_names.specs.Keyed.{Bytes, bytes_cmp, is_same, is_below}
 use Rattle.cics_enqueue.specs.declared.enqueues.Holding.{Holding}
 use Rattle.cics_enqueue.specs.Resources.{Table, Held, resource_key, is_in_order, begins_with, is_other, first_of, most_count}
 use Rattle.cics_enqueue.specs.ResourceLaws.{resource_of}
@@ -80,6 +82,14 @@ is_held_full user h = user && nat_le most_count h.count
 abbrev pub is_units : ℕ → Option Holding → Bool
 is_units u None = false
 is_units u (Some h) = h.unit == u
+
+-- how keys are ordered
+abbrev pub key_cmp : Vec ℕ → Vec ℕ → Ordering
+key_cmp k l = bytes_cmp k.items l.items
+
+-- the entries with a new one at its place, and what they say of each key then
+abbrev pub PutsNew : Vec ℕ → Holding → Entries → Entries → Type 0
+PutsNew key h es fs = (fs ≡ insert_entry key_cmp es key h) × ((k : Vec ℕ) → lookup (finds k.items) fs ≡ (if finds key.items k then Some h else lookup (finds k.items) es))
 
 -- the keys that a unit holds stand in its list
 abbrev pub AreOwned : Entries → Owned → Type 0

@@ -3,12 +3,17 @@
 ghost use Rattle.cics_enqueue.specs.declared.resources.Resource.TheVariants.{FileKey, FilePrefix};
 ghost use Rattle.std.specs.Prelude.{◌≡◌, ◌≤◌, IfNone, IfSome, length, [], ◌+◌};
 ghost use Rattle.std.specs.Prelude.{if◌then◌else◌, IsTrue, true, false, ◌↔◌, OnOk, OnErr, IfErr};
-ghost use Rattle.std.specs.Prelude.{IfOk, None, is_some, not};
-ghost use Rattle.cics_enqueue.specs.Kept.{count_after, is_held_full, let_go, LetsGo};
+ghost use Rattle.std.specs.Prelude.{IfOk, T, None, Some, ℕ, is_some, not, option_map, IsSome};
+ghost use Rattle.cics_enqueue.specs.Kept.{count_after, is_held_full, let_go, LetsGo, seen};
+ghost use Rattle.cics_enqueue.specs.Kept.{finds, key_cmp, PutsNew};
+ghost use Rattle.std.specs.Map.{lookup};
+ghost use Rattle.std.specs.Option.{unwrap_or};
+ghost use Rattle.std.specs.BTreeMap.{btree_map_len, insert_entry};
+ghost use Rattle.std.specs.Global.{Vec};
 ghost use Rattle.cics_enqueue.specs.Resources.{bytes_of, holder_of, holder_over, held_with_prefix};
 ghost use Rattle.cics_enqueue.specs.Resources.{count_of, IsFreeFor, IsFreeBut, HoldsLeast, is_full};
 ghost use Rattle.cics_enqueue.specs.Resources.{taken, given_back, released};
-ghost use Rattle.cics_enqueue.specs.Resources.{held_at, is_user, resource_key};
+ghost use Rattle.cics_enqueue.specs.Resources.{held_at, is_user, is_in_order, resource_key};
 ghost use Rattle.cics_enqueue.specs.ResourceLaws.{resource_of};
 
 use crate::compact::{KEY, MOST, PREFIX, compact, file_bytes};
@@ -100,6 +105,46 @@ fn raise(holding: &mut Holding, user: bool) -> Result<(), TakeFault>
         holding.count += 1;
     }
     Ok(())
+}
+
+// What is kept under a key, which is this holding where nothing was.
+fn or_put(
+    table: &mut BTreeMap<Vec<u8>, Holding>,
+    key: Vec<u8>,
+    holding: Holding,
+) -> Result<Holding, NoMemory>
+    ensures value { IfOk result (λ h. h
+        ≡ unwrap_or (lookup (finds key.items) table.old.entries) holding) }
+    ensures entries { IfOk result (λ h. table.new.entries
+        ≡ insert_entry key_cmp table.old.entries key h) }
+    ensures each { IfOk result (λ h. (k : Vec ℕ) → lookup (finds k.items) table.new.entries
+        ≡ (if finds key.items k then Some h else lookup (finds k.items) table.old.entries)) }
+    ensures len { OnOk result (btree_map_len table.new ≡ btree_map_len table.old
+        + (if is_some (lookup (finds key.items) table.old.entries) then 0 else 1)) }
+    ensures err { OnErr result (table.new.entries ≡ table.old.entries) }
+{
+    Ok(*table.entry(key)?.or_insert(holding))
+}
+
+// Puts a holding under a key where nothing is kept there, and answers what is, in one look-up.
+fn put_first(
+    table: &mut BTreeMap<Vec<u8>, Holding>,
+    key: Vec<u8>,
+    holding: Holding,
+) -> Result<Option<Holding>, NoMemory>
+    ensures held { IfOk result (λ held. held ≡ lookup (finds key.items) table.old.entries) }
+    ensures kept { IfOk result (λ held. IfSome held (λ _. table.new.entries ≡ table.old.entries)) }
+    ensures put { IfOk result (λ held. IfNone held
+        (PutsNew key holding table.old.entries table.new.entries)) }
+    ensures err { OnErr result (table.new.entries ≡ table.old.entries) }
+{
+    let before = table.len();
+    let held = or_put(table, key, holding)?;
+    if table.len() > before {
+        Ok(None)
+    } else {
+        Ok(Some(held))
+    }
 }
 
 // Frees what is kept under a key, if it is this unit's: one that the unit gave back may be another's by now.
@@ -232,14 +277,13 @@ impl Enqueues {
             ↔ IsTrue (is_full resource self.old)) }
         ensures err { OnErr result (self.new ≡ self.old) }
     {
-        let user = resource.is_user();
         let bytes = compact(&resource);
         let key = bytes.as_slice();
-        if let Some(holding) = self.table.get_mut(key) {
-            return raise(holding, user);
+        match self.take_free(key, unit) {
+            Ok(None) => Ok(()),
+            // What is held is taken once more without memory.
+            _ => self.take_again(key, resource.is_user()),
         }
-        self.take_free(key, unit)?;
-        Ok(())
     }
 
     /// Takes a resource, any but a user's value, for a unit that may take it, unless the unit holds it
@@ -258,28 +302,51 @@ impl Enqueues {
     {
         let bytes = compact(resource);
         let key = bytes.as_slice();
-        if self.table.contains_key(key) {
-            return Ok(false);
-        }
-        self.take_free(key, unit)?;
-        Ok(true)
+        let was_held = self.take_free(key, unit)?;
+        Ok(was_held.is_none())
     }
 
-    // Takes a resource that nobody holds, by its bytes, for a unit.
-    fn take_free(&mut self, key: &[u8], unit: UnitId) -> Result<(), NoMemory>
+    // Takes a resource, by its bytes, for a unit where nobody holds it, and else answers how it is held: in one look-up.
+    #[tactic(auto, using(crate::proofs::Tables::in_order))]
+    fn take_free(&mut self, key: &[u8], unit: UnitId) -> Result<Option<Holding>, NoMemory>
         requires key { resource_key (resource_of key.now) ≡ key.now }
-        requires free { held_at (resource_of key.now) self.old ≡ None }
-        ensures taken { OnOk result (self.new ≡ taken self.old (resource_of key.now) unit) }
+        ensures in_order { T (is_in_order self.old) }
+        ensures held { IfOk result (λ held.
+            option_map seen held ≡ held_at (resource_of key.now) self.old) }
+        ensures table { IfOk result (λ held. self.new
+            ≡ (if is_some held then self.old else taken self.old (resource_of key.now) unit)) }
         ensures err { OnErr result (self.new ≡ self.old) }
     {
         let bound = self.bound.get_mut();
         bound.clear();
         bound.reserve(MOST)?;
         let kept = Vec::from_slice(self.alloc, key)?;
-        let own = Vec::from_slice(self.alloc, key)?;
-        owned::add(&mut self.owned, self.alloc, unit, own)?;
-        self.table.insert(kept, Holding { unit, count: 1 })?;
-        Ok(())
+        let held = put_first(&mut self.table, kept, Holding { unit, count: 1 })?;
+        if held.is_some() {
+            return Ok(held);
+        }
+        if owned::add(&mut self.owned, self.alloc, unit, key).is_err() {
+            self.table.remove(key);
+            return Err(NoMemory);
+        }
+        Ok(None)
+    }
+
+    // Takes a resource once more, by its bytes, for the unit that holds it. NoMemory where nobody does.
+    fn take_again(&mut self, key: &[u8], user: bool) -> Result<(), TakeFault>
+        requires key { resource_key (resource_of key.now) ≡ key.now }
+        requires user { user ≡ is_user (resource_of key.now) }
+        ensures taken { (u : ℕ) → IfSome (holder_of (resource_of key.now) self.old) (λ v. v ≡ u) →
+            OnOk result (self.new ≡ taken self.old (resource_of key.now) u) }
+        ensures room { OnOk result (is_full (resource_of key.now) self.old ≡ false) }
+        ensures full { IfErr result (λ fault. fault ≡ TakeFault.Full
+            ↔ IsTrue (is_full (resource_of key.now) self.old)) }
+        ensures err { OnErr result (self.new ≡ self.old) }
+    {
+        let Some(holding) = self.table.get_mut(key) else {
+            return Err(TakeFault::NoMemory);
+        };
+        raise(holding, user)
     }
 
     /// Gives back one take of a resource, if the unit holds it: with the last one the resource is free. Takes no memory.

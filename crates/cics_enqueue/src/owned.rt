@@ -39,11 +39,12 @@ pub(crate) fn add(
     owned: &mut Owned,
     alloc: Global,
     unit: UnitId,
-    key: Vec<u8>,
+    key: &[u8],
 ) -> Result<(), NoMemory>
-    ensures added { OnOk result (Adds unit key.items owned.old.entries owned.new.entries) }
+    ensures added { OnOk result (Adds unit key.now owned.old.entries owned.new.entries) }
     ensures err { OnErr result (OwnsSame owned.old.entries owned.new.entries) }
 {
+    let key = Vec::from_slice(alloc, key)?;
     if let Some(keys) = owned.get_mut(&unit) {
         keys.push(key)?;
         return Ok(());
