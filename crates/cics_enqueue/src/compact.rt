@@ -39,6 +39,14 @@ pub(crate) fn file_bytes(kind: u8, file: Name8, bytes: &[u8]) -> ArrayVec<u8, MO
     joined(&[kind, 8], &file.bytes(), bytes)
 }
 
+// A user's value as bytes.
+pub(crate) fn value_bytes(value: &[u8]) -> ArrayVec<u8, MOST>
+    requires most { length value.now ≤ 255 }
+    ensures { result.items ≡ 5 ∷ value.now }
+{
+    joined(&[5], &[], value)
+}
+
 // A resource as bytes, by which a table is ordered.
 pub(crate) fn compact(resource: &Resource) -> ArrayVec<u8, MOST>
     ensures { result.items ≡ resource_key resource.now }
@@ -48,7 +56,7 @@ pub(crate) fn compact(resource: &Resource) -> ArrayVec<u8, MOST>
         Resource::TsQueue(queue) => joined(&[2], &queue.bytes(), &[]),
         Resource::TdRead(queue) => joined(&[3], &queue.bytes(), &[]),
         Resource::TdWrite(queue) => joined(&[4], &queue.bytes(), &[]),
-        Resource::User(value) => joined(&[5], &[], value.as_slice()),
+        Resource::User(value) => value_bytes(value.as_slice()),
         Resource::FilePrefix(file, prefix) => file_bytes(PREFIX, *file, prefix.as_slice()),
     }
 }

@@ -1,6 +1,6 @@
 //! The enqueue table.
 
-ghost use Rattle.cics_enqueue.specs.declared.resources.Resource.TheVariants.{FileKey, FilePrefix};
+ghost use Rattle.cics_enqueue.specs.declared.resources.Resource.TheVariants.{FileKey, FilePrefix, User};
 ghost use Rattle.std.specs.Prelude.{◌≡◌, ◌≤◌, IfNone, IfSome, length, [], ◌+◌};
 ghost use Rattle.std.specs.Prelude.{if◌then◌else◌, IsTrue, true, false, ◌↔◌, OnOk, OnErr, IfErr};
 ghost use Rattle.std.specs.Prelude.{IfOk, T, None, Some, ℕ, is_some, not, option_map, IsSome};
@@ -16,7 +16,7 @@ ghost use Rattle.cics_enqueue.specs.Resources.{taken, given_back, released};
 ghost use Rattle.cics_enqueue.specs.Resources.{held_at, is_user, is_in_order, resource_key};
 ghost use Rattle.cics_enqueue.specs.ResourceLaws.{resource_of};
 
-use crate::compact::{KEY, MOST, PREFIX, compact, file_bytes};
+use crate::compact::{KEY, MOST, PREFIX, compact, file_bytes, value_bytes};
 use crate::overlaps::{has_prefixes, least_holder, other_holder, shorter_holder};
 use crate::owned::{self, Owned};
 use crate::resources::{Resource, UnitId};
@@ -284,6 +284,38 @@ impl Enqueues {
             // What is held is taken once more without memory.
             _ => self.take_again(key, resource.is_user()),
         }
+    }
+
+    /// Takes a user's value of at most 255 bytes for a unit where it is free or the unit's own, and else answers the
+    /// other unit that holds it: all that `holder_over` and `take` do, in one look-up where it isn't the unit's own.
+    ///
+    /// Full where the unit holds the value 65,535 times, and NoMemory where memory is refused. What isn't taken leaves
+    /// all as it was.
+    pub fn enq(&mut self, value: &[u8], unit: UnitId) -> Result<Option<UnitId>, TakeFault>
+        requires most { length value.now ≤ 255 }
+        ensures holder { IfOk result (λ holder. holder
+            ≡ holder_over (User (bytes_of value.now)) (Some unit) self.old) }
+        ensures taken { IfOk result (λ holder. self.new ≡ (if is_some holder
+            then self.old
+            else taken self.old (User (bytes_of value.now)) unit)) }
+        ensures room { IfOk result (λ holder. IfNone holder
+            (is_full (User (bytes_of value.now)) self.old ≡ false)) }
+        ensures full { IfErr result (λ fault. fault ≡ TakeFault.Full
+            → is_full (User (bytes_of value.now)) self.old ≡ true) }
+        ensures own { IfErr result (λ fault. fault ≡ TakeFault.Full
+            → holder_over (User (bytes_of value.now)) (Some unit) self.old ≡ None) }
+        ensures err { OnErr result (self.new ≡ self.old) }
+    {
+        let bytes = value_bytes(value);
+        let key = bytes.as_slice();
+        let Some(held) = self.take_free(key, unit)? else {
+            return Ok(None);
+        };
+        if held.unit != unit {
+            return Ok(Some(held.unit));
+        }
+        self.take_again(key, true)?;
+        Ok(None)
     }
 
     /// Takes a resource, any but a user's value, for a unit that may take it, unless the unit holds it
