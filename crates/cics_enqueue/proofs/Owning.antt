@@ -31,17 +31,19 @@ module _ (ls ms : Owned) (unit : ℕ) (w : Vec (Vec ℕ)) (h : (q : ℕ) → loo
 
   -- a unit, which may have had no list, has one key more
   pub owns-added : (o : Option (Vec (Vec ℕ))) → lookup (nat_eq unit) ls ≡ o → (key : Bytes) → ((k : Vec ℕ) → (if is_same key k.items then true else has_in o k) ≡ true → list_any (finds k.items) w.items ≡ true) → Adds unit key ls ms
-  owns-added o there key more u k = subst (λ b. cond (nat_eq unit u && is_same key k.items) true (owns ls u k) ≡ true → b ≡ true) (sym (owns-written u k)) (elim (nat_eq unit u) as (λ t. nat_eq unit u ≡ t → cond (t && is_same key k.items) true (owns ls u k) ≡ true → cond t (list_any (finds k.items) w.items) (owns ls u k) ≡ true) [
-    | true ↦ λ t had. more k (ap (cond (is_same key k.items) true) (sym (ap (λ o. has_in o k) (subst (λ x. lookup (nat_eq x) ls ≡ o) (eqb-true unit u t) there))) ∙ had)
-    | false ↦ λ t had. had
-  ] refl)
+  owns-added o there key more u k = subst (λ b. cond (nat_eq unit u && is_same key k.items) true (owns ls u k) ≡ true → b ≡ true) (sym (owns-written u k)) (
+      elim (nat_eq unit u) as (λ t. nat_eq unit u ≡ t → cond (t && is_same key k.items) true (owns ls u k) ≡ true → cond t (list_any (finds k.items) w.items) (owns ls u k) ≡ true) [
+        | true ↦ λ t had. more k (ap (cond (is_same key k.items) true) (sym (ap (λ o. has_in o k) (subst (λ x. lookup (nat_eq x) ls ≡ o) (eqb-true unit u t) there))) ∙ had)
+        | false ↦ λ t had. had
+      ] refl)
 
   -- a unit may have lost a key
   pub owns-dropped : (v : Vec (Vec ℕ)) → lookup (nat_eq unit) ls ≡ Some v → (key : Bytes) → ((k : Vec ℕ) → is_same key k.items ≡ false → list_any (finds k.items) v.items ≡ true → list_any (finds k.items) w.items ≡ true) → Drops unit key ls ms
-  owns-dropped v there key rest u k other = subst (λ b. owns ls u k ≡ true → b ≡ true) (sym (owns-written u k)) (elim (nat_eq unit u) as (λ t. nat_eq unit u ≡ t → (t && is_same key k.items) ≡ false → owns ls u k ≡ true → cond t (list_any (finds k.items) w.items) (owns ls u k) ≡ true) [
-    | true ↦ λ t other had. rest k other (sym (own v there k u t) ∙ had)
-    | false ↦ λ t other had. had
-  ] refl other)
+  owns-dropped v there key rest u k other = subst (λ b. owns ls u k ≡ true → b ≡ true) (sym (owns-written u k)) (
+      elim (nat_eq unit u) as (λ t. nat_eq unit u ≡ t → (t && is_same key k.items) ≡ false → owns ls u k ≡ true → cond t (list_any (finds k.items) w.items) (owns ls u k) ≡ true) [
+        | true ↦ λ t other had. rest k other (sym (own v there k u t) ∙ had)
+        | false ↦ λ t other had. had
+      ] refl other)
 
 -- a list with one more key at its end has this and those that it had
 pub has_pushed : (xs ys : List (Vec ℕ)) (key : Vec ℕ) → ys ≡ xs ++ key ∷ [] → (k : Vec ℕ) → (if is_same key.items k.items then true else list_any (finds k.items) xs) ≡ true → list_any (finds k.items) ys ≡ true

@@ -126,6 +126,14 @@ fn or_put(
     Ok(*table.entry(key)?.or_insert(holding))
 }
 
+// Whether a resource is a queue, or an end of one. It decides in which way alone a resource is held.
+fn uses_queue(resource: &Resource) -> bool {
+    matches!(
+        resource,
+        Resource::TsQueue(_) | Resource::TdRead(_) | Resource::TdWrite(_)
+    )
+}
+
 // Puts a holding under a key where nothing is kept there, and answers what is, in one look-up.
 fn put_first(
     table: &mut BTreeMap<Vec<u8>, Holding>,
@@ -334,6 +342,10 @@ impl Enqueues {
     {
         let bytes = compact(resource);
         let key = bytes.as_slice();
+        // A unit uses a queue again and again, and to find that it holds it takes no bytes of its own.
+        if uses_queue(resource) && self.table.contains_key(key) {
+            return Ok(false);
+        }
         let was_held = self.take_free(key, unit)?;
         Ok(was_held.is_none())
     }

@@ -1,8 +1,22 @@
-use Rattle.std.proofs.Common.{◌∙◌, ap}
+use Rattle.std.proofs.Common.{sym, ◌∙◌, ap}
 use Rattle.std.specs.Prelude.{is_some, if◌then◌else◌}
 use Rattle.cics_enqueue.specs.Resources.{held_at, taken}
-use Rattle.cics_enqueue.proofs.Tables.{own_key, read_back, hold_taken, hold_undone}
+use Rattle.cics_enqueue.proofs.TableLaws.{held_own, taken-held}
+use Rattle.cics_enqueue.proofs.Tables.{in_order, is_held-table_of, own_key, read_back, hold_taken, hold_undone}
 use Rattle.cics_enqueue.proofs.enqueues.Enqueues.hold.Goals as goal
+
+pub returns-then-contains_key-clause-was_free : goal.returns-then-contains_key-clause-was_free
+returns-then-contains_key-clause-was_free c =
+    rw (← c.self.view_is) (is_held-table_of c.args.resource.now c.as_slice-key.result.now (c.as_slice-key.ensures.value ∙ c.compact-bytes.ensures) c.self.inside.table.entries c.self.invariant.keys
+    ∙ sym c.contains_key.ensures ∙ c.if-contains_key.true)
+
+-- what the unit holds already it doesn't take
+pub returns-then-contains_key-clause-taken : goal.returns-then-contains_key-clause-taken
+returns-then-contains_key-clause-taken c =
+    let r = c.args.resource.now in
+    let some = rw c.self.view_is at (is_held-table_of r c.as_slice-key.result.now (c.as_slice-key.ensures.value ∙ c.compact-bytes.ensures) c.self.inside.table.entries c.self.invariant.keys
+    ∙ sym c.contains_key.ensures ∙ c.if-contains_key.true) in
+    sym (taken-held c.args.self.now r c.args.unit (in_order c.self.view_is c.self.invariant) (held_own c.args.self.now r c.args.unit c.requires.free some) c.requires.plain)
 
 pub take_free-requires : goal.take_free-requires
 take_free-requires c = record { key = own_key c.args.resource.now c.as_slice-key.result.now (c.as_slice-key.ensures.value ∙ c.compact-bytes.ensures) }

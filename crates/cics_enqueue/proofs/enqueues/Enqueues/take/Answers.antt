@@ -18,5 +18,6 @@ returns-in_default-clause-taken c =
     let key = c.as_slice-key.result.now in
     let back = read_back c.args.resource key (c.as_slice-key.ensures.value ∙ c.compact-bytes.ensures) in
     let same : c.take_free.new.self ≡ t = search rules in
-    let own : IfSome (holder_of (resource_of key) c.take_free.new.self) (λ v. v ≡ c.args.unit) = subst (λ s. IfSome (holder_of (resource_of key) s) (λ v. v ≡ c.args.unit)) (sym same) (subst (λ q. IfSome (holder_of q t) (λ v. v ≡ c.args.unit)) (sym back) (holder_own t c.args.resource c.args.unit c.requires.free)) in
+    let first : IfSome (holder_of (resource_of key) t) (λ v. v ≡ c.args.unit) = subst (λ q. IfSome (holder_of q t) (λ v. v ≡ c.args.unit)) (sym back) (holder_own t c.args.resource c.args.unit c.requires.free) in
+    let own : IfSome (holder_of (resource_of key) c.take_free.new.self) (λ v. v ≡ c.args.unit) = subst (λ s. IfSome (holder_of (resource_of key) s) (λ v. v ≡ c.args.unit)) (sym same) first in
     on_ok_weaker c.take_again.result (λ is. is ∙ (λ i. taken (same i) (back i) c.args.unit)) (c.take_again.ensures.taken c.args.unit own)

@@ -27,7 +27,8 @@ returns-clause-taken c = λ u holds.
     let w = c.raise.new.holding in
     let found : lookup (finds key) es ≡ Some v = sym c.get_mut.ensures.value ∙ ap option_copied_mut c.in-Some.is in
     let mine : v.unit ≡ u = subst (λ o. IfSome o (λ x. x ≡ u)) (ap (holder_of r) (sym c.self.view_is) ∙ holder_here r key is es c.self.invariant.keys v found) holds in
-    on_ok_weaker c.raise.result (λ count. rw (← c.self.view_is) (ap table_of (c.get_mut.follows.holds w).0 ∙ taken-raised r key is es c.self.invariant.keys v found u w c.self.invariant.in_order c.raise.ensures.unit mine (count ∙ ap (λ b. cond b (v.count + 1) v.count) c.requires.user))) c.raise.ensures.count
+    on_ok_weaker c.raise.result (λ count.
+    rw (← c.self.view_is) (ap table_of (c.get_mut.follows.holds w).0 ∙ taken-raised r key is es c.self.invariant.keys v found u w c.self.invariant.in_order c.raise.ensures.unit mine (count ∙ ap (λ b. cond b (v.count + 1) v.count) c.requires.user))) c.raise.ensures.count
 
 pub returns-clause-room : goal.returns-clause-room
 returns-clause-room c =
