@@ -416,7 +416,7 @@ impl Enqueues {
         owned::remove(&mut self.owned, unit, key);
     }
 
-    /// Frees all that a unit holds, at a cost that goes by how much that is. Takes no memory.
+    /// Frees all that a unit holds, at a cost that goes by what it took since it began, and may have given back. Takes no memory.
     pub fn release_all(&mut self, unit: UnitId)
         ensures { self.new ≡ released self.old unit }
     {
