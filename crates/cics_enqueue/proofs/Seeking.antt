@@ -1,5 +1,5 @@
 -- Look-ups by the first bytes in entries that rise.
-use Rattle.std.proofs.Common.{◌≡◌, ℕ, ◌&&◌, ◌==◌, Bool, true, false, cond, Option, Some, None, [], ◌∷◌, ◌++◌, length, nat_eq, suc, All, arith, refl, sym, ap, subst, ◌∙◌, inl, inr, append_assoc, ◌<◌, zero}
+use Rattle.std.proofs.Common.{Bor, ◌≡◌, ℕ, ◌&&◌, ◌==◌, Bool, true, false, cond, Option, Some, None, [], ◌∷◌, ◌++◌, length, nat_eq, suc, All, arith, refl, sym, ap, subst, ◌∙◌, inl, inr, append_assoc, ◌<◌, zero}
 use Rattle.std.specs.Bool.{OnFalse}
 use Rattle.std.specs.Prelude.{slice_get, is_some, option_map, drop, take, filter, if◌then◌else◌}
 use Rattle.std.specs.Global.{Vec}
@@ -12,12 +12,14 @@ use Rattle.std.specs.Cmp.{nat_cmp_total, tied_itself}
 use Rattle.std.specs.Cmp.Lexicographic.{pointwise}
 use Rattle.std.specs.FinMap.{nat_cmp-IsAntisymmetric}
 use Rattle.std.proofs.lemmas.Bool.{cases_Bool, le-ltb, eqb-true, eq-eqb, and_parts, and_from}
-use Rattle.arrayvec.specs.ArrayVec.{ArrayVec}
 use Rattle.cics_names.specs.Keyed.{Bytes, bytes_cmp, is_below}
 use Rattle.cics_names.specs.KeyedLaws.{is_same-eq}
 use Rattle.cics_enqueue.specs.declared.enqueues.Holding.{Holding}
 use Rattle.cics_enqueue.specs.declared.resources.Resource.{Resource}
-use Rattle.cics_enqueue.specs.declared.resources.Resource.TheVariants.{FileKey, TsQueue, TdRead, TdWrite, User, FilePrefix}
+use Rattle.cics_enqueue.specs.declared.resources.Resource.TheVariants.{FileKey, FilePrefix}
+use Rattle.cics_enqueue.specs.Borrowed.{named}
+use Rattle.cics_enqueue.specs.declared.borrowed.Kind.{Kind}
+use Rattle.cics_enqueue.specs.declared.borrowed.Kind.TheVariants.{FileKey as KeyAt, FilePrefix as PrefixAt, TsQueue as TsQueueOf, TdRead as ReadingEndOf, TdWrite as WritingEndOf, User as UserAt}
 use Rattle.cics_enqueue.specs.Kept.{key_cmp, Entries, Owned, IsKept, owns, is_units, AreKeys, table_of, seen, shown, finds, first_entry, is_others_under, others_unit, first_cover, lesser_shown}
 use Rattle.cics_enqueue.specs.Resources.{Table, Held, holder_over, bytes_of, resource_key, begins_with, is_other, is_under, first_that, first_of, lesser, least_under, other_than, holder_of, holder_of_shorter}
 use Rattle.cics_enqueue.specs.ResourceLaws.{resource_of}
@@ -294,10 +296,10 @@ lesser_of-two a b k p h o is_a is_b = (λ i. option_map second_of (lesser_shown 
     step false = refl
 
 -- what is no record and no prefix is overlapped by itself alone
-pub holder_over-plain : (r : Resource) (asker : Option ℕ) (t : Table) → ((f : Bytes) (k : ArrayVec ℕ) → r ≡ FileKey f k → ⊥) → ((f : Bytes) (p : ArrayVec ℕ) → r ≡ FilePrefix f p → ⊥) → holder_over r asker t ≡ other_than asker (holder_of r t)
-holder_over-plain (FileKey f k) asker t no_key no_prefix = absurd (no_key f k refl)
-holder_over-plain (FilePrefix f p) asker t no_key no_prefix = absurd (no_prefix f p refl)
-holder_over-plain (TsQueue q) asker t no_key no_prefix = refl
-holder_over-plain (TdRead q) asker t no_key no_prefix = refl
-holder_over-plain (TdWrite q) asker t no_key no_prefix = refl
-holder_over-plain (User v) asker t no_key no_prefix = refl
+pub holder_over-plain : (k : Kind) (asker : Option ℕ) (t : Table) → ((f : Bytes) (b : Bor Bytes) → k ≡ KeyAt f b → ⊥) → ((f : Bytes) (b : Bor Bytes) → k ≡ PrefixAt f b → ⊥) → holder_over (named k) asker t ≡ other_than asker (holder_of (named k) t)
+holder_over-plain (KeyAt f b) asker t no_key no_prefix = absurd (no_key f b refl)
+holder_over-plain (PrefixAt f b) asker t no_key no_prefix = absurd (no_prefix f b refl)
+holder_over-plain (TsQueueOf q) asker t no_key no_prefix = refl
+holder_over-plain (ReadingEndOf q) asker t no_key no_prefix = refl
+holder_over-plain (WritingEndOf q) asker t no_key no_prefix = refl
+holder_over-plain (UserAt v) asker t no_key no_prefix = refl

@@ -1,3 +1,4 @@
+pub mod Borrowed
 pub mod FreedomLaws
 pub mod Kept
 pub mod Resources

@@ -16,7 +16,8 @@ ghost use Rattle.cics_enqueue.specs.Resources.{taken, given_back, released};
 ghost use Rattle.cics_enqueue.specs.Resources.{held_at, is_user, is_in_order, resource_key};
 ghost use Rattle.cics_enqueue.specs.ResourceLaws.{resource_of};
 
-use crate::compact::{KEY, MOST, PREFIX, compact, file_bytes, value_bytes};
+use crate::borrowed::{Kind, ResourceRef};
+use crate::compact::{KEY, MOST, PREFIX, compact, compact_own, file_bytes, value_bytes};
 use crate::overlaps::{has_prefixes, least_holder, other_holder, shorter_holder};
 use crate::owned::{self, Owned};
 use crate::resources::{Resource, UnitId};
@@ -127,10 +128,10 @@ fn or_put(
 }
 
 // Whether a resource is a queue, or an end of one. It decides in which way alone a resource is held.
-fn uses_queue(resource: &Resource) -> bool {
+fn uses_queue(resource: &ResourceRef<'_>) -> bool {
     matches!(
-        resource,
-        Resource::TsQueue(_) | Resource::TdRead(_) | Resource::TdWrite(_)
+        &resource.kind,
+        Kind::TsQueue(_) | Kind::TdRead(_) | Kind::TdWrite(_)
     )
 }
 
@@ -186,6 +187,13 @@ impl Enqueues {
     pub fn holder(&self, resource: &Resource) -> Option<UnitId>
         ensures { result ≡ holder_of resource.now self.now }
     {
+        self.holder_of(&ResourceRef::of(resource))
+    }
+
+    /// The unit that holds a resource whose bytes are borrowed, or None where it is free.
+    pub fn holder_of(&self, resource: &ResourceRef<'_>) -> Option<UnitId>
+        ensures { result ≡ holder_of resource.now self.now }
+    {
         let holding = self.table.get(compact(resource).as_slice())?;
         Some(holding.unit)
     }
@@ -194,7 +202,7 @@ impl Enqueues {
     pub fn count(&self, resource: &Resource) -> u16
         ensures { result ≡ count_of resource.now self.now }
     {
-        match self.table.get(compact(resource).as_slice()) {
+        match self.table.get(compact_own(resource).as_slice()) {
             Some(holding) => holding.count,
             None => 0,
         }
@@ -207,7 +215,7 @@ impl Enqueues {
     /// The least is that in byte order, a held prefix by its own bytes. Where no other unit that is
     /// open has taken anything it costs no look-up. While any prefix is held it costs one for each byte
     /// of the key or prefix, and for a prefix what `held_with_prefix` costs.
-    pub fn holder_over(&self, resource: &Resource, but_not: Option<UnitId>) -> Option<UnitId>
+    pub fn holder_over(&self, resource: &ResourceRef<'_>, but_not: Option<UnitId>) -> Option<UnitId>
         ensures value { result ≡ holder_over resource.now but_not self.now }
         ensures free { IfNone result (IsFreeBut self.now resource.now but_not) }
         ensures least { IfSome result (HoldsLeast self.now resource.now but_not) }
@@ -215,11 +223,9 @@ impl Enqueues {
         if owned::is_alone(&self.owned, &but_not) {
             return None;
         }
-        match resource {
-            Resource::FilePrefix(file, prefix) => {
-                self.held_with_prefix(*file, prefix.as_slice(), but_not)
-            }
-            Resource::FileKey(file, key) => self.holder_of_key(*file, key.as_slice(), &but_not),
+        match &resource.kind {
+            Kind::FilePrefix(file, prefix) => self.held_with_prefix(*file, prefix, but_not),
+            Kind::FileKey(file, key) => self.holder_of_key(*file, key, &but_not),
             _ => other_holder(&self.table, compact(resource).as_slice(), &but_not),
         }
     }
@@ -285,7 +291,7 @@ impl Enqueues {
             ↔ IsTrue (is_full resource self.old)) }
         ensures err { OnErr result (self.new ≡ self.old) }
     {
-        let bytes = compact(&resource);
+        let bytes = compact_own(&resource);
         let key = bytes.as_slice();
         match self.take_free(key, unit) {
             Ok(None) => Ok(()),
@@ -329,7 +335,7 @@ impl Enqueues {
     /// Takes a resource, any but a user's value, for a unit that may take it, unless the unit holds it
     /// already, and tells whether it was free: where it was, `give_back` undoes the take. NoMemory
     /// where memory is refused: then nothing has changed.
-    pub fn hold(&mut self, resource: &Resource, unit: UnitId) -> Result<bool, NoMemory>
+    pub fn hold(&mut self, resource: &ResourceRef<'_>, unit: UnitId) -> Result<bool, NoMemory>
         requires plain { is_user resource.now ≡ false }
         requires free { IsFreeFor self.old resource.now unit }
         ensures was_free { IfOk result (λ was_free.
@@ -395,6 +401,13 @@ impl Enqueues {
 
     /// Gives back one take of a resource, if the unit holds it: with the last one the resource is free. Takes no memory.
     pub fn give_back(&mut self, resource: &Resource, unit: UnitId)
+        ensures { self.new ≡ given_back self.old resource.now unit }
+    {
+        self.let_go(&ResourceRef::of(resource), unit);
+    }
+
+    /// Gives back one take of a resource whose bytes are borrowed, as `give_back` does. Takes no memory.
+    pub fn let_go(&mut self, resource: &ResourceRef<'_>, unit: UnitId)
         ensures { self.new ≡ given_back self.old resource.now unit }
     {
         let bytes = compact(resource);

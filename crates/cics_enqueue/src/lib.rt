@@ -4,6 +4,7 @@
 //! holds can be freed without a look at what the others hold.
 #![tactic(auto)]
 
+mod borrowed;
 mod compact;
 mod enqueues;
 mod laws;
@@ -11,6 +12,7 @@ mod overlaps;
 mod owned;
 mod resources;
 
+pub use borrowed::ResourceRef;
 pub use enqueues::{Enqueues, TakeFault};
 pub use laws::tables_stay_lawful;
 pub use resources::{Resource, UnitId};

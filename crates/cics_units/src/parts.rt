@@ -38,7 +38,7 @@ ghost use Rattle.cics_units.specs.Parts.{AreEnqueued, ArePartsKept};
 use crate::open_reads::OpenReads;
 use crate::undoable_store::{Store, UndoableStore};
 use crate::uses::{Uses, hold_all, holder_over_all, let_go_all, writer_of};
-use cics_enqueue::{Enqueues, Resource, TakeFault, UnitId};
+use cics_enqueue::{Enqueues, Resource, ResourceRef, TakeFault, UnitId};
 use cics_history::{Answer, Op};
 use cics_names::{Condition, Name4, Name8, NoMemory, Record};
 use cics_tempstor::TsRead;
@@ -91,7 +91,11 @@ impl Parts {
     }
 
     /// The unit, other than the one that asks, that holds the least of what overlaps a resource.
-    pub(crate) fn holder_over(&self, asking: Option<UnitId>, resource: &Resource) -> Option<UnitId>
+    pub(crate) fn holder_over(
+        &self,
+        asking: Option<UnitId>,
+        resource: &ResourceRef<'_>,
+    ) -> Option<UnitId>
         ensures { result ≡ holder_over resource.now asking self.now.table }
     {
         self.enqueues.holder_over(resource, asking)
@@ -132,7 +136,7 @@ impl Parts {
         unit: UnitId,
         file: Name8,
         key: &Record,
-        uses: &Uses,
+        uses: &Uses<'_>,
     ) -> Result<(), NoMemory>
         requires plain { list_any is_user (listed uses.now) ≡ false }
         requires free { AreFreeFor self.old.table (listed uses.now) unit }
@@ -160,7 +164,7 @@ impl Parts {
         unit: UnitId,
         file: &Name8,
         op: &Op,
-        uses: &Uses,
+        uses: &Uses<'_>,
     ) -> Result<(), NoMemory>
         requires named { file_of op.now ≡ file.now }
         requires on_file { is_file_op op.now ≡ true }
@@ -212,13 +216,13 @@ impl Parts {
         self.stores.change(unit, op)?;
         if let Some(key) = self.cover(unit, file, op) {
             self.enqueues
-                .give_back(&Resource::record(*file, key.bytes()), unit);
+                .let_go(&ResourceRef::record(*file, key.bytes()), unit);
         }
         Ok(())
     }
 
     // Executes a command on a file that is to be answered NORMAL, and uses these resources.
-    fn change(&mut self, unit: UnitId, op: &Op, uses: &Uses) -> Result<(), NoMemory>
+    fn change(&mut self, unit: UnitId, op: &Op, uses: &Uses<'_>) -> Result<(), NoMemory>
         requires on_file { is_file_op op.now ≡ true }
         requires fit { IsFitFileOp self.old.stores.store.files op.now }
         requires begun { unit < length self.old.stores.images }
@@ -258,7 +262,7 @@ impl Parts {
     fn is_writer(&self, unit: UnitId, queue: Name4) -> bool
         ensures { result ≡ is_writer self.now.table unit queue }
     {
-        match self.enqueues.holder(&Resource::TdWrite(queue)) {
+        match self.enqueues.holder_of(&ResourceRef::writing_end(queue)) {
             Some(holder) => holder == unit,
             None => false,
         }
@@ -307,7 +311,12 @@ impl Parts {
     }
 
     // Executes a command on a file: the store changes only where it is answered NORMAL.
-    fn execute_on_file(&mut self, unit: UnitId, op: &Op, uses: &Uses) -> Result<Answer, NoMemory>
+    fn execute_on_file(
+        &mut self,
+        unit: UnitId,
+        op: &Op,
+        uses: &Uses<'_>,
+    ) -> Result<Answer, NoMemory>
         requires file { is_file_op op.now ≡ true }
         requires fit { IsFitFileOp self.old.stores.store.files op.now }
         requires begun { unit ≤ length self.old.stores.images }
@@ -338,7 +347,7 @@ impl Parts {
         &mut self,
         unit: UnitId,
         op: &Op,
-        uses: &Uses,
+        uses: &Uses<'_>,
         recoverable: bool,
     ) -> Result<Answer, NoMemory>
         requires on_queue { is_file_op op.now ≡ false }
@@ -376,7 +385,7 @@ impl Parts {
         &mut self,
         unit: UnitId,
         op: &Op,
-        uses: &Uses,
+        uses: &Uses<'_>,
         recoverable: bool,
     ) -> Result<Answer, NoMemory>
         requires fit { IsFitOp self.old.stores.store op.now }
@@ -409,7 +418,7 @@ impl Parts {
         asking: Option<UnitId>,
         acting: UnitId,
         op: &Op,
-        uses: &Uses,
+        uses: &Uses<'_>,
     ) -> Option<UnitId>
         ensures { (recoverable : Bool) → listed uses.now ≡ uses_if recoverable op.now →
             result ≡ unit_in_way self.now.table self.now.stores.store.trans_data recoverable asking
@@ -473,7 +482,7 @@ impl Parts {
         ensures { self.new ≡ record self.old
             { table = given_back self.old.table (value_of value.now) unit } }
     {
-        self.enqueues.give_back(&Resource::value(value), unit);
+        self.enqueues.let_go(&ResourceRef::value(value), unit);
     }
 
     /// Ends a unit's update read of a file, and gives its record back where the file isn't
@@ -497,7 +506,7 @@ impl Parts {
         };
         if !recoverable {
             self.enqueues
-                .give_back(&Resource::record(*file, key.bytes()), unit);
+                .let_go(&ResourceRef::record(*file, key.bytes()), unit);
         }
     }
 

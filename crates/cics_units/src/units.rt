@@ -24,7 +24,7 @@ use crate::listings::Listing;
 use crate::opening::Opening;
 use crate::parts::Parts;
 use crate::uses::uses_of;
-use cics_enqueue::{Resource, TakeFault, UnitId};
+use cics_enqueue::{ResourceRef, TakeFault, UnitId};
 use cics_history::{Answer, Done, Enqueued, Entry, Op, UnitState};
 use cics_images::Stores;
 use cics_ksds::File;
@@ -275,7 +275,7 @@ impl Units {
         // A copy for each call that the unit is handed to.
         let asking = unit;
         let begins = unit;
-        let resource = Resource::value(value);
+        let resource = ResourceRef::value(value);
         if let Some(holder) = self.parts.holder_over(asking, &resource) {
             return Ok(Enqueued::MustWait(holder));
         }
@@ -297,7 +297,7 @@ impl Units {
         ensures holder { result ≡ value_holder self.now.state asking value.now }
         ensures is_open { IfSome result (IsOpenUnit self.now.state) }
     {
-        self.parts.holder_over(asking, &Resource::value(value))
+        self.parts.holder_over(asking, &ResourceRef::value(value))
     }
 
     /// Dequeues from a value for a unit: DEQ. With as many as it enqueued the value is free.

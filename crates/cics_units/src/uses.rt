@@ -11,20 +11,21 @@ ghost use Rattle.cics_units.specs.Uses.{uses_if, listed, taken_all, AreFreeFor, 
 ghost use Rattle.cics_units.specs.Uses.{given_back_if, let_go};
 ghost use Rattle.cics_units.specs.Awaiting.{writer_of};
 
-use cics_enqueue::{Enqueues, Resource, UnitId};
+use cics_enqueue::{Enqueues, ResourceRef, UnitId};
 use cics_history::Op;
 use cics_names::{Name4, Name8, NoMemory};
 use cics_transdata::TransQueue;
 
-/// What a command uses: two resources at most, the reading end of a queue before its writing end.
+/// What a command uses: two resources at most, the reading end of a queue before its writing end. Their
+/// bytes lie in the command.
 #[derive(Drop)]
-pub(crate) enum Uses {
+pub(crate) enum Uses<'a> {
     /// Nothing that is held.
     Nothing,
     /// One resource.
-    One(Resource),
+    One(ResourceRef<'a>),
     /// Two resources.
-    Two(Resource, Resource),
+    Two(ResourceRef<'a>, ResourceRef<'a>),
 }
 
 /// Which of two resources were free before a unit took them; what it holds already it doesn't take.
@@ -35,56 +36,24 @@ pub(crate) struct WereFree {
 }
 
 // The record of a file.
-//
-// Each kind of resource is built in a function of its own: where a function has many values of this
-// size, all of them are made room for at its beginning, whichever it then uses.
-fn record(file: Name8, key: &[u8]) -> Uses
+fn record(file: Name8, key: &[u8]) -> Uses<'_>
     requires most { length key.now ≤ 255 }
     ensures { listed result ≡ FileKey file (bytes_of key.now) ∷ [] }
 {
-    Uses::One(Resource::record(file, key))
-}
-
-// The records of a file under a prefix.
-fn records_under(file: Name8, prefix: &[u8]) -> Uses
-    requires most { length prefix.now ≤ 255 }
-    ensures { listed result ≡ FilePrefix file (bytes_of prefix.now) ∷ [] }
-{
-    Uses::One(Resource::prefix(file, prefix))
+    Uses::One(ResourceRef::record(file, key))
 }
 
 // The name of a temporary storage queue that is recoverable.
-fn ts_queue(queue: Name8) -> Uses
+fn ts_queue<'a>(queue: Name8) -> Uses<'a>
     ensures { listed result ≡ TsQueue queue ∷ [] }
 {
-    Uses::One(Resource::TsQueue(queue))
-}
-
-// The end of a LOGICAL queue at which records are written.
-fn writing_end(queue: Name4) -> Uses
-    ensures { listed result ≡ TdWrite queue ∷ [] }
-{
-    Uses::One(Resource::TdWrite(queue))
-}
-
-// The end of a LOGICAL queue at which records are read.
-fn reading_end(queue: Name4) -> Uses
-    ensures { listed result ≡ TdRead queue ∷ [] }
-{
-    Uses::One(Resource::TdRead(queue))
-}
-
-// Both ends of a LOGICAL queue.
-fn both_ends(queue: Name4) -> Uses
-    ensures { listed result ≡ TdRead queue ∷ TdWrite queue ∷ [] }
-{
-    Uses::Two(Resource::TdRead(queue), Resource::TdWrite(queue))
+    Uses::One(ResourceRef::ts_queue(queue))
 }
 
 /// What a command uses, by whether its file or queue is recoverable: the record of a file, there or
 /// not, or all under a prefix; of a recoverable temporary storage queue the name, and of a LOGICAL
 /// queue the reading end for a read, the writing end for a write, both for a delete.
-pub(crate) fn uses_of(op: &Op, recoverable: bool) -> Uses
+pub(crate) fn uses_of(op: &Op, recoverable: bool) -> Uses<'_>
     requires most { length (key_of op.now) ≤ 255 }
     ensures { listed result ≡ uses_if recoverable op.now }
 {
@@ -92,24 +61,29 @@ pub(crate) fn uses_of(op: &Op, recoverable: bool) -> Uses
         Op::Write { file, key, .. } => record(*file, key.bytes()),
         Op::Rewrite { file, key, .. } => record(*file, key.bytes()),
         Op::Delete { file, key } => record(*file, key.bytes()),
-        Op::DeleteGeneric { file, prefix } => records_under(*file, prefix.bytes()),
+        Op::DeleteGeneric { file, prefix } => {
+            Uses::One(ResourceRef::prefix(*file, prefix.bytes()))
+        }
         Op::ReadUpdate { file, key } => record(*file, key.bytes()),
         _ if !recoverable => Uses::Nothing,
         Op::TsWrite { queue, .. } => ts_queue(*queue),
         Op::TsRewrite { queue, .. } => ts_queue(*queue),
         Op::TsDelete { queue } => ts_queue(*queue),
-        Op::TdWrite { queue, .. } => writing_end(*queue),
-        Op::TdRead { queue } => reading_end(*queue),
-        Op::TdDelete { queue } => both_ends(*queue),
+        Op::TdWrite { queue, .. } => Uses::One(ResourceRef::writing_end(*queue)),
+        Op::TdRead { queue } => Uses::One(ResourceRef::reading_end(*queue)),
+        Op::TdDelete { queue } => Uses::Two(
+            ResourceRef::reading_end(*queue),
+            ResourceRef::writing_end(*queue),
+        ),
     }
 }
 
 // Gives a resource back that was free before its unit took it.
-fn let_go(enqueues: &mut Enqueues, resource: &Resource, unit: UnitId, was_free: bool)
+fn let_go(enqueues: &mut Enqueues, resource: &ResourceRef<'_>, unit: UnitId, was_free: bool)
     ensures { enqueues.new ≡ given_back_if was_free enqueues.old resource.now unit }
 {
     if was_free {
-        enqueues.give_back(resource, unit);
+        enqueues.let_go(resource, unit);
     }
 }
 
@@ -118,7 +92,7 @@ fn let_go(enqueues: &mut Enqueues, resource: &Resource, unit: UnitId, was_free: 
 /// nothing has changed.
 pub(crate) fn hold_all(
     enqueues: &mut Enqueues,
-    uses: &Uses,
+    uses: &Uses<'_>,
     unit: UnitId,
 ) -> Result<WereFree, NoMemory>
     requires plain { list_any is_user (listed uses.now) ≡ false }
@@ -155,7 +129,12 @@ pub(crate) fn hold_all(
 
 /// Gives back what a unit took of what a command uses, and leaves it what it held before. It takes no
 /// memory.
-pub(crate) fn let_go_all(enqueues: &mut Enqueues, uses: &Uses, unit: UnitId, were_free: WereFree)
+pub(crate) fn let_go_all(
+    enqueues: &mut Enqueues,
+    uses: &Uses<'_>,
+    unit: UnitId,
+    were_free: WereFree,
+)
     ensures { enqueues.new ≡ let_go enqueues.old uses.now were_free unit }
 {
     match uses {
@@ -172,7 +151,7 @@ pub(crate) fn let_go_all(enqueues: &mut Enqueues, uses: &Uses, unit: UnitId, wer
 /// resources that is in its way, or None where all of them are free for the one that asks.
 pub(crate) fn holder_over_all(
     enqueues: &Enqueues,
-    uses: &Uses,
+    uses: &Uses<'_>,
     asking: Option<UnitId>,
 ) -> Option<UnitId>
     ensures { result ≡ holder_over_all (listed uses.now) asking enqueues.now }
@@ -202,8 +181,8 @@ pub(crate) fn writer_of(
 ) -> Option<UnitId>
     ensures { result ≡ writer_of enqueues.now (Some queue.now) name asking acting }
 {
-    let end = Resource::TdWrite(name);
-    let past_fresh = match enqueues.holder(&end) {
+    let end = ResourceRef::writing_end(name);
+    let past_fresh = match enqueues.holder_of(&end) {
         Some(holder) => holder == acting,
         None => false,
     };

@@ -1,8 +1,8 @@
 use Rattle.std.proofs.Common.{◌≡◌, ◌∙◌, sym, ap}
+use Rattle.cics_enqueue.specs.Borrowed.{named}
 use Rattle.cics_enqueue.specs.Kept.{table_of}
 use Rattle.cics_enqueue.specs.FreedomLaws.{free_if_none, free_where_none}
-use Rattle.cics_enqueue.specs.Resources.{bytes_of, holder_over}
-use Rattle.cics_enqueue.specs.declared.resources.Resource.TheVariants.{FileKey, FilePrefix}
+use Rattle.cics_enqueue.specs.Resources.{holder_of, holder_over, other_than}
 use Rattle.cics_enqueue.proofs.Least.{least_if_some, none_alone}
 use Rattle.cics_enqueue.proofs.Tables.{in_order}
 use Rattle.cics_enqueue.proofs.Seeking.{alone-table_of, other_than-table_of, holder_over-plain}
@@ -10,26 +10,28 @@ use Rattle.cics_enqueue.proofs.enqueues.Enqueues.holder_over.Goals as goal
 
 pub returns-in-FilePrefix-clause-free : goal.returns-in-FilePrefix-clause-free
 returns-in-FilePrefix-clause-free c = free_if_none _ c.args.self.now c.args.resource.now c.args.but_not
-    (c.held_with_prefix.ensures.value ∙ ap (λ b. holder_over (FilePrefix c.in-FilePrefix.file (bytes_of b)) c.args.but_not c.args.self.now) c.as_slice.ensures.value
-    ∙ ap (λ r. holder_over r c.args.but_not c.args.self.now) (sym c.in-FilePrefix.is))
+    (c.held_with_prefix.ensures.value ∙ ap (λ k. holder_over (named k) c.args.but_not c.args.self.now) (sym c.in-FilePrefix.is)
+    ∙ ap (λ r. holder_over r c.args.but_not c.args.self.now) c.resource.view_is)
 
 pub returns-in-FileKey : goal.returns-in-FileKey
 returns-in-FileKey c =
-    let value : c.holder_of_key.result ≡ holder_over c.args.resource.now c.args.but_not c.args.self.now = c.holder_of_key.ensures ∙ ap (λ b. holder_over (FileKey c.in-FileKey.file (bytes_of b)) c.args.but_not c.args.self.now) c.as_slice-in-FileKey.ensures.value
-    ∙ ap (λ r. holder_over r c.args.but_not c.args.self.now) (sym c.in-FileKey.is) in
+    let value : c.holder_of_key.result ≡ holder_over c.args.resource.now c.args.but_not c.args.self.now = c.holder_of_key.ensures ∙ ap (λ k. holder_over (named k) c.args.but_not c.args.self.now) (sym c.in-FileKey.is)
+    ∙ ap (λ r. holder_over r c.args.but_not c.args.self.now) c.resource.view_is in
     record { value = value; free = free_if_none _ _ c.args.resource.now _ value; least = least_if_some _ _ c.args.resource.now _ (in_order c.self.view_is c.self.invariant) value }
 
 pub returns-in_default : goal.returns-in_default
 returns-in_default c =
     let value : c.other_holder.result ≡ holder_over c.args.resource.now c.args.but_not c.args.self.now = rw (← c.self.view_is) (c.other_holder.ensures
-    ∙ sym (other_than-table_of c.args.resource.now c.as_slice-in_default.result.now (c.as_slice-in_default.ensures.value ∙ c.compact.ensures) c.args.but_not c.self.inside.table.entries c.self.invariant.keys)
-    ∙ sym (holder_over-plain c.args.resource.now c.args.but_not _ c.in_default.not-FileKey c.in_default.not-FilePrefix)) in
+    ∙ sym (other_than-table_of c.args.resource.now c.as_slice.result.now (c.as_slice.ensures.value ∙ c.compact.ensures) c.args.but_not c.self.inside.table.entries c.self.invariant.keys)
+    ∙ ap (λ r. other_than c.args.but_not (holder_of r (table_of c.self.inside.table.entries))) (sym c.resource.view_is)
+    ∙ sym (holder_over-plain c.resource.inside.kind c.args.but_not _ c.in_default.not-FileKey c.in_default.not-FilePrefix)
+    ∙ ap (λ r. holder_over r c.args.but_not (table_of c.self.inside.table.entries)) c.resource.view_is) in
     record { value = value; free = free_if_none _ _ c.args.resource.now _ value; least = least_if_some _ _ c.args.resource.now _ (in_order c.self.view_is c.self.invariant) value }
 
 pub returns-in-FilePrefix-clause-least : goal.returns-in-FilePrefix-clause-least
 returns-in-FilePrefix-clause-least c = least_if_some _ c.args.self.now c.args.resource.now c.args.but_not (in_order c.self.view_is c.self.invariant)
-    (c.held_with_prefix.ensures.value ∙ ap (λ b. holder_over (FilePrefix c.in-FilePrefix.file (bytes_of b)) c.args.but_not c.args.self.now) c.as_slice.ensures.value
-    ∙ ap (λ r. holder_over r c.args.but_not c.args.self.now) (sym c.in-FilePrefix.is))
+    (c.held_with_prefix.ensures.value ∙ ap (λ k. holder_over (named k) c.args.but_not c.args.self.now) (sym c.in-FilePrefix.is)
+    ∙ ap (λ r. holder_over r c.args.but_not c.args.self.now) c.resource.view_is)
 
 -- where no other unit holds anything, none is in the way
 pub returns-then-is_alone-clause-value : goal.returns-then-is_alone-clause-value

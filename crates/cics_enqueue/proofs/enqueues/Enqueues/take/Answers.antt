@@ -10,13 +10,13 @@ pub returns-in-Ok-None-clause-taken : goal.returns-in-Ok-None-clause-taken
 returns-in-Ok-None-clause-taken c =
     let r = resource_of c.as_slice-key.result.now in
     let new : c.take_free.new.self ≡ taken c.args.self.now r c.args.unit = c.in-Ok-None.ensures.table ∙ ap (λ o. if is_some o then c.args.self.now else taken c.args.self.now r c.args.unit) c.in-Ok-None.field-0-is in
-    new ∙ ap (λ q. taken c.args.self.now q c.args.unit) (read_back c.args.resource c.as_slice-key.result.now (c.as_slice-key.ensures.value ∙ c.compact-bytes.ensures))
+    new ∙ ap (λ q. taken c.args.self.now q c.args.unit) (read_back c.args.resource c.as_slice-key.result.now (c.as_slice-key.ensures.value ∙ c.compact_own-bytes.ensures))
 
 pub returns-in_default-clause-taken : goal.returns-in_default-clause-taken
 returns-in_default-clause-taken c =
     let t = c.args.self.now in
     let key = c.as_slice-key.result.now in
-    let back = read_back c.args.resource key (c.as_slice-key.ensures.value ∙ c.compact-bytes.ensures) in
+    let back = read_back c.args.resource key (c.as_slice-key.ensures.value ∙ c.compact_own-bytes.ensures) in
     let same : c.take_free.new.self ≡ t = search rules in
     let first : IfSome (holder_of (resource_of key) t) (λ v. v ≡ c.args.unit) = subst (λ q. IfSome (holder_of q t) (λ v. v ≡ c.args.unit)) (sym back) (holder_own t c.args.resource c.args.unit c.requires.free) in
     let own : IfSome (holder_of (resource_of key) c.take_free.new.self) (λ v. v ≡ c.args.unit) = subst (λ s. IfSome (holder_of (resource_of key) s) (λ v. v ≡ c.args.unit)) (sym same) first in

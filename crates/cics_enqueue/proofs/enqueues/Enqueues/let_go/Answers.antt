@@ -7,7 +7,7 @@ use Rattle.cics_enqueue.specs.declared.enqueues.Holding.{Holding}
 use Rattle.cics_enqueue.specs.Kept.{table_of, finds}
 use Rattle.cics_enqueue.specs.Resources.{with_holder}
 use Rattle.cics_enqueue.proofs.Tables.{table_of-written, table_of-removed, given_back-free, given_back-foreign, given_back-once, given_back-last, IsKept-written, IsKept-removed}
-use Rattle.cics_enqueue.proofs.enqueues.Enqueues.give_back.Goals as goal
+use Rattle.cics_enqueue.proofs.enqueues.Enqueues.let_go.Goals as goal
 
 pub returns-in_default : goal.returns-in_default
 returns-in_default c =

@@ -1,7 +1,7 @@
 use Rattle.std.proofs.Common.{◌∙◌, sym, ap}
 use Rattle.std.specs.Option.{option_copied, option_map}
 use Rattle.cics_enqueue.proofs.Tables.{holder_of-table_of}
-use Rattle.cics_enqueue.proofs.enqueues.Enqueues.holder.Goals as goal
+use Rattle.cics_enqueue.proofs.enqueues.Enqueues.holder_of.Goals as goal
 
 pub returns : goal.returns
 returns c = rw (← c.self.view_is) (sym (holder_of-table_of c.args.resource.now c.as_slice.result.now

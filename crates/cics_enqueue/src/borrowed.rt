@@ -1,0 +1,114 @@
+//! Resources whose bytes are borrowed.
+
+ghost use Rattle.std.specs.Prelude.{◌≡◌, ◌≤◌, length};
+ghost use Rattle.cics_enqueue.specs.Resources.{bytes_of};
+ghost use Rattle.cics_enqueue.specs.declared.resources.Resource.TheVariants.{FileKey, FilePrefix};
+ghost use Rattle.cics_enqueue.specs.declared.resources.Resource.TheVariants.{User, TsQueue};
+ghost use Rattle.cics_enqueue.specs.declared.resources.Resource.TheVariants.{TdRead, TdWrite};
+
+use crate::resources::Resource;
+use cics_names::{Name4, Name8};
+use std::marker::Model;
+
+// The kinds of resources, each with where its bytes lie.
+#[derive(Clone, Copy)]
+pub(crate) enum Kind<'a> {
+    FileKey(Name8, &'a [u8]),
+    TsQueue(Name8),
+    TdRead(Name4),
+    TdWrite(Name4),
+    User(&'a [u8]),
+    FilePrefix(Name8, &'a [u8]),
+}
+
+/// A resource to look up or to take, whose bytes lie elsewhere: it is small where a `Resource` has
+/// room for 255 bytes. Contracts see the resource.
+#[derive(Drop)]
+pub struct ResourceRef<'a> {
+    pub(crate) kind: Kind<'a>,
+}
+
+impl<'a> Model for ResourceRef<'a> {
+    ghost use Rattle.cics_enqueue.specs.declared.resources.Resource.{Resource};
+    ghost use Rattle.cics_enqueue.specs.Borrowed.{named, IsShort};
+
+    ghost Value = { Resource };
+
+    ghost view = { λ r. named r.kind };
+
+    ghost invariant = { λ r. IsShort r.kind };
+}
+
+impl<'a> ResourceRef<'a> {
+    /// The record of a file under this key, of at most 255 bytes, whether it is there or not.
+    pub fn record(file: Name8, key: &'a [u8]) -> ResourceRef<'a>
+        requires most { length key.now ≤ 255 }
+        ensures { result ≡ FileKey file (bytes_of key.now) }
+    {
+        ResourceRef {
+            kind: Kind::FileKey(file, key),
+        }
+    }
+
+    /// The records of a file under every key that begins with these at most 255 bytes, whether they are there or not.
+    pub fn prefix(file: Name8, bytes: &'a [u8]) -> ResourceRef<'a>
+        requires most { length bytes.now ≤ 255 }
+        ensures { result ≡ FilePrefix file (bytes_of bytes.now) }
+    {
+        ResourceRef {
+            kind: Kind::FilePrefix(file, bytes),
+        }
+    }
+
+    /// A user's value of at most 255 bytes.
+    pub fn value(bytes: &'a [u8]) -> ResourceRef<'a>
+        requires most { length bytes.now ≤ 255 }
+        ensures { result ≡ User (bytes_of bytes.now) }
+    {
+        ResourceRef {
+            kind: Kind::User(bytes),
+        }
+    }
+
+    /// A temporary storage queue.
+    pub fn ts_queue(queue: Name8) -> ResourceRef<'a>
+        ensures { result ≡ TsQueue queue }
+    {
+        ResourceRef {
+            kind: Kind::TsQueue(queue),
+        }
+    }
+
+    /// The end of a transient data queue at which records are read.
+    pub fn reading_end(queue: Name4) -> ResourceRef<'a>
+        ensures { result ≡ TdRead queue }
+    {
+        ResourceRef {
+            kind: Kind::TdRead(queue),
+        }
+    }
+
+    /// The end of a transient data queue at which records are written.
+    pub fn writing_end(queue: Name4) -> ResourceRef<'a>
+        ensures { result ≡ TdWrite queue }
+    {
+        ResourceRef {
+            kind: Kind::TdWrite(queue),
+        }
+    }
+
+    /// A resource, its bytes borrowed.
+    pub fn of(resource: &'a Resource) -> ResourceRef<'a>
+        ensures { result ≡ resource.now }
+    {
+        let kind = match resource {
+            Resource::FileKey(file, key) => Kind::FileKey(*file, key.as_slice()),
+            Resource::TsQueue(queue) => Kind::TsQueue(*queue),
+            Resource::TdRead(queue) => Kind::TdRead(*queue),
+            Resource::TdWrite(queue) => Kind::TdWrite(*queue),
+            Resource::User(value) => Kind::User(value.as_slice()),
+            Resource::FilePrefix(file, prefix) => Kind::FilePrefix(*file, prefix.as_slice()),
+        };
+        ResourceRef { kind }
+    }
+}
