@@ -1,5 +1,5 @@
 -- Waiting commands (chapter on task control): which one goes on, which one's time is over, and the clock.
-use Rattle.std.specs.Prelude.{ℕ, ◌-◌, Bool, false, ◌&&◌, if◌then◌else◌, Option, Some, None, is_none, Result, nat_le, nat_lt, take, List, [], ◌∷◌}
+use Rattle.std.specs.Prelude.{◌≡◌, ℕ, ◌-◌, Bool, false, ◌&&◌, if◌then◌else◌, Option, Some, None, is_none, Result, nat_le, nat_lt, take, List, [], ◌∷◌}
 use Rattle.cics_history.specs.Holding.{UnitsState, awaited, value_holder}
 use Rattle.cics_history.specs.declared.ops.Op.{Op}
 use Rattle.cics_dispatch.specs.Machine.{Machine, Task, Suspended, task_at, with_waiting, not_waiting, abended, timed_out}
@@ -76,3 +76,7 @@ expired_task m (Some t) = record { outcome = Some (record { label = t.label; cod
 -- the first task that has waited too long is abended
 abbrev pub expired : Machine → Stepped (Option Expired)
 expired m = expired_task m (first_late m m.waiting)
+
+-- nothing goes on by itself: no waiting command may go on, and no task has waited too long
+abbrev pub IsAtRest : Machine → Type 0
+IsAtRest m = ((woken m).outcome ≡ None) × ((expired m).outcome ≡ None)

@@ -2,10 +2,11 @@
 
 ghost use Rattle.std.specs.Prelude.{◌≡◌, ◌&&◌, not, if◌then◌else◌, None, true, false, ℕ};
 ghost use Rattle.std.specs.Prelude.{IfOk, IfErr, IfSome, OnOk};
+ghost use Rattle.std.specs.Bool.{OnTrue};
 ghost use Rattle.cics_history.specs.Events.{is_live};
 ghost use Rattle.cics_dispatch.specs.Machine.{beginning_region};
 ghost use Rattle.cics_dispatch.specs.Steps.{attached, issued};
-ghost use Rattle.cics_dispatch.specs.Waking.{clock_set, woken, expired};
+ghost use Rattle.cics_dispatch.specs.Waking.{clock_set, woken, expired, IsAtRest};
 ghost use Rattle.cics_dispatch.specs.First.{IsFirstToGoOn, IsFirstTooLate};
 ghost use Rattle.cics_dispatch.specs.Answers.{without_tasks};
 ghost use Rattle.cics_dispatch.specs.Shutdown.{IsRegionStep, shut_down};
@@ -157,6 +158,15 @@ impl Region {
         let waits = self.dispatcher.is_waiting(&label);
         self.is_settled = stays_settled(self.is_settled, was_blocker, waits);
         Ok(outcome)
+    }
+
+    /// Whether it is known that nothing goes on by itself: no waiting command may go on, and no task has
+    /// waited too long. `false` says nothing; then `wake` and `expire` tell. It looks at no wait.
+    pub fn is_at_rest(&self) -> bool
+        ensures rest { OnTrue result (IsAtRest self.now.machine) }
+        ensures headline { IsHeadlineRegion self.now }
+    {
+        self.is_settled && self.is_in_time
     }
 
     /// Lets the first waiting command go on that needn't wait any more, and answers its task's label

@@ -1,8 +1,9 @@
 -- A region settles: the turns that it takes, and that they are enough.
-use Rattle.std.specs.Prelude.{◌≡◌, ℕ, zero, suc, ◌<◌, ◌≤◌, true, false, List, [], ◌++◌, length, Option, Some, None, Result, Ok, refl}
+use Rattle.std.specs.Prelude.{◌≡◌, ℕ, zero, suc, ◌<◌, ◌≤◌, Bool, true, false, List, [], ◌++◌, length, Option, Some, None, Result, Ok, refl}
+use Rattle.std.specs.Bool.{OnTrue}
 use Rattle.std.proofs.Common.{arith, sym, ap, ◌∙◌, subst, append_assoc, append-nil}
 use Rattle.cics_dispatch.specs.Machine.{Machine, RegionValue}
-use Rattle.cics_dispatch.specs.Waking.{woken, expired}
+use Rattle.cics_dispatch.specs.Waking.{woken, expired, IsAtRest}
 use Rattle.cics_dispatch.specs.Answers.{IsHeadlineRegion}
 use Rattle.cics_dispatch.specs.declared.outcomes.Woken.{Woken}
 use Rattle.cics_dispatch.specs.declared.outcomes.Expired.{Expired}
@@ -39,6 +40,12 @@ unfolding turn
 turn_none m waits early =
     ap (λ o. waking_turn o (woken m).machine (expiry_turn (expired m).outcome (expired m).machine)) waits
     ∙ ap (λ o. expiry_turn o (expired m).machine) early
+
+-- where nothing goes on by itself there is no turn to take
+pub at_rest : (r : RegionValue) (text : List ℕ) (is : Bool) → OnTrue is (IsAtRest r.machine) → is ≡ true → IsHeadlineRegion r → Turns r.machine r text text false
+at_rest r text is calm set kept =
+    let rests = subst (λ b. OnTrue b (IsAtRest r.machine)) set calm in
+    (turn_none r.machine rests.0 rests.1, is_region_at r kept, refl)
 
 -- where there is no turn to take, nothing more comes by itself
 quiet_then : (m : Machine) → turn m ≡ None → ((woken m).outcome ≡ None) × ((expired m).outcome ≡ None)

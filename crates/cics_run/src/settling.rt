@@ -20,6 +20,22 @@ pub fn settle(region: &mut Region, out: &mut Vec<u8>) -> Result<(), NoMemory>
         (settled (length region.old.machine.waiting) region.old.machine).text) }
     ensures quiet { OnOk result (turn region.new.machine ≡ None) }
 {
+    // Behind most lines nothing comes, and that is known.
+    if region.is_at_rest() {
+        return Ok(());
+    }
+    take_turns(region, out)
+}
+
+// Takes turns until there is none to take.
+fn take_turns(region: &mut Region, out: &mut Vec<u8>) -> Result<(), NoMemory>
+    ensures region { OnOk result (region.new
+        ≡ region_at (settled (length region.old.machine.waiting) region.old.machine).machine) }
+    ensures text { OnOk result (out.new.items
+        ≡ out.old.items ++
+        (settled (length region.old.machine.waiting) region.old.machine).text) }
+    ensures quiet { OnOk result (turn region.new.machine ≡ None) }
+{
     while turn(region, out)? {}
     Ok(())
 }
