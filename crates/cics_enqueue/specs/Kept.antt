@@ -58,7 +58,7 @@ own_count owned u = size_in (lookup (nat_eq u) owned)
 abbrev pub is_place : ℕ → Bytes → ℕ → Vec ℕ → Bool
 is_place unit key u k = nat_eq unit u && is_same key k.items
 
--- each unit owns what it owned
+-- each unit has in its list what it had
 abbrev pub OwnsSame : Owned → Owned → Type 0
 OwnsSame old new = (u : ℕ) (k : Vec ℕ) → owns new u k ≡ owns old u k
 

@@ -127,7 +127,8 @@ fn or_put(
     Ok(*table.entry(key)?.or_insert(holding))
 }
 
-// Whether a resource is a queue, or an end of one. It decides in which way alone a resource is held.
+// Whether a resource is a queue, or an end of one. No clause speaks of it: whatever it says, a resource
+// is held the same, and only the look-ups differ.
 fn uses_queue(resource: &ResourceRef<'_>) -> bool {
     matches!(
         &resource.kind,
@@ -156,7 +157,8 @@ fn put_first(
     }
 }
 
-// Frees what is kept under a key, if it is this unit's: one that the unit gave back may be another's by now.
+// Frees what is kept under a key, if it is this unit's, whatever its count: one that the unit gave back may be
+// another's by now.
 fn let_go(table: &mut BTreeMap<Vec<u8>, Holding>, key: &[u8], unit: UnitId)
     ensures entries { table.new.entries ≡ let_go unit key.now table.old.entries }
     ensures each { LetsGo unit key.now table.old.entries table.new.entries }
@@ -293,11 +295,12 @@ impl Enqueues {
     {
         let bytes = compact_own(&resource);
         let key = bytes.as_slice();
-        match self.take_free(key, unit) {
-            Ok(None) => Ok(()),
-            // What is held is taken once more without memory.
-            _ => self.take_again(key, resource.is_user()),
+        // What the unit holds is taken once more without memory.
+        if self.table.contains_key(key) {
+            return self.take_again(key, resource.is_user());
         }
+        self.take_free(key, unit)?;
+        Ok(())
     }
 
     /// Takes a user's value of at most 255 bytes for a unit where it is free or the unit's own, and else answers the
@@ -333,7 +336,7 @@ impl Enqueues {
     }
 
     /// Takes a resource, any but a user's value, for a unit that may take it, unless the unit holds it
-    /// already, and tells whether it was free: where it was, `give_back` undoes the take. NoMemory
+    /// already, and tells whether it was free: where it was, `let_go` undoes the take. NoMemory
     /// where memory is refused: then nothing has changed.
     pub fn hold(&mut self, resource: &ResourceRef<'_>, unit: UnitId) -> Result<bool, NoMemory>
         requires plain { is_user resource.now ≡ false }

@@ -38,7 +38,7 @@ ghost use Rattle.cics_units.specs.Parts.{AreEnqueued, ArePartsKept};
 use crate::open_reads::OpenReads;
 use crate::undoable_store::{Store, UndoableStore};
 use crate::uses::{Uses, hold_all, holder_over_all, let_go_all, writer_of};
-use cics_enqueue::{Enqueues, Resource, ResourceRef, TakeFault, UnitId};
+use cics_enqueue::{Enqueues, ResourceRef, TakeFault, UnitId};
 use cics_history::{Answer, Op};
 use cics_names::{Condition, Name4, Name8, NoMemory, Record};
 use cics_tempstor::TsRead;
@@ -472,7 +472,11 @@ impl Parts {
         ensures err { OnErr result (ArePartsKept self.old self.new) }
     {
         self.stores.make_room(unit, 0)?;
-        self.enqueues.take(Resource::value(value), unit)
+        match self.enqueues.enq(value, unit) {
+            Ok(None) => Ok(()),
+            Ok(Some(_)) => unreachable!(),
+            Err(fault) => Err(fault),
+        }
     }
 
     /// Gives back one take of a value, if the unit holds it: with the last one the value is free. It

@@ -1,23 +1,42 @@
-use Rattle.std.proofs.Common.{rules, ◌≡◌, ◌∙◌, sym, ap, subst}
-use Rattle.std.specs.Prelude.{IfSome, is_some, if◌then◌else◌}
-use Rattle.std.proofs.lemmas.Result.{on_ok_weaker}
-use Rattle.cics_enqueue.specs.Resources.{holder_of, taken}
-use Rattle.cics_enqueue.specs.ResourceLaws.{resource_of}
-use Rattle.cics_enqueue.proofs.Tables.{read_back, holder_own}
+use Rattle.std.proofs.Common.{◌≡◌, ◌∙◌, Option, None, Some, sym, ap, subst}
+use Rattle.std.specs.Prelude.{IfSome, is_some, option_map, if◌then◌else◌}
+use Rattle.std.proofs.lemmas.Result.{on_ok_weaker, err_from_is_err_and}
+use Rattle.cics_enqueue.specs.declared.enqueues.Holding.{Holding}
+use Rattle.cics_enqueue.specs.Kept.{seen}
+use Rattle.cics_enqueue.specs.Resources.{Table, holder_of, held_at, taken}
+use Rattle.cics_enqueue.proofs.Owning.{none_from}
+use Rattle.cics_enqueue.proofs.Tables.{read_back, holder_own, free_here, not_full}
 use Rattle.cics_enqueue.proofs.enqueues.Enqueues.take.Goals as goal
 
-pub returns-in-Ok-None-clause-taken : goal.returns-in-Ok-None-clause-taken
-returns-in-Ok-None-clause-taken c =
-    let r = resource_of c.as_slice-key.result.now in
-    let new : c.take_free.new.self ≡ taken c.args.self.now r c.args.unit = c.in-Ok-None.ensures.table ∙ ap (λ o. if is_some o then c.args.self.now else taken c.args.self.now r c.args.unit) c.in-Ok-None.field-0-is in
-    new ∙ ap (λ q. taken c.args.self.now q c.args.unit) (read_back c.args.resource c.as_slice-key.result.now (c.as_slice-key.ensures.value ∙ c.compact_own-bytes.ensures))
-
-pub returns-in_default-clause-taken : goal.returns-in_default-clause-taken
-returns-in_default-clause-taken c =
+pub returns-then-contains_key-clause-taken : goal.returns-then-contains_key-clause-taken
+returns-then-contains_key-clause-taken c =
     let t = c.args.self.now in
+    let back = read_back c.args.resource c.as_slice-key.result.now (c.as_slice-key.ensures.value ∙ c.compact_own-bytes.ensures) in
+    let own = subst (λ q. IfSome (holder_of q t) (λ v. v ≡ c.args.unit)) (sym back) (holder_own t c.args.resource c.args.unit c.requires.free) in
+    on_ok_weaker c.take_again.result (λ is. is ∙ ap (λ q. taken t q c.args.unit) back) (c.take_again.ensures.taken c.args.unit own)
+
+pub returns-clause-room : goal.returns-clause-room
+returns-clause-room c =
+    let absent = none_from _ (sym c.contains_key.ensures ∙ c.if-contains_key.false) in
+    rw (← c.self.view_is) (not_full c.args.resource c.as_slice-key.result.now (c.as_slice-key.ensures.value ∙ c.compact_own-bytes.ensures) c.self.inside.table.entries c.self.invariant.keys absent)
+
+pub returns-in_err-take_free-clause-full : goal.returns-in_err-take_free-clause-full
+returns-in_err-take_free-clause-full c =
+    let absent = none_from _ (sym c.contains_key.ensures ∙ c.if-contains_key.false) in
+    let p = err_from_is_err_and c.from_residual.result c.from_residual.ensures.1 in
+    rw (p.1, p.2) (rw (← c.self.view_is) (rw (not_full c.args.resource c.as_slice-key.result.now (c.as_slice-key.ensures.value ∙ c.compact_own-bytes.ensures) c.self.inside.table.entries c.self.invariant.keys absent) (λ e. cc, λ e. cc)))
+
+-- what was free is taken
+first_take : (t s u : Table) (o : Option Holding) → option_map seen o ≡ None → s ≡ (if is_some o then t else u) → s ≡ u
+first_take t s u None free new = new
+first_take t s u (Some h) free new = cc
+
+pub returns-clause-taken : goal.returns-clause-taken
+returns-clause-taken c =
+    let t = c.args.self.now in
+    let r = c.args.resource in
     let key = c.as_slice-key.result.now in
-    let back = read_back c.args.resource key (c.as_slice-key.ensures.value ∙ c.compact_own-bytes.ensures) in
-    let same : c.take_free.new.self ≡ t = search rules in
-    let first : IfSome (holder_of (resource_of key) t) (λ v. v ≡ c.args.unit) = subst (λ q. IfSome (holder_of q t) (λ v. v ≡ c.args.unit)) (sym back) (holder_own t c.args.resource c.args.unit c.requires.free) in
-    let own : IfSome (holder_of (resource_of key) c.take_free.new.self) (λ v. v ≡ c.args.unit) = subst (λ s. IfSome (holder_of (resource_of key) s) (λ v. v ≡ c.args.unit)) (sym same) first in
-    on_ok_weaker c.take_again.result (λ is. is ∙ (λ i. taken (same i) (back i) c.args.unit)) (c.take_again.ensures.taken c.args.unit own)
+    let is = c.as_slice-key.ensures.value ∙ c.compact_own-bytes.ensures in
+    let absent = none_from _ (sym c.contains_key.ensures ∙ c.if-contains_key.false) in
+    let free = c.in_ok-take_free.ensures.held ∙ ap (λ q. held_at q t) (read_back r key is) ∙ ap (held_at r) (sym c.self.view_is) ∙ free_here r key is c.self.inside.table.entries c.self.invariant.keys absent in
+    first_take t c.take_free.new.self _ c.in_ok-take_free.field-0 free c.in_ok-take_free.ensures.table ∙ ap (λ q. taken t q c.args.unit) (read_back r key is)
