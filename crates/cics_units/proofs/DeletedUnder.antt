@@ -24,7 +24,7 @@ use Rattle.cics_units.specs.FilesImages.{FilesImage, cell_of, cell_of_image, fil
 use Rattle.cics_units.specs.FilesImagesLaws as files
 use Rattle.cics_units.specs.FilesImagesLaws.{same_bytes-eq}
 use Rattle.cics_units.specs.FilesChanges.{image_among, held_among}
-use Rattle.cics_units.specs.StoreMatching.{StoreValue, shown_store, AreKept}
+use Rattle.cics_units.specs.StoreMatching.{StoreValue, shown_store, AreImagesOf}
 use Rattle.cics_units.specs.Parts.{is_recoverable_in, with_stored, leaves, is_below_prefix, of_files}
 use Rattle.cics_units.proofs.MadeImages.{AreMadeInTurn}
 use Rattle.cics_units.proofs.FilesChanged.{AreFileImagesAfter, AreFilesChanged}
@@ -65,25 +65,25 @@ module _ (s : StoreValue) (name p : Bytes) (f : FileValue) (there : value_at nam
   image_of_entry e = record { name = name; image = removed_entry f.definition e }
 
   -- the image of an entry stands for the change of its key
-  entry_kept : (e : Bytes × Bytes) → value_at e.0 f.records ≡ Some e.1 → key_of f.definition e.1 ≡ e.0 → (cs : List Image) (is : List FilesImage) → AreKept cs [] (of_files is) →
-      AreKept (image_at op (Key name e.0) (cells (Key name e.0)) ++ cs) [] (of_files (image_of_entry e ∷ is))
+  entry_kept : (e : Bytes × Bytes) → value_at e.0 f.records ≡ Some e.1 → key_of f.definition e.1 ≡ e.0 → (cs : List Image) (is : List FilesImage) → AreImagesOf cs [] (of_files is) →
+      AreImagesOf (image_at op (Key name e.0) (cells (Key name e.0)) ++ cs) [] (of_files (image_of_entry e ∷ is))
   entry_kept e at own cs is kept =
-      subst (λ c. AreKept (image_at op (Key name e.0) c ++ cs) [] (of_files (image_of_entry e ∷ is))) (sym (cell_there s name f there e.0 ∙ ap (λ o. Some (listed o)) at))
+      subst (λ c. AreImagesOf (image_at op (Key name e.0) c ++ cs) [] (of_files (image_of_entry e ∷ is))) (sym (cell_there s name f there e.0 ∙ ap (λ o. Some (listed o)) at))
       (record { cell = ap (λ k. file_cell (cell_of name k)) own; leads = (refl, refl) }, kept)
 
   -- and those of entries for the changes of theirs
-  entries_kept : (es : Map Bytes) → AreThere f es → (cs : List Image) (is : List FilesImage) → AreKept cs [] (of_files is) →
-      AreKept (images_under op name cells es ++ cs) [] (of_files (with_stored name (map (removed_entry f.definition) es) is))
+  entries_kept : (es : Map Bytes) → AreThere f es → (cs : List Image) (is : List FilesImage) → AreImagesOf cs [] (of_files is) →
+      AreImagesOf (images_under op name cells es ++ cs) [] (of_files (with_stored name (map (removed_entry f.definition) es) is))
   entries_kept [] entries cs is kept = kept
   entries_kept (e ∷ es) entries cs is kept =
-      subst (λ l. AreKept l [] (of_files (with_stored name (map (removed_entry f.definition) es) (image_of_entry e ∷ is))))
+      subst (λ l. AreImagesOf l [] (of_files (with_stored name (map (removed_entry f.definition) es) (image_of_entry e ∷ is))))
       (sym (append_assoc (images_under op name cells es) (image_at op (Key name e.0) (cells (Key name e.0))) cs))
       (entries_kept es entries.3 (image_at op (Key name e.0) (cells (Key name e.0)) ++ cs) (image_of_entry e ∷ is) (entry_kept e entries.0 entries.1 cs is kept))
 
   -- those of the command stand for its changes
-  all_kept : IsContent f.definition f.records → AreKept (images_by (shown_store s) op cells) [] (of_files (with_stored name (prefix_images true f p) []))
+  all_kept : IsContent f.definition f.records → AreImagesOf (images_by (shown_store s) op cells) [] (of_files (with_stored name (prefix_images true f p) []))
   all_kept content_is =
-      subst (λ l. AreKept l [] (of_files (with_stored name (prefix_images true f p) [])))
+      subst (λ l. AreImagesOf l [] (of_files (with_stored name (prefix_images true f p) [])))
       (append-nil (images_under op name cells (under p f.records)) ∙ ap (λ o. images_under op name cells (under p (unwrap_or o []))) (sym (records_there s name f there)))
       (entries_kept (under p f.records) (under_there f p content_is) [] [] (refl, refl))
 
@@ -178,7 +178,7 @@ module _ (s : StoreValue) (name : Bytes) (f : FileValue) (there : value_at name 
     images_then : (b : Bool) → f.definition.recoverable ≡ b → AreFileImagesAfter s n (DeleteGeneric name p) (with_stored name images []) b
     images_then false plain = ap (λ is. with_stored name is []) (asked false plain)
     images_then true rec = record {
-      made = subst (λ l. AreKept (images_by (shown_store s) (DeleteGeneric name p) (content (shown_store s))) [] (of_files (with_stored name l []))) (sym (asked true rec))
+      made = subst (λ l. AreImagesOf (images_by (shown_store s) (DeleteGeneric name p) (content (shown_store s))) [] (of_files (with_stored name l []))) (sym (asked true rec))
           (all_kept s name p f there content_is);
       in_turn = subst (λ m. AreMadeInTurn s.files m (with_stored name images [])) (sym files_then)
           (subst (λ l. AreMadeInTurn s.files (with_value name after s.files) (with_stored name l [])) (sym (asked true rec))

@@ -12,7 +12,7 @@ use Rattle.cics_history.specs.Undo.{images_by}
 use Rattle.cics_history.specs.Records.{file_of}
 use Rattle.cics_history.specs.declared.ops.Op.{Op}
 use Rattle.cics_units.specs.FilesImages.{FilesImage, cell_of_image, files_hold, FilesKeep}
-use Rattle.cics_units.specs.StoreMatching.{StoreValue, UndoableValue, AnyImage, shown_store, cell_of_any, any_holds, AnyKeep, AreKept}
+use Rattle.cics_units.specs.StoreMatching.{StoreValue, UndoableValue, AnyImage, shown_store, cell_of_any, any_holds, AnyKeep, AreImagesOf}
 use Rattle.cics_units.specs.UnitImages.{kept_by, AreOthersKept}
 use Rattle.cics_units.specs.Parts.{is_recoverable_in, leaves, leaves_any, of_files, AreImagesAfter, AreChanged}
 use Rattle.cics_units.proofs.StoreInPlace.{AreReady}
@@ -21,7 +21,7 @@ use Rattle.cics_units.proofs.MadeImages.{AreMadeInTurn, files_kept, ready_in_tur
 -- these images of files, newest first, stand for the changes of a command, and lead from these files back to those of the
 -- store
 pub record HasFileImages (s : StoreValue) (n : Map FileValue) (op : Op) (is : List FilesImage) : Type 0 where
-  pub made : AreKept (images_by (shown_store s) op (content (shown_store s))) [] (of_files is)
+  pub made : AreImagesOf (images_by (shown_store s) op (content (shown_store s))) [] (of_files is)
   pub in_turn : AreMadeInTurn s.files n is
 
 -- a command on a recoverable file gives images, one on another file none

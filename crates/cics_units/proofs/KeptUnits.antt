@@ -36,7 +36,7 @@ use Rattle.cics_history.specs.declared.ops.UnitState.TheVariants.{Open, Committe
 use Rattle.cics_units.specs.RegionFiles.{IsThere, opened_files, file_of as file_of_opening}
 use Rattle.cics_units.specs.Listings.{recovery_in}
 use Rattle.cics_units.specs.FilesImages.{files_hold, definitions_of}
-use Rattle.cics_units.specs.StoreMatching.{StoreValue, UndoableValue, AnyImage, shown_store, cell_of_any, AnyLeads, any_content, IsAnyReady, any_undone, any_swept, any_holds, AnyKeep, AreKept as KeptChanges}
+use Rattle.cics_units.specs.StoreMatching.{StoreValue, UndoableValue, AnyImage, shown_store, cell_of_any, AnyLeads, any_content, IsAnyReady, any_undone, any_swept, any_holds, AnyKeep, AreImagesOf as KeptChanges}
 use Rattle.cics_units.specs.StoreInPlace.{IsUnmarked, AreInPlace}
 use Rattle.cics_units.specs.StoreEnds.{any_fixed, ends_settled, IsEnded}
 use Rattle.cics_units.specs.UnitImages.{kept_none, kept_by, AreOthersKept, AreHeldForImages}

@@ -20,7 +20,7 @@ use Rattle.cics_history.specs.declared.ops.Op.TheVariants.{Write, Rewrite, Delet
 use Rattle.cics_history.proofs.Joining.{apply-content, touches-self}
 use Rattle.cics_units.specs.FilesImages.{FilesImage, cell_of, cell_of_image, files_content, files_undone, FilesKeep}
 use Rattle.cics_units.specs.FilesChanges.{IsFilesImage}
-use Rattle.cics_units.specs.StoreMatching.{StoreValue, AnyImage, shown_store, shown, cell_of_any, AnyKeep, IsKept, AreKept}
+use Rattle.cics_units.specs.StoreMatching.{StoreValue, AnyImage, shown_store, shown_records, cell_of_any, AnyKeep, IsImageOfChange, AreImagesOf}
 use Rattle.cics_units.specs.Parts.{of_files}
 use Rattle.cics_units.proofs.StoreInPlace.{shown_key, AreReady, ready_where}
 
@@ -59,10 +59,10 @@ ready_in_turn s n (i ∷ is) kept made ready =
 
 -- the image that a change of a key gives stands for its change
 pub stands_for : (s : StoreValue) (n : Map FileValue) (f k : Bytes) (i : FilesImage) → IsFilesImage s.files n (cell_of f k) i →
-    IsKept (record { cell = Key f k; before = content (shown_store s) (Key f k); made = content (shown_store (with_files s n)) (Key f k) }) (File i)
+    IsImageOfChange (record { cell = Key f k; before = content (shown_store s) (Key f k); made = content (shown_store (with_files s n)) (Key f k) }) (File i)
 stands_for s n f k i image = record {
   cell = ap file_cell image.named;
-  leads = subst (λ a. FileLeads i.image a (shown (content (shown_store s) (Key f k)))) (sym (shown_key (with_files s n) f k))
+  leads = subst (λ a. FileLeads i.image a (shown_records (content (shown_store s) (Key f k)))) (sym (shown_key (with_files s n) f k))
       (subst (FileLeads i.image (files_content n (cell_of f k))) (sym (shown_key s f k)) image.leads_back);
 }
 
@@ -94,17 +94,17 @@ module _ (s : StoreValue) (op : Op) (one : is_generic op ≡ false) where
   -- what it changed has this image
   pub with_image : (n : Map FileValue) → shown_store (with_files s n) ≡ (apply (shown_store s) op).store → (f k : Bytes) → cell_of_op op ≡ Key f k →
       changes op (before (cell_of_op op)) ≡ true → (i : FilesImage) → IsFilesImage s.files n (cell_of f k) i →
-      AreKept (images_by (shown_store s) op before) [] (of_files (i ∷ []))
-  with_image n store f k on changed i undoes = subst (λ l. AreKept l [] (of_files (i ∷ []))) (sym (images_if true changed)) (own, (refl, refl))
+      AreImagesOf (images_by (shown_store s) op before) [] (of_files (i ∷ []))
+  with_image n store f k on changed i undoes = subst (λ l. AreImagesOf l [] (of_files (i ∷ []))) (sym (images_if true changed)) (own, (refl, refl))
     where
       made_here : content (shown_store (with_files s n)) (cell_of_op op) ≡ (effect op (before (cell_of_op op))).cell
       made_here = ap (λ t. content t (cell_of_op op)) store ∙ apply-content (shown_store s) op (cell_of_op op)
           ∙ ap (λ b. if b then (effect op (before (cell_of_op op))).cell else before (cell_of_op op)) (touches-self op)
 
-      own : IsKept change_of (File i)
-      own = subst (λ c. IsKept (record { cell = cell_of_op op; before = before (cell_of_op op); made = c }) (File i)) made_here
-          (subst (λ x. IsKept (record { cell = x; before = before x; made = content (shown_store (with_files s n)) x }) (File i)) (sym on) (stands_for s n f k i undoes))
+      own : IsImageOfChange change_of (File i)
+      own = subst (λ c. IsImageOfChange (record { cell = cell_of_op op; before = before (cell_of_op op); made = c }) (File i)) made_here
+          (subst (λ x. IsImageOfChange (record { cell = x; before = before x; made = content (shown_store (with_files s n)) x }) (File i)) (sym on) (stands_for s n f k i undoes))
 
   -- where it changed nothing there is none
-  pub without_image : changes op (before (cell_of_op op)) ≡ false → AreKept (images_by (shown_store s) op before) [] []
+  pub without_image : changes op (before (cell_of_op op)) ≡ false → AreImagesOf (images_by (shown_store s) op before) [] []
   without_image unchanged = (images_if false unchanged, refl)

@@ -18,7 +18,7 @@ use Rattle.cics_ksds.proofs.UnderPrefix.{prefix_itself}
 use Rattle.cics_history.proofs.Generic.{normal-generic}
 use Rattle.cics_history.proofs.Joining.{apply-answer, read_only}
 use Rattle.cics_units.specs.FilesImagesLaws as files
-use Rattle.cics_units.specs.StoreMatching.{UndoableValue, shown_store, AreKept}
+use Rattle.cics_units.specs.StoreMatching.{UndoableValue, shown_store, AreImagesOf}
 use Rattle.cics_units.specs.Parts.{is_recoverable_in, AreImagesAfter, AreChanged, leaves, leaves_any}
 use Rattle.cics_units.proofs.MadeImages.{images_by-one, files_kept}
 
@@ -110,7 +110,7 @@ refused_changed st unit op file h = record {
     none_after : (b : Bool) → AreImagesAfter st st unit op b
     none_after true = record {
       images = [];
-      made = subst (λ l. AreKept l [] []) (sym (refused_images (shown_store st.store) op file h)) (refl, refl);
+      made = subst (λ l. AreImagesOf l [] []) (sym (refused_images (shown_store st.store) op file h)) (refl, refl);
       newest = refl;
       ready = λ r. r;
     }

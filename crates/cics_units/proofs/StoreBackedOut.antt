@@ -33,7 +33,7 @@ use Rattle.cics_history.proofs.Places.{back_out-IsPlaceOf, leads_back}
 use Rattle.cics_history.proofs.InPlace.{back_out-AreMarksOf}
 use Rattle.cics_units.specs.FilesImages.{definitions_of}
 use Rattle.cics_units.specs.UnitImages.{kept_by}
-use Rattle.cics_units.specs.StoreMatching.{StoreValue, AnyImage, shown_store, shown, bytes_of, cell_of_any, AnyLeads, any_content, any_undone, any_swept, AnyKeep}
+use Rattle.cics_units.specs.StoreMatching.{StoreValue, AnyImage, shown_store, shown_records, bytes_of, cell_of_any, AnyLeads, any_content, any_undone, any_swept, AnyKeep}
 use Rattle.cics_units.specs.StoreInPlace.{HasMarks, AreInPlace}
 use Rattle.cics_units.proofs.StoreMatched.{told_by_shown, led_back}
 use Rattle.cics_units.proofs.StoreQueues.{all_swept_queue, undone_elsewhere, undone_marks}
@@ -77,19 +77,19 @@ module _ (s : UnitsState) (m n : StoreValue) (images after_images : List (Kept A
       (then.0, queue_then q ∙ then.1, subst (λ k. HasMarks k then.0) (sym (marks_undone-at (place.marks.images v) q place.marks.queues to unmarks)) then.2)
 
   -- what the images lead a cell back to is what stands there, where the cell is there in both or in neither
-  led_to : (x : Cell) → shown (content (shown_store m) x) ≡ any_content m (bytes_of x) → shown (content (shown_store n) x) ≡ any_content n (bytes_of x) →
+  led_to : (x : Cell) → shown_records (content (shown_store m) x) ≡ any_content m (bytes_of x) → shown_records (content (shown_store n) x) ≡ any_content n (bytes_of x) →
       (to : Store) → is_some (content to x) ≡ is_some (content (shown_store n) x) → Leads (place.changes v) x (standing x) (content to x) →
       content to x ≡ content (shown_store n) x
   led_to x before now to there leads =
       let is = images_of cell_of_any (bytes_of x) (kept_by images v) in
       told_by_shown (content to x) (content (shown_store n) x) there
-      (one_before AnyLeads determined is (shown (standing x)) (shown (content to x)) (shown (content (shown_store n) x))
+      (one_before AnyLeads determined is (shown_records (standing x)) (shown_records (content to x)) (shown_records (content (shown_store n) x))
       (led_back (place.changes v) (place.marks.images v) (kept_by images v) (place.kept v) x (standing x) (content to x) leads)
-      (subst (λ a. LeadBack AnyLeads is a (shown (content (shown_store n) x))) (sym before)
+      (subst (λ a. LeadBack AnyLeads is a (shown_records (content (shown_store n) x))) (sym before)
       (subst (LeadBack AnyLeads is (any_content m (bytes_of x))) (sym now) (led (bytes_of x)))))
 
   -- a key and a temporary storage queue hold what undoing the changes gives, recoverable or not
-  undone_by : (x : Cell) → is_plain s.opening x ≡ true → shown (content (shown_store m) x) ≡ any_content m (bytes_of x) → shown (content
+  undone_by : (x : Cell) → is_plain s.opening x ≡ true → shown_records (content (shown_store m) x) ≡ any_content m (bytes_of x) → shown_records (content
       (shown_store n) x) ≡ any_content n (bytes_of x) →
       is_some (standing x) ≡ is_some (content (shown_store n) x) → undone standing (place.changes v) x ≡ content (shown_store n) x
   undone_by x plain before now there = elim (cases_Bool (recovers s.opening x)) [

@@ -6,7 +6,7 @@ use Rattle.cics_transdata.specs.declared.images.TdImage.TheVariants.{Taken, Writ
 use Rattle.cics_tempstor.specs.declared.images.Before.TheVariants.{Added}
 use Rattle.cics_history.specs.Cells.{Key, Ts, Td, content, Reading, Writing}
 use Rattle.cics_history.specs.MarkImages.{OfReading, OfWriting}
-use Rattle.cics_units.specs.StoreMatching.{StoreValue, shown_store, shown, bytes_of, bytes_of_end, AnyImage, cell_of_any, any_undone, AreKept}
+use Rattle.cics_units.specs.StoreMatching.{StoreValue, shown_store, shown_records, bytes_of, bytes_of_end, AnyImage, cell_of_any, any_undone, AreImagesOf}
 use Rattle.cics_units.specs.StoreInPlace.{ends_committed}
 
 -- no file, a temporary storage queue with an item and the row of one that is absent, and a transient data queue with three
@@ -36,13 +36,13 @@ unfolding few
 shows_no_file = refl
 
 -- of a cell is shown what it has, whole
-shown_none : shown None ≡ None
+shown_none : shown_records None ≡ None
 shown_none = refl
 
-shown_empty : shown (Some []) ≡ None
+shown_empty : shown_records (Some []) ≡ None
 shown_empty = refl
 
-shown_whole : shown (Some ((9 ∷ []) ∷ (8 ∷ []) ∷ [])) ≡ Some ((9 ∷ []) ∷ (8 ∷ []) ∷ [])
+shown_whole : shown_records (Some ((9 ∷ []) ∷ (8 ∷ []) ∷ [])) ≡ Some ((9 ∷ []) ∷ (8 ∷ []) ∷ [])
 shown_whole = refl
 
 -- the bytes of each kind of cell, and of the two ends of a queue
@@ -97,7 +97,7 @@ unfolding few written
 written_undone = refl
 
 -- the three images are kept for one change and two marks, in their order
-merged : AreKept (record { cell = Ts (5 ∷ []); before = Some []; made = Some ((9 ∷ []) ∷ []) } ∷ [])
+merged : AreImagesOf (record { cell = Ts (5 ∷ []); before = Some []; made = Some ((9 ∷ []) ∷ []) } ∷ [])
     (OfWriting (7 ∷ []) [] ((3 ∷ []) ∷ []) ∷ OfReading (7 ∷ []) 0 1 ∷ []) (written ∷ added ∷ taken ∷ [])
 unfolding added taken written
 merged = (

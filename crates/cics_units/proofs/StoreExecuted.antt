@@ -32,7 +32,7 @@ use Rattle.cics_history.proofs.PrefixImages.{images_by-AreImages}
 use Rattle.cics_history.proofs.InPlace.{execution-AreMarksOf}
 use Rattle.cics_units.specs.FilesImagesLaws.{same_bytes-eq, bytes_eq-turned}
 use Rattle.cics_units.specs.UnitImages.{kept_by}
-use Rattle.cics_units.specs.StoreMatching.{StoreValue, AnyImage, shown_store, shown, bytes_of, bytes_of_end, cell_of_any, AnyLeads, any_content, IsAnyReady, any_undone, AnyKeep, IsKept, AreKept}
+use Rattle.cics_units.specs.StoreMatching.{StoreValue, AnyImage, shown_store, shown_records, bytes_of, bytes_of_end, cell_of_any, AnyLeads, any_content, IsAnyReady, any_undone, AnyKeep, IsImageOfChange, AreImagesOf}
 use Rattle.cics_units.specs.StoreInPlace.{AreInPlace, HasMarks}
 use Rattle.cics_units.specs.Parts.{leaves_any}
 use Rattle.cics_units.proofs.StoreMatched.{queue_apart, plain_apart, each_passes}
@@ -59,7 +59,7 @@ all_of [] = tt
 all_of (i ∷ is) = (refl, all_of is)
 
 -- one image more is kept for one change more
-kept_more : (c : Image) (cs : List Image) (ms : List MarkImage) (i : AnyImage) (is : List AnyImage) → IsKept c i → AreKept cs ms is → AreKept (c ∷ cs) ms
+kept_more : (c : Image) (cs : List Image) (ms : List MarkImage) (i : AnyImage) (is : List AnyImage) → IsImageOfChange c i → AreImagesOf cs ms is → AreImagesOf (c ∷ cs) ms
     (i ∷ is)
 kept_more c cs ms (File i) is kept rest = (kept, rest)
 kept_more c cs ms (TempStorage i) is kept rest = (kept, rest)
@@ -67,9 +67,9 @@ kept_more c cs ms (TransData i) is kept rest =
     absurd (true≢false (sym (same_bytes-eq (cell_of_any (TransData i)) (bytes_of c.cell) kept.cell) ∙ queue_apart i c.cell))
 
 -- two lists of images for two lists of changes and of marks are one for both
-pub kept_joined : (cs : List Image) (ms : List MarkImage) (is : List AnyImage) → AreKept cs ms is → (ds : List Image) (ns : List MarkImage) (js : List AnyImage) →
-    AreKept ds ns js → AreKept (cs ++ ds) (ms ++ ns) (is ++ js)
-kept_joined cs ms [] kept ds ns js more = subst (λ l. AreKept (l ++ ds) (ms ++ ns) js) (sym kept.0) (subst (λ l. AreKept ds (l ++ ns) js) (sym kept.1) more)
+pub kept_joined : (cs : List Image) (ms : List MarkImage) (is : List AnyImage) → AreImagesOf cs ms is → (ds : List Image) (ns : List MarkImage) (js : List AnyImage) →
+    AreImagesOf ds ns js → AreImagesOf (cs ++ ds) (ms ++ ns) (is ++ js)
+kept_joined cs ms [] kept ds ns js more = subst (λ l. AreImagesOf (l ++ ds) (ms ++ ns) js) (sym kept.0) (subst (λ l. AreImagesOf ds (l ++ ns) js) (sym kept.1) more)
 kept_joined [] ms (File i ∷ is) kept ds ns js more = absurd kept
 kept_joined (c ∷ cs) ms (File i ∷ is) kept ds ns js more = (kept.0, kept_joined cs ms is kept.1 ds ns js more)
 kept_joined [] ms (TempStorage i ∷ is) kept ds ns js more = absurd kept
@@ -190,8 +190,8 @@ module _ (s : UnitsState) (m n : StoreValue) (images after_images : List (Kept A
   -- the images of the others are as they were
   module _ (apart : (w : ℕ) → w ≢ unit → kept_by after_images w ≡ kept_by images w) where
     -- the images of every other unit stand for its changes and marks still
-    others_kept : (w : ℕ) → w ≢ unit → AreKept (changes_then w) (place.marks.images w) (kept_by after_images w)
-    others_kept w n = rw (false_from_ne_true (eqb w unit) (λ t. n (eqb-true w unit t))) (subst (AreKept (place.changes w) (place.marks.images w)) (sym
+    others_kept : (w : ℕ) → w ≢ unit → AreImagesOf (changes_then w) (place.marks.images w) (kept_by after_images w)
+    others_kept w n = rw (false_from_ne_true (eqb w unit) (λ t. n (eqb-true w unit t))) (subst (AreImagesOf (place.changes w) (place.marks.images w)) (sym
         (apart w n)) (place.kept w))
 
     -- a unit that has ended keeps none
@@ -199,7 +199,7 @@ module _ (s : UnitsState) (m n : StoreValue) (images after_images : List (Kept A
     over_now w shut = let h = over_then w (ap (λ l. is_open (outcome_of l w)) (sym outcomes_then) ∙ shut) in apart w h.0 ∙ h.1
 
     -- all is in place where the unit's own images are
-    in_place_by : AreKept (changes_then unit) (place.marks.images unit) (kept_by after_images unit) → AreReady n (kept_by after_images unit) → AreInPlace
+    in_place_by : AreImagesOf (changes_then unit) (place.marks.images unit) (kept_by after_images unit) → AreReady n (kept_by after_images unit) → AreInPlace
         (after_execution s u op) n after_images
     in_place_by kept ready = record {
       changes = changes_then;
@@ -212,9 +212,9 @@ module _ (s : UnitsState) (m n : StoreValue) (images after_images : List (Kept A
         subst
             (λ k. HasMarks k queue.0) (sym (same_queues q)) queue.2,
       );
-      kept = λ w. subst (λ l. AreKept (changes_then w) l (kept_by after_images w)) (sym (same_images w))
+      kept = λ w. subst (λ l. AreImagesOf (changes_then w) l (kept_by after_images w)) (sym (same_images w))
           (elim (same_or_not w) [
-            | inl same ↦ subst (λ y. AreKept (changes_then y) (place.marks.images y) (kept_by after_images y))
+            | inl same ↦ subst (λ y. AreImagesOf (changes_then y) (place.marks.images y) (kept_by after_images y))
                 (sym same) kept
             | inr n ↦ others_kept w n
           ]);
@@ -227,17 +227,17 @@ module _ (s : UnitsState) (m n : StoreValue) (images after_images : List (Kept A
     }
 
     -- the changes of something recoverable gave images, which the unit keeps as its newest
-    pub executed_with : is_recoverable s.opening op ≡ true → (is : List AnyImage) → AreKept made [] is → kept_by after_images unit ≡ is ++ kept_by images unit →
+    pub executed_with : is_recoverable s.opening op ≡ true → (is : List AnyImage) → AreImagesOf made [] is → kept_by after_images unit ≡ is ++ kept_by images unit →
         (AreReady m (kept_by images unit) → AreReady n (kept_by after_images unit)) → AreInPlace (after_execution s u op) n after_images
     executed_with rec is stand newest ready = in_place_by
-        (subst (AreKept (changes_then unit) (place.marks.images unit)) (sym newest)
+        (subst (AreImagesOf (changes_then unit) (place.marks.images unit)) (sym newest)
         (rw (eq-eqb unit unit refl, rec) (kept_joined made [] is stand (place.changes unit) (place.marks.images unit) (kept_by images unit) (place.kept unit))))
         (ready (place.ready unit))
 
     -- it isn't recoverable, and the unit's images are as they were
     pub executed_without : is_recoverable s.opening op ≡ false → kept_by after_images unit ≡ kept_by images unit → AreInPlace (after_execution s u op) n after_images
     executed_without rec same = in_place_by
-        (subst (AreKept (changes_then unit) (place.marks.images unit)) (sym same) (rw (eq-eqb unit unit refl, rec) (place.kept unit)))
+        (subst (AreImagesOf (changes_then unit) (place.marks.images unit)) (sym same) (rw (eq-eqb unit unit refl, rec) (place.kept unit)))
         (subst (AreReady n) (sym same) (ready_where leaving m n (kept_by images unit) others (left_of unit none) (place.ready unit)))
       where
         none : (x : Cell) → touches op x ≡ true → names x (place.changes unit) ≡ false
@@ -262,7 +262,7 @@ module _ (s : UnitsState) (m n : StoreValue) (images after_images : List (Kept A
   file_plain = ap (is_plain s.opening) (key_op op file)
 
   -- the changes of a recoverable file gave images, which the unit keeps as its newest
-  pub file_executed_kept : is_recoverable s.opening op ≡ true → (is : List AnyImage) → AreKept file_images [] is →
+  pub file_executed_kept : is_recoverable s.opening op ≡ true → (is : List AnyImage) → AreImagesOf file_images [] is →
       kept_by after_images (unit_or_next u s.outcomes) ≡ is ++ kept_by images (unit_or_next u s.outcomes) →
       (AreReady m (kept_by images (unit_or_next u s.outcomes)) → AreReady n (kept_by after_images (unit_or_next u s.outcomes))) →
       AreInPlace (after_execution s u op) n after_images
@@ -305,7 +305,7 @@ module _ (s : UnitsState) (m n : StoreValue) (images after_images : List (Kept A
 
   -- the change of something recoverable gave an image, which the unit keeps as its newest
   pub executed_kept : is_recoverable s.opening op ≡ true → changes op (held (cell_of_op op)) ≡ true →
-      shown (held x) ≡ any_content m (bytes_of x) → shown (content (shown_store n) x) ≡ any_content n (bytes_of x) → (i : AnyImage) → IsAnyImage m n
+      shown_records (held x) ≡ any_content m (bytes_of x) → shown_records (content (shown_store n) x) ≡ any_content n (bytes_of x) → (i : AnyImage) → IsAnyImage m n
       (bytes_of x) i →
       kept_by after_images (unit_or_next u s.outcomes) ≡ i ∷ kept_by images (unit_or_next u s.outcomes) → AreInPlace (after_execution s u op) n after_images
   executed_kept rec changed was now i image newest = executed_with s m n images after_images u op (is_other (bytes_of x)) change sound place acts free
@@ -322,15 +322,15 @@ module _ (s : UnitsState) (m n : StoreValue) (images after_images : List (Kept A
       made_here : content (shown_store n) (cell_of_op op) ≡ (effect op (held (cell_of_op op))).cell
       made_here = ap (λ t. content t (cell_of_op op)) store ∙ apply-content (shown_store m) op (cell_of_op op) ∙ rw (touches-self op) refl
 
-      stands_for : IsKept (record { cell = x; before = held x; made = content (shown_store n) x }) i
+      stands_for : IsImageOfChange (record { cell = x; before = held x; made = content (shown_store n) x }) i
       stands_for = record {
         cell = image.named;
-        leads = subst (λ a. AnyLeads i a (shown (held x))) (sym now) (subst (AnyLeads i (any_content n (bytes_of x))) (sym was) image.leads_back);
+        leads = subst (λ a. AnyLeads i a (shown_records (held x))) (sym now) (subst (AnyLeads i (any_content n (bytes_of x))) (sym was) image.leads_back);
       }
 
-      own : IsKept (record { cell = cell_of_op op; before = held (cell_of_op op); made = (effect op (held (cell_of_op op))).cell }) i
-      own = subst (λ c. IsKept (record { cell = cell_of_op op; before = held (cell_of_op op); made = c }) i) made_here
-          (subst (λ y. IsKept (record { cell = y; before = held y; made = content (shown_store n) y }) i) (sym on) stands_for)
+      own : IsImageOfChange (record { cell = cell_of_op op; before = held (cell_of_op op); made = (effect op (held (cell_of_op op))).cell }) i
+      own = subst (λ c. IsImageOfChange (record { cell = cell_of_op op; before = held (cell_of_op op); made = c }) i) made_here
+          (subst (λ y. IsImageOfChange (record { cell = y; before = held y; made = content (shown_store n) y }) i) (sym on) stands_for)
 
   -- it isn't recoverable, and the unit's images are as they were
   pub executed_plain : is_recoverable s.opening op ≡ false → kept_by after_images (unit_or_next u s.outcomes) ≡ kept_by images (unit_or_next u s.outcomes) → AreInPlace

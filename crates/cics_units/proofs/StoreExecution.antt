@@ -23,7 +23,7 @@ use Rattle.cics_history.proofs.Outcomes.{outcome_of-with}
 use Rattle.cics_history.proofs.Waiting.{MayRun_from}
 use Rattle.cics_history.proofs.InPlace.{execution-AreMarksOf}
 use Rattle.cics_units.specs.UnitImages.{kept_by}
-use Rattle.cics_units.specs.StoreMatching.{StoreValue, AnyImage, shown_store, AreKept}
+use Rattle.cics_units.specs.StoreMatching.{StoreValue, AnyImage, shown_store, AreImagesOf}
 use Rattle.cics_units.specs.StoreInPlace.{HasMarks, AreInPlace}
 use Rattle.cics_units.proofs.StoreInPlace.{AreReady}
 
@@ -75,7 +75,7 @@ module _ (s : UnitsState) (u : Option ℕ) (op : Op) (acts : may_act s u ≡ tru
         IsPlaceOf (after_execution s u op) (record { cells = content (shown_store n); images = changes }) →
         ((q : Bytes) → queue_logical s.opening q ≡ true → (t : TransState) × (value_at q n.trans_data ≡ Some t) × HasMarks (marks_then.queues q) t) →
         ((w : ℕ) → w ≢ unit → is_open (outcome_of s.outcomes w) ≡ true → AreReady n (kept_by images w)) →
-        AreKept (changes unit) (marks_then.images unit) (kept_by after_images unit) → AreReady n (kept_by after_images unit) →
+        AreImagesOf (changes unit) (marks_then.images unit) (kept_by after_images unit) → AreReady n (kept_by after_images unit) →
         AreInPlace (after_execution s u op) n after_images
     executed_by changes same there queues others kept ready = record {
       changes = changes;
@@ -83,7 +83,7 @@ module _ (s : UnitsState) (u : Option ℕ) (op : Op) (acts : may_act s u ≡ tru
       place = there;
       ends = execution-AreMarksOf s place.marks u op sound place.ends acts free;
       queues = λ q l. queues q (subst (λ o. queue_logical o q ≡ true) opening_stays l);
-      kept = each_unit (λ w. AreKept (changes w) (marks_then.images w) (kept_by after_images w)) kept
+      kept = each_unit (λ w. AreImagesOf (changes w) (marks_then.images w) (kept_by after_images w)) kept
           (λ w other. rw (same w other, same_marks w other, apart w other) (place.kept w));
       ready = each_unit (λ w. AreReady n (kept_by after_images w)) ready
           (λ w other. subst (AreReady n) (sym (apart w other)) (elim (cases_Bool (is_open (outcome_of s.outcomes w))) [
@@ -102,7 +102,7 @@ same_images_in_place s m images others same place = record {
   place = place.place;
   ends = place.ends;
   queues = place.queues;
-  kept = λ w. subst (AreKept (place.changes w) (place.marks.images w)) (sym (same w)) (place.kept w);
+  kept = λ w. subst (AreImagesOf (place.changes w) (place.marks.images w)) (sym (same w)) (place.kept w);
   ready = λ w. subst (AreReady m) (sym (same w)) (place.ready w);
   over = λ w shut. same w ∙ place.over w shut;
 }

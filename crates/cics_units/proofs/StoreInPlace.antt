@@ -47,35 +47,35 @@ use Rattle.cics_units.specs.FilesImages.{cell_of_image, content_in, IsReadyFor, 
 use Rattle.cics_units.specs.FilesImagesLaws as files
 use Rattle.cics_units.specs.FilesImagesLaws.{content_of_cell}
 use Rattle.cics_units.specs.UnitImages.{kept_by}
-use Rattle.cics_units.specs.StoreMatching.{StoreValue, AnyImage, shown_store, shown, end_cell, bytes_of, cell_of_any, any_content, IsAnyReady, any_undone, AnyKeep, AreKept}
+use Rattle.cics_units.specs.StoreMatching.{StoreValue, AnyImage, shown_store, shown_records, end_cell, bytes_of, cell_of_any, any_content, IsAnyReady, any_undone, AnyKeep, AreImagesOf}
 use Rattle.cics_units.specs.StoreInPlace.{HasMarks, IsUnmarked, AreInPlace, holds_end, is_free_end, is_free_split, is_free}
 use Rattle.cics_units.proofs.StoreMatched.{is_of_end, each_passes, unnamed_kept, unmarked_kept}
 
 -- ---- what the three show of a cell
 -- of a key
-pub shown_key : (m : StoreValue) (f k : Bytes) → shown (content (shown_store m) (Key f k)) ≡ any_content m (bytes_of (Key f k))
-shown_key m f k = ap (λ o. shown (record_in k o)) (value_at_each (λ x. x.records) f m.files) ∙ by (value_at f m.files) ∙ sym (content_of_cell m.files f k)
+pub shown_key : (m : StoreValue) (f k : Bytes) → shown_records (content (shown_store m) (Key f k)) ≡ any_content m (bytes_of (Key f k))
+shown_key m f k = ap (λ o. shown_records (record_in k o)) (value_at_each (λ x. x.records) f m.files) ∙ by (value_at f m.files) ∙ sym (content_of_cell m.files f k)
   where
-    record_shown : (o : Option Bytes) → shown (Some (listed o)) ≡ option_map (λ r. r ∷ []) o
+    record_shown : (o : Option Bytes) → shown_records (Some (listed o)) ≡ option_map (λ r. r ∷ []) o
     record_shown None = refl
     record_shown (Some r) = refl
 
-    by : (o : Option FileValue) → shown (record_in k (option_map (λ x. x.records) o)) ≡ content_in o k
+    by : (o : Option FileValue) → shown_records (record_in k (option_map (λ x. x.records) o)) ≡ content_in o k
     by None = refl
     by (Some x) = record_shown (value_at k x.records)
 
 -- of a temporary storage queue
-pub shown_ts : (m : StoreValue) → T (is_rising m.temp_storage) → (q : Bytes) → shown (content (shown_store m) (Ts q)) ≡ any_content m (bytes_of (Ts q))
+pub shown_ts : (m : StoreValue) → T (is_rising m.temp_storage) → (q : Bytes) → shown_records (content (shown_store m) (Ts q)) ≡ any_content m (bytes_of (Ts q))
 shown_ts m rising q =
-    ap (λ o. shown (Some (unwrap_or {T = Queue} o []))) (ap (value_at q) (queues_of-shown m.temp_storage)
+    ap (λ o. shown_records (Some (unwrap_or {T = Queue} o []))) (ap (value_at q) (queues_of-shown m.temp_storage)
     ∙ value_at-shown queue_shown q m.temp_storage rising)
     ∙ by (value_at q m.temp_storage)
   where
-    items_shown : (items : Queue) → shown (Some (unwrap_or {T = Queue} (cond (is_there items) (Some items) None) [])) ≡ content_of items
+    items_shown : (items : Queue) → shown_records (Some (unwrap_or {T = Queue} (cond (is_there items) (Some items) None) [])) ≡ content_of items
     items_shown [] = refl
     items_shown (x ∷ xs) = refl
 
-    by : (o : Option Row) → shown (Some (unwrap_or {T = Queue} (option_and_then queue_shown o) [])) ≡ content_of (unwrap_or {T = Row} o empty_row).items
+    by : (o : Option Row) → shown_records (Some (unwrap_or {T = Queue} (option_and_then queue_shown o) [])) ≡ content_of (unwrap_or {T = Row} o empty_row).items
     by None = refl
     by (Some row) = items_shown row.items
 
@@ -216,7 +216,7 @@ module _ (s : UnitsState) (m n : StoreValue) (images after_images : List (Kept A
     place = there;
     ends = ends;
     queues = logical;
-    kept = each_unit (λ w. AreKept (without_images place.changes v w) (mark_images_without place.marks.images v w) (kept_by after_images w)) (rw
+    kept = each_unit (λ w. AreImagesOf (without_images place.changes v w) (mark_images_without place.marks.images v w) (kept_by after_images w)) (rw
         (eq-eqb v v refl, gone) (refl, refl))
         (λ w other. rw (false_from_ne_true (eqb w v) (λ t. other (eqb-true w v t)), apart w other) (place.kept w));
     ready = each_unit (λ w. AreReady n (kept_by after_images w)) (rw gone tt) (λ w other. rw (apart w other) (still_ready w other));

@@ -25,7 +25,7 @@ use Rattle.cics_history.specs.Ends.{is_of_reading, is_of_writing}
 use Rattle.cics_history.specs.Carried.{Carries}
 use Rattle.cics_history.proofs.Joining.{same_cell-true, same_cell-refl}
 use Rattle.cics_units.specs.FilesImagesLaws.{same_bytes-eq, bytes_eq-turned}
-use Rattle.cics_units.specs.StoreMatching.{AnyImage, QueuesImage, shown, bytes_of, end_cell, bytes_of_end, cell_of_any, AnyLeads, IsKept, IsMarkKept, AreKept}
+use Rattle.cics_units.specs.StoreMatching.{AnyImage, QueuesImage, shown_records, bytes_of, end_cell, bytes_of_end, cell_of_any, AnyLeads, IsImageOfChange, IsImageOfMark, AreImagesOf}
 
 -- two tests that pass together are one test
 one_test : (a b : Bool) → (a ≡ true → b ≡ true) → (b ≡ true → a ≡ true) → a ≡ b
@@ -75,7 +75,7 @@ same_bytes x y = one_test (bytes_eq (bytes_of x) (bytes_of y)) (same_cell x y)
     (λ t. same_bytes-eq (bytes_of x) (bytes_of y) (ap bytes_of (same_cell-true x y t)))
 
 -- a cell's content is told by what is shown of it, where the cell is there in both or in neither
-pub told_by_shown : (a b : Content) → is_some a ≡ is_some b → shown a ≡ shown b → a ≡ b
+pub told_by_shown : (a b : Content) → is_some a ≡ is_some b → shown_records a ≡ shown_records b → a ≡ b
 told_by_shown None None there same = refl
 told_by_shown None (Some b) there same = absurd (false≢true there)
 told_by_shown (Some a) None there same = absurd (true≢false there)
@@ -85,7 +85,7 @@ told_by_shown (Some (x ∷ xs)) (Some []) there same = cc
 told_by_shown (Some (x ∷ xs)) (Some (y ∷ ys)) there same = same
 
 -- whether an image that is kept is of a cell, by its change
-pub of_cell : (c : Image) (i : AnyImage) → IsKept c i → (x : Cell) → bytes_eq (cell_of_any i) (bytes_of x) ≡ same_cell c.cell x
+pub of_cell : (c : Image) (i : AnyImage) → IsImageOfChange c i → (x : Cell) → bytes_eq (cell_of_any i) (bytes_of x) ≡ same_cell c.cell x
 of_cell c i kept x = ap (λ b. bytes_eq b (bytes_of x)) kept.cell ∙ same_bytes c.cell x
 
 -- ---- the ends of queues
@@ -167,7 +167,7 @@ other_end q r = told_other (bytes_of_end q Reading) (bytes_of_end r Writing) (λ
     (end_cell Reading) (end_cell Writing) same).1 in absurd (true≢false (ap (λ c. bytes_eq c (end_cell Reading)) ends)))
 
 -- an image of a queue that is kept is of the end that its mark is of
-pub cell_of_mark : (m : MarkImage) (i : QueuesImage) → IsMarkKept m i → cell_of_any (TransData i) ≡ bytes_of_end (queue_of m) (end_of_mark m)
+pub cell_of_mark : (m : MarkImage) (i : QueuesImage) → IsImageOfMark m i → cell_of_any (TransData i) ≡ bytes_of_end (queue_of m) (end_of_mark m)
 cell_of_mark m i kept = by i.image m kept.carries kept.queue
   where
     by : (image : TdImage) (m : MarkImage) → Carries image m → i.name ≡ queue_of m → trans_cell (value_cell i.name (end_of image)) ≡ bytes_of_end
@@ -178,7 +178,7 @@ cell_of_mark m i kept = by i.image m kept.carries kept.queue
     by Written (OfReading q before made) carries named = absurd carries
 
 -- whether it is of an end, by its mark
-pub of_end : (m : MarkImage) (i : QueuesImage) → IsMarkKept m i → (q : Bytes) (end : End) → bytes_eq (cell_of_any (TransData i))
+pub of_end : (m : MarkImage) (i : QueuesImage) → IsImageOfMark m i → (q : Bytes) (end : End) → bytes_eq (cell_of_any (TransData i))
     (bytes_of_end q end) ≡ is_of_end q end m
 of_end m i kept q end = ap (λ b. bytes_eq b (bytes_of_end q end)) (cell_of_mark m i kept) ∙ by m end
   where
@@ -190,20 +190,20 @@ of_end m i kept q end = ap (λ b. bytes_eq b (bytes_of_end q end)) (cell_of_mark
 
 -- ---- what the changes lead a cell back to, the images that are kept do
 -- one image of a key or of temporary storage, by its change
-plain_led : (c : Image) (i : AnyImage) → IsKept c i → (cs : List Image) (is : List AnyImage) (x : Cell) (from to : Content) →
-    ((mid : Content) → Leads cs x mid to → LeadBack AnyLeads (images_of cell_of_any (bytes_of x) is) (shown mid) (shown to)) →
-    Leads (c ∷ cs) x from to → LeadBack AnyLeads (images_of cell_of_any (bytes_of x) (i ∷ is)) (shown from) (shown to)
+plain_led : (c : Image) (i : AnyImage) → IsImageOfChange c i → (cs : List Image) (is : List AnyImage) (x : Cell) (from to : Content) →
+    ((mid : Content) → Leads cs x mid to → LeadBack AnyLeads (images_of cell_of_any (bytes_of x) is) (shown_records mid) (shown_records to)) →
+    Leads (c ∷ cs) x from to → LeadBack AnyLeads (images_of cell_of_any (bytes_of x) (i ∷ is)) (shown_records from) (shown_records to)
 plain_led c i kept cs is x from to rest h = elim (cases_Bool (same_cell c.cell x)) [
   | inl t ↦ let l = rw t at h in
       rw (of_cell c i kept x ∙ t)
-      (shown c.before, subst (λ z. AnyLeads i (shown z) (shown c.before)) (sym l.0) kept.leads, rest c.before l.1)
+      (shown_records c.before, subst (λ z. AnyLeads i (shown_records z) (shown_records c.before)) (sym l.0) kept.leads, rest c.before l.1)
   | inr n ↦ rw (of_cell c i kept x ∙ n) (rest from (rw n at h))
 ]
 
 -- all images
-pub led_back : (cs : List Image) (ms : List MarkImage) (is : List AnyImage) → AreKept cs ms is → (x : Cell) (from to : Content) → Leads cs x from to →
-    LeadBack AnyLeads (images_of cell_of_any (bytes_of x) is) (shown from) (shown to)
-led_back cs ms [] kept x from to h = ap shown (sym (subst (λ l. Leads l x from to) kept.0 h))
+pub led_back : (cs : List Image) (ms : List MarkImage) (is : List AnyImage) → AreImagesOf cs ms is → (x : Cell) (from to : Content) → Leads cs x from to →
+    LeadBack AnyLeads (images_of cell_of_any (bytes_of x) is) (shown_records from) (shown_records to)
+led_back cs ms [] kept x from to h = ap shown_records (sym (subst (λ l. Leads l x from to) kept.0 h))
 led_back [] ms (File i ∷ is) kept x from to h = absurd kept
 led_back (c ∷ cs) ms (File i ∷ is) kept x from to h = plain_led c (File i) kept.0 cs is x from to (λ mid l. led_back cs ms is kept.1 x mid to l) h
 led_back [] ms (TempStorage i ∷ is) kept x from to h = absurd kept
@@ -214,7 +214,7 @@ led_back cs (m ∷ ms) (TransData i ∷ is) kept x from to h = rw (queue_apart i
 
 -- ---- what holds of each image that is kept
 -- each image is of a cell that a change names or of an end that a mark is of
-pub each_passes : (p : images.Cell → Bool) (cs : List Image) (ms : List MarkImage) (is : List AnyImage) → AreKept cs ms is →
+pub each_passes : (p : images.Cell → Bool) (cs : List Image) (ms : List MarkImage) (is : List AnyImage) → AreImagesOf cs ms is →
     ((x : Cell) → names x cs ≡ true → p (bytes_of x) ≡ true) →
     ((q : Bytes) (end : End) → list_any (is_of_end q end) ms ≡ true → p (bytes_of_end q end) ≡ true) → AreOf cell_of_any p is
 each_passes p cs ms [] kept named marked = tt
@@ -239,7 +239,7 @@ each_passes p cs (m ∷ ms) (TransData i ∷ is) kept named marked = (
     own (OfWriting q before made) = is_same-self q
 
 -- where no change names a cell, no image that is kept is of it
-pub kept_elsewhere : (cs : List Image) (ms : List MarkImage) (is : List AnyImage) → AreKept cs ms is → (x : Cell) → names x cs ≡ false →
+pub kept_elsewhere : (cs : List Image) (ms : List MarkImage) (is : List AnyImage) → AreImagesOf cs ms is → (x : Cell) → names x cs ≡ false →
     AreOf cell_of_any (is_other (bytes_of x)) is
 kept_elsewhere cs ms is kept x n = each_passes (is_other (bytes_of x)) cs ms is kept
     (λ y t. ap not (same_bytes y x ∙ false_from_ne_true (same_cell y x) (λ s. false≢true (sym n ∙ subst (λ z. names z cs ≡ true) (same_cell-true y x s) t))))
@@ -247,9 +247,9 @@ kept_elsewhere cs ms is kept x n = each_passes (is_other (bytes_of x)) cs ms is 
 
 -- where no image that is kept is of these bytes, they are none that the images name
 pub unnamed_by : (b : images.Cell) (named : Image → Bool) (marked : MarkImage → Bool) →
-    ((c : Image) (i : AnyImage) → IsKept c i → bytes_eq (cell_of_any i) b ≡ named c) →
-    ((m : MarkImage) (i : QueuesImage) → IsMarkKept m i → bytes_eq (cell_of_any (TransData i)) b ≡ marked m) →
-    (cs : List Image) (ms : List MarkImage) (is : List AnyImage) → AreKept cs ms is → list_any named cs ≡ false → list_any marked ms ≡ false →
+    ((c : Image) (i : AnyImage) → IsImageOfChange c i → bytes_eq (cell_of_any i) b ≡ named c) →
+    ((m : MarkImage) (i : QueuesImage) → IsImageOfMark m i → bytes_eq (cell_of_any (TransData i)) b ≡ marked m) →
+    (cs : List Image) (ms : List MarkImage) (is : List AnyImage) → AreImagesOf cs ms is → list_any named cs ≡ false → list_any marked ms ≡ false →
     is_unnamed cell_of_any is b ≡ true
 unnamed_by b named marked plain ends cs ms [] kept n k = refl
 unnamed_by b named marked plain ends [] ms (File i ∷ is) kept n k = absurd kept
@@ -274,13 +274,13 @@ never [] = refl
 never (x ∷ xs) = never xs
 
 -- a cell that no change names
-pub unnamed_kept : (cs : List Image) (ms : List MarkImage) (is : List AnyImage) → AreKept cs ms is → (x : Cell) → names x cs ≡ false →
+pub unnamed_kept : (cs : List Image) (ms : List MarkImage) (is : List AnyImage) → AreImagesOf cs ms is → (x : Cell) → names x cs ≡ false →
     is_unnamed cell_of_any is (bytes_of x) ≡ true
 unnamed_kept cs ms is kept x n = unnamed_by (bytes_of x) (λ c. same_cell c.cell x) (λ m. false) (λ c i k. of_cell c i k x)
     (λ m i k. queue_apart i x) cs ms is kept n (never ms)
 
 -- an end that no mark is of
-pub unmarked_kept : (cs : List Image) (ms : List MarkImage) (is : List AnyImage) → AreKept cs ms is → (q : Bytes) (end : End) → list_any
+pub unmarked_kept : (cs : List Image) (ms : List MarkImage) (is : List AnyImage) → AreImagesOf cs ms is → (q : Bytes) (end : End) → list_any
     (is_of_end q end) ms ≡ false →
     is_unnamed cell_of_any is (bytes_of_end q end) ≡ true
 unmarked_kept cs ms is kept q end n = unnamed_by (bytes_of_end q end) (λ c. false) (is_of_end q end)

@@ -42,7 +42,7 @@ use Rattle.cics_history.proofs.States.{one_at_each_end}
 use Rattle.cics_units.specs.FilesImages.{cell_of_image, files_content, IsReadyFor, files_undone, FilesKeep}
 use Rattle.cics_units.specs.FilesImagesLaws as files
 use Rattle.cics_units.specs.UnitImages.{kept_by}
-use Rattle.cics_units.specs.StoreMatching.{StoreValue, AnyImage, shown_store, end_cell, bytes_of, bytes_of_end, any_undone, AnyKeep, AreKept}
+use Rattle.cics_units.specs.StoreMatching.{StoreValue, AnyImage, shown_store, end_cell, bytes_of, bytes_of_end, any_undone, AnyKeep, AreImagesOf}
 use Rattle.cics_units.specs.StoreInPlace.{AreInPlace, HasMarks, holds_end}
 use Rattle.cics_units.specs.QueueChanges.{is_trans, queue_of, end_of, leaves_end, is_left_end, is_left_split, is_left, IsTransChange, with_image, in_queue, HaveRecoveries}
 use Rattle.cics_units.proofs.Recoveries.{kept_recoveries}
@@ -93,7 +93,7 @@ module _ (m : StoreValue) (q : Bytes) (t new : TransState) (there : value_at q m
 -- ---- the image that is kept for a mark
 -- one image more is kept for one mark more
 kept_with : (q : Bytes) (cs : List Image) (ms : List MarkImage) (is : List AnyImage) (o : Option TdImage) (new : List MarkImage) → CarriesIfAny o new →
-    AreOfQueue q new → AreKept cs ms is → AreKept cs (new ++ ms) (with_image (option_map (in_queue q) o) is)
+    AreOfQueue q new → AreImagesOf cs ms is → AreImagesOf cs (new ++ ms) (with_image (option_map (in_queue q) o) is)
 kept_with q cs ms is None [] carries own kept = kept
 kept_with q cs ms is None (x ∷ xs) carries own kept = absurd carries
 kept_with q cs ms is (Some i) [] carries own kept = absurd carries
@@ -323,8 +323,8 @@ module _ (s : UnitsState) (m : StoreValue) (images after_images : List (Kept Any
   module _ (newest : kept_by after_images unit ≡ with_image (option_map (in_queue q) image) (kept_by images unit))
       (apart : (w : ℕ) → w ≢ unit → kept_by after_images w ≡ kept_by images w) where
     -- those of the unit stand for its changes and marks
-    own_kept : AreKept (place.changes unit) ((marks_executed s place.marks u op).images unit) (kept_by after_images unit)
-    own_kept = subst (AreKept (place.changes unit) ((marks_executed s place.marks u op).images unit)) (sym newest) (elim (cases_Bool (queue_logical s.opening q)) [
+    own_kept : AreImagesOf (place.changes unit) ((marks_executed s place.marks u op).images unit) (kept_by after_images unit)
+    own_kept = subst (AreImagesOf (place.changes unit) ((marks_executed s place.marks u op).images unit)) (sym newest) (elim (cases_Bool (queue_logical s.opening q)) [
       | inl l ↦
           rw (eq-eqb unit unit refl, trans_recoverable s.opening op is ∙ l)
           (kept_with q (place.changes unit) (place.marks.images unit) (kept_by images unit) image (mark_images op place.marks.queues)
@@ -333,7 +333,7 @@ module _ (s : UnitsState) (m : StoreValue) (images after_images : List (Kept Any
           (marks_of_queue op place.marks.queues) (place.kept unit))
       | inr plain ↦
           rw (trans_recoverable s.opening op is ∙ plain, change.given ∙ plain_image op own t (kind ∙ plain))
-          (subst (λ l. AreKept (place.changes unit) l (kept_by images unit)) (sym (no_more (eqb unit unit) _ (place.marks.images unit))) (place.kept unit))
+          (subst (λ l. AreImagesOf (place.changes unit) l (kept_by images unit)) (sym (no_more (eqb unit unit) _ (place.marks.images unit))) (place.kept unit))
     ])
 
     -- and are ready

@@ -21,7 +21,7 @@ use Rattle.cics_history.specs.Marks.{MarkedQueue, marks_of, unwritten, writer_se
 use Rattle.cics_history.specs.MarkImages.{MarkImage, queue_of, unmarked, IsMarkReady, Unmarks, marks_queue}
 use Rattle.cics_history.proofs.MarkedParts.{marks_of-writer, marks_of-reader}
 use Rattle.cics_history.proofs.CarriedImages.{carried_undone, carried_marked}
-use Rattle.cics_units.specs.StoreMatching.{StoreValue, AnyImage, cell_of_any, any_undone, any_swept, AreKept}
+use Rattle.cics_units.specs.StoreMatching.{StoreValue, AnyImage, cell_of_any, any_undone, any_swept, AreImagesOf}
 use Rattle.cics_units.specs.StoreInPlace.{HasMarks, writer_ended, reader_ended, ends_committed}
 
 -- ---- sweeping
@@ -39,7 +39,7 @@ all_swept_queue s (i ∷ is) q = all_swept_queue (any_swept s (cell_of_any i)) i
 
 -- ---- a unit is backed out
 -- a queue that no mark is of stays as it was
-pub undone_elsewhere : (q : Bytes) (cs : List Image) (ms : List MarkImage) (is : List AnyImage) → AreKept cs ms is → marks_queue q ms ≡ false →
+pub undone_elsewhere : (q : Bytes) (cs : List Image) (ms : List MarkImage) (is : List AnyImage) → AreImagesOf cs ms is → marks_queue q ms ≡ false →
     (s : StoreValue) →
     value_at q (fold any_undone s is).trans_data ≡ value_at q s.trans_data
 undone_elsewhere q cs ms [] kept n s = refl
@@ -55,7 +55,7 @@ undone_elsewhere q cs (m ∷ ms) (TransData i ∷ is) kept n s =
     (λ e. true≢false (sym (subst (λ x. is_same x q ≡ true) (e ∙ kept.0.queue) (is_same-self q)) ∙ parts.0))
 
 -- a LOGICAL queue is led back as its marks are, and has them still
-pub undone_marks : (q : Bytes) (cs : List Image) (ms : List MarkImage) (is : List AnyImage) → AreKept cs ms is →
+pub undone_marks : (q : Bytes) (cs : List Image) (ms : List MarkImage) (is : List AnyImage) → AreImagesOf cs ms is →
     (s : StoreValue) (t : TransState) → value_at q s.trans_data ≡ Some t → (from to : MarkedQueue) → HasMarks from t → Unmarks ms q from to →
     (r : TransState) × (value_at q (fold any_undone s is).trans_data ≡ Some r) × HasMarks to r
 undone_marks q cs ms [] kept s t there from to has un = (t, there, subst (λ m. HasMarks m t) (subst (λ l. Unmarks l q from to) kept.1 un) has)

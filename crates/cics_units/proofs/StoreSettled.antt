@@ -31,7 +31,7 @@ use Rattle.cics_history.specs.Carried.{Carries}
 use Rattle.cics_history.proofs.Maps.{same_map}
 use Rattle.cics_history.proofs.Waiting.{any_more}
 use Rattle.cics_units.specs.UnitImages.{kept_by}
-use Rattle.cics_units.specs.StoreMatching.{StoreValue, AnyImage, QueuesImage, shown_store, cell_of_any, any_swept, AreKept, any_holds}
+use Rattle.cics_units.specs.StoreMatching.{StoreValue, AnyImage, QueuesImage, shown_store, cell_of_any, any_swept, AreImagesOf, any_holds}
 use Rattle.cics_units.specs.StoreInPlace.{HasMarks, AreInPlace, writer_ended, reader_ended, committed_at}
 use Rattle.cics_units.specs.StoreEnds.{kind_at, end_committed, is_at_end, end_settled, writers_settled, ends_settled, has_end}
 use Rattle.cics_units.proofs.Opened.{value_at-each, rising-each}
@@ -237,7 +237,7 @@ reversed_settled m is rising = same_ends_settled m (reverse is) is rising (λ q 
 
 -- ---- the ends that the unit holds
 -- the images that are kept are of the ends that the marks are of
-kept_ends : (q : Bytes) (end : End) (cs : List Image) (ms : List MarkImage) (is : List AnyImage) → AreKept cs ms is →
+kept_ends : (q : Bytes) (end : End) (cs : List Image) (ms : List MarkImage) (is : List AnyImage) → AreImagesOf cs ms is →
     has_end q end is ≡ list_any (is_of_end q end) ms
 kept_ends q end cs ms [] kept = ap (λ l. list_any (is_of_end q end) l) (sym kept.1)
 kept_ends q end [] ms (File i ∷ is) kept = absurd kept

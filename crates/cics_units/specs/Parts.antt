@@ -17,7 +17,7 @@ use Rattle.cics_history.specs.Holding.{UpdateRead}
 use Rattle.cics_history.specs.Undo.{images_by}
 use Rattle.cics_units.specs.RegionFiles.{IsThere, key_in}
 use Rattle.cics_units.specs.FilesImages.{cell_of}
-use Rattle.cics_units.specs.StoreMatching.{StoreValue, AnyImage, UndoableValue, shown_store, cell_of_any, IsAnyReady, any_undone, any_holds, AnyKeep, AreKept}
+use Rattle.cics_units.specs.StoreMatching.{StoreValue, AnyImage, UndoableValue, shown_store, cell_of_any, IsAnyReady, any_undone, any_holds, AnyKeep, AreImagesOf}
 use Rattle.cics_units.specs.StoreEnds.{ends_settled}
 use Rattle.cics_units.specs.QueueChanges.{is_trans, queue_of, AreQueuesChanged}
 use Rattle.cics_units.specs.Awaiting.{is_writer}
@@ -137,7 +137,7 @@ of_files is = map File is
 -- a unit keeps the images of a command's changes as its newest, and with them its list is ready as it was before
 pub record HasImages (old new : UndoableValue) (unit : ℕ) (op : Op) : Type 0 where
   pub images : List FilesImage
-  pub made : AreKept (images_by (shown_store old.store) op (content (shown_store old.store))) [] (of_files images)
+  pub made : AreImagesOf (images_by (shown_store old.store) op (content (shown_store old.store))) [] (of_files images)
   pub newest : kept_by new.images unit ≡ of_files images ++ kept_by old.images unit
   pub ready : AreReadyInTurn IsAnyReady any_undone old.store (kept_by old.images unit) →
       AreReadyInTurn IsAnyReady any_undone new.store (kept_by new.images unit)

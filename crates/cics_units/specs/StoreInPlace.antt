@@ -19,7 +19,7 @@ use Rattle.cics_history.specs.Undo.{Image, IsPlaceOf}
 use Rattle.cics_history.specs.Marks.{MarkedQueue, marks_of}
 use Rattle.cics_history.specs.Ends.{Marks, AreMarksOf}
 use Rattle.cics_units.specs.UnitImages.{kept_by}
-use Rattle.cics_units.specs.StoreMatching.{StoreValue, AnyImage, shown_store, IsAnyReady, any_undone, AreKept}
+use Rattle.cics_units.specs.StoreMatching.{StoreValue, AnyImage, shown_store, IsAnyReady, any_undone, AreImagesOf}
 
 -- a queue as it stands is LOGICAL, has no more marks than records, and has these marks
 pub record HasMarks (m : MarkedQueue) (t : TransState) : Type 0 where
@@ -43,7 +43,7 @@ pub record AreInPlace (s : UnitsState) (store : StoreValue) (images : List (Kept
   pub ends : AreMarksOf s marks
   pub queues : (q : Bytes) → queue_logical s.opening q ≡ true →
       (t : TransState) × (value_at q store.trans_data ≡ Some t) × HasMarks (marks.queues q) t
-  pub kept : (u : ℕ) → AreKept (changes u) (marks.images u) (kept_by images u)
+  pub kept : (u : ℕ) → AreImagesOf (changes u) (marks.images u) (kept_by images u)
   pub ready : (u : ℕ) → AreReadyInTurn IsAnyReady any_undone store (kept_by images u)
   pub over : (u : ℕ) → is_open (outcome_of s.outcomes u) ≡ false → kept_by images u ≡ []
 

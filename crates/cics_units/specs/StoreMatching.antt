@@ -53,10 +53,10 @@ shown_store s = record {
 }
 
 -- what is shown of the content of a cell: its records, or none where there is no record
-abbrev pub shown : Content → Shown
-shown None = None
-shown (Some []) = None
-shown (Some (r ∷ rs)) = Some (r ∷ rs)
+abbrev pub shown_records : Content → Shown
+shown_records None = None
+shown_records (Some []) = None
+shown_records (Some (r ∷ rs)) = Some (r ∷ rs)
 
 -- an end of a transient data queue, among the cells of a queue
 abbrev pub end_cell : End → images.Cell
@@ -106,22 +106,22 @@ abbrev pub AnyKeep : (images.Cell → Bool) → StoreValue → StoreValue → Ty
 AnyKeep p s n = StoresKeep FilesKeep KeepsQueues (λ p s n. NamedKeep KeepsEnds p s n) p s n
 
 -- the image that is kept undoes the change of its cell
-pub record IsKept (change : Image) (image : AnyImage) : Type 0 where
+pub record IsImageOfChange (change : Image) (image : AnyImage) : Type 0 where
   pub cell : cell_of_any image ≡ bytes_of change.cell
-  pub leads : AnyLeads image (shown change.made) (shown change.before)
+  pub leads : AnyLeads image (shown_records change.made) (shown_records change.before)
 
 -- the image of a queue that is kept undoes the marks
-pub record IsMarkKept (mark : MarkImage) (image : QueuesImage) : Type 0 where
+pub record IsImageOfMark (mark : MarkImage) (image : QueuesImage) : Type 0 where
   pub queue : image.name ≡ queue_of_mark mark
   pub carries : Carries image.image mark
 
 -- the images that are kept, newest first: each of a key or a temporary storage queue for the next change, each of a
 -- transient data queue for the next mark
-abbrev pub AreKept : List Image → List MarkImage → List AnyImage → Type 0
-AreKept cs ms [] = (cs ≡ []) × (ms ≡ [])
-AreKept [] ms (File i ∷ is) = ⊥
-AreKept (c ∷ cs) ms (File i ∷ is) = IsKept c (File i) × AreKept cs ms is
-AreKept [] ms (TempStorage i ∷ is) = ⊥
-AreKept (c ∷ cs) ms (TempStorage i ∷ is) = IsKept c (TempStorage i) × AreKept cs ms is
-AreKept cs [] (TransData i ∷ is) = ⊥
-AreKept cs (m ∷ ms) (TransData i ∷ is) = IsMarkKept m i × AreKept cs ms is
+abbrev pub AreImagesOf : List Image → List MarkImage → List AnyImage → Type 0
+AreImagesOf cs ms [] = (cs ≡ []) × (ms ≡ [])
+AreImagesOf [] ms (File i ∷ is) = ⊥
+AreImagesOf (c ∷ cs) ms (File i ∷ is) = IsImageOfChange c (File i) × AreImagesOf cs ms is
+AreImagesOf [] ms (TempStorage i ∷ is) = ⊥
+AreImagesOf (c ∷ cs) ms (TempStorage i ∷ is) = IsImageOfChange c (TempStorage i) × AreImagesOf cs ms is
+AreImagesOf cs [] (TransData i ∷ is) = ⊥
+AreImagesOf cs (m ∷ ms) (TransData i ∷ is) = IsImageOfMark m i × AreImagesOf cs ms is
