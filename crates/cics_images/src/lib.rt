@@ -7,8 +7,6 @@
 mod images;
 mod named;
 mod stores;
-#[cfg(test)]
-mod tests;
 mod undoable;
 
 pub use images::Images;

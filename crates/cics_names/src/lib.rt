@@ -7,8 +7,6 @@ mod ebcdic;
 mod items;
 mod names;
 mod records;
-#[cfg(test)]
-mod tests;
 
 pub use commands::{Command, Verb};
 pub use conditions::{AbendCode, Condition};
