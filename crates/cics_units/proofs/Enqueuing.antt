@@ -32,7 +32,7 @@ use Rattle.cics_history.specs.declared.ops.UnitState.TheVariants.{Open}
 use Rattle.cics_history.specs.declared.ops.Enqueued.TheVariants.{Taken, MustWait as EnqMustWait, CountFull}
 use Rattle.cics_history.proofs.Outcomes.{outcome_of-with}
 use Rattle.cics_history.proofs.States.{enqueue-IsSound, dequeue-IsSound}
-use Rattle.cics_units.proofs.HeldOver.{table_holder, table_free}
+use Rattle.cics_units.proofs.HeldOver.{same_over, table_holder, table_free}
 use Rattle.cics_units.proofs.TableValues.{table_enqueued_of, table_dequeued_of}
 use Rattle.cics_units.proofs.KeptUnits.{roomier_held, kept_roomier, kept_with}
 
@@ -76,6 +76,10 @@ module _ (s : UnitsState) (st : UndoableValue) (t : Table) (is : AreKept s st t)
 
   pub value_held : value_holder s u v ≡ holder_over (value_of v) u t
   value_held = table_holder s t is.sound is.table u (value_of v)
+
+  -- the unit that acts has to wait for the same one
+  pub value_over : (n : ℕ) → n ≡ taker → holder_over (value_of v) (Some n) t ≡ holder_over (value_of v) u t
+  value_over n acting = ap (λ n. holder_over (value_of v) (Some n) t) acting ∙ same_over s t is.sound is.table u v
 
   -- another unit holds the value
   pub enqueue-waits : (h : ℕ) → holder_over (value_of v) u t ≡ Some h → enqueue s u v ≡ EnqMustWait h

@@ -1,6 +1,6 @@
 -- Who is found in the table to hold what overlaps a resource is who is found in the history.
-use Rattle.std.proofs.Common.{◌≡◌, ℕ, Bool, true, false, Option, Some, None, is_some, List, [], ◌∷◌, ◌++◌, length, refl, ap, sym, subst, ◌∙◌, inl, inr}
-use Rattle.std.specs.Prelude.{option_map}
+use Rattle.std.proofs.Common.{arith, nat_eq, ◌<◌, ◌≡◌, ℕ, Bool, true, false, Option, Some, None, is_some, List, [], ◌∷◌, ◌++◌, length, refl, ap, sym, subst, ◌∙◌, inl, inr}
+use Rattle.std.specs.Prelude.{not, if◌then◌else◌, option_map}
 use Rattle.std.specs.List.{list_any}
 use Rattle.std.specs.Ordering.{is_lt, is_eq, ordering_reverse}
 use Rattle.std.specs.declared.cmp.Ordering.{Ordering}
@@ -10,7 +10,7 @@ use Rattle.std.proofs.lemmas.Bool.{true≢false, false≢true, eq-eqb, eqb-true,
 use Rattle.std.proofs.lemmas.List.{append_cancel_left}
 use Rattle.cics_names.specs.Keyed.{Bytes, bytes_cmp, is_below, is_same}
 use Rattle.cics_names.specs.KeyedLaws.{is_same-eq, is_same-self}
-use Rattle.cics_enqueue.specs.Resources.{Table, Held, HoldsLeast, IsFreeFor, begins_with, is_one, overlaps, holder_of, holder_over, place_of}
+use Rattle.cics_enqueue.specs.Resources.{Table, Held, HoldsLeast, IsFreeFor, begins_with, is_one, overlaps, holder_of, holder_over, other_than, place_of}
 use Rattle.cics_enqueue.specs.ResourceLaws.{is_one-self, is_one-eq, begins_with-self}
 use Rattle.cics_enqueue.specs.FreedomLaws.{free_where_none, free_for}
 use Rattle.cics_enqueue.specs.declared.resources.Resource.{Resource}
@@ -23,7 +23,7 @@ use Rattle.cics_history.specs.Execution.{unit_or_next, IsOpenUnit}
 use Rattle.cics_history.proofs.Holders.{none_found, overlaps-joined, holder_begun, held_cases}
 use Rattle.cics_history.proofs.LeastHeld.{least_held, holder_some}
 use Rattle.cics_history.proofs.Waiting.{any_more}
-use Rattle.cics_units.specs.TableInPlace.{is_holder, IsTableOf}
+use Rattle.cics_units.specs.TableInPlace.{is_holder, value_of, IsTableOf}
 
 -- ---- Two of the same bytes
 
@@ -157,3 +157,15 @@ module _ (s : UnitsState) (t : Table) (i : IsSound s) (k : IsTableOf s t) where
       let least = holder_over-least t asking k.in_order r h found in
       let stands = there_held least.0 h least.1.1 in
       (holder_begun s i.known i.begun h (is_one least.0) stands, (held_cases s h (is_one least.0) stands).0)
+
+  -- who is in the way of a unit that has yet to begin is in the way of a task without a unit
+  pub same_over : (u : Option ℕ) (v : Bytes) → holder_over (value_of v) (Some (unit_or_next u s.outcomes)) t ≡ holder_over (value_of v) u t
+  same_over (Some u) v = refl
+  same_over None v = by (holder_of (value_of v) t) refl
+    where
+      by : (o : Option ℕ) → holder_of (value_of v) t ≡ o → other_than (Some (length s.outcomes)) o ≡ other_than None o
+      by None at = refl
+      by (Some w) at =
+          let begun : w < length s.outcomes = (holder_open None (value_of v) w (ap (other_than None) at)).0 in
+          let other : nat_eq w (length s.outcomes) ≡ false = grind (arith, begun) in
+          ap (λ b. if not b then Some w else None) other

@@ -2,7 +2,7 @@
 //! open update reads.
 
 ghost use Rattle.std.specs.Prelude.{◌≡◌, ◌==◌, ◌<◌, ◌≤◌, ℕ, Bool, true, false, not};
-ghost use Rattle.std.specs.Prelude.{[], None, length, filter, fold, List, IfOk};
+ghost use Rattle.std.specs.Prelude.{[], None, Some, length, filter, fold, List, IfOk, IfNone};
 ghost use Rattle.std.specs.Prelude.{IfErr, IfSome, OnOk, OnErr, All};
 ghost use Rattle.std.specs.List.{list_any};
 ghost use Rattle.std.specs.Option.{option_copied};
@@ -457,24 +457,32 @@ impl Parts {
         self.stores.read_ts(queue, item)
     }
 
-    /// A unit, which may be the next one to begin, takes a value that no other unit holds, once more
-    /// where it holds it already. Full where it holds it 65,535 times, and NoMemory where memory is
-    /// refused: then nothing has changed.
-    pub(crate) fn enq(&mut self, unit: UnitId, value: &[u8]) -> Result<(), TakeFault>
+    /// A unit, which may be the next one to begin, takes a value, once more where it holds it
+    /// already, or the other unit that holds it is answered. Full where the unit holds it 65,535
+    /// times, and NoMemory where memory is refused. What isn't taken leaves all as it was.
+    pub(crate) fn enq(&mut self, unit: UnitId, value: &[u8]) -> Result<Option<UnitId>, TakeFault>
         requires begun { unit ≤ length self.old.stores.images }
         requires most { length value.now ≤ 255 }
-        requires free { IsFreeFor self.old.table (value_of value.now) unit }
-        ensures enqueued { OnOk result (AreEnqueued self.old self.new unit value.now) }
-        ensures room { OnOk result (is_full (value_of value.now) self.old.table ≡ false) }
+        ensures holder { IfOk result (λ holder.
+            holder ≡ holder_over (value_of value.now) (Some unit) self.old.table) }
+        ensures enqueued { IfOk result (λ holder. IfNone holder
+            (AreEnqueued self.old self.new unit value.now)) }
+        ensures waits { IfOk result (λ holder. IfSome holder
+            (λ _. ArePartsKept self.old self.new)) }
+        ensures room { IfOk result (λ holder. IfNone holder
+            (is_full (value_of value.now) self.old.table ≡ false)) }
         ensures full { IfErr result
             (λ fault. fault ≡ TakeFault.Full →
             is_full (value_of value.now) self.old.table ≡ true) }
+        ensures own { IfErr result
+            (λ fault. fault ≡ TakeFault.Full →
+            holder_over (value_of value.now) (Some unit) self.old.table ≡ None) }
         ensures err { OnErr result (ArePartsKept self.old self.new) }
     {
         self.stores.make_room(unit, 0)?;
         match self.enqueues.enq(value, unit) {
-            Ok(None) => Ok(()),
-            Ok(Some(_)) => unreachable!(),
+            Ok(None) => Ok(None),
+            Ok(Some(holder)) => Ok(Some(holder)),
             Err(fault) => Err(fault),
         }
     }

@@ -273,16 +273,12 @@ impl Units {
         ensures err { OnErr result (self.new ≡ self.old) }
     {
         // A copy for each call that the unit is handed to.
-        let asking = unit;
         let begins = unit;
-        let resource = ResourceRef::value(value);
-        if let Some(holder) = self.parts.holder_over(asking, &resource) {
-            return Ok(Enqueued::MustWait(holder));
-        }
         let acting = unit_or_next(unit, self.outcomes.as_slice());
         make_room(&mut self.outcomes, &mut self.commits)?;
         match self.parts.enq(acting, value) {
-            Ok(()) => {}
+            Ok(None) => {}
+            Ok(Some(holder)) => return Ok(Enqueued::MustWait(holder)),
             Err(TakeFault::Full) => return Ok(Enqueued::CountFull),
             Err(TakeFault::NoMemory) => return Err(NoMemory),
         }

@@ -1,5 +1,6 @@
-use Rattle.std.proofs.Common.{arith, ◌≡◌, ◌∙◌, sym, ap, subst, refl, true, None, length}
-use Rattle.cics_enqueue.specs.Resources.{holder_over, IsFreeFor}
+use Rattle.std.specs.Prelude.{IfSome, IfNone}
+use Rattle.std.proofs.Common.{arith, ℕ, Option, ◌≡◌, ◌∙◌, sym, ap, subst, refl, true, Some, None, length}
+use Rattle.cics_enqueue.specs.Resources.{holder_over}
 use Rattle.cics_history.specs.Holding.{UnitsState}
 use Rattle.cics_history.specs.Execution.{IsOpenUnit, IsOpenOrNone, unit_or_next, outcomes_with, enqueue, after_enqueued, after_enqueue}
 use Rattle.cics_history.specs.Events.{may_act}
@@ -11,52 +12,47 @@ use Rattle.cics_units.specs.TableInPlace.{value_of}
 use Rattle.cics_history.specs.declared.ops.Enqueued.TheVariants.{Taken, MustWait, CountFull}
 use Rattle.cics_units.proofs.KeptUnits.{kept_headline}
 use Rattle.cics_units.proofs.ShownUnits.{acts_of, refused_kept, with_len}
-use Rattle.cics_units.proofs.Enqueuing.{enqueue-waits, enqueue-takes, enqueue-full, enqueued_shown, enqueued_kept, refused_shown}
-use Rattle.cics_units.proofs.HeldOver.{holder_open, table_free}
+use Rattle.cics_units.proofs.Enqueuing.{value_over, enqueue-waits, enqueue-takes, enqueue-full, enqueued_shown, enqueued_kept, refused_shown}
+use Rattle.cics_units.proofs.HeldOver.{holder_open}
 use Rattle.cics_units.proofs.units.Units.enq.Goals as goal
-use Rattle.cics_units.proofs.units.Units.enq.Goals.{In-Some, In_default, After-enq, In-Err-Full, After-begin}
+use Rattle.cics_units.proofs.units.Units.enq.Goals.{In-Ok-Some, In-Ok-None, After-enq, In-Err-Full, After-begin}
 
 -- ---- another unit holds the value
-waits : (c : In-Some) → enqueue (state_shown c.self.inside.opening c.self.inside.trace.items c.self.inside.outcomes.items c.self.inside.commits.items c.self.inside.parts) c.args.unit c.args.value.now ≡ MustWait c.in-Some.holder
+
+where_some : {P : Type 0} {o : Option ℕ} {n : ℕ} → o ≡ Some n → IfSome o (λ m. P) → P
+where_some {P} is held = subst (λ o. IfSome o (λ m. P)) is held
+
+where_none : {P : Type 0} {o : Option ℕ} → o ≡ None → IfNone o P → P
+where_none {P} is free = subst (λ o. IfNone o P) is free
+
+held : (c : In-Ok-Some) → holder_over (value_of c.args.value.now) c.args.unit c.self.inside.parts.table ≡ Some c.in-Ok-Some.holder
+held c =
+    let u = c.self.inside in
+    sym (value_over (state_shown u.opening u.trace.items u.outcomes.items u.commits.items u.parts) u.parts.stores u.parts.table c.self.invariant.0 c.args.unit c.args.value.now
+    c.unit_or_next-acting.result (c.unit_or_next-acting.ensures ∙ ap (unit_or_next c.args.unit) c.as_slice.ensures.value)) ∙ sym c.in-Ok-Some.ensures.holder ∙ c.in-Ok-Some.field-0-is
+
+waits : (c : In-Ok-Some) → enqueue (state_shown c.self.inside.opening c.self.inside.trace.items c.self.inside.outcomes.items c.self.inside.commits.items c.self.inside.parts) c.args.unit c.args.value.now ≡ MustWait c.in-Ok-Some.holder
 waits c =
     let u = c.self.inside in
-    enqueue-waits (state_shown u.opening u.trace.items u.outcomes.items u.commits.items u.parts) u.parts.stores u.parts.table c.self.invariant.0 c.args.unit c.args.value.now c.in-Some.holder
-    (ap (λ r. holder_over r c.args.unit u.parts.table) (sym c.value-resource.ensures) ∙ sym c.holder_over.ensures ∙ c.in-Some.is)
+    enqueue-waits (state_shown u.opening u.trace.items u.outcomes.items u.commits.items u.parts) u.parts.stores u.parts.table c.self.invariant.0 c.args.unit c.args.value.now c.in-Ok-Some.holder (held c)
 
-pub returns-in-Some-clause-done : goal.returns-in-Some-clause-done
-returns-in-Some-clause-done c = sym (waits (goal.at.returns-in-Some-clause-done c).In-Some) ∙ ap (λ w. enqueue w.state c.args.unit c.args.value.now) c.self.view_is
+pub returns-in-Ok-Some-clause-done : goal.returns-in-Ok-Some-clause-done
+returns-in-Ok-Some-clause-done c = sym (waits (goal.at.returns-in-Ok-Some-clause-done c).In-Ok-Some) ∙ ap (λ w. enqueue w.state c.args.unit c.args.value.now) c.self.view_is
 
-pub returns-in-Some-clause-holder_open : goal.returns-in-Some-clause-holder_open
-returns-in-Some-clause-holder_open c =
+pub returns-in-Ok-Some-clause-holder_open : goal.returns-in-Ok-Some-clause-holder_open
+returns-in-Ok-Some-clause-holder_open c =
     let u = c.self.inside in
     let s = state_shown u.opening u.trace.items u.outcomes.items u.commits.items u.parts in
-    subst (λ w. IsOpenUnit w.state c.in-Some.holder) c.self.view_is
-    (holder_open s u.parts.table c.self.invariant.0.sound c.self.invariant.0.table c.args.unit c.value-resource.result c.in-Some.holder (sym c.holder_over.ensures ∙ c.in-Some.is))
+    subst (λ w. IsOpenUnit w.state c.in-Ok-Some.holder) c.self.view_is
+    (holder_open s u.parts.table c.self.invariant.0.sound c.self.invariant.0.table c.args.unit (value_of c.args.value.now) c.in-Ok-Some.holder (held (goal.at.returns-in-Ok-Some-clause-holder_open c).In-Ok-Some))
 
-pub returns-in-Some-clause-state : goal.returns-in-Some-clause-state
-returns-in-Some-clause-state c =
+pub returns-in-Ok-Some-clause-state : goal.returns-in-Ok-Some-clause-state
+returns-in-Ok-Some-clause-state c =
     let u = c.self.inside in
     let s = state_shown u.opening u.trace.items u.outcomes.items u.commits.items u.parts in
-    subst (λ w. w.state ≡ after_enqueue w.state c.args.unit c.args.value.now) c.self.view_is
-    (sym (ap (after_enqueued s c.args.unit c.args.value.now) (waits (goal.at.returns-in-Some-clause-state c).In-Some)))
-
-pub returns-in-Some-clause-headline : goal.returns-in-Some-clause-headline
-returns-in-Some-clause-headline c =
-    let u = c.self.inside in
-    subst IsHeadline c.self.view_is (kept_headline (state_shown u.opening u.trace.items u.outcomes.items u.commits.items u.parts) u.parts.stores u.parts.table c.self.invariant.0)
-
--- ---- no other unit holds it
-none : (c : In_default) → holder_over (value_of c.args.value.now) c.args.unit c.self.inside.parts.table ≡ None
-none c = ap (λ r. holder_over r c.args.unit c.self.inside.parts.table) (sym c.value-resource.ensures) ∙ sym c.holder_over.ensures ∙ c.in_default.is
-
--- nor does one hold a prefix
-pub enq-requires-clause-free : goal.enq-requires-clause-free
-enq-requires-clause-free c =
-    let u = c.self.inside in
-    let v = c.args.value.now in
-    let s = state_shown u.opening u.trace.items u.outcomes.items u.commits.items u.parts in
-    subst (IsFreeFor u.parts.table (value_of v)) (sym (c.unit_or_next-acting.ensures ∙ ap (unit_or_next c.args.unit) c.as_slice.ensures.value))
-    (table_free s u.parts.table c.self.invariant.0.sound c.self.invariant.0.table c.args.unit (value_of v) (none (goal.at.enq-requires-clause-free c).In_default))
+    refused_shown u.opening u.trace.items u.outcomes.items u.commits.items u.parts c.enq.new.self c.self.invariant.0 (where_some c.in-Ok-Some.field-0-is c.in-Ok-Some.ensures.waits) c.make_room.new.outcomes.items c.make_room.new.commits.items c.make_room.ensures.outcomes c.make_room.ensures.commits
+    ∙ sym (ap (after_enqueued s c.args.unit c.args.value.now) (waits (goal.at.returns-in-Ok-Some-clause-state c).In-Ok-Some))
+    ∙ ap (λ w. after_enqueue w.state c.args.unit c.args.value.now) c.self.view_is
 
 -- ---- the value is not taken
 pub returns-in_err-make_room-clause-headline : goal.returns-in_err-make_room-clause-headline
@@ -66,16 +62,17 @@ returns-in_err-make_room-clause-headline c =
     (λ i. state_shown u.opening u.trace.items (sym c.make_room.ensures.outcomes i) (sym c.make_room.ensures.commits i) u.parts)
     (kept_headline (state_shown u.opening u.trace.items u.outcomes.items u.commits.items u.parts) u.parts.stores u.parts.table c.self.invariant.0)
 
-full : (c : In-Err-Full) → holder_over (value_of c.args.value.now) c.args.unit c.self.inside.parts.table ≡ None →
-    enqueue (state_shown c.self.inside.opening c.self.inside.trace.items c.self.inside.outcomes.items c.self.inside.commits.items c.self.inside.parts) c.args.unit c.args.value.now ≡ CountFull
-full c none =
+full : (c : In-Err-Full) → enqueue (state_shown c.self.inside.opening c.self.inside.trace.items c.self.inside.outcomes.items c.self.inside.commits.items c.self.inside.parts) c.args.unit c.args.value.now ≡ CountFull
+full c =
     let u = c.self.inside in
+    let none = sym (value_over (state_shown u.opening u.trace.items u.outcomes.items u.commits.items u.parts) u.parts.stores u.parts.table c.self.invariant.0 c.args.unit c.args.value.now
+    c.unit_or_next-acting.result (c.unit_or_next-acting.ensures ∙ ap (unit_or_next c.args.unit) c.as_slice.ensures.value)) ∙ c.in-Err-Full.ensures.own c.in-Err-Full.field-0-is in
     enqueue-full (state_shown u.opening u.trace.items u.outcomes.items u.commits.items u.parts) u.parts.stores u.parts.table c.self.invariant.0 c.args.unit c.args.value.now none (c.in-Err-Full.ensures.full c.in-Err-Full.field-0-is)
 
 pub returns-in-Err-Full-clause-done : goal.returns-in-Err-Full-clause-done
 returns-in-Err-Full-clause-done c =
     let at = goal.at.returns-in-Err-Full-clause-done c in
-    sym (full at.In-Err-Full (none at.In_default)) ∙ ap (λ w. enqueue w.state c.args.unit c.args.value.now) c.self.view_is
+    sym (full at.In-Err-Full) ∙ ap (λ w. enqueue w.state c.args.unit c.args.value.now) c.self.view_is
 
 pub returns-in-Err-Full-clause-state : goal.returns-in-Err-Full-clause-state
 returns-in-Err-Full-clause-state c =
@@ -83,7 +80,7 @@ returns-in-Err-Full-clause-state c =
     let s = state_shown u.opening u.trace.items u.outcomes.items u.commits.items u.parts in
     let at = goal.at.returns-in-Err-Full-clause-state c in
     refused_shown u.opening u.trace.items u.outcomes.items u.commits.items u.parts c.enq.new.self c.self.invariant.0 c.in-Err-Full.ensures.err c.make_room.new.outcomes.items c.make_room.new.commits.items c.make_room.ensures.outcomes c.make_room.ensures.commits
-    ∙ sym (ap (after_enqueued s c.args.unit c.args.value.now) (full at.In-Err-Full (none at.In_default)))
+    ∙ sym (ap (after_enqueued s c.args.unit c.args.value.now) (full at.In-Err-Full))
     ∙ ap (λ w. after_enqueue w.state c.args.unit c.args.value.now) c.self.view_is
 
 -- what the parts kept shows a headline
@@ -95,6 +92,9 @@ refused c same =
     (refused_kept u.opening u.trace.items u.outcomes.items u.commits.items u.parts c.enq.new.self c.self.invariant.0 same u.trace.items c.make_room.new.outcomes.items c.make_room.new.commits.items refl
     c.make_room.ensures.outcomes c.make_room.ensures.commits)
 
+pub returns-in-Ok-Some-clause-headline : goal.returns-in-Ok-Some-clause-headline
+returns-in-Ok-Some-clause-headline c = refused (goal.at.returns-in-Ok-Some-clause-headline c).After-enq (where_some c.in-Ok-Some.field-0-is c.in-Ok-Some.ensures.waits)
+
 pub returns-in-Err-Full-clause-headline : goal.returns-in-Err-Full-clause-headline
 returns-in-Err-Full-clause-headline c = refused (goal.at.returns-in-Err-Full-clause-headline c).After-enq c.in-Err-Full.ensures.err
 
@@ -102,6 +102,12 @@ pub returns-in-Err-NoMemory-clause-headline : goal.returns-in-Err-NoMemory-claus
 returns-in-Err-NoMemory-clause-headline c = refused (goal.at.returns-in-Err-NoMemory-clause-headline c).After-enq c.in-Err-NoMemory.ensures.err
 
 -- ---- it is taken
+none : (c : In-Ok-None) → holder_over (value_of c.args.value.now) c.args.unit c.self.inside.parts.table ≡ None
+none c =
+    let u = c.self.inside in
+    sym (value_over (state_shown u.opening u.trace.items u.outcomes.items u.commits.items u.parts) u.parts.stores u.parts.table c.self.invariant.0 c.args.unit c.args.value.now
+    c.unit_or_next-acting.result (c.unit_or_next-acting.ensures ∙ ap (unit_or_next c.args.unit) c.as_slice.ensures.value)) ∙ sym c.in-Ok-None.ensures.holder ∙ c.in-Ok-None.field-0-is
+
 module _ (c : After-begin) (none : holder_over (value_of c.args.value.now) c.args.unit c.self.inside.parts.table ≡ None) where
   abbrev old : UnitsState
   old = state_shown c.self.inside.opening c.self.inside.trace.items c.self.inside.outcomes.items c.self.inside.commits.items c.self.inside.parts
@@ -116,10 +122,10 @@ module _ (c : After-begin) (none : holder_over (value_of c.args.value.now) c.arg
   acting = c.unit_or_next-acting.ensures ∙ ap (unit_or_next c.args.unit) c.as_slice.ensures.value
 
   takes : enqueue old c.args.unit c.args.value.now ≡ Taken (unit_or_next c.args.unit c.self.inside.outcomes.items)
-  takes = enqueue-takes old c.self.inside.parts.stores c.self.inside.parts.table c.self.invariant.0 c.args.unit c.args.value.now none c.in-Ok.ensures.room
+  takes = enqueue-takes old c.self.inside.parts.stores c.self.inside.parts.table c.self.invariant.0 c.args.unit c.args.value.now none (where_none c.in-Ok-None.field-0-is c.in-Ok-None.ensures.room)
 
   done : AreEnqueued c.self.inside.parts c.enq.new.self (unit_or_next c.args.unit c.self.inside.outcomes.items) c.args.value.now
-  done = subst (λ n. AreEnqueued c.self.inside.parts c.enq.new.self n c.args.value.now) acting c.in-Ok.ensures.enqueued
+  done = subst (λ n. AreEnqueued c.self.inside.parts c.enq.new.self n c.args.value.now) acting (where_none c.in-Ok-None.field-0-is c.in-Ok-None.ensures.enqueued)
 
   shown : now ≡ state_shown c.self.inside.opening c.self.inside.trace.items (outcomes_with c.args.unit c.self.inside.outcomes.items) c.self.inside.commits.items c.enq.new.self
   shown =
@@ -140,19 +146,19 @@ module _ (c : After-begin) (none : holder_over (value_of c.args.value.now) c.arg
 pub invariant_of-self-2 : goal.invariant_of-self-2
 invariant_of-self-2 c =
     let at = goal.at.invariant_of-self-2 c in
-    (kept at.After-begin (none at.In_default), omega (arith, with_len c.args.unit c.make_room.new.outcomes.items, ap length c.begin.ensures, c.in_ok-make_room.ensures.turns))
+    (kept at.After-begin (none at.In-Ok-None), omega (arith, with_len c.args.unit c.make_room.new.outcomes.items, ap length c.begin.ensures, c.in_ok-make_room.ensures.turns))
 
 pub returns-clause-done : goal.returns-clause-done
 returns-clause-done c =
     let at = goal.at.returns-clause-done c in
-    ap Taken (acting at.After-begin (none at.In_default)) ∙ sym (takes at.After-begin (none at.In_default)) ∙ ap (λ w. enqueue w.state c.args.unit c.args.value.now) c.self.view_is
+    ap Taken (acting at.After-begin (none at.In-Ok-None)) ∙ sym (takes at.After-begin (none at.In-Ok-None)) ∙ ap (λ w. enqueue w.state c.args.unit c.args.value.now) c.self.view_is
 
 pub returns-clause-state : goal.returns-clause-state
 returns-clause-state c =
     let at = goal.at.returns-clause-state c in
-    state at.After-begin (none at.In_default) ∙ ap (λ w. after_enqueue w.state c.args.unit c.args.value.now) c.self.view_is
+    state at.After-begin (none at.In-Ok-None) ∙ ap (λ w. after_enqueue w.state c.args.unit c.args.value.now) c.self.view_is
 
 pub returns-clause-headline : goal.returns-clause-headline
 returns-clause-headline c =
     let at = goal.at.returns-clause-headline c in
-    kept_headline _ c.enq.new.self.stores c.enq.new.self.table (kept at.After-begin (none at.In_default))
+    kept_headline _ c.enq.new.self.stores c.enq.new.self.table (kept at.After-begin (none at.In-Ok-None))
