@@ -4,7 +4,7 @@ use Rattle.std.specs.declared.alloc.Global.{Global}
 use Rattle.std.proofs.Common.{zero, suc, sym, ap, ◌∙◌, subst, arith}
 use Rattle.std.proofs.Math.Nat.{min-le_left, min-le_right}
 use Rattle.std.proofs.lemmas.Option.{slice_get_within}
-use Rattle.cics_dispatch.specs.Firsts.{lesser_of_pairs, last_of, AreAbove, IsFirstBelow}
+use Rattle.cics_dispatch.specs.Firsts.{lesser_of_pairs, last_of, level_at, AreAbove, IsFirstBelow}
 
 -- ---- The pairs of a level
 
@@ -209,6 +209,30 @@ module _ (limit : ℕ) where
   no_pair (a ∷ b ∷ keys) none zero d within = let least : limit ≤ min a b = none 0 0 (omega arith) in omega (arith, min-le_left a b)
   no_pair (a ∷ b ∷ keys) none (suc zero) d within = let least : limit ≤ min a b = none 0 0 (omega arith) in omega (arith, min-le_right a b)
   no_pair (a ∷ b ∷ keys) none (suc (suc i)) d within = no_pair keys (λ k e less. none (suc k) e (omega arith)) i d (omega arith)
+
+  -- where no key of the last level is below the limit no key is
+  pub none_below : (keys : List ℕ) (levels : List (Vec ℕ Global)) → AreAbove keys levels → All (λ k. limit ≤ k) (last_of keys levels) → All (λ k. limit ≤ k) keys
+  none_below keys [] above none = none
+  none_below keys (l ∷ ls) above none = no_pair keys (subst (All (λ k. limit ≤ k)) above.0 (none_below l.items ls above.1 none))
+
+-- ---- The level at a place
+
+-- it has the lesser keys of the level below it
+pub pairs_of_level : (keys : List ℕ) (levels : List (Vec ℕ Global)) (place : ℕ) → AreAbove keys levels → place < length levels → level_at keys levels (suc place) ≡ lesser_of_pairs (level_at keys levels place)
+pairs_of_level keys [] place above within = absurd (omega arith)
+pairs_of_level keys (l ∷ ls) zero above within = above.0
+pairs_of_level keys (l ∷ ls) (suc place) above within = pairs_of_level l.items ls place above.1 (omega arith)
+
+-- the last one
+pub last_place : (keys : List ℕ) (levels : List (Vec ℕ Global)) → last_of keys levels ≡ level_at keys levels (length levels)
+last_place keys [] = refl
+last_place keys (l ∷ ls) = last_place l.items ls
+
+-- one that stands above the keys
+pub level_found : (keys : List ℕ) (levels : List (Vec ℕ Global)) (at : ℕ) (l : Vec ℕ Global) → at < length levels → l ≡ slice_index_or levels at l → l.items ≡ level_at keys levels (suc at)
+level_found keys [] at l within is = absurd (omega arith)
+level_found keys (x ∷ levels) zero l within is = ap (λ v. v.items) is
+level_found keys (x ∷ levels) (suc at) l within is = level_found x.items levels at l (omega arith) is
 
 -- ---- The last level
 

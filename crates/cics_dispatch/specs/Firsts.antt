@@ -1,5 +1,5 @@
 -- A row of keys: the levels above it, and the first key below a limit.
-use Rattle.std.specs.Prelude.{◌≡◌, ◌<◌, ◌≤◌, ℕ, min, Some, List, [], ◌∷◌, Vec, vec_len, vec_capacity, slice_get}
+use Rattle.std.specs.Prelude.{◌≡◌, ◌<◌, ◌≤◌, ℕ, zero, suc, min, Some, List, [], ◌∷◌, Vec, vec_len, vec_capacity, slice_get}
 use Rattle.std.specs.declared.alloc.Global.{Global}
 
 -- the lesser key of each two neighbours; the last key where it has none
@@ -17,6 +17,12 @@ AreAbove keys (l ∷ ls) = (l.items ≡ lesser_of_pairs keys) × AreAbove l.item
 abbrev pub last_of : List ℕ → List (Vec ℕ Global) → List ℕ
 last_of keys [] = keys
 last_of keys (l ∷ ls) = last_of l.items ls
+
+-- the keys, at 0, or the level that stands so many above them
+abbrev pub level_at : List ℕ → List (Vec ℕ Global) → ℕ → List ℕ
+level_at keys ls zero = keys
+level_at keys [] (suc n) = []
+level_at keys (l ∷ ls) (suc n) = level_at l.items ls n
 
 -- each level has room for one more key
 abbrev pub HaveRoom : List (Vec ℕ Global) → Type 0

@@ -3,7 +3,7 @@
 ghost use Rattle.std.specs.Prelude.{◌≡◌, ◌<◌, ◌≤◌, ◌*◌, ℕ, List, [], ◌∷◌, ◌++◌, Some, length};
 ghost use Rattle.std.specs.Prelude.{slice_get, slice_set, vec_len, vec_capacity};
 ghost use Rattle.std.specs.Prelude.{All, OnOk, OnErr, MatchOption};
-ghost use Rattle.cics_dispatch.specs.Firsts.{lesser_of_pairs, last_of, AreAbove, HaveRoom};
+ghost use Rattle.cics_dispatch.specs.Firsts.{lesser_of_pairs, last_of, level_at, AreAbove, HaveRoom};
 ghost use Rattle.cics_dispatch.specs.Firsts.{IsFirstBelow};
 
 use cics_names::NoMemory;
@@ -96,6 +96,18 @@ fn last_level<'a>(keys: &'a [u64], above: &'a [Vec<u64>]) -> &'a [u64]
     }
 }
 
+// The keys, at 0, or the level that stands so many above them.
+fn level_at<'a>(keys: &'a [u64], above: &'a [Vec<u64>], place: usize) -> &'a [u64]
+    requires { place ≤ length above.now }
+    ensures { result.now ≡ level_at keys.now above.now place }
+{
+    if place == 0 {
+        keys
+    } else {
+        above[place - 1].as_slice()
+    }
+}
+
 // Puts a level of one key above the last where that has two. Where memory is refused the levels stay as they are.
 fn raise(keys: &Vec<u64>, above: &mut Vec<Vec<u64>>) -> Result<(), NoMemory>
     requires { AreAbove keys.now.items above.old.items }
@@ -160,17 +172,28 @@ fn first_of_pair(level: &[u64], pair: usize, limit: u64) -> usize
     if level[at] < limit { at } else { at + 1 }
 }
 
-// The place of the first key below a limit, or `None` where no key is.
-fn first_below(level: &[u64], above: &[Vec<u64>], limit: u64) -> Option<usize>
-    requires { AreAbove level.now above.now }
+// The place of the first key of a level that is below a limit. Each key before it is looked at.
+fn first_in(level: &[u64], limit: u64) -> Option<usize>
     ensures { MatchOption result
         (All (λ key. limit ≤ key) level.now) (λ at. IsFirstBelow level.now limit at) }
 {
-    let Some((next, rest)) = above.split_first() else {
-        return level.iter().position(|key| *key < limit);
-    };
-    let pair = first_below(next.as_slice(), rest, limit)?;
-    Some(first_of_pair(level, pair, limit))
+    level.iter().position(|key| *key < limit)
+}
+
+// The place of the first key below a limit, or `None` where no key is. Where none is, no more is read than the last level.
+fn first_below(keys: &[u64], above: &[Vec<u64>], limit: u64) -> Option<usize>
+    requires { AreAbove keys.now above.now }
+    ensures { MatchOption result
+        (All (λ key. limit ≤ key) keys.now) (λ at. IsFirstBelow keys.now limit at) }
+{
+    let last = last_level(keys, above);
+    let mut at = first_in(last, limit)?;
+    let mut left = above.len();
+    while left > 0 {
+        left -= 1;
+        at = first_of_pair(level_at(keys, above, left), at, limit);
+    }
+    Some(at)
 }
 
 /// Adds a key to each of two rows, behind all others. Where memory is refused both rows stay as they are.
