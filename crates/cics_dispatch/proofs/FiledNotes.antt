@@ -16,7 +16,7 @@ use Rattle.cics_names.specs.Keyed.{Bytes}
 use Rattle.cics_dispatch.specs.Machine.{is_unit}
 use Rattle.cics_dispatch.specs.Notes.{of_line, blocker_by, blocker_in, given_up, forgotten, new_note, alone, in_line, count, AreClosed, IsOpenAt, IsFirstOpen, KeepsResources, KeepsBlockers}
 use Rattle.cics_dispatch.specs.Filed.{has, IsShown, IsParked, KeepParked, IsAlone, AreParked, IsFiled, IsLeft, IsPut, IsNotOf, IsReopening}
-use Rattle.cics_dispatch.proofs.ShownNotes.{length_set, get_set, get_push, push_here, push_there, longer, of_line_set, of_line_more, shown_push, shown_left, shown_closed, shown_new_line}
+use Rattle.cics_dispatch.proofs.ShownNotes.{length_set, get_set, get_push, push_here, push_there, longer, of_line_set, of_line_more, shown_push, shown_left, shown_closed, shown_passed, shown_new_line}
 
 pub length_map : {X : Type 0} (f : X → X) (xs : List X) → length (map f xs) ≡ length xs
 length_map f [] = refl
@@ -182,6 +182,10 @@ module _ (rows : List (Option Note)) (k : ℕ) (rs : List Resource) (bs : List (
           | inr was ↦ kept v (OfLine h) (is.lists.lines_of h v was)
         ]);
   }
+
+  -- a command that needn't be looked at is noted as one that waits
+  pub filed_passed : (at : ℕ) → ((n : Note) → slice_get rows at ≡ Some (Some n) → blocker_in bs n ≡ None → ⊥) → IsFiled rows k rs bs ms parked (slice_set keys at 1)
+  filed_passed at passed = record { counted = is.counted; resources = is.resources; shown = shown_passed rows bs ms keys is.shown at passed; lists = is.lists }
 
   -- a line more
   pub filed_new_line : (r : Resource) (s : BTreeSet ℕ) → ((i : ℕ) → has s i ≡ false) → IsFiled rows k (rs ++ r ∷ []) (bs ++ None ∷ []) (ms ++ s ∷ []) parked keys
@@ -424,3 +428,11 @@ same_unit (Some v) u t is holds = ap Some (eqb-true v u (sym is ∙ holds))
 pub other_unit : (o : Option ℕ) (u : ℕ) (t : Bool) → t ≡ option_eq nat_eq o (Some u) → t ≡ false → o ≡ Some u → ⊥
 other_unit None u t is fails own = none_some ℕ u own
 other_unit (Some v) u t is fails own = true≢false (sym (eq-eqb v u (some_same ℕ v u own)) ∙ sym is ∙ fails)
+
+-- where a note was put whose unit is known stands none of a command that has to be looked at
+pub known_there : (rows : List (Option Note)) (at : ℕ) (bs : List (Option ℕ)) (m : Note) (u : ℕ) → blocker_in bs m ≡ Some u →
+    (n : Note) → slice_get (slice_set rows at (Some m)) at ≡ Some (Some n) → blocker_in bs n ≡ None → ⊥
+known_there rows at bs m u known n is own = elim (get_set rows at at (Some m) (Some n) is) [
+  | inl here ↦ none_some ℕ u (sym own ∙ ap (blocker_in bs) (sym (some_same Note m n here.1)) ∙ known)
+  | inr other ↦ absurd (other.0 refl)
+]

@@ -614,6 +614,7 @@ impl Notes {
             line: Some(line),
             blocker: None,
         });
+        self.keys.set(at, WAIT);
         Ok(())
     }
 }

@@ -2,8 +2,8 @@ use Rattle.std.proofs.Common.{◌≡◌, ◌<◌, ◌∙◌, Some, length, slice
 use Rattle.std.proofs.lemmas.Option.{slice_get_within, slice_get_read}
 use Rattle.cics_dispatch.specs.Notes.{in_line}
 use Rattle.cics_dispatch.specs.Filed.{IsFiled}
-use Rattle.cics_dispatch.proofs.ShownNotes.{only_of, of_line_at}
-use Rattle.cics_dispatch.proofs.FiledNotes.{filed_parked, filed_line}
+use Rattle.cics_dispatch.proofs.ShownNotes.{only_of, of_line_at, set_here}
+use Rattle.cics_dispatch.proofs.FiledNotes.{filed_parked, filed_line, filed_passed, known_there}
 use Rattle.cics_dispatch.proofs.notes.Notes.close.Goals as goal
 use Rattle.cics_dispatch.proofs.notes.Notes.close.Goals.{After-park_line}
 
@@ -42,13 +42,24 @@ index_mut-requires-2 c =
     let ok = c.self.inside.rows.ok.0 in
     omega (arith, inside, ok)
 
+pub set-requires : goal.set-requires
+set-requires c =
+    subst (λ k. c.args.at < k) (sym c.self.invariant.shown.even) (slice_get_within c.self.inside.rows.items c.args.at (Some c.args.note.now) (there (goal.at.set-requires c).After-park_line))
+
 pub invariant_of-self-2 : goal.invariant_of-self-2
 invariant_of-self-2 c =
     let u = c.self.inside in
     let rows = u.rows.items in
     let n = c.args.note.now in
+    let g = c.args.line in
     let j = c.in_ok-join.ensures.ok in
-    let bs = slice_set u.lines.items c.args.line (Some c.args.unit) in
-    subst (λ ms. IsFiled (slice_set rows c.args.at (Some (in_line c.args.line n))) u.count u.resources.keys bs ms c.park_line.new.parked.entries u.keys) (sym j.put)
-    (filed_line rows u.count u.resources.keys u.lines.items u.members.items u.parked.entries u.keys c.self.invariant c.args.at c.args.unit c.args.line n j.old j.all c.park_line.new.parked.entries
-    (there (goal.at.invariant_of-self-2 c).After-park_line) (only_of n.line c.args.line c.requires.only) j.there j.joined c.park_line.ensures.kept c.in_ok-park_line.ensures.added)
+    let bs = slice_set u.lines.items g (Some c.args.unit) in
+    let ns = slice_set rows c.args.at (Some (in_line g n)) in
+    let parked = c.park_line.new.parked.entries in
+    let filed : IsFiled ns u.count u.resources.keys bs (slice_set u.members.items g j.all) parked u.keys =
+    filed_line rows u.count u.resources.keys u.lines.items u.members.items u.parked.entries u.keys c.self.invariant c.args.at c.args.unit g n j.old j.all parked
+    (there (goal.at.invariant_of-self-2 c).After-park_line) (only_of n.line g c.requires.only) j.there j.joined c.park_line.ensures.kept c.in_ok-park_line.ensures.added in
+    let known = of_line_at bs g (Some c.args.unit) (set_here u.lines.items g (Some c.args.unit) (within (goal.at.invariant_of-self-2 c).After-park_line)) in
+    subst (λ ms. IsFiled ns u.count u.resources.keys bs ms parked c.set.new.self) (sym j.put)
+    (subst (IsFiled ns u.count u.resources.keys bs (slice_set u.members.items g j.all) parked) (sym c.set.ensures)
+    (filed_passed ns u.count u.resources.keys bs (slice_set u.members.items g j.all) parked u.keys filed c.args.at (known_there rows c.args.at bs (in_line g n) c.args.unit known)))
