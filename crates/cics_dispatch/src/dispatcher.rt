@@ -8,7 +8,7 @@ mod queues;
 mod shutdown;
 mod waking;
 
-ghost use Rattle.std.specs.Prelude.{◌≡◌, ◌<◌, ◌≤◌, true, false, Option, Some, None, length, IfOk};
+ghost use Rattle.std.specs.Prelude.{◌≡◌, ◌<◌, ◌≤◌, true, false, Option, Some, None, length, IfOk, slice_get};
 ghost use Rattle.std.specs.Prelude.{IfErr, IfSome, IfNone, if◌then◌else◌, Result, Ok, Err};
 ghost use Rattle.std.specs.Option.{option_copied};
 ghost use Rattle.cics_history.specs.declared.ops.UnitState.TheVariants.{Committed, BackedOut};
@@ -130,6 +130,16 @@ impl Dispatcher {
         ensures { result ≡ is_waiting self.now.machine.waiting label.now }
     {
         self.waits.is_waiting(label)
+    }
+
+    /// The place of the task of a label, or `None` where no task has it.
+    pub(crate) fn find(&self, label: &Name8) -> Option<usize>
+        ensures task { IfSome result (λ at. slice_get self.now.machine.tasks at
+            ≡ task_at self.now.machine.tasks label.now) }
+        ensures within { IfSome result (λ at. at < length self.now.machine.tasks) }
+        ensures none { IfNone result (task_at self.now.machine.tasks label.now ≡ None) }
+    {
+        self.tasks.find(label)
     }
 
     /// The open unit of work of the task of a label, if there is one.

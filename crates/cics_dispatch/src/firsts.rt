@@ -180,7 +180,8 @@ fn first_in(level: &[u64], limit: u64) -> Option<usize>
     level.iter().position(|key| *key < limit)
 }
 
-// The place of the first key below a limit, or `None` where no key is. Where none is, no more is read than the last level.
+// The place of the first key below a limit, or `None` where no key is. Where none is, no more is
+// read than the last level.
 fn first_below(keys: &[u64], above: &[Vec<u64>], limit: u64) -> Option<usize>
     requires { AreAbove keys.now above.now }
     ensures { MatchOption result

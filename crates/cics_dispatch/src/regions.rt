@@ -151,9 +151,12 @@ impl Region {
     {
         // First of all: after a shutdown a label is told nothing else, not even that it has no task.
         self.refuse_if_down()?;
-        let unit = self.dispatcher.unit_of(&label);
+        let Some(at) = self.dispatcher.find(&label) else {
+            return Err(Refused::NoTask);
+        };
+        let unit = self.dispatcher.unit_at(at);
         let keeps = self.dispatcher.is_keeping(&command.verb);
-        let outcome = self.dispatcher.issue(label, command)?;
+        let outcome = self.dispatcher.issue(at, label, command)?;
         let was_blocker = self.notes.forget(giving_up(keeps, &outcome, unit));
         let waits = self.dispatcher.is_waiting(&label);
         self.is_settled = stays_settled(self.is_settled, was_blocker, waits);

@@ -1,9 +1,9 @@
 //! The commands of the tasks of a region, from the look at what other units hold on.
 
-ghost use Rattle.std.specs.Prelude.{◌≡◌, ◌<◌, true, false, None, is_some, length, if◌then◌else◌};
+ghost use Rattle.std.specs.Prelude.{◌≡◌, ◌<◌, true, false, None, is_some, length, if◌then◌else◌, slice_get};
 ghost use Rattle.std.specs.Prelude.{IsTrue, IfOk, OnErr};
 ghost use Rattle.cics_names.specs.Commands.{file_named};
-ghost use Rattle.cics_dispatch.specs.Machine.{unit_closed};
+ghost use Rattle.cics_dispatch.specs.Machine.{task_at, unit_closed};
 ghost use Rattle.cics_dispatch.specs.Steps.{op_of, code_of, performed, issued};
 ghost use Rattle.cics_dispatch.specs.Answers.{is_growing, may_want, IsStep};
 ghost use Rattle.cics_dispatch.specs.Replies.{plain};
@@ -173,22 +173,21 @@ impl Dispatcher {
         }
     }
 
-    /// Executes a command of the task of a label: it is answered, or it waits, or its task ends.
+    /// Executes a command of the task of a label, which is at this place: it is answered, or it
+    /// waits, or its task ends.
     ///
-    /// It is refused where no task has the label (`NoTask`), where the task has ended (`TaskEnded`),
-    /// where a command of it waits (`TaskWaiting`), in this order; and once its checks have passed,
-    /// for want of memory (`NoMemory`), but for UNLOCK, RESETBR, ENDBR, DEQ, SYNCPOINT, ROLLBACK,
-    /// RETURN and ABEND, which take none. A refusal changes nothing. A condition that neither RESP
-    /// nor NOHANDLE handles abends the task with the condition's default code (chapter on the
-    /// exceptional conditions).
-    pub fn issue(&mut self, label: Name8, command: Command) -> Result<Outcome, Refused>
+    /// It is refused where the task has ended (`TaskEnded`), where a command of it waits (`TaskWaiting`),
+    /// in this order; and once its checks have passed, for want of memory (`NoMemory`), but for UNLOCK,
+    /// RESETBR, ENDBR, DEQ, SYNCPOINT, ROLLBACK, RETURN and ABEND, which take none. A refusal changes
+    /// nothing. A condition that neither RESP nor NOHANDLE handles abends the task with the condition's
+    /// default code (chapter on the exceptional conditions).
+    pub fn issue(&mut self, at: usize, label: Name8, command: Command) -> Result<Outcome, Refused>
+        requires task { slice_get self.old.machine.tasks at ≡ task_at self.old.machine.tasks label }
+        requires within { at < length self.old.machine.tasks }
         ensures step { IsStep (may_want self.old.machine label command) self.old
             (issued self.old.machine label command) result self.new }
         ensures kept { KeepsRegion self.old self.new }
     {
-        let Some(at) = self.tasks.find(&label) else {
-            return Err(Refused::NoTask);
-        };
         if self.tasks.get(at).has_ended() {
             return Err(Refused::TaskEnded);
         }

@@ -1,49 +1,56 @@
-use Rattle.std.proofs.Common.{◌∙◌, sym, ap, subst, refl, true, false, None, Some}
+use Rattle.std.proofs.Common.{◌≡◌, ◌∙◌, ℕ, slice_get, sym, ap, subst, refl, true, false, None, Some}
 use Rattle.std.specs.Prelude.{◌≤◌, length, IfNone, IfSome}
+use Rattle.cics_names.specs.Keyed.{Bytes}
 use Rattle.cics_history.specs.Records.{key_of}
+use Rattle.cics_dispatch.specs.Machine.{RegionValue, task_at}
 use Rattle.cics_dispatch.specs.Calls.{OfTask}
 use Rattle.cics_dispatch.specs.Steps.{answered, op_of}
 use Rattle.cics_dispatch.proofs.RegionPerforming.{issued_to, issued_waiting, issued_awake, issued_told, wants_memory, refused_memory}
 use Rattle.cics_dispatch.proofs.dispatcher.Dispatcher.issue.Goals as goal
 
+-- what is found in a region is found in its parts
+found_before : {v w : RegionValue} (at : ℕ) (label : Bytes) → v ≡ w → slice_get w.machine.tasks at ≡ task_at w.machine.tasks label →
+    slice_get v.machine.tasks at ≡ task_at v.machine.tasks label
+found_before at label same = subst (λ r. slice_get r.machine.tasks at ≡ task_at r.machine.tasks label) (sym same)
+
 pub returns-then-is_waiting-clause-step : goal.returns-then-is_waiting-clause-step
 returns-then-is_waiting-clause-step c =
-    let to = issued_to c.args.self.now c.args.label c.in-Some.at c.get.result.now true c.self.view_is c.in-Some.ensures.task c.get.ensures
+    let to = issued_to c.args.self.now c.args.label c.args.at c.get.result.now true c.self.view_is (found_before c.args.at c.args.label c.self.view_is c.requires.task) c.get.ensures
     (sym c.has_ended.ensures ∙ c.if-has_ended.false) (sym c.is_waiting.ensures.waiting ∙ c.if-is_waiting.true) in
     (issued_waiting c.args.self.now.machine c.args.label c.args.command c.get.result.now to.of_label to.goes_on to.waiting, refl)
 
 pub perform-requires-clause-may : goal.perform-requires-clause-may
 perform-requires-clause-may c =
     let m = c.args.self.now.machine in
-    let to = issued_to c.args.self.now c.args.label c.in-Some.at c.get.result.now false c.self.view_is c.in-Some.ensures.task c.get.ensures
+    let to = issued_to c.args.self.now c.args.label c.args.at c.get.result.now false c.self.view_is (found_before c.args.at c.args.label c.self.view_is c.requires.task) c.get.ensures
     (sym c.has_ended.ensures ∙ c.if-has_ended.false) (sym c.is_waiting.ensures.waiting ∙ c.if-is_waiting.false) in
     record {
-      awake = issued_awake m c.args.label c.in-Some.at c.get.result.now to;
+      awake = issued_awake m c.args.label c.args.at c.get.result.now to;
       passed = λ s here. sym (c.fault.ensures.fault s here) ∙ c.in-None.is;
-      short = subst (λ fault. IfNone fault (OfTask m.tasks c.in-Some.at (λ t. IfSome (op_of m t c.args.command.verb) (λ o. length (key_of o) ≤ 255)))) c.in-None.is c.fault.ensures.short;
+      short = subst (λ fault. IfNone fault (OfTask m.tasks c.args.at (λ t. IfSome (op_of m t c.args.command.verb) (λ o. length (key_of o) ≤ 255)))) c.in-None.is c.fault.ensures.short;
     }
 
 pub returns-in_err-perform-in-None-clause-step : goal.returns-in_err-perform-in-None-clause-step
 returns-in_err-perform-in-None-clause-step c =
-    let to = issued_to c.args.self.now c.args.label c.in-Some.at c.get.result.now false c.self.view_is c.in-Some.ensures.task c.get.ensures
+    let to = issued_to c.args.self.now c.args.label c.args.at c.get.result.now false c.self.view_is (found_before c.args.at c.args.label c.self.view_is c.requires.task) c.get.ensures
     (sym c.has_ended.ensures ∙ c.if-has_ended.false) (sym c.is_waiting.ensures.waiting ∙ c.if-is_waiting.false) in
     refused_memory _ _ _ c.from_residual.result _ c.from_residual.ensures
     (wants_memory c.args.self.now.machine c.args.label c.args.command c.get.result.now to.of_label to.goes_on to.waiting
     (sym (c.fault.ensures.fault c.get.result.now to.there) ∙ c.in-None.is) c.in_err-perform-in-None.ensures.growing) c.in_err-perform-in-None.ensures.step
 
-pub returns-in-Some-fault-clause-step : goal.returns-in-Some-fault-clause-step
-returns-in-Some-fault-clause-step c =
+pub returns-in-Some-clause-step : goal.returns-in-Some-clause-step
+returns-in-Some-clause-step c =
     let m = c.args.self.now.machine in
     let t = c.get.result.now in
-    let to = issued_to c.args.self.now c.args.label c.in-Some.at c.get.result.now false c.self.view_is c.in-Some.ensures.task c.get.ensures
+    let to = issued_to c.args.self.now c.args.label c.args.at c.get.result.now false c.self.view_is (found_before c.args.at c.args.label c.self.view_is c.requires.task) c.get.ensures
     (sym c.has_ended.ensures ∙ c.if-has_ended.false) (sym c.is_waiting.ensures.waiting ∙ c.if-is_waiting.false) in
-    issued_told m c.args.label c.args.command c.in-Some.at t (Some c.in-Some-fault.fault) c.answer.result c.answer.new.self.machine to
-    (sym (c.fault.ensures.fault t to.there) ∙ c.in-Some-fault.is) (c.answer.ensures.step.0 t to.there ∙ ap (answered m t c.args.command.resp) c.plain_reply.ensures)
+    issued_told m c.args.label c.args.command c.args.at t (Some c.in-Some.fault) c.answer.result c.answer.new.self.machine to
+    (sym (c.fault.ensures.fault t to.there) ∙ c.in-Some.is) (c.answer.ensures.step.0 t to.there ∙ ap (answered m t c.args.command.resp) c.plain_reply.ensures)
 
 pub returns-in_ok-perform-in-None-clause-step : goal.returns-in_ok-perform-in-None-clause-step
 returns-in_ok-perform-in-None-clause-step c =
     let t = c.get.result.now in
-    let to = issued_to c.args.self.now c.args.label c.in-Some.at c.get.result.now false c.self.view_is c.in-Some.ensures.task c.get.ensures
+    let to = issued_to c.args.self.now c.args.label c.args.at c.get.result.now false c.self.view_is (found_before c.args.at c.args.label c.self.view_is c.requires.task) c.get.ensures
     (sym c.has_ended.ensures ∙ c.if-has_ended.false) (sym c.is_waiting.ensures.waiting ∙ c.if-is_waiting.false) in
-    issued_told c.args.self.now.machine c.args.label c.args.command c.in-Some.at t None c.in_ok-perform-in-None.field-0 c.perform.new.self.machine to
+    issued_told c.args.self.now.machine c.args.label c.args.command c.args.at t None c.in_ok-perform-in-None.field-0 c.perform.new.self.machine to
     (sym (c.fault.ensures.fault t to.there) ∙ c.in-None.is) (c.in_ok-perform-in-None.ensures.step.0 t to.there)

@@ -1,12 +1,22 @@
-use Rattle.std.proofs.Common.{◌∙◌, ap, subst, Ok}
+use Rattle.std.proofs.Common.{◌∙◌, ap, subst, refl, Ok, Err}
 use Rattle.std.specs.Prelude.{◌&&◌, if◌then◌else◌, None}
-use Rattle.cics_dispatch.specs.Steps.{issued}
+use Rattle.cics_dispatch.specs.Steps.{issued_by, issued}
 use Rattle.cics_dispatch.specs.Answers.{may_want}
 use Rattle.cics_dispatch.specs.Shutdown.{IsRegionStep}
 use Rattle.cics_dispatch.proofs.RegionShutdown.{up_step}
+use Rattle.cics_dispatch.specs.declared.outcomes.Refused.TheVariants.{NoTask}
 use Rattle.cics_dispatch.specs.Settled.{goes_on}
 use Rattle.cics_dispatch.proofs.RegionRemembers.{remembered_issued}
 use Rattle.cics_dispatch.proofs.regions.Region.issue.Goals as goal
+
+pub returns-in_default-clause-step : goal.returns-in_default-clause-step
+returns-in_default-clause-step c =
+    let label = c.args.label in
+    let k = c.args.command in
+    let d = c.self.inside.dispatcher in
+    subst (λ v. IsRegionStep (may_want v.machine label k) v (issued v.machine label k) (Err NoTask) v) c.self.view_is
+    (up_step (may_want d.machine label k) d d (issued d.machine label k) (Err NoTask)
+    (ap (λ v. v.machine.is_down) c.self.view_is ∙ c.in_ok-refuse_if_down.ensures.up) (ap (λ o. (issued_by d.machine k o).outcome) c.in_default.ensures.none, refl))
 
 pub returns-clause-step : goal.returns-clause-step
 returns-clause-step c =
@@ -25,7 +35,7 @@ invariant_of-self-2 c =
     let forgot = c.forget-was_blocker in (
       c.in_ok-outcome.ensures.kept c.self.invariant.0,
       remembered_issued u.dispatcher.machine c.issue.new.self.machine c.args.label c.args.command outcome u.notes forgot.new.self u.is_settled u.is_in_time
-          forgot.result c.is_waiting-waits.result c.stays_settled-self-inside.result c.unit_of-unit.result c.giving_up.result c.self.invariant.0.tasks c.self.invariant.1 (λ t there. c.unit_of-unit.ensures t there)
-          c.in_ok-outcome.ensures.step.0 c.in_ok-outcome.ensures.step.1 (c.giving_up.ensures ∙ (λ i. if c.is_keeping-keeps.ensures i && goes_on outcome then None else c.unit_of-unit.result))
+          forgot.result c.is_waiting-waits.result c.stays_settled-self-inside.result c.unit_at-unit.result c.giving_up.result c.self.invariant.0.tasks c.self.invariant.1 (λ t there. c.unit_at-unit.ensures.unit t (c.in-Some.ensures.task ∙ there))
+          c.in_ok-outcome.ensures.step.0 c.in_ok-outcome.ensures.step.1 (c.giving_up.ensures ∙ (λ i. if c.is_keeping-keeps.ensures i && goes_on outcome then None else c.unit_at-unit.result))
           forgot.ensures.rows forgot.ensures.blockers forgot.ensures.none forgot.ensures.resources forgot.ensures.deadlines c.is_waiting-waits.ensures c.stays_settled-self-inside.ensures,
     )
