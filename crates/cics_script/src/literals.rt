@@ -1,7 +1,7 @@
 //! Literals of a line: `'characters'`, with `''` for a quote, and `X'hexadecimal digits'`.
 
 ghost use Rattle.std.specs.Prelude.{◌≡◌, ◌≤◌, true, IfOk, IfSome, length, option_map, take};
-ghost use Rattle.std.specs.List.{prefix_len};
+ghost use Rattle.std.specs.List.{list_all, prefix_len};
 ghost use Rattle.cics_script.specs.Tokens.{is_quote, hex_value, text_in};
 ghost use Rattle.cics_script.specs.Literals.{Begins, is_plain, said, encoded, encoded_text};
 ghost use Rattle.cics_script.specs.Literals.{recorded, IsWrittenAs};
@@ -154,8 +154,20 @@ fn is_plain_byte(byte: u8) -> bool
     PLAIN[usize::from(byte)]
 }
 
-// How many characters in front stand for themselves.
-fn plain_len(bytes: &[u8]) -> usize
+// Whether every character stands for itself. The loop doesn't stop at one that doesn't, so that
+// nothing is decided before all are looked up.
+fn are_plain(bytes: &[u8]) -> bool
+    ensures { result ≡ list_all is_plain bytes.now }
+{
+    let mut all = true;
+    for byte in bytes {
+        all &= is_plain_byte(*byte);
+    }
+    all
+}
+
+// The same as `plain_len`, byte by byte.
+fn short_plain_len(bytes: &[u8]) -> usize
     ensures value { result ≡ prefix_len is_plain bytes.now }
     ensures within { result ≤ length bytes.now }
 {
@@ -163,6 +175,24 @@ fn plain_len(bytes: &[u8]) -> usize
         .iter()
         .take_while(|byte| is_plain_byte(**byte))
         .count()
+}
+
+// How many characters in front stand for themselves.
+fn plain_len(bytes: &[u8]) -> usize
+    ensures value { result ≡ prefix_len is_plain bytes.now }
+    ensures within { result ≤ length bytes.now }
+{
+    let mut passed = 0;
+    let mut rest = bytes;
+    'blocks: loop {
+        match rest.split_first_chunk::<8>() {
+            Some((block, behind)) if are_plain(block) => {
+                passed += 8;
+                rest = behind;
+            }
+            _ => return passed + short_plain_len(rest),
+        }
+    }
 }
 
 // The code of each character, and a blank's for a byte that is none.
