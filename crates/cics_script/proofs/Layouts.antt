@@ -15,7 +15,7 @@ use Rattle.cics_script.specs.declared.literals.Notation.TheVariants.{Quoted, Hex
 use Rattle.cics_script.specs.Tokens.{Token, word, number, literal, opening, closing, broken, is_blank, is_capital, is_letter, is_digit, is_quote, is_word_byte, capital, after_blanks}
 use Rattle.cics_script.specs.Tokens.{value_of, with_byte, characters_from, digit_pairs, hex_value, as_literal, as_number, behind_x, hexadecimal_or, plain_at, word_at, number_at, token_at, tokens_in, tokens}
 use Rattle.cics_script.specs.Lines.{is_script_byte, is_empty_or_comment}
-use Rattle.cics_script.specs.Layout.{quoted, hexadecimal_digit, hexadecimal, token_bytes, is_in_capitals, is_word, IsWritable, AreWritable, laid_out}
+use Rattle.cics_script.specs.Layout.{is_gap, ends, quoted, hexadecimal_digit, hexadecimal, token_bytes, is_in_capitals, is_word, IsWritable, AreWritable, laid_out}
 use Rattle.cics_script.proofs.TokenSteps.{tokens-next, enough, blanks-within}
 
 -- ---- runs of bytes of one kind
@@ -29,15 +29,6 @@ if-true b x y e = rw e refl
 
 pub if-false : {A : Type 0} (b : Bool) (x y : A) → b ≡ false → (if b then x else y) ≡ y
 if-false b x y e = rw e refl
-
--- a byte that is part of no word, number or literal: a blank or a parenthesis
-abbrev is_gap : ℕ → Bool
-is_gap c = (c == 32) || (c == 40) || (c == 41)
-
--- whether these bytes may stand right behind a token: there are none, or the first is part of no token before it
-abbrev pub ends : List ℕ → Bool
-ends [] = true
-ends (c ∷ rest) = is_gap c
 
 -- bytes of one kind, of which no gap is, before the end or a gap
 prefix_len-all : (p : ℕ → Bool) → ((c : ℕ) → is_gap c ≡ true → p c ≡ false) → (run rest : List ℕ) → list_all p run ≡ true → ends rest ≡ true
@@ -249,7 +240,7 @@ tokens-blank bytes =
     ap (λ k. tokens_in (suc (length bytes)) (drop k (32 ∷ bytes))) count
     ∙ enough (suc (length bytes)) (length bytes) (after_blanks bytes) (omega (arith, blanks-within bytes)) (blanks-within bytes)
 
-some-written : (token : Token) → IsWritable token → 0 < length (token_bytes token)
+pub some-written : (token : Token) → IsWritable token → 0 < length (token_bytes token)
 some-written (word []) can = let wrong : false ≡ true = can in cc
 some-written (word (c ∷ letters)) can = omega arith
 some-written (number n) can = (decimal-digits n can).1

@@ -13,6 +13,7 @@ pub mod QueueRows
 pub mod Orders
 pub mod Layouts
 pub mod Written
+pub mod ScriptBytes
 pub mod NamesBack
 pub mod Spelled
 pub mod ReadBack

@@ -20,7 +20,8 @@ use Rattle.cics_script.specs.Lines.{is_script_byte, label_in, statement, line}
 use Rattle.cics_script.specs.Layout.{quoted, hexadecimal, hexadecimal_digit, token_bytes, is_word, IsWritable}
 use Rattle.cics_script.specs.WrittenOut.{in_parentheses, value_text, option_text, queue_text, command_text, asked_of, written_with, written_out}
 use Rattle.cics_script.specs.Spelling.{option_word, command_word, value_tokens, option_tokens, queue_tokens, command_tokens, options_of, CanBeGiven, AllCanBeGiven, go_together}
-use Rattle.cics_script.proofs.Layouts.{ends, both_true, tokens-written, tokens-opening, tokens-blank, script-written, no_comment-word}
+use Rattle.cics_script.specs.Layout.{ends}
+use Rattle.cics_script.proofs.Layouts.{both_true, tokens-written, tokens-opening, tokens-blank, script-written, no_comment-word}
 use Rattle.cics_script.proofs.NamesBack.{character, is_coded, name-coded}
 use Rattle.cics_script.proofs.Written.{is_word-option, is_word-command, line-statement, statement-written}
 use Rattle.cics_script.proofs.Spelled.{Asked, literal_of, name_literal, token_of, options_written, characters-coded, literal-writable, flag-given, spelling, spelled-options}

@@ -1,5 +1,5 @@
 -- How the tokens of a line can be written: one behind another, with a blank behind each.
-use Rattle.std.specs.Prelude.{◌<◌, ◌+◌, ◌/◌, ◌%◌, ◌^◌, ◌==◌, ◌&&◌, ◌||◌, ℕ, Bool, false, IsTrue, nat_lt, if◌then◌else◌, List, [], ◌∷◌, ◌++◌, is_some}
+use Rattle.std.specs.Prelude.{◌<◌, ◌+◌, ◌/◌, ◌%◌, ◌^◌, ◌==◌, ◌&&◌, ◌||◌, ℕ, Bool, true, false, IsTrue, nat_lt, if◌then◌else◌, List, [], ◌∷◌, ◌++◌, is_some}
 use Rattle.std.specs.List.{list_all}
 use Rattle.std.specs.Fmt.{decimal}
 use Rattle.cics_names.specs.Ebcdic.{code_of}
@@ -33,6 +33,15 @@ token_bytes (broken fault) = []
 -- what a word in capitals has behind its first letter
 abbrev pub is_in_capitals : ℕ → Bool
 is_in_capitals c = is_capital c || is_digit c || (c == 45)
+
+-- a byte that is part of no word, number or literal: a blank or a parenthesis
+abbrev pub is_gap : ℕ → Bool
+is_gap c = (c == 32) || (c == 40) || (c == 41)
+
+-- whether these bytes may stand right behind a token: there are none, or the first is part of no token before it
+abbrev pub ends : List ℕ → Bool
+ends [] = true
+ends (c ∷ rest) = is_gap c
 
 -- a word in capitals
 abbrev pub is_word : List ℕ → Bool

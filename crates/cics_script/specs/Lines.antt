@@ -143,6 +143,10 @@ issued label command =
     options (form.Command command.0) command.1 >>= λ entries. verb_in command.0 entries >>= λ made.
     Ok (line_of.Issue label (record { verb = made; resp = is_handled entries }))
 
+-- the verb in front, where one has to stand
+abbrev pub verb_first : List Token → Result (CommandWord × List Token) LineFault
+verb_first rest = word_first rest >>= λ first. known (lookup first.0 commands) >>= λ verb. Ok (verb, first.1)
+
 -- a command of the task with this label, from its verb on
 abbrev pub command_line : List ℕ → List Token → Result Line LineFault
 command_line label rest =

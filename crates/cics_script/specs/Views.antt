@@ -12,12 +12,14 @@ use Rattle.cics_script.specs.declared.options.Value.{Value}
 use Rattle.cics_script.specs.declared.options.Value.TheVariants as value
 use Rattle.cics_script.specs.declared.options.Found.{Found}
 use Rattle.cics_script.specs.declared.options.Next.{Next}
+use Rattle.cics_script.specs.declared.words.CommandWord.{CommandWord}
 use Rattle.cics_script.specs.declared.words.Form.{Form}
 use Rattle.cics_script.specs.declared.words.OptionWord.{OptionWord}
 use Rattle.cics_script.specs.declared.words.Kind.{Kind}
 use Rattle.cics_script.specs.Faults.{Refuses}
 use Rattle.cics_script.specs.Literals.{said, recorded}
 use Rattle.cics_script.specs.Tokens.{Token, word, number, literal, opening, closing, broken, capital, text_in, tokens}
+use Rattle.cics_script.specs.Words.{lookup}
 use Rattle.cics_script.specs.Options.{Content, text, name8, name4, amount, nothing, Entry, Place, at_option, at_opening, at_value, at_closing, at_end, behind_option, reads}
 
 -- a token that lies in its line
@@ -39,10 +41,23 @@ Takes bytes (Ok None) = tokens bytes ≡ []
 Takes bytes (Ok (Some found)) = (tokens bytes ≡ view found.0 ∷ tokens found.1.now) × (length found.1.now < length bytes)
 Takes bytes (Err fault) = tokens bytes ≡ broken fault ∷ []
 
+-- bytes that begin with this word, and those behind it
+abbrev pub StartsWith : List ℕ → List ℕ → List ℕ → Type 0
+StartsWith w bytes rest = (tokens bytes ≡ word w ∷ tokens rest) × (length rest < length bytes)
+
+-- bytes that begin with a word for which a table has this, and those behind it
+abbrev pub IsNamed : {X : Type 0} → List (List ℕ × X) → X → List ℕ → List ℕ → Type 0
+IsNamed rows x bytes rest = (w : List ℕ) × (lookup w rows ≡ Some x) × StartsWith w bytes rest
+
 -- what reading a word and what follows it gave
 abbrev pub GivesWord : Result (List ℕ × List Token) LineFault → Result (Bor (List ℕ) × Bor (List ℕ)) LineFault → Type 0
 GivesWord read (Ok found) = read ≡ Ok (map capital found.0.now, tokens found.1.now)
 GivesWord read (Err fault) = read ≡ Err fault
+
+-- what reading a verb and what follows it gave
+abbrev pub GivesVerb : Result (CommandWord × List Token) LineFault → Result (CommandWord × Bor (List ℕ)) LineFault → Type 0
+GivesVerb read (Ok found) = read ≡ Ok (found.0, tokens found.1.now)
+GivesVerb read (Err fault) = read ≡ Err fault
 
 -- what reading a number and what follows it gave
 abbrev pub GivesNumber : Result (ℕ × List Token) LineFault → Result (ℕ × Bor (List ℕ)) LineFault → Type 0

@@ -1,26 +1,31 @@
 //! The lines of a script.
 
-ghost use Rattle.std.specs.Prelude.{◌≡◌, ◌≤◌, ◌||◌, ◌++◌, Ok, true, length, map, take, drop};
+ghost use Rattle.std.specs.Prelude.{◌≡◌, ◌≤◌, ◌-◌, ◌||◌, Ok, Some, IfSome, true};
+ghost use Rattle.std.specs.Prelude.{length, map, take, drop};
 ghost use Rattle.std.specs.List.{list_all};
 ghost use lib.Chars.{codes};
 ghost use Rattle.cics_script.specs.Faults.{◌>>=◌ as ◌and_next◌, Reads};
 ghost use Rattle.cics_script.specs.Tokens.{capital, tokens, after_blanks, is_capital, is_digit};
-ghost use Rattle.cics_script.specs.Views.{entries, GivesWord, GivesNumber, GivesRest};
+ghost use Rattle.cics_script.specs.Layout.{is_word};
+ghost use Rattle.cics_script.specs.Words.{lookup, commands, queue_words};
+ghost use Rattle.cics_script.specs.Views.{entries, GivesWord, GivesVerb, GivesNumber, GivesRest};
+ghost use Rattle.cics_script.specs.Views.{IsNamed};
 ghost use Rattle.cics_script.specs.Lines.{recovery_in, queue_recovery_in, definition_in};
 ghost use Rattle.cics_script.specs.Lines.{load_in, attach_in};
 ghost use Rattle.cics_script.specs.Lines.{word_first, behind, label_in, define, load, attach};
-ghost use Rattle.cics_script.specs.Lines.{number_first, clock, shutdown, command_at, issued};
+ghost use Rattle.cics_script.specs.Lines.{verb_first, number_first, clock, shutdown, command_at, issued};
 ghost use Rattle.cics_script.specs.Lines.{command_line, issue, statement};
 ghost use Rattle.cics_script.specs.Lines.{is_script_byte, is_empty_or_comment, line};
 
 use crate::commands::{is_handled, verb_of};
 use crate::faults::LineFault;
 use crate::options::{Found, Options, has_option, read_options};
-use crate::tokens::{Token, next_token, next_word, skip_blanks};
+use crate::tokens::{Token, begins_with, behind_word, next_token, next_word, skip_blanks};
 use crate::values::{name4_of, name8_of, number_of, text_of};
 use crate::words::{
     CommandWord, DefineObject, Form, LoadObject, OptionWord, Start, capital_of, command_named,
-    define_object, is_of_queue, is_spelled, load_object, queue_command, start_of,
+    define_object, is_of_queue, is_spelled, load_object, queue_command, start_of, td_command,
+    ts_command,
 };
 use cics_ksds::FileDef;
 use cics_names::{Command, Name4, Name8, Record};
@@ -363,6 +368,21 @@ fn placed_queue_command(verb: CommandWord, bytes: &[u8]) -> (CommandWord, &[u8])
     }
 }
 
+// The command that a verb and TS or TD are, where the line begins with one of these words in
+// capitals, and the line behind it. `None` says nothing of the line.
+fn common_queue_command(verb: CommandWord, bytes: &[u8]) -> Option<(CommandWord, &[u8])>
+    ensures { IfSome result (λ found. IsNamed (queue_words verb) found.0 bytes.entry.now
+        found.1.now) }
+{
+    if let Some(rest) = behind_word(bytes, b"TS") {
+        return Some((ts_command(verb)?, rest));
+    }
+    if let Some(rest) = behind_word(bytes, b"TD") {
+        return Some((td_command(verb)?, rest));
+    }
+    None
+}
+
 // The command that a verb and the word right behind it are, and the line behind them.
 fn placed_command(verb: CommandWord, bytes: &[u8]) -> (CommandWord, &[u8])
     ensures { command_at verb (tokens bytes.now) ≡ (result.0, tokens result.1.now) }
@@ -370,11 +390,11 @@ fn placed_command(verb: CommandWord, bytes: &[u8]) -> (CommandWord, &[u8])
     if !is_of_queue(verb) {
         return (verb, bytes);
     }
-    if let Some((word, rest)) = next_word(bytes) {
-        return match queue_command(verb, word) {
-            Some(command) => (command, rest),
-            None => (verb, bytes),
-        };
+    // Most lines have one blank and such a word behind the verb.
+    if let Some((b' ', front)) = bytes.split_first() {
+        if let Some(placed) = common_queue_command(verb, front) {
+            return placed;
+        }
     }
     placed_queue_command(verb, bytes)
 }
@@ -401,16 +421,103 @@ fn read_issued(
     }
 }
 
+// The verb that these capitals are, where the line begins with them, and the line behind it.
+fn verb_spelled<'a>(
+    bytes: &'a [u8],
+    capitals: &[u8],
+    verb: CommandWord,
+) -> Option<(CommandWord, &'a [u8])>
+    requires capitals { is_word capitals.now ≡ true }
+    requires named { lookup capitals.now commands ≡ Some verb }
+    ensures { IfSome result (λ found. IsNamed commands found.0 bytes.entry.now found.1.now) }
+{
+    let rest = behind_word(bytes, capitals)?;
+    Some((verb, rest))
+}
+
+// One of these two verbs, where the line begins with it in capitals, and the line behind it.
+fn either_verb<'a>(
+    bytes: &'a [u8],
+    first: (&[u8], CommandWord),
+    second: (&[u8], CommandWord),
+) -> Option<(CommandWord, &'a [u8])>
+    requires first { is_word first.0.now ≡ true }
+    requires named_first { lookup first.0.now commands ≡ Some first.1 }
+    requires second { is_word second.0.now ≡ true }
+    requires named_second { lookup second.0.now commands ≡ Some second.1 }
+    ensures { IfSome result (λ found. IsNamed commands found.0 bytes.entry.now found.1.now) }
+{
+    match verb_spelled(bytes, first.0, first.1) {
+        Some(found) => Some(found),
+        None => verb_spelled(bytes, second.0, second.1),
+    }
+}
+
+// The verb with which the line begins, where it is one that many lines have and is written in
+// capitals, and the line behind it. `None` says nothing of the line.
+fn common_verb(bytes: &[u8]) -> Option<(CommandWord, &[u8])>
+    ensures { IfSome result (λ found. IsNamed commands found.0 bytes.entry.now found.1.now) }
+{
+    match bytes.first()? {
+        b'R' => match either_verb(
+            bytes,
+            (b"READ", CommandWord::Read),
+            (b"READQ", CommandWord::ReadqTs),
+        ) {
+            Some(found) => Some(found),
+            None => either_verb(
+                bytes,
+                (b"REWRITE", CommandWord::Rewrite),
+                (b"READNEXT", CommandWord::ReadNext),
+            ),
+        },
+        b'W' => either_verb(
+            bytes,
+            (b"WRITE", CommandWord::Write),
+            (b"WRITEQ", CommandWord::WriteqTs),
+        ),
+        b'E' => verb_spelled(bytes, b"ENQ", CommandWord::Enq),
+        b'D' => either_verb(
+            bytes,
+            (b"DEQ", CommandWord::Deq),
+            (b"DELETE", CommandWord::Delete),
+        ),
+        b'S' => verb_spelled(bytes, b"SYNCPOINT", CommandWord::Syncpoint),
+        _ => None,
+    }
+}
+
+// The verb that is the next token, and the line behind it.
+#[inline(never)]
+fn find_verb(bytes: &[u8]) -> Result<(CommandWord, &[u8]), LineFault>
+    ensures { GivesVerb (verb_first (tokens bytes.now)) result }
+{
+    match first_word(bytes) {
+        Ok((word, rest)) => match command_named(word) {
+            Some(verb) => Ok((verb, rest)),
+            None => Err(LineFault::UnknownWord),
+        },
+        Err(fault) => Err(fault),
+    }
+}
+
+// The verb in front, and the line behind it.
+fn first_verb(bytes: &[u8]) -> Result<(CommandWord, &[u8]), LineFault>
+    ensures { GivesVerb (verb_first (tokens bytes.now)) result }
+{
+    if let Some(found) = common_verb(bytes) {
+        return Ok(found);
+    }
+    find_verb(bytes)
+}
+
 // A command behind EXEC CICS.
 fn read_command(alloc: Global, label: Name8, bytes: &[u8]) -> Result<Line, LineFault>
     ensures { Reads (command_line label (tokens bytes.now)) result }
 {
-    let (word, rest) = match first_word(bytes) {
+    let (verb, rest) = match first_verb(bytes) {
         Ok(first) => first,
         Err(fault) => return Err(fault),
-    };
-    let Some(verb) = command_named(word) else {
-        return Err(LineFault::UnknownWord);
     };
     let (command, behind) = placed_command(verb, rest);
     read_issued(alloc, label, command, behind)
@@ -426,22 +533,6 @@ fn skip_both_words(bytes: &[u8]) -> Result<&[u8], LineFault>
         Ok(rest) => skip_word(rest, b"CICS"),
         Err(fault) => Err(fault),
     }
-}
-
-// Whether a line begins with a text. Where the text is known, no byte of it is read.
-fn begins_with(bytes: &[u8], text: &[u8]) -> bool
-    ensures { result ≡ true →
-        bytes.now ≡ text.now ++ drop (length text.now) bytes.now }
-{
-    if bytes.len() < text.len() {
-        return false;
-    }
-    for (i, byte) in text.iter().enumerate() {
-        if bytes[i] != *byte {
-            return false;
-        }
-    }
-    true
 }
 
 // The line behind EXEC and CICS.
@@ -493,7 +584,11 @@ fn is_in_script(byte: u8) -> bool
     byte == b'\t' || (b' '..=b'~').contains(&byte)
 }
 
-fn are_in_script(bytes: &[u8]) -> bool
+// How many bytes are tested at once.
+const BLOCK: usize = 16;
+
+// The same as `are_in_script`, byte by byte.
+fn few_are_in_script(bytes: &[u8]) -> bool
     ensures { result ≡ list_all is_script_byte bytes.now }
 {
     // Each byte is tested, also behind one that is none: without an early end many are tested at
@@ -503,6 +598,37 @@ fn are_in_script(bytes: &[u8]) -> bool
         all &= is_in_script(*byte);
     }
     all
+}
+
+// Whether a line has no other bytes than a script may have, where the last of its bytes, a block of
+// them, have none.
+fn blocks_are_in_script(bytes: &[u8]) -> bool
+    requires last { list_all is_script_byte (drop (length bytes.now - 16) bytes.now) ≡ true }
+    ensures { result ≡ list_all is_script_byte bytes.now }
+{
+    let mut rest = bytes;
+    'blocks: loop {
+        match rest.split_first_chunk::<BLOCK>() {
+            Some((block, behind)) => {
+                if !few_are_in_script(block) {
+                    return false;
+                }
+                rest = behind;
+            }
+            None => return true,
+        }
+    }
+}
+
+fn are_in_script(bytes: &[u8]) -> bool
+    ensures { result ≡ list_all is_script_byte bytes.now }
+{
+    // The last block is tested first, and then the others from the line's begin on: so none has
+    // less bytes, which would be tested one by one, and those of the last one may be tested twice.
+    match bytes.last_chunk::<BLOCK>() {
+        Some(last) => few_are_in_script(last) && blocks_are_in_script(bytes),
+        None => few_are_in_script(bytes),
+    }
 }
 
 fn is_blank_line(bytes: &[u8]) -> bool

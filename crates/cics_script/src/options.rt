@@ -1,19 +1,21 @@
 //! Reads the options of a line.
 
-ghost use Rattle.std.specs.Prelude.{◌≡◌, ◌<◌, List, [], ◌∷◌, ◌++◌, Option, None, Ok, Err, IfSome};
-ghost use Rattle.std.specs.Prelude.{IfOk, IfErr, map, length};
+ghost use Rattle.std.specs.Prelude.{◌≡◌, ◌<◌, ◌≤◌, ℕ, true, List, [], ◌∷◌, ◌++◌};
+ghost use Rattle.std.specs.Prelude.{Option, Some, None, Ok, Err, IfSome};
+ghost use Rattle.std.specs.Prelude.{IfOk, IfErr, length};
 ghost use Rattle.std.specs.Result.{result_map_both};
 ghost use Rattle.std.specs.List.{list_any};
-ghost use Rattle.cics_script.specs.Words.{same, excludes, kind_in};
-ghost use Rattle.cics_script.specs.Tokens.{tokens, word, capital};
+ghost use Rattle.cics_script.specs.Words.{lookup, option_words, same, excludes, kind_in};
+ghost use Rattle.cics_script.specs.Layout.{is_word};
+ghost use Rattle.cics_script.specs.Tokens.{tokens};
 ghost use Rattle.cics_script.specs.Options.{fault_of, quoted, content_in, surplus, allowed};
 ghost use Rattle.cics_script.specs.Options.{Content, Entry, reads, at_option, options};
 ghost use Rattle.cics_script.specs.Views.{view, entries, GivesText, GivesName, GivesContent, PutsContent, GivesEntries};
-ghost use Rattle.cics_script.specs.Views.{Opens, Fills, Shuts, HasValue, Enters, Ends};
+ghost use Rattle.cics_script.specs.Views.{Opens, Fills, Shuts, HasValue, Enters, Ends, IsNamed};
 
 use crate::faults::LineFault;
 use crate::literals::{Encoding, Literal, Notation};
-use crate::tokens::{Token, next_quoted, next_token, next_word};
+use crate::tokens::{Token, behind_word, next_quoted, next_token, next_word};
 use crate::words::{
     Form, Kind, OptionWord, is_excluded, is_exclusive, is_same, kind_of, option_named,
 };
@@ -369,27 +371,24 @@ fn allowed_kind(form: Form, found: &[Found<'_>], option: OptionWord) -> Result<K
     Ok(kind)
 }
 
-// Puts the option of a word, with its value, behind those that were read.
+// Puts an option, with its value, behind those that were read.
 fn read_option<'a>(
     alloc: Global,
     form: Form,
     found: &mut Options<'a>,
-    word: &[u8],
+    option: OptionWord,
     bytes: &'a [u8],
 ) -> Result<Next<'a>, LineFault>
-    requires { (option : OptionWord) (kind : Kind) →
+    requires { (kind : Kind) →
         allowed (entries found.old.items) option (kind_in form option) ≡ Ok kind →
         length found.old.items < 13 }
-    ensures allowed { IfOk result (λ next. (option : OptionWord) × (content : Content)
+    ensures allowed { IfOk result (λ next. (content : Content)
         × (entries found.new.items ≡ entries found.old.items ++ (option, content) ∷ [])
         × (allowed (entries found.old.items) option (kind_in form option) ≡ Ok next.kind)) }
-    ensures reading { (last : Option Kind) →
+    ensures reading { (last : Option Kind) (w : List ℕ) → lookup w option_words ≡ Some option →
         Enters form last (entries found.old.items) (entries found.new.items)
-        (map capital word.now) bytes.entry.now result }
+        w bytes.entry.now result }
 {
-    let Some(option) = option_named(word) else {
-        return Err(LineFault::UnknownWord);
-    };
     let kind = match allowed_kind(form, found, option) {
         Ok(kind) => kind,
         Err(fault) => return Err(fault),
@@ -420,21 +419,88 @@ fn read_end(bytes: &[u8]) -> Result<(), LineFault>
     }
 }
 
-// The word of the option that is the next token and the line behind it, or nothing at the line's end.
+// The option that these capitals are, where the line begins with them, and the line behind it.
+fn option_spelled<'a>(
+    bytes: &'a [u8],
+    capitals: &[u8],
+    option: OptionWord,
+) -> Option<(OptionWord, &'a [u8])>
+    requires capitals { is_word capitals.now ≡ true }
+    requires named { lookup capitals.now option_words ≡ Some option }
+    ensures { IfSome result (λ found. IsNamed option_words found.0 bytes.entry.now found.1.now) }
+{
+    let rest = behind_word(bytes, capitals)?;
+    Some((option, rest))
+}
+
+// One of these two options, where the line begins with it in capitals, and the line behind it.
+fn either_option<'a>(
+    bytes: &'a [u8],
+    first: (&[u8], OptionWord),
+    second: (&[u8], OptionWord),
+) -> Option<(OptionWord, &'a [u8])>
+    requires first { is_word first.0.now ≡ true }
+    requires named_first { lookup first.0.now option_words ≡ Some first.1 }
+    requires second { is_word second.0.now ≡ true }
+    requires named_second { lookup second.0.now option_words ≡ Some second.1 }
+    ensures { IfSome result (λ found. IsNamed option_words found.0 bytes.entry.now found.1.now) }
+{
+    match option_spelled(bytes, first.0, first.1) {
+        Some(found) => Some(found),
+        None => option_spelled(bytes, second.0, second.1),
+    }
+}
+
+// The option with which the line begins, where it is one that many lines have and is written in
+// capitals, and the line behind its word. `None` says nothing of the line.
+fn common_option(bytes: &[u8]) -> Option<(OptionWord, &[u8])>
+    ensures { IfSome result (λ found. IsNamed option_words found.0 bytes.entry.now found.1.now) }
+{
+    match bytes.first()? {
+        b'F' => either_option(
+            bytes,
+            (b"FILE", OptionWord::File),
+            (b"FROM", OptionWord::From),
+        ),
+        b'I' => either_option(
+            bytes,
+            (b"ITEM", OptionWord::Item),
+            (b"INTO", OptionWord::Into),
+        ),
+        b'L' => option_spelled(bytes, b"LENGTH", OptionWord::Length),
+        b'N' => option_spelled(bytes, b"NOSUSPEND", OptionWord::NoSuspend),
+        b'Q' => option_spelled(bytes, b"QUEUE", OptionWord::Queue),
+        b'R' => match either_option(
+            bytes,
+            (b"RIDFLD", OptionWord::Ridfld),
+            (b"RESOURCE", OptionWord::Resource),
+        ) {
+            Some(found) => Some(found),
+            None => option_spelled(bytes, b"RESP", OptionWord::Resp),
+        },
+        b'U' => option_spelled(bytes, b"UPDATE", OptionWord::Update),
+        _ => None,
+    }
+}
+
+// The option of the word that is the next token and the line behind it, or nothing at the line's
+// end.
 #[inline(never)]
-fn find_option_word(last: Option<Kind>, bytes: &[u8]) -> Result<Option<(&[u8], &[u8])>, LineFault>
+fn find_option(last: Option<Kind>, bytes: &[u8]) -> Result<Option<(OptionWord, &[u8])>, LineFault>
     ensures none { IfOk result (λ found.
         found ≡ None → tokens bytes.now ≡ []) }
     ensures some { IfOk result (λ found. IfSome found (λ next.
-        (tokens bytes.now ≡ word (map capital next.0.now) ∷ tokens next.1.now)
-        × (length next.1.now < length bytes.now))) }
+        IsNamed option_words next.0 bytes.now next.1.now)) }
     ensures fault { IfErr result (λ fault. (form : Form) (found : List Entry) →
         reads form (at_option last) found (tokens bytes.now) ≡ Err fault) }
 {
     match next_token(bytes) {
         Ok(None) => Ok(None),
         Ok(Some((token, rest))) => match token {
-            Token::Word(word) => Ok(Some((word, rest))),
+            Token::Word(word) => match option_named(word) {
+                Some(option) => Ok(Some((option, rest))),
+                None => Err(LineFault::UnknownWord),
+            },
             Token::Opening | Token::Closing => Err(surplus_fault(last)),
             Token::Number(_) | Token::Literal(_) => Err(LineFault::UnknownWord),
         },
@@ -442,28 +508,38 @@ fn find_option_word(last: Option<Kind>, bytes: &[u8]) -> Result<Option<(&[u8], &
     }
 }
 
-// The word of the option that stands next and the line behind it, or nothing at the line's end.
-fn option_word(last: Option<Kind>, bytes: &[u8]) -> Result<Option<(&[u8], &[u8])>, LineFault>
+// The line behind the blank with which it begins, or all of it where it begins with none.
+fn skip_one_blank(bytes: &[u8]) -> &[u8]
+    ensures tokens { tokens result.now ≡ tokens bytes.now }
+    ensures within { length result.now ≤ length bytes.now }
+{
+    match bytes.split_first() {
+        Some((b' ', rest)) => rest,
+        _ => bytes,
+    }
+}
+
+// The option of the word that stands next and the line behind it, or nothing at the line's end.
+fn next_option(last: Option<Kind>, bytes: &[u8]) -> Result<Option<(OptionWord, &[u8])>, LineFault>
     ensures none { IfOk result (λ found.
         found ≡ None → tokens bytes.entry.now ≡ []) }
     ensures some { IfOk result (λ found. IfSome found (λ next.
-        (tokens bytes.entry.now ≡ word (map capital next.0.now) ∷ tokens next.1.now)
-        × (length next.1.now < length bytes.entry.now))) }
+        IsNamed option_words next.0 bytes.entry.now next.1.now)) }
     ensures fault { IfErr result (λ fault. (form : Form) (found : List Entry) →
         reads form (at_option last) found (tokens bytes.entry.now) ≡ Err fault) }
 {
-    // Here stands a word, unless the line ends or has a fault.
-    if let Some(found) = next_word(bytes) {
-        return Ok(Some(found));
-    }
     if bytes.is_empty() {
         return Ok(None);
     }
-    find_option_word(last, bytes)
+    // Most lines have one blank before each option and behind none.
+    if let Some(found) = common_option(skip_one_blank(bytes)) {
+        return Ok(Some(found));
+    }
+    find_option(last, bytes)
 }
 
-/// Reads the options of a line behind its fixed part into `found`, which has none yet; at a fault it
-/// has those that were read before. They are no result, which would be moved with all its places.
+/// Reads the options of a line behind its fixed part into `found`, which has none yet. At a fault
+/// nothing is said of what it has then. They are no result, which would be moved with all its places.
 pub fn read_options<'a>(
     alloc: Global,
     form: Form,
@@ -477,12 +553,12 @@ pub fn read_options<'a>(
     let mut last = None;
     let mut rest = bytes;
     'options: loop {
-        let (word, behind) = match option_word(last, rest) {
+        let (option, behind) = match next_option(last, rest) {
             Ok(Some(next)) => next,
             Ok(None) => return Ok(()),
             Err(fault) => return Err(fault),
         };
-        match read_option(alloc, form, found, word, behind) {
+        match read_option(alloc, form, found, option, behind) {
             Ok(next) => match next.kind {
                 Kind::Last => return read_end(next.rest),
                 kind => {

@@ -1,12 +1,13 @@
 //! The tokens of a line: words, numbers, literals and parentheses.
 
 ghost use Rattle.std.specs.Prelude.{◌≡◌, ◌==◌, ◌+◌, ◌-◌, ◌*◌, ◌<◌, ◌≤◌, ◌^◌, Option, Some, None};
-ghost use Rattle.std.specs.Prelude.{Ok, IfSome, length, nat_lt, if◌then◌else◌, option_map};
+ghost use Rattle.std.specs.Prelude.{Ok, IfSome, true, ◌++◌, drop, length, nat_lt, if◌then◌else◌, option_map};
 ghost use Rattle.std.specs.List.{prefix_len};
 ghost use Rattle.cics_script.specs.Tokens.{is_blank, is_digit, is_letter, is_word_byte};
 ghost use Rattle.cics_script.specs.Tokens.{after_blanks, value_of, text_in, token_at, number_at};
 ghost use Rattle.cics_script.specs.Tokens.{word_at, as_literal, behind_x};
-ghost use Rattle.cics_script.specs.Views.{GivesToken, Takes};
+ghost use Rattle.cics_script.specs.Layout.{is_gap, ends, is_word};
+ghost use Rattle.cics_script.specs.Views.{GivesToken, StartsWith, Takes};
 
 use crate::faults::LineFault;
 use crate::literals::{Literal, Notation, is_quote_byte, literal_at};
@@ -188,6 +189,53 @@ fn read_token(bytes: &[u8]) -> Result<(Token<'_>, &[u8]), LineFault>
         b')' => Ok((Token::Closing, rest)),
         _ => Err(LineFault::UnknownWord),
     }
+}
+
+/// Whether a line begins with a text. Where the text is known, its bytes stand in the instructions
+/// that compare them, and no loop goes over it.
+pub fn begins_with(bytes: &[u8], text: &[u8]) -> bool
+    ensures { result ≡ true →
+        bytes.now ≡ text.now ++ drop (length text.now) bytes.now }
+{
+    if bytes.len() < text.len() {
+        return false;
+    }
+    for (i, byte) in text.iter().enumerate() {
+        if bytes[i] != *byte {
+            return false;
+        }
+    }
+    true
+}
+
+fn is_gap_byte(byte: u8) -> bool
+    ensures { result ≡ is_gap byte }
+{
+    byte == b' ' || byte == b'(' || byte == b')'
+}
+
+// Whether a line begins with what may stand right behind a token: it ends there, or a blank or a
+// parenthesis follows.
+fn is_ended(bytes: &[u8]) -> bool
+    ensures { result ≡ ends bytes.now }
+{
+    match bytes.split_first() {
+        None => true,
+        Some((first, _)) => is_gap_byte(*first),
+    }
+}
+
+/// The line behind a word in capitals, where it begins with it and the word ends there. `None` says
+/// nothing of the line: the word may be written otherwise.
+pub fn behind_word<'a>(bytes: &'a [u8], capitals: &[u8]) -> Option<&'a [u8]>
+    requires { is_word capitals.now ≡ true }
+    ensures { IfSome result (λ rest. StartsWith capitals.now bytes.entry.now rest.now) }
+{
+    if !begins_with(bytes, capitals) {
+        return None;
+    }
+    let rest = bytes.split_at(capitals.len()).1;
+    if is_ended(rest) { Some(rest) } else { None }
 }
 
 /// The next token and the line behind it where it is a word whose first letter is no X, which may

@@ -9,6 +9,7 @@ ghost use Rattle.cics_script.specs.Words.{lookup, starts, define_objects, load_o
 ghost use Rattle.cics_script.specs.Words.{commands, queue_words};
 ghost use Rattle.cics_script.specs.Words.{option_words, same, kind_among, kind_in};
 ghost use Rattle.cics_script.specs.Words.{options_of_command, exclusions, is_pair_in, excludes};
+ghost use lib.Chars.{codes};
 
 /// What the first word of a line makes of it, where the word is no label.
 #[derive(Clone, Copy, Debug, PartialEq, Eq)]
@@ -572,6 +573,28 @@ pub fn queue_command(verb: CommandWord, word: &[u8]) -> Option<CommandWord>
         CommandWord::WriteqTs => find_row(&WRITEQ_WORDS, word),
         CommandWord::ReadqTs => find_row(&READQ_WORDS, word),
         CommandWord::DeleteqTs => find_row(&DELETEQ_WORDS, word),
+        _ => None,
+    }
+}
+
+/// What a verb is with TS right behind it, where that may stand there.
+pub fn ts_command(verb: CommandWord) -> Option<CommandWord>
+    ensures { result ≡ lookup (codes "TS") (queue_words verb) }
+{
+    match verb {
+        CommandWord::WriteqTs | CommandWord::ReadqTs | CommandWord::DeleteqTs => Some(verb),
+        _ => None,
+    }
+}
+
+/// What a verb is with TD right behind it, where that may stand there.
+pub fn td_command(verb: CommandWord) -> Option<CommandWord>
+    ensures { result ≡ lookup (codes "TD") (queue_words verb) }
+{
+    match verb {
+        CommandWord::WriteqTs => Some(CommandWord::WriteqTd),
+        CommandWord::ReadqTs => Some(CommandWord::ReadqTd),
+        CommandWord::DeleteqTs => Some(CommandWord::DeleteqTd),
         _ => None,
     }
 }

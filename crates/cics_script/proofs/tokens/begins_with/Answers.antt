@@ -1,6 +1,6 @@
 use Rattle.std.proofs.Common.{◌≡◌, ◌++◌, take, drop, length, arith, ap, sym, ◌∙◌, take-append-drop}
 use Rattle.std.proofs.lemmas.List.{take_all}
-use Rattle.cics_script.proofs.lines.begins_with.Goals as goal
+use Rattle.cics_script.proofs.tokens.begins_with.Goals as goal
 
 pub returns : goal.returns
 returns c =
