@@ -539,7 +539,8 @@ fn next_option(last: Option<Kind>, bytes: &[u8]) -> Result<Option<(OptionWord, &
 }
 
 /// Reads the options of a line behind its fixed part into `found`, which has none yet. At a fault
-/// nothing is said of what it has then. They are no result, which would be moved with all its places.
+/// nothing is said of what it has then. They are no result, which would be moved with all its
+/// places.
 pub fn read_options<'a>(
     alloc: Global,
     form: Form,

@@ -1,4 +1,4 @@
-use Rattle.std.proofs.Common.{◌≡◌, ap, sym, ◌∙◌, ◌-◌, false, length}
+use Rattle.std.proofs.Common.{ap, sym, ◌∙◌, ◌-◌, length}
 use Rattle.std.specs.List.{list_all}
 use Rattle.cics_script.specs.Lines.{is_script_byte}
 use Rattle.cics_script.proofs.ScriptBytes.{list_all-some}

@@ -1,4 +1,4 @@
-use Rattle.std.proofs.Common.{◌≡◌, ◌+◌, ◌&&◌, ◌≤◌, ◌-◌, true, drop, length, arith, ap, sym, ◌∙◌, subst}
+use Rattle.std.proofs.Common.{◌≡◌, ◌&&◌, ◌-◌, true, drop, length, arith, ap, sym, ◌∙◌}
 use Rattle.std.specs.List.{list_all}
 use Rattle.cics_script.specs.Lines.{is_script_byte}
 use Rattle.cics_script.proofs.ScriptBytes.{list_all-parts, list_all-end, end-further}
