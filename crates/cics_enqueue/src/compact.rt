@@ -1,12 +1,17 @@
 //! Resources as the bytes that a table keeps.
 
 ghost use Rattle.std.specs.Prelude.{◌≡◌, ◌≤◌, ◌+◌, ◌∷◌, ◌++◌, [], length};
+ghost use Rattle.std.specs.Option.{option_copied};
+ghost use Rattle.std.specs.Map.{lookup};
+ghost use Rattle.cics_enqueue.specs.Kept.{finds};
 ghost use Rattle.cics_enqueue.specs.Resources.{resource_key};
 
 use crate::borrowed::{Kind, ResourceRef};
+use crate::enqueues::Holding;
 use crate::resources::Resource;
 use arrayvec::ArrayVec;
-use cics_names::Name8;
+use cics_names::{Name4, Name8};
+use std::collections::BTreeMap;
 
 // Two bytes, a name of eight and a key of 255.
 pub(crate) const MOST: usize = 265;
@@ -15,6 +20,15 @@ pub(crate) const MOST: usize = 265;
 pub(crate) const PREFIX: u8 = 0;
 
 pub(crate) const KEY: u8 = 1;
+
+// What those of a temporary storage queue begin with, of the two ends of a transient data queue, and of a user's value.
+const TS_QUEUE: u8 = 2;
+
+const TD_READ: u8 = 3;
+
+const TD_WRITE: u8 = 4;
+
+const VALUE: u8 = 5;
 
 // Puts bytes at the end of a key that has room for them.
 //
@@ -52,6 +66,40 @@ pub(crate) fn file_bytes(kind: u8, file: Name8, bytes: &[u8]) -> ArrayVec<u8, MO
     key
 }
 
+// A temporary storage queue as bytes.
+fn ts_bytes(queue: &Name8) -> [u8; 9]
+    ensures { result ≡ 2 ∷ queue.now }
+{
+    let mut bytes = [TS_QUEUE; 9];
+    bytes[1..].copy_from_slice(&queue.bytes());
+    bytes
+}
+
+// An end of a transient data queue, of this kind, as bytes.
+fn td_bytes(kind: u8, queue: &Name4) -> [u8; 5]
+    ensures { result ≡ kind ∷ queue.now }
+{
+    let mut bytes = [kind; 5];
+    bytes[1..].copy_from_slice(&queue.bytes());
+    bytes
+}
+
+// What is kept under a resource. A queue, which a command looks up more than once, is looked up by as many bytes as it has, with
+// no room for those of the longest key.
+pub(crate) fn held<'t>(
+    table: &'t BTreeMap<Vec<u8>, Holding>,
+    resource: &ResourceRef<'_>,
+) -> Option<&'t Holding>
+    ensures { option_copied result ≡ lookup (finds (resource_key resource.now)) table.now.entries }
+{
+    match &resource.kind {
+        Kind::TsQueue(queue) => table.get(ts_bytes(queue).as_slice()),
+        Kind::TdRead(queue) => table.get(td_bytes(TD_READ, queue).as_slice()),
+        Kind::TdWrite(queue) => table.get(td_bytes(TD_WRITE, queue).as_slice()),
+        _ => table.get(compact(resource).as_slice()),
+    }
+}
+
 // Makes an empty key the bytes of a resource.
 fn put_resource(key: &mut ArrayVec<u8, MOST>, resource: &ResourceRef<'_>)
     requires empty { key.old.items ≡ [] }
@@ -59,20 +107,11 @@ fn put_resource(key: &mut ArrayVec<u8, MOST>, resource: &ResourceRef<'_>)
 {
     match &resource.kind {
         Kind::FileKey(file, bytes) => put_file(key, KEY, file, bytes),
-        Kind::TsQueue(queue) => {
-            put(key, &[2]);
-            put(key, &queue.bytes());
-        }
-        Kind::TdRead(queue) => {
-            put(key, &[3]);
-            put(key, &queue.bytes());
-        }
-        Kind::TdWrite(queue) => {
-            put(key, &[4]);
-            put(key, &queue.bytes());
-        }
+        Kind::TsQueue(queue) => put(key, &ts_bytes(queue)),
+        Kind::TdRead(queue) => put(key, &td_bytes(TD_READ, queue)),
+        Kind::TdWrite(queue) => put(key, &td_bytes(TD_WRITE, queue)),
         Kind::User(value) => {
-            put(key, &[5]);
+            put(key, &[VALUE]);
             put(key, value);
         }
         Kind::FilePrefix(file, bytes) => put_file(key, PREFIX, file, bytes),
@@ -85,7 +124,7 @@ pub(crate) fn value_bytes(value: &[u8]) -> ArrayVec<u8, MOST>
     ensures { result.items ≡ 5 ∷ value.now }
 {
     let mut key = ArrayVec::new();
-    put(&mut key, &[5]);
+    put(&mut key, &[VALUE]);
     put(&mut key, value);
     key
 }

@@ -17,8 +17,8 @@ ghost use Rattle.cics_enqueue.specs.Resources.{held_at, is_user, is_in_order, re
 ghost use Rattle.cics_enqueue.specs.ResourceLaws.{resource_of};
 
 use crate::borrowed::{Kind, ResourceRef};
-use crate::compact::{KEY, MOST, PREFIX, compact, compact_own, file_bytes, value_bytes};
-use crate::overlaps::{has_prefixes, least_holder, other_holder, shorter_holder};
+use crate::compact::{KEY, MOST, PREFIX, compact, compact_own, file_bytes, held, value_bytes};
+use crate::overlaps::{has_prefixes, least_holder, other_holder, other_unit, shorter_holder};
 use crate::owned::{self, Owned};
 use crate::resources::{Resource, UnitId};
 use cics_names::{Name8, NoMemory};
@@ -196,7 +196,7 @@ impl Enqueues {
     pub fn holder_of(&self, resource: &ResourceRef<'_>) -> Option<UnitId>
         ensures { result ≡ holder_of resource.now self.now }
     {
-        let holding = self.table.get(compact(resource).as_slice())?;
+        let holding = held(&self.table, resource)?;
         Some(holding.unit)
     }
 
@@ -228,7 +228,7 @@ impl Enqueues {
         match &resource.kind {
             Kind::FilePrefix(file, prefix) => self.held_with_prefix(*file, prefix, but_not),
             Kind::FileKey(file, key) => self.holder_of_key(*file, key, &but_not),
-            _ => other_holder(&self.table, compact(resource).as_slice(), &but_not),
+            _ => other_unit(held(&self.table, resource), &but_not),
         }
     }
 
@@ -349,13 +349,12 @@ impl Enqueues {
             else self.new) ≡ self.old) }
         ensures err { OnErr result (self.new ≡ self.old) }
     {
-        let bytes = compact(resource);
-        let key = bytes.as_slice();
         // A unit uses a queue again and again, and to find that it holds it takes no bytes of its own.
-        if uses_queue(resource) && self.table.contains_key(key) {
+        if uses_queue(resource) && held(&self.table, resource).is_some() {
             return Ok(false);
         }
-        let was_held = self.take_free(key, unit)?;
+        let bytes = compact(resource);
+        let was_held = self.take_free(bytes.as_slice(), unit)?;
         Ok(was_held.is_none())
     }
 

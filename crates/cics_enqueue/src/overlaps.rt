@@ -7,6 +7,7 @@ ghost use Rattle.cics_names.specs.Keyed.{Bytes, is_below};
 ghost use Rattle.cics_enqueue.specs.Kept.{finds, first_shorter, first_shown, least_shown};
 ghost use Rattle.cics_enqueue.specs.Kept.{others_unit};
 ghost use Rattle.std.specs.Map.{lookup};
+ghost use Rattle.std.specs.Option.{option_copied};
 ghost use Rattle.cics_enqueue.specs.Resources.{is_other, begins_with};
 
 use crate::compact::{KEY, PREFIX, file_bytes};
@@ -25,15 +26,11 @@ pub(crate) fn is_another(asker: &Option<UnitId>, unit: UnitId) -> bool
     }
 }
 
-// The unit that holds what is kept under a key, if it is another than the asker.
-pub(crate) fn other_holder(
-    table: &BTreeMap<Vec<u8>, Holding>,
-    key: &[u8],
-    asker: &Option<UnitId>,
-) -> Option<UnitId>
-    ensures { result ≡ others_unit asker.now (lookup (finds key.now) table.now.entries) }
+// The unit of a holding, if it is another than the asker.
+pub(crate) fn other_unit(held: Option<&Holding>, asker: &Option<UnitId>) -> Option<UnitId>
+    ensures { result ≡ others_unit asker.now (option_copied held.entry) }
 {
-    match table.get(key) {
+    match held {
         Some(holding) => {
             if is_another(asker, holding.unit) {
                 Some(holding.unit)
@@ -43,6 +40,17 @@ pub(crate) fn other_holder(
         }
         None => None,
     }
+}
+
+// The unit that holds what is kept under a key, if it is another than the asker.
+pub(crate) fn other_holder(
+    table: &BTreeMap<Vec<u8>, Holding>,
+    key: &[u8],
+    asker: &Option<UnitId>,
+) -> Option<UnitId>
+    ensures { result ≡ others_unit asker.now (lookup (finds key.now) table.now.entries) }
+{
+    other_unit(table.get(key), asker)
 }
 
 // Sets the bound at which a look-up of what begins with some bytes begins: to these. Were there no room for them, it would be
