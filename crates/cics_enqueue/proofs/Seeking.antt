@@ -20,7 +20,7 @@ use Rattle.cics_enqueue.specs.declared.resources.Resource.TheVariants.{FileKey, 
 use Rattle.cics_enqueue.specs.Borrowed.{named}
 use Rattle.cics_enqueue.specs.declared.borrowed.Kind.{Kind}
 use Rattle.cics_enqueue.specs.declared.borrowed.Kind.TheVariants.{FileKey as KeyAt, FilePrefix as PrefixAt, TsQueue as TsQueueOf, TdRead as ReadingEndOf, TdWrite as WritingEndOf, User as UserAt}
-use Rattle.cics_enqueue.specs.Kept.{key_cmp, Entries, Owned, IsKept, owns, is_units, AreKeys, table_of, seen, shown, finds, first_entry, is_others_under, others_unit, first_cover, lesser_shown}
+use Rattle.cics_enqueue.specs.Kept.{key_cmp, Entries, Owned, IsKept, owns, is_units, AreKeys, table_of, seen, bytes_and_unit, finds, first_entry, is_others_under, others_unit, first_cover, lesser_shown}
 use Rattle.cics_enqueue.specs.Resources.{Table, Held, holder_over, bytes_of, resource_key, begins_with, is_other, is_under, first_that, first_of, lesser, least_under, other_than, holder_of, holder_of_shorter}
 use Rattle.cics_enqueue.specs.ResourceLaws.{resource_of}
 use Rattle.cics_enqueue.proofs.Tables.{key_found, holder_of-table_of, unheld}
@@ -200,18 +200,18 @@ unit_of e = e.1.unit
 abbrev second_of : Bytes × ℕ → ℕ
 second_of p = p.1
 
-lesser-shown : (a b : Option (Vec ℕ × Holding)) → IsSoundEntry a → IsSoundEntry b → option_map unit_of (lesser (option_map entry_of a) (option_map entry_of b)) ≡ option_map second_of (lesser_shown (option_map shown a) (option_map shown b))
+lesser-shown : (a b : Option (Vec ℕ × Holding)) → IsSoundEntry a → IsSoundEntry b → option_map unit_of (lesser (option_map entry_of a) (option_map entry_of b)) ≡ option_map second_of (lesser_shown (option_map bytes_and_unit a) (option_map bytes_and_unit b))
 unfolding IsSoundEntry
 lesser-shown None None x y = refl
 lesser-shown None (Some e) x y = refl
 lesser-shown (Some d) None x y = refl
 lesser-shown (Some d) (Some e) x y =
     ap (λ b. option_map unit_of (if b then Some (entry_of e) else Some (entry_of d))) (λ i. is_below (drop 1 (y i)) (drop 1 (x i)))
-    ∙ elim (is_below (drop 1 e.0.items) (drop 1 d.0.items)) as (λ b. option_map unit_of (if b then Some (entry_of e) else Some (entry_of d)) ≡ option_map second_of (if b then Some (shown e) else Some (shown d))) [ true ↦ refl | false ↦ refl ]
+    ∙ elim (is_below (drop 1 e.0.items) (drop 1 d.0.items)) as (λ b. option_map unit_of (if b then Some (entry_of e) else Some (entry_of d)) ≡ option_map second_of (if b then Some (bytes_and_unit e) else Some (bytes_and_unit d))) [ true ↦ refl | false ↦ refl ]
 
 -- the least key or prefix that begins with a prefix
 pub least_under-shown : (f p : Bytes) (asker : Option ℕ) (es : Entries) → AreKeys es → (key prefix : Bytes) → key ≡ resource_key (FileKey f (bytes_of p)) → prefix ≡ resource_key (FilePrefix f (bytes_of p)) →
-    option_map (λ e. e.1.unit) (least_under f p asker (table_of es)) ≡ option_map (λ p. p.1) (lesser_shown (option_map shown (first_entry (is_others_under key asker) es)) (option_map shown (first_entry (is_others_under prefix asker) es)))
+    option_map (λ e. e.1.unit) (least_under f p asker (table_of es)) ≡ option_map (λ p. p.1) (lesser_shown (option_map bytes_and_unit (first_entry (is_others_under key asker) es)) (option_map bytes_and_unit (first_entry (is_others_under prefix asker) es)))
 least_under-shown f p asker es sound key prefix is_key is_prefix =
     (λ i. option_map unit_of (lesser (first_that-table_of (FileKey f (bytes_of p)) key is_key asker es sound i) (first_that-table_of (FilePrefix f (bytes_of p)) prefix is_prefix asker es sound i)))
     ∙ lesser-shown (first_entry (is_others_under key asker) es) (first_entry (is_others_under prefix asker) es) (first_entry-sound _ es sound) (first_entry-sound _ es sound)

@@ -20,7 +20,7 @@ use Rattle.cics_names.specs.Keyed.{Bytes, bytes_cmp, is_same}
 use Rattle.cics_names.specs.KeyedLaws.{is_same-eq, is_same-self}
 use Rattle.cics_enqueue.specs.declared.resources.Resource.{Resource}
 use Rattle.cics_enqueue.specs.declared.enqueues.Holding.{Holding}
-use Rattle.cics_enqueue.specs.Kept.{key_cmp, Entries, Owned, table_of, seen, finds, AreKeys, AreOwned, Adds, Drops, owns, has_in, is_units, is_place, IsKept, let_go, LetsGo}
+use Rattle.cics_enqueue.specs.Kept.{key_cmp, Entries, Owned, table_of, seen, finds, AreKeys, AreOwned, Adds, Drops, owns, has_in, is_units, is_place, IsKept, without_own, Frees}
 use Rattle.cics_enqueue.specs.Resources.{IsFreeFor, Table, Held, held_at, holder_of, count_of, count_in, is_one, is_user, is_full, most_count, raised_count, is_in_order, resource_cmp, resource_key, with_holder, freed, released, taken, given_back, given_back_of}
 use Rattle.cics_enqueue.specs.ResourceLaws.{overlaps-self, resource_cmp_total, is_one-cmp, is_one-eq, same_resources, resource_of, resource_of-resource_key}
 use Rattle.cics_enqueue.proofs.TableLaws.{taken-held, held_own, given_back-taken, left_of, right_of, not_tied, held_before, held_without, held_at-released, is_in_order-released}
@@ -353,7 +353,7 @@ unheld es own u k owned none = elim (is_units u (lookup (finds k.items) es)) as 
 ] refl
 
 -- to free first what a unit holds under a key changes nothing of what its end leaves
-pub released-let_go : (es : Entries) (key : Bytes) (unit : ℕ) → AreKeys es → T (is_in_order (table_of es)) → released (table_of (let_go unit key es)) unit ≡ released (table_of es) unit
+pub released-let_go : (es : Entries) (key : Bytes) (unit : ℕ) → AreKeys es → T (is_in_order (table_of es)) → released (table_of (without_own unit key es)) unit ≡ released (table_of es) unit
 released-let_go es key unit sound rises = by (lookup (finds key) es) refl
   where
     by : (o : Option Holding) → lookup (finds key) es ≡ o → released (table_of (if is_units unit o then remove_entry (finds key) es else es)) unit ≡ released (table_of es) unit
@@ -378,7 +378,7 @@ AreOwned-passed key es own after unit other drops owned u k held = drops u k (no
     not_place false f = f
 
 -- a key that came off a unit's list went from the entries where it was the unit's
-pub IsKept-let_go : (key : Bytes) (es : Entries) (own : Owned) (unit : ℕ) (fs : Entries) (after : Owned) → fs ≡ let_go unit key es → LetsGo unit key es fs → Drops unit key own after → IsKept es own → IsKept fs after
+pub IsKept-let_go : (key : Bytes) (es : Entries) (own : Owned) (unit : ℕ) (fs : Entries) (after : Owned) → fs ≡ without_own unit key es → Frees unit key es fs → Drops unit key own after → IsKept es own → IsKept fs after
 IsKept-let_go key es own unit fs after went each drops kept = by (is_units unit (lookup (finds key) es)) refl went each
   where
     found_own : (o : Option Holding) → is_units unit o ≡ true → (h : Holding) × (o ≡ Some h)

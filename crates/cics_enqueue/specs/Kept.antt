@@ -96,12 +96,12 @@ abbrev pub AreOwned : Entries → Owned → Type 0
 AreOwned es owned = (u : ℕ) (k : Vec ℕ) → is_units u (lookup (finds k.items) es) ≡ true → owns owned u k ≡ true
 
 -- the entries without a key where it is this unit's
-abbrev pub let_go : ℕ → Bytes → Entries → Entries
-let_go u key es = if is_units u (lookup (finds key) es) then remove_entry (finds key) es else es
+abbrev pub without_own : ℕ → Bytes → Entries → Entries
+without_own u key es = if is_units u (lookup (finds key) es) then remove_entry (finds key) es else es
 
 -- what the entries say of each key after that
-abbrev pub LetsGo : ℕ → Bytes → Entries → Entries → Type 0
-LetsGo u key es fs = (k : Vec ℕ) → lookup (finds k.items) fs ≡ (if is_units u (lookup (finds key) es) && finds key k then None else lookup (finds k.items) es)
+abbrev pub Frees : ℕ → Bytes → Entries → Entries → Type 0
+Frees u key es fs = (k : Vec ℕ) → lookup (finds k.items) fs ≡ (if is_units u (lookup (finds key) es) && finds key k then None else lookup (finds k.items) es)
 
 -- the entries and the keys of the units are one table
 pub record IsKept (es : Entries) (own : Owned) : Type 0 where
@@ -121,12 +121,12 @@ abbrev pub is_others_under : Bytes → Option ℕ → Vec ℕ × Holding → Boo
 is_others_under start asker e = begins_with start e.0.items && is_other asker e.1.unit
 
 -- the bytes and the unit of an entry
-abbrev pub shown : Vec ℕ × Holding → Bytes × ℕ
-shown e = (e.0.items, e.1.unit)
+abbrev pub bytes_and_unit : Vec ℕ × Holding → Bytes × ℕ
+bytes_and_unit e = (e.0.items, e.1.unit)
 
 -- the bytes and the unit of the first entry that begins with some bytes and is another unit's than the asker's
 abbrev pub first_shown : Bytes → Option ℕ → Entries → Option (Bytes × ℕ)
-first_shown start asker es = option_map shown (first_entry (is_others_under start asker) es)
+first_shown start asker es = option_map bytes_and_unit (first_entry (is_others_under start asker) es)
 
 -- the unit of a holding, where it is another than the asker
 abbrev pub others_unit : Option ℕ → Option Holding → Option ℕ

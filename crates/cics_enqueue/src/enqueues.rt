@@ -4,7 +4,7 @@ ghost use Rattle.cics_enqueue.specs.declared.resources.Resource.TheVariants.{Fil
 ghost use Rattle.std.specs.Prelude.{◌≡◌, ◌≤◌, IfNone, IfSome, length, [], ◌+◌};
 ghost use Rattle.std.specs.Prelude.{if◌then◌else◌, IsTrue, true, false, ◌↔◌, OnOk, OnErr, IfErr};
 ghost use Rattle.std.specs.Prelude.{IfOk, T, None, Some, ℕ, is_some, not, option_map, IsSome};
-ghost use Rattle.cics_enqueue.specs.Kept.{count_after, is_held_full, let_go, LetsGo, seen};
+ghost use Rattle.cics_enqueue.specs.Kept.{count_after, is_held_full, without_own, Frees, seen};
 ghost use Rattle.cics_enqueue.specs.Kept.{finds, key_cmp, PutsNew};
 ghost use Rattle.std.specs.Map.{lookup};
 ghost use Rattle.std.specs.Option.{unwrap_or};
@@ -159,9 +159,9 @@ fn put_first(
 
 // Frees what is kept under a key, if it is this unit's, whatever its count: one that the unit gave back may be
 // another's by now.
-fn let_go(table: &mut BTreeMap<Vec<u8>, Holding>, key: &[u8], unit: UnitId)
-    ensures entries { table.new.entries ≡ let_go unit key.now table.old.entries }
-    ensures each { LetsGo unit key.now table.old.entries table.new.entries }
+fn free_key(table: &mut BTreeMap<Vec<u8>, Holding>, key: &[u8], unit: UnitId)
+    ensures entries { table.new.entries ≡ without_own unit key.now table.old.entries }
+    ensures each { Frees unit key.now table.old.entries table.new.entries }
 {
     let is_own = match table.get(key) {
         Some(holding) => holding.unit == unit,
@@ -442,7 +442,7 @@ impl Enqueues {
             return;
         }
         while let Some(key) = owned::pop(&mut self.owned, unit) {
-            let_go(&mut self.table, key.as_slice(), unit);
+            free_key(&mut self.table, key.as_slice(), unit);
         }
         self.owned.swap_remove(&unit);
     }

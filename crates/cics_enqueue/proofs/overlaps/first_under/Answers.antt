@@ -5,7 +5,7 @@ use Rattle.std.specs.Ordering.{is_lt, is_some_and}
 use Rattle.std.specs.Cmp.Lexicographic.{lists_agrees}
 use Rattle.cics_names.specs.Keyed.{bytes_cmp}
 use Rattle.cics_enqueue.specs.declared.enqueues.Holding.{Holding}
-use Rattle.cics_enqueue.specs.Kept.{Entries, first_entry, first_shown, is_others_under, shown}
+use Rattle.cics_enqueue.specs.Kept.{Entries, first_entry, first_shown, is_others_under, bytes_and_unit}
 use Rattle.std.specs.Prelude.{length}
 use Rattle.cics_enqueue.specs.Resources.{begins_with, is_other}
 use Rattle.cics_enqueue.proofs.Seeking.{Rises, rises_sorted, Rises-filter, first_entry-filter, first_entry-here, first_entry-past, first_entry-passed, starts_with-begins, before_bound, never}
@@ -31,7 +31,7 @@ returns-then-is_another c =
     let begins : begins_with start c.as_slice-key.result.now ≡ true = sym (starts_with-begins start c.as_slice-key.result.now) ∙ sym c.starts_with.ensures.value ∙ c.if-starts_with.true in
     let passes : test e ≡ true = (λ i. begins_with start (sym c.as_slice-key.ensures.value i) && is_other c.args.asker.now e.1.unit) ∙ (λ i. begins i && (sym c.is_another-is_another.ensures ∙ c.if-is_another.true) i) in
     ap (λ b. Some (b, e.1.unit)) c.as_slice-key.ensures.value
-    ∙ sym (ap (option_map shown) (sym c.loop-key.invariant.rest ∙ ap (first_entry test) c.in-Some.ensures.steps ∙ first_entry-here test e c.next.new.self passes))
+    ∙ sym (ap (option_map bytes_and_unit) (sym c.loop-key.invariant.rest ∙ ap (first_entry test) c.in-Some.ensures.steps ∙ first_entry-here test e c.next.new.self passes))
 
 pub loop-key-preserved-else-is_another : goal.loop-key-preserved-else-is_another
 loop-key-preserved-else-is_another c =
@@ -54,7 +54,7 @@ returns-then-lt c =
     let begins : begins_with start e.0.items ≡ false = ap (begins_with start) (sym c.as_slice-key.ensures.value) ∙ sym (starts_with-begins start c.as_slice-key.result.now) ∙ sym c.starts_with.ensures.value ∙ c.if-starts_with.false in
     let fails : test e ≡ false = ap (λ b. b && is_other c.args.asker.now e.1.unit) begins in
     let above : is_lt (bytes_cmp start e.0.items) ≡ true = ap (λ b. is_lt (bytes_cmp start b)) (sym c.as_slice-key.ensures.value) ∙ sym (ap (is_some_and is_lt) (lists_agrees (λ x y. refl) start c.as_slice-key.result.now)) ∙ sym c.lt.ensures ∙ c.if-lt.true in
-    sym (ap (option_map shown) (sym c.loop-key.invariant.rest ∙ ap (first_entry test) c.in-Some.ensures.steps ∙ first_entry-past test e c.next.new.self fails
+    sym (ap (option_map bytes_and_unit) (sym c.loop-key.invariant.rest ∙ ap (first_entry test) c.in-Some.ensures.steps ∙ first_entry-past test e c.next.new.self fails
     ∙ first_entry-passed start e.0.items c.args.asker.now c.next.new.self above begins (subst Rises c.in-Some.ensures.steps c.loop-key.invariant.rises).0))
 
 pub loop-key-preserved : goal.loop-key-preserved
@@ -72,7 +72,7 @@ loop-key-preserved c =
     }
 
 pub returns : goal.returns
-returns c = sym (ap (option_map shown) (sym c.loop-key.invariant.rest ∙ ap (first_entry (is_others_under c.args.start.now c.args.asker.now)) c.in-None.ensures.steps.0))
+returns c = sym (ap (option_map bytes_and_unit) (sym c.loop-key.invariant.rest ∙ ap (first_entry (is_others_under c.args.start.now c.args.asker.now)) c.in-None.ensures.steps.0))
 
 pub returns-then-is_empty : goal.returns-then-is_empty
 returns-then-is_empty c = sym (ap (λ es. first_shown c.args.start.now c.args.asker.now es) (none c.args.table.now.entries (c.is_empty.ensures.0 c.if-is_empty.true)))

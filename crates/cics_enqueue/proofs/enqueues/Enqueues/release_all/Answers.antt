@@ -14,8 +14,8 @@ loop-key-preserved c =
     let key = c.as_slice.result.now in
     let drops : Drops c.args.unit key own c.pop.new.owned.entries = subst (λ b. Drops c.args.unit b own c.pop.new.owned.entries) (sym c.as_slice.ensures.value) c.in-Some.ensures.taken in
     record {
-      kept = IsKept-let_go key es own c.args.unit c.let_go.new.table.entries c.pop.new.owned.entries c.let_go.ensures.entries c.let_go.ensures.each drops kept;
-      rest = ap (λ fs. released (table_of fs) c.args.unit) c.let_go.ensures.entries ∙ released-let_go es key c.args.unit kept.keys kept.in_order ∙ c.loop-key.invariant.rest;
+      kept = IsKept-let_go key es own c.args.unit c.free_key.new.table.entries c.pop.new.owned.entries c.free_key.ensures.entries c.free_key.ensures.each drops kept;
+      rest = ap (λ fs. released (table_of fs) c.args.unit) c.free_key.ensures.entries ∙ released-let_go es key c.args.unit kept.keys kept.in_order ∙ c.loop-key.invariant.rest;
     }
 
 pub invariant_of-self : goal.invariant_of-self
