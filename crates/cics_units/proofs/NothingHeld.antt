@@ -63,7 +63,7 @@ none_marked o (OfWriting q before made ∷ l) bare reads writes = elim (cases_Bo
 ]
 
 -- what stands for no change and no mark is no image
-none_kept : (l : List AnyImage) → matching.AreKept [] [] l → l ≡ []
+none_kept : (l : List AnyImage) → matching.AreImagesOf [] [] l → l ≡ []
 none_kept [] kept = refl
 none_kept (File i ∷ l) kept = absurd kept
 none_kept (TempStorage i ∷ l) kept = absurd kept
@@ -96,8 +96,8 @@ module _ (s : UnitsState) (st : UndoableValue) (t : Table) (is : AreKept s st t)
 
     no_image : kept_by st.images u ≡ []
     no_image = none_kept (kept_by st.images u)
-        (subst (λ cs. matching.AreKept cs [] (kept_by st.images u)) no_change
-        (subst (λ ms. matching.AreKept (is.place.changes u) ms (kept_by st.images u)) no_mark (is.place.kept u)))
+        (subst (λ cs. matching.AreImagesOf cs [] (kept_by st.images u)) no_change
+        (subst (λ ms. matching.AreImagesOf (is.place.changes u) ms (kept_by st.images u)) no_mark (is.place.kept u)))
 
   -- and neither does one that has ended
   keeps_none : (u : ℕ) → is_live s u ≡ false → kept_by st.images u ≡ []
