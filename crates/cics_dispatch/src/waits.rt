@@ -156,7 +156,7 @@ impl Waits {
         ensures waiting { result ≡ is_waiting self.now label.now }
         ensures once { AreApart self.now }
     {
-        // In most regions at most times none waits.
+        // Mostly none waits: then no label is looked up.
         if self.rows.len() == 0 {
             return false;
         }

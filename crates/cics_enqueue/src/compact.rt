@@ -1,4 +1,4 @@
-//! Resources as the bytes that a table keeps.
+//! Resources as the bytes that a table keeps, and what it keeps under them.
 
 ghost use Rattle.std.specs.Prelude.{◌≡◌, ◌≤◌, ◌+◌, ◌∷◌, ◌++◌, [], length};
 ghost use Rattle.std.specs.Option.{option_copied};
@@ -21,7 +21,8 @@ pub(crate) const PREFIX: u8 = 0;
 
 pub(crate) const KEY: u8 = 1;
 
-// What those of a temporary storage queue begin with, of the two ends of a transient data queue, and of a user's value.
+// What the bytes of the other kinds begin with: a temporary storage queue, the two ends of a transient data queue, a
+// user's value.
 const TS_QUEUE: u8 = 2;
 
 const TD_READ: u8 = 3;

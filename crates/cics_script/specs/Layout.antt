@@ -34,11 +34,11 @@ token_bytes (broken fault) = []
 abbrev pub is_in_capitals : ℕ → Bool
 is_in_capitals c = is_capital c || is_digit c || (c == 45)
 
--- a byte that is part of no word, number or literal: a blank or a parenthesis
+-- a byte that goes on no word or number and no literal that is closed: a blank or a parenthesis
 abbrev pub is_gap : ℕ → Bool
 is_gap c = (c == 32) || (c == 40) || (c == 41)
 
--- whether these bytes may stand right behind a token: there are none, or the first is part of no token before it
+-- whether a word, a number or a closed literal written right before these bytes is whole: there are none, or a blank or a parenthesis is the first
 abbrev pub ends : List ℕ → Bool
 ends [] = true
 ends (c ∷ rest) = is_gap c

@@ -587,12 +587,11 @@ fn is_in_script(byte: u8) -> bool
 // How many bytes are tested at once.
 const BLOCK: usize = 16;
 
-// The same as `are_in_script`, byte by byte.
+// The same as `are_in_script`; of a block, whose length is known, all bytes are tested at once.
 fn few_are_in_script(bytes: &[u8]) -> bool
     ensures { result ≡ list_all is_script_byte bytes.now }
 {
-    // Each byte is tested, also behind one that is none: without an early end many are tested at
-    // once.
+    // Each byte is tested, also behind one that is none: an early end would test them one by one.
     let mut all = true;
     for byte in bytes {
         all &= is_in_script(*byte);
@@ -623,8 +622,8 @@ fn blocks_are_in_script(bytes: &[u8]) -> bool
 fn are_in_script(bytes: &[u8]) -> bool
     ensures { result ≡ list_all is_script_byte bytes.now }
 {
-    // The last block is tested first, and then the others from the line's begin on: so none has
-    // less bytes, which would be tested one by one, and those of the last one may be tested twice.
+    // The last block is tested first, and then the others from the line's beginning on: so none has
+    // fewer bytes, which would be tested one by one, and those of the last one may be tested twice.
     match bytes.last_chunk::<BLOCK>() {
         Some(last) => few_are_in_script(last) && blocks_are_in_script(bytes),
         None => few_are_in_script(bytes),

@@ -177,6 +177,9 @@ fn short_plain_len(bytes: &[u8]) -> usize
         .count()
 }
 
+// How many characters are looked up at once.
+const GROUP: usize = 8;
+
 // How many characters in front stand for themselves.
 fn plain_len(bytes: &[u8]) -> usize
     ensures value { result ≡ prefix_len is_plain bytes.now }
@@ -185,9 +188,9 @@ fn plain_len(bytes: &[u8]) -> usize
     let mut passed = 0;
     let mut rest = bytes;
     'blocks: loop {
-        match rest.split_first_chunk::<8>() {
+        match rest.split_first_chunk::<GROUP>() {
             Some((block, behind)) if are_plain(block) => {
-                passed += 8;
+                passed += GROUP;
                 rest = behind;
             }
             _ => return passed + short_plain_len(rest),

@@ -15,7 +15,7 @@ ghost use Rattle.cics_script.specs.Views.{Opens, Fills, Shuts, HasValue, Enters,
 
 use crate::faults::LineFault;
 use crate::literals::{Encoding, Literal, Notation};
-use crate::tokens::{Token, behind_word, next_quoted, next_token, next_word};
+use crate::tokens::{Token, behind_word, next_quoted, next_token};
 use crate::words::{
     Form, Kind, OptionWord, is_excluded, is_exclusive, is_same, kind_of, option_named,
 };
@@ -531,7 +531,7 @@ fn next_option(last: Option<Kind>, bytes: &[u8]) -> Result<Option<(OptionWord, &
     if bytes.is_empty() {
         return Ok(None);
     }
-    // Most lines have one blank before each option and behind none.
+    // Most lines have one blank before each option, and none at the end.
     if let Some(found) = common_option(skip_one_blank(bytes)) {
         return Ok(Some(found));
     }

@@ -214,8 +214,8 @@ fn is_gap_byte(byte: u8) -> bool
     byte == b' ' || byte == b'(' || byte == b')'
 }
 
-// Whether a line begins with what may stand right behind a token: it ends there, or a blank or a
-// parenthesis follows.
+// Whether a word right before the line is whole: the line ends here, or a blank or a parenthesis
+// follows.
 fn is_ended(bytes: &[u8]) -> bool
     ensures { result ≡ ends bytes.now }
 {

@@ -10,7 +10,7 @@ ghost use Rattle.cics_names.specs.Keyed.{value_at};
 ghost use Rattle.cics_names.specs.declared.conditions.Condition.TheVariants.{Normal};
 ghost use Rattle.cics_images.specs.Cells.{AreReadyInTurn, LeadBack, images_of, is_unnamed};
 ghost use Rattle.cics_images.specs.Cells.{all_swept};
-ghost use Rattle.cics_enqueue.specs.Resources.{IsFreeFor, is_full, is_user};
+ghost use Rattle.cics_enqueue.specs.Resources.{is_full, is_user};
 ghost use Rattle.cics_enqueue.specs.Resources.{holder_over};
 ghost use Rattle.cics_enqueue.specs.Resources.{given_back, released};
 ghost use Rattle.cics_history.specs.Execution.{covers, reads_after, read_at, with_read, is_read_of};
@@ -480,11 +480,7 @@ impl Parts {
         ensures err { OnErr result (ArePartsKept self.old self.new) }
     {
         self.stores.make_room(unit, 0)?;
-        match self.enqueues.enq(value, unit) {
-            Ok(None) => Ok(None),
-            Ok(Some(holder)) => Ok(Some(holder)),
-            Err(fault) => Err(fault),
-        }
+        self.enqueues.enq(value, unit)
     }
 
     /// Gives back one take of a value, if the unit holds it: with the last one the value is free. It
