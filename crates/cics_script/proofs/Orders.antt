@@ -481,11 +481,18 @@ given-word found first P is holds = subst (λ o. IfSome o P) is holds
 abbrev made_of : List ℕ → CommandWord → List Entry → Result Line LineFault
 made_of label first entries = verb_in first entries >>= λ made. Ok (Issue label (record { verb = made; resp = is_handled entries }))
 
+-- what its first word names and the tokens behind that word are, as the command of a task
+abbrev with_rest : List Token → CommandWord → Result (CommandWord × List Token) LineFault
+with_rest rest verb = Ok (verb, rest)
+
+abbrev issued_of : List ℕ → List Token → Option CommandWord → Result Line LineFault
+issued_of label rest found = (known found >>= with_rest rest) >>= λ found. issued label (command_at found.0 found.1)
+
 -- the line of a command, as it is written
 pub command-written : (label : List ℕ) (asked : Command) (first : CommandWord) (left_out : Bool) (written : List Written) (entries : List Entry)
     → Spells asked first written entries → command_line label (verb_tokens first left_out written) ≡ Ok (Issue label asked)
 command-written label asked first left_out written entries spells =
-    ap (λ found. known found >>= λ verb. issued label (command_at verb (queue_tokens first left_out ++ flat_map option_tokens written))) (sym (lookup-command_word first))
+    ap (issued_of label (queue_tokens first left_out ++ flat_map option_tokens written)) (sym (lookup-command_word first))
     ∙ ap (issued label) (command_at-written first left_out written)
     ∙ ap (λ read. read >>= made_of label first) (options-written (Form.Command first) written entries spells.are_options spells.are_apart)
     ∙ ap (λ made. made >>= λ made. Ok (Issue label (record { verb = made; resp = is_handled entries })))

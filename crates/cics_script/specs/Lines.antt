@@ -149,8 +149,7 @@ verb_first rest = word_first rest >>= λ first. known (lookup first.0 commands) 
 
 -- a command of the task with this label, from its verb on
 abbrev pub command_line : List ℕ → List Token → Result Line LineFault
-command_line label rest =
-    word_first rest >>= λ first. known (lookup first.0 commands) >>= λ verb. issued label (command_at verb first.1)
+command_line label rest = verb_first rest >>= λ found. issued label (command_at found.0 found.1)
 
 -- a command of the task with this label, from EXEC on
 abbrev pub issue : List ℕ → List Token → Result Line LineFault

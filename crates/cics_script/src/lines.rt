@@ -20,7 +20,9 @@ ghost use Rattle.cics_script.specs.Lines.{is_script_byte, is_empty_or_comment, l
 use crate::commands::{is_handled, verb_of};
 use crate::faults::LineFault;
 use crate::options::{Found, Options, has_option, read_options};
-use crate::tokens::{Token, begins_with, behind_word, next_token, next_word, skip_blanks};
+use crate::tokens::{
+    Token, begins_with, behind_word, either_named, named, next_token, next_word, skip_blanks,
+};
 use crate::values::{name4_of, name8_of, number_of, text_of};
 use crate::words::{
     CommandWord, DefineObject, Form, LoadObject, OptionWord, Start, capital_of, command_named,
@@ -421,68 +423,36 @@ fn read_issued(
     }
 }
 
-// The verb that these capitals are, where the line begins with them, and the line behind it.
-fn verb_spelled<'a>(
-    bytes: &'a [u8],
-    capitals: &[u8],
-    verb: CommandWord,
-) -> Option<(CommandWord, &'a [u8])>
-    requires capitals { is_word capitals.now ≡ true }
-    requires named { lookup capitals.now commands ≡ Some verb }
-    ensures { IfSome result (λ found. IsNamed commands found.0 bytes.entry.now found.1.now) }
-{
-    let rest = behind_word(bytes, capitals)?;
-    Some((verb, rest))
-}
-
-// One of these two verbs, where the line begins with it in capitals, and the line behind it.
-fn either_verb<'a>(
-    bytes: &'a [u8],
-    first: (&[u8], CommandWord),
-    second: (&[u8], CommandWord),
-) -> Option<(CommandWord, &'a [u8])>
-    requires first { is_word first.0.now ≡ true }
-    requires named_first { lookup first.0.now commands ≡ Some first.1 }
-    requires second { is_word second.0.now ≡ true }
-    requires named_second { lookup second.0.now commands ≡ Some second.1 }
-    ensures { IfSome result (λ found. IsNamed commands found.0 bytes.entry.now found.1.now) }
-{
-    match verb_spelled(bytes, first.0, first.1) {
-        Some(found) => Some(found),
-        None => verb_spelled(bytes, second.0, second.1),
-    }
-}
-
 // The verb with which the line begins, where it is one that many lines have and is written in
 // capitals, and the line behind it. `None` says nothing of the line.
 fn common_verb(bytes: &[u8]) -> Option<(CommandWord, &[u8])>
     ensures { IfSome result (λ found. IsNamed commands found.0 bytes.entry.now found.1.now) }
 {
     match bytes.first()? {
-        b'R' => match either_verb(
+        b'R' => match either_named(
             bytes,
             (b"READ", CommandWord::Read),
             (b"READQ", CommandWord::ReadqTs),
         ) {
             Some(found) => Some(found),
-            None => either_verb(
+            None => either_named(
                 bytes,
                 (b"REWRITE", CommandWord::Rewrite),
                 (b"READNEXT", CommandWord::ReadNext),
             ),
         },
-        b'W' => either_verb(
+        b'W' => either_named(
             bytes,
             (b"WRITE", CommandWord::Write),
             (b"WRITEQ", CommandWord::WriteqTs),
         ),
-        b'E' => verb_spelled(bytes, b"ENQ", CommandWord::Enq),
-        b'D' => either_verb(
+        b'E' => named(bytes, b"ENQ", CommandWord::Enq),
+        b'D' => either_named(
             bytes,
             (b"DEQ", CommandWord::Deq),
             (b"DELETE", CommandWord::Delete),
         ),
-        b'S' => verb_spelled(bytes, b"SYNCPOINT", CommandWord::Syncpoint),
+        b'S' => named(bytes, b"SYNCPOINT", CommandWord::Syncpoint),
         _ => None,
     }
 }

@@ -15,7 +15,7 @@ ghost use Rattle.cics_script.specs.Views.{Opens, Fills, Shuts, HasValue, Enters,
 
 use crate::faults::LineFault;
 use crate::literals::{Encoding, Literal, Notation};
-use crate::tokens::{Token, behind_word, next_quoted, next_token};
+use crate::tokens::{Token, either_named, named, next_quoted, next_token};
 use crate::words::{
     Form, Kind, OptionWord, is_excluded, is_exclusive, is_same, kind_of, option_named,
 };
@@ -419,66 +419,34 @@ fn read_end(bytes: &[u8]) -> Result<(), LineFault>
     }
 }
 
-// The option that these capitals are, where the line begins with them, and the line behind it.
-fn option_spelled<'a>(
-    bytes: &'a [u8],
-    capitals: &[u8],
-    option: OptionWord,
-) -> Option<(OptionWord, &'a [u8])>
-    requires capitals { is_word capitals.now ≡ true }
-    requires named { lookup capitals.now option_words ≡ Some option }
-    ensures { IfSome result (λ found. IsNamed option_words found.0 bytes.entry.now found.1.now) }
-{
-    let rest = behind_word(bytes, capitals)?;
-    Some((option, rest))
-}
-
-// One of these two options, where the line begins with it in capitals, and the line behind it.
-fn either_option<'a>(
-    bytes: &'a [u8],
-    first: (&[u8], OptionWord),
-    second: (&[u8], OptionWord),
-) -> Option<(OptionWord, &'a [u8])>
-    requires first { is_word first.0.now ≡ true }
-    requires named_first { lookup first.0.now option_words ≡ Some first.1 }
-    requires second { is_word second.0.now ≡ true }
-    requires named_second { lookup second.0.now option_words ≡ Some second.1 }
-    ensures { IfSome result (λ found. IsNamed option_words found.0 bytes.entry.now found.1.now) }
-{
-    match option_spelled(bytes, first.0, first.1) {
-        Some(found) => Some(found),
-        None => option_spelled(bytes, second.0, second.1),
-    }
-}
-
 // The option with which the line begins, where it is one that many lines have and is written in
 // capitals, and the line behind its word. `None` says nothing of the line.
 fn common_option(bytes: &[u8]) -> Option<(OptionWord, &[u8])>
     ensures { IfSome result (λ found. IsNamed option_words found.0 bytes.entry.now found.1.now) }
 {
     match bytes.first()? {
-        b'F' => either_option(
+        b'F' => either_named(
             bytes,
             (b"FILE", OptionWord::File),
             (b"FROM", OptionWord::From),
         ),
-        b'I' => either_option(
+        b'I' => either_named(
             bytes,
             (b"ITEM", OptionWord::Item),
             (b"INTO", OptionWord::Into),
         ),
-        b'L' => option_spelled(bytes, b"LENGTH", OptionWord::Length),
-        b'N' => option_spelled(bytes, b"NOSUSPEND", OptionWord::NoSuspend),
-        b'Q' => option_spelled(bytes, b"QUEUE", OptionWord::Queue),
-        b'R' => match either_option(
+        b'L' => named(bytes, b"LENGTH", OptionWord::Length),
+        b'N' => named(bytes, b"NOSUSPEND", OptionWord::NoSuspend),
+        b'Q' => named(bytes, b"QUEUE", OptionWord::Queue),
+        b'R' => match either_named(
             bytes,
             (b"RIDFLD", OptionWord::Ridfld),
             (b"RESOURCE", OptionWord::Resource),
         ) {
             Some(found) => Some(found),
-            None => option_spelled(bytes, b"RESP", OptionWord::Resp),
+            None => named(bytes, b"RESP", OptionWord::Resp),
         },
-        b'U' => option_spelled(bytes, b"UPDATE", OptionWord::Update),
+        b'U' => named(bytes, b"UPDATE", OptionWord::Update),
         _ => None,
     }
 }

@@ -22,13 +22,12 @@ pub fn push_str(out: &mut Vec<u8>, text: &str) -> Result<(), NoMemory>
 pub fn push_number(out: &mut Vec<u8>, number: u64) -> Result<(), NoMemory>
     ensures { OnOk result (out.new.items ≡ out.old.items ++ decimal number) }
 {
-    // Most numbers of a journal have one digit, and that needs no text of its own.
-    if number < 10 {
-        out.push(b'0' + number as u8)?;
-        return Ok(());
+    // The digits in front of the last one; most numbers of a journal have none.
+    if number >= 10 {
+        push_number(out, number / 10)?;
     }
-    let digits = number.to_string(*out.allocator())?;
-    push_str(out, &digits)
+    out.push(b'0' + (number % 10) as u8)?;
+    Ok(())
 }
 
 /// Puts a byte string at the end, in quotes: in characters where each byte has one, else in

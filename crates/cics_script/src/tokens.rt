@@ -1,13 +1,15 @@
 //! The tokens of a line: words, numbers, literals and parentheses.
 
 ghost use Rattle.std.specs.Prelude.{◌≡◌, ◌==◌, ◌+◌, ◌-◌, ◌*◌, ◌<◌, ◌≤◌, ◌^◌, Option, Some, None};
+ghost use Rattle.std.specs.Prelude.{ℕ, List};
 ghost use Rattle.std.specs.Prelude.{Ok, IfSome, true, ◌++◌, drop, length, nat_lt, if◌then◌else◌, option_map};
 ghost use Rattle.std.specs.List.{prefix_len};
 ghost use Rattle.cics_script.specs.Tokens.{is_blank, is_digit, is_letter, is_word_byte};
 ghost use Rattle.cics_script.specs.Tokens.{after_blanks, value_of, text_in, token_at, number_at};
 ghost use Rattle.cics_script.specs.Tokens.{word_at, as_literal, behind_x};
 ghost use Rattle.cics_script.specs.Layout.{is_gap, ends, is_word};
-ghost use Rattle.cics_script.specs.Views.{GivesToken, StartsWith, Takes};
+ghost use Rattle.cics_script.specs.Views.{GivesToken, StartsWith, Takes, IsNamed};
+ghost use Rattle.cics_script.specs.Words.{lookup};
 
 use crate::faults::LineFault;
 use crate::literals::{Literal, Notation, is_quote_byte, literal_at};
@@ -236,6 +238,35 @@ pub fn behind_word<'a>(bytes: &'a [u8], capitals: &[u8]) -> Option<&'a [u8]>
     }
     let rest = bytes.split_at(capitals.len()).1;
     if is_ended(rest) { Some(rest) } else { None }
+}
+
+/// What these capitals name, where the line begins with them as a whole word, and the line behind
+/// it. `None` says nothing of the line, as with `behind_word`.
+pub fn named<'a, X: Copy>(bytes: &'a [u8], capitals: &[u8], meaning: X) -> Option<(X, &'a [u8])>
+    requires capitals { is_word capitals.now ≡ true }
+    ensures { (rows : List (List ℕ × X)) → lookup capitals.now rows ≡ Some meaning →
+        IfSome result (λ found. IsNamed rows found.0 bytes.entry.now found.1.now) }
+{
+    let rest = behind_word(bytes, capitals)?;
+    Some((meaning, rest))
+}
+
+/// What one of two words in capitals names, where the line begins with it, and the line behind it.
+pub fn either_named<'a, X: Copy>(
+    bytes: &'a [u8],
+    first: (&[u8], X),
+    second: (&[u8], X),
+) -> Option<(X, &'a [u8])>
+    requires first { is_word first.0.now ≡ true }
+    requires second { is_word second.0.now ≡ true }
+    ensures { (rows : List (List ℕ × X)) → lookup first.entry.0.now rows ≡ Some first.entry.1 →
+        lookup second.entry.0.now rows ≡ Some second.entry.1 →
+        IfSome result (λ found. IsNamed rows found.0 bytes.entry.now found.1.now) }
+{
+    match named(bytes, first.0, first.1) {
+        Some(found) => Some(found),
+        None => named(bytes, second.0, second.1),
+    }
 }
 
 /// The next token and the line behind it where it is a word whose first letter is no X, which may

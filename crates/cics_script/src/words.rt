@@ -196,21 +196,6 @@ static COMMANDS_W: [(&str, CommandWord); 2] = [
 
 static NO_COMMANDS: [(&str, CommandWord); 0] = [];
 
-static WRITEQ_WORDS: [(&str, CommandWord); 2] = [
-    ("TS", CommandWord::WriteqTs),
-    ("TD", CommandWord::WriteqTd),
-];
-
-static READQ_WORDS: [(&str, CommandWord); 2] = [
-    ("TS", CommandWord::ReadqTs),
-    ("TD", CommandWord::ReadqTd),
-];
-
-static DELETEQ_WORDS: [(&str, CommandWord); 2] = [
-    ("TS", CommandWord::DeleteqTs),
-    ("TD", CommandWord::DeleteqTd),
-];
-
 // The options by the first letters of their words: a line's word is compared with few others.
 
 static OPTIONS_A: [(&str, OptionWord); 2] = [
@@ -569,11 +554,12 @@ pub fn is_of_queue(verb: CommandWord) -> bool
 pub fn queue_command(verb: CommandWord, word: &[u8]) -> Option<CommandWord>
     ensures { result ≡ lookup (map capital word.now) (queue_words verb) }
 {
-    match verb {
-        CommandWord::WriteqTs => find_row(&WRITEQ_WORDS, word),
-        CommandWord::ReadqTs => find_row(&READQ_WORDS, word),
-        CommandWord::DeleteqTs => find_row(&DELETEQ_WORDS, word),
-        _ => None,
+    if is_spelled(word, b"TS") {
+        ts_command(verb)
+    } else if is_spelled(word, b"TD") {
+        td_command(verb)
+    } else {
+        None
     }
 }
 
