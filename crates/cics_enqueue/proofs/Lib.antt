@@ -1,8 +1,9 @@
+mod Rows
 pub mod Apart
 pub mod Lawful
 pub mod Least
+pub mod Numbers
 pub mod Owning
-mod Rows
 pub mod Seeking
 pub mod TableLaws
 pub mod Tables

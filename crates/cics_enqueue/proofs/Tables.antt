@@ -368,7 +368,7 @@ released-let_go es key unit sound rises = by (lookup (finds key) es) refl
     ] refl
 
 -- a key that a unit's list lost, and that isn't its own
-AreOwned-passed : (key : Bytes) (es : Entries) (own after : Owned) (unit : ℕ) → is_units unit (lookup (finds key) es) ≡ false → Drops unit key own after → AreOwned es own → AreOwned es after
+pub AreOwned-passed : (key : Bytes) (es : Entries) (own after : Owned) (unit : ℕ) → is_units unit (lookup (finds key) es) ≡ false → Drops unit key own after → AreOwned es own → AreOwned es after
 AreOwned-passed key es own after unit other drops owned u k held = drops u k (not_place (is_place unit key u k) refl) (owned u k held)
   where
     not_place : (b : Bool) → is_place unit key u k ≡ b → is_place unit key u k ≡ false

@@ -1,6 +1,6 @@
 //! Resources as the bytes that a table keeps, and what it keeps under them.
 
-ghost use Rattle.std.specs.Prelude.{◌≡◌, ◌≤◌, ◌+◌, ◌∷◌, ◌++◌, [], length};
+ghost use Rattle.std.specs.Prelude.{◌≡◌, ◌≤◌, ◌+◌, ◌∷◌, ◌++◌, OnOk, [], length};
 ghost use Rattle.std.specs.Option.{option_copied};
 ghost use Rattle.std.specs.Map.{lookup};
 ghost use Rattle.cics_enqueue.specs.Kept.{finds};
@@ -8,13 +8,10 @@ ghost use Rattle.cics_enqueue.specs.Resources.{resource_key};
 
 use crate::borrowed::{Kind, ResourceRef};
 use crate::enqueues::Holding;
-use crate::resources::Resource;
+use crate::keys::{Key, MOST};
 use arrayvec::ArrayVec;
-use cics_names::{Name4, Name8};
+use cics_names::{Name4, Name8, NoMemory};
 use std::collections::BTreeMap;
-
-// Two bytes, a name of eight and a key of 255.
-pub(crate) const MOST: usize = 265;
 
 // What the bytes of a prefix of keys begin with, the least kind, and those of a key of a file.
 pub(crate) const PREFIX: u8 = 0;
@@ -85,22 +82,6 @@ fn td_bytes(kind: u8, queue: &Name4) -> [u8; 5]
     bytes
 }
 
-// What is kept under a resource. A queue, which a command looks up more than once, is looked up by as many bytes as it has, with
-// no room for those of the longest key.
-pub(crate) fn held<'t>(
-    table: &'t BTreeMap<Vec<u8>, Holding>,
-    resource: &ResourceRef<'_>,
-) -> Option<&'t Holding>
-    ensures { option_copied result ≡ lookup (finds (resource_key resource.now)) table.now.entries }
-{
-    match &resource.kind {
-        Kind::TsQueue(queue) => table.get(ts_bytes(queue).as_slice()),
-        Kind::TdRead(queue) => table.get(td_bytes(TD_READ, queue).as_slice()),
-        Kind::TdWrite(queue) => table.get(td_bytes(TD_WRITE, queue).as_slice()),
-        _ => table.get(compact(resource).as_slice()),
-    }
-}
-
 // Makes an empty key the bytes of a resource.
 fn put_resource(key: &mut ArrayVec<u8, MOST>, resource: &ResourceRef<'_>)
     requires empty { key.old.items ≡ [] }
@@ -119,17 +100,6 @@ fn put_resource(key: &mut ArrayVec<u8, MOST>, resource: &ResourceRef<'_>)
     }
 }
 
-// A user's value as bytes.
-pub(crate) fn value_bytes(value: &[u8]) -> ArrayVec<u8, MOST>
-    requires most { length value.now ≤ 255 }
-    ensures { result.items ≡ 5 ∷ value.now }
-{
-    let mut key = ArrayVec::new();
-    put(&mut key, &[VALUE]);
-    put(&mut key, value);
-    key
-}
-
 // A resource as bytes, by which a table is ordered.
 pub(crate) fn compact(resource: &ResourceRef<'_>) -> ArrayVec<u8, MOST>
     ensures { result.items ≡ resource_key resource.now }
@@ -139,9 +109,98 @@ pub(crate) fn compact(resource: &ResourceRef<'_>) -> ArrayVec<u8, MOST>
     key
 }
 
-// A resource that has its bytes itself, as bytes.
-pub(crate) fn compact_own(resource: &Resource) -> ArrayVec<u8, MOST>
-    ensures { result.items ≡ resource_key resource.now }
+// What the bytes of a key of a file, or of a prefix of keys, begin with.
+fn file_front(kind: u8, file: &Name8) -> [u8; 10]
+    ensures { result ≡ kind ∷ length file.now ∷ file.now }
 {
-    compact(&ResourceRef::of(resource))
+    let mut front = [kind; 10];
+    front[1] = 8;
+    front[2..].copy_from_slice(&file.bytes());
+    front
+}
+
+// Makes a key that of a file's key, or of a prefix of keys.
+pub(crate) fn set_file(key: &mut Key, kind: u8, file: &Name8, bytes: &[u8]) -> Result<(), NoMemory>
+    requires most { length bytes.now ≤ 255 }
+    ensures set { OnOk result (key.new.items
+        ≡ kind ∷ length file.now ∷ (file.now ++ bytes.now)) }
+{
+    key.set(&file_front(kind, file), bytes)
+}
+
+// Makes a key that of a user's value.
+pub(crate) fn set_value(key: &mut Key, value: &[u8]) -> Result<(), NoMemory>
+    requires most { length value.now ≤ 255 }
+    ensures set { OnOk result (key.new.items ≡ 5 ∷ value.now) }
+{
+    key.set(&[VALUE], value)
+}
+
+// Makes a key that of a resource.
+pub(crate) fn set_resource(key: &mut Key, resource: &ResourceRef<'_>) -> Result<(), NoMemory>
+    ensures set { OnOk result (key.new.items ≡ resource_key resource.now) }
+{
+    match &resource.kind {
+        Kind::FileKey(file, bytes) => set_file(key, KEY, file, bytes),
+        Kind::TsQueue(queue) => key.set_short(&ts_bytes(queue)),
+        Kind::TdRead(queue) => key.set_short(&td_bytes(TD_READ, queue)),
+        Kind::TdWrite(queue) => key.set_short(&td_bytes(TD_WRITE, queue)),
+        Kind::User(value) => set_value(key, value),
+        Kind::FilePrefix(file, bytes) => set_file(key, PREFIX, file, bytes),
+    }
+}
+
+// What is kept under bytes, found by going through the whole table: for where there is no room for a key of them.
+fn find_among<'t>(table: &'t BTreeMap<Key, Holding>, bytes: &[u8]) -> Option<&'t Holding>
+    ensures { option_copied result ≡ lookup (finds bytes.now) table.now.entries }
+{
+    for (key, holding) in table {
+        if bytes == key.as_slice() {
+            return Some(holding);
+        }
+    }
+    None
+}
+
+// What is kept under a resource, found by going through the whole table.
+#[inline(never)]
+fn find_resource<'t>(
+    table: &'t BTreeMap<Key, Holding>,
+    resource: &ResourceRef<'_>,
+) -> Option<&'t Holding>
+    ensures { option_copied result ≡ lookup (finds (resource_key resource.now)) table.now.entries }
+{
+    find_among(table, compact(resource).as_slice())
+}
+
+// What is kept under these bytes, which a key is filled with.
+pub(crate) fn held_under<'t>(
+    table: &'t BTreeMap<Key, Holding>,
+    key: &mut Key,
+    bytes: &[u8],
+) -> Option<&'t Holding>
+    requires most { length bytes.now ≤ 265 }
+    ensures { option_copied result ≡ lookup (finds bytes.now) table.now.entries }
+{
+    match key.set(&[], bytes) {
+        Ok(()) => table.get(&*key),
+        Err(_) => find_among(table, bytes),
+    }
+}
+
+// What is kept under a resource.
+pub(crate) fn held<'t>(
+    table: &'t BTreeMap<Key, Holding>,
+    key: &mut Key,
+    resource: &ResourceRef<'_>,
+) -> Option<&'t Holding>
+    ensures { option_copied result ≡ lookup (finds (resource_key resource.now)) table.now.entries }
+{
+    if table.is_empty() {
+        return None;
+    }
+    match set_resource(key, resource) {
+        Ok(()) => table.get(&*key),
+        Err(_) => find_resource(table, resource),
+    }
 }

@@ -3,22 +3,23 @@
 ghost use Rattle.cics_enqueue.specs.declared.resources.Resource.TheVariants.{FileKey, FilePrefix, User};
 ghost use Rattle.std.specs.Prelude.{◌≡◌, ◌≤◌, IfNone, IfSome, length, [], ◌+◌};
 ghost use Rattle.std.specs.Prelude.{if◌then◌else◌, IsTrue, true, false, ◌↔◌, OnOk, OnErr, IfErr};
-ghost use Rattle.std.specs.Prelude.{IfOk, T, None, Some, ℕ, is_some, not, option_map, IsSome};
+ghost use Rattle.std.specs.Prelude.{IfOk, List, T, None, Some, ℕ, is_some, not, option_map, IsSome};
 ghost use Rattle.cics_enqueue.specs.Kept.{count_after, is_held_full, without_own, Frees, seen};
-ghost use Rattle.cics_enqueue.specs.Kept.{finds, key_cmp, PutsNew};
+ghost use Rattle.cics_enqueue.specs.Kept.{finds, key_cmp, PutsNew, IsKept, table_of};
 ghost use Rattle.std.specs.Map.{lookup};
 ghost use Rattle.std.specs.Option.{unwrap_or};
 ghost use Rattle.std.specs.BTreeMap.{btree_map_len, insert_entry};
 ghost use Rattle.std.specs.Global.{Vec};
 ghost use Rattle.cics_enqueue.specs.Resources.{bytes_of, holder_of, holder_over, held_with_prefix};
 ghost use Rattle.cics_enqueue.specs.Resources.{count_of, IsFreeFor, IsFreeBut, HoldsLeast, is_full};
-ghost use Rattle.cics_enqueue.specs.Resources.{taken, given_back, released};
+ghost use Rattle.cics_enqueue.specs.Resources.{taken, given_back, released, other_than};
 ghost use Rattle.cics_enqueue.specs.Resources.{held_at, is_user, is_in_order, resource_key};
 ghost use Rattle.cics_enqueue.specs.ResourceLaws.{resource_of};
 
 use crate::borrowed::{Kind, ResourceRef};
-use crate::compact::{KEY, MOST, PREFIX, compact, compact_own, file_bytes, held, value_bytes};
-use crate::overlaps::{has_prefixes, least_holder, other_holder, other_unit, shorter_holder};
+use crate::compact::{compact, held, set_resource, set_value};
+use crate::keys::Key;
+use crate::overlaps::{has_prefixes, key_holder, least_holder, other_unit, shorter_holder};
 use crate::owned::{self, Owned};
 use crate::resources::{Resource, UnitId};
 use cics_names::{Name8, NoMemory};
@@ -71,10 +72,10 @@ pub(crate) struct Holding {
 /// Contracts see it as the list of what is held, in the order of the resources, each with its unit and how many times.
 #[derive(Drop)]
 pub struct Enqueues {
-    table: BTreeMap<Vec<u8>, Holding>,
+    table: BTreeMap<Key, Holding>,
     owned: Owned,
     // The bytes at which a look-up by prefix begins. A take makes room for any, so that no look-up needs memory.
-    bound: Cell<Vec<u8>>,
+    bound: Cell<Key>,
     alloc: Global,
 }
 
@@ -110,8 +111,8 @@ fn raise(holding: &mut Holding, user: bool) -> Result<(), TakeFault>
 
 // What is kept under a key, which is this holding where nothing was.
 fn or_put(
-    table: &mut BTreeMap<Vec<u8>, Holding>,
-    key: Vec<u8>,
+    table: &mut BTreeMap<Key, Holding>,
+    key: Key,
     holding: Holding,
 ) -> Result<Holding, NoMemory>
     ensures value { IfOk result (λ h. h
@@ -127,19 +128,10 @@ fn or_put(
     Ok(*table.entry(key)?.or_insert(holding))
 }
 
-// Whether a resource is a queue, or an end of one. No clause speaks of it: whatever it says, a resource
-// is held the same, and only the look-ups differ.
-fn uses_queue(resource: &ResourceRef<'_>) -> bool {
-    matches!(
-        &resource.kind,
-        Kind::TsQueue(_) | Kind::TdRead(_) | Kind::TdWrite(_)
-    )
-}
-
 // Puts a holding under a key where nothing is kept there, and answers what is, in one look-up.
 fn put_first(
-    table: &mut BTreeMap<Vec<u8>, Holding>,
-    key: Vec<u8>,
+    table: &mut BTreeMap<Key, Holding>,
+    key: Key,
     holding: Holding,
 ) -> Result<Option<Holding>, NoMemory>
     ensures held { IfOk result (λ held. held ≡ lookup (finds key.items) table.old.entries) }
@@ -159,9 +151,9 @@ fn put_first(
 
 // Frees what is kept under a key, if it is this unit's, whatever its count: one that the unit gave back may be
 // another's by now.
-fn free_key(table: &mut BTreeMap<Vec<u8>, Holding>, key: &[u8], unit: UnitId)
-    ensures entries { table.new.entries ≡ without_own unit key.now table.old.entries }
-    ensures each { Frees unit key.now table.old.entries table.new.entries }
+fn free_key(table: &mut BTreeMap<Key, Holding>, key: &Key, unit: UnitId)
+    ensures entries { table.new.entries ≡ without_own unit key.now.items table.old.entries }
+    ensures each { Frees unit key.now.items table.old.entries table.new.entries }
 {
     let is_own = match table.get(key) {
         Some(holding) => holding.unit == unit,
@@ -172,6 +164,31 @@ fn free_key(table: &mut BTreeMap<Vec<u8>, Holding>, key: &[u8], unit: UnitId)
     }
 }
 
+// Takes one take away from what is kept under a key, if it is this unit's, and tells whether nothing is left of it.
+fn lessen(table: &mut BTreeMap<Key, Holding>, key: &Key, unit: UnitId) -> bool
+    requires key { resource_key (resource_of key.now.items) ≡ key.now.items }
+    ensures kept { (own : List (ℕ × Vec (Vec ℕ))) → IsKept table.old.entries own → IsKept table.new.entries own }
+    ensures given { (own : List (ℕ × Vec (Vec ℕ))) → IsKept table.old.entries own → table_of table.new.entries
+        ≡ given_back (table_of table.old.entries) (resource_of key.now.items) unit }
+    ensures freed { result ≡ true → lookup (finds key.now.items) table.new.entries ≡ None }
+{
+    let Some(holding) = table.get(key) else {
+        return false;
+    };
+    if holding.unit != unit {
+        return false;
+    }
+    if holding.count > 1 {
+        let Some(holding) = table.get_mut(key) else {
+            unreachable!()
+        };
+        holding.count -= 1;
+        return false;
+    }
+    table.remove(key);
+    true
+}
+
 impl Enqueues {
     /// An empty table: no unit holds anything. What it grows by comes from `alloc`.
     pub fn new(alloc: Global) -> Enqueues
@@ -180,7 +197,7 @@ impl Enqueues {
         Enqueues {
             table: BTreeMap::new(alloc),
             owned: IndexMap::new(alloc),
-            bound: Cell::new(Vec::new(alloc)),
+            bound: Cell::new(Key::new(alloc)),
             alloc,
         }
     }
@@ -196,18 +213,26 @@ impl Enqueues {
     pub fn holder_of(&self, resource: &ResourceRef<'_>) -> Option<UnitId>
         ensures { result ≡ holder_of resource.now self.now }
     {
-        let holding = held(&self.table, resource)?;
-        Some(holding.unit)
+        let mut key = self.bound.replace(Key::new(self.alloc));
+        let unit = match held(&self.table, &mut key, resource) {
+            Some(holding) => Some(holding.unit),
+            None => None,
+        };
+        self.bound.set(key);
+        unit
     }
 
     /// How many times a resource is held: 0 where it is free, and more than 1 only for a user's value.
     pub fn count(&self, resource: &Resource) -> u16
         ensures { result ≡ count_of resource.now self.now }
     {
-        match self.table.get(compact_own(resource).as_slice()) {
+        let mut key = self.bound.replace(Key::new(self.alloc));
+        let count = match held(&self.table, &mut key, &ResourceRef::of(resource)) {
             Some(holding) => holding.count,
             None => 0,
-        }
+        };
+        self.bound.set(key);
+        count
     }
 
     /// The unit, another than `but_not`, that holds the least of what overlaps a resource, or None where no other unit holds
@@ -228,8 +253,18 @@ impl Enqueues {
         match &resource.kind {
             Kind::FilePrefix(file, prefix) => self.held_with_prefix(*file, prefix, but_not),
             Kind::FileKey(file, key) => self.holder_of_key(*file, key, &but_not),
-            _ => other_unit(held(&self.table, resource), &but_not),
+            _ => self.other_of(resource, &but_not),
         }
+    }
+
+    // The unit, another than the asker, that holds a resource.
+    fn other_of(&self, resource: &ResourceRef<'_>, asker: &Option<UnitId>) -> Option<UnitId>
+        ensures { result ≡ other_than asker.now (holder_of resource.now self.now) }
+    {
+        let mut key = self.bound.replace(Key::new(self.alloc));
+        let unit = other_unit(held(&self.table, &mut key, resource), asker);
+        self.bound.set(key);
+        unit
     }
 
     /// The unit, another than `but_not`, that holds the least key of a file or prefix of keys that overlaps a prefix of at most
@@ -250,13 +285,14 @@ impl Enqueues {
         ensures least { IfSome result (HoldsLeast self.now
             (FilePrefix file (bytes_of prefix.now)) but_not) }
     {
+        let mut bound = self.bound.replace(Key::new(self.alloc));
         if has_prefixes(&self.table) {
-            let shorter = shorter_holder(&self.table, file, prefix, &but_not);
+            let shorter = shorter_holder(&self.table, &mut bound, file, prefix, &but_not);
             if shorter.is_some() {
+                self.bound.set(bound);
                 return shorter;
             }
         }
-        let mut bound = self.bound.replace(Vec::new(self.alloc));
         let least = least_holder(&self.table, &mut bound, file, prefix, &but_not);
         self.bound.set(bound);
         least
@@ -268,18 +304,10 @@ impl Enqueues {
         requires most { length key.now ≤ 255 }
         ensures { result ≡ holder_over (FileKey file (bytes_of key.now)) asker.now self.now }
     {
-        let holder = other_holder(&self.table, file_bytes(KEY, file, key).as_slice(), asker);
-        if !has_prefixes(&self.table) {
-            return holder;
-        }
-        let shorter = shorter_holder(&self.table, file, key, asker);
-        if shorter.is_some() {
-            return shorter;
-        }
-        if holder.is_some() {
-            return holder;
-        }
-        other_holder(&self.table, file_bytes(PREFIX, file, key).as_slice(), asker)
+        let mut bound = self.bound.replace(Key::new(self.alloc));
+        let holder = key_holder(&self.table, &mut bound, file, key, asker);
+        self.bound.set(bound);
+        holder
     }
 
     /// Takes a resource for a unit that may take it: no other unit holds anything that overlaps it. A user's value is taken
@@ -293,11 +321,40 @@ impl Enqueues {
             ↔ IsTrue (is_full resource self.old)) }
         ensures err { OnErr result (self.new ≡ self.old) }
     {
-        let bytes = compact_own(&resource);
-        let key = bytes.as_slice();
+        let mut key = self.bound.replace(Key::new(self.alloc));
+        if set_resource(&mut key, &ResourceRef::of(&resource)).is_err() {
+            return Err(self.refusal(&resource));
+        }
+        let answer = self.take_key(&key, unit, resource.is_user());
+        self.bound.set(key);
+        answer
+    }
+
+    // Why a resource can't be taken where there is no memory to look for it by its key.
+    fn refusal(&self, resource: &Resource) -> TakeFault
+        ensures { (result ≡ TakeFault.Full) ↔ IsTrue (is_full resource.now self.now) }
+    {
+        if resource.is_user() && self.count(resource) == u16::MAX {
+            TakeFault::Full
+        } else {
+            TakeFault::NoMemory
+        }
+    }
+
+    // Takes a resource, by its key, as `take` does.
+    fn take_key(&mut self, key: &Key, unit: UnitId, user: bool) -> Result<(), TakeFault>
+        requires key { resource_key (resource_of key.now.items) ≡ key.now.items }
+        requires user { user ≡ is_user (resource_of key.now.items) }
+        requires free { IsFreeFor self.old (resource_of key.now.items) unit }
+        ensures taken { OnOk result (self.new ≡ taken self.old (resource_of key.now.items) unit) }
+        ensures room { OnOk result (is_full (resource_of key.now.items) self.old ≡ false) }
+        ensures full { IfErr result (λ fault. fault ≡ TakeFault.Full
+            ↔ IsTrue (is_full (resource_of key.now.items) self.old)) }
+        ensures err { OnErr result (self.new ≡ self.old) }
+    {
         // What the unit holds is taken once more without memory.
         if self.table.contains_key(key) {
-            return self.take_again(key, resource.is_user());
+            return self.take_again(key, user);
         }
         self.take_free(key, unit)?;
         Ok(())
@@ -323,8 +380,30 @@ impl Enqueues {
             → holder_over (User (bytes_of value.now)) (Some unit) self.old ≡ None) }
         ensures err { OnErr result (self.new ≡ self.old) }
     {
-        let bytes = value_bytes(value);
-        let key = bytes.as_slice();
+        let mut key = self.bound.replace(Key::new(self.alloc));
+        set_value(&mut key, value)?;
+        let answer = self.enq_key(&key, unit);
+        self.bound.set(key);
+        answer
+    }
+
+    // Takes a user's value, by its key, where it is free or the unit's own, and else answers who holds it.
+    fn enq_key(&mut self, key: &Key, unit: UnitId) -> Result<Option<UnitId>, TakeFault>
+        requires key { resource_key (resource_of key.now.items) ≡ key.now.items }
+        requires user { is_user (resource_of key.now.items) ≡ true }
+        ensures holder { IfOk result (λ holder. holder
+            ≡ other_than (Some unit) (holder_of (resource_of key.now.items) self.old)) }
+        ensures taken { IfOk result (λ holder. self.new ≡ (if is_some holder
+            then self.old
+            else taken self.old (resource_of key.now.items) unit)) }
+        ensures room { IfOk result (λ holder. IfNone holder
+            (is_full (resource_of key.now.items) self.old ≡ false)) }
+        ensures full { IfErr result (λ fault. fault ≡ TakeFault.Full
+            → is_full (resource_of key.now.items) self.old ≡ true) }
+        ensures own { IfErr result (λ fault. fault ≡ TakeFault.Full
+            → other_than (Some unit) (holder_of (resource_of key.now.items) self.old) ≡ None) }
+        ensures err { OnErr result (self.new ≡ self.old) }
+    {
         let Some(held) = self.take_free(key, unit)? else {
             return Ok(None);
         };
@@ -349,30 +428,46 @@ impl Enqueues {
             else self.new) ≡ self.old) }
         ensures err { OnErr result (self.new ≡ self.old) }
     {
-        // A unit uses a queue again and again, and to find that it holds it takes no bytes of its own.
-        if uses_queue(resource) && held(&self.table, resource).is_some() {
+        let mut key = self.bound.replace(Key::new(self.alloc));
+        set_resource(&mut key, resource)?;
+        let answer = self.hold_key(&key, unit);
+        self.bound.set(key);
+        answer
+    }
+
+    // Takes a resource, by its key, as `hold` does.
+    fn hold_key(&mut self, key: &Key, unit: UnitId) -> Result<bool, NoMemory>
+        requires key { resource_key (resource_of key.now.items) ≡ key.now.items }
+        requires plain { is_user (resource_of key.now.items) ≡ false }
+        requires free { IsFreeFor self.old (resource_of key.now.items) unit }
+        ensures was_free { IfOk result (λ was_free.
+            is_some (holder_of (resource_of key.now.items) self.old) ≡ not was_free) }
+        ensures taken { OnOk result (self.new
+            ≡ taken self.old (resource_of key.now.items) unit) }
+        ensures undone { IfOk result (λ was_free. (if was_free
+            then given_back self.new (resource_of key.now.items) unit
+            else self.new) ≡ self.old) }
+        ensures err { OnErr result (self.new ≡ self.old) }
+    {
+        if self.table.contains_key(key) {
             return Ok(false);
         }
-        let bytes = compact(resource);
-        let was_held = self.take_free(bytes.as_slice(), unit)?;
+        let was_held = self.take_free(key, unit)?;
         Ok(was_held.is_none())
     }
 
     // Takes a resource, by its bytes, for a unit where nobody holds it, and else answers how it is held: in one look-up.
     #[tactic(auto, using(crate::proofs::Tables::in_order))]
-    fn take_free(&mut self, key: &[u8], unit: UnitId) -> Result<Option<Holding>, NoMemory>
-        requires key { resource_key (resource_of key.now) ≡ key.now }
+    fn take_free(&mut self, key: &Key, unit: UnitId) -> Result<Option<Holding>, NoMemory>
+        requires key { resource_key (resource_of key.now.items) ≡ key.now.items }
         ensures in_order { T (is_in_order self.old) }
         ensures held { IfOk result (λ held.
-            option_map seen held ≡ held_at (resource_of key.now) self.old) }
+            option_map seen held ≡ held_at (resource_of key.now.items) self.old) }
         ensures table { IfOk result (λ held. self.new
-            ≡ (if is_some held then self.old else taken self.old (resource_of key.now) unit)) }
+            ≡ (if is_some held then self.old else taken self.old (resource_of key.now.items) unit)) }
         ensures err { OnErr result (self.new ≡ self.old) }
     {
-        let bound = self.bound.get_mut();
-        bound.clear();
-        bound.reserve(MOST)?;
-        let kept = Vec::from_slice(self.alloc, key)?;
+        let kept = key.copy(self.alloc)?;
         let held = put_first(&mut self.table, kept, Holding { unit, count: 1 })?;
         if held.is_some() {
             return Ok(held);
@@ -385,14 +480,14 @@ impl Enqueues {
     }
 
     // Takes a resource once more, by its bytes, for the unit that holds it. NoMemory where nobody does.
-    fn take_again(&mut self, key: &[u8], user: bool) -> Result<(), TakeFault>
-        requires key { resource_key (resource_of key.now) ≡ key.now }
-        requires user { user ≡ is_user (resource_of key.now) }
-        ensures taken { (u : ℕ) → IfSome (holder_of (resource_of key.now) self.old) (λ v. v ≡ u) →
-            OnOk result (self.new ≡ taken self.old (resource_of key.now) u) }
-        ensures room { OnOk result (is_full (resource_of key.now) self.old ≡ false) }
+    fn take_again(&mut self, key: &Key, user: bool) -> Result<(), TakeFault>
+        requires key { resource_key (resource_of key.now.items) ≡ key.now.items }
+        requires user { user ≡ is_user (resource_of key.now.items) }
+        ensures taken { (u : ℕ) → IfSome (holder_of (resource_of key.now.items) self.old) (λ v. v ≡ u) →
+            OnOk result (self.new ≡ taken self.old (resource_of key.now.items) u) }
+        ensures room { OnOk result (is_full (resource_of key.now.items) self.old ≡ false) }
         ensures full { IfErr result (λ fault. fault ≡ TakeFault.Full
-            ↔ IsTrue (is_full (resource_of key.now) self.old)) }
+            ↔ IsTrue (is_full (resource_of key.now.items) self.old)) }
         ensures err { OnErr result (self.new ≡ self.old) }
     {
         let Some(holding) = self.table.get_mut(key) else {
@@ -412,23 +507,40 @@ impl Enqueues {
     pub fn let_go(&mut self, resource: &ResourceRef<'_>, unit: UnitId)
         ensures { self.new ≡ given_back self.old resource.now unit }
     {
-        let bytes = compact(resource);
-        let key = bytes.as_slice();
-        let Some(holding) = self.table.get(key) else {
-            return;
-        };
-        if holding.unit != unit {
-            return;
+        let mut key = self.bound.replace(Key::new(self.alloc));
+        match set_resource(&mut key, resource) {
+            Ok(()) => self.let_go_key(&key, unit),
+            Err(_) => self.let_go_keyless(resource, unit),
         }
-        if holding.count > 1 {
-            let Some(holding) = self.table.get_mut(key) else {
-                unreachable!()
-            };
-            holding.count -= 1;
-            return;
+        self.bound.set(key);
+    }
+
+    // Gives back one take of a resource, where there is no room for a key of it.
+    #[inline(never)]
+    fn let_go_keyless(&mut self, resource: &ResourceRef<'_>, unit: UnitId)
+        ensures { self.new ≡ given_back self.old resource.now unit }
+    {
+        self.let_go_listed(compact(resource).as_slice(), unit);
+    }
+
+    // Gives back one take of a resource, by its bytes, where there is no room for a key: by that in the unit's list.
+    fn let_go_listed(&mut self, bytes: &[u8], unit: UnitId)
+        requires key { resource_key (resource_of bytes.now) ≡ bytes.now }
+        ensures { self.new ≡ given_back self.old (resource_of bytes.now) unit }
+    {
+        if let Some(key) = owned::find(&self.owned, unit, bytes) {
+            lessen(&mut self.table, key, unit);
         }
-        self.table.remove(key);
-        owned::remove(&mut self.owned, unit, key);
+    }
+
+    // Gives back one take of a resource, by its key.
+    fn let_go_key(&mut self, key: &Key, unit: UnitId)
+        requires key { resource_key (resource_of key.now.items) ≡ key.now.items }
+        ensures { self.new ≡ given_back self.old (resource_of key.now.items) unit }
+    {
+        if lessen(&mut self.table, key, unit) {
+            owned::remove(&mut self.owned, unit, key);
+        }
     }
 
     /// Frees all that a unit holds, at a cost that goes by what it took since it began, and may have given back. Takes no memory.
@@ -442,7 +554,7 @@ impl Enqueues {
             return;
         }
         while let Some(key) = owned::pop(&mut self.owned, unit) {
-            free_key(&mut self.table, key.as_slice(), unit);
+            free_key(&mut self.table, &key, unit);
         }
         self.owned.swap_remove(&unit);
     }

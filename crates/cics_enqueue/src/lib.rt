@@ -7,6 +7,7 @@
 mod borrowed;
 mod compact;
 mod enqueues;
+mod keys;
 mod laws;
 mod overlaps;
 mod owned;

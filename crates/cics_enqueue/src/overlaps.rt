@@ -1,6 +1,6 @@
 //! Look-ups of what overlaps a resource and is another unit's.
 
-ghost use Rattle.std.specs.Prelude.{◌≡◌, ◌≤◌, ◌∷◌, [], length, drop, None, true};
+ghost use Rattle.std.specs.Prelude.{◌≡◌, ◌≤◌, ◌∷◌, ◌++◌, [], length, drop, None, true};
 ghost use Rattle.std.specs.Prelude.{if◌then◌else◌, option_map};
 ghost use Rattle.std.specs.Bool.{OnFalse};
 ghost use Rattle.cics_names.specs.Keyed.{Bytes, is_below};
@@ -8,10 +8,11 @@ ghost use Rattle.cics_enqueue.specs.Kept.{finds, first_shorter, first_shown, lea
 ghost use Rattle.cics_enqueue.specs.Kept.{others_unit};
 ghost use Rattle.std.specs.Map.{lookup};
 ghost use Rattle.std.specs.Option.{option_copied};
-ghost use Rattle.cics_enqueue.specs.Resources.{is_other, begins_with};
+ghost use Rattle.cics_enqueue.specs.Resources.{is_other, begins_with, first_of};
 
-use crate::compact::{KEY, PREFIX, file_bytes};
+use crate::compact::{KEY, PREFIX, file_bytes, held_under};
 use crate::enqueues::Holding;
+use crate::keys::Key;
 use crate::resources::UnitId;
 use cics_names::Name8;
 use std::collections::BTreeMap;
@@ -42,33 +43,36 @@ pub(crate) fn other_unit(held: Option<&Holding>, asker: &Option<UnitId>) -> Opti
     }
 }
 
-// The unit that holds what is kept under a key, if it is another than the asker.
+// The unit that holds what is kept under bytes, if it is another than the asker.
 pub(crate) fn other_holder(
-    table: &BTreeMap<Vec<u8>, Holding>,
-    key: &[u8],
+    table: &BTreeMap<Key, Holding>,
+    bound: &mut Key,
+    bytes: &[u8],
     asker: &Option<UnitId>,
 ) -> Option<UnitId>
-    ensures { result ≡ others_unit asker.now (lookup (finds key.now) table.now.entries) }
+    requires most { length bytes.now ≤ 265 }
+    ensures { result ≡ others_unit asker.now (lookup (finds bytes.now) table.now.entries) }
 {
-    other_unit(table.get(key), asker)
+    other_unit(held_under(table, bound, bytes), asker)
 }
 
 // Sets the bound at which a look-up of what begins with some bytes begins: to these. Were there no room for them, it would be
 // no bytes, and the look-up would go through the whole table.
-fn set_bound(bound: &mut Vec<u8>, start: &[u8])
+fn set_bound(bound: &mut Key, start: &[u8])
+    requires most { length start.now ≤ 265 }
     ensures { begins_with bound.new.items start.now ≡ true }
 {
-    bound.clear();
-    let _ = bound.extend_from_slice(start);
+    let _ = bound.set(&[], start);
 }
 
 // The bytes and the unit of the first entry that begins with some bytes and is another unit's than the asker's.
 pub(crate) fn first_under<'t>(
-    table: &'t BTreeMap<Vec<u8>, Holding>,
-    bound: &mut Vec<u8>,
+    table: &'t BTreeMap<Key, Holding>,
+    bound: &mut Key,
     start: &[u8],
     asker: &Option<UnitId>,
 ) -> Option<(&'t [u8], UnitId)>
+    requires most { length start.now ≤ 265 }
     ensures { option_map (λ p. (p.0.now, p.1)) result
         ≡ first_shown start.now asker.now table.now.entries }
 {
@@ -91,11 +95,11 @@ pub(crate) fn first_under<'t>(
 }
 
 // Whether a prefix of keys can be held: the bytes of one come before those of all else.
-pub(crate) fn has_prefixes(table: &BTreeMap<Vec<u8>, Holding>) -> bool
+pub(crate) fn has_prefixes(table: &BTreeMap<Key, Holding>) -> bool
     ensures { OnFalse result ((b : Bytes) → lookup (finds (0 ∷ b)) table.now.entries ≡ None) }
 {
     match table.first_key_value() {
-        Some((key, _)) => match key.first() {
+        Some((key, _)) => match key.as_slice().first() {
             Some(kind) => *kind == PREFIX,
             None => true,
         },
@@ -105,7 +109,8 @@ pub(crate) fn has_prefixes(table: &BTreeMap<Vec<u8>, Holding>) -> bool
 
 // The unit, another than the asker, that holds the shortest prefix of keys with which bytes begin, but these themselves.
 pub(crate) fn shorter_holder(
-    table: &BTreeMap<Vec<u8>, Holding>,
+    table: &BTreeMap<Key, Holding>,
+    bound: &mut Key,
     file: Name8,
     bytes: &[u8],
     asker: &Option<UnitId>,
@@ -115,7 +120,7 @@ pub(crate) fn shorter_holder(
 {
     let mut key = file_bytes(PREFIX, file, &[]);
     for byte in bytes {
-        let holder = other_holder(table, key.as_slice(), asker);
+        let holder = other_holder(table, bound, key.as_slice(), asker);
         if holder.is_some() {
             return holder;
         }
@@ -147,8 +152,8 @@ fn lesser_holder(key: &[u8], holder: UnitId, prefix: &[u8], other: UnitId) -> Un
 
 // The unit, another than the asker, that holds the least key or prefix of keys that begins with a prefix.
 pub(crate) fn least_holder(
-    table: &BTreeMap<Vec<u8>, Holding>,
-    bound: &mut Vec<u8>,
+    table: &BTreeMap<Key, Holding>,
+    bound: &mut Key,
     file: Name8,
     prefix: &[u8],
     asker: &Option<UnitId>,
@@ -168,4 +173,38 @@ pub(crate) fn least_holder(
         return Some(key.1);
     };
     Some(lesser_holder(key.0, key.1, prefix.0, prefix.1))
+}
+
+// The unit, another than the asker, that holds the first of what overlaps a key: a shorter prefix, the key, or the prefix that
+// has its bytes.
+pub(crate) fn key_holder(
+    table: &BTreeMap<Key, Holding>,
+    bound: &mut Key,
+    file: Name8,
+    key: &[u8],
+    asker: &Option<UnitId>,
+) -> Option<UnitId>
+    requires most { length key.now ≤ 255 }
+    ensures { result ≡ first_of (first_shorter asker.now table.now.entries file key.now)
+        (first_of
+        (others_unit asker.now (lookup (finds (1 ∷ length file ∷ (file ++ key.now))) table.now.entries))
+        (others_unit asker.now (lookup (finds (0 ∷ length file ∷ (file ++ key.now))) table.now.entries))) }
+{
+    let holder = other_holder(table, bound, file_bytes(KEY, file, key).as_slice(), asker);
+    if !has_prefixes(table) {
+        return holder;
+    }
+    let shorter = shorter_holder(table, bound, file, key, asker);
+    if shorter.is_some() {
+        return shorter;
+    }
+    if holder.is_some() {
+        return holder;
+    }
+    other_holder(
+        table,
+        bound,
+        file_bytes(PREFIX, file, key).as_slice(),
+        asker,
+    )
 }

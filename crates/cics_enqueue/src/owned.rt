@@ -9,6 +9,7 @@ ghost use Rattle.cics_names.specs.Keyed.{is_same};
 ghost use Rattle.cics_enqueue.specs.Kept.{finds, owns, own_count, OwnsSame, Adds, Drops};
 ghost use Rattle.cics_enqueue.specs.Resources.{is_other};
 
+use crate::keys::Key;
 use crate::overlaps::is_another;
 use crate::resources::UnitId;
 use cics_names::NoMemory;
@@ -17,7 +18,7 @@ use std::alloc::Global;
 
 // For each unit its keys in the order in which it took them. One that is given back before later ones stands here
 // until the unit ends: to look for it would cost more than to pass it over then.
-pub(crate) type Owned = IndexMap<UnitId, Vec<Vec<u8>>>;
+pub(crate) type Owned = IndexMap<UnitId, Vec<Key>>;
 
 // True only where no unit but the asker has any keys; false says nothing, as a unit that gave all its
 // keys back stands here until it ends. It costs the same whatever the units have.
@@ -35,16 +36,11 @@ pub(crate) fn is_alone(owned: &Owned, asker: &Option<UnitId>) -> bool
 }
 
 // Adds a key to those of a unit.
-pub(crate) fn add(
-    owned: &mut Owned,
-    alloc: Global,
-    unit: UnitId,
-    key: &[u8],
-) -> Result<(), NoMemory>
-    ensures added { OnOk result (Adds unit key.now owned.old.entries owned.new.entries) }
+pub(crate) fn add(owned: &mut Owned, alloc: Global, unit: UnitId, key: &Key) -> Result<(), NoMemory>
+    ensures added { OnOk result (Adds unit key.now.items owned.old.entries owned.new.entries) }
     ensures err { OnErr result (OwnsSame owned.old.entries owned.new.entries) }
 {
-    let key = Vec::from_slice(alloc, key)?;
+    let key = key.copy(alloc)?;
     if let Some(keys) = owned.get_mut(&unit) {
         keys.push(key)?;
         return Ok(());
@@ -56,13 +52,13 @@ pub(crate) fn add(
 }
 
 // Takes a key away where it is the last one.
-fn drop_last(keys: &mut Vec<Vec<u8>>, key: &[u8])
-    ensures { (k : Vec ℕ) → is_same key.now k.items ≡ false →
+fn drop_last(keys: &mut Vec<Key>, key: &Key)
+    ensures { (k : Vec ℕ) → is_same key.now.items k.items ≡ false →
         list_any (finds k.items) keys.old.items ≡ true →
         list_any (finds k.items) keys.new.items ≡ true }
 {
     let is_last = match keys.last() {
-        Some(last) => last.as_slice() == key,
+        Some(last) => last == key,
         None => false,
     };
     if is_last {
@@ -71,16 +67,30 @@ fn drop_last(keys: &mut Vec<Vec<u8>>, key: &[u8])
 }
 
 // Takes a key from those of a unit where it is the one that the unit took last, and else leaves it there.
-pub(crate) fn remove(owned: &mut Owned, unit: UnitId, key: &[u8])
-    ensures { Drops unit key.now owned.old.entries owned.new.entries }
+pub(crate) fn remove(owned: &mut Owned, unit: UnitId, key: &Key)
+    ensures { Drops unit key.now.items owned.old.entries owned.new.entries }
 {
     if let Some(keys) = owned.get_mut(&unit) {
         drop_last(keys, key);
     }
 }
 
+// The key of these bytes among those of a unit.
+pub(crate) fn find<'o>(owned: &'o Owned, unit: UnitId, bytes: &[u8]) -> Option<&'o Key>
+    ensures found { IfSome result (λ key. key.now.items ≡ bytes.now) }
+    ensures none { IfNone result ((k : Vec ℕ) → k.items ≡ bytes.now
+        → owns owned.now.entries unit k ≡ false) }
+{
+    for key in owned.get(&unit)? {
+        if bytes == key.as_slice() {
+            return Some(key);
+        }
+    }
+    None
+}
+
 // Takes one of a unit's keys, if it has any.
-pub(crate) fn pop(owned: &mut Owned, unit: UnitId) -> Option<Vec<u8>>
+pub(crate) fn pop(owned: &mut Owned, unit: UnitId) -> Option<Key>
     ensures fewer { IfSome result (λ key. own_count owned.new.entries unit
         < own_count owned.old.entries unit) }
     ensures taken { IfSome result (λ key. Drops unit key.items owned.old.entries

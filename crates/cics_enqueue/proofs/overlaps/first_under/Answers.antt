@@ -29,8 +29,8 @@ returns-then-is_another c =
     let e : Vec ℕ × Holding = (c.in-Some.key.now, c.in-Some.holding.now) in
     let test = is_others_under start c.args.asker.now in
     let begins : begins_with start c.as_slice-key.result.now ≡ true = sym (starts_with-begins start c.as_slice-key.result.now) ∙ sym c.starts_with.ensures.value ∙ c.if-starts_with.true in
-    let passes : test e ≡ true = (λ i. begins_with start (sym c.as_slice-key.ensures.value i) && is_other c.args.asker.now e.1.unit) ∙ (λ i. begins i && (sym c.is_another-is_another.ensures ∙ c.if-is_another.true) i) in
-    ap (λ b. Some (b, e.1.unit)) c.as_slice-key.ensures.value
+    let passes : test e ≡ true = (λ i. begins_with start (sym c.as_slice-key.ensures i) && is_other c.args.asker.now e.1.unit) ∙ (λ i. begins i && (sym c.is_another-is_another.ensures ∙ c.if-is_another.true) i) in
+    ap (λ b. Some (b, e.1.unit)) c.as_slice-key.ensures
     ∙ sym (ap (option_map bytes_and_unit) (sym c.loop-key.invariant.rest ∙ ap (first_entry test) c.in-Some.ensures.steps ∙ first_entry-here test e c.next.new.self passes))
 
 pub loop-key-preserved-else-is_another : goal.loop-key-preserved-else-is_another
@@ -51,9 +51,9 @@ returns-then-lt c =
     let start = c.args.start.now in
     let e : Vec ℕ × Holding = (c.in-Some.key.now, c.in-Some.holding.now) in
     let test = is_others_under start c.args.asker.now in
-    let begins : begins_with start e.0.items ≡ false = ap (begins_with start) (sym c.as_slice-key.ensures.value) ∙ sym (starts_with-begins start c.as_slice-key.result.now) ∙ sym c.starts_with.ensures.value ∙ c.if-starts_with.false in
+    let begins : begins_with start e.0.items ≡ false = ap (begins_with start) (sym c.as_slice-key.ensures) ∙ sym (starts_with-begins start c.as_slice-key.result.now) ∙ sym c.starts_with.ensures.value ∙ c.if-starts_with.false in
     let fails : test e ≡ false = ap (λ b. b && is_other c.args.asker.now e.1.unit) begins in
-    let above : is_lt (bytes_cmp start e.0.items) ≡ true = ap (λ b. is_lt (bytes_cmp start b)) (sym c.as_slice-key.ensures.value) ∙ sym (ap (is_some_and is_lt) (lists_agrees (λ x y. refl) start c.as_slice-key.result.now)) ∙ sym c.lt.ensures ∙ c.if-lt.true in
+    let above : is_lt (bytes_cmp start e.0.items) ≡ true = ap (λ b. is_lt (bytes_cmp start b)) (sym c.as_slice-key.ensures) ∙ sym (ap (is_some_and is_lt) (lists_agrees (λ x y. refl) start c.as_slice-key.result.now)) ∙ sym c.lt.ensures ∙ c.if-lt.true in
     sym (ap (option_map bytes_and_unit) (sym c.loop-key.invariant.rest ∙ ap (first_entry test) c.in-Some.ensures.steps ∙ first_entry-past test e c.next.new.self fails
     ∙ first_entry-passed start e.0.items c.args.asker.now c.next.new.self above begins (subst Rises c.in-Some.ensures.steps c.loop-key.invariant.rises).0))
 
@@ -62,7 +62,7 @@ loop-key-preserved c =
     let start = c.args.start.now in
     let e : Vec ℕ × Holding = (c.in-Some.key.now, c.in-Some.holding.now) in
     let test = is_others_under start c.args.asker.now in
-    let begins : begins_with start e.0.items ≡ false = ap (begins_with start) (sym c.as_slice-key.ensures.value) ∙ sym (starts_with-begins start c.as_slice-key.result.now) ∙ sym c.starts_with.ensures.value ∙ c.if-starts_with.false in
+    let begins : begins_with start e.0.items ≡ false = ap (begins_with start) (sym c.as_slice-key.ensures) ∙ sym (starts_with-begins start c.as_slice-key.result.now) ∙ sym c.starts_with.ensures.value ∙ c.if-starts_with.false in
     let fails : test e ≡ false = ap (λ b. b && is_other c.args.asker.now e.1.unit) begins in
     record {
       can = tt;

@@ -1,16 +1,17 @@
-use Rattle.std.proofs.Common.{◌∙◌, sym, ap}
+use Rattle.std.proofs.Common.{◌∙◌, sym, ap, refl}
+use Rattle.std.specs.Map.{lookup}
 use Rattle.std.specs.Option.{option_copied, option_map}
-use Rattle.cics_enqueue.specs.Kept.{seen}
-use Rattle.cics_enqueue.specs.Resources.{count_in}
+use Rattle.cics_enqueue.specs.Kept.{seen, finds}
+use Rattle.cics_enqueue.specs.Resources.{count_in, resource_key}
 use Rattle.cics_enqueue.proofs.Tables.{count_of-table_of}
 use Rattle.cics_enqueue.proofs.enqueues.Enqueues.count.Goals as goal
+use Rattle.cics_enqueue.proofs.enqueues.Enqueues.count.Goals.{in-Some, in-None}
 
-pub returns-in-Some : goal.returns-in-Some
-returns-in-Some c = rw (← c.self.view_is) (sym (count_of-table_of c.args.resource.now c.as_slice.result.now
-    (c.as_slice.ensures.value ∙ c.compact_own.ensures) c.self.inside.table.entries (option_copied c.get.result)
-    c.self.invariant.keys c.get.ensures.value ∙ ap (λ o. count_in (option_map seen (option_copied o))) c.in-Some.is))
-
-pub returns-in-None : goal.returns-in-None
-returns-in-None c = rw (← c.self.view_is) (sym (count_of-table_of c.args.resource.now c.as_slice.result.now
-    (c.as_slice.ensures.value ∙ c.compact_own.ensures) c.self.inside.table.entries (option_copied c.get.result)
-    c.self.invariant.keys c.get.ensures.value ∙ ap (λ o. count_in (option_map seen (option_copied o))) c.in-None.is))
+pub returns : goal.returns
+returns c =
+    let r = c.args.resource.now in
+    let is = count_of-table_of r (resource_key r) refl c.self.inside.table.entries (option_copied c.held.result) c.self.invariant.keys (c.held.ensures ∙ ap (λ q. lookup (finds (resource_key q)) c.self.inside.table.entries) c.of.ensures) in
+    rw (← c.self.view_is) (elim c.match-held.branch [
+      | in-Some w ↦ w.count-is ∙ sym (is ∙ ap (λ o. count_in (option_map seen (option_copied o))) w.in-Some.is)
+      | in-None w ↦ w.count-is ∙ sym (is ∙ ap (λ o. count_in (option_map seen (option_copied o))) w.in-None.is)
+    ])

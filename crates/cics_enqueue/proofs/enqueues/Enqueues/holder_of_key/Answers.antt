@@ -1,29 +1,16 @@
-use Rattle.std.proofs.Common.{◌∙◌, [], sym}
-use Rattle.cics_enqueue.specs.Resources.{bytes_of}
+use Rattle.std.proofs.Common.{◌∙◌, ◌∷◌, ◌++◌, [], length, refl, sym}
+use Rattle.cics_enqueue.specs.Resources.{bytes_of, first_of}
 use Rattle.cics_enqueue.specs.declared.resources.Resource.TheVariants.{FileKey, FilePrefix}
-use Rattle.cics_enqueue.proofs.Seeking.{first_of-found, first_of-passed, key_alone, shorter-table_of, other_than-table_of}
+use Rattle.cics_enqueue.proofs.Seeking.{shorter-table_of, other_than-table_of}
 use Rattle.cics_enqueue.proofs.enqueues.Enqueues.holder_of_key.Goals as goal
-
-pub returns-then-not-has_prefixes : goal.returns-then-not-has_prefixes
-returns-then-not-has_prefixes c =
-    rw (← c.self.view_is) (c.other_holder-holder.ensures ∙ key_alone c.args.file c.args.key.now c.as_slice.result.now (c.as_slice.ensures.value ∙ c.file_bytes.ensures.value) c.args.asker.now c.self.inside.table.entries c.self.invariant.keys c.if-not-has_prefixes.ensures)
-
-pub returns-then-is_some : goal.returns-then-is_some
-returns-then-is_some c =
-    let shorter = c.shorter_holder-shorter.ensures ∙ sym (shorter-table_of c.args.file c.args.asker.now c.self.inside.table.entries c.self.invariant.keys c.args.key.now []) in
-    rw (← c.self.view_is) (first_of-found _ _ _ shorter (sym c.if-is_some.ensures))
-
-pub returns-then-is_some-2 : goal.returns-then-is_some-2
-returns-then-is_some-2 c =
-    let es = c.self.inside.table.entries in
-    let shorter = c.shorter_holder-shorter.ensures ∙ sym (shorter-table_of c.args.file c.args.asker.now es c.self.invariant.keys c.args.key.now []) in
-    let key = c.other_holder-holder.ensures ∙ sym (other_than-table_of (FileKey c.args.file (bytes_of c.args.key.now)) c.as_slice.result.now (c.as_slice.ensures.value ∙ c.file_bytes.ensures.value) c.args.asker.now es c.self.invariant.keys) in
-    rw (← c.self.view_is) (first_of-passed _ _ _ _ shorter (sym c.if-is_some.ensures) (first_of-found _ _ _ key (sym c.if-is_some-2.ensures)))
 
 pub returns : goal.returns
 returns c =
     let es = c.self.inside.table.entries in
-    let shorter = c.shorter_holder-shorter.ensures ∙ sym (shorter-table_of c.args.file c.args.asker.now es c.self.invariant.keys c.args.key.now []) in
-    let key = c.other_holder-holder.ensures ∙ sym (other_than-table_of (FileKey c.args.file (bytes_of c.args.key.now)) c.as_slice.result.now (c.as_slice.ensures.value ∙ c.file_bytes.ensures.value) c.args.asker.now es c.self.invariant.keys) in
-    let prefix = c.other_holder.ensures ∙ sym (other_than-table_of (FilePrefix c.args.file (bytes_of c.args.key.now)) c.as_slice-2.result.now (c.as_slice-2.ensures.value ∙ c.file_bytes-2.ensures.value) c.args.asker.now es c.self.invariant.keys) in
-    rw (← c.self.view_is) (first_of-passed _ _ _ _ shorter (sym c.if-is_some.ensures) (first_of-passed _ _ _ _ key (sym c.if-is_some-2.ensures) prefix))
+    let asker = c.args.asker.now in
+    let f = c.args.file in
+    let k = c.args.key.now in
+    let keys = c.self.invariant.keys in
+    rw (← c.self.view_is) (c.key_holder-holder.ensures ∙ sym (λ i. first_of (shorter-table_of f asker es keys k [] i) (first_of
+    (other_than-table_of (FileKey f (bytes_of k)) (1 ∷ length f ∷ (f ++ k)) refl asker es keys i)
+    (other_than-table_of (FilePrefix f (bytes_of k)) (0 ∷ length f ∷ (f ++ k)) refl asker es keys i))))

@@ -1,11 +1,11 @@
-use Rattle.std.proofs.Common.{◌≡◌, ◌∙◌, sym, ap, refl}
+use Rattle.std.proofs.Common.{◌≡◌, ◌∙◌, sym, ap}
 use Rattle.cics_enqueue.specs.Borrowed.{named}
-use Rattle.cics_enqueue.specs.Kept.{table_of, others_unit}
+use Rattle.cics_enqueue.specs.Kept.{table_of}
 use Rattle.cics_enqueue.specs.FreedomLaws.{free_if_none, free_where_none}
-use Rattle.cics_enqueue.specs.Resources.{holder_of, holder_over, other_than, resource_key}
+use Rattle.cics_enqueue.specs.Resources.{holder_of, holder_over, other_than}
 use Rattle.cics_enqueue.proofs.Least.{least_if_some, none_alone}
 use Rattle.cics_enqueue.proofs.Tables.{in_order}
-use Rattle.cics_enqueue.proofs.Seeking.{alone-table_of, other_than-table_of, holder_over-plain}
+use Rattle.cics_enqueue.proofs.Seeking.{alone-table_of, holder_over-plain}
 use Rattle.cics_enqueue.proofs.enqueues.Enqueues.holder_over.Goals as goal
 
 pub returns-in-FilePrefix-clause-free : goal.returns-in-FilePrefix-clause-free
@@ -21,11 +21,10 @@ returns-in-FileKey c =
 
 pub returns-in_default : goal.returns-in_default
 returns-in_default c =
-    let value : c.other_unit.result ≡ holder_over c.args.resource.now c.args.but_not c.args.self.now = rw (← c.self.view_is) (c.other_unit.ensures ∙ ap (others_unit c.args.but_not) c.held.ensures
-    ∙ sym (other_than-table_of c.args.resource.now (resource_key c.args.resource.now) refl c.args.but_not c.self.inside.table.entries c.self.invariant.keys)
-    ∙ ap (λ r. other_than c.args.but_not (holder_of r (table_of c.self.inside.table.entries))) (sym c.resource.view_is)
+    let value : c.other_of.result ≡ holder_over c.args.resource.now c.args.but_not c.args.self.now = c.other_of.ensures
+    ∙ ap (λ r. other_than c.args.but_not (holder_of r c.args.self.now)) (sym c.resource.view_is)
     ∙ sym (holder_over-plain c.resource.inside.kind c.args.but_not _ c.in_default.not-FileKey c.in_default.not-FilePrefix)
-    ∙ ap (λ r. holder_over r c.args.but_not (table_of c.self.inside.table.entries)) c.resource.view_is) in
+    ∙ ap (λ r. holder_over r c.args.but_not c.args.self.now) c.resource.view_is in
     record { value = value; free = free_if_none _ _ c.args.resource.now _ value; least = least_if_some _ _ c.args.resource.now _ (in_order c.self.view_is c.self.invariant) value }
 
 pub returns-in-FilePrefix-clause-least : goal.returns-in-FilePrefix-clause-least

@@ -1,5 +1,5 @@
-use Rattle.std.proofs.Common.{◌∙◌, sym, ap, subst, Some}
-use Rattle.cics_enqueue.specs.Kept.{table_of, Drops}
+use Rattle.std.proofs.Common.{◌∙◌, sym, ap, Some}
+use Rattle.cics_enqueue.specs.Kept.{table_of}
 use Rattle.cics_enqueue.specs.Resources.{released}
 use Rattle.cics_enqueue.proofs.Seeking.{alone-table_of}
 use Rattle.cics_enqueue.proofs.TableLaws.{released-alone}
@@ -11,10 +11,9 @@ loop-key-preserved c =
     let es = c.loop-key.self-inside.table.entries in
     let own = c.loop-key.self-inside.owned.entries in
     let kept = c.loop-key.invariant.kept in
-    let key = c.as_slice.result.now in
-    let drops : Drops c.args.unit key own c.pop.new.owned.entries = subst (λ b. Drops c.args.unit b own c.pop.new.owned.entries) (sym c.as_slice.ensures.value) c.in-Some.ensures.taken in
+    let key = c.in-Some.key.items in
     record {
-      kept = IsKept-let_go key es own c.args.unit c.free_key.new.table.entries c.pop.new.owned.entries c.free_key.ensures.entries c.free_key.ensures.each drops kept;
+      kept = IsKept-let_go key es own c.args.unit c.free_key.new.table.entries c.pop.new.owned.entries c.free_key.ensures.entries c.free_key.ensures.each c.in-Some.ensures.taken kept;
       rest = ap (λ fs. released (table_of fs) c.args.unit) c.free_key.ensures.entries ∙ released-let_go es key c.args.unit kept.keys kept.in_order ∙ c.loop-key.invariant.rest;
     }
 

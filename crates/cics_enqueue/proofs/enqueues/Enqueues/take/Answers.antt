@@ -1,42 +1,21 @@
-use Rattle.std.proofs.Common.{◌≡◌, ◌∙◌, Option, None, Some, sym, ap, subst}
-use Rattle.std.specs.Prelude.{IfSome, is_some, option_map, if◌then◌else◌}
-use Rattle.std.proofs.lemmas.Result.{on_ok_weaker, err_from_is_err_and}
-use Rattle.cics_enqueue.specs.declared.enqueues.Holding.{Holding}
-use Rattle.cics_enqueue.specs.Kept.{seen}
-use Rattle.cics_enqueue.specs.Resources.{Table, holder_of, held_at, taken}
-use Rattle.cics_enqueue.proofs.Owning.{none_from}
-use Rattle.cics_enqueue.proofs.Tables.{read_back, holder_own, free_here, not_full}
+use Rattle.std.proofs.Common.{◌≡◌, ◌∙◌, sym, ap, subst}
+use Rattle.std.specs.Prelude.{OnOk}
+use Rattle.cics_enqueue.specs.Resources.{IsFreeFor, resource_key, taken}
+use Rattle.cics_enqueue.proofs.Tables.{ok_holds, own_key, read_back}
 use Rattle.cics_enqueue.proofs.enqueues.Enqueues.take.Goals as goal
+use Rattle.cics_enqueue.proofs.enqueues.Enqueues.take.Goals.{Else-is_err}
 
-pub returns-then-contains_key-clause-taken : goal.returns-then-contains_key-clause-taken
-returns-then-contains_key-clause-taken c =
-    let t = c.args.self.now in
-    let back = read_back c.args.resource c.as_slice-key.result.now (c.as_slice-key.ensures.value ∙ c.compact_own-bytes.ensures) in
-    let own = subst (λ q. IfSome (holder_of q t) (λ v. v ≡ c.args.unit)) (sym back) (holder_own t c.args.resource c.args.unit c.requires.free) in
-    on_ok_weaker c.take_again.result (λ is. is ∙ ap (λ q. taken t q c.args.unit) back) (c.take_again.ensures.taken c.args.unit own)
+-- the key has the bytes of the resource
+set : (c : Else-is_err) → c.set_resource.new.key.items ≡ resource_key c.args.resource
+set c = ok_holds c.set_resource.result (sym c.is_err.ensures.value ∙ c.if-is_err.false) c.set_resource.ensures.set ∙ ap resource_key c.of.ensures
 
-pub returns-clause-room : goal.returns-clause-room
-returns-clause-room c =
-    let absent = none_from _ (sym c.contains_key.ensures ∙ c.if-contains_key.false) in
-    rw (← c.self.view_is) (not_full c.args.resource c.as_slice-key.result.now (c.as_slice-key.ensures.value ∙ c.compact_own-bytes.ensures) c.self.inside.table.entries c.self.invariant.keys absent)
+pub take_key-answer-requires-clause-key : goal.take_key-answer-requires-clause-key
+take_key-answer-requires-clause-key c = own_key c.args.resource c.set_resource.new.key.items (set (goal.at.take_key-answer-requires-clause-key c).Else-is_err)
 
-pub returns-in_err-take_free-clause-full : goal.returns-in_err-take_free-clause-full
-returns-in_err-take_free-clause-full c =
-    let absent = none_from _ (sym c.contains_key.ensures ∙ c.if-contains_key.false) in
-    let p = err_from_is_err_and c.from_residual.result c.from_residual.ensures.1 in
-    rw (p.1, p.2) (rw (← c.self.view_is) (rw (not_full c.args.resource c.as_slice-key.result.now (c.as_slice-key.ensures.value ∙ c.compact_own-bytes.ensures) c.self.inside.table.entries c.self.invariant.keys absent) (λ e. cc, λ e. cc)))
-
--- what was free is taken
-first_take : (t s u : Table) (o : Option Holding) → option_map seen o ≡ None → s ≡ (if is_some o then t else u) → s ≡ u
-first_take t s u None free new = new
-first_take t s u (Some h) free new = cc
+pub take_key-answer-requires-clause-free : goal.take_key-answer-requires-clause-free
+take_key-answer-requires-clause-free c =
+    subst (λ q. IsFreeFor c.args.self.now q c.args.unit) (sym (read_back c.args.resource c.set_resource.new.key.items (set (goal.at.take_key-answer-requires-clause-free c).Else-is_err))) c.requires.free
 
 pub returns-clause-taken : goal.returns-clause-taken
 returns-clause-taken c =
-    let t = c.args.self.now in
-    let r = c.args.resource in
-    let key = c.as_slice-key.result.now in
-    let is = c.as_slice-key.ensures.value ∙ c.compact_own-bytes.ensures in
-    let absent = none_from _ (sym c.contains_key.ensures ∙ c.if-contains_key.false) in
-    let free = c.in_ok-take_free.ensures.held ∙ ap (λ q. held_at q t) (read_back r key is) ∙ ap (held_at r) (sym c.self.view_is) ∙ free_here r key is c.self.inside.table.entries c.self.invariant.keys absent in
-    first_take t c.take_free.new.self _ c.in_ok-take_free.field-0 free c.in_ok-take_free.ensures.table ∙ ap (λ q. taken t q c.args.unit) (read_back r key is)
+    subst (λ q. OnOk c.take_key-answer.result (c.take_key-answer.new.self ≡ taken c.args.self.now q c.args.unit)) (read_back c.args.resource c.set_resource.new.key.items (set (goal.at.returns-clause-taken c).Else-is_err)) c.take_key-answer.ensures.taken

@@ -1,0 +1,22 @@
+use Rattle.std.proofs.Common.{◌≡◌, ◌∙◌, ◌∷◌, ◌++◌, [], length, sym, ap, Some, None, Option, ℕ, refl}
+use Rattle.std.specs.Map.{lookup}
+use Rattle.cics_enqueue.specs.Kept.{finds, others_unit}
+use Rattle.cics_enqueue.specs.Resources.{first_of}
+use Rattle.cics_enqueue.proofs.Seeking.{first_cover-none}
+use Rattle.cics_enqueue.proofs.overlaps.key_holder.Goals as goal
+
+-- where no prefix is held the key alone can be
+pub returns-then-not-has_prefixes : goal.returns-then-not-has_prefixes
+returns-then-not-has_prefixes c =
+    let es = c.args.table.now.entries in
+    let asker = c.args.asker.now in
+    let f = c.args.file in
+    let k = c.args.key.now in
+    let none = c.if-not-has_prefixes.ensures in
+    c.other_holder-holder.ensures ∙ ap (λ b. others_unit asker (lookup (finds b) es)) (c.as_slice.ensures.value ∙ c.file_bytes.ensures.value)
+    ∙ alone (others_unit asker (lookup (finds (1 ∷ length f ∷ (f ++ k))) es))
+    ∙ sym (λ i. first_of (first_cover-none asker es none k (length f ∷ (f ++ [])) i) (first_of (others_unit asker (lookup (finds (1 ∷ length f ∷ (f ++ k))) es)) (others_unit asker (none (length f ∷ (f ++ k)) i))))
+  where
+    alone : (o : Option ℕ) → o ≡ first_of None (first_of o None)
+    alone None = refl
+    alone (Some x) = refl

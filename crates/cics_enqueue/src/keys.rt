@@ -1,0 +1,223 @@
+//! The keys of the table, with their first bytes as numbers beside them.
+
+ghost use Rattle.std.specs.Prelude.{◌≡◌, ◌≤◌, ◌+◌, ◌++◌, OnOk, OnErr, IfOk, [], drop, length};
+ghost use Rattle.std.specs.Ordering.{nat_cmp};
+ghost use Rattle.cics_names.specs.Keyed.{bytes_cmp};
+ghost use Rattle.cics_enqueue.specs.Keys.{filled, AreBytes, AreNumbers};
+
+use cics_names::NoMemory;
+use std::alloc::Global;
+use std::cmp::Ordering;
+use std::marker::Model;
+
+// Two bytes, a name of eight and a key of 255.
+pub(crate) const MOST: usize = 265;
+
+// How many bytes a number holds, and how many the three.
+const WORD: usize = 8;
+
+const HEAD: usize = 24;
+
+// The first 24 bytes of a key as three numbers, zeros where there are fewer.
+#[derive(Clone, Copy)]
+pub(crate) struct Numbers {
+    pub(crate) first: u64,
+    pub(crate) second: u64,
+    pub(crate) third: u64,
+}
+
+// The first eight bytes as a number.
+fn word_of(bytes: &[u8]) -> u64
+    requires { 8 ≤ length bytes.now }
+    ensures value { result ≡ filled 8 0 bytes.now }
+    ensures bytes { AreBytes 8 bytes.now }
+{
+    u64::from_be_bytes([
+        bytes[0], bytes[1], bytes[2], bytes[3], bytes[4], bytes[5], bytes[6], bytes[7],
+    ])
+}
+
+// The numbers of a key.
+fn numbers_of(bytes: &[u8]) -> Numbers
+    ensures { AreNumbers bytes.now result }
+{
+    let count = bytes.len().min(HEAD);
+    let mut head = [0; HEAD];
+    head[..count].copy_from_slice(&bytes[..count]);
+    let behind_first = head.split_at(WORD).1;
+    let behind_second = behind_first.split_at(WORD).1;
+    Numbers {
+        first: word_of(&head),
+        second: word_of(behind_first),
+        third: word_of(behind_second),
+    }
+}
+
+// The bytes of a resource, and their numbers: nearly all keys are told apart by these alone, which lie in the node of the tree,
+// where the bytes lie elsewhere in memory.
+#[derive(Drop)]
+pub(crate) struct Key {
+    numbers: Numbers,
+    bytes: Vec<u8>,
+}
+
+impl Model for Key {
+    ghost use Rattle.std.specs.Prelude.{ℕ};
+    ghost use Rattle.std.specs.Global.{Vec};
+    ghost use Rattle.cics_enqueue.specs.Keys.{AreNumbers};
+
+    ghost Value = { Vec ℕ };
+
+    ghost view = { λ k. k.bytes };
+
+    ghost invariant = { λ k. AreNumbers k.bytes.items k.numbers };
+}
+
+// Makes bytes these and what comes after them, and none where there is no room for them.
+fn refill(bytes: &mut Vec<u8>, front: &[u8], rest: &[u8]) -> Result<(), NoMemory>
+    requires most { length front.now + length rest.now ≤ 265 }
+    ensures filled { OnOk result (bytes.new.items ≡ front.now ++ rest.now) }
+    ensures err { OnErr result (bytes.new.items ≡ []) }
+{
+    bytes.clear();
+    bytes.reserve(MOST)?;
+    let _ = bytes.extend_from_slice(front);
+    let _ = bytes.extend_from_slice(rest);
+    Ok(())
+}
+
+impl Key {
+    // The key of no bytes.
+    pub(crate) fn new(alloc: Global) -> Key
+        ensures { result.items ≡ [] }
+    {
+        Key {
+            numbers: Numbers {
+                first: 0,
+                second: 0,
+                third: 0,
+            },
+            bytes: Vec::new(alloc),
+        }
+    }
+
+    // Its bytes.
+    pub(crate) fn as_slice(&self) -> &[u8]
+        ensures { result.now ≡ self.now.items }
+    {
+        self.bytes.as_slice()
+    }
+
+    // A key of the same bytes.
+    pub(crate) fn copy(&self, alloc: Global) -> Result<Key, NoMemory>
+        ensures { IfOk result (λ copy. copy.items ≡ self.now.items) }
+    {
+        Ok(Key {
+            numbers: self.numbers,
+            bytes: Vec::from_slice(alloc, self.bytes.as_slice())?,
+        })
+    }
+
+    // Makes it the key of these few bytes, and of none where there is no room for any key.
+    pub(crate) fn set_short<const N: usize>(&mut self, bytes: &[u8; N]) -> Result<(), NoMemory>
+        requires most { length bytes.now ≤ 265 }
+        ensures set { OnOk result (self.new.items ≡ bytes.now) }
+        ensures err { OnErr result (self.new.items ≡ []) }
+    {
+        self.bytes.clear();
+        if self.bytes.reserve(MOST).is_err() || self.bytes.extend_from_slice(bytes).is_err() {
+            self.numbers = numbers_of(&[]);
+            return Err(NoMemory);
+        }
+        self.numbers = numbers_of(bytes);
+        Ok(())
+    }
+
+    // Makes it the key of these bytes and what comes after them, and of none where there is no room for them.
+    pub(crate) fn set(&mut self, front: &[u8], rest: &[u8]) -> Result<(), NoMemory>
+        requires most { length front.now + length rest.now ≤ 265 }
+        ensures set { OnOk result (self.new.items ≡ front.now ++ rest.now) }
+        ensures err { OnErr result (self.new.items ≡ []) }
+    {
+        let filled = refill(&mut self.bytes, front, rest);
+        self.numbers = numbers_of(self.bytes.as_slice());
+        filled
+    }
+}
+
+// The order of the bytes of two keys whose numbers are equal: that of their lengths, where neither has more bytes than the numbers.
+fn order_behind(left: &[u8], right: &[u8]) -> Ordering
+    requires level { length left.now ≤ 24 → length right.now ≤ 24
+        → nat_cmp (length left.now) (length right.now) ≡ bytes_cmp left.now right.now }
+    ensures { result ≡ bytes_cmp left.now right.now }
+{
+    if left.len() <= HEAD && right.len() <= HEAD {
+        left.len().cmp(&right.len())
+    } else {
+        left.cmp(right)
+    }
+}
+
+impl PartialEq for Key {
+    ghost use Rattle.std.specs.Prelude.{nat_eq};
+    ghost use Rattle.std.specs.Cmp.{on_per, partial_equiv_from_equiv};
+    ghost use Rattle.std.specs.Cmp.Lexicographic.{pointwise, nat_list_eq_equiv};
+
+    ghost eq = { λ a b. pointwise nat_eq a.items b.items };
+
+    ghost laws = { on_per (λ k. k.items) (partial_equiv_from_equiv nat_list_eq_equiv) };
+
+    fn eq(&self, other: &Key) -> bool {
+        self.bytes.as_slice() == other.bytes.as_slice()
+    }
+}
+
+impl Eq for Key {
+    ghost use Rattle.std.specs.Cmp.{on_equiv};
+    ghost use Rattle.std.specs.Cmp.Lexicographic.{nat_list_eq_equiv};
+
+    ghost laws = { on_equiv (λ k. k.items) nat_list_eq_equiv };
+}
+
+impl PartialOrd for Key {
+    ghost use Rattle.std.specs.Prelude.{Some};
+    ghost use Rattle.std.specs.Cmp.{on_po};
+    ghost use Rattle.std.specs.Cmp.Lexicographic.{texts_po};
+    ghost use Rattle.cics_names.specs.Keyed.{bytes_cmp};
+
+    ghost partial_cmp = { λ a b. Some (bytes_cmp a.items b.items) };
+
+    ghost laws = { on_po (λ k. k.items) texts_po };
+
+    fn partial_cmp(&self, other: &Key) -> Option<Ordering> {
+        Some(self.cmp(other))
+    }
+}
+
+impl Ord for Key {
+    ghost use Rattle.std.specs.Prelude.{refl};
+    ghost use Rattle.std.specs.Cmp.{on_total};
+    ghost use Rattle.std.specs.Cmp.Lexicographic.{nat_list_cmp_total, texts_ties};
+    ghost use Rattle.cics_names.specs.Keyed.{bytes_cmp};
+
+    ghost cmp = { λ a b. bytes_cmp a.items b.items };
+
+    ghost total = { on_total (λ k. k.items) nat_list_cmp_total };
+
+    ghost matches_partial_cmp = { λ a b. refl };
+
+    ghost matches_eq = { λ a b. texts_ties a.items b.items };
+
+    fn cmp(&self, other: &Key) -> Ordering {
+        if self.numbers.first != other.numbers.first {
+            return self.numbers.first.cmp(&other.numbers.first);
+        }
+        if self.numbers.second != other.numbers.second {
+            return self.numbers.second.cmp(&other.numbers.second);
+        }
+        if self.numbers.third != other.numbers.third {
+            return self.numbers.third.cmp(&other.numbers.third);
+        }
+        order_behind(self.bytes.as_slice(), other.bytes.as_slice())
+    }
+}
