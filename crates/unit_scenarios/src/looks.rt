@@ -100,6 +100,11 @@ fn push_file_look(text: &mut String, file: &File, word: &str, key: &str) -> Resu
     }
 }
 
+// What was loaded, before anything was executed.
+fn loaded(alloc: Global, units: &Units) -> Result<Listing, NoMemory> {
+    plain_replay(alloc, units.opening(), &[], &[])
+}
+
 // Puts what a look at a file or a temporary storage queue shows at the end.
 fn push_name8_look(
     text: &mut String,
@@ -115,10 +120,7 @@ fn push_name8_look(
     match (word, units.file(&name)) {
         ("ts", _) => push_ts(text, &units.listing()?, name),
         ("place", _) => Ok(write!(text, "{}", units.next_place(&name))?),
-        ("loaded", _) => {
-            let loaded = plain_replay(alloc, units.opening(), &[], &[])?;
-            push_listed_file(text, &loaded, name)
-        }
+        ("loaded", _) => push_listed_file(text, &loaded(alloc, units)?, name),
         (_, Some(file)) => push_file_look(text, file, word, key),
         (_, None) => Ok(text.push_str("none")?),
     }
@@ -248,31 +250,75 @@ fn is_look(word: &str, rest: &str, key: &str) -> bool {
     }
 }
 
+/// What the files and queues list.
+pub(crate) fn stored_text(alloc: Global, units: &Units) -> Result<String, NoMemory> {
+    listing_text(alloc, &units.listing()?)
+}
+
+// What a look of this word counts, if it counts something.
+fn count_of(units: &Units, word: &str) -> Result<Option<usize>, NoMemory> {
+    Ok(match word {
+        "files" => Some(units.listing()?.files.len()),
+        "entries" => Some(units.trace().len()),
+        "units" => Some(units.outcomes().len()),
+        _ => None,
+    })
+}
+
+// Puts what a look of this word at something that it names shows at the end.
+fn push_named_look(
+    text: &mut String,
+    units: &Units,
+    alloc: Global,
+    word: &str,
+    name: &str,
+    key: &str,
+) -> Result<(), NoMemory> {
+    match word {
+        "td" | "recovery" => push_name4_look(text, units, word, name),
+        "awaited" | "value" | "read" | "outcome" => {
+            match unit_of(name) {
+                Ok(unit) => push_unit_look(text, units, alloc, word, unit, key),
+                Err(_) => Ok(text.push_str("no unit")?),
+            }
+        }
+        _ => push_name8_look(text, units, alloc, word, name, key),
+    }
+}
+
+// Puts what a look of this word shows at the end.
+fn push_look(
+    text: &mut String,
+    units: &Units,
+    alloc: Global,
+    word: &str,
+    rest: &str,
+) -> Result<(), NoMemory> {
+    if let Some(count) = count_of(units, word)? {
+        return Ok(write!(text, "{count}")?);
+    }
+    let (name, key) = cut(rest);
+    match word {
+        "commits" => push_units(text, units.commits()),
+        "prefixes" => push_prefixes(text, units.opening().prefixes()),
+        _ => push_named_look(text, units, alloc, word, name, key),
+    }
+}
+
 /// What a look at the units shows; `no look` where its word is none, or more stands behind it than
 /// belongs there.
 pub(crate) fn look(alloc: Global, units: &Units, look: &str) -> Result<String, NoMemory> {
     let (word, rest) = cut(look);
-    let (name, key) = cut(rest);
-    let mut text = String::new(alloc);
-    if !is_look(word, rest, key) {
+    if !is_look(word, rest, cut(rest).1) {
         return Ok("no look".to_string(alloc)?);
     }
     match word {
-        "listing" => return listing_text(alloc, &units.listing()?),
-        "entry" => return entry_at(alloc, units, rest),
-        "files" => write!(text, "{}", units.listing()?.files.len())?,
-        "entries" => write!(text, "{}", units.trace().len())?,
-        "units" => write!(text, "{}", units.outcomes().len())?,
-        "commits" => push_units(&mut text, units.commits())?,
-        "prefixes" => push_prefixes(&mut text, units.opening().prefixes())?,
-        "td" | "recovery" => push_name4_look(&mut text, units, word, name)?,
-        "awaited" | "value" | "read" | "outcome" => {
-            match unit_of(name) {
-                Ok(unit) => push_unit_look(&mut text, units, alloc, word, unit, key)?,
-                Err(_) => text.push_str("no unit")?,
-            }
+        "listing" => stored_text(alloc, units),
+        "entry" => entry_at(alloc, units, rest),
+        _ => {
+            let mut text = String::new(alloc);
+            push_look(&mut text, units, alloc, word, rest)?;
+            Ok(text)
         }
-        _ => push_name8_look(&mut text, units, alloc, word, name, key)?,
     }
-    Ok(text)
 }

@@ -23,6 +23,12 @@ fn numbered(alloc: Global, file: Name8, number: u16, is_write: bool) -> Result<O
     Ok(Op::Delete { file, key })
 }
 
+// Executes a command for a unit, and tells what came of it.
+fn one(units: &mut Units, alloc: Global, unit: UnitId, op: &Op) -> Result<String, NoMemory> {
+    let told = execute(units, Some(unit), op)?;
+    told_text(alloc, &told, counted(op))
+}
+
 // Writes so many records to a file for a unit, or deletes them, and tells what came of each, or
 // what came of two of them.
 fn each(
@@ -35,14 +41,36 @@ fn each(
 ) -> Result<String, NoMemory> {
     let mut told = String::new(alloc);
     for number in 0..count {
-        let op = numbered(alloc, file, number, is_write)?;
-        let came = told_text(alloc, &execute(units, Some(unit), &op)?, counted(&op))?;
+        let came = one(
+            units,
+            alloc,
+            unit,
+            &numbered(alloc, file, number, is_write)?,
+        )?;
         if number > 0 && came.as_str() != told.as_str() {
             return Ok(format!(in alloc; "{told}, and then {came}")?);
         }
         told = came;
     }
     Ok(told)
+}
+
+// Executes a command that writes an item as often as it takes to give these numbers from 2 on, and
+// answers the first that isn't given.
+fn first_not_given(
+    units: &mut Units,
+    unit: UnitId,
+    op: &Op,
+    last: u16,
+) -> Result<Option<u64>, NoMemory> {
+    for number in 2..=u64::from(last) {
+        execute(units, Some(unit), op)?;
+        let given = units.trace().last().and_then(|entry| entry.answer.number);
+        if given != Some(number) {
+            return Ok(Some(number));
+        }
+    }
+    Ok(None)
 }
 
 // Writes items to a queue for a unit, and tells the first that doesn't get its number, from 2 to
@@ -58,14 +86,10 @@ fn appended(
     let Some(op) = command(alloc, &text)? else {
         return Ok("no command".to_string(alloc)?);
     };
-    for number in 2..=u64::from(last) {
-        execute(units, Some(unit), &op)?;
-        let given = units.trace().last().and_then(|entry| entry.answer.number);
-        if given != Some(number) {
-            return Ok(format!(in alloc; "not {number}")?);
-        }
+    match first_not_given(units, unit, &op, last)? {
+        Some(number) => Ok(format!(in alloc; "not {number}")?),
+        None => Ok(String::new(alloc)),
     }
-    Ok(String::new(alloc))
 }
 
 /// Whether a word is that of many commands.

@@ -24,7 +24,7 @@
 
 use crate::commands::command;
 use crate::guarded_calls::{Told, deq, end, enq, execute, unlock};
-use crate::looks::{look, unit_of};
+use crate::looks::{look, stored_text, unit_of};
 use crate::many::{is_of_many, make_many};
 use crate::openings;
 use crate::replays::{entry, replayed};
@@ -89,6 +89,12 @@ fn push_entered(text: &mut String, alloc: Global, units: &Units) -> Result<(), N
         text.push_str(&entered)?;
     }
     Ok(())
+}
+
+// What the plain replay of what was executed lists.
+fn replayed_text(alloc: Global, units: &Units) -> Result<String, NoMemory> {
+    let replayed = plain_replay(alloc, units.opening(), units.trace(), units.outcomes())?;
+    listing_text(alloc, &replayed)
 }
 
 // Executes the command of a text, and tells what came of it.
@@ -164,10 +170,9 @@ impl Stage {
 
     // Whether the files and queues list the same as the plain replay of what was executed.
     fn is_replayed(&self, alloc: Global) -> Result<bool, NoMemory> {
-        let units = &self.units;
-        let replayed = plain_replay(alloc, units.opening(), units.trace(), units.outcomes())?;
-        let stored = listing_text(alloc, &units.listing()?)?;
-        Ok(stored.as_str() == listing_text(alloc, &replayed)?.as_str())
+        let stored = stored_text(alloc, &self.units)?;
+        let replayed = replayed_text(alloc, &self.units)?;
+        Ok(stored.as_str() == replayed.as_str())
     }
 
     // Plays a line, and tells what came of it where that isn't what it says, or where the files and
@@ -232,26 +237,61 @@ fn first_wrong_line<'a>(
     Ok(None)
 }
 
-// Plays three texts in turn from the beginning, the first two of which define something.
-fn first_wrong_of_all<'a>(
+// Plays three texts in turn, the first two of which define something.
+fn first_wrong_of_texts<'a>(
+    stage: &mut Stage,
     alloc: Global,
-    opening: Opening,
-    first: &'a str,
-    lines: &'a str,
-    then: &'a str,
+    texts: [&'a str; 3],
 ) -> Result<Option<Wrong<'a>>, NoMemory> {
-    let Ok(units) = Units::start(opening) else {
-        return Err(NoMemory);
-    };
-    let trace = Vec::new(alloc);
-    let mut stage = Stage { units, trace };
+    let [first, lines, then] = texts;
     for (text, defines) in [(first, true), (lines, true), (then, false)] {
-        let wrong = first_wrong_line(&mut stage, alloc, text, defines)?;
+        let wrong = first_wrong_line(stage, alloc, text, defines)?;
         if wrong.is_some() {
             return Ok(wrong);
         }
     }
     Ok(None)
+}
+
+// Units that start with an opening, before anything is executed.
+fn started(alloc: Global, opening: Opening) -> Result<Stage, NoMemory> {
+    match Units::start(opening) {
+        Ok(units) => Ok(Stage {
+            units,
+            trace: Vec::new(alloc),
+        }),
+        Err(_) => Err(NoMemory),
+    }
+}
+
+// Makes the definitions of the first two texts, and answers the first of which something else came.
+fn first_wrong_of_definitions<'a>(
+    opening: &mut Opening,
+    alloc: Global,
+    texts: [&'a str; 3],
+) -> Result<Option<Wrong<'a>>, NoMemory> {
+    let [first, lines, _] = texts;
+    for text in [first, lines] {
+        let wrong = first_wrong_definition(opening, alloc, text)?;
+        if wrong.is_some() {
+            return Ok(wrong);
+        }
+    }
+    Ok(None)
+}
+
+// Plays three texts in turn from the beginning, the first two of which define something.
+fn first_wrong_of_all<'a>(
+    alloc: Global,
+    texts: [&'a str; 3],
+) -> Result<Option<Wrong<'a>>, NoMemory> {
+    let mut opening = Opening::new(alloc);
+    let wrong = first_wrong_of_definitions(&mut opening, alloc, texts)?;
+    if wrong.is_some() {
+        return Ok(wrong);
+    }
+    let mut stage = started(alloc, opening)?;
+    first_wrong_of_texts(&mut stage, alloc, texts)
 }
 
 // The first part of a scenario without a line that is made or played.
@@ -280,14 +320,7 @@ pub(crate) fn first_wrong<'a>(
     let (lines, ends) = scenario.split_once("\nor\n").unwrap_or((scenario, ""));
     let first = if lines.starts_with("##") { "" } else { first };
     for then in ends.split("\nor\n") {
-        let mut opening = Opening::new(alloc);
-        for text in [first, lines] {
-            let wrong = first_wrong_definition(&mut opening, alloc, text)?;
-            if wrong.is_some() {
-                return Ok(wrong);
-            }
-        }
-        let wrong = first_wrong_of_all(alloc, opening, first, lines, then)?;
+        let wrong = first_wrong_of_all(alloc, [first, lines, then])?;
         if wrong.is_some() {
             return Ok(wrong);
         }
