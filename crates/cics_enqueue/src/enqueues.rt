@@ -507,6 +507,10 @@ impl Enqueues {
     pub fn let_go(&mut self, resource: &ResourceRef<'_>, unit: UnitId)
         ensures { self.new ≡ given_back self.old resource.now unit }
     {
+        // Where nothing is held no key is made, which might ask for memory.
+        if self.table.is_empty() {
+            return;
+        }
         let mut key = self.bound.replace(Key::new(self.alloc));
         match set_resource(&mut key, resource) {
             Ok(()) => self.let_go_key(&key, unit),
