@@ -2,7 +2,7 @@
 
 ghost use Rattle.std.specs.Prelude.{◌≡◌, ◌<◌, [], ◌∷◌, ◌++◌, None, Some, false, length, map, is_ok};
 ghost use Rattle.std.specs.Prelude.{slice_get, slice_set, if◌then◌else◌, IfOk, IfSome, IfNone};
-ghost use Rattle.std.specs.Prelude.{take, true, is_some, nat_eq, ◌≤◌, All, MatchOption};
+ghost use Rattle.std.specs.Prelude.{true, is_some, nat_eq, ◌≤◌, All, MatchOption};
 ghost use Rattle.std.specs.Map.{lookup};
 ghost use Rattle.cics_dispatch.specs.Notes.{forgotten, given_up, new_note, alone, in_line, count};
 ghost use Rattle.cics_dispatch.specs.Notes.{of_line, blocker_in, AreClosed, IsOpenAt, IsFirstOpen};

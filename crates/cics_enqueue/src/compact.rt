@@ -100,7 +100,7 @@ fn put_resource(key: &mut ArrayVec<u8, MOST>, resource: &ResourceRef<'_>)
     }
 }
 
-// A resource as bytes, by which a table is ordered.
+// A resource as bytes, by which a table is ordered: for where there is no room for a key of it.
 pub(crate) fn compact(resource: &ResourceRef<'_>) -> ArrayVec<u8, MOST>
     ensures { result.items ≡ resource_key resource.now }
 {
@@ -182,6 +182,9 @@ pub(crate) fn held_under<'t>(
     requires most { length bytes.now ≤ 265 }
     ensures { option_copied result ≡ lookup (finds bytes.now) table.now.entries }
 {
+    if table.is_empty() {
+        return None;
+    }
     match key.set(&[], bytes) {
         Ok(()) => table.get(&*key),
         Err(_) => find_among(table, bytes),

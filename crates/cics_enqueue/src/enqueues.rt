@@ -1,9 +1,10 @@
 //! The enqueue table.
 
-ghost use Rattle.cics_enqueue.specs.declared.resources.Resource.TheVariants.{FileKey, FilePrefix, User};
+ghost use Rattle.cics_enqueue.specs.declared.resources.Resource.TheVariants.{FileKey, FilePrefix};
+ghost use Rattle.cics_enqueue.specs.declared.resources.Resource.TheVariants.{User};
 ghost use Rattle.std.specs.Prelude.{◌≡◌, ◌≤◌, IfNone, IfSome, length, [], ◌+◌};
 ghost use Rattle.std.specs.Prelude.{if◌then◌else◌, IsTrue, true, false, ◌↔◌, OnOk, OnErr, IfErr};
-ghost use Rattle.std.specs.Prelude.{IfOk, List, T, None, Some, ℕ, is_some, not, option_map, IsSome};
+ghost use Rattle.std.specs.Prelude.{IfOk, List, T, None, Some, ℕ, is_some, not, option_map};
 ghost use Rattle.cics_enqueue.specs.Kept.{count_after, is_held_full, without_own, Frees, seen};
 ghost use Rattle.cics_enqueue.specs.Kept.{finds, key_cmp, PutsNew, IsKept, table_of};
 ghost use Rattle.std.specs.Map.{lookup};
@@ -74,7 +75,8 @@ pub(crate) struct Holding {
 pub struct Enqueues {
     table: BTreeMap<Key, Holding>,
     owned: Owned,
-    // The bytes at which a look-up by prefix begins. A take makes room for any, so that no look-up needs memory.
+    // The key that takes and look-ups fill with the bytes that they look for. A take makes room in it for any, so that no
+    // look-up needs memory. One that has no room is dropped where that is refused, and an empty one stands here.
     bound: Cell<Key>,
     alloc: Global,
 }
@@ -167,8 +169,10 @@ fn free_key(table: &mut BTreeMap<Key, Holding>, key: &Key, unit: UnitId)
 // Takes one take away from what is kept under a key, if it is this unit's, and tells whether nothing is left of it.
 fn lessen(table: &mut BTreeMap<Key, Holding>, key: &Key, unit: UnitId) -> bool
     requires key { resource_key (resource_of key.now.items) ≡ key.now.items }
-    ensures kept { (own : List (ℕ × Vec (Vec ℕ))) → IsKept table.old.entries own → IsKept table.new.entries own }
-    ensures given { (own : List (ℕ × Vec (Vec ℕ))) → IsKept table.old.entries own → table_of table.new.entries
+    ensures kept { (own : List (ℕ × Vec (Vec ℕ))) →
+        IsKept table.old.entries own → IsKept table.new.entries own }
+    ensures given { (own : List (ℕ × Vec (Vec ℕ))) → IsKept table.old.entries own →
+        table_of table.new.entries
         ≡ given_back (table_of table.old.entries) (resource_of key.now.items) unit }
     ensures freed { result ≡ true → lookup (finds key.now.items) table.new.entries ≡ None }
 {
@@ -456,7 +460,7 @@ impl Enqueues {
         Ok(was_held.is_none())
     }
 
-    // Takes a resource, by its bytes, for a unit where nobody holds it, and else answers how it is held: in one look-up.
+    // Takes a resource, by its key, for a unit where nobody holds it, and else answers how it is held: in one look-up.
     #[tactic(auto, using(crate::proofs::Tables::in_order))]
     fn take_free(&mut self, key: &Key, unit: UnitId) -> Result<Option<Holding>, NoMemory>
         requires key { resource_key (resource_of key.now.items) ≡ key.now.items }
@@ -464,7 +468,9 @@ impl Enqueues {
         ensures held { IfOk result (λ held.
             option_map seen held ≡ held_at (resource_of key.now.items) self.old) }
         ensures table { IfOk result (λ held. self.new
-            ≡ (if is_some held then self.old else taken self.old (resource_of key.now.items) unit)) }
+            ≡ (if is_some held
+            then self.old
+            else taken self.old (resource_of key.now.items) unit)) }
         ensures err { OnErr result (self.new ≡ self.old) }
     {
         let kept = key.copy(self.alloc)?;
@@ -479,11 +485,12 @@ impl Enqueues {
         Ok(None)
     }
 
-    // Takes a resource once more, by its bytes, for the unit that holds it. NoMemory where nobody does.
+    // Takes a resource once more, by its key, for the unit that holds it. NoMemory where nobody does.
     fn take_again(&mut self, key: &Key, user: bool) -> Result<(), TakeFault>
         requires key { resource_key (resource_of key.now.items) ≡ key.now.items }
         requires user { user ≡ is_user (resource_of key.now.items) }
-        ensures taken { (u : ℕ) → IfSome (holder_of (resource_of key.now.items) self.old) (λ v. v ≡ u) →
+        ensures taken { (u : ℕ) →
+            IfSome (holder_of (resource_of key.now.items) self.old) (λ v. v ≡ u) →
             OnOk result (self.new ≡ taken self.old (resource_of key.now.items) u) }
         ensures room { OnOk result (is_full (resource_of key.now.items) self.old ≡ false) }
         ensures full { IfErr result (λ fault. fault ≡ TakeFault.Full

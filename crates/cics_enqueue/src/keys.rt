@@ -1,6 +1,6 @@
 //! The keys of the table, with their first bytes as numbers beside them.
 
-ghost use Rattle.std.specs.Prelude.{◌≡◌, ◌≤◌, ◌+◌, ◌++◌, OnOk, OnErr, IfOk, [], drop, length};
+ghost use Rattle.std.specs.Prelude.{◌≡◌, ◌≤◌, ◌+◌, ◌++◌, OnOk, OnErr, IfOk, [], length};
 ghost use Rattle.std.specs.Ordering.{nat_cmp};
 ghost use Rattle.cics_names.specs.Keyed.{bytes_cmp};
 ghost use Rattle.cics_enqueue.specs.Keys.{filled, AreBytes, AreNumbers};
@@ -13,9 +13,10 @@ use std::marker::Model;
 // Two bytes, a name of eight and a key of 255.
 pub(crate) const MOST: usize = 265;
 
-// How many bytes a number holds, and how many the three.
+// How many bytes a number holds.
 const WORD: usize = 8;
 
+// How many bytes the three numbers hold.
 const HEAD: usize = 24;
 
 // The first 24 bytes of a key as three numbers, zeros where there are fewer.
@@ -73,7 +74,7 @@ impl Model for Key {
     ghost invariant = { λ k. AreNumbers k.bytes.items k.numbers };
 }
 
-// Makes bytes these and what comes after them, and none where there is no room for them.
+// Empties bytes and fills them with two parts, or leaves them empty where there is no room.
 fn refill(bytes: &mut Vec<u8>, front: &[u8], rest: &[u8]) -> Result<(), NoMemory>
     requires most { length front.now + length rest.now ≤ 265 }
     ensures filled { OnOk result (bytes.new.items ≡ front.now ++ rest.now) }
@@ -118,7 +119,8 @@ impl Key {
         })
     }
 
-    // Makes it the key of these few bytes, and of none where there is no room for any key.
+    // Makes it the key of these few bytes, and of none where there is no room for any key. It doesn't
+    // read the key's bytes back, as `set` does.
     pub(crate) fn set_short<const N: usize>(&mut self, bytes: &[u8; N]) -> Result<(), NoMemory>
         requires most { length bytes.now ≤ 265 }
         ensures set { OnOk result (self.new.items ≡ bytes.now) }

@@ -187,8 +187,10 @@ pub(crate) fn key_holder(
     requires most { length key.now ≤ 255 }
     ensures { result ≡ first_of (first_shorter asker.now table.now.entries file key.now)
         (first_of
-        (others_unit asker.now (lookup (finds (1 ∷ length file ∷ (file ++ key.now))) table.now.entries))
-        (others_unit asker.now (lookup (finds (0 ∷ length file ∷ (file ++ key.now))) table.now.entries))) }
+        (others_unit asker.now
+        (lookup (finds (1 ∷ length file ∷ (file ++ key.now))) table.now.entries))
+        (others_unit asker.now
+        (lookup (finds (0 ∷ length file ∷ (file ++ key.now))) table.now.entries))) }
 {
     let holder = other_holder(table, bound, file_bytes(KEY, file, key).as_slice(), asker);
     if !has_prefixes(table) {

@@ -6,7 +6,6 @@ ghost use Rattle.std.specs.Prelude.{IfOk, IfErr, length};
 ghost use Rattle.std.specs.Result.{result_map_both};
 ghost use Rattle.std.specs.List.{list_any};
 ghost use Rattle.cics_script.specs.Words.{lookup, option_words, same, excludes, kind_in};
-ghost use Rattle.cics_script.specs.Layout.{is_word};
 ghost use Rattle.cics_script.specs.Tokens.{tokens};
 ghost use Rattle.cics_script.specs.Options.{fault_of, quoted, content_in, surplus, allowed};
 ghost use Rattle.cics_script.specs.Options.{Content, Entry, reads, at_option, options};

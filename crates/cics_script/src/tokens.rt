@@ -252,6 +252,7 @@ pub fn named<'a, X: Copy>(bytes: &'a [u8], capitals: &[u8], meaning: X) -> Optio
 }
 
 /// What one of two words in capitals names, where the line begins with it, and the line behind it.
+/// `None` says nothing of the line.
 pub fn either_named<'a, X: Copy>(
     bytes: &'a [u8],
     first: (&[u8], X),

@@ -3,7 +3,7 @@
 ghost use Rattle.std.specs.Prelude.{◌≡◌, ◌≤◌, ◌∷◌, [], false, Some, length, IfOk, OnOk, OnErr};
 ghost use Rattle.std.specs.List.{list_any};
 ghost use Rattle.cics_enqueue.specs.Resources.{is_user, bytes_of};
-ghost use Rattle.cics_enqueue.specs.declared.resources.Resource.TheVariants.{FileKey, FilePrefix};
+ghost use Rattle.cics_enqueue.specs.declared.resources.Resource.TheVariants.{FileKey};
 ghost use Rattle.cics_enqueue.specs.declared.resources.Resource.TheVariants.{TsQueue};
 ghost use Rattle.cics_enqueue.specs.declared.resources.Resource.TheVariants.{TdRead, TdWrite};
 ghost use Rattle.cics_history.specs.Records.{key_of};

@@ -1,6 +1,6 @@
 //! Calls on units, each of which sees to what it needs first, and tells what came of it.
 
-ghost use Rattle.std.specs.Prelude.{◌≡◌, true, IsTrue};
+ghost use Rattle.std.specs.Prelude.{◌≡◌, true};
 ghost use Rattle.std.specs.Option.{option_copied};
 ghost use Rattle.cics_names.specs.Keyed.{value_at, has_key};
 ghost use Rattle.cics_history.specs.Execution.{has_read, is_fit_for, is_item, is_ready_op};

@@ -2,7 +2,7 @@
 
 ghost use Rattle.std.specs.Prelude.{◌≡◌, true};
 ghost use Rattle.std.specs.Option.{option_copied};
-ghost use Rattle.cics_names.specs.Keyed.{value_at, has_key, is_same};
+ghost use Rattle.cics_names.specs.Keyed.{value_at, has_key};
 ghost use Rattle.cics_history.specs.Execution.{has_read, read_at, is_fit_for, is_item, is_ready_op};
 ghost use Rattle.cics_history.specs.Execution.{is_short_key};
 ghost use Rattle.cics_history.specs.Execution.{IsOpenUnit, IsOpenOrNone};

@@ -24,7 +24,12 @@ fn numbered(alloc: Global, file: Name8, number: u16, is_write: bool) -> Result<O
 }
 
 // Executes a command for a unit, and tells what came of it.
-fn one(units: &mut Units, alloc: Global, unit: UnitId, op: &Op) -> Result<String, NoMemory> {
+fn executed_text(
+    units: &mut Units,
+    alloc: Global,
+    unit: UnitId,
+    op: &Op,
+) -> Result<String, NoMemory> {
     let told = execute(units, Some(unit), op)?;
     told_text(alloc, &told, counted(op))
 }
@@ -41,7 +46,7 @@ fn each(
 ) -> Result<String, NoMemory> {
     let mut told = String::new(alloc);
     for number in 0..count {
-        let came = one(
+        let came = executed_text(
             units,
             alloc,
             unit,
