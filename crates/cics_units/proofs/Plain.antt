@@ -48,6 +48,16 @@ module _ {X : Type 0} where
     pub put_here : (y : X) (new : Map X) → new ≡ set_value (is_at (bytes_cmp k)) es y → new ≡ with_value k y es
     put_here y new set = with_value-set k y x es new rising here set
 
+-- what a REWRITE in place leaves of records: the same where the key has none, else its record replaced
+module _ (k r : Bytes) (es m : Map Bytes) (is : es ≡ m) where
+  pub records_rewritten_absent : None ≡ lookup (is_at (bytes_cmp k)) es → (new : Map Bytes) → new ≡ es → new ≡ records_after_rewrite m k r
+  records_rewritten_absent missing new same = same ∙ is ∙ sym (ap (λ o. if is_some o then with_value k r m else m) (value_at-looked_up k es m None missing is))
+
+  pub records_rewritten_there : (x : Bytes) → T (is_rising es) → Some x ≡ lookup (is_at (bytes_cmp k)) es → (new : Map Bytes) →
+      new ≡ set_value (is_at (bytes_cmp k)) es r → new ≡ records_after_rewrite m k r
+  records_rewritten_there x rising found new set =
+      put_here k x es rising found r new set ∙ ap (with_value k r) is ∙ sym (ap (λ o. if is_some o then with_value k r m else m) (value_at-looked_up k es m (Some x) found is))
+
 -- a store of these files and queues
 abbrev pub store_of : Map (Map Bytes) → Map Queue → Map (List Bytes) → Store
 store_of files ts td = record { files = files; ts = ts; td = td }
