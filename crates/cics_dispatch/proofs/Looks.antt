@@ -21,7 +21,7 @@ use Rattle.cics_dispatch.specs.Waking.{awaited_by, may_go_on, first_free, went_o
 use Rattle.cics_dispatch.specs.KeptTasks.{IsReady, IsWaitKept, AreTasksKept}
 use Rattle.cics_dispatch.specs.Calls.{OfTask, HasReady}
 use Rattle.cics_dispatch.specs.Settled.{reads_queue, needed_by, IsBlocked}
-use Rattle.cics_dispatch.specs.Notes.{OfWait, IsOnlyUse, IsOnlyNeed, OwnerIsElsewhere, IsFirstFreeOf, IsFirstFree}
+use Rattle.cics_dispatch.specs.Notes.{OfWait, IsUse, IsOnlyUse, IsOnlyNeed, OwnerIsElsewhere, IsFirstFreeOf, IsFirstFree}
 use Rattle.cics_dispatch.specs.Steps.{Stepped, with_outcome, by_op}
 use Rattle.cics_dispatch.specs.declared.outcomes.Woken.{Woken}
 use Rattle.cics_dispatch.proofs.WaitTable.{is_waiting-number}
@@ -212,6 +212,15 @@ value_short m x ws label value n nosuspend all found none verb = by (task_at m.t
     by (Some t) is there =
         value_within value n (subst (λ v. IsReady m.units t.unit v None) verb (subst (λ o. IsReady m.units t.unit x.command.verb o) none (kept.ready t is)))
 
+-- a command that uses another resource than the line's isn't in it
+pub not_in_line : (m : Machine) (rs : List Resource) (g : ℕ) (label : Bytes) (r : Resource) → OfWait m.waiting label (λ w. IsOnlyNeed r w.command.verb w.op) →
+    (slice_get rs g ≡ Some r → ⊥) → OfWait m.waiting label (λ w. IsUse m.units.opening rs w g → ⊥)
+not_in_line m rs g label r need other = λ j w at same needed.
+    let needs : needed_by m.units.opening w.command.verb w.op ≡ r ∷ [] = (need j w at same).only m.units.opening (λ x. true) (ap (list_any (λ x. true)) needed.needed) in
+    let both : needed.resource ∷ [] ≡ r ∷ [] = sym needed.needed ∙ needs in
+    let one : needed.resource ≡ r = cc in
+    other (needed.there ∙ ap Some one)
+
 -- ---- The owner of a unit
 
 module _ (m : Machine) (rs : List Resource) (g u : ℕ) (label : Bytes) (owners : IsOwn own_unit m.tasks) (is : label ≡ label_of m.tasks u) where
@@ -221,11 +230,6 @@ module _ (m : Machine) (rs : List Resource) (g u : ℕ) (label : Bytes) (owners 
       let same : w.label ≡ label = own ∙ sym (is ∙ label_of-owner m.tasks u i t owners there has) in
       false≢true (sym awake ∙ ap (is_waiting m.waiting) (sym same) ∙ waits_at m.waiting j w at)
 
-  -- the one that waits uses another resource than the line's
-  pub owner_other : (r : Resource) → OfWait m.waiting label (λ w. IsOnlyNeed r w.command.verb w.op) → (slice_get rs g ≡ Some r → ⊥) → OwnerIsElsewhere m rs g u
-  owner_other r need other = λ i t there has j w at own needed.
-      let same : w.label ≡ label = own ∙ sym (is ∙ label_of-owner m.tasks u i t owners there has) in
-      let needs : needed_by m.units.opening w.command.verb w.op ≡ r ∷ [] = (need j w at same).only m.units.opening (λ x. true) (ap (list_any (λ x. true)) needed.needed) in
-      let both : needed.resource ∷ [] ≡ r ∷ [] = sym needed.needed ∙ needs in
-      let one : needed.resource ≡ r = cc in
-      other (needed.there ∙ ap Some one)
+  -- no command of its task that waits is in the line
+  pub owner_not_in_line : OfWait m.waiting label (λ w. IsUse m.units.opening rs w g → ⊥) → OwnerIsElsewhere m rs g u
+  owner_not_in_line out = λ i t there has j w at own needed. out j w at (own ∙ sym (is ∙ label_of-owner m.tasks u i t owners there has)) needed

@@ -385,10 +385,10 @@ impl Notes {
         self.count
     }
 
-    /// Whether half the places are more by 1,000 than the commands that wait, which are so many. Then it is time to note all
-    /// anew.
+    /// Whether an eighth of the places exceeds by more than 1,000 the commands that wait, which are so many. Then it is time
+    /// to note all anew: that costs little beside the notes of those that wait no more.
     pub(crate) fn have_grown(&self, waits: usize) -> bool {
-        self.rows.len() / 2 > waits.saturating_add(1000)
+        self.rows.len() / 8 > waits.saturating_add(1000)
     }
 
     /// Forgets all notes and lines. Takes no memory.

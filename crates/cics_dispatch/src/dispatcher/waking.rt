@@ -13,7 +13,7 @@ ghost use Rattle.cics_dispatch.specs.Steps.{with_outcome};
 ghost use Rattle.cics_dispatch.specs.Notes.{OfWait, IsFound, IsOnlyUse, IsOnlyNeed};
 ghost use Rattle.cics_dispatch.specs.Notes.{AreNotedNow, IsFirstFree, IsFirstFreeOf, IsFirstOpen};
 ghost use Rattle.cics_dispatch.specs.Notes.{MayClose, UseOf, IsLooked, IsFreeAt, AreSettled, count};
-ghost use Rattle.cics_dispatch.specs.Notes.{IsPlaceOf, OwnerIsElsewhere};
+ghost use Rattle.cics_dispatch.specs.Notes.{IsPlaceOf, IsUse, OwnerIsElsewhere};
 ghost use Rattle.cics_dispatch.specs.Deadlines.{deadline_of};
 ghost use Rattle.cics_dispatch.specs.Machine.{Task as TaskValue};
 ghost use Rattle.cics_dispatch.specs.Settled.{reads_queue, IsBlocked};
@@ -134,8 +134,20 @@ impl Dispatcher {
         }
     }
 
-    // Whether the task of a unit has a command that waits, and that may be one of a line: it isn't known to use another
-    // resource.
+    // Whether the command of a label's task, which waits, may be one of a line: it isn't known to use another resource. It is
+    // a function of its own, since a resource takes over 255 bytes of the frame and few looks at a line need one.
+    #[inline(never)]
+    fn may_be_in_line(&self, notes: &Notes, line: usize, label: &Name8) -> bool
+        ensures { result ≡ false → OfWait self.now.machine.waiting label.now
+            (λ w. IsUse self.now.machine.units.opening notes.now.resources w line → ⊥) }
+    {
+        match self.need(label) {
+            Some(resource) => notes.is_line_of(line, &resource),
+            None => true,
+        }
+    }
+
+    // Whether the task of a unit has a command that waits, and that may be one of a line.
     fn owner_waits_in(&self, notes: &Notes, line: usize, unit: UnitId) -> bool
         ensures { result ≡ false
             → OwnerIsElsewhere self.now.machine notes.now.resources line unit }
@@ -143,10 +155,10 @@ impl Dispatcher {
         let Some(label) = self.tasks.label_of(unit) else {
             return false;
         };
-        match self.need(&label) {
-            Some(resource) => notes.is_line_of(line, &resource),
-            None => self.waits.is_waiting(&label),
+        if !self.waits.is_waiting(&label) {
+            return false;
         }
+        self.may_be_in_line(notes, line, &label)
     }
 
     // Whether the commands of a line may all be said to wait for a unit, as one of them has to: they do already, or none of
