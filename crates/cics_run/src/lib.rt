@@ -13,4 +13,4 @@ mod unit_lines;
 mod writing;
 
 pub use command_line::{Asked, arguments, exit_status};
-pub use running::{CHUNK, LIMIT, Options, RunFault, Status, run};
+pub use running::{CHUNK, LIMIT, Options, RunFault, Status, run, run_before_exit};

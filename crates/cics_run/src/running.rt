@@ -9,6 +9,7 @@ use crate::session::Session;
 use crate::writing::Stop;
 use std::alloc::Global;
 use std::io::{Read, Write};
+use std::mem;
 use thiserror::Error;
 
 /// The greatest number of bytes that a script may have.
@@ -73,8 +74,26 @@ pub fn run<R: Read, W: Write>(
     run_from(&mut session, reader, writer, options)
 }
 
+/// Runs a script as [`run`] does, with the same answers, for a process that ends right behind it: the
+/// memory of the region and of the buffers isn't given back. To give it back takes up to a sixth of the
+/// time of a long script.
+pub fn run_before_exit<R: Read, W: Write>(
+    alloc: Global,
+    reader: &mut R,
+    writer: &mut W,
+    options: Options,
+) -> Result<Status, RunFault>
+    ensures whole_run { RunsOver options (R.remaining reader.old) (R.remaining reader.new)
+        (W.contents writer.old) (W.contents writer.new) result }
+{
+    let mut session = Session::new(alloc);
+    let answer = run_from(&mut session, reader, writer, options);
+    mem::forget(session);
+    answer
+}
+
 // Runs the script from a session before its first byte, and leaves the session to its owner, who
-// alone drops it.
+// alone drops or forgets it.
 fn run_from<R: Read, W: Write>(
     session: &mut Session,
     reader: &mut R,
