@@ -246,6 +246,7 @@ impl Dispatcher {
 
     // The first fault of a command of the task at a place. A file that isn't defined is DSIDERR, and a transient data
     // queue that isn't is QIDERR.
+    #[inline(never)]
     fn fault(&self, at: usize, verb: &Verb) -> Option<Condition>
         requires within { at < length self.now.machine.tasks }
         ensures fault { OfTask self.now.machine.tasks at

@@ -28,6 +28,7 @@ pub fn settle(region: &mut Region, out: &mut Vec<u8>) -> Result<(), NoMemory>
 }
 
 // Takes turns until there is none to take.
+#[inline(never)]
 fn take_turns(region: &mut Region, out: &mut Vec<u8>) -> Result<(), NoMemory>
     ensures region { OnOk result (region.new
         ≡ region_at (settled (length region.old.machine.waiting) region.old.machine).machine) }

@@ -241,6 +241,7 @@ impl Stage {
 
     // Makes the region of the definitions: once in a run, where `open` comes with every line of a
     // task.
+    #[cold]
     fn make_region(&mut self) -> Result<(), NoMemory>
         ensures ok { OnOk result (self.new ≡ Running (region_of self.old)) }
         ensures err { OnErr result (self.new ≡ self.old) }
@@ -263,6 +264,7 @@ impl Stage {
 }
 
 // Prints the fault of a line.
+#[cold]
 fn print_fault(number: u64, fault: LineFault, out: &mut Vec<u8>) -> Result<bool, NoMemory>
     ensures text { OnOk result (out.new.items ≡ out.old.items ++ line_fault_line number fault) }
     ensures fault { IfOk result (λ is_fault. is_fault ≡ true) }

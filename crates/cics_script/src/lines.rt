@@ -178,6 +178,7 @@ fn attach_line(label: Name8, found: &[Found<'_>]) -> Result<Line, LineFault>
 }
 
 // The word that is the next token, and the line behind it.
+#[cold]
 #[inline(never)]
 fn find_word(bytes: &[u8]) -> Result<(&[u8], &[u8]), LineFault>
     ensures { GivesWord (word_first (tokens bytes.now)) result }
@@ -341,6 +342,7 @@ fn read_clock(alloc: Global, bytes: &[u8]) -> Result<Line, LineFault>
 }
 
 // A SHUTDOWN line behind its first word.
+#[cold]
 fn read_shutdown(alloc: Global, bytes: &[u8]) -> Result<Line, LineFault>
     ensures { Reads (shutdown (tokens bytes.now)) result }
 {
@@ -356,6 +358,7 @@ fn read_shutdown(alloc: Global, bytes: &[u8]) -> Result<Line, LineFault>
 }
 
 // The command that a verb and the next token are, and the line behind them.
+#[cold]
 #[inline(never)]
 fn placed_queue_command(verb: CommandWord, bytes: &[u8]) -> (CommandWord, &[u8])
     ensures { command_at verb (tokens bytes.now) ≡ (result.0, tokens result.1.now) }
@@ -493,6 +496,7 @@ fn read_command(alloc: Global, label: Name8, bytes: &[u8]) -> Result<Line, LineF
 }
 
 // The line behind the words EXEC and CICS.
+#[cold]
 #[inline(never)]
 fn skip_both_words(bytes: &[u8]) -> Result<&[u8], LineFault>
     ensures { GivesRest
@@ -614,6 +618,7 @@ fn is_blank_line(bytes: &[u8]) -> bool
 /// read the answer is the one that its first wrong token has, and `MissingOption` where it is read
 /// to its end and lacks an option; a line of more than 70,000 bytes is `TooLong`, and then one with
 /// a byte that is neither a tab nor printable ASCII is `NotAscii`, before all others.
+#[inline(never)]
 pub fn read_line(alloc: Global, bytes: &[u8]) -> Result<Line, LineFault>
     ensures { Reads (line bytes.now) result }
 {

@@ -208,6 +208,7 @@ fn put_literal<'a>(
 }
 
 // The line behind an opening parenthesis, where one is the next token.
+#[cold]
 #[inline(never)]
 fn find_opening(kind: Kind, bytes: &[u8]) -> Result<&[u8], LineFault>
     ensures { Opens kind bytes.now result }
@@ -278,6 +279,7 @@ fn read_content<'a>(
 }
 
 // The line behind a closing parenthesis, where one is the next token.
+#[cold]
 #[inline(never)]
 fn find_closing(kind: Kind, bytes: &[u8]) -> Result<&[u8], LineFault>
     ensures { Shuts kind bytes.now result }

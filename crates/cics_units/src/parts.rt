@@ -294,6 +294,7 @@ impl Parts {
     /// The record that a command would be answered with now: READ UPDATE's, and READQ TD's, which may be
     /// one that its unit wrote itself; None where there is none, and for every other command. It takes
     /// memory for a copy of the record.
+    #[inline(never)]
     pub(crate) fn given_record(&self, unit: UnitId, op: &Op) -> Result<Option<Record>, NoMemory>
         requires fit { IsFitOp self.now.stores.store op.now }
         ensures { IfOk result (λ given. given
@@ -311,6 +312,7 @@ impl Parts {
     }
 
     // Executes a command on a file: the store changes only where it is answered NORMAL.
+    #[inline(never)]
     fn execute_on_file(
         &mut self,
         unit: UnitId,
@@ -343,6 +345,7 @@ impl Parts {
 
     // Executes a command on a queue: its unit goes on holding what the command uses where it is answered
     // NORMAL, and a refused command takes nothing.
+    #[inline(never)]
     fn execute_on_queue(
         &mut self,
         unit: UnitId,

@@ -64,6 +64,7 @@ impl Dispatcher {
     }
 
     // A command of the task at a place that names a file and updates nothing.
+    #[inline(never)]
     fn perform_on_file(&mut self, at: usize, command: Command) -> Result<Outcome, NoMemory>
         requires within { at < length self.old.machine.tasks }
         requires may { MayPerform self.old.machine at command.verb }
@@ -109,6 +110,7 @@ impl Dispatcher {
     }
 
     // A command of the task at a place that names no file and updates nothing.
+    #[inline(never)]
     fn perform_on_no_file(&mut self, at: usize, command: Command) -> Result<Outcome, NoMemory>
         requires within { at < length self.old.machine.tasks }
         requires may { MayPerform self.old.machine at command.verb }
