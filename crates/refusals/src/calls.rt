@@ -40,46 +40,82 @@ fn key_of(from: &[u8]) -> &[u8] {
     &from[..from.len().min(KEY_LENGTH)]
 }
 
+// A WRITE of a record under the key with which it begins.
+fn write(alloc: Global, file: Name8, from: &[u8]) -> Result<Op, NoMemory> {
+    Ok(Op::Write {
+        file,
+        key: Record::from_slice(alloc, key_of(from))?,
+        from: Record::from_slice(alloc, from)?,
+    })
+}
+
+// A REWRITE with a record of the one whose key it begins with.
+fn rewrite(alloc: Global, file: Name8, from: &[u8]) -> Result<Op, NoMemory> {
+    Ok(Op::Rewrite {
+        file,
+        key: Record::from_slice(alloc, key_of(from))?,
+        from: Record::from_slice(alloc, from)?,
+    })
+}
+
 // The command on a file of a word, if it is one; `clear` is DELETE GENERIC.
 fn on_file(alloc: Global, word: &str, file: Name8, rest: &[u8]) -> Result<Option<Op>, NoMemory> {
-    let from = Record::from_slice(alloc, rest)?;
-    let key = Record::from_slice(alloc, key_of(rest))?;
-    Ok(match word {
-        "write" => Some(Op::Write { file, key, from }),
-        "rewrite" => Some(Op::Rewrite { file, key, from }),
-        "delete" => Some(Op::Delete { file, key }),
-        "read" => Some(Op::ReadUpdate { file, key }),
-        "clear" => Some(Op::DeleteGeneric { file, prefix: from }),
-        _ => None,
-    })
+    Ok(Some(match word {
+        "write" => write(alloc, file, rest)?,
+        "rewrite" => rewrite(alloc, file, rest)?,
+        "delete" => Op::Delete {
+            file,
+            key: Record::from_slice(alloc, key_of(rest))?,
+        },
+        "read" => Op::ReadUpdate {
+            file,
+            key: Record::from_slice(alloc, key_of(rest))?,
+        },
+        "clear" => Op::DeleteGeneric {
+            file,
+            prefix: Record::from_slice(alloc, rest)?,
+        },
+        _ => return Ok(None),
+    }))
+}
+
+// A REWRITE of an item with the text behind its number; None where no number stands first.
+fn item_rewrite(alloc: Global, queue: Name8, rest: &str) -> Result<Option<Op>, NoMemory> {
+    let (item, new) = cut(rest);
+    match item.parse::<u64>() {
+        Ok(item) => Ok(Some(Op::TsRewrite {
+            queue,
+            item,
+            from: Record::from_slice(alloc, new.as_bytes())?,
+        })),
+        Err(_) => Ok(None),
+    }
 }
 
 // The command on a temporary storage queue of a word, if it is one.
 fn on_ts(alloc: Global, word: &str, queue: Name8, rest: &str) -> Result<Option<Op>, NoMemory> {
-    let (item, new) = cut(rest);
-    Ok(match (word, item.parse::<u64>()) {
-        ("ts-write", _) => {
-            let from = Record::from_slice(alloc, rest.as_bytes())?;
-            Some(Op::TsWrite { queue, from })
-        }
-        ("ts-rewrite", Ok(item)) => {
-            let from = Record::from_slice(alloc, new.as_bytes())?;
-            Some(Op::TsRewrite { queue, item, from })
-        }
-        ("ts-delete", _) => Some(Op::TsDelete { queue }),
-        _ => None,
-    })
+    match word {
+        "ts-write" => Ok(Some(Op::TsWrite {
+            queue,
+            from: Record::from_slice(alloc, rest.as_bytes())?,
+        })),
+        "ts-rewrite" => item_rewrite(alloc, queue, rest),
+        "ts-delete" => Ok(Some(Op::TsDelete { queue })),
+        _ => Ok(None),
+    }
 }
 
 // The command on a transient data queue of a word, if it is one.
 fn on_td(alloc: Global, word: &str, queue: Name4, rest: &[u8]) -> Result<Option<Op>, NoMemory> {
-    let from = Record::from_slice(alloc, rest)?;
-    Ok(match word {
-        "td-write" => Some(Op::TdWrite { queue, from }),
-        "td-read" => Some(Op::TdRead { queue }),
-        "td-delete" => Some(Op::TdDelete { queue }),
-        _ => None,
-    })
+    match word {
+        "td-write" => Ok(Some(Op::TdWrite {
+            queue,
+            from: Record::from_slice(alloc, rest)?,
+        })),
+        "td-read" => Ok(Some(Op::TdRead { queue })),
+        "td-delete" => Ok(Some(Op::TdDelete { queue })),
+        _ => Ok(None),
+    }
 }
 
 // The updating command of a text, if it is one: a word, the name of a file or of a queue, and the rest.
@@ -107,33 +143,63 @@ fn unit_of(word: &str) -> Option<UnitId> {
     word.parse::<u64>().ok().map(UnitId::new)
 }
 
-// The call that is no updating command of a word, if it is one.
-fn other_call(alloc: Global, unit: &str, word: &str, rest: &str) -> Result<Option<Call>, NoMemory> {
+// The call on a value of a word, if it is one.
+fn on_value(
+    alloc: Global,
+    unit: Option<UnitId>,
+    word: &str,
+    value: &[u8],
+) -> Result<Option<Call>, NoMemory> {
+    match (word, unit) {
+        ("enq", unit) => Ok(Some(Call::Enqueue(unit, Record::from_slice(alloc, value)?))),
+        ("deq", Some(unit)) => Ok(Some(Call::Dequeue(unit, Record::from_slice(alloc, value)?))),
+        _ => Ok(None),
+    }
+}
+
+// The call of a word on a name alone, if it is one: of a file, or of a queue, with an item or without.
+fn on_name(unit: Option<UnitId>, word: &str, rest: &str) -> Option<Call> {
     let (name, item) = cut(rest);
-    let value = Record::from_slice(alloc, rest.as_bytes())?;
-    Ok(match (word, unit_of(unit), Name8::new(name.as_bytes())) {
-        ("enq", _, _) => Some(Call::Enqueue(unit_of(unit), value)),
-        ("deq", Some(unit), _) => Some(Call::Dequeue(unit, value)),
+    match (word, unit, Name8::new(name.as_bytes())) {
         ("unlock", Some(unit), Ok(file)) => Some(Call::Unlock(unit, file)),
         ("ts-read", _, Ok(queue)) => Some(Call::ReadTs(queue, item.parse::<u64>().ok())),
-        ("commit", Some(unit), _) => Some(Call::Commit(unit)),
-        ("backout", Some(unit), _) => Some(Call::BackOut(unit)),
         _ => None,
-    })
+    }
+}
+
+// The call that is no updating command of a word, if it is one.
+fn other_call(
+    alloc: Global,
+    unit: Option<UnitId>,
+    word: &str,
+    rest: &str,
+) -> Result<Option<Call>, NoMemory> {
+    match (word, unit) {
+        ("enq" | "deq", _) => on_value(alloc, unit, word, rest.as_bytes()),
+        ("commit", Some(unit)) => Ok(Some(Call::Commit(unit))),
+        ("backout", Some(unit)) => Ok(Some(Call::BackOut(unit))),
+        _ => Ok(on_name(unit, word, rest)),
+    }
+}
+
+// The call that hands over the command of a text, if it is one.
+fn handed_over(alloc: Global, unit: Option<UnitId>, text: &str) -> Result<Option<Call>, NoMemory> {
+    match command(alloc, text)? {
+        Some(op) => Ok(Some(Call::Submit(unit, op))),
+        None => Ok(None),
+    }
 }
 
 // The call of a line; None for a text that is no call.
 fn call_of(alloc: Global, text: &str) -> Result<Option<Call>, NoMemory> {
     let (unit, call) = cut(text);
     let (word, rest) = cut(call);
+    let unit = unit_of(unit);
     if word == "hand" {
-        return Ok(match command(alloc, rest)? {
-            Some(op) => Some(Call::Submit(unit_of(unit), op)),
-            None => None,
-        });
+        return handed_over(alloc, unit, rest);
     }
     match command(alloc, call)? {
-        Some(op) => Ok(Some(Call::Execute(unit_of(unit), op))),
+        Some(op) => Ok(Some(Call::Execute(unit, op))),
         None => other_call(alloc, unit, word, rest),
     }
 }
@@ -141,24 +207,42 @@ fn call_of(alloc: Global, text: &str) -> Result<Option<Call>, NoMemory> {
 // The step of a line; None for a text that is no call.
 fn step_of(alloc: Global, line: &str) -> Result<Option<Step>, NoMemory> {
     let (text, expected) = line.split_once(" = ").unwrap_or((line, ""));
-    let expected = Record::from_slice(alloc, expected.as_bytes())?;
     match call_of(alloc, text)? {
-        Some(call) => Ok(Some(Step { call, expected })),
+        Some(call) => Ok(Some(Step {
+            call,
+            expected: Record::from_slice(alloc, expected.as_bytes())?,
+        })),
         None => Ok(None),
     }
+}
+
+// Puts the step of a line at the end, unless the line is marked as no call. Says whether it is one of a script.
+fn put_step(steps: &mut Vec<Step>, alloc: Global, line: &str) -> Result<bool, NoMemory> {
+    if line.starts_with("+") || line.starts_with("#") {
+        return Ok(true);
+    }
+    match step_of(alloc, line)? {
+        Some(step) => {
+            steps.push(step)?;
+            Ok(true)
+        }
+        None => Ok(false),
+    }
+}
+
+// Puts the steps of a script at the end, and says whether each line is one of a script.
+fn put_steps(steps: &mut Vec<Step>, alloc: Global, script: &str) -> Result<bool, NoMemory> {
+    for line in script.lines() {
+        if !put_step(steps, alloc, line)? {
+            return Ok(false);
+        }
+    }
+    Ok(true)
 }
 
 /// The steps of a script; None where a line is no call and isn't marked as such.
 pub(crate) fn steps_of(alloc: Global, script: &str) -> Result<Option<Vec<Step>>, NoMemory> {
     let mut steps = Vec::new(alloc);
-    for line in script.lines() {
-        if line.starts_with("+") || line.starts_with("#") {
-            continue;
-        }
-        let Some(step) = step_of(alloc, line)? else {
-            return Ok(None);
-        };
-        steps.push(step)?;
-    }
-    Ok(Some(steps))
+    let are_all = put_steps(&mut steps, alloc, script)?;
+    Ok(if are_all { Some(steps) } else { None })
 }

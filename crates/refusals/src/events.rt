@@ -5,15 +5,13 @@ use cics_names::{Command, Name4, Name8, NoMemory, Verb};
 use cics_script::Line;
 use cics_units::Listing;
 
-/// An event of a region, or a look at it that takes memory.
-#[derive(Drop)]
-pub(crate) enum Event {
+/// An event of a region in which no task issues a command, or a look at it that takes memory.
+#[derive(Clone, Copy)]
+pub(crate) enum PlainEvent {
     /// A task is attached: its label, its transaction, and the seconds that a command of it may wait.
     Attach(Name8, Name4, u64),
     /// The clock is set, in seconds.
     Clock(u64),
-    /// The task of a label issues a command.
-    Issue(Name8, Command),
     /// The first waiting command that needn't wait any more goes on.
     Wake,
     /// The first task that has waited too long is abended.
@@ -23,6 +21,15 @@ pub(crate) enum Event {
     Listing,
     /// The replay is asked for.
     Replayed,
+}
+
+/// An event of a region, or a look at it that takes memory.
+#[derive(Drop)]
+pub(crate) enum Event {
+    /// The task of a label issues a command.
+    Issue(Name8, Command),
+    /// Any other.
+    Plain(PlainEvent),
 }
 
 /// What came of an event.
@@ -56,43 +63,69 @@ impl Came {
     }
 }
 
-impl Event {
-    /// The event that a line of the script language says; None for one that defines or loads, and for a blank one.
-    pub(crate) fn of_line(line: Line) -> Option<Event> {
+impl PlainEvent {
+    // The event that a line of the script language says; None for one that defines, loads or issues a command, and for a
+    // blank one.
+    fn of_line(line: &Line) -> Option<PlainEvent> {
         match line {
             Line::Attach {
                 label,
                 transaction,
                 dtimout,
-            } => Some(Event::Attach(label, transaction, dtimout)),
-            Line::Clock(seconds) => Some(Event::Clock(seconds)),
-            Line::Issue(label, command) => Some(Event::Issue(label, command)),
-            Line::Shutdown => Some(Event::Shutdown),
+            } => Some(PlainEvent::Attach(*label, *transaction, *dtimout)),
+            Line::Clock(seconds) => Some(PlainEvent::Clock(*seconds)),
+            Line::Shutdown => Some(PlainEvent::Shutdown),
             _ => None,
+        }
+    }
+
+    // Whether it may ask for memory where it is answered `answer`, its line of the journal.
+    fn may_ask(self, answer: &str) -> bool {
+        match self {
+            PlainEvent::Clock(_) | PlainEvent::Expire | PlainEvent::Shutdown => false,
+            PlainEvent::Attach(_, _, _) => !answer.contains(" REFUSED "),
+            PlainEvent::Wake | PlainEvent::Listing | PlainEvent::Replayed => true,
+        }
+    }
+
+    // Lets it happen, and tells what came of it.
+    fn happen(self, region: &mut Region) -> Came {
+        match self {
+            PlainEvent::Attach(label, transaction, dtimout) => {
+                Came::Made(region.attach(label, transaction, dtimout))
+            }
+            PlainEvent::Clock(seconds) => Came::Made(region.set_clock(seconds)),
+            PlainEvent::Wake => Came::Woke(region.wake()),
+            PlainEvent::Expire => Came::TimedOut(region.expire()),
+            PlainEvent::Shutdown => Came::Down(region.shutdown()),
+            PlainEvent::Listing => Came::Listed(region.listing()),
+            PlainEvent::Replayed => Came::Listed(region.replayed()),
+        }
+    }
+}
+
+impl Event {
+    /// The event that a line of the script language says; None for one that defines or loads, and for a blank one.
+    pub(crate) fn of_line(line: Line) -> Option<Event> {
+        match line {
+            Line::Issue(label, command) => Some(Event::Issue(label, command)),
+            line => PlainEvent::of_line(&line).map(Event::Plain),
         }
     }
 
     /// The same event once more. It is refused for want of memory alone.
     pub(crate) fn copy(&self) -> Result<Event, NoMemory> {
-        Ok(match self {
-            Event::Attach(label, transaction, dtimout) => {
-                Event::Attach(*label, *transaction, *dtimout)
-            }
-            Event::Clock(seconds) => Event::Clock(*seconds),
-            Event::Issue(label, command) => Event::Issue(*label, command.copy()?),
-            Event::Wake => Event::Wake,
-            Event::Expire => Event::Expire,
-            Event::Shutdown => Event::Shutdown,
-            Event::Listing => Event::Listing,
-            Event::Replayed => Event::Replayed,
-        })
+        match self {
+            Event::Issue(label, command) => Ok(Event::Issue(*label, command.copy()?)),
+            Event::Plain(event) => Ok(Event::Plain(*event)),
+        }
     }
 
     /// The temporary storage queue that its command names, if it names one.
     pub(crate) fn ts_queue(&self) -> Option<&Name8> {
         match self {
             Event::Issue(_, command) => ts_queue(&command.verb),
-            _ => None,
+            Event::Plain(_) => None,
         }
     }
 
@@ -100,12 +133,10 @@ impl Event {
     /// that come before the look at what other units hold asks for none, nor does what only gives something up.
     pub(crate) fn may_ask(&self, answer: &str) -> bool {
         match self {
-            Event::Clock(_) | Event::Expire | Event::Shutdown => false,
-            Event::Attach(_, _, _) => !answer.contains(" REFUSED "),
             Event::Issue(_, command) => {
                 is_growing(&command.verb) && !is_of_checks(&command.verb, answer)
             }
-            Event::Wake | Event::Listing | Event::Replayed => true,
+            Event::Plain(event) => event.may_ask(answer),
         }
     }
 }
@@ -156,15 +187,7 @@ fn is_of_checks(verb: &Verb, answer: &str) -> bool {
 /// Lets an event happen, and tells what came of it.
 pub(crate) fn happen(region: &mut Region, event: Event) -> Came {
     match event {
-        Event::Attach(label, transaction, dtimout) => {
-            Came::Made(region.attach(label, transaction, dtimout))
-        }
-        Event::Clock(seconds) => Came::Made(region.set_clock(seconds)),
         Event::Issue(label, command) => Came::Told(region.issue(label, command)),
-        Event::Wake => Came::Woke(region.wake()),
-        Event::Expire => Came::TimedOut(region.expire()),
-        Event::Shutdown => Came::Down(region.shutdown()),
-        Event::Listing => Came::Listed(region.listing()),
-        Event::Replayed => Came::Listed(region.replayed()),
+        Event::Plain(event) => event.happen(region),
     }
 }

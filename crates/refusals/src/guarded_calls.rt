@@ -177,18 +177,31 @@ fn end(units: &mut Units, unit: UnitId, commits: bool) -> Told {
     Told::Nothing
 }
 
+// READQ TS of an item, or of the next one.
+fn read_ts(units: &mut Units, queue: &Name8, item: Option<u64>) -> Result<Told, NoMemory> {
+    Ok(Told::Read(units.read_ts(queue, item)?))
+}
+
+// What the files and queues list.
+fn list(units: &Units) -> Result<Told, NoMemory> {
+    Ok(Told::Listed(units.listing()?))
+}
+
+// The listing of the plain replay of what was executed.
+fn replay(units: &Units, alloc: Global) -> Result<Told, NoMemory> {
+    let (trace, outcomes) = (units.trace(), units.outcomes());
+    Ok(Told::Listed(plain_replay(alloc, units.opening(), trace, outcomes)?))
+}
+
 /// Makes a call where it may be made, and tells what came of it.
 pub(crate) fn make(units: &mut Units, alloc: Global, call: &Call) -> Result<Told, NoMemory> {
     match call {
         Call::Execute(unit, op) => execute(units, *unit, op),
         Call::Submit(unit, op) => submit(units, *unit, op),
         Call::Enqueue(unit, value) => enqueue(units, *unit, value.bytes()),
-        Call::ReadTs(queue, item) => Ok(Told::Read(units.read_ts(queue, *item)?)),
-        Call::Listing => Ok(Told::Listed(units.listing()?)),
-        Call::Replay => {
-            let (trace, outcomes) = (units.trace(), units.outcomes());
-            Ok(Told::Listed(plain_replay(alloc, units.opening(), trace, outcomes)?))
-        }
+        Call::ReadTs(queue, item) => read_ts(units, queue, *item),
+        Call::Listing => list(units),
+        Call::Replay => replay(units, alloc),
         Call::Dequeue(unit, value) => Ok(dequeue(units, *unit, value.bytes())),
         Call::Unlock(unit, file) => Ok(unlock(units, *unit, file)),
         Call::Commit(unit) => Ok(end(units, *unit, true)),

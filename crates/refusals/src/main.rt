@@ -110,18 +110,24 @@ fn run_each(rt: &HostRuntime, prelude: &str, script: &str) -> Result<(), ExitCod
     }
 }
 
+// Runs the scripts of a text, each behind what its first text defines and loads.
+fn run_text(rt: &HostRuntime, text: &str) -> Result<(), ExitCode> {
+    let (prelude, scripts) = text.split_once("\n\n").unwrap_or((text, ""));
+    for script in scripts.split("\n\n") {
+        run_each(rt, prelude, script)?;
+    }
+    Ok(())
+}
+
 fn main(rt: HostRuntime) -> ExitCode {
     if switch(rt.alloc(), Requests::Granted).is_err() {
         return ExitCode::FAILURE;
     }
-    let Ok(text) = io::read_to_string(rt.alloc(), rt.stdin()) else {
-        return ExitCode::FAILURE;
-    };
-    let (prelude, scripts) = text.split_once("\n\n").unwrap_or((&text, ""));
-    for script in scripts.split("\n\n") {
-        if let Err(status) = run_each(&rt, prelude, script) {
-            return status;
-        }
+    match io::read_to_string(rt.alloc(), rt.stdin()) {
+        Ok(text) => match run_text(&rt, &text) {
+            Ok(()) => ExitCode::SUCCESS,
+            Err(status) => status,
+        },
+        Err(_) => ExitCode::FAILURE,
     }
-    ExitCode::SUCCESS
 }

@@ -25,26 +25,58 @@ fn recovery_of(word: &str) -> Recovery {
     }
 }
 
+// A file with keys at the front of its records; one that is recoverable where the text says so.
+fn file_of(text: &str) -> FileDef {
+    FileDef {
+        key_length: KEY_LENGTH as u64,
+        key_offset: 0,
+        record_size: 32_767,
+        recoverable: text == "recoverable",
+    }
+}
+
+// What a word defines under a name, if it defines something.
+fn defined_by_word(word: &str, name: &str, rest: &str) -> Option<Line> {
+    let name4 = Name4::new(name.as_bytes());
+    match (word, Name8::new(name.as_bytes()), name4) {
+        ("file", Ok(name), _) => Some(Line::DefineFile(name, file_of(rest))),
+        ("prefix", Ok(prefix), _) => Some(Line::DefineTsPrefix(prefix)),
+        ("queue", _, Ok(name)) => Some(Line::DefineTd(name, recovery_of(rest))),
+        _ => None,
+    }
+}
+
+// The record that is loaded into a file of this name, if it is one.
+fn load_of_file(alloc: Global, name: &str, content: &str) -> Result<Option<Line>, NoMemory> {
+    match Name8::new(name.as_bytes()) {
+        Ok(name) => {
+            let content = Record::from_slice(alloc, content.as_bytes())?;
+            Ok(Some(Line::LoadFile(name, content)))
+        }
+        Err(_) => Ok(None),
+    }
+}
+
+// The record that is loaded into a transient data queue of this name, if it is one.
+fn load_of_td(alloc: Global, name: &str, content: &str) -> Result<Option<Line>, NoMemory> {
+    match Name4::new(name.as_bytes()) {
+        Ok(name) => {
+            let content = Record::from_slice(alloc, content.as_bytes())?;
+            Ok(Some(Line::LoadTd(name, content)))
+        }
+        Err(_) => Ok(None),
+    }
+}
+
 // What a line that begins with `+` defines or loads; None where it does neither.
 fn definition_by_word(alloc: Global, line: &str) -> Result<Option<Line>, NoMemory> {
     let (word, rest) = cut(line);
     let (name, rest) = cut(rest);
-    let content = Record::from_slice(alloc, rest.as_bytes())?;
-    let file = FileDef {
-        key_length: KEY_LENGTH as u64,
-        key_offset: 0,
-        record_size: 32_767,
-        recoverable: rest == "recoverable",
-    };
-    let name4 = Name4::new(name.as_bytes());
-    Ok(match (word, Name8::new(name.as_bytes()), name4) {
-        ("file", Ok(name), _) => Some(Line::DefineFile(name, file)),
-        ("load", Ok(name), _) => Some(Line::LoadFile(name, content)),
-        ("prefix", Ok(prefix), _) => Some(Line::DefineTsPrefix(prefix)),
-        ("queue", _, Ok(name)) => Some(Line::DefineTd(name, recovery_of(rest))),
-        ("put", _, Ok(name)) => Some(Line::LoadTd(name, content)),
-        _ => None,
-    })
+    match word {
+        "load" => load_of_file(alloc, name, rest),
+        "put" => load_of_td(alloc, name, rest),
+        _ => Ok(defined_by_word(word, name, rest)),
+    }
 }
 
 // What a line defines or loads: one that begins with `+` in a script of calls, and one of the script language otherwise.
@@ -68,16 +100,38 @@ fn define(opening: &mut Opening, line: Line) -> Result<(), DefineFault> {
     }
 }
 
-// Makes a definition; Ok(false) where memory was refused.
-fn is_defined(opening: &mut Opening, alloc: Global, line: Line) -> Result<bool, Stop> {
+// Makes a definition while memory may be refused, and says what came of it.
+fn define_counted(
+    opening: &mut Opening,
+    alloc: Global,
+    line: Line,
+) -> Result<Result<(), DefineFault>, NoMemory> {
     switch(alloc, Requests::Counted)?;
     let defined = define(opening, line);
     switch(alloc, Requests::Granted)?;
-    let refused = was_refused(alloc);
-    match defined {
-        Ok(()) if !refused => Ok(true),
-        Err(DefineFault::NoMemory) if refused => Ok(false),
+    Ok(defined)
+}
+
+// Makes a definition; Ok(false) where memory was refused.
+fn is_defined(opening: &mut Opening, alloc: Global, line: Line) -> Result<bool, Stop> {
+    let defined = define_counted(opening, alloc, line)?;
+    match (defined, was_refused(alloc)) {
+        (Ok(()), false) => Ok(true),
+        (Err(DefineFault::NoMemory), true) => Ok(false),
         _ => Err(Stop::Opening),
+    }
+}
+
+// Makes what a line defines or loads, if it does; Ok(false) where memory was refused.
+fn is_line_defined(
+    opening: &mut Opening,
+    alloc: Global,
+    line: &str,
+    kind: Kind,
+) -> Result<bool, Stop> {
+    match definition(alloc, line, kind)? {
+        Some(definition) => is_defined(opening, alloc, definition),
+        None => Ok(true),
     }
 }
 
@@ -89,21 +143,40 @@ fn state_of(alloc: Global, opening: &Opening, kind: Kind) -> Result<String, NoMe
     }
 }
 
-// Makes a definition, once more where memory was refused and the opening is as it was.
-fn define_line(opening: &mut Opening, alloc: Global, line: &str, kind: Kind) -> Result<(), Stop> {
-    let before = state_of(alloc, opening, kind)?;
+// Whether an opening shows what it did before.
+fn is_as_before(
+    alloc: Global,
+    opening: &Opening,
+    kind: Kind,
+    before: &str,
+) -> Result<bool, NoMemory> {
+    let after = state_of(alloc, opening, kind)?;
+    Ok(after.as_str() == before)
+}
+
+// Makes a definition twice at the most: once more where memory was refused and the opening is as before.
+fn define_line_from(
+    opening: &mut Opening,
+    alloc: Global,
+    line: &str,
+    kind: Kind,
+    before: &str,
+) -> Result<(), Stop> {
     for _ in 0..2 {
-        let Some(definition) = definition(alloc, line, kind)? else {
-            return Ok(());
-        };
-        if is_defined(opening, alloc, definition)? {
+        if is_line_defined(opening, alloc, line, kind)? {
             return Ok(());
         }
-        if state_of(alloc, opening, kind)?.as_str() != before.as_str() {
+        if !is_as_before(alloc, opening, kind, before)? {
             return Err(Stop::Opening);
         }
     }
     Err(Stop::Refused)
+}
+
+// Makes a definition, once more where memory was refused and the opening is as it was.
+fn define_line(opening: &mut Opening, alloc: Global, line: &str, kind: Kind) -> Result<(), Stop> {
+    let before = state_of(alloc, opening, kind)?;
+    define_line_from(opening, alloc, line, kind, &before)
 }
 
 // Makes the definitions among the lines of a text.
@@ -131,29 +204,62 @@ impl Starts for Region {
     }
 }
 
+// Starts with an opening while memory may be refused; it comes back where a request was refused, and nowhere else.
+fn start_counted<T: Starts + Drop>(
+    alloc: Global,
+    opening: Opening,
+) -> Result<Result<T, Opening>, Stop> {
+    switch(alloc, Requests::Counted)?;
+    let started = T::starting(opening);
+    switch(alloc, Requests::Granted)?;
+    if was_refused(alloc) == started.is_err() {
+        Ok(started)
+    } else {
+        Err(Stop::Opening)
+    }
+}
+
+// Whether an opening shows this.
+fn shows(alloc: Global, opening: &Opening, text: &str) -> Result<bool, NoMemory> {
+    let shown = opening_of(alloc, opening)?;
+    Ok(shown.as_str() == text)
+}
+
+// An opening that has come back, which has to show what it did before.
+fn unchanged(alloc: Global, opening: Opening, before: &str) -> Result<Opening, Stop> {
+    if shows(alloc, &opening, before)? {
+        Ok(opening)
+    } else {
+        Err(Stop::Opening)
+    }
+}
+
+// Starts with an opening that shows this; where memory is refused it has come back as it was.
+fn start_from<T: Starts + Drop>(
+    alloc: Global,
+    opening: Opening,
+    before: &str,
+) -> Result<Result<T, Opening>, Stop> {
+    match start_counted(alloc, opening)? {
+        Ok(started) => Ok(Ok(started)),
+        Err(opening) => Ok(Err(unchanged(alloc, opening, before)?)),
+    }
+}
+
 // Starts with an opening; where memory is refused that has come back as it was.
 fn start_once<T: Starts + Drop>(
     alloc: Global,
     opening: Opening,
 ) -> Result<Result<T, Opening>, Stop> {
     let before = opening_of(alloc, &opening)?;
-    switch(alloc, Requests::Counted)?;
-    let started = T::starting(opening);
-    switch(alloc, Requests::Granted)?;
-    let refused = was_refused(alloc);
-    if refused != started.is_err() {
-        return Err(Stop::Opening);
-    }
-    match started {
-        Ok(started) => Ok(Ok(started)),
-        Err(opening) => {
-            let after = opening_of(alloc, &opening)?;
-            if after.as_str() == before.as_str() {
-                Ok(Err(opening))
-            } else {
-                Err(Stop::Opening)
-            }
-        }
+    start_from(alloc, opening, &before)
+}
+
+// Starts with an opening that has come back; memory may not be refused once more.
+fn start_again<T: Starts + Drop>(alloc: Global, opening: Opening) -> Result<T, Stop> {
+    match start_once(alloc, opening)? {
+        Ok(started) => Ok(started),
+        Err(_) => Err(Stop::Refused),
     }
 }
 
@@ -161,24 +267,36 @@ fn start_once<T: Starts + Drop>(
 fn start<T: Starts + Drop>(alloc: Global, opening: Opening) -> Result<T, Stop> {
     match start_once(alloc, opening)? {
         Ok(started) => Ok(started),
-        Err(opening) => match start_once(alloc, opening)? {
-            Ok(started) => Ok(started),
-            Err(_) => Err(Stop::Refused),
-        },
+        Err(opening) => start_again(alloc, opening),
     }
+}
+
+// Makes the definitions among the lines of these texts in turn.
+fn define_texts(
+    opening: &mut Opening,
+    alloc: Global,
+    texts: &[&str],
+    kind: Kind,
+) -> Result<(), Stop> {
+    for text in texts {
+        define_lines(opening, alloc, text, kind)?;
+    }
+    Ok(())
+}
+
+// An opening with what these texts define and load.
+fn opened(alloc: Global, texts: &[&str], kind: Kind) -> Result<Opening, Stop> {
+    let mut opening = Opening::new(alloc);
+    define_texts(&mut opening, alloc, texts, kind)?;
+    Ok(opening)
 }
 
 /// Units that start with what two texts define and load in lines that begin with `+`.
 pub(crate) fn started(alloc: Global, first: &str, second: &str) -> Result<Units, Stop> {
-    let mut opening = Opening::new(alloc);
-    define_lines(&mut opening, alloc, first, Kind::Units)?;
-    define_lines(&mut opening, alloc, second, Kind::Units)?;
-    start(alloc, opening)
+    start(alloc, opened(alloc, &[first, second], Kind::Units)?)
 }
 
 /// A region that starts with what a script that is written out defines and loads.
 pub(crate) fn region_started(alloc: Global, script: &str, kind: Kind) -> Result<Region, Stop> {
-    let mut opening = Opening::new(alloc);
-    define_lines(&mut opening, alloc, script, kind)?;
-    start(alloc, opening)
+    start(alloc, opened(alloc, &[script], kind)?)
 }

@@ -87,6 +87,24 @@ fn head(line: &str, kind: Kind) -> Option<&str> {
     }
 }
 
+// Puts at the end what the first text puts at the head of scripts of a kind, each line as often as it stands.
+fn push_head(text: &mut String, prelude: &str, kind: Kind, further: u64) -> Result<(), NoMemory> {
+    for line in prelude.lines() {
+        if let Some(line) = head(line, kind) {
+            push_line(text, line, further)?;
+        }
+    }
+    Ok(())
+}
+
+// Puts the lines of a script at the end, each as often as it stands.
+fn push_lines(text: &mut String, script: &str, further: u64) -> Result<(), NoMemory> {
+    for line in script.lines() {
+        push_line(text, line, further)?;
+    }
+    Ok(())
+}
+
 /// The lines of a script behind those that the first text puts at its head, each as often as it stands.
 pub(crate) fn written_out(
     alloc: Global,
@@ -95,35 +113,58 @@ pub(crate) fn written_out(
     further: u64,
 ) -> Result<String, NoMemory> {
     let mut text = String::new(alloc);
-    for line in prelude.lines() {
-        if let Some(line) = head(line, Kind::of(script)) {
-            push_line(&mut text, line, further)?;
-        }
-    }
-    for line in script.lines() {
-        push_line(&mut text, line, further)?;
-    }
+    push_head(&mut text, prelude, Kind::of(script), further)?;
+    push_lines(&mut text, script, further)?;
     Ok(text)
 }
 
-// Puts the event of a line at the end, or what is to come of the last one. Says whether the line is one of a script.
-fn put(happenings: &mut Vec<Happening>, alloc: Global, line: &str) -> Result<bool, NoMemory> {
-    if let Some(expected) = line.strip_prefix("= ") {
-        let Some(last) = happenings.last_mut() else {
-            return Ok(false);
-        };
-        last.expected.push_str(expected)?;
-        last.expected.push('\n')?;
-        return Ok(true);
+// Puts a line that is to come of the last event behind those that are. Says whether there is an event.
+fn put_expected(happenings: &mut Vec<Happening>, expected: &str) -> Result<bool, NoMemory> {
+    match happenings.last_mut() {
+        Some(last) => {
+            last.expected.push_str(expected)?;
+            last.expected.push('\n')?;
+            Ok(true)
+        }
+        None => Ok(false),
     }
-    let Some(line) = read(alloc, line)? else {
-        return Ok(false);
-    };
+}
+
+// Puts the event of a line of the script language at the end, if it says one.
+fn put_event(happenings: &mut Vec<Happening>, alloc: Global, line: Line) -> Result<(), NoMemory> {
     if let Some(event) = Event::of_line(line) {
         happenings.push(Happening {
             event,
             expected: String::new(alloc),
         })?;
+    }
+    Ok(())
+}
+
+// Puts the event of a line at the end, or what is to come of the last one. Says whether the line is one of a script.
+fn put(happenings: &mut Vec<Happening>, alloc: Global, line: &str) -> Result<bool, NoMemory> {
+    if let Some(expected) = line.strip_prefix("= ") {
+        return put_expected(happenings, expected);
+    }
+    match read(alloc, line)? {
+        Some(line) => {
+            put_event(happenings, alloc, line)?;
+            Ok(true)
+        }
+        None => Ok(false),
+    }
+}
+
+// Puts the events of a script that is written out at the end. Says whether each line is one of a script.
+fn put_happenings(
+    happenings: &mut Vec<Happening>,
+    alloc: Global,
+    script: &str,
+) -> Result<bool, NoMemory> {
+    for line in script.lines() {
+        if !put(happenings, alloc, line)? {
+            return Ok(false);
+        }
     }
     Ok(true)
 }
@@ -134,24 +175,26 @@ pub(crate) fn happenings_of(
     script: &str,
 ) -> Result<Option<Vec<Happening>>, NoMemory> {
     let mut happenings = Vec::new(alloc);
-    for line in script.lines() {
-        if !put(&mut happenings, alloc, line)? {
-            return Ok(None);
-        }
-    }
-    Ok(Some(happenings))
+    let are_all = put_happenings(&mut happenings, alloc, script)?;
+    Ok(if are_all { Some(happenings) } else { None })
+}
+
+// Whether a line defines or loads something.
+fn is_definition(line: &Line) -> bool {
+    matches!(
+        line,
+        Line::DefineFile(_, _)
+            | Line::DefineTsPrefix(_)
+            | Line::DefineTd(_, _)
+            | Line::LoadFile(_, _)
+            | Line::LoadTd(_, _)
+    )
 }
 
 /// What a line of a script defines or loads; None where it is none that does.
 pub(crate) fn definition_of(alloc: Global, line: &str) -> Result<Option<Line>, NoMemory> {
-    Ok(match read(alloc, line)? {
-        Some(
-            line @ (Line::DefineFile(_, _)
-            | Line::DefineTsPrefix(_)
-            | Line::DefineTd(_, _)
-            | Line::LoadFile(_, _)
-            | Line::LoadTd(_, _)),
-        ) => Some(line),
-        _ => None,
-    })
+    match read(alloc, line)? {
+        Some(line) if is_definition(&line) => Ok(Some(line)),
+        _ => Ok(None),
+    }
 }

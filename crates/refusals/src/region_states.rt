@@ -1,13 +1,12 @@
 //! All that a region shows, as a text: two states are told apart by it.
 
 use crate::region_scripts::Happening;
-use crate::states::push_units;
+use crate::states::{push_next_place, push_units};
 use crate::texts::push_name;
 use cics_dispatch::Region;
 use cics_names::NoMemory;
 use cics_units::{Listing, TaskState};
 use std::alloc::Global;
-use std::fmt::Write;
 
 fn task_word(state: TaskState) -> &'static str {
     match state {
@@ -26,6 +25,27 @@ fn push_tasks(text: &mut String, listing: &Listing) -> Result<(), NoMemory> {
     Ok(())
 }
 
+// Puts the NEXT place of each queue at the end that one of these events names.
+fn push_next_places(
+    text: &mut String,
+    region: &Region,
+    happenings: &[Happening],
+) -> Result<(), NoMemory> {
+    for happening in happenings {
+        if let Some(queue) = happening.event.ts_queue() {
+            push_next_place(text, region.units(), queue)?;
+        }
+    }
+    Ok(())
+}
+
+// Puts at the end what the listing of a region has, and what its units of work show.
+fn push_region(text: &mut String, region: &Region) -> Result<(), NoMemory> {
+    let listing = region.listing()?;
+    push_tasks(text, &listing)?;
+    push_units(text, region.units(), &listing)
+}
+
 /// All that a region shows: the tasks and which of them wait, the files and queues, the executed commands with their
 /// answers, the outcomes, the update reads, and the NEXT place of each queue that one of these events names.
 pub(crate) fn region_state_of(
@@ -34,13 +54,7 @@ pub(crate) fn region_state_of(
     happenings: &[Happening],
 ) -> Result<String, NoMemory> {
     let mut text = String::new(alloc);
-    let listing = region.listing()?;
-    push_tasks(&mut text, &listing)?;
-    push_units(&mut text, region.units(), &listing)?;
-    for happening in happenings {
-        if let Some(queue) = happening.event.ts_queue() {
-            write!(text, " next {}", region.units().next_place(queue))?;
-        }
-    }
+    push_region(&mut text, region)?;
+    push_next_places(&mut text, region, happenings)?;
     Ok(text)
 }

@@ -1,6 +1,6 @@
 //! What comes of the events of a region, as lines of its journal.
 
-use crate::events::{Came, Event};
+use crate::events::{Came, Event, PlainEvent};
 use crate::texts::{Letters, push_bytes, push_listing};
 use cics_dispatch::{Number, Outcome, Reply};
 use cics_names::{Condition, NoMemory, Record, from_ebcdic};
@@ -65,23 +65,23 @@ fn push_outcome(text: &mut String, outcome: &Outcome) -> Result<(), NoMemory> {
 // Puts whom an event is about at the end: a task, the clock or the region; nobody where what came of it says whom.
 fn push_whom(text: &mut String, event: &Event) -> Result<(), NoMemory> {
     match event {
-        Event::Attach(label, _, _) => push_letters(text, &label.bytes()),
         Event::Issue(label, _) => push_letters(text, &label.bytes()),
-        Event::Clock(_) => Ok(text.push_str("CLOCK")?),
-        Event::Shutdown => Ok(text.push_str("SHUTDOWN")?),
-        Event::Wake | Event::Expire | Event::Listing | Event::Replayed => Ok(()),
+        Event::Plain(PlainEvent::Attach(label, _, _)) => push_letters(text, &label.bytes()),
+        Event::Plain(PlainEvent::Clock(_)) => Ok(text.push_str("CLOCK")?),
+        Event::Plain(PlainEvent::Shutdown) => Ok(text.push_str("SHUTDOWN")?),
+        Event::Plain(_) => Ok(()),
     }
 }
 
 // Puts what was made at the end: the transaction that was attached, or the seconds of the clock.
 fn push_made(text: &mut String, event: &Event) -> Result<(), NoMemory> {
     match event {
-        Event::Attach(_, transaction, _) => {
+        Event::Plain(PlainEvent::Attach(_, transaction, _)) => {
             text.push_str(" ATTACHED '")?;
             push_letters(text, &transaction.bytes())?;
             Ok(text.push_str("'")?)
         }
-        Event::Clock(seconds) => Ok(write!(text, " {seconds}")?),
+        Event::Plain(PlainEvent::Clock(seconds)) => Ok(write!(text, " {seconds}")?),
         _ => Ok(()),
     }
 }

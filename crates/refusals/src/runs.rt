@@ -4,7 +4,7 @@ use crate::calls::{Call, Step, steps_of};
 use crate::guarded_calls::{Told, is_open, make};
 use crate::memory::{Requests, switch, was_refused};
 use crate::openings::started;
-use crate::states::{replay_of, state_of};
+use crate::states::{listing_of, replay_of, state_of};
 use crate::texts::told_text;
 use cics_enqueue::UnitId;
 use cics_names::NoMemory;
@@ -74,6 +74,20 @@ fn requests_of(call: &Call) -> Requests {
     }
 }
 
+// Makes a call while this becomes of its requests for memory, and tells what came of it; None where it answered that there
+// is none.
+fn make_with_requests(
+    units: &mut Units,
+    alloc: Global,
+    call: &Call,
+    requests: Requests,
+) -> Result<Option<Told>, NoMemory> {
+    switch(alloc, requests)?;
+    let told = make(units, alloc, call);
+    switch(alloc, Requests::Granted)?;
+    Ok(told.ok())
+}
+
 // Makes a call, and tells what came of it; None where memory was refused. It is refused where a request
 // was, and nowhere else.
 fn make_once(
@@ -82,12 +96,9 @@ fn make_once(
     call: &Call,
     at: usize,
 ) -> Result<Option<Told>, Stop> {
-    switch(alloc, requests_of(call))?;
-    let told = make(units, alloc, call);
-    switch(alloc, Requests::Granted)?;
-    let refused = was_refused(alloc);
-    if refused == told.is_err() {
-        Ok(told.ok())
+    let told = make_with_requests(units, alloc, call, requests_of(call))?;
+    if was_refused(alloc) == told.is_none() {
+        Ok(told)
     } else {
         Err(Stop::Otherwise(at))
     }
@@ -181,7 +192,7 @@ fn end_units(units: &mut Units, alloc: Global, steps: &[Step], end: End) -> Resu
 // The listing at the end, as the units and the plain replay both have it.
 fn closing(units: &Units, alloc: Global) -> Result<String, Stop> {
     let replayed = replay_of(alloc, units)?;
-    let listed = told_text(alloc, &Told::Listed(units.listing()?))?;
+    let listed = listing_of(alloc, units)?;
     if listed.as_str() == replayed.as_str() {
         Ok(listed)
     } else {
@@ -216,6 +227,18 @@ fn run_to_end(units: &mut Units, alloc: Global, steps: &[Step], end: End) -> Res
     Ok(listed)
 }
 
+// Makes these calls of a script on units that start with what it defines and loads.
+fn run_calls(
+    alloc: Global,
+    prelude: &str,
+    script: &str,
+    steps: &[Step],
+    end: End,
+) -> Result<String, Stop> {
+    let mut units = started(alloc, prelude, script)?;
+    run_to_end(&mut units, alloc, steps, end)
+}
+
 /// Runs a script, and answers the listing at its end. Also where memory was refused for good, every unit
 /// is ended and the listing is the one of the plain replay.
 pub(crate) fn run_script(
@@ -224,9 +247,8 @@ pub(crate) fn run_script(
     script: &str,
     end: End,
 ) -> Result<String, Stop> {
-    let Some(steps) = steps_of(alloc, script)? else {
-        return Err(Stop::NoCall);
-    };
-    let mut units = started(alloc, prelude, script)?;
-    run_to_end(&mut units, alloc, &steps, end)
+    match steps_of(alloc, script)? {
+        Some(steps) => run_calls(alloc, prelude, script, &steps, end),
+        None => Err(Stop::NoCall),
+    }
 }

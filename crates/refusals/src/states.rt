@@ -2,7 +2,9 @@
 
 use crate::calls::{Call, Step};
 use crate::guarded_calls::{is_open, is_open_or_none, is_ready};
-use crate::texts::{Letters, outcome_word, push_bytes, push_entry, push_listing, push_name};
+use crate::texts::{
+    Letters, listing_text, outcome_word, push_bytes, push_entry, push_listing, push_name,
+};
 use cics_enqueue::UnitId;
 use cics_names::{Name8, NoMemory};
 use cics_units::{Listing, Op, Opening, Units, plain_replay};
@@ -46,21 +48,51 @@ fn ts_queue(call: &Call) -> Option<&Name8> {
     }
 }
 
+// Puts at the end whom a call of a task without a unit would have to wait for.
+fn push_awaited_without_unit(
+    text: &mut String,
+    units: &Units,
+    call: &Call,
+) -> Result<(), NoMemory> {
+    match awaited(units, None, call) {
+        Some(holder) => Ok(write!(text, " - waits {}", holder.number())?),
+        None => Ok(()),
+    }
+}
+
+// Puts at the end whom a call of the unit of a number would have to wait for.
+fn push_awaited_by_unit(
+    text: &mut String,
+    units: &Units,
+    number: u64,
+    call: &Call,
+) -> Result<(), NoMemory> {
+    match awaited(units, Some(UnitId::new(number)), call) {
+        Some(holder) => Ok(write!(text, " {number} waits {}", holder.number())?),
+        None => Ok(()),
+    }
+}
+
+/// Puts the NEXT place of a temporary storage queue at the end.
+pub(crate) fn push_next_place(
+    text: &mut String,
+    units: &Units,
+    queue: &Name8,
+) -> Result<(), NoMemory> {
+    Ok(write!(text, " next {}", units.next_place(queue))?)
+}
+
 // Puts at the end whom a call would have to wait for, of whatever unit, and the NEXT place that it names.
 fn push_call(text: &mut String, units: &Units, call: &Call) -> Result<(), NoMemory> {
     text.push('\n')?;
-    if let Some(holder) = awaited(units, None, call) {
-        write!(text, " - waits {}", holder.number())?;
-    }
+    push_awaited_without_unit(text, units, call)?;
     for number in 0..units.outcomes().len() as u64 {
-        if let Some(holder) = awaited(units, Some(UnitId::new(number)), call) {
-            write!(text, " {number} waits {}", holder.number())?;
-        }
+        push_awaited_by_unit(text, units, number, call)?;
     }
-    if let Some(queue) = ts_queue(call) {
-        write!(text, " next {}", units.next_place(queue))?;
+    match ts_queue(call) {
+        Some(queue) => push_next_place(text, units, queue),
+        None => Ok(()),
     }
-    Ok(())
 }
 
 // Puts at the end how a unit stands, and what it has read for update in each file.
@@ -104,32 +136,51 @@ pub(crate) fn push_units(
     Ok(())
 }
 
+// Puts all that units show at the end.
+fn push_state(text: &mut String, units: &Units, steps: &[Step]) -> Result<(), NoMemory> {
+    push_units(text, units, &units.listing()?)?;
+    for step in steps {
+        push_call(text, units, &step.call)?;
+    }
+    Ok(())
+}
+
 /// All that units show: the files and queues, the executed commands with their answers, the outcomes, the
 /// update reads, and of each of these calls who would wait for whom, and the NEXT place.
 pub(crate) fn state_of(alloc: Global, units: &Units, steps: &[Step]) -> Result<String, NoMemory> {
     let mut text = String::new(alloc);
-    push_units(&mut text, units, &units.listing()?)?;
-    for step in steps {
-        push_call(&mut text, units, &step.call)?;
-    }
+    push_state(&mut text, units, steps)?;
     Ok(text)
+}
+
+/// The listing of what units hold.
+pub(crate) fn listing_of(alloc: Global, units: &Units) -> Result<String, NoMemory> {
+    listing_text(alloc, &units.listing()?, Letters::Ascii)
 }
 
 /// The listing of the plain replay of what units executed.
 pub(crate) fn replay_of(alloc: Global, units: &Units) -> Result<String, NoMemory> {
-    let mut text = String::new(alloc);
     let listing = plain_replay(alloc, units.opening(), units.trace(), units.outcomes())?;
-    push_listing(&mut text, &listing, Letters::Ascii)?;
-    Ok(text)
+    listing_text(alloc, &listing, Letters::Ascii)
+}
+
+// The listing of what an opening has loaded.
+fn loaded_of(alloc: Global, opening: &Opening) -> Result<String, NoMemory> {
+    let listing = plain_replay(alloc, opening, &[], &[])?;
+    listing_text(alloc, &listing, Letters::Ascii)
+}
+
+// Puts each prefix that an opening defines at the end.
+fn push_prefixes(text: &mut String, opening: &Opening) -> Result<(), NoMemory> {
+    for prefix in opening.prefixes() {
+        push_name(text, &prefix.bytes())?;
+    }
+    Ok(())
 }
 
 /// All that an opening shows: what is defined, and what was loaded.
 pub(crate) fn opening_of(alloc: Global, opening: &Opening) -> Result<String, NoMemory> {
-    let mut text = String::new(alloc);
-    let listing = plain_replay(alloc, opening, &[], &[])?;
-    push_listing(&mut text, &listing, Letters::Ascii)?;
-    for prefix in opening.prefixes() {
-        push_name(&mut text, &prefix.bytes())?;
-    }
+    let mut text = loaded_of(alloc, opening)?;
+    push_prefixes(&mut text, opening)?;
     Ok(text)
 }

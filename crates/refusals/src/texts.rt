@@ -1,6 +1,7 @@
 //! Texts of what units show, so that two states are compared, and what a call told with what it is to tell.
 
 use crate::guarded_calls::Told;
+use cics_enqueue::UnitId;
 use cics_names::{Items, Name8, NoMemory, Record, from_ebcdic};
 use cics_transdata::Recovery;
 use cics_units::{Answer, Done, Enqueued, Entry, Listing, Op, Submitted, UnitState};
@@ -135,6 +136,17 @@ pub(crate) fn push_listing(
     Ok(())
 }
 
+/// A listing as a text.
+pub(crate) fn listing_text(
+    alloc: Global,
+    listing: &Listing,
+    letters: Letters,
+) -> Result<String, NoMemory> {
+    let mut text = String::new(alloc);
+    push_listing(&mut text, listing, letters)?;
+    Ok(text)
+}
+
 // Puts the word of a command at the end, with what it names and the bytes that it has.
 fn push_command(
     text: &mut String,
@@ -215,28 +227,56 @@ pub(crate) fn outcome_word(outcome: UnitState) -> &'static str {
     }
 }
 
+// Puts at the end for which unit a call has to wait.
+fn push_wait(text: &mut String, holder: UnitId) -> Result<(), NoMemory> {
+    Ok(write!(text, "waits {}", holder.number())?)
+}
+
+// Puts what came of a command at the end.
+fn push_done(text: &mut String, done: &Done) -> Result<(), NoMemory> {
+    match done {
+        Done::Answered(unit, answer) => push_answer(text, answer, Some(unit.number())),
+        Done::MustWait(holder) => push_wait(text, *holder),
+    }
+}
+
+// Puts what came of a command that was handed over at the end; one that has to wait has come back.
+fn push_submitted(text: &mut String, submitted: &Submitted) -> Result<(), NoMemory> {
+    match submitted {
+        Submitted::Answered(unit, answer) => push_answer(text, answer, Some(unit.number())),
+        Submitted::MustWait(holder, op) => {
+            push_wait(text, *holder)?;
+            text.push_str(" with")?;
+            push_op(text, op)
+        }
+    }
+}
+
+// Puts what came of an ENQ at the end.
+fn push_enqueued(text: &mut String, enqueued: &Enqueued) -> Result<(), NoMemory> {
+    match enqueued {
+        Enqueued::Taken(unit) => Ok(write!(text, "taken {}", unit.number())?),
+        Enqueued::MustWait(holder) => push_wait(text, *holder),
+        Enqueued::CountFull => Ok(text.push_str("full")?),
+    }
+}
+
+// Puts what came of a call at the end, as a step says it.
+fn push_told(text: &mut String, told: &Told) -> Result<(), NoMemory> {
+    match told {
+        Told::Executed(done) => push_done(text, done),
+        Told::Submitted(submitted) => push_submitted(text, submitted),
+        Told::Enqueued(enqueued) => push_enqueued(text, enqueued),
+        Told::Read(answer) => push_answer(text, answer, None),
+        Told::Listed(listing) => push_listing(text, listing, Letters::Ascii),
+        Told::Nothing => Ok(()),
+        Told::MayNot => Ok(text.push_str("no")?),
+    }
+}
+
 /// What came of a call, as a step says it.
 pub(crate) fn told_text(alloc: Global, told: &Told) -> Result<String, NoMemory> {
     let mut text = String::new(alloc);
-    match told {
-        Told::Executed(Done::Answered(unit, answer)) => {
-            push_answer(&mut text, answer, Some(unit.number()))?;
-        }
-        Told::Executed(Done::MustWait(holder)) => write!(text, "waits {}", holder.number())?,
-        Told::Submitted(Submitted::Answered(unit, answer)) => {
-            push_answer(&mut text, answer, Some(unit.number()))?;
-        }
-        Told::Submitted(Submitted::MustWait(holder, op)) => {
-            write!(text, "waits {} with", holder.number())?;
-            push_op(&mut text, op)?;
-        }
-        Told::Enqueued(Enqueued::Taken(unit)) => write!(text, "taken {}", unit.number())?,
-        Told::Enqueued(Enqueued::MustWait(holder)) => write!(text, "waits {}", holder.number())?,
-        Told::Enqueued(Enqueued::CountFull) => text.push_str("full")?,
-        Told::Read(answer) => push_answer(&mut text, answer, None)?,
-        Told::Listed(listing) => push_listing(&mut text, listing, Letters::Ascii)?,
-        Told::Nothing => {}
-        Told::MayNot => text.push_str("no")?,
-    }
+    push_told(&mut text, told)?;
     Ok(text)
 }
