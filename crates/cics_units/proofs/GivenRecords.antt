@@ -1,21 +1,17 @@
 -- The record that an executed command is answered with is the one that was looked up before.
-use Rattle.std.proofs.Common.{◌≡◌, ℕ, Bool, true, false, Option, Some, None, List, [], ◌∷◌, refl, ap, sym, ◌∙◌, inl, inr}
-use Rattle.std.specs.Prelude.{MatchBool}
-use Rattle.std.proofs.lemmas.Bool.{cases_Bool, false≢true}
+use Rattle.std.proofs.Common.{◌≡◌, Bool, true, false, Option, Some, None, List, [], ◌∷◌, refl, ap, sym}
+use Rattle.std.proofs.lemmas.Bool.{false≢true}
 use Rattle.cics_names.specs.Keyed.{Bytes, Map, value_at}
-use Rattle.cics_enqueue.specs.Resources.{Table}
 use Rattle.cics_ksds.specs.Prefixes.{under}
 use Rattle.cics_tempstor.specs.declared.queue_rows.Row.{Row}
 use Rattle.cics_transdata.specs.Trans.{TransState}
 use Rattle.cics_history.specs.Store.{apply, apply_write, apply_rewrite, apply_delete, apply_delete_generic, counted_answer}
 use Rattle.cics_history.specs.Records.{is_file_op}
-use Rattle.cics_history.specs.declared.ops.Answer.{Answer}
 use Rattle.cics_history.specs.declared.ops.Op.{Op}
 use Rattle.cics_history.specs.declared.ops.Op.TheVariants.{Write, Rewrite, Delete, DeleteGeneric, ReadUpdate, TsWrite, TsRewrite, TsDelete, TdWrite, TdRead, TdDelete}
-use Rattle.cics_units.specs.StoreMatching.{StoreValue, UndoableValue, shown_store}
-use Rattle.cics_units.specs.QueueChanges.{is_trans, queue_of, trans_answer, rows_answer, IsTransExecuted, IsTempExecuted, AreQueuesChanged}
-use Rattle.cics_units.specs.Awaiting.{is_writer}
-use Rattle.cics_units.specs.Parts.{AreChanged, told_in, first_in, given_record}
+use Rattle.cics_units.specs.StoreMatching.{StoreValue, shown_store}
+use Rattle.cics_units.specs.QueueChanges.{is_trans, queue_of, trans_answer, rows_answer}
+use Rattle.cics_units.specs.Parts.{first_in, given_record}
 
 -- the count of what lies under a prefix is no record
 counted_none : {X : Type 0} (xs : List X) → (counted_answer xs).content ≡ None
@@ -23,7 +19,7 @@ counted_none [] = refl
 counted_none (x ∷ xs) = refl
 
 -- of the commands on files READ UPDATE alone gives a record
-file_content : (s : StoreValue) (own : Bool) (op : Op) → is_file_op op ≡ true → (apply (shown_store s) op).answer.content ≡ given_record s own op
+pub file_content : (s : StoreValue) (own : Bool) (op : Op) → is_file_op op ≡ true → (apply (shown_store s) op).answer.content ≡ given_record s own op
 file_content s own (ReadUpdate f k) file = refl
 file_content s own (Write f k r) file = by (value_at f (shown_store s).files)
   where
@@ -53,7 +49,7 @@ file_content s own (TdRead q) file = absurd (false≢true file)
 file_content s own (TdDelete q) file = absurd (false≢true file)
 
 -- of those on transient data queues READQ TD alone
-trans_content : (s : StoreValue) (own : Bool) (op : Op) (before : TransState) → is_trans op ≡ true → value_at (queue_of op) s.trans_data ≡ Some before →
+pub trans_content : (s : StoreValue) (own : Bool) (op : Op) (before : TransState) → is_trans op ≡ true → value_at (queue_of op) s.trans_data ≡ Some before →
     (trans_answer op own before).content ≡ given_record s own op
 trans_content s own (TdRead q) before trans there = sym (ap (λ o. first_in o own) there)
 trans_content s own (TdWrite q d) before trans there = refl
@@ -68,7 +64,7 @@ trans_content s own (DeleteGeneric f p) before trans there = absurd (false≢tru
 trans_content s own (ReadUpdate f k) before trans there = absurd (false≢true trans)
 
 -- and of those on temporary storage queues none
-temp_content : (s : StoreValue) (own : Bool) (op : Op) (rows : Map Row) → is_file_op op ≡ false → is_trans op ≡ false → (rows_answer op rows).content ≡ given_record s own op
+pub temp_content : (s : StoreValue) (own : Bool) (op : Op) (rows : Map Row) → is_file_op op ≡ false → is_trans op ≡ false → (rows_answer op rows).content ≡ given_record s own op
 temp_content s own (TsWrite q d) rows file trans = refl
 temp_content s own (TsRewrite q n d) rows file trans = refl
 temp_content s own (TsDelete q) rows file trans = refl
@@ -80,27 +76,3 @@ temp_content s own (Rewrite f k r) rows file trans = absurd (false≢true (sym f
 temp_content s own (Delete f k) rows file trans = absurd (false≢true (sym file))
 temp_content s own (DeleteGeneric f p) rows file trans = absurd (false≢true (sym file))
 temp_content s own (ReadUpdate f k) rows file trans = absurd (false≢true (sym file))
-
-module _ (old new : UndoableValue) (t : Table) (unit : ℕ) (op : Op) (recoverable : Bool) (answer : Answer)
-    (changed : MatchBool (is_file_op op) (AreChanged old new unit op) (AreQueuesChanged old new unit op (told_in t unit op recoverable) answer))
-    (of_file : is_file_op op ≡ true → answer ≡ (apply (shown_store old.store) op).answer) where
-  abbrev own : Bool
-  own = is_writer t unit (queue_of op)
-
-  -- a queue's record
-  queue_content : is_file_op op ≡ false → AreQueuesChanged old new unit op (told_in t unit op recoverable) answer → answer.content ≡ given_record old.store own op
-  queue_content other done = elim (cases_Bool (is_trans op)) [
-    | inl trans ↦
-        let made : IsTransExecuted old new unit op own answer = rw trans at done in
-        ap (λ (a : Answer). a.content) made.answered ∙ trans_content old.store own op made.before trans made.there
-    | inr temp ↦
-        let made : IsTempExecuted old new unit op recoverable answer = rw temp at done in
-        ap (λ (a : Answer). a.content) made.answered ∙ temp_content old.store own op old.store.temp_storage other temp
-  ]
-
-  -- what the unit is given is what the command answers
-  pub content_given : answer.content ≡ given_record old.store own op
-  content_given = elim (cases_Bool (is_file_op op)) [
-    | inl file ↦ ap (λ (a : Answer). a.content) (of_file file) ∙ file_content old.store own op file
-    | inr other ↦ queue_content other (rw other at changed)
-  ]

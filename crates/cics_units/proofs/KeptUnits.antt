@@ -1,33 +1,29 @@
 -- Each call keeps the units: what their state says, what the files, the queues and the images hold, and what the table tells.
-use Rattle.std.proofs.Common.{◌≡◌, ◌≢◌, ℕ, ◌<◌, ◌≤◌, Bool, true, false, Option, Some, None, List, [], ◌∷◌, ◌++◌, length, length-append, zero, suc, refl, ap, sym, subst, ◌∙◌, inl, inr, ◌⊎◌, arith}
-use Rattle.std.specs.Prelude.{◌&&◌, if◌then◌else◌, MatchBool, is_some, IsSome, map, option_map, unwrap_or, IsTrue, fold}
-use Rattle.std.proofs.lemmas.Bool.{cases_Bool, false≢true, true≢false, and_parts}
+use Rattle.std.proofs.Common.{◌≡◌, ℕ, ◌<◌, ◌≤◌, Bool, true, false, Option, Some, None, List, [], ◌∷◌, ◌++◌, length, length-append, zero, suc, refl, ap, sym, subst, ◌∙◌, arith}
+use Rattle.std.specs.Prelude.{◌&&◌, is_some, IsSome, map, option_map, IsTrue, fold}
+use Rattle.std.proofs.lemmas.Bool.{false≢true, true≢false, and_parts}
 use Rattle.std.proofs.lemmas.List.{length-set}
 use Rattle.cics_names.specs.Keyed.{Bytes, Map, value_at, has_key, is_same, is_key_in}
 use Rattle.cics_names.specs.KeyedLaws.{is_same-eq}
-use Rattle.cics_names.specs.declared.conditions.Condition.{Condition}
 use Rattle.cics_images.specs.Cells.{is_other, AreReadyInTurn, LeadBack, images_of, is_unnamed, all_swept}
 use Rattle.cics_images.specs.NamedValues.{split, of_value, of_split}
-use Rattle.cics_images.specs.StoreCells.{file_cell}
 use Rattle.cics_ksds.specs.Files.{FileValue, key_of as file_key_of, fits_file}
 use Rattle.cics_enqueue.specs.Resources.{Table, released}
 use Rattle.cics_tempstor.specs.Queues.{places_of}
 use Rattle.cics_tempstor.specs.Places.{AreInOrder}
 use Rattle.cics_transdata.specs.Trans.{TransState, is_logical, queue_of}
-use Rattle.cics_images.specs.declared.stores.StoreImage.TheVariants.{TempStorage}
 use Rattle.cics_history.specs.Openings.{OpeningState, FileOpening, QueueOpening, is_key, file_recoverable, queue_logical, HasLawfulKeys, IsOpeningInOrder}
-use Rattle.cics_history.specs.Store.{Store, apply, is_recoverable, initial_store}
+use Rattle.cics_history.specs.Store.{apply, initial_store}
 use Rattle.cics_history.specs.History.{is_open, kept}
 use Rattle.cics_history.specs.Holding.{UnitsState, UpdateRead, EnqCount, store_of, awaited}
 use Rattle.cics_history.proofs.Alone.{left_no_trace}
 use Rattle.cics_history.proofs.Ready.{ready_short}
-use Rattle.cics_history.specs.Execution.{unit_or_next, outcomes_with, next_after, entered, state_of, after_execution, after_unlock, after_end, read_at, is_fit_for, is_ready_op}
+use Rattle.cics_history.specs.Execution.{unit_or_next, outcomes_with, entered, state_of, after_execution, after_unlock, after_end, read_at, is_fit_for, is_ready_op}
 use Rattle.cics_history.specs.Headline.{IsHeadline, beginning}
-use Rattle.cics_history.specs.Cells.{IsCanonical, Writing}
+use Rattle.cics_history.specs.Cells.{IsCanonical}
 use Rattle.cics_history.specs.Events.{may_act, is_live}
 use Rattle.cics_history.specs.Isolation.{IsSound}
 use Rattle.cics_history.specs.Serial.{IsInOrder}
-use Rattle.cics_history.specs.Records.{is_file_op, file_of}
 use Rattle.cics_history.specs.declared.ops.Op.{Op}
 use Rattle.cics_history.specs.declared.ops.Op.TheVariants.{Write, Rewrite, Delete, DeleteGeneric, ReadUpdate, TsWrite, TsRewrite, TsDelete, TdWrite, TdRead, TdDelete}
 use Rattle.cics_history.specs.declared.ops.Answer.{Answer}
@@ -35,28 +31,22 @@ use Rattle.cics_history.specs.declared.ops.UnitState.{UnitState}
 use Rattle.cics_history.specs.declared.ops.UnitState.TheVariants.{Open, Committed, BackedOut}
 use Rattle.cics_units.specs.RegionFiles.{IsThere, opened_files, file_of as file_of_opening}
 use Rattle.cics_units.specs.Listings.{recovery_in}
-use Rattle.cics_units.specs.FilesImages.{files_hold, definitions_of}
+use Rattle.cics_units.specs.FilesImages.{files_hold}
 use Rattle.cics_units.specs.StoreMatching.{StoreValue, UndoableValue, AnyImage, shown_store, cell_of_any, AnyLeads, any_content, IsAnyReady, any_undone, any_swept, any_holds, AnyKeep, AreImagesOf as KeptChanges}
 use Rattle.cics_units.specs.StoreInPlace.{IsUnmarked, AreInPlace}
 use Rattle.cics_units.specs.StoreEnds.{any_fixed, ends_settled, IsEnded}
-use Rattle.cics_units.specs.UnitImages.{kept_none, kept_by, AreOthersKept, AreHeldForImages}
+use Rattle.cics_units.specs.UnitImages.{kept_by, AreOthersKept, AreHeldForImages}
 use Rattle.cics_units.specs.UnitImagesLaws.{held_after_change}
 use Rattle.cics_units.specs.TableInPlace.{IsTableOf, table_executed, table_unlocked}
-use Rattle.cics_units.specs.Parts.{is_recoverable_in, IsRecordOf, IsFitOp, AreImagesAfter, AreChanged, leaves_any, of_files, told_in}
-use Rattle.cics_units.specs.QueueChanges.{is_trans, is_temp, queue_of as queue_on, in_queue, with_image, IsTransExecuted, IsTempExecuted, AreQueuesChanged, IsQueueExecuted, told_of, HaveRecoveries}
+use Rattle.cics_units.specs.Parts.{is_recoverable_in, IsRecordOf, IsFitOp}
 use Rattle.cics_units.specs.StorePlaces.{HavePlaces}
 use Rattle.cics_units.specs.Awaiting.{is_logical_in}
 use Rattle.cics_units.specs.RegionQueues.{opened_queue, opened_queues}
 use Rattle.cics_units.specs.KeptUnits.{AreKept, AreAsDefined, opened_store}
 use Rattle.cics_history.proofs.Stores.{same_store, apply-canonical, replay-canonical, initial-canonical, value_at_each}
-use Rattle.cics_history.proofs.States.{beginning-IsSound, execution-IsSound, unlock-IsSound, end-IsSound, agrees_of, acting_open}
+use Rattle.cics_history.proofs.States.{beginning-IsSound, execution-IsSound, unlock-IsSound, end-IsSound, agrees_of}
 use Rattle.cics_history.proofs.SerialRuns.{beginning-IsInOrder, execution-IsInOrder, commit-IsInOrder, backout-IsInOrder, unlock-IsInOrder, turns_of}
-use Rattle.cics_units.proofs.FileChanges.{kept_definitions}
-use Rattle.cics_units.proofs.HeldSums.{recoverable_op}
 use Rattle.cics_units.proofs.StoreInPlace.{shows_history, beginning_in_place}
-use Rattle.cics_units.proofs.StoreExecuted.{file_executed_kept, file_executed_plain}
-use Rattle.cics_units.proofs.QueuesChanged.{queues_changed, places_changed}
-use Rattle.cics_units.proofs.QueueClauses.{end_by_table}
 use Rattle.cics_units.proofs.StoreEnded.{backed_out_ended}
 use Rattle.cics_units.proofs.EndsFirst.{ends_first_ended, ends_first_shows}
 use Rattle.cics_units.proofs.TableInPlace.{table_begins, table_entered, table_unlocked_of, table_ended_of}
@@ -102,12 +92,6 @@ either_false false b none = refl
 named_still : (more is : List AnyImage) (c : List ℕ) → is_unnamed cell_of_any is c ≡ false → is_unnamed cell_of_any (more ++ is) c ≡ false
 named_still [] is c named = named
 named_still (i ∷ more) is c named = either_false (is_other (cell_of_any i) c) (is_unnamed cell_of_any (more ++ is) c) (named_still more is c named)
-
--- a unit that changes something keeps an image of each cell that it kept one of
-more_named : (old new : UndoableValue) (unit : ℕ) (op : Op) (recoverable : Bool) → AreImagesAfter old new unit op recoverable → (c : List ℕ) →
-    is_unnamed cell_of_any (kept_by old.images unit) c ≡ false → is_unnamed cell_of_any (kept_by new.images unit) c ≡ false
-more_named old new unit op false after c named = ap (λ is. is_unnamed cell_of_any is c) after ∙ named
-more_named old new unit op true after c named = ap (λ is. is_unnamed cell_of_any is c) after.newest ∙ named_still (of_files after.images) (kept_by old.images unit) c named
 
 module _ (s : UnitsState) (st : UndoableValue) (t : Table) (is : AreKept s st t) where
   -- ---- What the files are to the opening
@@ -311,57 +295,6 @@ module _ (o : OpeningState) (in_order : IsOpeningInOrder o) (lawful_keys : HasLa
   kept_begins m opened = subst (λ x. AreKept (beginning o) (record { store = x; images = [] }) []) (sym opened) opened_kept
 
 -- ---- A command
--- no command on a file moves a NEXT place
-next_kept : (t : Store) (op : Op) (c : Condition) (next : Map ℕ) → is_file_op op ≡ true → next_after t op c next ≡ next
-next_kept t (Write f k r) c next file = refl
-next_kept t (Rewrite f k r) c next file = refl
-next_kept t (Delete f k) c next file = refl
-next_kept t (DeleteGeneric f p) c next file = refl
-next_kept t (ReadUpdate f k) c next file = refl
-next_kept t (TsWrite q d) c next file = absurd (false≢true file)
-next_kept t (TsRewrite q n d) c next file = absurd (false≢true file)
-next_kept t (TsDelete q) c next file = absurd (false≢true file)
-next_kept t (TdWrite q d) c next file = absurd (false≢true file)
-next_kept t (TdRead q) c next file = absurd (false≢true file)
-next_kept t (TdDelete q) c next file = absurd (false≢true file)
-
--- a command that is on no file is on a queue
-on_queue : (op : Op) → is_file_op op ≡ false → (is_trans op ≡ true) ⊎ (is_temp op ≡ true)
-on_queue (TsWrite q d) other = inr refl
-on_queue (TsRewrite q n d) other = inr refl
-on_queue (TsDelete q) other = inr refl
-on_queue (TdWrite q d) other = inl refl
-on_queue (TdRead q) other = inl refl
-on_queue (TdDelete q) other = inl refl
-on_queue (Write f k r) other = absurd (true≢false other)
-on_queue (Rewrite f k r) other = absurd (true≢false other)
-on_queue (Delete f k) other = absurd (true≢false other)
-on_queue (DeleteGeneric f p) other = absurd (true≢false other)
-on_queue (ReadUpdate f k) other = absurd (true≢false other)
-
--- with one image more, if there is one, a list names what it named
-image_named : (o : Option AnyImage) (is : List AnyImage) (c : List ℕ) → is_unnamed cell_of_any is c ≡ false → is_unnamed cell_of_any (with_image o is) c ≡ false
-image_named None is c named = named
-image_named (Some i) is c named = either_false (is_other (cell_of_any i) c) (is_unnamed cell_of_any is c) named
-
-module _ (old new : UndoableValue) (unit : ℕ) (op : Op) (told : Bool) (answer : Answer) (done : AreQueuesChanged old new unit op told answer) where
-  -- a command on a queue leaves every other unit what it keeps
-  queue_apart : AreOthersKept old.images new.images unit
-  queue_apart = elim (cases_Bool (is_trans op)) [
-    | inl trans ↦ let made : IsTransExecuted old new unit op told answer = rw trans at done in made.apart
-    | inr temp ↦ let made : IsTempExecuted old new unit op told answer = rw temp at done in made.apart
-  ]
-
-  -- and its unit an image of each cell that it kept one of
-  queue_named : (c : List ℕ) → is_unnamed cell_of_any (kept_by old.images unit) c ≡ false → is_unnamed cell_of_any (kept_by new.images unit) c ≡ false
-  queue_named c named = elim (cases_Bool (is_trans op)) [
-    | inl trans ↦
-        let made : IsTransExecuted old new unit op told answer = rw trans at done in
-        ap (λ is. is_unnamed cell_of_any is c) made.newest ∙ image_named (option_map (in_queue (queue_on op)) made.image) (kept_by old.images unit) c named
-    | inr temp ↦
-        let made : IsTempExecuted old new unit op told answer = rw temp at done in
-        ap (λ is. is_unnamed cell_of_any is c) made.newest ∙ image_named (option_map TempStorage made.image) (kept_by old.images unit) c named
-  ]
 
 module _ (s : UnitsState) (st new : UndoableValue) (t : Table) (is : AreKept s st t) (u : Option ℕ) (op : Op) (acts : may_act s u ≡ true)
     (free : awaited s u op ≡ None) where
@@ -375,7 +308,7 @@ module _ (s : UnitsState) (st new : UndoableValue) (t : Table) (is : AreKept s s
 
   module _ (ready : is_ready_op s u op ≡ true) (room : unit_or_next u s.outcomes < length st.images) where
     -- a command that leaves all in place keeps all
-    kept_left : AreInPlace (after_execution s u op) new.store new.images → shown_store new.store ≡ (apply (shown_store st.store) op).store → AreAsDefined s.opening new.store →
+    pub kept_left : AreInPlace (after_execution s u op) new.store new.images → shown_store new.store ≡ (apply (shown_store st.store) op).store → AreAsDefined s.opening new.store →
         HavePlaces (entered s u op answer) new.store.temp_storage → AreOthersKept st.images new.images (unit_or_next u s.outcomes) →
         ((c : List ℕ) → is_unnamed cell_of_any (kept_by new.images (unit_or_next u s.outcomes)) c ≡ true → any_holds new.store c ≡ true → any_holds st.store c ≡ true) →
         ((c : List ℕ) → is_unnamed cell_of_any (kept_by st.images (unit_or_next u s.outcomes)) c ≡ false →
@@ -399,85 +332,6 @@ module _ (s : UnitsState) (st new : UndoableValue) (t : Table) (is : AreKept s s
         begun_by : (u : Option ℕ) → unit_or_next u s.outcomes < length st.images → length (outcomes_with u s.outcomes) ≤ length new.images
         begun_by None room = omega (arith, length-append s.outcomes (Open ∷ []), apart.count, room)
         begun_by (Some v) room = omega (arith, is.begun, apart.count)
-
-    -- ---- on a file
-    module _ (file : is_file_op op ≡ true) (changed : AreChanged st new (unit_or_next u s.outcomes) op) where
-      -- every other unit keeps the images that it kept
-      apart : (w : ℕ) → w ≢ unit_or_next u s.outcomes → kept_by new.images w ≡ kept_by st.images w
-      apart w other = ap (λ o. (unwrap_or o kept_none).newest_first) (changed.apart.rows w other)
-
-      -- the command is recoverable where its file is
-      rec : (b : Bool) → is_recoverable_in (value_at (file_of op) st.store.files) ≡ b → is_recoverable s.opening op ≡ b
-      rec b e = recoverable_op s.opening op file ∙ sym (recoverable_alike s st t is (file_of op)) ∙ e
-
-      -- all is in place, with the images of its changes where they are recoverable
-      place_then : (r : Bool) → is_recoverable_in (value_at (file_of op) st.store.files) ≡ r → AreImagesAfter st new (unit_or_next u s.outcomes) op r →
-          AreInPlace (after_execution s u op) new.store new.images
-      place_then false er images =
-          file_executed_plain s st.store new.store st.images new.images u op is.sound is.place acts free file is.canonical.records changed.shown changed.others changed.trans_data apart (rec false er) images
-      place_then true er images =
-          file_executed_kept s st.store new.store st.images new.images u op is.sound is.place acts free file is.canonical.records changed.shown changed.others changed.trans_data apart (rec true er)
-          (of_files images.images) images.made images.newest images.ready
-
-      -- so it keeps all
-      file_kept : AreKept (entered s u op answer) new (table_executed s.opening (unit_or_next u s.outcomes) op answer.condition s.reads t)
-      file_kept = kept_left (place_then _ refl changed.images) changed.shown (record {
-        files = λ f. ap (λ d. d f) (kept_definitions (λ c. leaves_any op (file_cell c)) st.store.files new.store.files changed.others.files) ∙ is.defined.files f;
-        queues = λ q. ap (λ queues. option_map (λ t. t.kind) (value_at q queues)) changed.trans_data ∙ is.defined.queues q;
-      })
-          (record {
-            in_order = subst AreInOrder (sym changed.temp_storage) is.rows;
-            places = ap places_of changed.temp_storage ∙ sym is.places ∙ sym (next_kept (store_of s) op answer.condition s.next file);
-          })
-          changed.apart changed.held (more_named st new (unit_or_next u s.outcomes) op _ changed.images)
-
-    -- ---- on a queue
-    module _ (other : is_file_op op ≡ false) (given : Answer)
-        (changed : AreQueuesChanged st new (unit_or_next u s.outcomes) op (told_in t (unit_or_next u s.outcomes) op (is_recoverable s.opening op)) given) where
-      -- the table tells what the history does
-      told_alike : told_in t (unit_or_next u s.outcomes) op (is_recoverable s.opening op) ≡ told_of s (unit_or_next u s.outcomes) op
-      told_alike = λ i. if is_trans op then end_by_table s t is.table (unit_or_next u s.outcomes) (acting_open s u acts) (queue_on op) Writing i else is_recoverable s.opening op
-
-      told_so : AreQueuesChanged st new (unit_or_next u s.outcomes) op (told_of s (unit_or_next u s.outcomes) op) given
-      told_so = subst (λ told. AreQueuesChanged st new (unit_or_next u s.outcomes) op told given) told_alike changed
-
-      -- so the queue is changed as the history has it
-      queue_done : IsQueueExecuted s st new u op given
-      queue_done = queues_changed s st new u op given is.sound is.place is.defined.queues acts free (on_queue op other) told_so
-
-      queue_places : HavePlaces (after_execution s u op) new.store.temp_storage
-      queue_places = places_changed s st new u op given is.sound is.place is.defined.queues acts free (record { in_order = is.rows; places = sym is.places })
-          (ap (λ (m : Store). m.ts) (sym (store_is s st t is))) told_so
-
-      -- and keeps all
-      queue_kept : AreKept (entered s u op answer) new (table_executed s.opening (unit_or_next u s.outcomes) op answer.condition s.reads t)
-      queue_kept = kept_left queue_done.place queue_done.store (record {
-        files = λ f. ap (λ files. definitions_of files f) queue_done.files ∙ is.defined.files f;
-        queues = subst (λ n. HaveRecoveries n.opening new.store) is_entered queue_done.recoveries;
-      })
-          (subst (λ n. HavePlaces n new.store.temp_storage) is_entered queue_places)
-          (queue_apart st new (unit_or_next u s.outcomes) op _ given changed) queue_done.held (queue_named st new (unit_or_next u s.outcomes) op _ given changed)
-
-    -- ---- on either
-    module _ (given : Answer)
-        (changed : MatchBool (is_file_op op) (AreChanged st new (unit_or_next u s.outcomes) op)
-        (AreQueuesChanged st new (unit_or_next u s.outcomes) op (told_in t (unit_or_next u s.outcomes) op (is_recoverable s.opening op)) given)) where
-      -- an executed command keeps all
-      pub kept_executed : AreKept (entered s u op answer) new (table_executed s.opening (unit_or_next u s.outcomes) op answer.condition s.reads t)
-      kept_executed = elim (cases_Bool (is_file_op op)) [
-        | inl file ↦ file_kept file (rw file at changed)
-        | inr other ↦ queue_kept other given (rw other at changed)
-      ]
-
-      -- and is answered as the history has it, where a command on a file is answered as the files have it
-      pub answered_right : (is_file_op op ≡ true → given ≡ (apply (shown_store st.store) op).answer) → given ≡ answer
-      answered_right of_file = by_store ∙ ap (λ m. (apply m op).answer) (store_is s st t is)
-        where
-          by_store : given ≡ (apply (shown_store st.store) op).answer
-          by_store = elim (cases_Bool (is_file_op op)) [
-            | inl file ↦ of_file file
-            | inr other ↦ (queue_done other given (rw other at changed)).answered
-          ]
 
 -- ---- Other update reads and counts
 module _ (s : UnitsState) (st : UndoableValue) (t left : Table) (is : AreKept s st t) (reads : List UpdateRead) (counts : List EnqCount) where

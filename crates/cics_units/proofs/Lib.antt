@@ -8,7 +8,6 @@ pub mod Refilled
 pub mod FilesChanged
 mod Unpadded
 mod FileChanges
-mod StoredImages
 mod PartChanges
 mod QueueParts
 pub mod RefusedCommands
@@ -44,7 +43,6 @@ pub mod StoreQueueExecuted
 pub mod TempChanges
 pub mod StoreTempExecuted
 pub mod Recoveries
-pub mod QueuesChanged
 pub mod QueueClauses
 pub mod StorePlaces
 pub mod QueuesHeld
@@ -55,5 +53,9 @@ pub mod StoreEnds
 pub mod StoreSettled
 pub mod StoreEnded
 pub mod EndsFirst
+pub mod Applied
+pub mod DoneParts
+pub mod AppliedInPlace
+mod AppliedKept
 mod EndExamples
 mod NothingHeld

@@ -85,7 +85,7 @@ module _ (s : StoreValue) (op : Op) (one : is_generic op ≡ false) where
   abbrev before : Cells
   before = content (shown_store s)
 
-  abbrev change_of : Image
+  abbrev pub change_of : Image
   change_of = record { cell = cell_of_op op; before = before (cell_of_op op); made = (effect op (before (cell_of_op op))).cell }
 
   images_if : (b : Bool) → changes op (before (cell_of_op op)) ≡ b → images_by (shown_store s) op before ≡ (if b then change_of ∷ [] else [])

@@ -1,6 +1,6 @@
 -- What the units show after each call is what the call makes of their state.
 use Rattle.std.proofs.Common.{◌≡◌, ℕ, ◌+◌, length-append, ◌<◌, ◌≤◌, Bool, true, false, not, Option, Some, None, List, [], ◌∷◌, ◌++◌, length, refl, ap, sym, subst, ◌∙◌, arith}
-use Rattle.std.specs.Prelude.{if◌then◌else◌, MatchBool, IfSome, filter, slice_set, ◌==◌, All}
+use Rattle.std.specs.Prelude.{if◌then◌else◌, IfSome, filter, slice_set, ◌==◌, All}
 use Rattle.std.specs.Option.{option_copied}
 use Rattle.std.proofs.Common.{Bor}
 use Rattle.std.proofs.lemmas.List.Elements.{All-head, All-tail}
@@ -18,13 +18,16 @@ use Rattle.cics_history.specs.Holding.{UnitsState, UpdateRead, store_of, awaited
 use Rattle.cics_history.specs.Execution.{execution, done_of, state_of, has_read, IsOpenUnit, IsOpenOrNone, unit_or_next, outcomes_with, reads_after, is_read_of, read_at, commits_with, entered, after_execution, after_unlock, after_end, is_ready_op}
 use Rattle.cics_history.specs.Headline.{beginning}
 use Rattle.cics_history.specs.Events.{is_live, may_act}
-use Rattle.cics_units.specs.StoreMatching.{StoreValue, UndoableValue, shown_store}
-use Rattle.cics_history.specs.Records.{is_file_op, file_of}
+use Rattle.cics_units.specs.StoreMatching.{StoreValue, UndoableValue}
+use Rattle.cics_history.specs.Records.{file_of}
 use Rattle.cics_units.specs.Uses.{uses_if, AreFreeFor}
 use Rattle.cics_units.specs.Awaiting.{is_writer, unit_in_way}
-use Rattle.cics_units.specs.QueueChanges.{queue_of as queue_on, AreQueuesChanged}
+use Rattle.cics_units.specs.QueueChanges.{is_trans, queue_of as queue_on}
+use Rattle.cics_units.specs.Applied.{IsApplied, IsBound, IsSeen}
+use Rattle.cics_units.specs.Executed.{IsExecuted}
+use Rattle.cics_units.specs.UnitImages.{kept_by, AreOthersKept}
 use Rattle.cics_units.specs.TableInPlace.{is_read, counts_in, table_changed, table_executed, table_given_back}
-use Rattle.cics_units.specs.Parts.{PartsValue, AreExecuted, ArePartsKept, is_recoverable_in, AreChanged, told_in, given_record}
+use Rattle.cics_units.specs.Parts.{PartsValue, ArePartsKept, is_recoverable_in, given_record}
 use Rattle.cics_units.specs.KeptUnits.{state_shown, AreKept}
 use Rattle.cics_history.specs.declared.ops.Op.{Op}
 use Rattle.cics_history.specs.declared.ops.Op.TheVariants.{Write, Rewrite, Delete, DeleteGeneric, ReadUpdate, TsWrite, TsRewrite, TsDelete, TdWrite, TdRead, TdDelete}
@@ -35,8 +38,8 @@ use Rattle.cics_history.specs.declared.ops.UnitState.{UnitState}
 use Rattle.cics_history.specs.declared.ops.UnitState.TheVariants.{Open}
 use Rattle.cics_units.proofs.UsesInTable.{uses_alike, uses_free, awaited_open}
 use Rattle.cics_units.proofs.Awaiting.{awaited-in_place}
-use Rattle.cics_units.proofs.GivenRecords.{content_given}
-use Rattle.cics_units.proofs.KeptUnits.{kept_roomier, recoverable_alike, logical_alike, is_entered, kept_executed, answered_right, kept_unlocked}
+use Rattle.cics_units.proofs.AppliedKept.{op_seen, kept_applied, applied_answer, applied_content}
+use Rattle.cics_units.proofs.KeptUnits.{kept_roomier, recoverable_alike, logical_alike, is_entered, kept_unlocked}
 
 -- a unit that is open has begun and not ended
 pub live_of : (s : UnitsState) (u : ℕ) → IsOpenUnit s u → is_live s u ≡ true
@@ -88,21 +91,21 @@ module _ (o : OpeningState) (trace : List Entry) (outcomes : List UnitState) (co
 
   -- ---- A command
   module _ (u : Option ℕ) (op : Op) (acts : may_act before u ≡ true) (free : awaited before u op ≡ None) (ready : is_ready_op before u op ≡ true)
-      (room : unit_or_next u outcomes < length p.stores.images) (answer : Answer)
-      (changed : MatchBool (is_file_op op) (AreChanged p.stores new.stores (unit_or_next u outcomes) op)
-      (AreQueuesChanged p.stores new.stores (unit_or_next u outcomes) op (told_in p.table (unit_or_next u outcomes) op (is_recoverable o op)) answer))
-      (of_file : is_file_op op ≡ true → answer ≡ (apply (shown_store p.stores.store) op).answer)
+      (room : unit_or_next u outcomes < length p.stores.images) (answer : Answer) (bound : IsBound p.stores.store op (is_recoverable o op)) (own : Bool)
+      (own_is : is_trans op ≡ true → own ≡ is_writer p.table (unit_or_next u outcomes) (queue_on op))
+      (applied : IsApplied p.stores.store new.stores.store (kept_by p.stores.images (unit_or_next u outcomes)) (kept_by new.stores.images (unit_or_next u outcomes)) op (is_recoverable o op) own answer)
+      (others : AreOthersKept p.stores.images new.stores.images (unit_or_next u outcomes))
       (table : new.table ≡ table_executed o (unit_or_next u outcomes) op answer.condition p.reads p.table)
       (reads : new.reads ≡ reads_after (unit_or_next u outcomes) op answer.condition p.reads) where
     pub told : answer ≡ (apply (store_of before) op).answer
-    told = answered_right before p.stores new.stores p.table is u op acts free ready room answer changed of_file
+    told = applied_answer before p.stores new.stores p.table is u op acts free ready room own answer own_is bound applied others
 
     abbrev entry : Entry
     entry = record { unit = unit_or_next u outcomes; op = op; answer = answer }
 
     kept_then : AreKept (entered before u op answer) new.stores (table_executed o (unit_or_next u outcomes) op answer.condition p.reads p.table)
     kept_then = subst (λ a. AreKept (entered before u op a) new.stores (table_executed o (unit_or_next u outcomes) op a.condition p.reads p.table)) (sym told)
-        (kept_executed before p.stores new.stores p.table is u op acts free ready room answer changed)
+        (kept_applied before p.stores new.stores p.table is u op acts free ready room own answer own_is bound applied others)
 
     entered_state : state_shown o (trace ++ entry ∷ []) (outcomes_with u outcomes) commits new ≡ entered before u op answer
     entered_state = λ i. record (entered before u op answer) {
@@ -110,6 +113,9 @@ module _ (o : OpeningState) (trace : List Entry) (outcomes : List UnitState) (co
       counts = (ap counts_in table ∙ sym kept_then.table.counts) i;
       next = sym kept_then.places i;
     }
+
+    pub content : answer.content ≡ given_record p.stores.store (is_writer p.table (unit_or_next u outcomes) (queue_on op)) op
+    content = applied_content before p.stores new.stores p.table is u op acts free ready room own answer own_is bound applied others
 
     pub executed_state : state_shown o (trace ++ entry ∷ []) (outcomes_with u outcomes) commits new ≡ after_execution before u op
     executed_state = entered_state ∙ ap (entered before u op) told ∙ sym (is_entered before p.stores new.stores p.table is u op acts free)
@@ -186,8 +192,12 @@ module _ (o : OpeningState) (trace : List Entry) (outcomes : List UnitState) (co
     free_way none = subst (λ rs. AreFreeFor p.table rs (unit_or_next u outcomes)) (sym (uses_alike o op))
         (uses_free state_before p.table is.sound is.table u op (awaited_is ∙ none))
 
+    -- and it sees enough
+    pub seen_way : in_way ≡ None → IsSeen p.stores.store op (is_writer p.table (unit_or_next u outcomes) (queue_on op))
+    seen_way none = op_seen state_before p.stores p.stores p.table is u op acts (awaited_is ∙ none) op (awaited_is ∙ none)
+
     module _ (none : in_way ≡ None) (ready : is_ready_op state_before u op ≡ true)
-        (answer : Answer) (done : AreExecuted p new (unit_or_next u outcomes) op (is_recoverable o op) answer) where
+        (answer : Answer) (bound : IsBound p.stores.store op (is_recoverable o op)) (done : IsExecuted p new (unit_or_next u outcomes) op (is_recoverable o op) answer) where
       free : awaited state_before u op ≡ None
       free = awaited_is ∙ none
 
@@ -212,7 +222,7 @@ module _ (o : OpeningState) (trace : List Entry) (outcomes : List UnitState) (co
       roomy_ready = ap (λ s. is_ready_op s u op) roomy_state ∙ ready
 
       table_is : new.table ≡ table_executed o (unit_or_next u outcomes) op answer.condition p.reads p.table
-      table_is = done.table ∙ by (is_normal answer.condition)
+      table_is = done.done.table ∙ by (is_normal answer.condition)
         where
           by : (b : Bool) →
               (if b then table_changed (is_recoverable o op) (unit_or_next u outcomes) op p.reads p.table else p.table)
@@ -220,24 +230,24 @@ module _ (o : OpeningState) (trace : List Entry) (outcomes : List UnitState) (co
           by true = refl
           by false = refl
 
-      right_then : is_file_op op ≡ true → answer ≡ (apply (shown_store done.roomy.store) op).answer
-      right_then file = done.answered file ∙ ap (λ m. (apply (shown_store m) op).answer) (sym done.room.store)
+      bound_then : IsBound done.roomy.store op (is_recoverable o op)
+      bound_then = subst (λ m. IsBound m op (is_recoverable o op)) (sym done.room.store) bound
 
       -- the record of the answer is the one that was looked up
       pub record_given : answer.content ≡ given_record p.stores.store (is_writer p.table (unit_or_next u outcomes) (queue_on op)) op
-      record_given = content_given done.roomy new.stores p.table (unit_or_next u outcomes) op (is_recoverable o op) answer done.changed right_then
+      record_given = content o trace outcomes commits roomy_parts new roomy_kept u op roomy_acts roomy_free roomy_ready done.begun answer bound_then done.own done.own_is done.done.applied done.done.others table_is done.done.reads
           ∙ ap (λ m. given_record m (is_writer p.table (unit_or_next u outcomes) (queue_on op)) op) done.room.store
 
       pub parts_state : state_shown o (trace ++ record { unit = unit_or_next u outcomes; op = op; answer = answer } ∷ []) (outcomes_with u outcomes) commits new ≡ after_execution state_before u op
-      parts_state = executed_state o trace outcomes commits roomy_parts new roomy_kept u op roomy_acts roomy_free roomy_ready done.begun answer done.changed right_then table_is done.reads
+      parts_state = executed_state o trace outcomes commits roomy_parts new roomy_kept u op roomy_acts roomy_free roomy_ready done.begun answer bound_then done.own done.own_is done.done.applied done.done.others table_is done.done.reads
           ∙ ap (λ s. after_execution s u op) roomy_state
 
       pub parts_kept : AreKept (state_shown o (trace ++ record { unit = unit_or_next u outcomes; op = op; answer = answer } ∷ []) (outcomes_with u outcomes) commits new) new.stores new.table
-      parts_kept = executed_shown o trace outcomes commits roomy_parts new roomy_kept u op roomy_acts roomy_free roomy_ready done.begun answer done.changed right_then table_is done.reads
+      parts_kept = executed_shown o trace outcomes commits roomy_parts new roomy_kept u op roomy_acts roomy_free roomy_ready done.begun answer bound_then done.own done.own_is done.done.applied done.done.others table_is done.done.reads
 
       pub answered : Answered (unit_or_next u outcomes) answer ≡ execution state_before u op
       answered = ap (Answered (unit_or_next u outcomes))
-          (told o trace outcomes commits roomy_parts new roomy_kept u op roomy_acts roomy_free roomy_ready done.begun answer done.changed right_then table_is done.reads
+          (told o trace outcomes commits roomy_parts new roomy_kept u op roomy_acts roomy_free roomy_ready done.begun answer bound_then done.own done.own_is done.done.applied done.done.others table_is done.done.reads
           ∙ ap (λ s. (apply (store_of s) op).answer) roomy_state)
           ∙ sym (ap (done_of state_before u op) free)
 

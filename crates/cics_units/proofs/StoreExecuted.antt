@@ -1,10 +1,10 @@
 -- An executed command on a file or on a temporary storage queue keeps files, temporary storage, transient data and the
 -- images in place.
-use Rattle.std.proofs.Common.{◌≡◌, ◌≢◌, ℕ, Bool, true, false, ◌&&◌, not, Option, None, List, [], ◌∷◌, ◌++◌, refl, ap, sym, subst, ◌∙◌, eqb, inl, inr, ◌⊎◌}
+use Rattle.std.proofs.Common.{◌≡◌, ◌≢◌, ℕ, Bool, true, false, ◌&&◌, Option, None, List, [], ◌∷◌, ◌++◌, refl, ap, sym, subst, ◌∙◌, eqb, inl, inr, ◌⊎◌}
 use Rattle.std.specs.Prelude.{if◌then◌else◌}
 use Rattle.std.proofs.lemmas.Bool.{true≢false, cases_Bool, eqb-true, eqb-false, eq-eqb, and_parts, and_left, false_from_ne_true, true_from_ne_false}
 use Rattle.cics_names.specs.Keyed.{Bytes, value_at}
-use Rattle.cics_images.specs.Cells.{Kept, Cell as ImageCell, is_other, AreOf}
+use Rattle.cics_images.specs.Cells.{Kept, Cell as ImageCell, AreOf}
 use Rattle.cics_images.specs.Turns.{IsImageOf}
 use Rattle.cics_images.specs.declared.stores.StoreImage.TheVariants.{File, TempStorage, TransData}
 use Rattle.cics_history.specs.Openings.{queue_logical}
@@ -12,32 +12,28 @@ use Rattle.cics_history.specs.Store.{apply, is_recoverable}
 use Rattle.cics_history.specs.History.{outcome_of, is_open}
 use Rattle.cics_history.specs.Holding.{UnitsState, awaited}
 use Rattle.cics_history.specs.Execution.{unit_or_next, outcomes_with, state_of, after_execution}
-use Rattle.cics_history.specs.Records.{is_file_op}
 use Rattle.cics_history.specs.declared.ops.Op.{Op}
 use Rattle.cics_history.specs.declared.ops.Op.TheVariants.{Write, Rewrite, Delete, DeleteGeneric, ReadUpdate, TsWrite, TsRewrite, TsDelete, TdWrite, TdRead, TdDelete}
-use Rattle.cics_history.specs.Cells.{Cell, Td, content, is_generic, cell_of as cell_of_op, same_cell, touches, effect, End, Writing, uses, recovers, IsOrdered}
+use Rattle.cics_history.specs.Cells.{Cell, Td, content, cell_of as cell_of_op, touches, End, Writing, uses, recovers}
 use Rattle.cics_history.specs.Events.{may_act}
 use Rattle.cics_history.specs.Isolation.{used, IsSound}
-use Rattle.cics_history.specs.Undo.{Image, Cells, names, is_plain, changes, image_of, images_by, AreImages, IsPlaceOf, after, put}
+use Rattle.cics_history.specs.Undo.{Image, Cells, names, is_plain, AreImages, IsPlaceOf, after, put}
 use Rattle.cics_history.specs.Marks.{Queues, queues_executed}
 use Rattle.cics_history.specs.MarkImages.{MarkImage, mark_images}
 use Rattle.cics_history.specs.Ends.{Marks, marks_executed}
 use Rattle.cics_history.proofs.Executes.{MayRun}
-use Rattle.cics_history.proofs.Joining.{same_cell-refl, apply-content, touches-self, touches-named, touches-recovers}
+use Rattle.cics_history.proofs.Joining.{same_cell-refl, apply-content, touches-recovers}
 use Rattle.cics_history.proofs.States.{acting_open}
 use Rattle.cics_history.proofs.Outcomes.{outcome_of-with}
 use Rattle.cics_history.proofs.Waiting.{MayRun_from}
-use Rattle.cics_history.proofs.Places.{execution-IsPlaceOf, image_of-AreImages}
-use Rattle.cics_history.proofs.PrefixImages.{images_by-AreImages}
+use Rattle.cics_history.proofs.Places.{execution-IsPlaceOf}
 use Rattle.cics_history.proofs.InPlace.{execution-AreMarksOf}
-use Rattle.cics_units.specs.FilesImagesLaws.{same_bytes-eq, bytes_eq-turned}
+use Rattle.cics_units.specs.FilesImagesLaws.{same_bytes-eq}
 use Rattle.cics_units.specs.UnitImages.{kept_by}
-use Rattle.cics_units.specs.StoreMatching.{StoreValue, AnyImage, shown_store, shown_records, bytes_of, bytes_of_end, cell_of_any, AnyLeads, any_content, IsAnyReady, any_undone, AnyKeep, IsImageOfChange, AreImagesOf}
+use Rattle.cics_units.specs.StoreMatching.{StoreValue, AnyImage, shown_store, bytes_of, bytes_of_end, cell_of_any, AnyLeads, any_content, IsAnyReady, any_undone, AnyKeep, IsImageOfChange, AreImagesOf}
 use Rattle.cics_units.specs.StoreInPlace.{AreInPlace, HasMarks}
-use Rattle.cics_units.specs.Parts.{leaves_any}
-use Rattle.cics_units.proofs.StoreMatched.{queue_apart, plain_apart, each_passes}
+use Rattle.cics_units.proofs.StoreMatched.{queue_apart, each_passes}
 use Rattle.cics_units.proofs.StoreInPlace.{AreReady, ready_where}
-use Rattle.cics_units.proofs.FileCommands.{key_op, writes_op, no_queue_op, same_from, acted_on}
 
 -- a command that acts on no transient data queue marks nothing
 no_mark : (op : Op) → ((q : Bytes) → touches op (Td q) ≡ false) → (queues : Queues) → mark_images op queues ≡ []
@@ -242,110 +238,3 @@ module _ (s : UnitsState) (m n : StoreValue) (images after_images : List (Kept A
       where
         none : (x : Cell) → touches op x ≡ true → names x (place.changes unit) ≡ false
         none x touched = place.place.named x unit (and_left (recovers s.opening x) (used s.trace unit x Writing) (sym (touches-recovers s.opening op x touched) ∙ rec))
-
--- ---- A command on a file is executed
-module _ (s : UnitsState) (m n : StoreValue) (images after_images : List (Kept AnyImage)) (u : Option ℕ) (op : Op)
-    (sound : IsSound s) (place : AreInPlace s m images) (acts : may_act s u ≡ true) (free : awaited s u op ≡ None)
-    (file : is_file_op op ≡ true) (ordered : IsOrdered (shown_store m))
-    (store : shown_store n ≡ (apply (shown_store m) op).store) (others : AnyKeep (leaves_any op) m n) (same_queues : n.trans_data ≡ m.trans_data)
-    (apart : (w : ℕ) → w ≢ unit_or_next u s.outcomes → kept_by after_images w ≡ kept_by images w) where
-  -- the images of its changes
-  abbrev file_images : List Image
-  file_images = images_by (shown_store m) op (content (shown_store m))
-
-  -- they are what it changes
-  file_gives : AreImages op (content (shown_store m)) file_images
-  file_gives = images_by-AreImages (shown_store m) op (content (shown_store m)) ordered (λ g k. refl)
-
-  -- a key is plain
-  file_plain : is_plain s.opening (cell_of_op op) ≡ true
-  file_plain = ap (is_plain s.opening) (key_op op file)
-
-  -- the changes of a recoverable file gave images, which the unit keeps as its newest
-  pub file_executed_kept : is_recoverable s.opening op ≡ true → (is : List AnyImage) → AreImagesOf file_images [] is →
-      kept_by after_images (unit_or_next u s.outcomes) ≡ is ++ kept_by images (unit_or_next u s.outcomes) →
-      (AreReady m (kept_by images (unit_or_next u s.outcomes)) → AreReady n (kept_by after_images (unit_or_next u s.outcomes))) →
-      AreInPlace (after_execution s u op) n after_images
-  file_executed_kept = executed_with s m n images after_images u op (leaves_any op) file_images sound place acts free file_gives (writes_op op file) file_plain
-      (no_queue_op op file) (acted_on op file) (λ q end. refl) store others (λ q. ap (value_at q) same_queues) apart
-
-  -- the file is not recoverable, and the unit's images are as they were
-  pub file_executed_plain : is_recoverable s.opening op ≡ false → kept_by after_images (unit_or_next u s.outcomes) ≡ kept_by images (unit_or_next u s.outcomes) →
-      AreInPlace (after_execution s u op) n after_images
-  file_executed_plain = executed_without s m n images after_images u op (leaves_any op) file_images sound place acts free file_gives (writes_op op file) file_plain
-      (no_queue_op op file) (acted_on op file) (λ q end. refl) store others (λ q. ap (value_at q) same_queues) apart
-
--- ---- A command on one plain cell is executed
-module _ (s : UnitsState) (m n : StoreValue) (images after_images : List (Kept AnyImage)) (u : Option ℕ) (op : Op) (x : Cell)
-    (sound : IsSound s) (place : AreInPlace s m images) (acts : may_act s u ≡ true) (free : awaited s u op ≡ None)
-    (on : cell_of_op op ≡ x) (one : is_generic op ≡ false) (writes : uses op Writing ≡ true)
-    (plain : is_plain s.opening x ≡ true) (no_queue : (q : Bytes) → same_cell x (Td q) ≡ false)
-    (store : shown_store n ≡ (apply (shown_store m) op).store) (others : AnyKeep (is_other (bytes_of x)) m n)
-    (queues_stay : (q : Bytes) → value_at q n.trans_data ≡ value_at q m.trans_data)
-    (apart : (w : ℕ) → w ≢ unit_or_next u s.outcomes → kept_by after_images w ≡ kept_by images w) where
-  -- what the cell held before
-  abbrev held : Cells
-  held = content (shown_store m)
-
-  -- the image of the command's change
-  abbrev change : List Image
-  change = image_of op (held (cell_of_op op))
-
-  -- a command on one cell acts on that cell
-  touched_alike : (y : Cell) → touches op y ≡ same_cell x y
-  touched_alike y = touches-named op one y ∙ ap (λ z. same_cell z y) on
-
-  -- another cell is left
-  one_left : (y : Cell) → is_other (bytes_of x) (bytes_of y) ≡ false → touches op y ≡ true
-  one_left y h = touched_alike y ∙ ap (same_cell x) (same_from x y h) ∙ same_cell-refl x
-
-  -- and so is an end of a queue
-  end_left : (q : Bytes) (end : End) → is_other (bytes_of x) (bytes_of_end q end) ≡ true
-  end_left q end = ap not (bytes_eq-turned (bytes_of_end q end) (bytes_of x) ∙ plain_apart x q end)
-
-  -- the change of something recoverable gave an image, which the unit keeps as its newest
-  pub executed_kept : is_recoverable s.opening op ≡ true → changes op (held (cell_of_op op)) ≡ true →
-      shown_records (held x) ≡ any_content m (bytes_of x) → shown_records (content (shown_store n) x) ≡ any_content n (bytes_of x) → (i : AnyImage) → IsAnyImage m n
-      (bytes_of x) i →
-      kept_by after_images (unit_or_next u s.outcomes) ≡ i ∷ kept_by images (unit_or_next u s.outcomes) → AreInPlace (after_execution s u op) n after_images
-  executed_kept rec changed was now i image newest = executed_with s m n images after_images u op (is_other (bytes_of x)) change sound place acts free
-      (image_of-AreImages op held one) writes (ap (is_plain s.opening) on ∙ plain) (λ q. touched_alike (Td q) ∙ no_queue q) one_left end_left store others
-      queues_stay apart rec (i ∷ [])
-      (rw changed (kept_more (record { cell = cell_of_op op; before = held (cell_of_op op); made = (effect op (held (cell_of_op op))).cell }) [] [] i [] own (refl, refl)))
-      newest
-      (λ ready. subst (AreReady n) (sym newest) (
-        image.ready,
-        ready_where (λ c. true) m (any_undone n i) (kept_by images (unit_or_next u s.outcomes)) image.back
-            (all_of (kept_by images (unit_or_next u s.outcomes))) ready,
-      ))
-    where
-      made_here : content (shown_store n) (cell_of_op op) ≡ (effect op (held (cell_of_op op))).cell
-      made_here = ap (λ t. content t (cell_of_op op)) store ∙ apply-content (shown_store m) op (cell_of_op op) ∙ rw (touches-self op) refl
-
-      stands_for : IsImageOfChange (record { cell = x; before = held x; made = content (shown_store n) x }) i
-      stands_for = record {
-        cell = image.named;
-        leads = subst (λ a. AnyLeads i a (shown_records (held x))) (sym now) (subst (AnyLeads i (any_content n (bytes_of x))) (sym was) image.leads_back);
-      }
-
-      own : IsImageOfChange (record { cell = cell_of_op op; before = held (cell_of_op op); made = (effect op (held (cell_of_op op))).cell }) i
-      own = subst (λ c. IsImageOfChange (record { cell = cell_of_op op; before = held (cell_of_op op); made = c }) i) made_here
-          (subst (λ y. IsImageOfChange (record { cell = y; before = held y; made = content (shown_store n) y }) i) (sym on) stands_for)
-
-  -- it isn't recoverable, and the unit's images are as they were
-  pub executed_plain : is_recoverable s.opening op ≡ false → kept_by after_images (unit_or_next u s.outcomes) ≡ kept_by images (unit_or_next u s.outcomes) → AreInPlace
-      (after_execution s u op) n after_images
-  executed_plain = executed_without s m n images after_images u op (is_other (bytes_of x)) change sound place acts free
-      (image_of-AreImages op held one) writes (ap (is_plain s.opening) on ∙ plain) (λ q. touched_alike (Td q) ∙ no_queue q) one_left end_left store others
-      queues_stay apart
-
-  -- nothing was changed, and the unit's images are as they were
-  pub executed_unchanged : changes op (held (cell_of_op op)) ≡ false → m ≡ n → kept_by after_images (unit_or_next u s.outcomes) ≡ kept_by images (unit_or_next u s.outcomes) → AreInPlace
-      (after_execution s u op) n after_images
-  executed_unchanged still same_store same = elim (cases_Bool (is_recoverable s.opening op)) [
-    | inl rec ↦ executed_with s m n images after_images u op (is_other (bytes_of x)) change sound place acts free
-        (image_of-AreImages op held one) writes (ap (is_plain s.opening) on ∙ plain) (λ q. touched_alike (Td q) ∙ no_queue q) one_left end_left store others
-        queues_stay apart rec [] (rw still (refl, refl)) same
-        (λ ready. subst (AreReady n) (sym same) (subst (λ y. AreReady y (kept_by images (unit_or_next u s.outcomes))) same_store ready))
-    | inr rec ↦ executed_plain rec same
-  ]

@@ -21,3 +21,5 @@ pub mod StorePlaces
 pub mod StoreEnds
 pub mod HeldBack
 pub mod Submitting
+pub mod Applied
+pub mod Executed

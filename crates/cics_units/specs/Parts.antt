@@ -1,8 +1,8 @@
 -- Recovery: the files and queues as they stand with the images that open units keep, and what an executed command
 -- makes of them.
-use Rattle.std.specs.Prelude.{◌≡◌, ℕ, ◌<◌, ◌≤◌, Bool, true, false, not, ◌&&◌, IsTrue, if◌then◌else◌, MatchBool, length, IsSome, Option, Some, None, List, [], ◌∷◌, ◌++◌, map}
+use Rattle.std.specs.Prelude.{◌≡◌, ℕ, ◌<◌, ◌≤◌, Bool, true, false, not, ◌&&◌, IsTrue, length, IsSome, Option, Some, None, List, [], ◌∷◌, map}
 use Rattle.cics_names.specs.Keyed.{Bytes, Map, value_at, is_same}
-use Rattle.cics_images.specs.Cells.{Cell, is_other, is_unnamed, AreReadyInTurn}
+use Rattle.cics_images.specs.Cells.{Cell, is_other, is_unnamed}
 use Rattle.cics_images.specs.NamedValues.{split}
 use Rattle.cics_images.specs.StoreCells.{by_part}
 use Rattle.cics_images.specs.declared.stores.StoreImage.TheVariants.{File}
@@ -11,21 +11,15 @@ use Rattle.cics_enqueue.specs.Resources.{Table, taken}
 use Rattle.cics_transdata.specs.Trans.{TransState, first_of}
 use Rattle.cics_ksds.specs.Undo.{ImageValue}
 use Rattle.cics_ksds.specs.Prefixes.{has_prefix, under}
-use Rattle.cics_history.specs.Store.{apply, is_normal}
-use Rattle.cics_history.specs.Cells.{content}
+use Rattle.cics_history.specs.Store.{apply}
 use Rattle.cics_history.specs.Holding.{UpdateRead}
-use Rattle.cics_history.specs.Undo.{images_by}
 use Rattle.cics_units.specs.RegionFiles.{IsThere, key_in}
 use Rattle.cics_units.specs.FilesImages.{cell_of}
-use Rattle.cics_units.specs.StoreMatching.{StoreValue, AnyImage, UndoableValue, shown_store, cell_of_any, IsAnyReady, any_undone, any_holds, AnyKeep, AreImagesOf}
+use Rattle.cics_units.specs.StoreMatching.{StoreValue, AnyImage, UndoableValue, shown_store, cell_of_any, any_holds}
 use Rattle.cics_units.specs.StoreEnds.{ends_settled}
-use Rattle.cics_units.specs.QueueChanges.{is_trans, queue_of, AreQueuesChanged}
-use Rattle.cics_units.specs.Awaiting.{is_writer}
-use Rattle.cics_units.specs.UnitImages.{kept_by, AreOthersKept}
-use Rattle.cics_history.specs.Records.{is_file_op, file_of, key_of}
-use Rattle.cics_units.specs.TableInPlace.{value_of, table_changed}
-use Rattle.cics_history.specs.Execution.{reads_after}
-use Rattle.cics_history.specs.declared.ops.Answer.{Answer}
+use Rattle.cics_units.specs.UnitImages.{kept_by}
+use Rattle.cics_history.specs.Records.{file_of, key_of}
+use Rattle.cics_units.specs.TableInPlace.{value_of}
 use Rattle.cics_history.specs.declared.ops.Op.{Op}
 use Rattle.cics_history.specs.declared.ops.Op.TheVariants.{Write, Rewrite, Delete, DeleteGeneric, ReadUpdate, TsWrite, TsRewrite, TsDelete, TdWrite, TdRead, TdDelete}
 use Rattle.cics_units.specs.FilesImages.{FilesImage}
@@ -80,11 +74,6 @@ IsFitOp s (TdRead q) = IsSome (value_at q s.trans_data)
 IsFitOp s (TdDelete q) = IsSome (value_at q s.trans_data)
 IsFitOp s op = IsFitFileOp s.files op
 
--- what a command on a queue is told: of a transient data queue, whether its unit holds the writing end, of a temporary
--- storage queue, whether it is recoverable
-abbrev pub told_in : Table → ℕ → Op → Bool → Bool
-told_in t unit op recoverable = if is_trans op then is_writer t unit (queue_of op) else recoverable
-
 -- the first record that a unit may read, of a queue that is there
 abbrev pub first_in : Option TransState → Bool → Option Bytes
 first_in None own = None
@@ -134,50 +123,9 @@ leaves_any op c = by_part true (leaves op) (λ q. true) (λ q. true) c
 abbrev pub of_files : List FilesImage → List AnyImage
 of_files is = map File is
 
--- a unit keeps the images of a command's changes as its newest, and with them its list is ready as it was before
-pub record HasImages (old new : UndoableValue) (unit : ℕ) (op : Op) : Type 0 where
-  pub images : List FilesImage
-  pub made : AreImagesOf (images_by (shown_store old.store) op (content (shown_store old.store))) [] (of_files images)
-  pub newest : kept_by new.images unit ≡ of_files images ++ kept_by old.images unit
-  pub ready : AreReadyInTurn IsAnyReady any_undone old.store (kept_by old.images unit) →
-      AreReadyInTurn IsAnyReady any_undone new.store (kept_by new.images unit)
-
--- a unit keeps what it kept
-abbrev pub KeepsImages : UndoableValue → UndoableValue → ℕ → Type 0
-KeepsImages old new unit = kept_by new.images unit ≡ kept_by old.images unit
-
--- the changes of a recoverable file give their unit images; in another file they give none
-abbrev pub AreImagesAfter : UndoableValue → UndoableValue → ℕ → Op → Bool → Type 0
-AreImagesAfter old new unit op false = KeepsImages old new unit
-AreImagesAfter old new unit op true = HasImages old new unit op
-
 -- at a cell that none of these images is of, something is held back only where it was before
 abbrev pub IsHeldAsBefore : StoreValue → StoreValue → List AnyImage → Type 0
 IsHeldAsBefore old new images = (c : Cell) → is_unnamed cell_of_any images c ≡ true → any_holds new c ≡ true → any_holds old c ≡ true
-
--- after a command on a file the store is what the command gives; the keys that it leaves hold what they held, and so do the
--- queues; and the images are those of the changes
-pub record AreChanged (old new : UndoableValue) (unit : ℕ) (op : Op) : Type 0 where
-  pub shown : shown_store new.store ≡ (apply (shown_store old.store) op).store
-  pub others : AnyKeep (leaves_any op) old.store new.store
-  pub temp_storage : new.store.temp_storage ≡ old.store.temp_storage
-  pub trans_data : new.store.trans_data ≡ old.store.trans_data
-  pub apart : AreOthersKept old.images new.images unit
-  pub images : AreImagesAfter old new unit op (is_recoverable_in (value_at (file_of op) old.store.files))
-  -- a key has an empty place only where it had one, or where the unit keeps an image of it
-  pub held : IsHeldAsBefore old.store new.store (kept_by new.images unit)
-
--- a unit has executed a command with this answer: the store, the table and the reads are those that it leaves; of a file the
--- answer is the one that its records give
-pub record AreExecuted (old new : PartsValue) (unit : ℕ) (op : Op) (recoverable : Bool) (answer : Answer) : Type 0 where
-  pub roomy : UndoableValue
-  pub room : AreRoomier old.stores roomy
-  pub begun : unit < length roomy.images
-  pub changed : MatchBool (is_file_op op) (AreChanged roomy new.stores unit op)
-      (AreQueuesChanged roomy new.stores unit op (told_in old.table unit op recoverable) answer)
-  pub answered : is_file_op op ≡ true → answer ≡ (apply (shown_store old.stores.store) op).answer
-  pub table : new.table ≡ (if is_normal answer.condition then table_changed recoverable unit op old.reads old.table else old.table)
-  pub reads : new.reads ≡ reads_after unit op answer.condition old.reads
 
 -- a unit has taken a value, and has its list of images
 pub record AreEnqueued (old new : PartsValue) (unit : ℕ) (value : Bytes) : Type 0 where

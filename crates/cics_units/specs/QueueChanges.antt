@@ -1,14 +1,14 @@
 -- Recovery: what a command on a queue makes of it where it stands: the queue after it, its image, and what the unit that
 -- executes it keeps from then on.
-use Rattle.std.specs.Prelude.{◌≡◌, ℕ, Bool, true, false, not, if◌then◌else◌, MatchBool, T, Option, Some, None, option_map, IfSome, IfNone, List, [], ◌∷◌}
+use Rattle.std.specs.Prelude.{◌≡◌, Bool, true, false, not, if◌then◌else◌, T, Option, Some, None, option_map, IfSome, IfNone, List, [], ◌∷◌}
 use Rattle.std.specs.Str.{bytes_eq}
 use Rattle.cics_names.specs.Keyed.{Bytes, Map, value_at, with_value, is_same, is_rising}
 use Rattle.cics_names.specs.declared.conditions.Condition.TheVariants.{Normal}
-use Rattle.cics_images.specs.Cells.{is_other, is_unnamed}
+use Rattle.cics_images.specs.Cells.{is_other}
 use Rattle.cics_images.specs.Cells as images
 use Rattle.cics_images.specs.NamedValues.{split, named_fixed}
-use Rattle.cics_images.specs.StoreCells.{by_part, with_temp_storage, with_trans_data}
-use Rattle.cics_images.specs.declared.stores.StoreImage.TheVariants.{TempStorage, TransData}
+use Rattle.cics_images.specs.StoreCells.{by_part}
+use Rattle.cics_images.specs.declared.stores.StoreImage.TheVariants.{TransData}
 use Rattle.cics_tempstor.specs.declared.images.TsImage.{TsImage}
 use Rattle.cics_tempstor.specs.declared.queue_rows.Row.{Row}
 use Rattle.cics_tempstor.specs.Queues.{queue_at, write_condition, write_number, item_condition, rewrite_number, delete_condition, ts_written, ts_rewritten, ts_deleted}
@@ -19,17 +19,13 @@ use Rattle.cics_transdata.specs.Trans.{TransState, IsMarked, first_of, read_cond
 use Rattle.cics_transdata.specs.Undo.{reading_end, writing_end, KeepsEnds, IsTransImage}
 use Rattle.cics_transdata.specs.Undo as td
 use Rattle.cics_history.specs.Openings.{OpeningState}
-use Rattle.cics_history.specs.Store.{apply, only, numbered, with_content, is_recoverable}
-use Rattle.cics_history.specs.Holding.{UnitsState}
-use Rattle.cics_history.specs.Execution.{unit_or_next, after_execution}
+use Rattle.cics_history.specs.Store.{only, numbered, with_content}
 use Rattle.cics_history.specs.declared.ops.Answer.{Answer}
 use Rattle.cics_history.specs.declared.ops.Op.{Op}
 use Rattle.cics_history.specs.declared.ops.Op.TheVariants.{TsWrite, TsRewrite, TsDelete, TdWrite, TdRead, TdDelete}
 use Rattle.cics_history.specs.Cells.{End, Reading, Writing}
-use Rattle.cics_units.specs.UnitImages.{kept_by, AreOthersKept}
 use Rattle.cics_units.specs.RegionQueues.{queue_image}
-use Rattle.cics_units.specs.StoreMatching.{StoreValue, AnyImage, QueuesImage, UndoableValue, shown_store, end_cell, cell_of_any, any_holds}
-use Rattle.cics_units.specs.StoreInPlace.{AreInPlace, holds_end}
+use Rattle.cics_units.specs.StoreMatching.{StoreValue, AnyImage, QueuesImage, end_cell}
 
 -- ---- which queue a command is on
 -- a command on a transient data queue
@@ -166,52 +162,7 @@ with_image (Some i) is = i ∷ is
 abbrev pub in_queue : Bytes → TdImage → AnyImage
 in_queue q i = TransData (record { name = q; image = i })
 
--- a unit has executed a command on a transient data queue, with this answer: the queue is changed where it stands, the unit
--- keeps the image, and every other unit keeps what it kept
-pub record IsTransExecuted (old new : UndoableValue) (unit : ℕ) (op : Op) (own : Bool) (answer : Answer) : Type 0 where
-  pub before : TransState
-  pub after : TransState
-  pub image : Option TdImage
-  pub rising : T (is_rising old.store.trans_data)
-  pub there : value_at (queue_of op) old.store.trans_data ≡ Some before
-  pub change : IsTransChange op own before after image
-  pub answered : answer ≡ trans_answer op own before
-  pub store : new.store ≡ with_trans_data old.store (with_value (queue_of op) after old.store.trans_data)
-  pub newest : kept_by new.images unit ≡ with_image (option_map (in_queue (queue_of op)) image) (kept_by old.images unit)
-  pub apart : AreOthersKept old.images new.images unit
-
--- the same of a command on a temporary storage queue
-pub record IsTempExecuted (old new : UndoableValue) (unit : ℕ) (op : Op) (keep : Bool) (answer : Answer) : Type 0 where
-  pub after : Map Row
-  pub image : Option TsImage
-  pub change : IsTempChange op keep old.store.temp_storage after image
-  pub answered : answer ≡ rows_answer op old.store.temp_storage
-  pub store : new.store ≡ with_temp_storage old.store after
-  pub newest : kept_by new.images unit ≡ with_image (option_map TempStorage image) (kept_by old.images unit)
-  pub apart : AreOthersKept old.images new.images unit
-
--- a unit has executed a command on a queue, with this answer and with what it was told
-abbrev pub AreQueuesChanged : UndoableValue → UndoableValue → ℕ → Op → Bool → Answer → Type 0
-AreQueuesChanged old new unit op told answer =
-    MatchBool (is_trans op) (IsTransExecuted old new unit op told answer) (IsTempExecuted old new unit op told answer)
-
--- what a command is told: of a transient data queue, whether its unit holds the writing end, of a temporary storage queue,
--- whether it is recoverable
-abbrev pub told_of : UnitsState → ℕ → Op → Bool
-told_of s unit op = if is_trans op then holds_end s unit (queue_of op) Writing else is_recoverable s.opening op
-
 -- ---- the kinds of recovery
 -- each transient data queue that is defined stands there with its recovery, and no other queue does
 abbrev pub HaveRecoveries : OpeningState → StoreValue → Type 0
 HaveRecoveries o store = (q : Bytes) → named_fixed (λ t. t.kind) store.trans_data q ≡ named_fixed (λ e. e.recovery) o.queues q
-
--- what an executed command on a queue leaves: all is in place, each queue has its recovery, the store is what the history gives
--- and the answer too, the files stay, and more is held back only where the unit keeps an image
-pub record IsQueueExecuted (s : UnitsState) (old new : UndoableValue) (u : Option ℕ) (op : Op) (answer : Answer) : Type 0 where
-  pub place : AreInPlace (after_execution s u op) new.store new.images
-  pub recoveries : HaveRecoveries (after_execution s u op).opening new.store
-  pub store : shown_store new.store ≡ (apply (shown_store old.store) op).store
-  pub files : new.store.files ≡ old.store.files
-  pub held : (c : images.Cell) → is_unnamed cell_of_any (kept_by new.images (unit_or_next u s.outcomes)) c ≡ true → any_holds new.store c ≡ true →
-      any_holds old.store c ≡ true
-  pub answered : answer ≡ (apply (shown_store old.store) op).answer

@@ -10,6 +10,7 @@ mod parts;
 mod prefixes;
 mod queues;
 mod replay;
+mod store;
 mod undoable_store;
 mod unit_images;
 mod units;

@@ -1,6 +1,7 @@
 //! What a region opens with.
 
-ghost use Rattle.std.specs.Prelude.{◌≡◌, OnOk, OnErr, IfOk, map};
+ghost use Rattle.std.specs.Prelude.{◌≡◌, true, OnOk, OnErr, IfOk, map};
+ghost use Rattle.cics_units.specs.QueueChanges.{is_temp};
 ghost use Rattle.std.specs.Prelude.{IsSome};
 ghost use Rattle.cics_names.specs.Keyed.{value_at};
 ghost use Rattle.cics_images.specs.NamedValues.{changed_at};
@@ -380,6 +381,18 @@ impl Opening {
             Op::TdWrite { queue, .. } => self.is_logical_td(queue),
             Op::TdRead { queue } => self.is_logical_td(queue),
             Op::TdDelete { queue } => self.is_logical_td(queue),
+        }
+    }
+
+    /// Whether a command acts on a temporary storage queue that is recoverable.
+    pub(crate) fn is_prefixed(&self, op: &Op) -> bool
+        ensures { is_temp op.now ≡ true → result ≡ is_recoverable self.now op.now }
+    {
+        match op {
+            Op::TsWrite { queue, .. } => self.is_recoverable_ts(queue),
+            Op::TsRewrite { queue, .. } => self.is_recoverable_ts(queue),
+            Op::TsDelete { queue } => self.is_recoverable_ts(queue),
+            _ => false,
         }
     }
 

@@ -13,7 +13,7 @@ ghost use Rattle.cics_images.specs.Cells.{all_swept};
 ghost use Rattle.cics_enqueue.specs.Resources.{is_full, is_user};
 ghost use Rattle.cics_enqueue.specs.Resources.{holder_over};
 ghost use Rattle.cics_enqueue.specs.Resources.{given_back, released};
-ghost use Rattle.cics_history.specs.Execution.{covers, reads_after, read_at, with_read, is_read_of};
+ghost use Rattle.cics_history.specs.Execution.{covers, read_at, with_read, is_read_of};
 ghost use Rattle.cics_units.specs.StoreMatching.{cell_of_any, any_content, AnyLeads};
 ghost use Rattle.cics_units.specs.StoreMatching.{IsAnyReady, any_undone, any_swept, any_holds};
 ghost use Rattle.cics_units.specs.StoreMatching.{AnyKeep};
@@ -22,11 +22,13 @@ ghost use Rattle.cics_units.specs.UnitImages.{kept_by, room_of, AreOthersKept, A
 ghost use Rattle.cics_history.specs.Records.{is_file_op, file_of};
 ghost use Rattle.cics_units.specs.Uses.{uses_if, listed, taken_all, AreFreeFor};
 ghost use Rattle.cics_units.specs.TableInPlace.{is_read, covered_read};
-ghost use Rattle.cics_units.specs.TableInPlace.{value_of, AreOnce, table_changed};
+ghost use Rattle.cics_units.specs.TableInPlace.{value_of, AreOnce};
 ghost use Rattle.cics_units.specs.TableInPlace.{table_given_back};
-ghost use Rattle.cics_units.specs.Parts.{IsFitFileOp, is_recoverable_in, AreChanged, AreExecuted};
-ghost use Rattle.cics_units.specs.Parts.{IsFitOp, told_in, first_in, given_record};
-ghost use Rattle.cics_units.specs.QueueChanges.{queue_of};
+ghost use Rattle.cics_units.specs.Parts.{is_recoverable_in, IsFitOp, first_in, given_record};
+ghost use Rattle.cics_units.specs.QueueChanges.{is_trans, is_temp, queue_of};
+ghost use Rattle.cics_units.specs.Applied.{IsBound, IsFileBound, IsSeen};
+ghost use Rattle.cics_units.specs.Executed.{IsDone, IsExecuted};
+ghost use Rattle.cics_history.specs.declared.ops.Op.TheVariants.{ReadUpdate};
 ghost use Rattle.cics_units.specs.Awaiting.{is_writer, unit_in_way};
 ghost use Rattle.cics_units.specs.StorePlaces.{number_asked};
 ghost use Rattle.cics_images.specs.StoreCells.{with_temp_storage};
@@ -60,6 +62,14 @@ impl Model for Parts {
     ghost Value = { PartsValue };
 
     ghost view = { λ p. record { stores = p.stores; table = p.enqueues; reads = p.reads } };
+}
+
+// A count, and 1 for none.
+fn at_least_one(count: usize) -> usize
+    ensures some { 0 < result }
+    ensures all { count ≤ result }
+{
+    if count == 0 { 1 } else { count }
 }
 
 impl Parts {
@@ -158,36 +168,78 @@ impl Parts {
         }
     }
 
-    // A change of a recoverable file: the unit holds what the command uses until it ends.
+    // Ends the update read that a command covers, and answers its key if there was one.
+    fn end_covered(&mut self, unit: UnitId, op: &Op) -> Option<Record>
+        requires once { AreOnce self.old.reads }
+        ensures key { result ≡ covered_read unit op.now self.old.reads }
+        ensures rest { self.new ≡ record self.old
+            { reads = filter (λ r. not (covers unit op.now r)) self.old.reads } }
+    {
+        let Some((file, _)) = op.record() else {
+            return None;
+        };
+        self.cover(unit, file, op)
+    }
+
+    // Gives back the record of the update read that a command on a file covers, where the file isn't recoverable.
+    fn give_back_covered(&mut self, unit: UnitId, op: &Op)
+        requires on_file { is_file_op op.now ≡ true }
+        requires short { All (λ r. length r.key ≤ 255) self.old.reads }
+        requires once { AreOnce self.old.reads }
+        ensures stores { self.new.stores ≡ self.old.stores }
+        ensures table { self.new.table
+            ≡ table_given_back false unit (file_of op.now) (covered_read unit op.now self.old.reads)
+            self.old.table }
+        ensures reads { self.new.reads
+            ≡ filter (λ r. not (covers unit op.now r)) self.old.reads }
+    {
+        let Some((file, _)) = op.record() else {
+            unreachable!();
+        };
+        if let Some(key) = self.cover(unit, file, op) {
+            self.enqueues
+                .let_go(&ResourceRef::record(*file, key.bytes()), unit);
+        }
+    }
+
+    // A command on a queue, or one that changes a recoverable file: its unit goes on holding what it uses where it is
+    // answered NORMAL, and a refused command takes nothing.
     fn change_held(
         &mut self,
         unit: UnitId,
-        file: &Name8,
         op: &Op,
         uses: &Uses<'_>,
-    ) -> Result<(), NoMemory>
-        requires named { file_of op.now ≡ file.now }
-        requires on_file { is_file_op op.now ≡ true }
-        requires fit { IsFitFileOp self.old.stores.store.files op.now }
+        recoverable: bool,
+        own: bool,
+    ) -> Result<Answer, NoMemory>
+        requires changes { is_read op.now ≡ false }
+        requires held { is_file_op op.now ≡ true → recoverable ≡ true }
         requires begun { unit < length self.old.stores.images }
+        requires bound { IsBound self.old.stores.store op.now recoverable }
+        requires fit { IsFitOp self.old.stores.store op.now }
+        requires seen { IsSeen self.old.stores.store op.now own }
+        requires one { 0 < room_of self.old.stores.images unit }
         requires room { most_images self.old.stores.store.files op.now
             ≤ room_of self.old.stores.images unit }
-        requires plain { list_any is_user (listed uses.now) ≡ false }
+        requires used { listed uses.now ≡ uses_if recoverable op.now }
         requires free { AreFreeFor self.old.table (listed uses.now) unit }
         requires once { AreOnce self.old.reads }
-        ensures changed { OnOk result (AreChanged self.old.stores self.new.stores unit op.now) }
-        ensures table { OnOk result (self.new.table
-            ≡ taken_all self.old.table unit (listed uses.now)) }
-        ensures reads { OnOk result (self.new.reads
-            ≡ filter (λ r. not (covers unit op.now r)) self.old.reads) }
+        ensures done { IfOk result (λ answer.
+            IsDone self.old self.new unit op.now recoverable own answer) }
         ensures err { OnErr result (self.new ≡ self.old) }
     {
         let were_free = hold_all(&mut self.enqueues, uses, unit)?;
-        match self.stores.change(unit, op) {
-            Ok(()) => {
-                drop(self.cover(unit, file, op));
-                Ok(())
-            }
+        match self.stores.apply(unit, op, recoverable, own, None) {
+            Ok(answer) => match answer.condition {
+                Condition::Normal => {
+                    drop(self.end_covered(unit, op));
+                    Ok(answer)
+                }
+                _ => {
+                    let_go_all(&mut self.enqueues, uses, unit, were_free);
+                    Ok(answer)
+                }
+            },
             Err(refused) => {
                 let_go_all(&mut self.enqueues, uses, unit, were_free);
                 Err(refused)
@@ -196,65 +248,57 @@ impl Parts {
     }
 
     // A change of a file that isn't recoverable: it gives back the record of the update read that it covers.
-    fn change_plain(&mut self, unit: UnitId, file: &Name8, op: &Op) -> Result<(), NoMemory>
-        requires named { file_of op.now ≡ file.now }
+    fn change_plain(&mut self, unit: UnitId, op: &Op, own: bool) -> Result<Answer, NoMemory>
+        requires changes { is_read op.now ≡ false }
         requires on_file { is_file_op op.now ≡ true }
-        requires fit { IsFitFileOp self.old.stores.store.files op.now }
         requires begun { unit < length self.old.stores.images }
+        requires bound { IsBound self.old.stores.store op.now false }
+        requires fit { IsFitOp self.old.stores.store op.now }
+        requires seen { IsSeen self.old.stores.store op.now own }
+        requires one { 0 < room_of self.old.stores.images unit }
         requires room { most_images self.old.stores.store.files op.now
             ≤ room_of self.old.stores.images unit }
         requires short { All (λ r. length r.key ≤ 255) self.old.reads }
         requires once { AreOnce self.old.reads }
-        ensures changed { OnOk result (AreChanged self.old.stores self.new.stores unit op.now) }
-        ensures table { OnOk result (self.new.table
-            ≡ table_given_back false unit file.now (covered_read unit op.now self.old.reads)
-            self.old.table) }
-        ensures reads { OnOk result (self.new.reads
-            ≡ filter (λ r. not (covers unit op.now r)) self.old.reads) }
+        ensures done { IfOk result (λ answer.
+            IsDone self.old self.new unit op.now false own answer) }
         ensures err { OnErr result (self.new ≡ self.old) }
     {
-        self.stores.change(unit, op)?;
-        if let Some(key) = self.cover(unit, file, op) {
-            self.enqueues
-                .let_go(&ResourceRef::record(*file, key.bytes()), unit);
+        let answer = self.stores.apply(unit, op, false, own, None)?;
+        match answer.condition {
+            Condition::Normal => {
+                self.give_back_covered(unit, op);
+                Ok(answer)
+            }
+            _ => Ok(answer),
         }
-        Ok(())
     }
 
-    // Executes a command on a file that is to be answered NORMAL, and uses these resources.
-    fn change(&mut self, unit: UnitId, op: &Op, uses: &Uses<'_>) -> Result<(), NoMemory>
-        requires on_file { is_file_op op.now ≡ true }
-        requires fit { IsFitFileOp self.old.stores.store.files op.now }
-        requires begun { unit < length self.old.stores.images }
-        requires room { most_images self.old.stores.store.files op.now
-            ≤ room_of self.old.stores.images unit }
-        requires short { All (λ r. length r.key ≤ 255) self.old.reads }
-        requires used { listed uses.now
-            ≡ uses_if (is_recoverable_in
-            (value_at (file_of op.now) self.old.stores.store.files)) op.now }
+    // READ UPDATE: the unit holds the record and has read it for update, where it is there. The store stays.
+    fn read(
+        &mut self,
+        unit: UnitId,
+        file: Name8,
+        key: &Record,
+        uses: &Uses<'_>,
+        recoverable: bool,
+    ) -> Result<Answer, NoMemory>
+        requires bound { IsFileBound self.old.stores.store file recoverable }
+        requires used { listed uses.now ≡ uses_if recoverable (ReadUpdate file key.now) }
         requires free { AreFreeFor self.old.table (listed uses.now) unit }
-        requires once { AreOnce self.old.reads }
-        requires none_open { is_read op.now ≡ true →
-            read_at self.old.reads unit (file_of op.now) ≡ None }
-        ensures changed { OnOk result (AreChanged self.old.stores self.new.stores unit op.now) }
-        ensures table { OnOk result (self.new.table
-            ≡ table_changed
-            (is_recoverable_in (value_at (file_of op.now) self.old.stores.store.files)) unit op.now
-            self.old.reads self.old.table) }
-        ensures reads { OnOk result (self.new.reads
-            ≡ reads_after unit op.now Normal self.old.reads) }
+        requires none_open { read_at self.old.reads unit file ≡ None }
+        ensures done { IfOk result (λ answer. (own : Bool) →
+            IsDone self.old self.new unit (ReadUpdate file key.now) recoverable own answer) }
         ensures err { OnErr result (self.new ≡ self.old) }
     {
-        let Some((file, key)) = op.record() else {
-            unreachable!();
-        };
-        if let Op::ReadUpdate { .. } = op {
-            return self.read_for_update(unit, *file, key, uses);
-        }
-        if self.stores.is_recoverable(file) {
-            self.change_held(unit, file, op, uses)
-        } else {
-            self.change_plain(unit, file, op)
+        let _recoverable = recoverable;
+        let answer = self.stores.read(&file, key)?;
+        match answer.condition {
+            Condition::Normal => {
+                self.read_for_update(unit, file, key, uses)?;
+                Ok(answer)
+            }
+            _ => Ok(answer),
         }
     }
 
@@ -268,16 +312,15 @@ impl Parts {
         }
     }
 
-    // What a command on a queue is told: of a transient data queue, whether its unit holds the writing
-    // end, of a temporary storage queue, whether it is recoverable.
-    fn told(&self, unit: UnitId, op: &Op, recoverable: bool) -> bool
-        ensures { result ≡ told_in self.now.table unit op.now recoverable }
+    // Whether a unit may be given records of a transient data queue that it wrote itself: it holds the writing end.
+    fn reads_own(&self, unit: UnitId, op: &Op) -> bool
+        ensures { is_trans op.now ≡ true → result ≡ is_writer self.now.table unit (queue_of op.now) }
     {
         match op {
             Op::TdWrite { queue, .. } => self.is_writer(unit, *queue),
             Op::TdRead { queue } => self.is_writer(unit, *queue),
             Op::TdDelete { queue } => self.is_writer(unit, *queue),
-            _ => recoverable,
+            _ => false,
         }
     }
 
@@ -302,81 +345,12 @@ impl Parts {
             (is_writer self.now.table unit (queue_of op.now)) op.now) }
     {
         match op {
-            Op::ReadUpdate { .. } => Ok(self.stores.answer(op)?.content),
+            Op::ReadUpdate { file, key } => Ok(self.stores.read(file, key)?.content),
             Op::TdRead { queue } => match self.first_for(unit, *queue) {
                 Some(record) => Ok(Some(record.copy()?)),
                 None => Ok(None),
             },
             _ => Ok(None),
-        }
-    }
-
-    // Executes a command on a file: the store changes only where it is answered NORMAL.
-    #[inline(never)]
-    fn execute_on_file(
-        &mut self,
-        unit: UnitId,
-        op: &Op,
-        uses: &Uses<'_>,
-    ) -> Result<Answer, NoMemory>
-        requires file { is_file_op op.now ≡ true }
-        requires fit { IsFitFileOp self.old.stores.store.files op.now }
-        requires begun { unit ≤ length self.old.stores.images }
-        requires short { All (λ r. length r.key ≤ 255) self.old.reads }
-        requires used { listed uses.now
-            ≡ uses_if (is_recoverable_in
-            (value_at (file_of op.now) self.old.stores.store.files)) op.now }
-        requires free { AreFreeFor self.old.table (listed uses.now) unit }
-        requires once { AreOnce self.old.reads }
-        requires none_open { is_read op.now ≡ true →
-            read_at self.old.reads unit (file_of op.now) ≡ None }
-        ensures executed { IfOk result (λ answer. AreExecuted self.old self.new unit op.now
-            (is_recoverable_in (value_at (file_of op.now) self.old.stores.store.files)) answer) }
-        ensures err { OnErr result (ArePartsKept self.old self.new) }
-    {
-        let answer = self.stores.answer(op)?;
-        self.stores.make_room(unit, self.stores.most_images(op))?;
-        if answer.condition != Condition::Normal {
-            return Ok(answer);
-        }
-        self.change(unit, op, uses)?;
-        Ok(answer)
-    }
-
-    // Executes a command on a queue: its unit goes on holding what the command uses where it is answered
-    // NORMAL, and a refused command takes nothing.
-    #[inline(never)]
-    fn execute_on_queue(
-        &mut self,
-        unit: UnitId,
-        op: &Op,
-        uses: &Uses<'_>,
-        recoverable: bool,
-    ) -> Result<Answer, NoMemory>
-        requires on_queue { is_file_op op.now ≡ false }
-        requires fit { IsFitOp self.old.stores.store op.now }
-        requires begun { unit ≤ length self.old.stores.images }
-        requires used { listed uses.now ≡ uses_if recoverable op.now }
-        requires free { AreFreeFor self.old.table (listed uses.now) unit }
-        ensures executed { IfOk result (λ answer.
-            AreExecuted self.old self.new unit op.now recoverable answer) }
-        ensures err { OnErr result (ArePartsKept self.old self.new) }
-    {
-        self.stores.make_room(unit, 1)?;
-        let told = self.told(unit, op, recoverable);
-        let were_free = hold_all(&mut self.enqueues, uses, unit)?;
-        match self.stores.change_queue(unit, op, told) {
-            Ok(answer) => match answer.condition {
-                Condition::Normal => Ok(answer),
-                _ => {
-                    let_go_all(&mut self.enqueues, uses, unit, were_free);
-                    Ok(answer)
-                }
-            },
-            Err(refused) => {
-                let_go_all(&mut self.enqueues, uses, unit, were_free);
-                Err(refused)
-            }
         }
     }
 
@@ -392,9 +366,9 @@ impl Parts {
         recoverable: bool,
     ) -> Result<Answer, NoMemory>
         requires fit { IsFitOp self.old.stores.store op.now }
-        requires recoverable { is_file_op op.now ≡ true →
-            recoverable ≡ is_recoverable_in
-            (value_at (file_of op.now) self.old.stores.store.files) }
+        requires bound { IsBound self.old.stores.store op.now recoverable }
+        requires seen { IsSeen self.old.stores.store op.now
+            (is_writer self.old.table unit (queue_of op.now)) }
         requires begun { unit ≤ length self.old.stores.images }
         requires short { All (λ r. length r.key ≤ 255) self.old.reads }
         requires used { listed uses.now ≡ uses_if recoverable op.now }
@@ -403,14 +377,29 @@ impl Parts {
         requires none_open { is_read op.now ≡ true →
             read_at self.old.reads unit (file_of op.now) ≡ None }
         ensures executed { IfOk result (λ answer.
-            AreExecuted self.old self.new unit op.now recoverable answer) }
+            IsExecuted self.old self.new unit op.now recoverable answer) }
         ensures err { OnErr result (ArePartsKept self.old self.new) }
     {
-        if op.record().is_some() {
-            self.execute_on_file(unit, op, uses)
-        } else {
-            self.execute_on_queue(unit, op, uses, recoverable)
+        let most = at_least_one(self.stores.most_images(op));
+        self.stores.make_room(unit, most)?;
+        if let Op::ReadUpdate { file, key } = op {
+            return self.read(unit, *file, key, uses, recoverable);
         }
+        let own = self.reads_own(unit, op);
+        if recoverable || op.record().is_none() {
+            self.change_held(unit, op, uses, recoverable, own)
+        } else {
+            self.change_plain(unit, op, own)
+        }
+    }
+
+    /// Whether what a command acts on is recoverable; `recoverable` says so of temporary storage.
+    pub(crate) fn bind(&self, op: &Op, recoverable: bool) -> bool
+        requires fit { IsFitOp self.now.stores.store op.now }
+        ensures bound { IsBound self.now.stores.store op.now result }
+        ensures temp { is_temp op.now ≡ true → result ≡ recoverable }
+    {
+        self.stores.bind(op, recoverable)
     }
 
     /// The unit that a command of the acting unit has to wait for, if any: another than the one that

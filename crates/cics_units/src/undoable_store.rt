@@ -1,38 +1,33 @@
 //! What the files and queues hold as they stand, with the before images that the open units keep.
 
-mod queue_commands;
-
-ghost use Rattle.std.specs.Prelude.{◌≡◌, ◌<◌, ◌≤◌, ◌++◌, ℕ, true, [], length, fold, List, T, IfOk};
+ghost use Rattle.std.specs.Prelude.{◌≡◌, ◌<◌, ◌≤◌, ◌++◌, ℕ, true, [], length, fold, List, IfOk};
 ghost use Rattle.std.specs.Prelude.{IfSome};
 ghost use Rattle.std.specs.Prelude.{OnOk, OnErr, reverse};
 ghost use Rattle.cics_images.specs.Cells.{AreReadyInTurn, LeadBack, images_of, is_unnamed};
 ghost use Rattle.cics_images.specs.Cells.{all_swept};
-ghost use Rattle.cics_ksds.specs.Files.{write_condition, change_condition};
-ghost use Rattle.cics_history.specs.Store.{apply, only as answer_of, with_content, found_condition};
+ghost use Rattle.cics_history.specs.Store.{apply, only as answer_of};
 ghost use Rattle.std.specs.Option.{option_copied};
 ghost use Rattle.cics_units.specs.StoreMatching.{shown_store, cell_of_any, any_content, AnyLeads};
 ghost use Rattle.cics_units.specs.StoreMatching.{IsAnyReady, any_undone, any_swept, any_holds};
 ghost use Rattle.cics_units.specs.StoreMatching.{AnyKeep};
 ghost use Rattle.cics_units.specs.UnitImages.{kept_by, room_of, AreOthersKept, AreHeldForImages};
-ghost use Rattle.cics_units.specs.Parts.{IsFitFileOp, IsRecordOf, is_recoverable_in, image_if};
-ghost use Rattle.cics_units.specs.Parts.{AreChanged, most_in, most_images, with_stored, of_files};
-ghost use Rattle.cics_units.specs.Parts.{settled_by};
+ghost use Rattle.cics_units.specs.Parts.{most_in, most_images};
+ghost use Rattle.cics_units.specs.Parts.{settled_by, IsFitOp};
+ghost use Rattle.cics_units.specs.Applied.{IsApplied, IsBound, IsSeen, read_given};
+ghost use Rattle.cics_units.specs.QueueChanges.{is_temp};
 ghost use Rattle.cics_units.specs.StoreEnds.{any_fixed, end_settled, ends_settled};
 ghost use Rattle.cics_units.specs.StorePlaces.{number_asked};
 ghost use Rattle.cics_images.specs.StoreCells.{with_temp_storage};
 ghost use Rattle.cics_tempstor.specs.Queues.{read_item, after_read_item};
 ghost use Rattle.cics_tempstor.specs.Undo.{KeepsQueues};
 ghost use Rattle.cics_history.specs.Cells.{Reading, Writing};
-ghost use Rattle.cics_ksds.specs.Prefixes.{under};
-ghost use Rattle.cics_ksds.specs.Files.{IsContent};
-ghost use Rattle.cics_history.specs.Store.{counted_answer};
 ghost use Rattle.cics_units.specs.RegionFiles.{IsThere};
-ghost use Rattle.cics_names.specs.Keyed.{value_at, is_rising};
-ghost use Rattle.cics_history.specs.declared.ops.Op.TheVariants.{Write, Rewrite, Delete};
-ghost use Rattle.cics_history.specs.declared.ops.Op.TheVariants.{DeleteGeneric};
+ghost use Rattle.cics_names.specs.Keyed.{value_at};
+ghost use Rattle.cics_history.specs.declared.ops.Op.TheVariants.{ReadUpdate};
 
 use crate::files::{Files, FilesImage};
 use crate::queues::{QueueImage, Queues};
+use crate::store;
 use crate::unit_images::UnitImages;
 use cics_enqueue::UnitId;
 use cics_history::{Answer, Op};
@@ -141,38 +136,11 @@ impl UndoableStore {
         }
     }
 
-    // What WRITE is answered: a key that is there is DUPREC.
-    fn answer_to_write(&self, name: &Name8, key: &Record) -> Answer
+    /// What READ UPDATE would be answered now: the record, or NOTFND. It takes memory for the record.
+    pub(crate) fn read(&self, name: &Name8, key: &Record) -> Result<Answer, NoMemory>
         requires there { IsThere (value_at name.now self.now.store.files) }
-        ensures { IfSome (value_at name.now self.now.store.files)
-            (λ f. result ≡ answer_of (write_condition f.records key.now)) }
-    {
-        only(if self.found(name, key).is_some() {
-            Condition::Duprec
-        } else {
-            Condition::Normal
-        })
-    }
-
-    // What REWRITE and DELETE are answered: an absent key is NOTFND.
-    fn answer_to_change(&self, name: &Name8, key: &Record) -> Answer
-        requires there { IsThere (value_at name.now self.now.store.files) }
-        ensures { IfSome (value_at name.now self.now.store.files)
-            (λ f. result ≡ answer_of (change_condition f.records key.now)) }
-    {
-        only(if self.found(name, key).is_some() {
-            Condition::Normal
-        } else {
-            Condition::Notfnd
-        })
-    }
-
-    // What READ UPDATE is answered: the record, or NOTFND.
-    fn answer_to_read(&self, name: &Name8, key: &Record) -> Result<Answer, NoMemory>
-        requires there { IsThere (value_at name.now self.now.store.files) }
-        ensures { IfOk result (λ answer. IfSome (value_at name.now self.now.store.files) (λ f.
-            answer ≡ with_content (found_condition (value_at key.now f.records))
-            (value_at key.now f.records))) }
+        ensures { IfOk result (λ answer. answer
+            ≡ (apply (shown_store self.now.store) (ReadUpdate name.now key.now)).answer) }
     {
         let Some(record) = self.found(name, key) else {
             return Ok(only(Condition::Notfnd));
@@ -195,42 +163,9 @@ impl UndoableStore {
         }
     }
 
-    // What DELETE GENERIC is answered: the number of records under its prefix, and NOTFND where there
-    // is none.
-    fn answer_to_generic(&self, name: &Name8, prefix: &Record) -> Answer
-        requires there { IsThere (value_at name.now self.now.store.files) }
-        ensures { IfSome (value_at name.now self.now.store.files)
-            (λ f. result ≡ counted_answer (under prefix.now f.records)) }
-    {
-        match self.number_under(name, prefix) {
-            0 => only(Condition::Notfnd),
-            number => Answer {
-                condition: Condition::Normal,
-                content: None,
-                number: Some(number),
-            },
-        }
-    }
-
-    /// What a command on a file would be answered now. It takes memory for a record that is read.
-    pub(crate) fn answer(&self, op: &Op) -> Result<Answer, NoMemory>
-        requires fit { IsFitFileOp self.now.store.files op.now }
-        ensures { IfOk result (λ answer. answer
-            ≡ (apply (shown_store self.now.store) op.now).answer) }
-    {
-        match op {
-            Op::Write { file, key, .. } => Ok(self.answer_to_write(file, key)),
-            Op::Rewrite { file, key, .. } => Ok(self.answer_to_change(file, key)),
-            Op::Delete { file, key } => Ok(self.answer_to_change(file, key)),
-            Op::DeleteGeneric { file, prefix } => Ok(self.answer_to_generic(file, prefix)),
-            Op::ReadUpdate { file, key } => self.answer_to_read(file, key),
-            _ => unreachable!(),
-        }
-    }
-
-    /// How many images a command on a file gives at most.
+    /// How many images a command gives at most.
     pub(crate) fn most_images(&self, op: &Op) -> usize
-        requires fit { IsFitFileOp self.now.store.files op.now }
+        requires fit { IsFitOp self.now.store op.now }
         ensures { result ≡ most_images self.now.store.files op.now }
     {
         match op {
@@ -273,139 +208,38 @@ impl UndoableStore {
         self.images.make_room(unit, count)
     }
 
-    /// Whether the file of a name is recoverable. The names of all files rise.
-    pub(crate) fn is_recoverable(&self, name: &Name8) -> bool
-        requires there { IsThere (value_at name.now self.now.store.files) }
-        ensures recoverable { result ≡ is_recoverable_in (value_at name.now self.now.store.files) }
-        ensures in_order { T (is_rising self.now.store.files) }
-        ensures content { IfSome (value_at name.now self.now.store.files)
-            (λ f. IsContent f.definition f.records) }
-    {
-        match self.store.files.get(name) {
-            Some(file) => file.definition().recoverable,
-            None => unreachable!(),
-        }
-    }
-
-    // Gives a unit the image of a change of a file as its newest, if the change has one.
-    fn keep(&mut self, unit: UnitId, file: Name8, image: Option<FileImage>)
-        requires begun { unit < length self.old.images }
-        requires room { 0 < room_of self.old.images unit }
-        ensures store { self.new.store ≡ self.old.store }
-        ensures kept { kept_by self.new.images unit
-            ≡ of_files (image_if file image) ++ kept_by self.old.images unit }
-        ensures apart { AreOthersKept self.old.images self.new.images unit }
-    {
-        if let Some(image) = image {
-            self.images
-                .store(unit, StoreImage::File(FilesImage { name: file, image }));
-        }
-    }
-
-    // Gives a unit the images of changes of a file, the last one as its newest.
-    fn keep_all(&mut self, unit: UnitId, file: Name8, images: Items<FileImage>)
-        requires begun { unit < length self.old.images }
-        requires room { length images ≤ room_of self.old.images unit }
-        ensures store { self.new.store ≡ self.old.store }
-        ensures kept { kept_by self.new.images unit
-            ≡ of_files (with_stored file images []) ++ kept_by self.old.images unit }
-        ensures apart { AreOthersKept self.old.images self.new.images unit }
-    {
-        for image in images.into_vec() {
-            self.images
-                .store(unit, StoreImage::File(FilesImage { name: file, image }));
-        }
-    }
-
-    // WRITE in place.
-    fn write(
+    /// Applies a command for a unit where its file or queue stands, and answers it: the unit keeps the images.
+    pub(crate) fn apply(
         &mut self,
         unit: UnitId,
-        name: Name8,
-        key: &Record,
-        from: &Record,
-    ) -> Result<(), NoMemory>
-        requires fit { IsRecordOf (value_at name self.old.store.files) key.now from.now }
+        op: &Op,
+        keep: bool,
+        own: bool,
+        given: Option<Record>,
+    ) -> Result<Answer, NoMemory>
         requires begun { unit < length self.old.images }
-        requires room { 0 < room_of self.old.images unit }
-        ensures changed { OnOk result
-            (AreChanged self.old self.new unit (Write name key.now from.now)) }
-        ensures err { OnErr result (self.new ≡ self.old) }
-    {
-        let keep = self.is_recoverable(&name);
-        let changed = self.store.files.write(&name, from.copy()?, keep)?;
-        self.keep(unit, name, changed.image);
-        Ok(())
-    }
-
-    // REWRITE in place.
-    fn rewrite(
-        &mut self,
-        unit: UnitId,
-        name: Name8,
-        key: &Record,
-        from: &Record,
-    ) -> Result<(), NoMemory>
-        requires fit { IsRecordOf (value_at name self.old.store.files) key.now from.now }
-        requires begun { unit < length self.old.images }
-        requires room { 0 < room_of self.old.images unit }
-        ensures changed { OnOk result
-            (AreChanged self.old self.new unit (Rewrite name key.now from.now)) }
-        ensures err { OnErr result (self.new ≡ self.old) }
-    {
-        let keep = self.is_recoverable(&name);
-        let changed = self.store.files.rewrite(&name, from.copy()?, keep);
-        self.keep(unit, name, changed.image);
-        Ok(())
-    }
-
-    // DELETE in place.
-    fn delete(&mut self, unit: UnitId, name: Name8, key: &Record) -> Result<(), NoMemory>
-        requires there { IsThere (value_at name self.old.store.files) }
-        requires begun { unit < length self.old.images }
-        requires room { 0 < room_of self.old.images unit }
-        ensures changed { OnOk result (AreChanged self.old self.new unit (Delete name key.now)) }
-        ensures err { OnErr result (self.new ≡ self.old) }
-    {
-        let keep = self.is_recoverable(&name);
-        let changed = self.store.files.delete(&name, key.bytes(), keep)?;
-        self.keep(unit, name, changed.image);
-        Ok(())
-    }
-
-    // DELETE GENERIC in place.
-    fn delete_generic(&mut self, unit: UnitId, name: Name8, prefix: &Record) -> Result<(), NoMemory>
-        requires there { IsThere (value_at name self.old.store.files) }
-        requires begun { unit < length self.old.images }
-        requires room { most_in prefix.now (value_at name self.old.store.files)
-            ≤ room_of self.old.images unit }
-        ensures changed { OnOk result
-            (AreChanged self.old self.new unit (DeleteGeneric name prefix.now)) }
-        ensures err { OnErr result (self.new ≡ self.old) }
-    {
-        let keep = self.is_recoverable(&name);
-        let removed = self.store.files.delete_prefix(&name, prefix.bytes(), keep)?;
-        self.keep_all(unit, name, removed.images);
-        Ok(())
-    }
-
-    /// Executes a command on a file where the file stands: the unit keeps an image of what it changes
-    /// in a recoverable file. Where memory is refused nothing has changed.
-    pub(crate) fn change(&mut self, unit: UnitId, op: &Op) -> Result<(), NoMemory>
-        requires fit { IsFitFileOp self.old.store.files op.now }
-        requires begun { unit < length self.old.images }
+        requires bound { IsBound self.old.store op.now keep }
+        requires fit { IsFitOp self.old.store op.now }
+        requires seen { IsSeen self.old.store op.now own }
+        requires given { given ≡ read_given self.old.store op.now }
+        requires one { 0 < room_of self.old.images unit }
         requires room { most_images self.old.store.files op.now ≤ room_of self.old.images unit }
-        ensures changed { OnOk result (AreChanged self.old self.new unit op.now) }
+        ensures applied { IfOk result (λ answer. IsApplied self.old.store self.new.store
+            (kept_by self.old.images unit) (kept_by self.new.images unit) op.now keep own answer) }
+        ensures others { AreOthersKept self.old.images self.new.images unit }
         ensures err { OnErr result (self.new ≡ self.old) }
     {
-        match op {
-            Op::Write { file, key, from } => self.write(unit, *file, key, from),
-            Op::Rewrite { file, key, from } => self.rewrite(unit, *file, key, from),
-            Op::Delete { file, key } => self.delete(unit, *file, key),
-            Op::DeleteGeneric { file, prefix } => self.delete_generic(unit, *file, prefix),
-            Op::ReadUpdate { .. } => Ok(()),
-            _ => unreachable!(),
-        }
+        self.images
+            .apply(unit, &mut self.store, op, keep, own, given)
+    }
+
+    /// Whether what a command acts on is recoverable; `recoverable` says so of temporary storage.
+    pub(crate) fn bind(&self, op: &Op, recoverable: bool) -> bool
+        requires fit { IsFitOp self.now.store op.now }
+        ensures bound { IsBound self.now.store op.now result }
+        ensures temp { is_temp op.now ≡ true → result ≡ recoverable }
+    {
+        store::bind(&self.store, op, recoverable)
     }
 
     /// Backs a unit out: its images are undone, newest first. It keeps none from then on.

@@ -5,10 +5,16 @@ ghost use Rattle.std.specs.Prelude.{OnOk, fold, reverse};
 ghost use Rattle.cics_images.specs.Cells.{Cell, AreReadyInTurn, LeadBack, images_of, is_unnamed};
 ghost use Rattle.cics_images.specs.Cells.{all_swept};
 ghost use Rattle.cics_units.specs.UnitImages.{kept_by, room_of, AreOthersKept, AreHeldForImages};
+ghost use Rattle.std.specs.Prelude.{IfOk, OnErr};
+ghost use Rattle.cics_units.specs.Parts.{IsFitOp, most_images};
+ghost use Rattle.cics_units.specs.Applied.{IsApplied, IsBound, IsSeen, read_given};
 
+use crate::store;
+use crate::undoable_store::Store;
 use cics_enqueue::UnitId;
+use cics_history::{Answer, Op};
 use cics_images::{Images, Undoable};
-use cics_names::NoMemory;
+use cics_names::{NoMemory, Record};
 use std::alloc::Global;
 use std::marker::Model;
 use std::mem;
@@ -130,5 +136,34 @@ impl<M: Undoable> UnitImages<M> {
     {
         let mut kept = self.taken(unit);
         kept.forget(target);
+    }
+}
+
+impl UnitImages<Store> {
+    /// Applies a command for a unit, as `store::apply` does: its images are the unit's newest.
+    pub(crate) fn apply(
+        &mut self,
+        unit: UnitId,
+        store: &mut Store,
+        op: &Op,
+        keep: bool,
+        own: bool,
+        given: Option<Record>,
+    ) -> Result<Answer, NoMemory>
+        requires begun { unit < length self.old }
+        requires bound { IsBound store.old op.now keep }
+        requires fit { IsFitOp store.old op.now }
+        requires seen { IsSeen store.old op.now own }
+        requires given { given ≡ read_given store.old op.now }
+        requires one { 0 < room_of self.old unit }
+        requires room { most_images store.old.files op.now ≤ room_of self.old unit }
+        ensures applied { IfOk result (λ answer. IsApplied store.old store.new
+            (kept_by self.old unit) (kept_by self.new unit) op.now keep own answer) }
+        ensures others { AreOthersKept self.old self.new unit }
+        ensures err_store { OnErr result (store.new ≡ store.old) }
+        ensures err { OnErr result (self.new ≡ self.old) }
+    {
+        let at = unit.number() as usize;
+        store::apply(store, op, keep, own, given, &mut self.rows[at])
     }
 }

@@ -233,7 +233,7 @@ impl Units {
         // A copy for each call that the unit is handed to.
         let asking = unit;
         let begins = unit;
-        let recoverable = self.opening.is_recoverable(&op);
+        let recoverable = self.parts.bind(&op, self.opening.is_prefixed(&op));
         let uses = uses_of(&op, recoverable);
         let acting = unit_or_next(unit, self.outcomes.as_slice());
         if let Some(holder) = self.parts.awaited(asking, acting, &op, &uses) {

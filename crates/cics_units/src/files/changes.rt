@@ -1,13 +1,13 @@
 //! Changes of one file of a region, with the images that undo them.
 
-ghost use Rattle.std.specs.Prelude.{◌≡◌, IfOk, IfSome, OnOk, OnErr, Some};
+ghost use Rattle.std.specs.Prelude.{◌≡◌, length, IfOk, IfSome, OnOk, OnErr, Some};
 ghost use Rattle.cics_names.specs.Keyed.{value_at};
 ghost use Rattle.cics_images.specs.Cells.{is_other};
 ghost use Rattle.cics_ksds.specs.Files.{key_of, write_condition, change_condition};
 ghost use Rattle.cics_ksds.specs.Undo.{written_image, rewritten_image, deleted_image};
 ghost use Rattle.cics_units.specs.RegionFiles.{IsFitFor, IsThere, key_in, written_in, rewritten_in};
 ghost use Rattle.cics_units.specs.RegionFiles.{deleted_in, deleted_under};
-ghost use Rattle.cics_ksds.specs.Prefixes.{prefix_images};
+ghost use Rattle.cics_ksds.specs.Prefixes.{prefix_images, under};
 ghost use Rattle.cics_units.specs.FilesImages.{cell_of, FilesKeep};
 ghost use Rattle.cics_units.specs.FilesChanges.{IsFilesImage};
 
@@ -103,6 +103,8 @@ impl Named<File> {
         keep: bool,
     ) -> Result<Removed, NoMemory>
         requires { IsThere (value_at name.now self.old) }
+        ensures number { IfOk result (λ removed. IfSome (value_at name.now self.old)
+            (λ f. removed.number ≡ length (under prefix.now f.records))) }
         ensures images { IfOk result (λ removed. IfSome (value_at name.now self.old)
             (λ f. removed.images ≡ prefix_images keep f prefix.now)) }
         ensures files { OnOk result (self.new

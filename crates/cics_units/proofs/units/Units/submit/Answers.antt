@@ -16,10 +16,12 @@ use Rattle.cics_units.specs.StoreMatching.{shown_store}
 use Rattle.cics_units.specs.Uses.{uses_if, listed, AreFreeFor}
 use Rattle.cics_units.specs.Awaiting.{is_writer, unit_in_way}
 use Rattle.cics_units.specs.QueueChanges.{queue_of}
-use Rattle.cics_units.specs.Parts.{PartsValue, AreExecuted, given_record}
-use Rattle.cics_units.proofs.HeldSums.{recoverable_op}
-use Rattle.cics_units.proofs.KeptUnits.{kept_headline, ready_fits, recoverable_alike}
-use Rattle.cics_units.proofs.ShownUnits.{acts_of, none_open_of, refused_kept, with_len, in_way, waits, waits_unchanged, waits_open, free_way, parts_state, parts_kept, record_given, answered}
+use Rattle.cics_units.specs.Parts.{PartsValue, given_record}
+use Rattle.cics_units.specs.Executed.{IsExecuted}
+use Rattle.cics_units.specs.Applied.{IsBound, IsSeen}
+use Rattle.cics_units.proofs.AppliedKept.{bound_as_opened}
+use Rattle.cics_units.proofs.KeptUnits.{kept_headline, ready_fits}
+use Rattle.cics_units.proofs.ShownUnits.{acts_of, none_open_of, refused_kept, with_len, in_way, waits, waits_unchanged, waits_open, free_way, seen_way, parts_state, parts_kept, record_given, answered}
 use Rattle.cics_units.proofs.units.Units.submit.Goals as goal
 use Rattle.cics_units.proofs.units.Units.submit.Goals.{After-awaited, After-enter, In_err-answer}
 
@@ -34,8 +36,19 @@ module _ (c : After-awaited) where
   abbrev before : UnitsState
   before = state_shown c.self.inside.opening c.self.inside.trace.items c.self.inside.outcomes.items c.self.inside.commits.items c.self.inside.parts
 
+  ready_op : is_ready_op before c.args.unit c.args.op ≡ true
+  ready_op = subst (λ v. is_ready_op v.state c.args.unit c.args.op ≡ true) (sym c.self.view_is) c.requires.ready
+
+  -- the command is as recoverable as the opening has it
+  recoverable_is : c.bind-recoverable.result ≡ is_recoverable c.self.inside.opening c.args.op
+  recoverable_is = bound_as_opened before c.self.inside.parts.stores c.self.inside.parts.table c.self.invariant.0 c.args.op c.bind-recoverable.result c.bind-recoverable.ensures.bound
+      (λ temp. c.bind-recoverable.ensures.temp temp ∙ c.is_prefixed.ensures temp)
+
+  bound_is : IsBound c.self.inside.parts.stores.store c.args.op (is_recoverable c.self.inside.opening c.args.op)
+  bound_is = subst (IsBound c.self.inside.parts.stores.store c.args.op) recoverable_is c.bind-recoverable.ensures.bound
+
   used : listed c.uses_of-uses.result ≡ uses_if (is_recoverable c.self.inside.opening c.args.op) c.args.op
-  used = c.uses_of-uses.ensures ∙ ap (λ b. uses_if b c.args.op) c.is_recoverable-recoverable.ensures
+  used = c.uses_of-uses.ensures ∙ ap (λ b. uses_if b c.args.op) recoverable_is
 
   asked : IsAsked c.self.inside.opening c.self.inside.trace.items c.self.inside.outcomes.items c.self.inside.commits.items c.self.inside.parts c.args.unit c.args.op c.unit_or_next-acting.result c.awaited.result
   asked =
@@ -127,11 +140,19 @@ execute-requires-clause-fit c =
     let at = (goal.at.execute-requires-clause-fit c).After-awaited in
     ready_fits (before at) c.self.inside.parts.stores c.self.inside.parts.table c.self.invariant.0 c.args.unit c.args.op (asked at).ready
 
-pub execute-requires-clause-recoverable : goal.execute-requires-clause-recoverable
-execute-requires-clause-recoverable c = λ file.
+pub bind-recoverable-requires : goal.bind-recoverable-requires
+bind-recoverable-requires c =
     let u = c.self.inside in
-    let at = (goal.at.execute-requires-clause-recoverable c).After-awaited in
-    c.is_recoverable-recoverable.ensures ∙ recoverable_op u.opening c.args.op file ∙ sym (recoverable_alike (before at) u.parts.stores u.parts.table c.self.invariant.0 (file_of c.args.op))
+    let s = state_shown u.opening u.trace.items u.outcomes.items u.commits.items u.parts in
+    record { fit = ready_fits s u.parts.stores u.parts.table c.self.invariant.0 c.args.unit c.args.op (subst (λ v. is_ready_op v.state c.args.unit c.args.op ≡ true) (sym c.self.view_is) c.requires.ready) }
+
+pub execute-requires-clause-seen : goal.execute-requires-clause-seen
+execute-requires-clause-seen c =
+    let u = c.self.inside in
+    let at = (goal.at.execute-requires-clause-seen c).After-awaited in
+    let known = asked at in
+    subst (λ n. IsSeen u.parts.stores.store c.args.op (is_writer u.parts.table n (queue_of c.args.op))) (sym known.acting)
+    (seen_way u.opening u.trace.items u.outcomes.items u.commits.items u.parts u.parts c.self.invariant.0 c.args.unit c.args.op known.acts (sym known.way ∙ c.in_default.is))
 
 pub execute-requires-clause-free : goal.execute-requires-clause-free
 execute-requires-clause-free c =
@@ -153,6 +174,8 @@ execute-requires-clause-short c = c.self.invariant.0.table.keys
 
 -- ---- it is executed
 module _ (c : After-enter)
+    (bound : IsBound c.self.inside.parts.stores.store c.args.op (is_recoverable c.self.inside.opening c.args.op))
+    (recoverable : c.bind-recoverable.result ≡ is_recoverable c.self.inside.opening c.args.op)
     (known : IsAsked c.self.inside.opening c.self.inside.trace.items c.self.inside.outcomes.items c.self.inside.commits.items c.self.inside.parts c.args.unit c.args.op c.unit_or_next-acting.result c.awaited.result) where
   abbrev old : UnitsState
   old = state_shown c.self.inside.opening c.self.inside.trace.items c.self.inside.outcomes.items c.self.inside.commits.items c.self.inside.parts
@@ -163,17 +186,17 @@ module _ (c : After-enter)
   none : in_way c.self.inside.opening c.self.inside.trace.items c.self.inside.outcomes.items c.self.inside.commits.items c.self.inside.parts c.execute.new.self c.self.invariant.0 c.args.unit c.args.op known.acts ≡ None
   none = sym known.way ∙ c.in_default.is
 
-  done : AreExecuted c.self.inside.parts c.execute.new.self (unit_or_next c.args.unit c.self.inside.outcomes.items) c.args.op (is_recoverable c.self.inside.opening c.args.op) c.in_ok-answer.answer
+  done : IsExecuted c.self.inside.parts c.execute.new.self (unit_or_next c.args.unit c.self.inside.outcomes.items) c.args.op (is_recoverable c.self.inside.opening c.args.op) c.in_ok-answer.answer
   done =
-      subst (λ b. AreExecuted c.self.inside.parts c.execute.new.self (unit_or_next c.args.unit c.self.inside.outcomes.items) c.args.op b c.in_ok-answer.answer) c.is_recoverable-recoverable.ensures
-      (subst (λ n. AreExecuted c.self.inside.parts c.execute.new.self n c.args.op c.is_recoverable-recoverable.result c.in_ok-answer.answer) known.acting c.in_ok-answer.ensures.executed)
+      subst (λ b. IsExecuted c.self.inside.parts c.execute.new.self (unit_or_next c.args.unit c.self.inside.outcomes.items) c.args.op b c.in_ok-answer.answer) recoverable
+      (subst (λ n. IsExecuted c.self.inside.parts c.execute.new.self n c.args.op c.bind-recoverable.result c.in_ok-answer.answer) known.acting c.in_ok-answer.ensures.executed)
 
   -- the record of the answer is the one that was looked up
   given : c.in_ok-content.content ≡ c.in_ok-answer.answer.content
   given =
       let u = c.self.inside in
       c.in_ok-content.ensures ∙ ap (λ a. given_record u.parts.stores.store (is_writer u.parts.table a (queue_of c.args.op)) c.args.op) known.acting
-      ∙ sym (record_given u.opening u.trace.items u.outcomes.items u.commits.items u.parts c.execute.new.self c.self.invariant.0 c.args.unit c.args.op known.acts none known.ready c.in_ok-answer.answer done)
+      ∙ sym (record_given u.opening u.trace.items u.outcomes.items u.commits.items u.parts c.execute.new.self c.self.invariant.0 c.args.unit c.args.op known.acts none known.ready c.in_ok-answer.answer bound done)
 
   abbrev entry : Entry
   entry = record { unit = unit_or_next c.args.unit c.self.inside.outcomes.items; op = c.args.op; answer = c.in_ok-answer.answer }
@@ -195,35 +218,35 @@ module _ (c : After-enter)
   told =
       let u = c.self.inside in
       ap (λ n. Answered n c.in_ok-answer.answer) known.acting
-      ∙ answered u.opening u.trace.items u.outcomes.items u.commits.items u.parts c.execute.new.self c.self.invariant.0 c.args.unit c.args.op known.acts none known.ready c.in_ok-answer.answer done
+      ∙ answered u.opening u.trace.items u.outcomes.items u.commits.items u.parts c.execute.new.self c.self.invariant.0 c.args.unit c.args.op known.acts none known.ready c.in_ok-answer.answer bound done
 
   state : now ≡ after_execution old c.args.unit c.args.op
   state =
       let u = c.self.inside in
-      shown ∙ parts_state u.opening u.trace.items u.outcomes.items u.commits.items u.parts c.execute.new.self c.self.invariant.0 c.args.unit c.args.op known.acts none known.ready c.in_ok-answer.answer done
+      shown ∙ parts_state u.opening u.trace.items u.outcomes.items u.commits.items u.parts c.execute.new.self c.self.invariant.0 c.args.unit c.args.op known.acts none known.ready c.in_ok-answer.answer bound done
 
   kept : AreKept now c.execute.new.self.stores c.execute.new.self.table
   kept =
       let u = c.self.inside in
       subst (λ s. AreKept s c.execute.new.self.stores c.execute.new.self.table) (sym shown)
-      (parts_kept u.opening u.trace.items u.outcomes.items u.commits.items u.parts c.execute.new.self c.self.invariant.0 c.args.unit c.args.op known.acts none known.ready c.in_ok-answer.answer done)
+      (parts_kept u.opening u.trace.items u.outcomes.items u.commits.items u.parts c.execute.new.self c.self.invariant.0 c.args.unit c.args.op known.acts none known.ready c.in_ok-answer.answer bound done)
 
 pub invariant_of-self-2 : goal.invariant_of-self-2
 invariant_of-self-2 c =
     let at = goal.at.invariant_of-self-2 c in
-    (kept at.After-enter (asked at.After-awaited), omega (arith, with_len c.args.unit c.make_room.new.outcomes.items, ap length c.enter.ensures.outcomes, c.in_ok-make_room.ensures.turns))
+    (kept at.After-enter (bound_is at.After-awaited) (recoverable_is at.After-awaited) (asked at.After-awaited), omega (arith, with_len c.args.unit c.make_room.new.outcomes.items, ap length c.enter.ensures.outcomes, c.in_ok-make_room.ensures.turns))
 
 pub returns-clause-done : goal.returns-clause-done
 returns-clause-done c =
     let at = goal.at.returns-clause-done c in
-    told at.After-enter (asked at.After-awaited) ∙ ap (λ v. execution v.state c.args.unit c.args.op) c.self.view_is
+    told at.After-enter (bound_is at.After-awaited) (recoverable_is at.After-awaited) (asked at.After-awaited) ∙ ap (λ v. execution v.state c.args.unit c.args.op) c.self.view_is
 
 pub returns-clause-state : goal.returns-clause-state
 returns-clause-state c =
     let at = goal.at.returns-clause-state c in
-    state at.After-enter (asked at.After-awaited) ∙ ap (λ v. after_execution v.state c.args.unit c.args.op) c.self.view_is
+    state at.After-enter (bound_is at.After-awaited) (recoverable_is at.After-awaited) (asked at.After-awaited) ∙ ap (λ v. after_execution v.state c.args.unit c.args.op) c.self.view_is
 
 pub returns-clause-headline : goal.returns-clause-headline
 returns-clause-headline c =
     let at = goal.at.returns-clause-headline c in
-    kept_headline _ c.execute.new.self.stores c.execute.new.self.table (kept at.After-enter (asked at.After-awaited))
+    kept_headline _ c.execute.new.self.stores c.execute.new.self.table (kept at.After-enter (bound_is at.After-awaited) (recoverable_is at.After-awaited) (asked at.After-awaited))

@@ -14,6 +14,11 @@ invariant_of-self c =
     risen c.args.name.now c.self.inside.rows.entries c.args.self.now c.in-Some.file.now c.self.invariant c.in-Some.ensures.value c.self.view_is
     c.delete_prefix.new.self _ (c.get_mut.follows.holds c.delete_prefix.new.self).0
 
+pub returns-clause-number : goal.returns-clause-number
+returns-clause-number c =
+    rw (there c.args.name.now c.self.inside.rows.entries c.args.self.now c.in-Some.file.now c.self.invariant c.in-Some.ensures.value c.self.view_is)
+    c.delete_prefix.ensures.number
+
 pub returns-clause-images : goal.returns-clause-images
 returns-clause-images c =
     rw (there c.args.name.now c.self.inside.rows.entries c.args.self.now c.in-Some.file.now c.self.invariant c.in-Some.ensures.value c.self.view_is)

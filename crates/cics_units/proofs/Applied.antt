@@ -1,0 +1,371 @@
+-- A command that is applied where the store stands leaves what its definition says, and its images undo it: from what each
+-- call of a file or a queue promises.
+use Rattle.std.specs.Prelude.{◌≡◌, ◌+◌, ◌≤◌, IfNone, zero, suc, Bool, true, false, List, [], ◌∷◌, ◌++◌, length, option_map, if◌then◌else◌, refl, Option, Some, None, T, IfSome}
+use Rattle.std.proofs.Common.{sym, ap, ◌∙◌, subst, arith, inl, inr}
+use Rattle.std.proofs.lemmas.Bool.{cases_Bool, and_parts, and_from, false≢true}
+use Rattle.cics_names.specs.Keyed.{Bytes, Map, value_at, with_value, is_rising}
+use Rattle.cics_images.specs.Cells.{Cell, Kept, is_other, is_unnamed}
+use Rattle.cics_images.specs.declared.stores.StoreImage.TheVariants.{File, TempStorage, TransData}
+use Rattle.cics_ksds.specs.Undo.{ImageValue}
+use Rattle.cics_images.specs.StoreCells.{file_cell, temp_cell, with_files, with_temp_storage, with_trans_data}
+use Rattle.cics_ksds.specs.Files.{FileValue}
+use Rattle.cics_tempstor.specs.declared.queue_rows.Row.{Row}
+use Rattle.cics_tempstor.specs.declared.images.TsImage.{TsImage}
+use Rattle.cics_tempstor.specs.Undo.{IsTsImage}
+use Rattle.cics_transdata.specs.Trans.{TransState, IsMarked, is_logical}
+use Rattle.cics_transdata.specs.declared.images.TdImage.{TdImage}
+use Rattle.cics_transdata.specs.Undo.{KeepsEnds, IsTransImage}
+use Rattle.cics_images.specs.NamedValues.{changed_where}
+use Rattle.cics_history.specs.Marks.{marks_of}
+use Rattle.cics_history.specs.MarkImages.{mark_images}
+use Rattle.cics_history.specs.Carried.{CarriesIfAny}
+use Rattle.std.proofs.lemmas.List.{append-nil}
+use Rattle.cics_history.specs.Store.{apply, counted_answer, found_condition, with_content}
+use Rattle.cics_history.specs.Cells.{content, Ts, effect, cell_of as cell_of_op}
+use Rattle.cics_history.specs.Undo.{images_by}
+use Rattle.cics_history.specs.Records.{is_file_op, file_of}
+use Rattle.cics_history.specs.declared.ops.Answer.{Answer}
+use Rattle.cics_history.specs.declared.ops.Op.{Op}
+use Rattle.cics_history.specs.declared.ops.Op.TheVariants.{Write, Rewrite, Delete, DeleteGeneric, ReadUpdate, TsWrite, TsRewrite, TsDelete, TdWrite, TdRead, TdDelete}
+use Rattle.cics_units.specs.FilesImages.{FilesImage, cell_of_image}
+use Rattle.cics_units.specs.StoreMatching.{StoreValue, AnyImage, QueuesImage, AnyLeads, end_cell, bytes_of_end, shown_store, shown_records, bytes_of, any_content, any_undone, cell_of_any, any_holds, AnyKeep, IsImageOfChange, AreImagesOf}
+use Rattle.cics_units.specs.Parts.{is_recoverable_in, leaves, leaves_any, of_files, with_stored}
+use Rattle.cics_units.specs.QueueChanges.{is_trans, is_temp, queue_of, end_of, is_left, trans_after, trans_answer, rows_after, rows_image, rows_answer, IsTempChange, IsOneChanged, with_image, in_queue}
+use Rattle.cics_units.specs.Applied.{IsSeenIn, spares, AreImagesMade, IsApplied, IsFileBound, IsQueueBound, marks_in, marks_if, read_given, counted_as}
+use Rattle.cics_units.proofs.StoreInPlace.{AreReady, ready_where, shown_ts}
+use Rattle.cics_units.proofs.TempChanges.{temp_cell_of, temp_single, is_done, rows_rise, rows_stay, rows_plain, rows_imaged, temp_stored, temp_answered, temp_changes}
+use Rattle.cics_units.proofs.StoreTempExecuted.{temp_any_image, temp_keeps}
+use Rattle.cics_units.proofs.StoreExecuted.{all_of, IsAnyImage}
+use Rattle.cics_units.proofs.StoreQueueExecuted.{kept_with, ready_with, left_here, trans_keeps, trans_any_image}
+use Rattle.cics_units.proofs.TransChanges.{IsToldEnough, told_unwritten, trans_stored, trans_answered, carried_after, marks_of_queue, plain_image}
+use Rattle.cics_units.proofs.QueueClauses.{image_among}
+use Rattle.cics_units.proofs.QueuesHeld.{temp_held, trans_held}
+use Rattle.cics_units.proofs.MadeImages.{files_kept, ready_in_turn, images_by-one, change_of}
+use Rattle.cics_units.proofs.FilesChanged.{AreFileImagesAfter, AreFilesChanged}
+use Rattle.cics_units.proofs.FileChanges.{read_answer}
+use Rattle.cics_history.proofs.Joining.{read_only, apply-content, touches-self}
+use Rattle.cics_units.specs.FilesImagesLaws as files
+
+-- ---- the answer of DELETE GENERIC
+pub counted_is : {X : Type 0} (xs : List X) → counted_answer xs ≡ counted_as (length xs)
+counted_is [] = refl
+counted_is (x ∷ xs) = refl
+
+-- ---- images of a file that are stored one after another
+-- what is stored on images lies before them
+front : (f : Bytes) (more : List ImageValue) (is : List FilesImage) (kept : List AnyImage) →
+    of_files (with_stored f more is) ++ kept ≡ of_files (with_stored f more []) ++ (of_files is ++ kept)
+front f [] is kept = refl
+front f (i ∷ more) is kept =
+    front f more (record { name = f; image = i } ∷ is) kept ∙ sym (front f more (record { name = f; image = i } ∷ []) (of_files is ++ kept))
+
+-- some images are stored: with those that are left they are all
+pub record AreStoredOn (start now : Kept AnyImage) (f : Bytes) (all left : List ImageValue) : Type 0 where
+  pub room : length left ≤ now.room
+  pub whole : of_files (with_stored f left []) ++ now.newest_first ≡ of_files (with_stored f all []) ++ start.newest_first
+
+-- one more is stored
+pub stored_on : (start now next : Kept AnyImage) (f : Bytes) (all : List ImageValue) (i : ImageValue) (left : List ImageValue) → AreStoredOn start now f all (i ∷ left) →
+    next.newest_first ≡ File (record { name = f; image = i }) ∷ now.newest_first → next.room + 1 ≡ now.room → AreStoredOn start next f all left
+stored_on start now next f all i left a kept room = record {
+  room = let before = a.room in omega arith;
+  whole = ap (λ l. of_files (with_stored f left []) ++ l) kept ∙ sym (front f left (record { name = f; image = i } ∷ []) now.newest_first) ∙ a.whole;
+}
+
+-- ---- files
+-- a command on a file is on no transient data queue
+no_queue : (op : Op) → is_file_op op ≡ true → is_trans op ≡ false
+no_queue (Write f k r) on = refl
+no_queue (Rewrite f k r) on = refl
+no_queue (Delete f k) on = refl
+no_queue (DeleteGeneric f p) on = refl
+no_queue (ReadUpdate f k) on = refl
+no_queue _ on = absurd (false≢true on)
+
+-- and leaves the rows of temporary storage
+same_rows : (op : Op) (keep : Bool) (rows : Map Row) → is_file_op op ≡ true → rows ≡ rows_after op keep rows
+same_rows (Write f k r) keep rows on = refl
+same_rows (Rewrite f k r) keep rows on = refl
+same_rows (Delete f k) keep rows on = refl
+same_rows (DeleteGeneric f p) keep rows on = refl
+same_rows (ReadUpdate f k) keep rows on = refl
+same_rows _ keep rows on = absurd (false≢true on)
+
+-- a key that no image of the three is of, none of those of files is of
+unnamed_files : (is : List FilesImage) (kept : List AnyImage) (c : Cell) → is_unnamed cell_of_any (of_files is ++ kept) (file_cell c) ≡ true →
+    is_unnamed cell_of_image is c ≡ true
+unnamed_files [] kept c unnamed = refl
+unnamed_files (i ∷ is) kept c unnamed =
+    let parts = and_parts (is_other (file_cell (cell_of_image i)) (file_cell c)) (is_unnamed cell_of_any (of_files is ++ kept) (file_cell c)) unnamed in
+    and_from (is_other (cell_of_image i) c) (is_unnamed cell_of_image is c) parts.0 (unnamed_files is kept c parts.1)
+
+module _ (old new : StoreValue) (op : Op) (keep own : Bool) (answer : Answer) (before after : List AnyImage) (n : Map FileValue) (is : List FilesImage)
+    (on : is_file_op op ≡ true) (changed : AreFilesChanged old n op is) (recoverable : keep ≡ is_recoverable_in (value_at (file_of op) old.files))
+    (store : new ≡ with_files old n) (newest : after ≡ of_files is ++ before) where
+  stand_then : (b : Bool) → AreFileImagesAfter old n op is b → AreImagesMade old op b (of_files is)
+  stand_then false none = ap of_files none
+  stand_then true images = rw (no_queue op on) images.made
+
+  ready_then : (b : Bool) → AreFileImagesAfter old n op is b → b ≡ true → AreReady old before → AreReady (with_files old n) (of_files is ++ before)
+  ready_then true images kept ready = ready_in_turn old n is before images.in_turn ready
+  ready_then false none kept ready = absurd (false≢true kept)
+
+  spares_at : (c : Cell) → spares op own c ≡ leaves_any op c
+  spares_at c = rw on refl
+
+  spares_then : spares op own ≡ leaves_any op
+  spares_then = λ i c. spares_at c i
+
+  held_then : (c : Cell) → is_unnamed cell_of_any (of_files is ++ before) c ≡ true → any_holds (with_files old n) c ≡ true → any_holds old c ≡ true
+  held_then [] unnamed has = has
+  held_then (zero ∷ c) unnamed has = changed.held c (unnamed_files is before c unnamed) has
+  held_then (suc zero ∷ c) unnamed has = has
+  held_then (suc (suc zero) ∷ c) unnamed has = has
+  held_then (suc (suc (suc k)) ∷ c) unnamed has = has
+
+  -- a command on a file is applied, if the files are changed as it asks and its images are the newest
+  pub files_applied : answer ≡ (apply (shown_store old) op).answer → IsApplied old new before after op keep own answer
+  files_applied answered = record {
+    answered = answered;
+    shown = ap shown_store store ∙ changed.shown;
+    made = of_files is;
+    newest = newest;
+    stand = subst (λ b. AreImagesMade old op b (of_files is)) (sym recoverable) (stand_then _ changed.images);
+    ready = λ kept ready. subst (λ s. AreReady s after) (sym store) (subst (AreReady (with_files old n)) (sym newest)
+        (ready_then _ changed.images (sym recoverable ∙ kept) ready));
+    others = subst (λ p. AnyKeep p old new) (sym spares_then)
+        (subst (AnyKeep (leaves_any op) old) (sym store) (files_kept (leaves_any op) old n changed.others));
+    held = λ c unnamed has. held_then c (ap (λ l. is_unnamed cell_of_any l c) (sym newest) ∙ unnamed) (ap (λ s. any_holds s c) (sym store) ∙ has);
+    rows = ap (λ s. s.temp_storage) store ∙ same_rows op keep old.temp_storage on;
+    queues = rw (no_queue op on) (ap (λ s. s.trans_data) store);
+  }
+
+-- READ UPDATE changes nothing
+read_changed : (s : StoreValue) (f k : Bytes) → AreFilesChanged s s.files (ReadUpdate f k) []
+read_changed s f k = record {
+  shown = sym (read_only (shown_store s) f k);
+  others = files.keeps_itself (leaves (ReadUpdate f k)) s.files;
+  images = by (is_recoverable_in (value_at f s.files));
+  held = λ c unnamed has. has;
+}
+  where
+    by : (b : Bool) → AreFileImagesAfter s s.files (ReadUpdate f k) [] b
+    by false = refl
+    by true = record { made = (refl, refl); in_turn = refl }
+
+-- and so it is applied, with its answer
+pub read_applied_by : (s : StoreValue) (kept : List AnyImage) (f k : Bytes) (keep own : Bool) (answer : Answer) → IsFileBound s f keep →
+    answer ≡ (apply (shown_store s) (ReadUpdate f k)).answer → IsApplied s s kept kept (ReadUpdate f k) keep own answer
+read_applied_by s kept f k keep own answer b is =
+    files_applied s s (ReadUpdate f k) keep own answer kept kept s.files [] refl (read_changed s f k) (b.recoverable ∙ sym (ap is_recoverable_in b.there)) refl refl is
+
+-- so it is where the record that it gives was looked up
+pub read_applied : (s : StoreValue) (kept : List AnyImage) (f k : Bytes) (keep own : Bool) (given : Option Bytes) → IsFileBound s f keep →
+    given ≡ read_given s (ReadUpdate f k) → IsApplied s s kept kept (ReadUpdate f k) keep own (with_content (found_condition given) given)
+read_applied s kept f k keep own given b is = read_applied_by s kept f k keep own (with_content (found_condition given) given) b
+    (ap (λ o. with_content (found_condition o) o) (is ∙ ap (λ a. a.content) (read_answer s f b.file b.there k)) ∙ sym (read_answer s f b.file b.there k))
+
+-- ---- temporary storage
+-- a command on temporary storage is on no file
+no_file : (op : Op) → is_temp op ≡ true → is_file_op op ≡ false
+no_file (TsWrite q d) is = refl
+no_file (TsRewrite q n d) is = refl
+no_file (TsDelete q) is = refl
+no_file _ is = absurd (false≢true is)
+
+-- nor on a transient data queue
+no_trans : (op : Op) → is_temp op ≡ true → is_trans op ≡ false
+no_trans (TsWrite q d) is = refl
+no_trans (TsRewrite q n d) is = refl
+no_trans (TsDelete q) is = refl
+no_trans _ is = absurd (false≢true is)
+
+-- an image more lies before the others
+with_front : (o : Option AnyImage) (is : List AnyImage) → with_image o is ≡ with_image o [] ++ is
+with_front None is = refl
+with_front (Some i) is = refl
+
+module _ (old : StoreValue) (op : Op) (keep own : Bool) (before : List AnyImage) (rows : Map Row) (image : Option TsImage)
+    (is : is_temp op ≡ true) (change : IsTempChange op keep old.temp_storage rows image) where
+  abbrev n : StoreValue
+  n = with_temp_storage old rows
+
+  abbrev q : Bytes
+  q = queue_of op
+
+  shown_then : shown_store n ≡ (apply (shown_store old) op).store
+  shown_then = ap (λ x. shown_store (with_temp_storage old x)) change.value ∙ temp_stored op keep old is change.rising
+
+  -- what the command changes, by whether it is answered NORMAL
+  changes_if : (b : Bool) → is_done op old.temp_storage ≡ b → images_by (shown_store old) op (content (shown_store old)) ≡ (if b then change_of old op (temp_single op is) ∷ [] else [])
+  changes_if b e = images_by-one (shown_store old) op (content (shown_store old)) (temp_single op is)
+      ∙ ap (λ x. if x then change_of old op (temp_single op is) ∷ [] else []) (temp_changes op old is change.rising ∙ e)
+
+  -- what the queue holds then
+  made_here : content (shown_store n) (cell_of_op op) ≡ (effect op (content (shown_store old) (cell_of_op op))).cell
+  made_here = ap (λ t. content t (cell_of_op op)) shown_then ∙ apply-content (shown_store old) op (cell_of_op op)
+      ∙ ap (λ b. if b then (effect op (content (shown_store old) (cell_of_op op))).cell else content (shown_store old) (cell_of_op op)) (touches-self op)
+
+  -- the image stands for its change
+  stands : (i : TsImage) → IsTsImage old.temp_storage rows q i → IsImageOfChange (change_of old op (temp_single op is)) (TempStorage i)
+  stands i undoes = subst (λ c. IsImageOfChange (record { cell = cell_of_op op; before = content (shown_store old) (cell_of_op op); made = c }) (TempStorage i)) made_here
+      (subst (λ x. IsImageOfChange (record { cell = x; before = content (shown_store old) x; made = content (shown_store n) x }) (TempStorage i)) (sym (temp_cell_of op is)) (record {
+        cell = ap temp_cell undoes.named;
+        leads = subst (λ a. AnyLeads (TempStorage i) a (shown_records (content (shown_store old) (Ts q)))) (sym (shown_ts n (subst (λ x. T (is_rising x)) (sym change.value) (rows_rise op keep old.temp_storage change.rising)) q))
+            (subst (AnyLeads (TempStorage i) (any_content n (bytes_of (Ts q)))) (sym (shown_ts old change.rising q)) undoes.leads_back);
+      }))
+
+  stand_if : (k done : Bool) (o : Option TsImage) → keep ≡ k → is_done op old.temp_storage ≡ done → image ≡ o → AreImagesMade old op k (with_image (option_map TempStorage o) [])
+  stand_if false done o plain is_so given = ap (λ x. with_image (option_map TempStorage x) [])
+      (sym given ∙ change.given ∙ ap (λ b. rows_image op b old.temp_storage) plain ∙ rows_plain op old.temp_storage)
+  stand_if true false o kept is_so given = rw (no_trans op is) in_none
+    where
+      in_none : AreImagesOf (images_by (shown_store old) op (content (shown_store old))) [] (with_image (option_map TempStorage o) [])
+      in_none = subst (λ x. AreImagesOf (images_by (shown_store old) op (content (shown_store old))) [] (with_image (option_map TempStorage x) []))
+          (sym (rows_stay op keep old.temp_storage is is_so).1 ∙ sym change.given ∙ given)
+          (subst (λ l. AreImagesOf l [] []) (sym (changes_if false is_so)) (refl, refl))
+  stand_if true true o kept is_so given = rw (no_trans op is) in_some
+    where
+      some : (i : TsImage) × (rows_image op true old.temp_storage ≡ Some i)
+      some = rows_imaged op old.temp_storage is is_so
+
+      this : image ≡ Some some.0
+      this = change.given ∙ ap (λ b. rows_image op b old.temp_storage) kept ∙ some.1
+
+      in_some : AreImagesOf (images_by (shown_store old) op (content (shown_store old))) [] (with_image (option_map TempStorage o) [])
+      in_some = subst (λ x. AreImagesOf (images_by (shown_store old) op (content (shown_store old))) [] (with_image (option_map TempStorage x) [])) (sym this ∙ given)
+          (subst (λ l. AreImagesOf l [] (TempStorage some.0 ∷ [])) (sym (changes_if true is_so))
+          (stands some.0 (subst (λ x. IfSome x (IsTsImage old.temp_storage rows q)) this change.undoable), (refl, refl)))
+
+  ready_if : (o : Option TsImage) → image ≡ o → keep ≡ true → AreReady old before → AreReady n (with_image (option_map TempStorage o) before)
+  ready_if None none kept ready = subst (λ x. AreReady (with_temp_storage old x) before) (sym (stays (is_done op old.temp_storage) refl)) ready
+    where
+      stays : (b : Bool) → is_done op old.temp_storage ≡ b → rows ≡ old.temp_storage
+      stays false e = change.value ∙ (rows_stay op keep old.temp_storage is e).0
+      stays true e =
+          let some = rows_imaged op old.temp_storage is e in
+          let wrong : None ≡ Some some.0 = sym none ∙ change.given ∙ ap (λ b. rows_image op b old.temp_storage) kept ∙ some.1 in cc
+  ready_if (Some i) some kept ready =
+      let undoes = temp_any_image old rows q i (subst (λ x. IfSome x (IsTsImage old.temp_storage rows q)) some change.undoable) in
+      (undoes.ready, ready_where (λ x. true) old (any_undone n (TempStorage i)) before undoes.back (all_of before) ready)
+
+  spares_row : (c : Cell) → spares op own c ≡ is_other (temp_cell q) c
+  spares_row c = rw (no_file op is, no_trans op is) refl
+
+  -- a command on a temporary storage queue is applied, if its rows are changed as it asks and its image is the newest
+  pub temp_applied : (answer : Answer) → answer ≡ rows_answer op old.temp_storage → (new : StoreValue) → new ≡ n → (after : List AnyImage) →
+      after ≡ with_image (option_map TempStorage image) before → IsApplied old new before after op keep own answer
+  temp_applied answer answered new store after newest = record {
+    answered = answered ∙ sym (temp_answered op old is change.rising);
+    shown = ap shown_store store ∙ shown_then;
+    made = with_image (option_map TempStorage image) [];
+    newest = newest ∙ with_front (option_map TempStorage image) before;
+    stand = stand_if keep (is_done op old.temp_storage) image refl refl refl;
+    ready = λ kept ready. subst (λ s. AreReady s after) (sym store) (subst (AreReady n) (sym newest) (ready_if image refl kept ready));
+    others = subst (AnyKeep (spares op own) old) (sym store) (subst (λ p. AnyKeep p old n) (λ i c. sym (spares_row c) i) (temp_keeps old rows q change.others));
+    held = λ c unnamed has. temp_held old op keep before c
+        (ap (λ o. is_unnamed cell_of_any (with_image (option_map TempStorage o) before) c) (sym change.given) ∙ ap (λ l. is_unnamed cell_of_any l c) (sym newest) ∙ unnamed)
+        (ap (λ s. any_holds s c) (sym (store ∙ ap (with_temp_storage old) change.value)) ∙ has);
+    rows = ap (λ s. s.temp_storage) store ∙ change.value;
+    queues = rw (no_trans op is) (ap (λ s. s.trans_data) store);
+  }
+
+-- ---- transient data
+-- a command on a transient data queue is on no file
+no_file_trans : (op : Op) → is_trans op ≡ true → is_file_op op ≡ false
+no_file_trans (TdWrite q d) is = refl
+no_file_trans (TdRead q) is = refl
+no_file_trans (TdDelete q) is = refl
+no_file_trans _ is = absurd (false≢true is)
+
+-- and leaves the rows of temporary storage
+trans_rows : (op : Op) (keep : Bool) (rows : Map Row) → is_trans op ≡ true → rows ≡ rows_after op keep rows
+trans_rows (TdWrite q d) keep rows is = refl
+trans_rows (TdRead q) keep rows is = refl
+trans_rows (TdDelete q) keep rows is = refl
+trans_rows _ keep rows is = absurd (false≢true is)
+
+-- a read of a queue is told enough by what it sees: of one that isn't LOGICAL no record is marked
+pub read_told : (q : Bytes) (own : Bool) (t : TransState) → IsMarked t → (is_logical t.kind ≡ true → IsSeenIn own (marks_of t)) → IsToldEnough (TdRead q) own (marks_of t)
+read_told q own t marked seen = elim (cases_Bool (is_logical t.kind)) [
+  | inl logical ↦ seen logical
+  | inr plain ↦ told_unwritten (TdRead q) own t (marked.unmarked plain).1
+]
+
+module _ (old : StoreValue) (op : Op) (keep own : Bool) (before : List AnyImage) (queues : Map TransState) (image : Option QueuesImage)
+    (is : is_trans op ≡ true) (done : IsOneChanged op own old.trans_data queues image) (bound : IsQueueBound old (queue_of op) keep)
+    (told : IsToldEnough op own (marks_of done.before)) where
+  abbrev tn : StoreValue
+  tn = with_trans_data old queues
+
+  abbrev tq : Bytes
+  tq = queue_of op
+
+  abbrev among_three : StoreValue
+  among_three = with_trans_data old (with_value tq done.after old.trans_data)
+
+  -- the three after it
+  then_is : tn ≡ among_three
+  then_is = ap (with_trans_data old) done.value
+
+  -- the queue is the one that is bound
+  this_queue : bound.queue ≡ done.before
+  this_queue = let same : Some bound.queue ≡ Some done.before = sym bound.there ∙ done.there in cc
+
+  trans_shown : shown_store tn ≡ (apply (shown_store old) op).store
+  trans_shown = ap shown_store then_is ∙ ap (λ t. shown_store (with_trans_data old (with_value tq t old.trans_data))) done.change.value
+      ∙ trans_stored op own old done.before is done.there done.rising done.change.marked told
+
+  -- the images
+  abbrev trans_made : List AnyImage
+  trans_made = with_image (option_map (in_queue tq) done.taken) []
+
+  trans_newest : (after : List AnyImage) → after ≡ with_image (option_map TransData image) before → after ≡ with_image (option_map (in_queue tq) done.taken) before
+  trans_newest after newest = newest ∙ ap (λ o. with_image o before) (ap (option_map TransData) done.given ∙ image_among tq done.taken)
+
+  trans_stand : (k : Bool) → keep ≡ k → AreImagesMade old op k trans_made
+  trans_stand true kept = rw is (subst (λ ms. AreImagesOf [] ms trans_made) (append-nil (mark_images op (marks_in old)))
+      (kept_with tq [] [] [] done.taken (mark_images op (marks_in old))
+      (subst (λ o. CarriesIfAny o (mark_images op (marks_in old))) (sym done.change.given)
+      (carried_after op own done.before (marks_in old) is done.change.marked (ap (λ t. is_logical t.kind) (sym this_queue) ∙ sym bound.logical ∙ kept) (ap marks_if done.there) told))
+      (marks_of_queue op (marks_in old)) (refl, refl)))
+  trans_stand false plain = ap (λ o. with_image (option_map (in_queue tq) o) [])
+      (done.change.given ∙ plain_image op own done.before (ap (λ t. is_logical t.kind) (sym this_queue) ∙ sym bound.logical ∙ plain))
+
+  trans_ready : AreReady old before → AreReady among_three (with_image (option_map (in_queue tq) done.taken) before)
+  trans_ready ready = ready_with old among_three tq (bytes_of_end tq (end_of op)) done.taken before ready
+      (undoes done.taken done.change.undoable) (keeps done.taken done.change.without_image)
+    where
+      undoes : (o : Option TdImage) → IfSome o (IsTransImage done.before done.after (end_cell (end_of op))) →
+          IfSome o (λ i. IsAnyImage old among_three (bytes_of_end tq (end_of op)) (in_queue tq i))
+      undoes None is_so = tt
+      undoes (Some i) is_so = trans_any_image old tq done.before done.after done.there (end_cell (end_of op)) i is_so
+
+      keeps : (o : Option TdImage) → IfNone o (KeepsEnds (λ c. true) done.before done.after) → IfNone o (AnyKeep (λ c. true) old among_three)
+      keeps None is_so = trans_keeps old tq done.before done.after done.there (λ c. true) is_so
+      keeps (Some i) is_so = tt
+
+  spares_end : (c : Cell) → spares op own c ≡ is_left op own c
+  spares_end c = rw (no_file_trans op is, is) refl
+
+  trans_others : AnyKeep (spares op own) old among_three
+  trans_others = subst (λ p. AnyKeep p old among_three) (λ i c. sym (spares_end c) i)
+      (trans_keeps old tq done.before done.after done.there (is_left op own)
+      (subst (λ p. KeepsEnds p done.before done.after) (λ i c. sym (left_here op own c) i) done.change.others))
+
+  -- a command on a transient data queue is applied, if its queue is changed as it asks and its image is the newest
+  pub trans_applied : (answer : Answer) → answer ≡ trans_answer op own done.before → (new : StoreValue) → new ≡ tn → (after : List AnyImage) →
+      after ≡ with_image (option_map TransData image) before → IsApplied old new before after op keep own answer
+  trans_applied answer answered new store after newest = record {
+    answered = answered ∙ sym (trans_answered op own old done.before is done.there told);
+    shown = ap shown_store store ∙ trans_shown;
+    made = trans_made;
+    newest = trans_newest after newest ∙ with_front (option_map (in_queue tq) done.taken) before;
+    stand = trans_stand keep refl;
+    ready = λ kept ready. subst (λ s. AreReady s after) (sym (store ∙ then_is)) (subst (AreReady among_three) (sym (trans_newest after newest)) (trans_ready ready));
+    others = subst (AnyKeep (spares op own) old) (sym (store ∙ then_is)) trans_others;
+    held = λ c unnamed has. trans_held old queues c (ap (λ s. any_holds s c) (sym store) ∙ has);
+    rows = ap (λ s. s.temp_storage) store ∙ trans_rows op keep old.temp_storage is;
+    queues = rw is (ap (λ s. s.trans_data) store ∙ done.value ∙ ap (λ t. with_value tq t old.trans_data) done.change.value
+        ∙ ap (λ o. changed_where (λ t. trans_after op own t) tq o old.trans_data) (sym done.there));
+  }
