@@ -1,4 +1,5 @@
-# What bin/cicsrun, bin/build, bin/install and .ci/run share. The caller has set $root, the repository's top.
+# What bin/cicsrun, bin/build, bin/install and .ci/run share. The caller has set $root, the
+# repository's top.
 
 program=$root/crates/cicsrun/out/cicsrun
 # The checksum of the sources from which $program was proved and built.
@@ -11,7 +12,8 @@ stop() {
     exit "$1"
 }
 
-# Prints the crates that the program stands on, each behind those that it stands on itself, and the program last.
+# Prints the crates that the program stands on, each behind those that it stands on itself, and
+# the program last.
 crates() {
     awk -F: '
         function visit(name,    below, count, each) {
@@ -31,7 +33,8 @@ sources() (
     {
         echo crates.txt
         for crate in $(crates); do
-            find "crates/$crate/src" "crates/$crate/specs" "crates/$crate/proofs" -type f 2> /dev/null
+            find "crates/$crate/src" "crates/$crate/specs" "crates/$crate/proofs" -type f \
+                2> /dev/null
         done
     } | LC_ALL=C sort | xargs sha256sum | sha256sum | cut -c1-64
 )
