@@ -1,4 +1,4 @@
-use Rattle.std.proofs.Common.{◌≡◌, Option, None, ℕ, Some, subst}
+use Rattle.std.proofs.Common.{Option, None, ℕ, Some, subst}
 use Rattle.std.specs.Prelude.{IfNone}
 use Rattle.cics_enqueue.specs.Resources.{IsFreeBut, IsFreeFor}
 use Rattle.cics_enqueue.specs.declared.resources.Resource.{Resource}
