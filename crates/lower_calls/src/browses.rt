@@ -37,7 +37,8 @@ impl Browses {
         })
     }
 
-    // STARTBR, or RESETBR where a browse stands. The name says whether it is generic, and whether it is equal.
+    // STARTBR, or RESETBR if there is a browse. The name says whether it is generic, and whether it
+    // is equal.
     fn start(&mut self, name: &str, key: Record) -> Condition {
         let is_generic = name.contains('g');
         let is_equal = name.contains('e');

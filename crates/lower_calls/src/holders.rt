@@ -23,7 +23,8 @@ pub(crate) struct Holders {
     alloc: Global,
 }
 
-// The resource of a text: a letter for its kind, and its bytes or its name. All keys and prefixes are of one file.
+// The resource of a text: a letter for its kind, and its bytes or its name. All keys and prefixes
+// are of one file.
 fn resource_of(text: &[u8]) -> Result<Option<Resource>, NameFault> {
     let Some((kind, bytes)) = text.split_first() else {
         return Ok(None);
@@ -132,7 +133,8 @@ impl Holders {
         Ok(())
     }
 
-    // Holds a resource, unless another unit is in the way or it is a value, and tells whether it was free.
+    // Holds a resource, unless another unit is in the way or it is a value, and tells whether it was
+    // free.
     fn hold(
         &mut self,
         resource: &Resource,

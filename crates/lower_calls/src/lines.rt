@@ -1,8 +1,8 @@
 //! Lines: a call, and what it has to answer.
 //!
-//! `+ write.kept ACCT 0001aa = NORMAL`: the call may be refused (`+`), asks for no memory (`!`), or
-//! bears it if a request is refused (`~`). A word comes next, with how the change ends behind a dot,
-//! then a name, what the call is given, and the answer. It changes something (`=`) or nothing (`==`).
+//! `+ write.kept ACCT 0001aa = NORMAL`: the call may be refused (`+`), or asks for no memory (`!`).
+//! A word comes next, with how the change ends behind a dot, then a name, what the call is given,
+//! and the answer. It changes something (`=`) or nothing (`==`).
 
 use crate::tries::Requests;
 
@@ -30,7 +30,6 @@ pub(crate) struct Call<'a> {
 pub(crate) struct Line<'a> {
     pub(crate) text: &'a str,
     pub(crate) requests: Requests,
-    pub(crate) may_bear: bool,
     pub(crate) call: Call<'a>,
     pub(crate) given: &'a str,
     pub(crate) answer: &'a str,
@@ -79,7 +78,6 @@ impl<'a> Line<'a> {
             } else {
                 Requests::Next
             },
-            may_bear: sign == "~",
             call: Call::of(word, name),
             given,
             answer,

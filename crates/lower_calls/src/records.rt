@@ -28,8 +28,8 @@ pub(crate) fn push_record(text: &mut String, record: Option<&Record>) -> Result<
     }
 }
 
-/// Puts the records that aren't further ones at the end, with a stroke behind each, and tells if the
-/// further ones aren't so many.
+/// Puts the records that aren't further ones at the end, with a stroke behind each, and tells if
+/// the further ones aren't so many.
 pub(crate) fn push_own(text: &mut String, records: &[Record], more: u64) -> Result<(), NoMemory> {
     let mut further = 0_u64;
     for record in records {

@@ -120,7 +120,7 @@ fn is_done<L: Lower>(lower: &mut L, alloc: Global, line: &Line<'_>) -> Result<bo
     let text = line.text.to_string(alloc)?;
     match came {
         None if !was_refused => Err(Stop::Refused(text)),
-        Some(_) if was_refused && !line.may_bear => Err(Stop::Refused(text)),
+        Some(_) if was_refused => Err(Stop::Refused(text)),
         None if is_change => Err(Stop::Changed(text)),
         None => Ok(false),
         Some(told) if told.as_str() != line.answer => Err(Stop::Otherwise(text, told)),
