@@ -5,6 +5,8 @@
  * A program may say what becomes of its requests by one of a size that it asks for nowhere else: 70,001
  * bytes, they are counted (as at the start); 70,002, they are granted, uncounted; 70,003, a single one ends
  * the program with status 70. 70,004 bytes are refused where a request was refused since this was asked last.
+ * 70,006 bytes: they are counted, and the Nth from here on is refused, N being 1 the first time after 70,005
+ * bytes were asked for, and one more each time. So a program refuses each request of a call in turn by itself.
  */
 #include <errno.h>
 #include <fcntl.h>
@@ -20,7 +22,7 @@ void *__libc_memalign(size_t, size_t);
 enum { COUNTED, GRANTED, FORBIDDEN };
 
 static int becomes = GRANTED, refuses_all, was_refused;
-static unsigned long requests, refused, at;
+static unsigned long requests, refused, at, tries;
 
 __attribute__((constructor)) static void begin(void)
 {
@@ -51,6 +53,15 @@ static int is_refused(size_t size)
     if (size == 70004) {
         was_refused = 0;
         return answer;
+    }
+    if (size == 70005) {
+        tries = 0;
+        return 0;
+    }
+    if (size == 70006) {
+        becomes = COUNTED;
+        at = requests + ++tries;
+        return 0;
     }
     if (becomes == FORBIDDEN) {
         (void)!write(2, why, sizeof why - 1);

@@ -1,0 +1,79 @@
+//! Calls of a browse.
+
+use crate::files::loaded;
+use crate::lines::Call;
+use crate::records::push_record;
+use crate::tries::Lower;
+use cics_browse::{Browse, Browsed};
+use cics_ksds::File;
+use cics_names::{Condition, NoMemory, Record};
+use std::alloc::Global;
+
+/// A browse of a file.
+#[derive(Drop)]
+pub(crate) struct Browses {
+    file: File,
+    browse: Option<Browse>,
+}
+
+// Puts what a read of a browse answered at the end.
+fn push_browsed(text: &mut String, browsed: &Browsed) -> Result<(), NoMemory> {
+    text.push_str(browsed.condition.name())?;
+    if browsed.content.is_some() {
+        text.push(' ')?;
+        push_record(text, browsed.key.as_ref())?;
+        text.push(' ')?;
+        push_record(text, browsed.content.as_ref())?;
+    }
+    Ok(())
+}
+
+impl Browses {
+    /// No browse yet of the file that `loaded` gives.
+    pub(crate) fn new(alloc: Global, more: u64) -> Result<Browses, NoMemory> {
+        Ok(Browses {
+            file: loaded(alloc, more)?,
+            browse: None,
+        })
+    }
+
+    // STARTBR, or RESETBR if there is a browse. The name says whether it is generic, and whether it
+    // is equal.
+    fn start(&mut self, name: &str, key: Record) -> Condition {
+        let is_generic = name.contains('g');
+        let is_equal = name.contains('e');
+        if let Some(browse) = &mut self.browse {
+            return browse.reset(&self.file, key, is_generic, is_equal);
+        }
+        self.browse = Browse::start(&self.file, key, is_generic, is_equal);
+        if self.browse.is_some() {
+            Condition::Normal
+        } else {
+            Condition::Notfnd
+        }
+    }
+}
+
+impl Lower for Browses {
+    fn call(&mut self, call: &Call<'_>, given: Record, told: &mut String) -> Result<(), NoMemory> {
+        match (call.word, &mut self.browse) {
+            ("next", Some(browse)) => push_browsed(told, &browse.next(&self.file)?),
+            ("prev", Some(browse)) => push_browsed(told, &browse.prev(&self.file)?),
+            ("start", _) => Ok(told.push_str(self.start(call.name, given).name())?),
+            ("end", _) => {
+                self.browse = None;
+                Ok(())
+            }
+            _ => Ok(told.push_str("no call")?),
+        }
+    }
+
+    // A position shows by the next read alone.
+    fn show(&self, text: &mut String) -> Result<(), NoMemory> {
+        Ok(text.push_str(match &self.browse {
+            Some(browse) if browse.is_generic() => "generic",
+            Some(_) => "full",
+            None => "none",
+        })?)
+    }
+}

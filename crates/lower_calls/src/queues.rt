@@ -1,0 +1,91 @@
+//! Calls of a transient data queue.
+
+use crate::lines::{Call, Ending};
+use crate::records::{further, push_all, push_own, push_record};
+use crate::tries::Lower;
+use cics_images::Undoable;
+use cics_names::{Condition, NoMemory, Record};
+use cics_transdata::{Recovery, TdRead, TransQueue};
+use std::alloc::Global;
+
+/// A transient data queue.
+#[derive(Drop)]
+pub(crate) struct Queue {
+    queue: TransQueue,
+    more: u64,
+}
+
+impl Queue {
+    /// A queue with the records `one` and `two`, and so many behind them, none of them marked.
+    pub(crate) fn new(alloc: Global, recovery: Recovery, more: u64) -> Result<Queue, NoMemory> {
+        let mut queue = TransQueue::new(alloc, recovery);
+        queue.write(Record::from_slice(alloc, b"one")?)?;
+        queue.write(Record::from_slice(alloc, b"two")?)?;
+        for number in 0..more {
+            queue.write(further(alloc, number)?)?;
+        }
+        queue.commit_writer();
+        Ok(Queue { queue, more })
+    }
+
+    fn write(&mut self, record: Record, ending: Ending) -> Result<Condition, NoMemory> {
+        let changed = self.queue.write(record)?;
+        if let (Some(mut image), Ending::Undone) = (changed.image, ending) {
+            self.queue.undo(&mut image);
+        }
+        Ok(changed.condition)
+    }
+
+    fn read(&mut self, past_fresh: bool, ending: Ending) -> Result<TdRead, NoMemory> {
+        let mut read = self.queue.read(past_fresh)?;
+        if let (Some(image), Ending::Undone) = (&mut read.changed.image, ending) {
+            self.queue.undo(image);
+        }
+        Ok(read)
+    }
+
+    fn delete(&mut self, ending: Ending) -> Condition {
+        let changed = self.queue.delete();
+        if let (Some(mut image), Ending::Undone) = (changed.image, ending) {
+            self.queue.undo(&mut image);
+        }
+        changed.condition
+    }
+}
+
+// Puts what READQ TD answered at the end.
+fn push_read(text: &mut String, read: &TdRead) -> Result<(), NoMemory> {
+    text.push_str(read.changed.condition.name())?;
+    text.push(' ')?;
+    push_record(text, read.content.as_ref())
+}
+
+impl Lower for Queue {
+    fn call(&mut self, call: &Call<'_>, given: Record, told: &mut String) -> Result<(), NoMemory> {
+        let is_writer = call.name == "writer";
+        match call.word {
+            "write" => told.push_str(self.write(given, call.ending)?.name())?,
+            "read" => push_read(told, &self.read(is_writer, call.ending)?)?,
+            "delete" => told.push_str(self.delete(call.ending).name())?,
+            "first" => push_record(told, self.queue.first(is_writer))?,
+            "copy" => self.queue = self.queue.copy()?,
+            "listing" => push_own(told, self.queue.listing()?.as_slice(), self.more)?,
+            "commit" if is_writer => self.queue.commit_writer(),
+            "commit" => self.queue.commit_reader(),
+            _ => told.push_str("no call")?,
+        }
+        Ok(())
+    }
+
+    fn show(&self, text: &mut String) -> Result<(), NoMemory> {
+        push_all(text, self.queue.listing()?.as_slice())?;
+        push_record(text, self.queue.first(true))?;
+        push_record(text, self.queue.first(false))?;
+        text.push_str(if self.queue.committed_empty() {
+            " empty"
+        } else {
+            " not empty"
+        })?;
+        Ok(())
+    }
+}
