@@ -6,9 +6,10 @@ use Rattle.std.proofs.lemmas.Bool.{cases_Bool, and_parts, and_from, false≢true
 use Rattle.cics_names.specs.Keyed.{Bytes, Map, value_at, with_value, is_rising}
 use Rattle.cics_images.specs.Cells.{Cell, Kept, is_other, is_unnamed}
 use Rattle.cics_images.specs.declared.stores.StoreImage.TheVariants.{File, TempStorage, TransData}
-use Rattle.cics_ksds.specs.Undo.{ImageValue}
+use Rattle.cics_ksds.specs.Prefixes.{prefix_images, under, without_prefix}
+use Rattle.cics_ksds.specs.Undo.{ImageValue, KeepsKeys, IsFileImage, written_image, rewritten_image, deleted_image}
 use Rattle.cics_images.specs.StoreCells.{file_cell, temp_cell, with_files, with_temp_storage, with_trans_data}
-use Rattle.cics_ksds.specs.Files.{FileValue}
+use Rattle.cics_ksds.specs.Files.{FileValue, IsContent, key_of, written, rewritten, deleted, write_condition, change_condition}
 use Rattle.cics_tempstor.specs.declared.queue_rows.Row.{Row}
 use Rattle.cics_tempstor.specs.declared.images.TsImage.{TsImage}
 use Rattle.cics_tempstor.specs.Undo.{IsTsImage}
@@ -20,16 +21,17 @@ use Rattle.cics_history.specs.Marks.{marks_of}
 use Rattle.cics_history.specs.MarkImages.{mark_images}
 use Rattle.cics_history.specs.Carried.{CarriesIfAny}
 use Rattle.std.proofs.lemmas.List.{append-nil}
-use Rattle.cics_history.specs.Store.{apply, counted_answer, found_condition, with_content}
+use Rattle.cics_history.specs.Store.{apply, only, counted_answer, found_condition, with_content}
 use Rattle.cics_history.specs.Cells.{content, Ts, effect, cell_of as cell_of_op}
 use Rattle.cics_history.specs.Undo.{images_by}
 use Rattle.cics_history.specs.Records.{is_file_op, file_of}
 use Rattle.cics_history.specs.declared.ops.Answer.{Answer}
 use Rattle.cics_history.specs.declared.ops.Op.{Op}
 use Rattle.cics_history.specs.declared.ops.Op.TheVariants.{Write, Rewrite, Delete, DeleteGeneric, ReadUpdate, TsWrite, TsRewrite, TsDelete, TdWrite, TdRead, TdDelete}
-use Rattle.cics_units.specs.FilesImages.{FilesImage, cell_of_image}
+use Rattle.cics_units.specs.FilesImages.{FilesImage, cell_of, cell_of_image}
 use Rattle.cics_units.specs.StoreMatching.{StoreValue, AnyImage, QueuesImage, AnyLeads, end_cell, bytes_of_end, shown_store, shown_records, bytes_of, any_content, any_undone, cell_of_any, any_holds, AnyKeep, IsImageOfChange, AreImagesOf}
-use Rattle.cics_units.specs.Parts.{is_recoverable_in, leaves, leaves_any, of_files, with_stored}
+use Rattle.cics_units.specs.Parts.{is_recoverable_in, leaves, leaves_any, of_files, with_stored, image_if}
+use Rattle.cics_units.specs.FilesChanges.{IsFilesImage, others_kept, image_among as file_image_among}
 use Rattle.cics_units.specs.QueueChanges.{is_trans, is_temp, queue_of, end_of, is_left, trans_after, trans_answer, rows_after, rows_image, rows_answer, IsTempChange, IsOneChanged, with_image, in_queue}
 use Rattle.cics_units.specs.Applied.{IsSeenIn, spares, AreImagesMade, IsApplied, IsFileBound, IsQueueBound, marks_in, marks_if, read_given, counted_as}
 use Rattle.cics_units.proofs.StoreInPlace.{AreReady, ready_where, shown_ts}
@@ -42,7 +44,9 @@ use Rattle.cics_units.proofs.QueueClauses.{image_among}
 use Rattle.cics_units.proofs.QueuesHeld.{temp_held, trans_held}
 use Rattle.cics_units.proofs.MadeImages.{files_kept, ready_in_turn, images_by-one, change_of}
 use Rattle.cics_units.proofs.FilesChanged.{AreFileImagesAfter, AreFilesChanged}
-use Rattle.cics_units.proofs.FileChanges.{read_answer}
+use Rattle.cics_units.proofs.FileChanges.{read_answer, write_changed, write_answer, rewrite_changed, rewrite_answer, delete_changed, delete_answer, generic_answer}
+use Rattle.cics_units.proofs.DeletedUnder.{generic_changed}
+use Rattle.cics_history.proofs.Entries.{with_value-same}
 use Rattle.cics_history.proofs.Joining.{read_only, apply-content, touches-self}
 use Rattle.cics_units.specs.FilesImagesLaws as files
 
@@ -139,6 +143,79 @@ module _ (old new : StoreValue) (op : Op) (keep own : Bool) (answer : Answer) (b
     rows = ap (λ s. s.temp_storage) store ∙ same_rows op keep old.temp_storage on;
     queues = rw (no_queue op on) (ap (λ s. s.trans_data) store);
   }
+
+-- the file of a name is the one that is bound
+pub same_file : (s : StoreValue) (name : Bytes) (keep : Bool) (b : IsFileBound s name keep) (f : FileValue) → value_at name s.files ≡ Some f → b.file ≡ f
+same_file s name keep b f there = let same : Some b.file ≡ Some f = sym b.there ∙ there in cc
+
+abbrev pub bound_here : (s : StoreValue) (name : Bytes) (keep : Bool) → IsFileBound s name keep → (f : FileValue) → value_at name s.files ≡ Some f → IsFileBound s name keep
+bound_here s name keep b f there = record {
+  file = f;
+  there = there;
+  recoverable = b.recoverable ∙ ap (λ x. x.definition.recoverable) (same_file s name keep b f there);
+  rising = b.rising;
+  content = subst (λ x. IsContent x.definition x.records) (same_file s name keep b f there) b.content;
+}
+
+-- a file that stayed as it was leaves the store as it was
+pub same_store : (s : StoreValue) (name : Bytes) (f g : FileValue) → T (is_rising s.files) → value_at name s.files ≡ Some f → g ≡ f → with_files s (with_value name g s.files) ≡ s
+same_store s name f g rising there same = ap (with_files s) (ap (λ x. with_value name x s.files) same ∙ with_value-same name f s.files rising there)
+
+-- a file that is bound was changed by a command, which is answered
+module _ (old : StoreValue) (name : Bytes) (keep own : Bool) (b : IsFileBound old name keep) (g : FileValue) (image : Option ImageValue) (answer : Answer)
+    (before after : List AnyImage) (newest : after ≡ of_files (image_if name image) ++ before) where
+  abbrev then_files : Map FileValue
+  then_files = with_value name g old.files
+
+  abbrev then_applied : Op → Type 0
+  then_applied op = IsApplied old (with_files old then_files) before after op keep own answer
+
+  -- its image is one among the files
+  among_files : (k : Bytes) (o : Option ImageValue) → IfSome o (IsFileImage b.file g k) → IfSome o (λ i. IsFilesImage old.files then_files (cell_of name k) (record { name = name; image = i }))
+  among_files k None is = tt
+  among_files k (Some i) is = file_image_among name b.file g old.files b.there k i is
+
+  -- WRITE
+  pub write_applied : (k r : Bytes) → key_of b.file.definition r ≡ k → g ≡ written b.file r → image ≡ written_image keep b.file r →
+      IfSome image (IsFileImage b.file g (key_of b.file.definition r)) → KeepsKeys (is_other (key_of b.file.definition r)) b.file g →
+      answer ≡ only (write_condition b.file.records (key_of b.file.definition r)) → then_applied (Write name k r)
+  write_applied k r key value given undoes others answered =
+      let here = key_of b.file.definition r in
+      subst (λ k. then_applied (Write name k r)) key (files_applied old (with_files old then_files) (Write name here r) keep own answer before after then_files (image_if name image) refl
+      (write_changed old name b.file b.there b.rising then_files image r (ap (λ x. with_value name x old.files) value) (given ∙ ap (λ x. written_image x b.file r) b.recoverable)
+      (among_files here image undoes) (others_kept name b.file g old.files b.there here others))
+      (b.recoverable ∙ sym (ap is_recoverable_in b.there)) refl newest (answered ∙ sym (write_answer old name b.file b.there here r)))
+
+  -- REWRITE
+  pub rewrite_applied : (k r : Bytes) → key_of b.file.definition r ≡ k → g ≡ rewritten b.file r → image ≡ rewritten_image keep b.file r →
+      IfSome image (IsFileImage b.file g (key_of b.file.definition r)) → KeepsKeys (is_other (key_of b.file.definition r)) b.file g →
+      answer ≡ only (change_condition b.file.records (key_of b.file.definition r)) → then_applied (Rewrite name k r)
+  rewrite_applied k r key value given undoes others answered =
+      let here = key_of b.file.definition r in
+      subst (λ k. then_applied (Rewrite name k r)) key (files_applied old (with_files old then_files) (Rewrite name here r) keep own answer before after then_files (image_if name image) refl
+      (rewrite_changed old name b.file b.there b.rising then_files image r (ap (λ x. with_value name x old.files) value) (given ∙ ap (λ x. rewritten_image x b.file r) b.recoverable)
+      (among_files here image undoes) (others_kept name b.file g old.files b.there here others))
+      (b.recoverable ∙ sym (ap is_recoverable_in b.there)) refl newest (answered ∙ sym (rewrite_answer old name b.file b.there here r)))
+
+  -- DELETE
+  pub delete_applied : (k : Bytes) → g ≡ deleted keep b.file k → image ≡ deleted_image keep b.file k → IfSome image (IsFileImage b.file g k) → KeepsKeys (is_other k) b.file g →
+      answer ≡ only (change_condition b.file.records k) → then_applied (Delete name k)
+  delete_applied k value given undoes others answered =
+      files_applied old (with_files old then_files) (Delete name k) keep own answer before after then_files (image_if name image) refl
+      (delete_changed old name b.file b.there b.rising then_files image k (ap (λ x. with_value name x old.files) (value ∙ ap (λ x. deleted x b.file k) b.recoverable))
+      (given ∙ ap (λ x. deleted_image x b.file k) b.recoverable) (among_files k image undoes) (others_kept name b.file g old.files b.there k others))
+      (b.recoverable ∙ sym (ap is_recoverable_in b.there)) refl newest (answered ∙ sym (delete_answer old name b.file b.there k))
+
+-- DELETE GENERIC, which may have more images than one
+pub generic_applied : (old : StoreValue) (name : Bytes) (keep own : Bool) (b : IsFileBound old name keep) (g : FileValue) (images : List ImageValue) (answer : Answer)
+    (before after : List AnyImage) → after ≡ of_files (with_stored name images []) ++ before → (p : Bytes) → g ≡ without_prefix keep b.file p → images ≡ prefix_images keep b.file p →
+    answer ≡ counted_as (length (under p b.file.records)) → IsApplied old (with_files old (with_value name g old.files)) before after (DeleteGeneric name p) keep own answer
+generic_applied old name keep own b g images answer before after newest p value given answered =
+    let n = with_value name g old.files in
+    files_applied old (with_files old n) (DeleteGeneric name p) keep own answer before after n (with_stored name images []) refl
+    (generic_changed old name b.file b.there b.rising b.content p images n (ap (λ x. with_value name x old.files) (value ∙ ap (λ x. without_prefix x b.file p) b.recoverable))
+    (given ∙ ap (λ x. prefix_images x b.file p) b.recoverable))
+    (b.recoverable ∙ sym (ap is_recoverable_in b.there)) refl newest (answered ∙ sym (counted_is (under p b.file.records)) ∙ sym (generic_answer old name b.file b.there p))
 
 -- READ UPDATE changes nothing
 read_changed : (s : StoreValue) (f k : Bytes) → AreFilesChanged s s.files (ReadUpdate f k) []

@@ -1,26 +1,49 @@
 -- One of the values by name is changed where it stands: what the values are then, and what its image is among them. The
 -- values are the files of a region, or its transient data queues.
-use Rattle.std.specs.Prelude.{◌≡◌, T, Bool, true, Option, Some, None, option_map, IfSome, IfNone, Result, Ok, Err, IfOk}
+use Rattle.std.specs.Prelude.{◌≡◌, T, Bool, true, false, cond, ◌&&◌, [], ◌∷◌, Option, Some, None, option_map, IsSome, IfSome, IfNone, Result, Ok, Err, IfOk}
 use Rattle.std.proofs.Common.{sym, ap, ◌∙◌, subst, refl}
+use Rattle.std.specs.Borrow.{MutBor}
+use Rattle.std.specs.Option.{option_copied_mut}
 use Rattle.std.specs.Map.{lookup, set_value}
+use Rattle.std.specs.Ordering.{is_lt}
+use Rattle.std.specs.FinMap.Entries.{below_all}
 use Rattle.std.specs.BTreeMap.{is_at}
 use Rattle.cics_names.specs.Keyed.{Bytes, Map, bytes_cmp, value_at, with_value, is_rising}
 use Rattle.cics_images.specs.Cells.{Cell, is_other}
 use Rattle.cics_images.specs.NamedValues.{cell_of as value_cell, changed_at, changed_where, KeepsIn, NamedKeep}
 use Rattle.cics_images.specs.NamedLaws as laws
 use Rattle.cics_images.specs.NamedChanges as named
-use Rattle.cics_ksds.specs.Files.{FileValue}
-use Rattle.cics_ksds.specs.Undo.{ImageValue, KeepsKeys, IsFileImage}
 use Rattle.cics_transdata.specs.declared.images.TdImage.{TdImage}
 use Rattle.cics_transdata.specs.Trans.{TransState}
 use Rattle.cics_transdata.specs.Undo.{content_at as end_content, end_of, Leads as EndLeads, IsReadyImage as IsEndReady, undone as queue_undone, KeepsEnds, IsTransImage}
 use Rattle.cics_transdata.specs.UndoLaws as ends
-use Rattle.cics_units.specs.FilesImages.{cell_of, FilesKeep}
-use Rattle.cics_units.specs.FilesChanges.{IsFilesImage, others_kept, image_among}
 use Rattle.cics_units.specs.RegionQueues.{queue_image, QueuesKeep, IsQueuesImage}
 use Rattle.cics_history.proofs.Entries.{value_at-looked_up, with_value-set, rising-set, unchanged-set}
 
 -- ---- values of any kind
+-- what is lent is there, if its value is
+pub some_lent : {M : Type 0} (r : Option (MutBor M)) → IsSome (option_copied_mut r) → IsSome r
+some_lent None is = is
+some_lent (Some r) is = is
+
+-- where a value is set the names rise as before
+below_set : {M : Type 0} (is : Bytes → Bool) (g : M) (k : Bytes) (es : Map M) → below_all bytes_cmp k (set_value is es g) ≡ below_all bytes_cmp k es
+below_set is g k [] = refl
+below_set is g k (e ∷ es) = elim (is e.0) as (λ b. below_all bytes_cmp k (cond b ((e.0, g) ∷ es) (e ∷ set_value is es g)) ≡ below_all bytes_cmp k (e ∷ es)) [
+  | true ↦ refl
+  | false ↦ ap (λ b. is_lt (bytes_cmp k e.0) && b) (below_set is g k es)
+]
+
+rises_set : {M : Type 0} (is : Bytes → Bool) (g : M) (es : Map M) → is_rising (set_value is es g) ≡ is_rising es
+rises_set is g [] = refl
+rises_set is g (e ∷ es) = elim (is e.0) as (λ b. is_rising (cond b ((e.0, g) ∷ es) (e ∷ set_value is es g)) ≡ is_rising (e ∷ es)) [
+  | true ↦ refl
+  | false ↦ λ i. below_set is g e.0 es i && rises_set is g es i
+]
+
+pub still_rising : {M : Type 0} (is : Bytes → Bool) (g : M) (es new : Map M) → new ≡ set_value is es g → T (is_rising es) → T (is_rising new)
+still_rising is g es new set rising = subst (λ m. T (is_rising m)) (sym set) (subst T (sym (rises_set is g es)) rising)
+
 module _ {M : Type 0} (name : Bytes) (es values : Map M) (f : M) (rising : T (is_rising es)) (found : Some f ≡ lookup (is_at (bytes_cmp name)) es) (view : es ≡ values) where
   -- the value is the one of the name
   pub there : value_at name values ≡ Some f
@@ -53,24 +76,6 @@ module _ {M : Type 0} (name : Bytes) (es values : Map M) (f : M) (rising : T (is
         (laws.each_name (λ _. g) name values (λ q before after. KeepsIn Keeps (λ c. p (value_cell q c)) before after)
         (subst (λ o. KeepsIn Keeps (λ c. p (value_cell name c)) o (option_map (λ _. g) o)) (sym there) keeps)
         (λ q apart. laws.keeps_itself_in Keeps itself (λ c. p (value_cell q c)) (value_at q values)))
-
--- ---- files
-module _ (name : Bytes) (es files : Map FileValue) (f : FileValue) (rising : T (is_rising es)) (found : Some f ≡ lookup (is_at (bytes_cmp name)) es) (view : es ≡ files)
-    (g : FileValue) (new : Map FileValue) (set : new ≡ set_value (is_at (bytes_cmp name)) es g) where
-  -- the cells that the change of a file leaves
-  pub others : (key : Cell) → KeepsKeys (is_other key) f g → FilesKeep (is_other (cell_of name key)) files new
-  others key kept = subst (FilesKeep (is_other (cell_of name key)) files) (sym (changed name es files f rising found view g new set))
-      (others_kept name f g files (there name es files f rising found view) key kept)
-
-  -- the image of the change of a file is one among the files
-  pub image : (key : Cell) (i : ImageValue) → IsFileImage f g key i → IsFilesImage files new (cell_of name key) (record { name = name; image = i })
-  image key i is = subst (λ to. IsFilesImage files to (cell_of name key) (record { name = name; image = i })) (sym (changed name es files f rising found view g new set))
-      (image_among name f g files (there name es files f rising found view) key i is)
-
-  -- the image that a change gives, if it gives one
-  pub each_image : (key : Cell) (o : Option ImageValue) → IfSome o (IsFileImage f g key) → IfSome o (λ i. IsFilesImage files new (cell_of name key) (record { name = name; image = i }))
-  each_image key None is = tt
-  each_image key (Some i) is = image key i is
 
 -- ---- transient data queues
 module _ (name : Bytes) (es queues : Map TransState) (f : TransState) (rising : T (is_rising es)) (found : Some f ≡ lookup (is_at (bytes_cmp name)) es) (view : es ≡ queues)

@@ -19,7 +19,7 @@ use Rattle.cics_units.specs.FilesImages.{cell_of, cell_of_image, files_hold, Fil
 use Rattle.cics_units.proofs.HeldPlaces.{written_held, rewritten_held, deleted_held}
 use Rattle.cics_units.specs.FilesChanges.{IsFilesImage, held_among}
 use Rattle.cics_units.specs.StoreMatching.{StoreValue, shown_store}
-use Rattle.cics_units.specs.Parts.{is_recoverable_in, IsRecordOf, image_if}
+use Rattle.cics_units.specs.Parts.{is_recoverable_in, image_if}
 use Rattle.cics_history.proofs.Entries.{with_value-same}
 use Rattle.cics_units.proofs.MadeImages.{with_image, without_image}
 use Rattle.cics_units.proofs.FilesChanged.{HasFileImages, AreFileImagesAfter, AreFilesChanged}
@@ -253,28 +253,3 @@ of_file {Q} m name P is told follows = by (value_at name m) refl is told
     by : (o : Option FileValue) → value_at name m ≡ o → IsThere o → IfSome o P → Q
     by None e is told = absurd is
     by (Some f) e is told = follows f e told
-
--- what is said of the file of a name, where it is known
-pub of_this : (m : Map FileValue) (name : Bytes) (P : FileValue → Type 0) (f : FileValue) → value_at name m ≡ Some f → IfSome (value_at name m) P → P f
-of_this m name P f there told = subst (λ o. IfSome o P) there told
-
-pub record_there : (o : Option FileValue) (k r : Bytes) → IsRecordOf o k r → IsThere o
-record_there None k r is = absurd is
-record_there (Some f) k r is = tt
-
--- the file of a record is there, and the record has this key
-pub of_record : {Q : Type 0} (m : Map FileValue) (name k r : Bytes) → IsRecordOf (value_at name m) k r →
-    ((f : FileValue) → value_at name m ≡ Some f → key_of f.definition r ≡ k → Q) → Q
-of_record {Q} m name k r is follows = by (value_at name m) refl is
-  where
-    by : (o : Option FileValue) → value_at name m ≡ o → IsRecordOf o k r → Q
-    by None e is = absurd is
-    by (Some f) e is = follows f e is.1
-
--- the file of a name is there
-pub of_there : {Q : Type 0} (m : Map FileValue) (name : Bytes) → IsThere (value_at name m) → ((f : FileValue) → value_at name m ≡ Some f → Q) → Q
-of_there {Q} m name is follows = by (value_at name m) refl is
-  where
-    by : (o : Option FileValue) → value_at name m ≡ o → IsThere o → Q
-    by None e is = absurd is
-    by (Some f) e is = follows f e

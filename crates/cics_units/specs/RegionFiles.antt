@@ -1,8 +1,7 @@
 -- The files of a region, by name, and those of an opening.
-use Rattle.std.specs.Prelude.{◌≡◌, Bool, true, IsTrue, T, All, Option, Some, None, [], map, fold}
+use Rattle.std.specs.Prelude.{◌≡◌, true, IsTrue, T, All, Option, Some, None, [], map, fold}
 use Rattle.cics_names.specs.Keyed.{Bytes, Map, with_value, is_rising}
-use Rattle.cics_ksds.specs.Files.{FileValue, IsContent, key_of, fits_file, written, rewritten, deleted}
-use Rattle.cics_ksds.specs.Prefixes.{without_prefix}
+use Rattle.cics_ksds.specs.Files.{FileValue, IsContent, key_of, fits_file, written}
 use Rattle.cics_history.specs.Openings.{FileOpening, is_key}
 
 -- a record can be written to a file that is there and that it fits
@@ -23,21 +22,6 @@ key_in f r = key_of f.definition r
 abbrev pub written_in : Map FileValue → Bytes → Bytes → Option FileValue → Map FileValue
 written_in files name r None = files
 written_in files name r (Some f) = with_value name (written f r) files
-
--- a record is replaced in one of the files, and the others stay
-abbrev pub rewritten_in : Map FileValue → Bytes → Bytes → Option FileValue → Map FileValue
-rewritten_in files name r None = files
-rewritten_in files name r (Some f) = with_value name (rewritten f r) files
-
--- a record is deleted in one of the files, which keeps an empty place for it where that is asked for
-abbrev pub deleted_in : Map FileValue → Bytes → Bytes → Bool → Option FileValue → Map FileValue
-deleted_in files name key keep None = files
-deleted_in files name key keep (Some f) = with_value name (deleted keep f key) files
-
--- the records under a prefix are deleted in one of the files, which keeps an empty place for each where that is asked for
-abbrev pub deleted_under : Map FileValue → Bytes → Bytes → Bool → Option FileValue → Map FileValue
-deleted_under files name prefix keep None = files
-deleted_under files name prefix keep (Some f) = with_value name (without_prefix keep f prefix) files
 
 -- what a file was defined with and has loaded
 abbrev pub opening_of : FileValue → FileOpening

@@ -1,7 +1,5 @@
 //! The files of a region by name.
 
-mod changes;
-
 ghost use Rattle.std.specs.Prelude.{◌≡◌, T, IfOk};
 ghost use Rattle.cics_names.specs.Keyed.{is_rising};
 ghost use Rattle.cics_units.specs.RegionFiles.{refilled};

@@ -1,7 +1,10 @@
 //! Values by name, as one value whose changes are undone.
 
 ghost use Rattle.std.specs.Prelude.{◌≡◌, ◌<◌, ◌^◌, [], length, T, IfOk, OnOk, OnErr, None};
+ghost use Rattle.std.specs.Prelude.{Some, IsSome};
 ghost use Rattle.std.specs.Option.{option_copied};
+ghost use Rattle.std.specs.Borrow.{Lends, sem};
+ghost use Rattle.cics_units.specs.contracts.named.Named.{the_row};
 ghost use Rattle.std.specs.Map.Iter.{ShowsInOrder, deref_pair};
 ghost use Rattle.cics_names.specs.Keyed.{has_key, value_at, with_value, is_rising};
 
@@ -62,6 +65,26 @@ impl<M: Undoable + Drop> Named<M> {
         ensures in_order { T (is_rising self.now) }
     {
         self.rows.get(name)
+    }
+
+    /// The value of a name that is there.
+    pub(crate) fn at(&self, name: &Name8) -> &M
+        requires { IsSome (value_at name.now self.now) }
+        ensures value { value_at name.now self.now ≡ Some result.now }
+        ensures in_order { T (is_rising self.now) }
+    {
+        self.get(name).unwrap()
+    }
+
+    /// The value of a name that is there, to be changed. The other values stay.
+    pub(crate) fn at_mut(&mut self, name: &Name8) -> &mut M
+        requires { IsSome (value_at name.now self.old) }
+        ensures* writes_back { sem 𝓛 (Lends (the_row M.row M.Image.row M.Undoable) M.row self.entry
+            result (λ value. with_value name.now value self.old)) }
+        ensures value { value_at name.now self.old ≡ Some result.now }
+        ensures in_order { T (is_rising self.old) }
+    {
+        self.rows.get_mut(name).unwrap()
     }
 
     /// Puts a value under a name, and answers the value that stood there.

@@ -89,7 +89,7 @@ fn write_loaded(files: &mut Files, name: &Name8, content: Record) -> Result<(), 
         ≡ written_in files.old name.now content (value_at name.now files.old)) }
     ensures err { OnErr result (files.new ≡ files.old) }
 {
-    files.write(name, content, false)?;
+    files.at_mut(name).write(content, false)?;
     Ok(())
 }
 

@@ -77,7 +77,8 @@ fn write(
     ensures err_store { OnErr result (store.new ≡ store.old) }
     ensures err_images { OnErr result (images.new ≡ images.old) }
 {
-    let changed = store.files.write(&file, from.copy()?, keep)?;
+    let from = from.copy()?;
+    let changed = store.files.at_mut(&file).write(from, keep)?;
     keep_file(images, file, changed.image);
     Ok(only(changed.condition))
 }
@@ -100,7 +101,8 @@ fn rewrite(
     ensures err_store { OnErr result (store.new ≡ store.old) }
     ensures err_images { OnErr result (images.new ≡ images.old) }
 {
-    let changed = store.files.rewrite(&file, from.copy()?, keep);
+    let from = from.copy()?;
+    let changed = store.files.at_mut(&file).rewrite(from, keep);
     keep_file(images, file, changed.image);
     Ok(only(changed.condition))
 }
@@ -121,7 +123,7 @@ fn delete(
     ensures err_store { OnErr result (store.new ≡ store.old) }
     ensures err_images { OnErr result (images.new ≡ images.old) }
 {
-    let changed = store.files.delete(&file, key.bytes(), keep)?;
+    let changed = store.files.at_mut(&file).delete(key.bytes(), keep)?;
     keep_file(images, file, changed.image);
     Ok(only(changed.condition))
 }
@@ -163,7 +165,10 @@ fn delete_generic(
     ensures err_store { OnErr result (store.new ≡ store.old) }
     ensures err_images { OnErr result (images.new ≡ images.old) }
 {
-    let removed = store.files.delete_prefix(&file, prefix.bytes(), keep)?;
+    let removed = store
+        .files
+        .at_mut(&file)
+        .delete_prefix(prefix.bytes(), keep)?;
     keep_files(images, file, removed.images);
     Ok(counted(removed.number))
 }
@@ -327,10 +332,7 @@ fn bind_file(store: &Store, file: &Name8) -> bool
     requires there { IsThere (value_at file.now store.now.files) }
     ensures { IsFileBound store.now file.now result }
 {
-    match store.files.get(file) {
-        Some(file) => file.definition().recoverable,
-        None => unreachable!(),
-    }
+    store.files.at(file).definition().recoverable
 }
 
 // The transient data queue of a command, whether it is LOGICAL.

@@ -1,33 +1,30 @@
-use Rattle.std.proofs.Common.{◌≡◌, ◌∙◌, sym, ap, subst, refl}
+use Rattle.std.proofs.Common.{◌∙◌, ap, subst}
+use Rattle.std.proofs.lemmas.Result.{err_from_is_err_and}
+use Rattle.cics_names.specs.Keyed.{with_value}
 use Rattle.cics_ksds.specs.Files.{key_of}
-use Rattle.cics_ksds.specs.Undo.{written_image}
+use Rattle.cics_images.specs.StoreCells.{with_files}
 use Rattle.cics_history.specs.Store.{only}
 use Rattle.cics_history.specs.declared.ops.Op.TheVariants.{Write}
 use Rattle.cics_units.specs.Applied.{IsApplied}
-use Rattle.cics_units.specs.Parts.{IsRecordOf, is_recoverable_in, image_if}
-use Rattle.cics_units.specs.RegionFiles.{written_in}
-use Rattle.cics_units.proofs.Applied.{files_applied}
-use Rattle.cics_units.proofs.FileChanges.{write_changed, write_answer, of_this}
+use Rattle.cics_units.specs.Parts.{IsRecordOf}
+use Rattle.cics_units.proofs.Applied.{bound_here, same_store, write_applied}
 use Rattle.cics_units.proofs.store.write.Goals as goal
+
+pub returns-in_err-changed-clause-err_store : goal.returns-in_err-changed-clause-err_store
+returns-in_err-changed-clause-err_store c =
+    let p = err_from_is_err_and c.from_residual-in_err-changed.result c.from_residual-in_err-changed.ensures.1 in
+    rw p.1 (same_store c.args.store.now c.args.file c.at_mut.result.now c.write.new.self c.at_mut.ensures.in_order c.at_mut.ensures.value c.in_err-changed.ensures.err)
 
 pub returns-clause-applied : goal.returns-clause-applied
 returns-clause-applied c = λ own.
     let old = c.args.store.now in
     let name = c.args.file in
-    let b = c.requires.bound in
-    let f = b.file in
-    let n = c.write.new.self in
-    let r = c.in_ok-copy.field-0 in
-    let fit = subst (λ o. IsRecordOf o c.args.key.now c.args.from.now) b.there c.requires.fit in
-    let key : key_of f.definition r ≡ c.args.key.now = ap (key_of f.definition) c.in_ok-copy.ensures ∙ fit.1 in
-    subst (λ x. IsApplied old (record old { files = n }) c.args.images.now.newest_first c.keep_file.new.images.newest_first (Write name c.args.key.now x) c.args.keep own c.only.result) c.in_ok-copy.ensures
-    (subst (λ k. IsApplied old (record old { files = n }) c.args.images.now.newest_first c.keep_file.new.images.newest_first (Write name k r) c.args.keep own c.only.result) key
-    (files_applied old (record old { files = n }) (Write name (key_of f.definition r) r) c.args.keep own c.only.result c.args.images.now.newest_first c.keep_file.new.images.newest_first
-    n (image_if name c.in_ok-changed.changed.image) refl
-    (write_changed old name f b.there b.rising n c.in_ok-changed.changed.image r
-    (c.in_ok-changed.ensures.files ∙ ap (written_in old.files name r) b.there)
-    (of_this old.files name _ f b.there c.in_ok-changed.ensures.image ∙ ap (λ x. written_image x f r) b.recoverable)
-    (of_this old.files name _ f b.there c.in_ok-changed.ensures.undoable)
-    (of_this old.files name _ f b.there c.in_ok-changed.ensures.others))
-    (b.recoverable ∙ sym (ap is_recoverable_in b.there)) refl c.keep_file.ensures
-    (c.only.ensures ∙ ap only (of_this old.files name _ f b.there c.in_ok-changed.ensures.condition) ∙ sym (write_answer old name f b.there (key_of f.definition r) r))))
+    let f = c.at_mut.result.now in
+    let g = c.write.new.self in
+    let image = c.in_ok-changed.changed.image in
+    let e = c.in_ok-changed.ensures in
+    let fit = subst (λ o. IsRecordOf o c.args.key.now c.args.from.now) c.at_mut.ensures.value c.requires.fit in
+    subst (λ r. IsApplied old (with_files old (with_value name g old.files)) c.args.images.now.newest_first c.keep_file.new.images.newest_first (Write name c.args.key.now r) c.args.keep own c.only.result) c.in_ok-from.ensures
+    (write_applied old name c.args.keep own (bound_here old name c.args.keep c.requires.bound f c.at_mut.ensures.value) g image c.only.result
+    c.args.images.now.newest_first c.keep_file.new.images.newest_first c.keep_file.ensures c.args.key.now c.in_ok-from.from
+    (ap (key_of f.definition) c.in_ok-from.ensures ∙ fit.1) e.value e.image e.undoable e.others (c.only.ensures ∙ ap only e.condition))
