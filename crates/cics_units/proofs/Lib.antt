@@ -12,6 +12,7 @@ mod PartChanges
 mod QueueParts
 pub mod RefusedCommands
 pub mod OpenReads
+mod UnitReads
 pub mod HeldPlaces
 pub mod HeldReads
 pub mod HeldSums

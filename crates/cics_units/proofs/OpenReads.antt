@@ -1,39 +1,23 @@
--- The update reads of each unit by file, and the list that they show.
-use Rattle.std.specs.Prelude.{◌≡◌, ◌<◌, ℕ, Bool, true, false, cond, not, ◌==◌, ◌&&◌, ◌||◌, nat_lt, Option, Some, None, List, [], ◌∷◌, ◌++◌, filter, All, IfSome, refl}
-use Rattle.std.proofs.Common.{sym, ap, ◌∙◌, subst, arith}
-use Rattle.std.proofs.lemmas.Bool.{false≢true, eqb-true, lt-ltb, le-ltb, ne_eqb, eq-eqb}
-use Rattle.std.proofs.lemmas.Map.{lookup-none}
-use Rattle.std.proofs.lemmas.Map.Entries.{none_past_head}
-use Rattle.std.proofs.lemmas.Map.Keys.{sorted_head, sorted_tail, IsDistinct-from_sorted}
-use Rattle.std.proofs.lemmas.Map.Views.{IfSome-lookup_from_All, All-values-insert_entry, All-map-remove_entry, All-values-set_value}
-use Rattle.std.specs.declared.cmp.Ordering.{Ordering}
+-- The rows of the units, and the list of update reads that they show.
+use Rattle.std.specs.Prelude.{◌≡◌, ◌<◌, ◌+◌, ℕ, zero, suc, Bool, true, false, cond, not, ◌==◌, ◌&&◌, ◌||◌, nat_lt, Option, Some, None, List, [], ◌∷◌, ◌++◌, filter, set, refl}
+use Rattle.std.proofs.Common.{sym, ap, ◌∙◌, arith}
+use Rattle.std.proofs.lemmas.Bool.{lt-ltb, le-ltb, ne_eqb, eq-eqb}
 use Rattle.std.specs.declared.cmp.Ordering.TheVariants.{Less, Equal, Greater}
-use Rattle.std.specs.Ordering.{nat_cmp, is_eq, is_lt, match_ordering}
-use Rattle.std.specs.Cmp.{nat_cmp_total, ranked, unsigned_tied, eq_by_cmp_equiv}
-use Rattle.std.specs.Cmp.Lexicographic.{nat_list_cmp_total}
-use Rattle.std.specs.List.{AllByRecursion}
-use Rattle.std.specs.List.Sorted.{IsStrictlySortedBy}
-use Rattle.std.specs.BTreeMap.{BTreeMap, is_at, insert_entry}
-use Rattle.std.specs.Map.{lookup, set_value, remove_entry, keys_of, values_of}
-use Rattle.cics_names.specs.Keyed.{Bytes, Map, bytes_cmp, is_same, is_below}
+use Rattle.std.specs.FinMap.Entries.{by_order}
+use Rattle.std.specs.Ordering.{is_lt, is_eq}
+use Rattle.std.specs.List.{AllByRecursion, slice_get}
+use Rattle.std.specs.Option.{unwrap_or}
+use Rattle.cics_names.specs.Keyed.{Bytes, Map, bytes_cmp, is_same, is_below, value_at, with_value, without}
 use Rattle.cics_names.specs.RisingLaws.{is_same-turned}
 use Rattle.cics_history.specs.Holding.{UpdateRead}
 use Rattle.cics_history.specs.Execution.{is_read_of, read_at, with_read}
-use Rattle.cics_units.specs.OpenReads.{reads_of, reads_in, AreRising}
+use Rattle.cics_units.specs.OpenReads.{reads_of, reads_from}
 
 abbrev Rows : Type 0
-Rows = List (ℕ × BTreeMap Bytes Bytes)
+Rows = List (Map Bytes)
 
 abbrev read : ℕ → Bytes → Bytes → UpdateRead
 read u f k = record { unit = u; file = f; key = k }
-
--- the key of a file's read among those of a unit
-abbrev pub key_at : Bytes → Map Bytes → Option Bytes
-key_at f es = lookup (is_at (bytes_cmp f)) es
-
--- the reads by file of a unit
-abbrev row_at : ℕ → Rows → Option (BTreeMap Bytes Bytes)
-row_at u rows = lookup (is_at (nat_cmp u)) rows
 
 -- reads of other units, and of units that come later
 abbrev AreOther : ℕ → List UpdateRead → Type 0
@@ -42,28 +26,11 @@ AreOther u reads = AllByRecursion (λ r. (r.unit == u) ≡ false) reads
 abbrev AreLater : ℕ → List UpdateRead → Type 0
 AreLater u reads = AllByRecursion (λ r. u < r.unit) reads
 
-abbrev UnitsLater : ℕ → Rows → Type 0
-UnitsLater u rows = AllByRecursion (λ v. nat_cmp u v ≡ Less) (keys_of rows)
-
--- ---- the units rise
-
-less : (u v : ℕ) → nat_cmp u v ≡ Less → u < v
-less u v e = ranked u v Less (sym e)
-
-same : (u v : ℕ) → nat_cmp u v ≡ Equal → u ≡ v
-same u v e = ranked u v Equal (sym e)
-
-greater : (u v : ℕ) → nat_cmp u v ≡ Greater → v < u
-greater u v e = ranked u v Greater (sym e)
-
 not_own : (u v : ℕ) → u < v → (v == u) ≡ false
 not_own u v below = ne_eqb v u (λ e. omega arith)
 
 not_own_before : (u v : ℕ) → v < u → (v == u) ≡ false
 not_own_before u v below = ne_eqb v u (λ e. omega arith)
-
-tied : (u v : ℕ) (o : Ordering) → nat_cmp u v ≡ o → is_eq o ≡ false → (v == u) ≡ false
-tied u v o e other = ne_eqb v u (λ s. false≢true (sym other ∙ sym (ap is_eq e) ∙ unsigned_tied u v ∙ eq-eqb u v (sym s)))
 
 other_later : (u : ℕ) (xs : List UpdateRead) → AreLater u xs → AreOther u xs
 other_later u [] h = tt
@@ -73,17 +40,9 @@ of_later : (u v : ℕ) (es : Map Bytes) (rest : List UpdateRead) → u < v → A
 of_later u v [] rest below h = h
 of_later u v (e ∷ es) rest below h = (below, of_later u v es rest below h)
 
-in_later : (u : ℕ) (rows : Rows) → UnitsLater u rows → AreLater u (reads_in rows)
-in_later u [] h = tt
-in_later u (row ∷ rows) h = of_later u row.0 row.1.entries (reads_in rows) (less u row.0 h.0) (in_later u rows h.1)
-
-units_later : (u v : ℕ) (rows : Rows) → nat_cmp u v ≡ Less → UnitsLater v rows → UnitsLater u rows
-units_later u v [] below h = tt
-units_later u v (row ∷ rows) below h = (nat_cmp_total.trans u v row.0 below h.0, units_later u v rows below h.1)
-
-no_row : (u : ℕ) (rows : Rows) → UnitsLater u rows → row_at u rows ≡ None
-no_row u [] h = refl
-no_row u (row ∷ rows) h = ap (λ o. cond (is_eq o) (Some row.1) (row_at u rows)) h.0 ∙ no_row u rows h.1
+from_later : (u n : ℕ) (rows : Rows) → u < n → AreLater u (reads_from n rows)
+from_later u n [] below = tt
+from_later u n (row ∷ rows) below = of_later u n row (reads_from (suc n) rows) below (from_later u (suc n) rows (omega arith))
 
 -- ---- reads of other units
 
@@ -150,52 +109,33 @@ own_before u b =
     rw (past, own) refl
 
 read_at-own : (u : ℕ) (f : Bytes) (es : Map Bytes) (rest : List UpdateRead) → AreLater u rest →
-    read_at (reads_of u es ++ rest) u f ≡ key_at f es
+    read_at (reads_of u es ++ rest) u f ≡ value_at f es
 read_at-own u f [] rest later = read_at-other u f rest (other_later u rest later)
 read_at-own u f (e ∷ es) rest later =
     ap (λ b. cond b (Some e.1) (read_at (reads_of u es ++ rest) u f)) (own_read u f e.0)
     ∙ ap (cond (is_same f e.0) (Some e.1)) (read_at-own u f es rest later)
 
--- where a unit has no read of a file, none is taken out
-keeps_all : {X : Type 0} (b : Bool) (x : X) (ys xs : List X) → b ≡ false → ys ≡ xs → cond (not b) (x ∷ ys) ys ≡ x ∷ xs
-keeps_all b x ys xs e h = ap (λ c. cond (not c) (x ∷ ys) ys) e ∙ ap (λ r. x ∷ r) h
-
-not_chosen : {X : Type 0} (b : Bool) (x : X) (o : Option X) → cond b (Some x) o ≡ None → (b ≡ false) × (o ≡ None)
-not_chosen true x o e = let wrong : Some x ≡ None = e in cc
-not_chosen false x o e = (refl, e)
-
-filter-absent : (u : ℕ) (f : Bytes) (xs : List UpdateRead) → read_at xs u f ≡ None → filter (λ r. not (is_read_of u f r)) xs ≡ xs
-filter-absent u f [] absent = refl
-filter-absent u f (x ∷ xs) absent =
-    let parts = not_chosen (is_read_of u f x) x.key (read_at xs u f) absent in
-    keeps_all (is_read_of u f x) x _ xs parts.0 (filter-absent u f xs parts.1)
-
--- no later file has the first one's name
-none_later : (f : Bytes) (e : Bytes × Bytes) (es : Map Bytes) → IsStrictlySortedBy bytes_cmp (keys_of (e ∷ es)) → is_same f e.0 ≡ true → key_at f es ≡ None
-none_later f e es sorted here =
-    lookup-none (is_at (bytes_cmp f)) es (none_past_head (eq_by_cmp_equiv nat_list_cmp_total) f e es (IsDistinct-from_sorted bytes_cmp (keys_of (e ∷ es)) sorted) here)
-
-closed-own : (u : ℕ) (f : Bytes) (es : Map Bytes) (rest : List UpdateRead) → IsStrictlySortedBy bytes_cmp (keys_of es) → AreLater u rest →
-    filter (λ r. not (is_read_of u f r)) (reads_of u es ++ rest) ≡ reads_of u (remove_entry (is_at (bytes_cmp f)) es) ++ rest
-closed-own u f [] rest sorted later = filter-other u (λ r. not (is_read_of u f r)) (others_file u f) rest (other_later u rest later)
-closed-own u f (e ∷ es) rest sorted later =
+closed-own : (u : ℕ) (f : Bytes) (es : Map Bytes) (rest : List UpdateRead) → AreLater u rest →
+    filter (λ r. not (is_read_of u f r)) (reads_of u es ++ rest) ≡ reads_of u (without f es) ++ rest
+closed-own u f [] rest later = filter-other u (λ r. not (is_read_of u f r)) (others_file u f) rest (other_later u rest later)
+closed-own u f (e ∷ es) rest later =
     ap (λ b. cond (not b) (read u e.0 e.1 ∷ left) left) (own_read u f e.0)
-    ∙ elim (is_same f e.0) as (λ b. is_same f e.0 ≡ b → cond (not b) (read u e.0 e.1 ∷ left) left ≡ reads_of u (cond b es (e ∷ remove_entry (is_at (bytes_cmp f)) es)) ++ rest) [
-      | true ↦ λ here. filter-absent u f (reads_of u es ++ rest) (read_at-own u f es rest later ∙ none_later f e es sorted here)
-      | false ↦ λ other. ap (λ r. read u e.0 e.1 ∷ r) (closed-own u f es rest (sorted_tail bytes_cmp e.0 (keys_of es) sorted) later)
-    ] refl
+    ∙ elim (is_same f e.0) as (λ b. cond (not b) (read u e.0 e.1 ∷ left) left ≡ reads_of u (cond (not b) (e ∷ without f es) (without f es)) ++ rest) [
+      | true ↦ closed-own u f es rest later
+      | false ↦ ap (λ r. read u e.0 e.1 ∷ r) (closed-own u f es rest later)
+    ]
   where
     left : List UpdateRead
     left = filter (λ r. not (is_read_of u f r)) (reads_of u es ++ rest)
 
-opened-own : (u : ℕ) (f k : Bytes) (es : Map Bytes) (rest : List UpdateRead) → key_at f es ≡ None → AreLater u rest →
-    with_read (read u f k) (reads_of u es ++ rest) ≡ reads_of u (insert_entry bytes_cmp es f k) ++ rest
+opened-own : (u : ℕ) (f k : Bytes) (es : Map Bytes) (rest : List UpdateRead) → value_at f es ≡ None → AreLater u rest →
+    with_read (read u f k) (reads_of u es ++ rest) ≡ reads_of u (with_value f k es) ++ rest
 opened-own u f k [] rest absent later = with_read-later u f k rest later
 opened-own u f k (e ∷ es) rest absent later =
     ap (λ b. cond b (read u f k ∷ read u e.0 e.1 ∷ (reads_of u es ++ rest)) (read u e.0 e.1 ∷ with_read (read u f k) (reads_of u es ++ rest))) (own_before u (is_below f e.0))
-    ∙ elim (bytes_cmp f e.0) as (λ o. cond (is_eq o) (Some e.1) (key_at f es) ≡ None →
+    ∙ elim (bytes_cmp f e.0) as (λ o. cond (is_eq o) (Some e.1) (value_at f es) ≡ None →
     cond (is_lt o) (read u f k ∷ read u e.0 e.1 ∷ (reads_of u es ++ rest)) (read u e.0 e.1 ∷ with_read (read u f k) (reads_of u es ++ rest))
-    ≡ reads_of u (match_ordering o ((f, k) ∷ e ∷ es) ((e.0, k) ∷ es) (e ∷ insert_entry bytes_cmp es f k)) ++ rest) [
+    ≡ reads_of u (by_order o ((f, k) ∷ e ∷ es) ((e.0, k) ∷ es) (e ∷ with_value f k es)) ++ rest) [
       | Less ↦ λ none. refl
       | Equal ↦ λ none. let wrong : Some e.1 ≡ None = none in cc
       | Greater ↦ λ none. ap (λ r. read u e.0 e.1 ∷ r) (opened-own u f k es rest none later)
@@ -210,159 +150,91 @@ ended-own u (e ∷ es) rest later =
     left : List UpdateRead
     left = filter (λ r. not (r.unit == u)) (reads_of u es ++ rest)
 
--- ---- the rows
+-- ---- the rows, the first of which is that of unit n
 
-tail : (row : ℕ × BTreeMap Bytes Bytes) (rows : Rows) → IsStrictlySortedBy nat_cmp (keys_of (row ∷ rows)) → IsStrictlySortedBy nat_cmp (keys_of rows)
-tail row rows sorted = sorted_tail nat_cmp row.0 (keys_of rows) sorted
+-- one more row, that is empty
+pub one_more_row : (n : ℕ) (rows : Rows) → reads_from n (rows ++ [] ∷ []) ≡ reads_from n rows
+one_more_row n [] = refl
+one_more_row n (row ∷ rows) = ap (λ r. reads_of n row ++ r) (one_more_row (suc n) rows)
 
-rest_later : (row : ℕ × BTreeMap Bytes Bytes) (rows : Rows) → IsStrictlySortedBy nat_cmp (keys_of (row ∷ rows)) → AreLater row.0 (reads_in rows)
-rest_later row rows sorted = in_later row.0 rows (sorted_head nat_cmp row.0 (keys_of rows) sorted)
+-- the key of a unit's read in a file, which is in its row if it has one
+read_in_row : (u : ℕ) (f : Bytes) (n i : ℕ) (rows : Rows) → u ≡ n + i → read_at (reads_from n rows) u f ≡ value_at f (unwrap_or (slice_get rows i) [])
+read_in_row u f n i [] e = refl
+read_in_row u f n zero (row ∷ rows) e =
+    let own : u ≡ n = omega (arith, e) in
+    ap (λ v. read_at (reads_from n (row ∷ rows)) v f) own ∙ read_at-own n f row (reads_from (suc n) rows) (from_later n (suc n) rows (omega arith))
+read_in_row u f n (suc i) (row ∷ rows) e =
+    read_at-skip u n f row (reads_from (suc n) rows) (not_own_before u n (omega (arith, e))) ∙ read_in_row u f (suc n) i rows (omega (arith, e))
 
--- a unit before the first has no row
-missed : (u : ℕ) (m : BTreeMap Bytes Bytes) (row : ℕ × BTreeMap Bytes Bytes) (rows : Rows) → IsStrictlySortedBy nat_cmp (keys_of (row ∷ rows)) →
-    nat_cmp u row.0 ≡ Less → row_at u rows ≡ Some m → ⊥
-missed u m row rows sorted below there =
-    let none = no_row u rows (units_later u row.0 rows below (sorted_head nat_cmp row.0 (keys_of rows) sorted)) in
-    let wrong : None ≡ Some m = sym none ∙ there in cc
-
-read_at-absent : (u : ℕ) (f : Bytes) (rows : Rows) → row_at u rows ≡ None → read_at (reads_in rows) u f ≡ None
-read_at-absent u f [] none = refl
-read_at-absent u f (row ∷ rows) none =
-    let parts = not_chosen (is_eq (nat_cmp u row.0)) row.1 (row_at u rows) none in
-    read_at-skip u row.0 f row.1.entries (reads_in rows) (tied u row.0 (nat_cmp u row.0) refl parts.0) ∙ read_at-absent u f rows parts.1
-
-read_at-there : (u : ℕ) (f : Bytes) (m : BTreeMap Bytes Bytes) (rows : Rows) → IsStrictlySortedBy nat_cmp (keys_of rows) → row_at u rows ≡ Some m →
-    read_at (reads_in rows) u f ≡ key_at f m.entries
-read_at-there u f m [] sorted there = let wrong : None ≡ Some m = there in cc
-read_at-there u f m (row ∷ rows) sorted there =
-    elim (nat_cmp u row.0) as (λ o. nat_cmp u row.0 ≡ o → cond (is_eq o) (Some row.1) (row_at u rows) ≡ Some m → read_at (reads_in (row ∷ rows)) u f ≡ key_at f m.entries) [
-      | Less ↦ λ e found. absurd (missed u m row rows sorted e found)
-      | Equal ↦ λ e found.
-          let is : row.1 ≡ m = cc in
-          let own : u ≡ row.0 = same u row.0 e in
-          ap (λ v. read_at (reads_in (row ∷ rows)) v f) own ∙ read_at-own row.0 f row.1.entries (reads_in rows) (rest_later row rows sorted) ∙ ap (λ x. key_at f x.entries) is
-      | Greater ↦ λ e found. read_at-skip u row.0 f row.1.entries (reads_in rows) (not_own_before u row.0 (greater u row.0 e)) ∙ read_at-there u f m rows (tail row rows sorted) found
-    ] refl there
-
--- a change that leaves the units before alone changes one row
+-- a change that leaves the units before alone
 module _ (u : ℕ) (change : List UpdateRead → List UpdateRead)
     (skips : (v : ℕ) (es : Map Bytes) (rest : List UpdateRead) → v < u → change (reads_of v es ++ rest) ≡ reads_of v es ++ change rest) where
-  in_row : (m n : BTreeMap Bytes Bytes) →
-      ((rest : List UpdateRead) → AreLater u rest → change (reads_of u m.entries ++ rest) ≡ reads_of u n.entries ++ rest) →
-      (rows : Rows) → IsStrictlySortedBy nat_cmp (keys_of rows) → row_at u rows ≡ Some m →
-      reads_in (set_value (is_at (nat_cmp u)) rows n) ≡ change (reads_in rows)
-  in_row m n here [] sorted there = let wrong : None ≡ Some m = there in cc
-  in_row m n here (row ∷ rows) sorted there =
-      elim (nat_cmp u row.0) as (λ o. nat_cmp u row.0 ≡ o → cond (is_eq o) (Some row.1) (row_at u rows) ≡ Some m →
-      reads_in (cond (is_eq o) ((row.0, n) ∷ rows) (row ∷ set_value (is_at (nat_cmp u)) rows n)) ≡ change (reads_in (row ∷ rows))) [
-        | Less ↦ λ e found. absurd (missed u m row rows sorted e found)
-        | Equal ↦ λ e found.
-            let is : row.1 ≡ m = cc in
-            let own : u ≡ row.0 = same u row.0 e in
-            let later : AreLater u (reads_in rows) = subst (λ v. AreLater v (reads_in rows)) (sym own) (rest_later row rows sorted) in
-            ap (λ v. reads_of v n.entries ++ reads_in rows) (sym own) ∙ sym (here (reads_in rows) later)
-            ∙ ap (λ x. change (reads_of u x.entries ++ reads_in rows)) (sym is) ∙ ap (λ v. change (reads_of v row.1.entries ++ reads_in rows)) own
-        | Greater ↦ λ e found.
-            ap (λ r. reads_of row.0 row.1.entries ++ r) (in_row m n here rows (tail row rows sorted) found)
-            ∙ sym (skips row.0 row.1.entries (reads_in rows) (greater u row.0 e))
-      ] refl there
+  -- it changes one row
+  in_row : (old new : Map Bytes) →
+      ((rest : List UpdateRead) → AreLater u rest → change (reads_of u old ++ rest) ≡ reads_of u new ++ rest) →
+      (n i : ℕ) (rows : Rows) → u ≡ n + i → slice_get rows i ≡ Some old →
+      reads_from n (set rows i new) ≡ change (reads_from n rows)
+  in_row old new here n i [] e there = let wrong : None ≡ Some old = there in cc
+  in_row old new here n zero (row ∷ rows) e there =
+      let own : n ≡ u = omega (arith, e) in
+      let is : old ≡ row = cc in
+      ap (λ v. reads_of v new ++ reads_from (suc n) rows) own
+      ∙ sym (here (reads_from (suc n) rows) (from_later u (suc n) rows (omega arith)))
+      ∙ (λ i. change (reads_of (sym own i) (is i) ++ reads_from (suc n) rows))
+  in_row old new here n (suc i) (row ∷ rows) e there =
+      ap (λ r. reads_of n row ++ r) (in_row old new here (suc n) i rows (omega (arith, e)) there)
+      ∙ sym (skips n row (reads_from (suc n) rows) (omega (arith, e)))
 
-abbrev FilesRise : BTreeMap Bytes Bytes → Type 0
-FilesRise files = IsStrictlySortedBy bytes_cmp (keys_of files.entries)
+  -- it changes nothing where the unit has no row
+  without_row : change [] ≡ [] → (n i : ℕ) (rows : Rows) → u ≡ n + i → slice_get rows i ≡ None → reads_from n rows ≡ change (reads_from n rows)
+  without_row none n i [] e past = sym none
+  without_row none n zero (row ∷ rows) e past = let wrong : Some row ≡ None = past in cc
+  without_row none n (suc i) (row ∷ rows) e past =
+      ap (λ r. reads_of n row ++ r) (without_row none (suc n) i rows (omega (arith, e)) past)
+      ∙ sym (skips n row (reads_from (suc n) rows) (omega (arith, e)))
 
-files_rise : (u : ℕ) (m : BTreeMap Bytes Bytes) (rows : Rows) → AreRising rows → row_at u rows ≡ Some m → FilesRise m
-files_rise u m rows rising there = subst (λ o. IfSome o FilesRise) there (IfSome-lookup_from_All FilesRise (is_at (nat_cmp u)) rows rising.files)
+-- ---- what a unit's row tells of the value
 
--- a row put back with the same files
-pub same_row : (u : ℕ) (m n : BTreeMap Bytes Bytes) (rows : Rows) → AreRising rows → row_at u rows ≡ Some m → n.entries ≡ m.entries →
-    reads_in (set_value (is_at (nat_cmp u)) rows n) ≡ reads_in rows
-same_row u m n rows rising there kept =
-    in_row u (λ reads. reads) (λ v es rest below. refl) m n (λ rest later. ap (λ es. reads_of u es ++ rest) (sym kept)) rows rising.units there
+module _ (n u : ℕ) (f : Bytes) (rows : Rows) (now : List UpdateRead) (number : n ≡ u) (view : reads_from 0 rows ≡ now) where
+  pub read_now : (o : Option (Map Bytes)) → slice_get rows n ≡ o → value_at f (unwrap_or o []) ≡ read_at now u f
+  read_now o there =
+      ap (λ o. value_at f (unwrap_or o [])) (sym there) ∙ sym (read_in_row n f 0 n rows (omega arith)) ∙ (λ i. read_at (view i) (number i) f)
 
-module _ (u : ℕ) (f : Bytes) where
-  -- one more file in the row of a unit
-  pub opened_in_row : (k : Bytes) (m n : BTreeMap Bytes Bytes) (rows : Rows) → AreRising rows → row_at u rows ≡ Some m →
-      key_at f m.entries ≡ None → n.entries ≡ insert_entry bytes_cmp m.entries f k →
-      reads_in (set_value (is_at (nat_cmp u)) rows n) ≡ with_read (record { unit = u; file = f; key = k }) (reads_in rows)
-  opened_in_row k m n rows rising there absent more =
-      in_row u (with_read (read u f k)) (λ v es rest below. with_read-skip u v f k es rest below) m n
-      (λ rest later. opened-own u f k m.entries rest absent later ∙ ap (λ es. reads_of u es ++ rest) (sym more)) rows rising.units there
+  pub opened_now : (k : Bytes) (row new : Map Bytes) → slice_get rows n ≡ Some row → value_at f row ≡ None → new ≡ with_value f k row →
+      reads_from 0 (set rows n new) ≡ with_read (record { unit = u; file = f; key = k }) now
+  opened_now k row new there absent more =
+      in_row n (with_read (read n f k)) (λ v es rest below. with_read-skip n v f k es rest below) row new
+      (λ rest later. opened-own n f k row rest absent later ∙ ap (λ es. reads_of n es ++ rest) (sym more)) 0 n rows (omega arith) there
+      ∙ (λ i. with_read (read (number i) f k) (view i))
 
-  -- a row for a unit that had none
-  pub opened_with_row : (k : Bytes) (n : BTreeMap Bytes Bytes) (rows : Rows) → IsStrictlySortedBy nat_cmp (keys_of rows) → row_at u rows ≡ None →
-      n.entries ≡ (f, k) ∷ [] →
-      reads_in (insert_entry nat_cmp rows u n) ≡ with_read (record { unit = u; file = f; key = k }) (reads_in rows)
-  opened_with_row k n [] sorted none one = ap (λ es. reads_of u es ++ []) one
-  opened_with_row k n (row ∷ rows) sorted none one =
-      elim (nat_cmp u row.0) as (λ o. nat_cmp u row.0 ≡ o → cond (is_eq o) (Some row.1) (row_at u rows) ≡ None →
-      reads_in (match_ordering o ((u, n) ∷ row ∷ rows) ((row.0, n) ∷ rows) (row ∷ insert_entry nat_cmp rows u n)) ≡ with_read (read u f k) (reads_in (row ∷ rows))) [
-        | Less ↦ λ e absent.
-            ap (λ es. reads_of u es ++ reads_in (row ∷ rows)) one
-            ∙ sym (with_read-later u f k (reads_in (row ∷ rows)) (in_later u (row ∷ rows) (e, units_later u row.0 rows e (sorted_head nat_cmp row.0 (keys_of rows) sorted))))
-        | Equal ↦ λ e absent. let wrong : Some row.1 ≡ None = absent in cc
-        | Greater ↦ λ e absent.
-            ap (λ r. reads_of row.0 row.1.entries ++ r) (opened_with_row k n rows (tail row rows sorted) absent one)
-            ∙ sym (with_read-skip u row.0 f k row.1.entries (reads_in rows) (greater u row.0 e))
-      ] refl none
+  left_alone : (v : ℕ) (es : Map Bytes) (rest : List UpdateRead) → v < n →
+      filter (λ r. not (is_read_of n f r)) (reads_of v es ++ rest) ≡ reads_of v es ++ filter (λ r. not (is_read_of n f r)) rest
+  left_alone v es rest below = filter-skip n v (λ r. not (is_read_of n f r)) (others_file n f) es rest (not_own_before n v below)
 
-  -- a file less in the row of a unit
-  pub closed_in_row : (m n : BTreeMap Bytes Bytes) (rows : Rows) → AreRising rows → row_at u rows ≡ Some m → n.entries ≡ remove_entry (is_at (bytes_cmp f)) m.entries →
-      reads_in (set_value (is_at (nat_cmp u)) rows n) ≡ filter (λ r. not (is_read_of u f r)) (reads_in rows)
-  closed_in_row m n rows rising there less =
-      in_row u (filter (λ r. not (is_read_of u f r)))
-      (λ v es rest below. filter-skip u v (λ r. not (is_read_of u f r)) (others_file u f) es rest (not_own_before u v below)) m n
-      (λ rest later. closed-own u f m.entries rest (files_rise u m rows rising there) later ∙ ap (λ es. reads_of u es ++ rest) (sym less)) rows rising.units there
+  pub closed_now : (row new : Map Bytes) → slice_get rows n ≡ Some row → new ≡ without f row →
+      reads_from 0 (set rows n new) ≡ filter (λ r. not (is_read_of u f r)) now
+  closed_now row new there less =
+      in_row n (filter (λ r. not (is_read_of n f r))) left_alone row new
+      (λ rest later. closed-own n f row rest later ∙ ap (λ es. reads_of n es ++ rest) (sym less)) 0 n rows (omega arith) there
+      ∙ (λ i. filter (λ r. not (is_read_of (number i) f r)) (view i))
 
-  -- no file of a unit without a row
-  pub closed_without_row : (rows : Rows) → row_at u rows ≡ None → filter (λ r. not (is_read_of u f r)) (reads_in rows) ≡ reads_in rows
-  closed_without_row rows none = filter-absent u f (reads_in rows) (read_at-absent u f rows none)
+  pub closed_without : slice_get rows n ≡ None → reads_from 0 rows ≡ filter (λ r. not (is_read_of u f r)) now
+  closed_without past =
+      without_row n (filter (λ r. not (is_read_of n f r))) left_alone refl 0 n rows (omega arith) past
+      ∙ (λ i. filter (λ r. not (is_read_of (number i) f r)) (view i))
 
--- a row less
-pub ended_row : (u : ℕ) (rows : Rows) → IsStrictlySortedBy nat_cmp (keys_of rows) →
-    reads_in (remove_entry (is_at (nat_cmp u)) rows) ≡ filter (λ r. not (r.unit == u)) (reads_in rows)
-ended_row u [] sorted = refl
-ended_row u (row ∷ rows) sorted =
-    elim (is_eq (nat_cmp u row.0)) as (λ b. is_eq (nat_cmp u row.0) ≡ b →
-    reads_in (cond b rows (row ∷ remove_entry (is_at (nat_cmp u)) rows)) ≡ filter (λ r. not (r.unit == u)) (reads_in (row ∷ rows))) [
-      | true ↦ λ e.
-          let own : u ≡ row.0 = eqb-true u row.0 (sym (unsigned_tied u row.0) ∙ e) in
-          sym (ended-own row.0 row.1.entries (reads_in rows) (rest_later row rows sorted))
-          ∙ ap (λ v. filter (λ r. not (r.unit == v)) (reads_in (row ∷ rows))) (sym own)
-      | false ↦ λ e.
-          ap (λ r. reads_of row.0 row.1.entries ++ r) (ended_row u rows (tail row rows sorted))
-          ∙ sym (filter-skip u row.0 (λ r. not (r.unit == u)) (others_unit u) row.1.entries (reads_in rows) (tied u row.0 (nat_cmp u row.0) refl e))
-    ] refl
+module _ (n u : ℕ) (rows : Rows) (now : List UpdateRead) (number : n ≡ u) (view : reads_from 0 rows ≡ now) where
+  others_stay : (v : ℕ) (es : Map Bytes) (rest : List UpdateRead) → v < n →
+      filter (λ r. not (r.unit == n)) (reads_of v es ++ rest) ≡ reads_of v es ++ filter (λ r. not (r.unit == n)) rest
+  others_stay v es rest below = filter-skip n v (λ r. not (r.unit == n)) (others_unit n) es rest (not_own_before n v below)
 
--- ---- the rows rise after each change
+  pub ended_now : (row new : Map Bytes) → slice_get rows n ≡ Some row → new ≡ [] → reads_from 0 (set rows n new) ≡ filter (λ r. not (r.unit == u)) now
+  ended_now row new there none =
+      in_row n (filter (λ r. not (r.unit == n))) others_stay row new
+      (λ rest later. ended-own n row rest later ∙ ap (λ es. reads_of n es ++ rest) (sym none)) 0 n rows (omega arith) there
+      ∙ (λ i. filter (λ r. not (r.unit == number i)) (view i))
 
-module _ (u : ℕ) (n : BTreeMap Bytes Bytes) (rows new : Rows) (rising : AreRising rows) (sorted : IsStrictlySortedBy nat_cmp (keys_of new)) where
-  pub rising-set : new ≡ set_value (is_at (nat_cmp u)) rows n → FilesRise n → AreRising new
-  rising-set is files = record {
-    units = sorted;
-    files = subst (λ es. All FilesRise (values_of es)) (sym is) (All-values-set_value (is_at (nat_cmp u)) FilesRise rows n rising.files files);
-  }
-
-  pub rising-insert : new ≡ insert_entry nat_cmp rows u n → FilesRise n → AreRising new
-  rising-insert is files = record {
-    units = sorted;
-    files = subst (λ es. All FilesRise (values_of es)) (sym is) (All-values-insert_entry nat_cmp u n FilesRise rows rising.files files);
-  }
-
-pub rising-remove : (u : ℕ) (rows new : Rows) → AreRising rows → IsStrictlySortedBy nat_cmp (keys_of new) →
-    new ≡ remove_entry (is_at (nat_cmp u)) rows → AreRising new
-rising-remove u rows new rising sorted is = record {
-  units = sorted;
-  files = subst (λ es. All FilesRise (values_of es)) (sym is) (All-map-remove_entry (is_at (nat_cmp u)) (λ e. e.1) FilesRise rows rising.files);
-}
-
--- ---- what was looked up by the unit's number, of the value
-
-module _ (n u : ℕ) (f : Bytes) (rows : Rows) (now : List UpdateRead) (number : n ≡ u) (view : reads_in rows ≡ now) where
-  seen_at : read_at (reads_in rows) n f ≡ read_at now u f
-  seen_at = λ i. read_at (view i) (number i) f
-
-  pub absent_now : None ≡ row_at n rows → read_at now u f ≡ None
-  absent_now none = sym seen_at ∙ read_at-absent n f rows (sym none)
-
-  pub there_now : AreRising rows → (m : BTreeMap Bytes Bytes) → Some m ≡ row_at n rows → key_at f m.entries ≡ read_at now u f
-  there_now rising m there = sym (read_at-there n f m rows rising.units (sym there)) ∙ seen_at
+  pub ended_without : slice_get rows n ≡ None → reads_from 0 rows ≡ filter (λ r. not (r.unit == u)) now
+  ended_without past =
+      without_row n (filter (λ r. not (r.unit == n))) others_stay refl 0 n rows (omega arith) past
+      ∙ (λ i. filter (λ r. not (r.unit == number i)) (view i))

@@ -1,13 +1,11 @@
 -- Worked examples of update reads and of listings, computed from the definitions.
 use Rattle.std.specs.Prelude.{◌≡◌, true, false, None, List, [], ◌∷◌, ◌++◌, refl}
-use Rattle.std.specs.BTreeMap.{BTreeMap}
-use Rattle.cics_names.specs.Keyed.{Bytes}
 use Rattle.cics_transdata.specs.declared.queues.Recovery.TheVariants.{Logical}
 use Rattle.cics_history.specs.Holding.{UpdateRead, store_of}
 use Rattle.cics_history.specs.Execution.{after_execution, read_at, with_read}
 use Rattle.cics_history.specs.declared.ops.Op.TheVariants.{TsWrite}
 use Rattle.cics_history.proofs.Rows.{acct, log, rq, tdq1, k1, k2, defined, written_2}
-use Rattle.cics_units.specs.OpenReads.{reads_of, reads_in, is_read_key}
+use Rattle.cics_units.specs.OpenReads.{reads_of, reads_from, is_read_key}
 use Rattle.cics_units.specs.Listings.{listing_of}
 use lib.Chars.{codes}
 
@@ -24,9 +22,9 @@ one_more_read = refl
 read_is_of : (is_read_key (read_at reads_open 7 acct) k2 ≡ true) × (is_read_key (read_at reads_open 7 acct) k1 ≡ false) × (is_read_key (read_at reads_open 0 acct) k2 ≡ false)
 read_is_of = (refl, refl, refl)
 
--- the rows of the units show their reads one after the other
-rows_shown : (m n : BTreeMap Bytes Bytes) → reads_in ((0, m) ∷ (7, n) ∷ []) ≡ reads_of 0 m.entries ++ (reads_of 7 n.entries ++ [])
-rows_shown m n = refl
+-- the rows of the units show their reads one after the other, and an empty row none
+rows_shown : reads_from 0 (((log, k1) ∷ []) ∷ [] ∷ ((acct, k2) ∷ []) ∷ []) ≡ reads_of 0 ((log, k1) ∷ []) ++ reads_of 2 ((acct, k2) ∷ [])
+rows_shown = refl
 
 -- ---- Listings
 

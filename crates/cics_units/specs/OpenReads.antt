@@ -1,10 +1,7 @@
 -- Recovery: the update reads of each unit by the names of the files, as one list.
-use Rattle.std.specs.Prelude.{ℕ, Bool, false, Option, Some, None, List, [], ◌∷◌, ◌++◌, map, All}
-use Rattle.std.specs.BTreeMap.{BTreeMap}
-use Rattle.std.specs.Map.{keys_of, values_of}
-use Rattle.std.specs.List.Sorted.{IsStrictlySortedBy}
-use Rattle.std.specs.Ordering.{nat_cmp}
-use Rattle.cics_names.specs.Keyed.{Bytes, Map, bytes_cmp, is_same}
+use Rattle.std.specs.Prelude.{◌≡◌, ◌<◌, ℕ, suc, Bool, false, if◌then◌else◌, Option, Some, None, List, [], ◌∷◌, ◌++◌, map, length}
+use Rattle.std.specs.List.{slice_index_or, remove}
+use Rattle.cics_names.specs.Keyed.{Bytes, Map, value_at, without, is_below, is_same}
 use Rattle.cics_ksds.specs.Prefixes.{has_prefix}
 use Rattle.cics_history.specs.Holding.{UpdateRead}
 
@@ -12,15 +9,21 @@ use Rattle.cics_history.specs.Holding.{UpdateRead}
 abbrev pub reads_of : ℕ → Map Bytes → List UpdateRead
 reads_of unit files = map (λ e. record { unit = unit; file = e.0; key = e.1 }) files
 
--- the update reads of all units
-abbrev pub reads_in : List (ℕ × BTreeMap Bytes Bytes) → List UpdateRead
-reads_in [] = []
-reads_in (row ∷ rows) = reads_of row.0 row.1.entries ++ reads_in rows
+-- the update reads of the units from this one on, each of which has a row
+abbrev pub reads_from : ℕ → List (Map Bytes) → List UpdateRead
+reads_from unit [] = []
+reads_from unit (row ∷ rows) = reads_of unit row ++ reads_from (suc unit) rows
 
--- the units rise, and the names of each unit's files
-pub record AreRising (rows : List (ℕ × BTreeMap Bytes Bytes)) : Type 0 where
-  pub units : IsStrictlySortedBy nat_cmp (keys_of rows)
-  pub files : All (λ files. IsStrictlySortedBy bytes_cmp (keys_of files.entries)) (values_of rows)
+-- how many files come before this one
+abbrev pub place_of : Bytes → Map Bytes → ℕ
+place_of f [] = 0
+place_of f (e ∷ es) = if is_below e.0 f then suc (place_of f es) else 0
+
+-- the entry of a file stands at this place
+pub record IsFoundAt (f : Bytes) (es : Map Bytes) (at : ℕ) : Type 0 where
+  pub inside : at < length es
+  pub value : (d : Bytes × Bytes) → value_at f es ≡ Some (slice_index_or es at d).1
+  pub rest : remove es at ≡ without f es
 
 -- an update read is there, and is of this key
 abbrev pub is_read_key : Option Bytes → Bytes → Bool

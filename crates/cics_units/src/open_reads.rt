@@ -1,4 +1,6 @@
-//! The records that units of work have read for update, and not yet rewritten, deleted or unlocked.
+//! The records that the units of work have read for update, and not yet rewritten, deleted or unlocked.
+
+mod unit_reads;
 
 ghost use Rattle.std.specs.Prelude.{◌≡◌, ◌==◌, not, filter, [], None, OnOk, OnErr};
 ghost use Rattle.std.specs.Option.{option_copied};
@@ -8,29 +10,29 @@ ghost use Rattle.cics_units.specs.OpenReads.{is_read_key, is_read_under};
 use cics_enqueue::UnitId;
 use cics_names::{Name8, NoMemory, Record};
 use std::alloc::Global;
-use std::collections::BTreeMap;
 use std::marker::Model;
+use unit_reads::UnitReads;
 
 /// The update reads that are open: at most one for each unit and file.
 ///
 /// Contracts see them in the order of their units, and those of a unit in the order of their files'
-/// names. A look-up costs the logarithm of the number of units and that of the unit's files.
+/// names. Each unit has a row by its number, which is empty while it has none open.
+///
+/// Cost: a unit's row is found in O(1), and searched in O(the unit's open update reads).
 #[derive(Drop)]
 pub(crate) struct OpenReads {
-    rows: BTreeMap<u64, BTreeMap<Name8, Record>>,
+    rows: Vec<UnitReads>,
     alloc: Global,
 }
 
 impl Model for OpenReads {
     ghost use Rattle.std.specs.Prelude.{List};
     ghost use Rattle.cics_history.specs.Holding.{UpdateRead};
-    ghost use Rattle.cics_units.specs.OpenReads.{reads_in, AreRising};
+    ghost use Rattle.cics_units.specs.OpenReads.{reads_from};
 
     ghost Value = { List UpdateRead };
 
-    ghost view = { λ r. reads_in r.rows.entries };
-
-    ghost invariant = { λ r. AreRising r.rows.entries };
+    ghost view = { λ r. reads_from 0 r.rows.items };
 }
 
 impl OpenReads {
@@ -39,7 +41,7 @@ impl OpenReads {
         ensures { result ≡ [] }
     {
         OpenReads {
-            rows: BTreeMap::new(alloc),
+            rows: Vec::new(alloc),
             alloc,
         }
     }
@@ -48,7 +50,8 @@ impl OpenReads {
     pub(crate) fn key(&self, unit: UnitId, file: &Name8) -> Option<&Record>
         ensures { option_copied result ≡ read_at self.now unit file.now }
     {
-        self.rows.get(&unit.number())?.get(file)
+        let at = unit.number() as usize;
+        self.rows.get(at)?.key(file)
     }
 
     /// Opens a unit's update read of the record of a key in a file.
@@ -60,19 +63,11 @@ impl OpenReads {
             ≡ with_read (record { unit = unit; file = file; key = key }) self.old) }
         ensures err { OnErr result (self.new ≡ self.old) }
     {
-        let number = unit.number();
-        // What an insertion answers is what stood in the place: nothing.
-        match self.rows.get_mut(&number) {
-            Some(files) => {
-                drop(files.insert(file, key)?);
-            }
-            None => {
-                let mut files = BTreeMap::new(self.alloc);
-                drop(files.insert(file, key)?);
-                drop(self.rows.insert(number, files)?);
-            }
+        let at = unit.number() as usize;
+        while self.rows.len() <= at {
+            self.rows.push(UnitReads::new(self.alloc))?;
         }
-        Ok(())
+        self.rows[at].open(file, key)
     }
 
     /// Whether a unit has an update read of a file, and it is of this key.
@@ -102,13 +97,17 @@ impl OpenReads {
         ensures reads { self.new ≡ filter (λ r. not (is_read_of unit file.now r)) self.old }
         ensures key { result ≡ read_at self.old unit file.now }
     {
-        self.rows.get_mut(&unit.number())?.remove(file)
+        let at = unit.number() as usize;
+        self.rows.get_mut(at)?.close(file)
     }
 
     /// Ends all update reads of a unit. This takes no memory.
     pub(crate) fn end(&mut self, unit: UnitId)
         ensures { self.new ≡ filter (λ r. not (r.unit == unit)) self.old }
     {
-        self.rows.remove(&unit.number());
+        let at = unit.number() as usize;
+        if let Some(reads) = self.rows.get_mut(at) {
+            *reads = UnitReads::new(self.alloc);
+        }
     }
 }

@@ -1,14 +1,19 @@
-use Rattle.std.proofs.Common.{◌≡◌, ◌∙◌, ap, sym, None}
+use Rattle.std.proofs.Common.{◌∙◌, ap, sym, None, Some, length, refl}
+use Rattle.std.specs.List.{slice_get}
 use Rattle.std.specs.Option.{option_copied}
-use Rattle.cics_history.specs.Execution.{read_at}
-use Rattle.cics_units.proofs.OpenReads.{absent_now, there_now}
+use Rattle.std.proofs.lemmas.Option.{slice_get_read, slice_get_past}
+use Rattle.cics_units.proofs.OpenReads.{read_now}
 use Rattle.cics_units.proofs.open_reads.OpenReads.key.Goals as goal
 
 pub returns-in_err-get : goal.returns-in_err-get
 returns-in_err-get c =
-    let absent : read_at c.args.self.now c.args.unit c.args.file.now ≡ None = absent_now c.number.result c.args.unit c.args.file.now c.self.inside.rows.entries c.args.self.now c.number.ensures c.self.view_is c.in_err-get.ensures.value in
-    ap option_copied c.from_residual.ensures ∙ sym absent
+    ap option_copied c.from_residual.ensures
+    ∙ read_now c.number-at.result c.args.unit c.args.file.now c.self.inside.rows.items c.args.self.now c.number-at.ensures c.self.view_is None
+    (ap (λ l. slice_get l c.number-at.result) (sym c.deref.ensures.value) ∙ slice_get_past c.deref.result.now c.number-at.result c.in_err-get.ensures.lookup.3)
 
 pub returns : goal.returns
-returns c = c.get-2.ensures.value
-    ∙ there_now c.number.result c.args.unit c.args.file.now c.self.inside.rows.entries c.args.self.now c.number.ensures c.self.view_is c.self.invariant c.in_ok-get.field-0.now c.in_ok-get.ensures.value
+returns c =
+    let read = c.in_ok-get.ensures.lookup in
+    c.key.ensures
+    ∙ read_now c.number-at.result c.args.unit c.args.file.now c.self.inside.rows.items c.args.self.now c.number-at.ensures c.self.view_is (Some c.in_ok-get.field-0.now)
+    (ap (λ l. slice_get l c.number-at.result) (sym c.deref.ensures.value) ∙ slice_get_read c.deref.result.now (length c.deref.result.now) c.number-at.result c.in_ok-get.field-0.now refl read.3.0 read.1)
