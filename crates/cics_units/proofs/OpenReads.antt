@@ -5,7 +5,7 @@ use Rattle.std.proofs.lemmas.Bool.{lt-ltb, le-ltb, ne_eqb, eq-eqb}
 use Rattle.std.specs.declared.cmp.Ordering.TheVariants.{Less, Equal, Greater}
 use Rattle.std.specs.FinMap.Entries.{by_order}
 use Rattle.std.specs.Ordering.{is_lt, is_eq}
-use Rattle.std.specs.List.{AllByRecursion, slice_get}
+use Rattle.std.specs.List.{slice_get}
 use Rattle.std.specs.Option.{unwrap_or}
 use Rattle.cics_names.specs.Keyed.{Bytes, Map, bytes_cmp, is_same, is_below, value_at, with_value, without}
 use Rattle.cics_names.specs.RisingLaws.{is_same-turned}
@@ -19,46 +19,17 @@ Rows = List (Map Bytes)
 abbrev read : ℕ → Bytes → Bytes → UpdateRead
 read u f k = record { unit = u; file = f; key = k }
 
--- reads of other units, and of units that come later
-abbrev AreOther : ℕ → List UpdateRead → Type 0
-AreOther u reads = AllByRecursion (λ r. (r.unit == u) ≡ false) reads
-
-abbrev AreLater : ℕ → List UpdateRead → Type 0
-AreLater u reads = AllByRecursion (λ r. u < r.unit) reads
-
 not_own : (u v : ℕ) → u < v → (v == u) ≡ false
 not_own u v below = ne_eqb v u (λ e. omega arith)
 
 not_own_before : (u v : ℕ) → v < u → (v == u) ≡ false
 not_own_before u v below = ne_eqb v u (λ e. omega arith)
 
-other_later : (u : ℕ) (xs : List UpdateRead) → AreLater u xs → AreOther u xs
-other_later u [] h = tt
-other_later u (x ∷ xs) h = (not_own u x.unit h.0, other_later u xs h.1)
-
-of_later : (u v : ℕ) (es : Map Bytes) (rest : List UpdateRead) → u < v → AreLater u rest → AreLater u (reads_of v es ++ rest)
-of_later u v [] rest below h = h
-of_later u v (e ∷ es) rest below h = (below, of_later u v es rest below h)
-
-from_later : (u n : ℕ) (rows : Rows) → u < n → AreLater u (reads_from n rows)
-from_later u n [] below = tt
-from_later u n (row ∷ rows) below = of_later u n row (reads_from (suc n) rows) below (from_later u (suc n) rows (omega arith))
-
 -- ---- reads of other units
-
-read_at-other : (u : ℕ) (f : Bytes) (xs : List UpdateRead) → AreOther u xs → read_at xs u f ≡ None
-read_at-other u f [] h = refl
-read_at-other u f (x ∷ xs) h =
-    ap (λ b. cond (b && is_same x.file f) (Some x.key) (read_at xs u f)) h.0 ∙ read_at-other u f xs h.1
 
 -- a test that the reads of other units pass
 abbrev PassOthers : ℕ → (UpdateRead → Bool) → Type 0
 PassOthers u p = (r : UpdateRead) → (r.unit == u) ≡ false → p r ≡ true
-
-filter-other : (u : ℕ) (p : UpdateRead → Bool) → PassOthers u p → (xs : List UpdateRead) → AreOther u xs → filter p xs ≡ xs
-filter-other u p pass [] h = refl
-filter-other u p pass (x ∷ xs) h =
-    ap (λ b. cond b (x ∷ filter p xs) (filter p xs)) (pass x h.0) ∙ ap (λ r. x ∷ r) (filter-other u p pass xs h.1)
 
 others_file : (u : ℕ) (f : Bytes) → PassOthers u (λ r. not (is_read_of u f r))
 others_file u f r e = ap (λ b. not (b && is_same r.file f)) e
@@ -92,10 +63,25 @@ with_read-skip u v f k (e ∷ es) rest below =
     ap (λ b. cond b (read u f k ∷ read v e.0 e.1 ∷ (reads_of v es ++ rest)) (read v e.0 e.1 ∷ with_read (read u f k) (reads_of v es ++ rest))) (not_before u v (is_below f e.0) below)
     ∙ ap (λ r. read v e.0 e.1 ∷ r) (with_read-skip u v f k es rest below)
 
-with_read-later : (u : ℕ) (f k : Bytes) (xs : List UpdateRead) → AreLater u xs → with_read (read u f k) xs ≡ read u f k ∷ xs
-with_read-later u f k [] h = refl
-with_read-later u f k (x ∷ xs) h =
-    ap (λ b. cond (b || ((u == x.unit) && is_below f x.file)) (read u f k ∷ x ∷ xs) (x ∷ with_read (read u f k) xs)) (lt-ltb u x.unit h.0)
+-- ---- rows of later units
+
+read_at-later : (u : ℕ) (f : Bytes) (n : ℕ) (rows : Rows) → u < n → read_at (reads_from n rows) u f ≡ None
+read_at-later u f n [] below = refl
+read_at-later u f n (row ∷ rows) below =
+    read_at-skip u n f row (reads_from (suc n) rows) (not_own u n below) ∙ read_at-later u f (suc n) rows (omega (arith, below))
+
+filter-later : (u : ℕ) (p : UpdateRead → Bool) → PassOthers u p → (n : ℕ) (rows : Rows) → u < n → filter p (reads_from n rows) ≡ reads_from n rows
+filter-later u p pass n [] below = refl
+filter-later u p pass n (row ∷ rows) below =
+    filter-skip u n p pass row (reads_from (suc n) rows) (not_own u n below)
+    ∙ ap (λ r. reads_of n row ++ r) (filter-later u p pass (suc n) rows (omega (arith, below)))
+
+with_read-later : (u : ℕ) (f k : Bytes) (n : ℕ) (rows : Rows) → u < n → with_read (read u f k) (reads_from n rows) ≡ read u f k ∷ reads_from n rows
+with_read-later u f k n [] below = refl
+with_read-later u f k n ([] ∷ rows) below = with_read-later u f k (suc n) rows (omega (arith, below))
+with_read-later u f k n ((e ∷ es) ∷ rows) below =
+    let rest = reads_of n es ++ reads_from (suc n) rows in
+    ap (λ b. cond (b || ((u == n) && is_below f e.0)) (read u f k ∷ read n e.0 e.1 ∷ rest) (read n e.0 e.1 ∷ with_read (read u f k) rest)) (lt-ltb u n below)
 
 -- ---- reads of the unit itself
 
@@ -108,16 +94,16 @@ own_before u b =
     let own : (u == u) ≡ true = eq-eqb u u refl in
     rw (past, own) refl
 
-read_at-own : (u : ℕ) (f : Bytes) (es : Map Bytes) (rest : List UpdateRead) → AreLater u rest →
+read_at-own : (u : ℕ) (f : Bytes) (es : Map Bytes) (rest : List UpdateRead) → read_at rest u f ≡ None →
     read_at (reads_of u es ++ rest) u f ≡ value_at f es
-read_at-own u f [] rest later = read_at-other u f rest (other_later u rest later)
+read_at-own u f [] rest later = later
 read_at-own u f (e ∷ es) rest later =
     ap (λ b. cond b (Some e.1) (read_at (reads_of u es ++ rest) u f)) (own_read u f e.0)
     ∙ ap (cond (is_same f e.0) (Some e.1)) (read_at-own u f es rest later)
 
-closed-own : (u : ℕ) (f : Bytes) (es : Map Bytes) (rest : List UpdateRead) → AreLater u rest →
+closed-own : (u : ℕ) (f : Bytes) (es : Map Bytes) (rest : List UpdateRead) → filter (λ r. not (is_read_of u f r)) rest ≡ rest →
     filter (λ r. not (is_read_of u f r)) (reads_of u es ++ rest) ≡ reads_of u (without f es) ++ rest
-closed-own u f [] rest later = filter-other u (λ r. not (is_read_of u f r)) (others_file u f) rest (other_later u rest later)
+closed-own u f [] rest later = later
 closed-own u f (e ∷ es) rest later =
     ap (λ b. cond (not b) (read u e.0 e.1 ∷ left) left) (own_read u f e.0)
     ∙ elim (is_same f e.0) as (λ b. cond (not b) (read u e.0 e.1 ∷ left) left ≡ reads_of u (cond (not b) (e ∷ without f es) (without f es)) ++ rest) [
@@ -128,9 +114,9 @@ closed-own u f (e ∷ es) rest later =
     left : List UpdateRead
     left = filter (λ r. not (is_read_of u f r)) (reads_of u es ++ rest)
 
-opened-own : (u : ℕ) (f k : Bytes) (es : Map Bytes) (rest : List UpdateRead) → value_at f es ≡ None → AreLater u rest →
+opened-own : (u : ℕ) (f k : Bytes) (es : Map Bytes) (rest : List UpdateRead) → value_at f es ≡ None → with_read (read u f k) rest ≡ read u f k ∷ rest →
     with_read (read u f k) (reads_of u es ++ rest) ≡ reads_of u (with_value f k es) ++ rest
-opened-own u f k [] rest absent later = with_read-later u f k rest later
+opened-own u f k [] rest absent later = later
 opened-own u f k (e ∷ es) rest absent later =
     ap (λ b. cond b (read u f k ∷ read u e.0 e.1 ∷ (reads_of u es ++ rest)) (read u e.0 e.1 ∷ with_read (read u f k) (reads_of u es ++ rest))) (own_before u (is_below f e.0))
     ∙ elim (bytes_cmp f e.0) as (λ o. cond (is_eq o) (Some e.1) (value_at f es) ≡ None →
@@ -141,9 +127,9 @@ opened-own u f k (e ∷ es) rest absent later =
       | Greater ↦ λ none. ap (λ r. read u e.0 e.1 ∷ r) (opened-own u f k es rest none later)
     ] absent
 
-ended-own : (u : ℕ) (es : Map Bytes) (rest : List UpdateRead) → AreLater u rest →
+ended-own : (u : ℕ) (es : Map Bytes) (rest : List UpdateRead) → filter (λ r. not (r.unit == u)) rest ≡ rest →
     filter (λ r. not (r.unit == u)) (reads_of u es ++ rest) ≡ rest
-ended-own u [] rest later = filter-other u (λ r. not (r.unit == u)) (others_unit u) rest (other_later u rest later)
+ended-own u [] rest later = later
 ended-own u (e ∷ es) rest later =
     ap (λ b. cond (not b) (read u e.0 e.1 ∷ left) left) (eq-eqb u u refl) ∙ ended-own u es rest later
   where
@@ -162,7 +148,7 @@ read_in_row : (u : ℕ) (f : Bytes) (n i : ℕ) (rows : Rows) → u ≡ n + i �
 read_in_row u f n i [] e = refl
 read_in_row u f n zero (row ∷ rows) e =
     let own : u ≡ n = omega (arith, e) in
-    ap (λ v. read_at (reads_from n (row ∷ rows)) v f) own ∙ read_at-own n f row (reads_from (suc n) rows) (from_later n (suc n) rows (omega arith))
+    ap (λ v. read_at (reads_from n (row ∷ rows)) v f) own ∙ read_at-own n f row (reads_from (suc n) rows) (read_at-later n f (suc n) rows (omega arith))
 read_in_row u f n (suc i) (row ∷ rows) e =
     read_at-skip u n f row (reads_from (suc n) rows) (not_own_before u n (omega (arith, e))) ∙ read_in_row u f (suc n) i rows (omega (arith, e))
 
@@ -171,16 +157,15 @@ module _ (u : ℕ) (change : List UpdateRead → List UpdateRead)
     (skips : (v : ℕ) (es : Map Bytes) (rest : List UpdateRead) → v < u → change (reads_of v es ++ rest) ≡ reads_of v es ++ change rest) where
   -- it changes one row
   in_row : (old new : Map Bytes) →
-      ((rest : List UpdateRead) → AreLater u rest → change (reads_of u old ++ rest) ≡ reads_of u new ++ rest) →
+      ((rows : Rows) → change (reads_of u old ++ reads_from (suc u) rows) ≡ reads_of u new ++ reads_from (suc u) rows) →
       (n i : ℕ) (rows : Rows) → u ≡ n + i → slice_get rows i ≡ Some old →
       reads_from n (set rows i new) ≡ change (reads_from n rows)
   in_row old new here n i [] e there = let wrong : None ≡ Some old = there in cc
   in_row old new here n zero (row ∷ rows) e there =
       let own : n ≡ u = omega (arith, e) in
       let is : old ≡ row = cc in
-      ap (λ v. reads_of v new ++ reads_from (suc n) rows) own
-      ∙ sym (here (reads_from (suc n) rows) (from_later u (suc n) rows (omega arith)))
-      ∙ (λ i. change (reads_of (sym own i) (is i) ++ reads_from (suc n) rows))
+      ap (λ v. reads_of v new ++ reads_from (suc v) rows) own ∙ sym (here rows)
+      ∙ (λ i. change (reads_of (sym own i) (is i) ++ reads_from (suc (sym own i)) rows))
   in_row old new here n (suc i) (row ∷ rows) e there =
       ap (λ r. reads_of n row ++ r) (in_row old new here (suc n) i rows (omega (arith, e)) there)
       ∙ sym (skips n row (reads_from (suc n) rows) (omega (arith, e)))
@@ -204,37 +189,40 @@ module _ (n u : ℕ) (f : Bytes) (rows : Rows) (now : List UpdateRead) (number :
       reads_from 0 (set rows n new) ≡ with_read (record { unit = u; file = f; key = k }) now
   opened_now k row new there absent more =
       in_row n (with_read (read n f k)) (λ v es rest below. with_read-skip n v f k es rest below) row new
-      (λ rest later. opened-own n f k row rest absent later ∙ ap (λ es. reads_of n es ++ rest) (sym more)) 0 n rows (omega arith) there
+      (λ rows. opened-own n f k row (reads_from (suc n) rows) absent (with_read-later n f k (suc n) rows (omega arith))
+      ∙ ap (λ es. reads_of n es ++ reads_from (suc n) rows) (sym more)) 0 n rows (omega arith) there
       ∙ (λ i. with_read (read (number i) f k) (view i))
 
-  left_alone : (v : ℕ) (es : Map Bytes) (rest : List UpdateRead) → v < n →
-      filter (λ r. not (is_read_of n f r)) (reads_of v es ++ rest) ≡ reads_of v es ++ filter (λ r. not (is_read_of n f r)) rest
-  left_alone v es rest below = filter-skip n v (λ r. not (is_read_of n f r)) (others_file n f) es rest (not_own_before n v below)
+-- what a test leaves that the reads of other units pass
+module _ (n u : ℕ) (rows : Rows) (now : List UpdateRead) (number : n ≡ u) (view : reads_from 0 rows ≡ now)
+    (test : ℕ → UpdateRead → Bool) (pass : PassOthers n (test n)) where
+  skips : (v : ℕ) (es : Map Bytes) (rest : List UpdateRead) → v < n → filter (test n) (reads_of v es ++ rest) ≡ reads_of v es ++ filter (test n) rest
+  skips v es rest below = filter-skip n v (test n) pass es rest (not_own_before n v below)
 
-  pub closed_now : (row new : Map Bytes) → slice_get rows n ≡ Some row → new ≡ without f row →
-      reads_from 0 (set rows n new) ≡ filter (λ r. not (is_read_of u f r)) now
+  left_in_row : (row new : Map Bytes) → ((rest : List UpdateRead) → filter (test n) rest ≡ rest → filter (test n) (reads_of n row ++ rest) ≡ reads_of n new ++ rest) →
+      slice_get rows n ≡ Some row → reads_from 0 (set rows n new) ≡ filter (test u) now
+  left_in_row row new own there =
+      in_row n (filter (test n)) skips row new (λ rows. own (reads_from (suc n) rows) (filter-later n (test n) pass (suc n) rows (omega arith)))
+      0 n rows (omega arith) there
+      ∙ (λ i. filter (test (number i)) (view i))
+
+  left_without : slice_get rows n ≡ None → reads_from 0 rows ≡ filter (test u) now
+  left_without past = without_row n (filter (test n)) skips refl 0 n rows (omega arith) past ∙ (λ i. filter (test (number i)) (view i))
+
+module _ (n u : ℕ) (f : Bytes) (rows : Rows) (now : List UpdateRead) (number : n ≡ u) (view : reads_from 0 rows ≡ now) where
+  pub closed_now : (row new : Map Bytes) → slice_get rows n ≡ Some row → new ≡ without f row → reads_from 0 (set rows n new) ≡ filter (λ r. not (is_read_of u f r)) now
   closed_now row new there less =
-      in_row n (filter (λ r. not (is_read_of n f r))) left_alone row new
-      (λ rest later. closed-own n f row rest later ∙ ap (λ es. reads_of n es ++ rest) (sym less)) 0 n rows (omega arith) there
-      ∙ (λ i. filter (λ r. not (is_read_of (number i) f r)) (view i))
+      left_in_row n u rows now number view (λ v r. not (is_read_of v f r)) (others_file n f) row new
+      (λ rest later. closed-own n f row rest later ∙ ap (λ es. reads_of n es ++ rest) (sym less)) there
 
   pub closed_without : slice_get rows n ≡ None → reads_from 0 rows ≡ filter (λ r. not (is_read_of u f r)) now
-  closed_without past =
-      without_row n (filter (λ r. not (is_read_of n f r))) left_alone refl 0 n rows (omega arith) past
-      ∙ (λ i. filter (λ r. not (is_read_of (number i) f r)) (view i))
+  closed_without past = left_without n u rows now number view (λ v r. not (is_read_of v f r)) (others_file n f) past
 
 module _ (n u : ℕ) (rows : Rows) (now : List UpdateRead) (number : n ≡ u) (view : reads_from 0 rows ≡ now) where
-  others_stay : (v : ℕ) (es : Map Bytes) (rest : List UpdateRead) → v < n →
-      filter (λ r. not (r.unit == n)) (reads_of v es ++ rest) ≡ reads_of v es ++ filter (λ r. not (r.unit == n)) rest
-  others_stay v es rest below = filter-skip n v (λ r. not (r.unit == n)) (others_unit n) es rest (not_own_before n v below)
-
   pub ended_now : (row new : Map Bytes) → slice_get rows n ≡ Some row → new ≡ [] → reads_from 0 (set rows n new) ≡ filter (λ r. not (r.unit == u)) now
   ended_now row new there none =
-      in_row n (filter (λ r. not (r.unit == n))) others_stay row new
-      (λ rest later. ended-own n row rest later ∙ ap (λ es. reads_of n es ++ rest) (sym none)) 0 n rows (omega arith) there
-      ∙ (λ i. filter (λ r. not (r.unit == number i)) (view i))
+      left_in_row n u rows now number view (λ v r. not (r.unit == v)) (others_unit n) row new
+      (λ rest later. ended-own n row rest later ∙ ap (λ es. reads_of n es ++ rest) (sym none)) there
 
   pub ended_without : slice_get rows n ≡ None → reads_from 0 rows ≡ filter (λ r. not (r.unit == u)) now
-  ended_without past =
-      without_row n (filter (λ r. not (r.unit == n))) others_stay refl 0 n rows (omega arith) past
-      ∙ (λ i. filter (λ r. not (r.unit == number i)) (view i))
+  ended_without past = left_without n u rows now number view (λ v r. not (r.unit == v)) (others_unit n) past

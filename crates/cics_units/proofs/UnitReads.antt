@@ -55,12 +55,12 @@ found f [] rising e there same = let wrong : None ≡ Some e = there in cc
 found f (x ∷ es) rising e there same =
     elim (is_below x.0 f) as (λ b. is_below x.0 f ≡ b → slice_get (x ∷ es) (cond b (suc (place_of f es)) 0) ≡ Some e → IsFoundAt f (x ∷ es) (cond b (suc (place_of f es)) 0)) [
       | true ↦ λ below at.
-          let rest = found f es (both _ _ rising).1 e at same in
+          let later : IsFoundAt f es (place_of f es) = found f es (both _ _ rising).1 e at same in
           let apart : is_same f x.0 ≡ false = ap is_eq (above f x.0 below) in
           record {
-            inside = omega (arith, rest.inside);
-            value = λ d. ap (λ b. cond b (Some x.1) (value_at f es)) apart ∙ rest.value d;
-            rest = ap (λ r. x ∷ r) rest.rest ∙ sym (ap (λ b. cond (not b) (x ∷ without f es) (without f es)) apart);
+            inside = omega (arith, later.inside);
+            value = λ d. ap (λ b. cond b (Some x.1) (value_at f es)) apart ∙ later.value d;
+            rest = ap (λ r. x ∷ r) later.rest ∙ sym (ap (λ b. cond (not b) (x ∷ without f es) (without f es)) apart);
           }
       | false ↦ λ past at.
           let is : x ≡ e = cc in

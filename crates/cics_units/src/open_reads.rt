@@ -1,4 +1,5 @@
-//! The records that the units of work have read for update, and not yet rewritten, deleted or unlocked.
+//! The records that the units of work have read for update, and not yet rewritten, deleted or
+//! unlocked.
 
 mod unit_reads;
 
@@ -16,7 +17,7 @@ use unit_reads::UnitReads;
 /// The update reads that are open: at most one for each unit and file.
 ///
 /// Contracts see them in the order of their units, and those of a unit in the order of their files'
-/// names. Each unit has a row by its number, which is empty while it has none open.
+/// names. A unit has a row by its number, which is empty if none of its reads is open.
 ///
 /// Cost: a unit's row is found in O(1), and searched in O(the unit's open update reads).
 #[derive(Drop)]
@@ -36,7 +37,8 @@ impl Model for OpenReads {
 }
 
 impl OpenReads {
-    /// No update read is open. `alloc` gives the memory for those that are opened.
+    /// Returns a table in which no update read is open. `alloc` gives the memory for those that are
+    /// opened.
     pub(crate) fn new(alloc: Global) -> OpenReads
         ensures { result ≡ [] }
     {
@@ -46,7 +48,7 @@ impl OpenReads {
         }
     }
 
-    /// The key of the record that a unit has read for update in a file, or `None` where it has none.
+    /// Returns the key of the record that a unit has read for update in a file, if it has.
     pub(crate) fn key(&self, unit: UnitId, file: &Name8) -> Option<&Record>
         ensures { option_copied result ≡ read_at self.now unit file.now }
     {
@@ -56,7 +58,9 @@ impl OpenReads {
 
     /// Opens a unit's update read of the record of a key in a file.
     ///
-    /// The unit has to have none open in that file. Where memory is refused, all reads stay as they were.
+    /// The unit must have none open in that file. Unchanged on error.
+    ///
+    /// Cost: beside the search, a row for each unit up to this one that has none, once.
     pub(crate) fn open(&mut self, unit: UnitId, file: Name8, key: Record) -> Result<(), NoMemory>
         requires { read_at self.old unit file ≡ None }
         ensures reads { OnOk result (self.new
@@ -70,7 +74,7 @@ impl OpenReads {
         self.rows[at].open(file, key)
     }
 
-    /// Whether a unit has an update read of a file, and it is of this key.
+    /// Returns whether a unit has an update read of a file, and it is of this key.
     pub(crate) fn is_of_key(&self, unit: UnitId, file: &Name8, key: &[u8]) -> bool
         ensures { result ≡ is_read_key (read_at self.now unit file.now) key.now }
     {
@@ -80,7 +84,7 @@ impl OpenReads {
         }
     }
 
-    /// Whether a unit has an update read of a file, and its key begins with this prefix.
+    /// Returns whether a unit has an update read of a file, and its key begins with this prefix.
     pub(crate) fn is_under(&self, unit: UnitId, file: &Name8, prefix: &[u8]) -> bool
         ensures { result ≡ is_read_under (read_at self.now unit file.now) prefix.now }
     {
@@ -90,7 +94,7 @@ impl OpenReads {
         }
     }
 
-    /// Ends a unit's update read of a file, and answers the key that it was of, or `None` where there was none.
+    /// Ends a unit's update read of a file, and returns its key, if there was one.
     ///
     /// This takes no memory.
     pub(crate) fn close(&mut self, unit: UnitId, file: &Name8) -> Option<Record>

@@ -11,8 +11,8 @@ use std::marker::Model;
 
 /// The open update reads of one unit: the key of the record that it has read, by file.
 ///
-/// Contracts see them as a map. They stand in one list, in the order of the files' names, since a unit
-/// seldom has more than a few open.
+/// Contracts see them as a map. They stand in one list, in the order of the files' names, since a
+/// unit seldom has more than a few open. Unchanged on error.
 ///
 /// Cost: each call searches the list from its front, O(the unit's open update reads).
 #[derive(Drop)]
