@@ -1,0 +1,6 @@
+pub mod Digits
+pub mod NamesRead
+pub mod TextsRead
+pub mod ReadBack
+pub mod Shown
+mod Rows

@@ -1,0 +1,4 @@
+pub mod Names
+pub mod Characters
+pub mod Documents
+pub mod Reading

@@ -1,0 +1,14 @@
+//! Markup that is well formed by construction.
+//!
+//! What the functions here put at the end of a text is the text of a piece of a document: a start
+//! tag, a character, an end tag. A caller's contract names the document, and
+//! [`documents_read_back`] says that every document's text is read back as that document.
+#![tactic(auto)]
+
+mod names;
+mod writing;
+
+pub use names::{Key, Tag};
+pub use writing::{
+    documents_read_back, push_attribute, push_end, push_inside, push_start, push_text,
+};

@@ -1,0 +1,112 @@
+//! The pieces of a document, each put at the end of a text.
+
+ghost use Rattle.std.specs.Prelude.{◌≡◌, ◌++◌, map, false, Some, OnOk, codes};
+ghost use Rattle.cics_markup.specs.Names.{tag_name};
+ghost use Rattle.cics_markup.specs.Characters.{character_text, shown, shown_text};
+ghost use Rattle.cics_markup.specs.Characters.{is_plain, is_special};
+ghost use Rattle.cics_markup.specs.Documents.{Document, document_text, attribute, attribute_text};
+ghost use Rattle.cics_markup.specs.Documents.{end_text};
+ghost use Rattle.cics_markup.specs.Reading.{document_of};
+
+use crate::names::{Key, Tag};
+use cics_names::NoMemory;
+
+/// The text of every document is read back as that document: each of its elements is closed, and no
+/// text or value ends before its end.
+pub fn documents_read_back()
+    ensures { (d : Document) → document_of (document_text d) ≡ Some d }
+{}
+
+fn push_ascii(out: &mut Vec<u8>, text: &str) -> Result<(), NoMemory>
+    ensures { OnOk result (out.new.items ≡ out.old.items ++ text.now) }
+{
+    out.extend_from_slice(text.as_bytes())?;
+    Ok(())
+}
+
+fn is_special(byte: u8) -> bool
+    ensures { result ≡ is_special byte }
+{
+    matches!(byte, b'&' | b'<' | b'>' | b'"' | b'\'')
+}
+
+fn is_plain(byte: u8) -> bool
+    ensures { result ≡ is_plain byte }
+{
+    byte == b'\n' || (byte >= b' ' && byte <= b'~' && !is_special(byte))
+}
+
+// The text of the character that is shown for a byte that isn't plain.
+#[tactic(auto, using(crate::proofs::Shown::unprintable), unfolding(crate::specs::Characters::digits))]
+fn reference(byte: u8) -> &'static str
+    requires { is_plain byte ≡ false }
+    ensures { result.now ≡ character_text (shown byte) }
+{
+    match byte {
+        b'"' => "&#34;",
+        b'&' => "&#38;",
+        b'\'' => "&#39;",
+        b'<' => "&#60;",
+        b'>' => "&#62;",
+        b'\t' => " ",
+        _ => "&#65533;",
+    }
+}
+
+// Puts the character that is shown for a byte.
+#[tactic(auto, using(crate::proofs::Shown::plain_shown))]
+fn push_character(out: &mut Vec<u8>, byte: u8) -> Result<(), NoMemory>
+    ensures { OnOk result (out.new.items ≡ out.old.items ++ character_text (shown byte)) }
+{
+    if is_plain(byte) {
+        out.push(byte)?;
+        return Ok(());
+    }
+    push_ascii(out, reference(byte))
+}
+
+/// Puts bytes as characters of a text or a value.
+pub fn push_text(out: &mut Vec<u8>, bytes: &[u8]) -> Result<(), NoMemory>
+    ensures { OnOk result (out.new.items ≡ out.old.items ++ shown_text bytes.now) }
+{
+    for byte in bytes {
+        push_character(out, *byte)?;
+    }
+    Ok(())
+}
+
+/// Puts the start of a start tag: attributes may follow, then [`push_inside`].
+pub fn push_start(out: &mut Vec<u8>, tag: Tag) -> Result<(), NoMemory>
+    ensures { OnOk result (out.new.items ≡ out.old.items ++ (codes "<" ++ tag_name tag)) }
+{
+    push_ascii(out, "<")?;
+    push_ascii(out, tag.name())
+}
+
+/// Puts an attribute whose value is these bytes.
+pub fn push_attribute(out: &mut Vec<u8>, key: Key, value: &[u8]) -> Result<(), NoMemory>
+    ensures { OnOk result
+        (out.new.items ≡ out.old.items ++ attribute_text (attribute key (map shown value.now))) }
+{
+    push_ascii(out, " ")?;
+    push_ascii(out, key.name())?;
+    push_ascii(out, "=\"")?;
+    push_text(out, value)?;
+    push_ascii(out, "\"")
+}
+
+/// Ends a start tag: what is inside the element follows.
+pub fn push_inside(out: &mut Vec<u8>) -> Result<(), NoMemory>
+    ensures { OnOk result (out.new.items ≡ out.old.items ++ codes ">") }
+{
+    push_ascii(out, ">")
+}
+
+/// Puts an end tag.
+pub fn push_end(out: &mut Vec<u8>, tag: Tag) -> Result<(), NoMemory>
+    ensures { OnOk result (out.new.items ≡ out.old.items ++ end_text tag) }
+{
+    push_ascii(out, "</")?;
+    push_ascii(out, tag.name())?;
+    push_ascii(out, ">")
+}
