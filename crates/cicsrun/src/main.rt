@@ -1,7 +1,7 @@
 //! Runs the script on standard input, and prints its journal and listing on standard output.
 #![tactic(auto)]
 
-use cics_run::{Asked, RunFault, arguments, exit_status, run_before_exit};
+use cics_run::{Asked, RunFault, arguments, exit_status, run_over};
 use std::io::ErrorKind;
 use std::process::ExitCode;
 
@@ -9,8 +9,8 @@ const BAD_ARGUMENTS: u8 = 2;
 
 fn main(rt: HostRuntime) -> ExitCode {
     match asked(rt) {
-        Ok(Asked::Run(options)) => {
-            match run_before_exit(rt.alloc(), &mut rt.stdin(), &mut rt.stdout(), options) {
+        Ok(Asked::Run(wanted)) => {
+            match run_over(rt.alloc(), &mut rt.stdin(), &mut rt.stdout(), wanted) {
                 Ok(status) => ExitCode::from(exit_status(&Ok(status))),
                 Err(fault) => stopped(rt, fault),
             }
