@@ -12,6 +12,19 @@ stop() {
     exit "$1"
 }
 
+# Ends the script with what its first comment says: the exit status.
+usage() {
+    sed -n '2,/^set/s/^# \{0,1\}//p' -- "$0"
+    exit "$1"
+}
+
+# Ends the script with its usage if the first argument asks for help.
+answer_help() {
+    case ${1-} in
+    -h | --help) usage 0 ;;
+    esac
+}
+
 # Prints the crates that the program stands on, each behind those that it stands on itself, and
 # the program last.
 crates() {
