@@ -1,5 +1,5 @@
 -- Task control: the number of a task, and the task for which a waiting command has to wait now.
-use Rattle.std.specs.Prelude.{◌≡◌, ◌<◌, ℕ, Bool, true, false, cond, Option, Some, None, option_map, unwrap_or, IfSome, IfNone, List, [], ◌∷◌, length, slice_get, refl}
+use Rattle.std.specs.Prelude.{◌≡◌, ◌<◌, ℕ, true, false, cond, Option, Some, None, option_map, unwrap_or, IfSome, IfNone, List, [], ◌∷◌, length, slice_get, refl}
 use Rattle.std.proofs.Common.{zero, suc, sym, ap, ◌∙◌}
 use Rattle.std.proofs.lemmas.Bool.{and_from, lt-ltb}
 use Rattle.cics_names.specs.Keyed.{Bytes, is_same}

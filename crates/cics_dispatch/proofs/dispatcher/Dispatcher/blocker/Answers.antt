@@ -1,5 +1,4 @@
 use Rattle.std.proofs.Common.{◌∙◌, sym, ap, subst, IfNone}
-use Rattle.std.specs.Prelude.{unwrap_or}
 use Rattle.cics_dispatch.specs.Machine.{label_of}
 use Rattle.cics_dispatch.specs.Regions.{IsRegionKept}
 use Rattle.cics_dispatch.specs.Tasks.{HasNoOwner}
