@@ -39,3 +39,4 @@ pub mod Elements
 pub mod FirstWaits
 pub mod LesserKeys
 pub mod Deadlines
+pub mod Blockers

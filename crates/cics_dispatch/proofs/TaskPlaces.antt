@@ -78,7 +78,7 @@ IsOwn-set own ts at owner is alone = record {
 -- ---- A task by its label
 
 -- the first task has another label than a later one
-first_other : (u t : Task) (us : List Task) (n : ℕ) → IsOwn own_label (u ∷ us) → slice_get us n ≡ Some t → u.label ≢ t.label
+pub first_other : (u t : Task) (us : List Task) (n : ℕ) → IsOwn own_label (u ∷ us) → slice_get us n ≡ Some t → u.label ≢ t.label
 first_other u t us n own placed = λ e.
     let wrong : zero ≡ suc n = own.one zero (suc n) t.label (ap Some e) (ap (had_by own_label) placed) in
     omega arith

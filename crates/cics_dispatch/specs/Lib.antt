@@ -23,3 +23,4 @@ pub mod First
 pub mod Filed
 pub mod Firsts
 pub mod Deadlines
+pub mod Blockers

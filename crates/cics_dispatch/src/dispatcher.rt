@@ -1,5 +1,6 @@
 //! The parts of a region, and each of its steps: tasks that share files and queues, their waits, and their units of work.
 
+mod blocking;
 mod browsing;
 mod enqueuing;
 mod listing;
@@ -12,7 +13,7 @@ ghost use Rattle.std.specs.Prelude.{◌≡◌, ◌<◌, ◌≤◌, true, false, 
 ghost use Rattle.std.specs.Prelude.{IfErr, IfSome, IfNone, if◌then◌else◌, Result, Ok, Err};
 ghost use Rattle.std.specs.Option.{option_copied};
 ghost use Rattle.cics_history.specs.declared.ops.UnitState.TheVariants.{Committed, BackedOut};
-ghost use Rattle.cics_dispatch.specs.Machine.{units_after, definition_of, Task as TaskValue};
+ghost use Rattle.cics_dispatch.specs.Machine.{units_after, definition_of};
 ghost use Rattle.cics_dispatch.specs.Machine.{RegionValue, beginning_region, task_at, abended, is_waiting};
 ghost use Rattle.cics_dispatch.specs.Machine.{unit_closed};
 ghost use Rattle.cics_dispatch.specs.Checks.{fault_of, open_key};
@@ -24,6 +25,7 @@ ghost use Rattle.cics_dispatch.specs.Waking.{clock_set};
 ghost use Rattle.cics_history.specs.Openings.{file_recoverable};
 ghost use Rattle.cics_dispatch.specs.Regions.{IsRegionKept};
 ghost use Rattle.cics_dispatch.specs.Settled.{is_keeping};
+ghost use Rattle.cics_dispatch.specs.Blockers.{unit_of};
 ghost use Rattle.cics_dispatch.specs.Answers.{IsStep, attach_may_want};
 ghost use Rattle.cics_names.specs.declared.commands.Verb.TheVariants.{Enq};
 ghost use Rattle.cics_dispatch.specs.Calls.{OfTask, IsAwake, HasReady, MayPerform};
@@ -144,8 +146,7 @@ impl Dispatcher {
 
     /// The open unit of work of the task of a label, if there is one.
     pub(crate) fn unit_of(&self, label: &Name8) -> Option<UnitId>
-        ensures { (t : TaskValue) →
-            task_at self.now.machine.tasks label.now ≡ Some t → result ≡ t.unit }
+        ensures { result ≡ unit_of self.now.machine label.now }
     {
         let at = self.tasks.find(label)?;
         self.unit_at(at)

@@ -1,6 +1,6 @@
 //! A region: tasks that share files and queues, their waits, and their units of work.
 
-ghost use Rattle.std.specs.Prelude.{◌≡◌, ◌&&◌, not, if◌then◌else◌, None, true, false, ℕ};
+ghost use Rattle.std.specs.Prelude.{◌≡◌, ◌&&◌, not, if◌then◌else◌, None, true, false, ℕ, length};
 ghost use Rattle.std.specs.Prelude.{IfOk, IfErr, IfSome, OnOk};
 ghost use Rattle.std.specs.Bool.{OnTrue};
 ghost use Rattle.cics_history.specs.Events.{is_live};
@@ -13,6 +13,7 @@ ghost use Rattle.cics_dispatch.specs.Shutdown.{IsRegionStep, shut_down};
 ghost use Rattle.cics_dispatch.specs.Answers.{IsStep, always, attach_may_want, may_want};
 ghost use Rattle.cics_dispatch.specs.Answers.{IsHeadlineRegion, region_listing, replayed_listing};
 ghost use Rattle.cics_dispatch.specs.Settled.{goes_on};
+ghost use Rattle.cics_dispatch.specs.Blockers.{unit_of, blocker_of, label_at, number_of};
 ghost use Rattle.cics_dispatch.specs.declared.outcomes.Refused.TheVariants.{RegionDown};
 
 use crate::dispatcher::Dispatcher;
@@ -249,6 +250,51 @@ impl Region {
         self.is_settled = true;
         self.is_in_time = true;
         Ok(count)
+    }
+
+    /// Returns the open unit of work of the task of a label. `None` if no task has the label, or the task
+    /// has no unit.
+    pub fn unit(&self, label: &Name8) -> Option<UnitId>
+        ensures unit { result ≡ unit_of self.now.machine label.now }
+        ensures headline { IsHeadlineRegion self.now }
+    {
+        self.dispatcher.unit_of(label)
+    }
+
+    /// Returns the label of the task for which the waiting command of a label's task has to wait now.
+    /// `None` if no task has the label, no command of it waits, or the one that waits may go on.
+    ///
+    /// It looks at what units hold as `wake` would, and not at what was found before.
+    pub fn blocker(&self, label: &Name8) -> Option<Name8>
+        ensures blocker { result ≡ blocker_of self.now.machine label.now }
+        ensures headline { IsHeadlineRegion self.now }
+    {
+        self.dispatcher.blocker(label)
+    }
+
+    /// Returns how many tasks were attached, those that have ended included.
+    pub fn task_count(&self) -> usize
+        ensures count { result ≡ length self.now.machine.tasks }
+        ensures headline { IsHeadlineRegion self.now }
+    {
+        self.dispatcher.task_count()
+    }
+
+    /// Returns the label of the task of a number. Numbers count from 0 in the order of attach, and a task
+    /// keeps its number.
+    pub fn label_at(&self, number: usize) -> Option<Name8>
+        ensures label { result ≡ label_at self.now.machine.tasks number }
+        ensures headline { IsHeadlineRegion self.now }
+    {
+        self.dispatcher.label_at(number)
+    }
+
+    /// Returns the number of the task of a label, if there is one.
+    pub fn number(&self, label: &Name8) -> Option<usize>
+        ensures number { result ≡ number_of self.now.machine.tasks label.now }
+        ensures headline { IsHeadlineRegion self.now }
+    {
+        self.dispatcher.number(label)
     }
 
     /// The units of work of the region, with the files and queues that they share, their history and its

@@ -2,13 +2,13 @@
 #![tactic(auto)]
 
 mod command_line;
-mod journal;
-mod listing;
+pub mod journal;
+pub mod listing;
 mod running;
 mod serial;
 mod session;
 mod settling;
-mod stage;
+pub mod stage;
 mod streams;
 mod unit_lines;
 mod writing;

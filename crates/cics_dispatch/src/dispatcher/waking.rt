@@ -73,7 +73,7 @@ fn need_of(op: &Op) -> Option<Resource>
 
 impl Dispatcher {
     // The unit that a waiting command of the task at a place has to wait for, if it has to wait.
-    fn awaited(&self, at: usize, wait: &Suspended) -> Option<UnitId>
+    pub(super) fn awaited(&self, at: usize, wait: &Suspended) -> Option<UnitId>
         requires within { at < length self.now.machine.tasks }
         requires ready { HasReady self.now.machine at wait.now.command.verb wait.now.op }
         ensures holder { OfTask self.now.machine.tasks at (λ t. result

@@ -3,6 +3,7 @@ use Rattle.cics_dispatch.specs.declared.notes.Free.{Free}
 use Rattle.cics_dispatch.specs.Notes.{IsFreeAt, AreSettled}
 use Rattle.cics_dispatch.specs.Waking.{woken}
 use Rattle.cics_dispatch.specs.Answers.{IsHeadlineRegion}
+use Rattle.cics_dispatch.specs.Tasks.{had_by, own_unit}
 use Rattle.cics_dispatch.proofs.Deadlines.{due_within}
 use Rattle.cics_dispatch.proofs.FirstWaits.{first_woken}
 use Rattle.cics_dispatch.proofs.RegionRemembers.{woken_settled, settled_free, remembered_woken}
@@ -51,6 +52,6 @@ invariant_of-self-2 c =
       c.in_ok-woken.ensures.kept c.self.invariant.0,
       remembered_woken m c.wake.new.self.machine c.first_free.new.notes c.remove.new.self c.forget.new.self c.in-Some.free.place c.in-Some.free.label c.unit_of-unit.result u.is_settled u.is_in_time c.self.invariant.0.tasks
           c.note_rest.ensures.once c.first_free.ensures.noted (subst (λ o. IfSome o (λ (f : Free). IsFreeAt m c.first_free.new.notes f.place f.label)) c.in-Some.is c.in_ok-free.ensures.first)
-          (λ t there. c.unit_of-unit.ensures t there) (ap (λ s. s.machine) c.in_ok-woken.ensures.step) c.remove.ensures.rows c.remove.ensures.blockers c.remove.ensures.resources c.remove.ensures.deadlines c.forget.ensures.rows
+          (λ t there. c.unit_of-unit.ensures ∙ ap (had_by own_unit) there) (ap (λ s. s.machine) c.in_ok-woken.ensures.step) c.remove.ensures.rows c.remove.ensures.blockers c.remove.ensures.resources c.remove.ensures.deadlines c.forget.ensures.rows
           c.forget.ensures.blockers c.forget.ensures.resources c.forget.ensures.deadlines c.if-self.false c.self.invariant.1.in_time,
     )

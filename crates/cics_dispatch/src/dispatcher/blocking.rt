@@ -1,0 +1,54 @@
+//! Whom a task has to wait for, and the numbers of tasks.
+
+ghost use Rattle.std.specs.Prelude.{◌≡◌, IfSome, length};
+ghost use Rattle.cics_history.specs.Execution.{IsOpenUnit};
+ghost use Rattle.cics_dispatch.specs.Blockers.{awaited_at, blocker_of, label_at, number_of};
+
+use crate::dispatcher::Dispatcher;
+use cics_enqueue::UnitId;
+use cics_names::Name8;
+
+impl Dispatcher {
+    // The unit for which the waiting command of a label's task has to wait now, if one waits and has to.
+    fn awaited_at(&self, label: &Name8) -> Option<UnitId>
+        ensures unit { result ≡ awaited_at self.now.machine label.now }
+        ensures is_open { IfSome result (IsOpenUnit self.now.machine.units) }
+    {
+        let wait = self.waits.get(label)?;
+        let at = self.tasks.find(label)?;
+        self.awaited(at, wait)
+    }
+
+    /// Returns the label of the task for which the waiting command of a label's task has to wait now.
+    pub(crate) fn blocker(&self, label: &Name8) -> Option<Name8>
+        ensures { result ≡ blocker_of self.now.machine label.now }
+    {
+        let unit = self.awaited_at(label)?;
+        self.tasks.label_of(unit)
+    }
+
+    /// Returns how many tasks were attached.
+    pub(crate) fn task_count(&self) -> usize
+        ensures { result ≡ length self.now.machine.tasks }
+    {
+        self.tasks.len()
+    }
+
+    /// Returns the label of the task of a number, if there is one.
+    pub(crate) fn label_at(&self, number: usize) -> Option<Name8>
+        ensures { result ≡ label_at self.now.machine.tasks number }
+    {
+        if number < self.tasks.len() {
+            Some(self.tasks.get(number).label())
+        } else {
+            None
+        }
+    }
+
+    /// Returns the number of the task of a label, if there is one.
+    pub(crate) fn number(&self, label: &Name8) -> Option<usize>
+        ensures { result ≡ number_of self.now.machine.tasks label.now }
+    {
+        self.tasks.find(label)
+    }
+}
