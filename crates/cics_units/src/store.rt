@@ -4,15 +4,14 @@ ghost use Rattle.std.specs.Prelude.{◌≡◌, ◌<◌, ◌≤◌, ◌++◌, Boo
 ghost use Rattle.std.specs.Prelude.{IsSome, option_map};
 ghost use Rattle.cics_units.specs.RegionFiles.{IsThere};
 ghost use Rattle.cics_names.specs.Keyed.{value_at};
-ghost use Rattle.cics_images.specs.declared.stores.StoreImage.TheVariants.{TempStorage, TransData};
+ghost use Rattle.cics_images.specs.declared.stores.StoreImage.TheVariants.{TempStorage};
 ghost use Rattle.cics_history.specs.Records.{is_file_op, file_of, key_of};
 ghost use Rattle.cics_history.specs.Store.{only as answer_of, numbered as answer_with};
-ghost use Rattle.cics_history.specs.Store.{with_content, found_condition};
+ghost use Rattle.cics_history.specs.Store.{with_content as answer_of_record, found_condition};
 ghost use Rattle.cics_history.specs.declared.ops.Op.TheVariants.{Write, Rewrite, Delete};
 ghost use Rattle.cics_history.specs.declared.ops.Op.TheVariants.{DeleteGeneric, ReadUpdate};
 ghost use Rattle.cics_history.specs.declared.ops.Op.TheVariants.{TsWrite, TsRewrite, TsDelete};
-ghost use Rattle.cics_history.specs.declared.ops.Op.TheVariants.{TdWrite, TdRead, TdDelete};
-ghost use Rattle.cics_units.specs.QueueChanges.{with_image, is_temp};
+ghost use Rattle.cics_units.specs.QueueChanges.{with_image, in_queue, is_temp};
 ghost use Rattle.cics_units.specs.Parts.{IsFitOp, IsRecordOf, image_if, with_stored, of_files};
 ghost use Rattle.cics_units.specs.Parts.{most_in, most_images};
 ghost use Rattle.cics_units.specs.Applied.{IsApplied, IsFileBound, IsQueueBound, IsBound};
@@ -26,6 +25,7 @@ use cics_images::{Images, StoreImage};
 use cics_ksds::FileImage;
 use cics_names::{Condition, Items, Name4, Name8, NoMemory, Record};
 use cics_tempstor::TsImage;
+use cics_transdata::TdImage;
 
 // An answer of a condition alone.
 fn only(condition: Condition) -> Answer
@@ -173,20 +173,27 @@ fn delete_generic(
     Ok(counted(removed.number))
 }
 
+// An answer with a record, if there is one.
+fn with_content(condition: Condition, content: Option<Record>) -> Answer
+    ensures { result ≡ answer_of_record condition content }
+{
+    Answer {
+        condition,
+        content,
+        number: None,
+    }
+}
+
 // What READ UPDATE is answered, once its record was looked up.
 fn found(given: Option<Record>) -> Answer
-    ensures { result ≡ with_content (found_condition given) given }
+    ensures { result ≡ answer_of_record (found_condition given) given }
 {
     let condition = if given.is_some() {
         Condition::Normal
     } else {
         Condition::Notfnd
     };
-    Answer {
-        condition,
-        content: given,
-        number: None,
-    }
+    with_content(condition, given)
 }
 
 // Keeps the image of a change of a temporary storage queue as the newest, if the change has one.
@@ -254,77 +261,14 @@ fn delete_temp(store: &mut Store, queue: &Name8, keep: bool, images: &mut Images
 }
 
 // Keeps the image of a change of a transient data queue as the newest, if the change has one.
-fn keep_trans(images: &mut Images<Store>, image: Option<QueueImage>)
+fn keep_trans(images: &mut Images<Store>, queue: Name4, image: Option<TdImage>)
     requires room { 0 < images.old.room }
     ensures { images.new.newest_first
-        ≡ with_image (option_map TransData image) images.old.newest_first }
+        ≡ with_image (option_map (in_queue queue) image) images.old.newest_first }
 {
     if let Some(image) = image {
-        images.store(StoreImage::TransData(image));
+        images.store(StoreImage::TransData(QueueImage { name: queue, image }));
     }
-}
-
-// WRITEQ TD.
-fn write_trans(
-    store: &mut Store,
-    queue: &Name4,
-    from: &Record,
-    keep: bool,
-    images: &mut Images<Store>,
-) -> Result<Answer, NoMemory>
-    requires bound { IsQueueBound store.old queue.now keep }
-    requires room { 0 < images.old.room }
-    ensures applied { IfOk result (λ answer. (own : Bool) →
-        IsApplied store.old store.new images.old.newest_first images.new.newest_first
-        (TdWrite queue.now from.now) keep own answer) }
-    ensures err_store { OnErr result (store.new ≡ store.old) }
-    ensures err_images { OnErr result (images.new ≡ images.old) }
-{
-    let _keep = keep;
-    let written = store.trans_data.write(queue, from.copy()?)?;
-    keep_trans(images, written.image);
-    Ok(only(written.condition))
-}
-
-// READQ TD: a unit that holds the writing end may be given a record that it wrote itself (`own`).
-fn read_trans(
-    store: &mut Store,
-    queue: &Name4,
-    keep: bool,
-    own: bool,
-    images: &mut Images<Store>,
-) -> Result<Answer, NoMemory>
-    requires bound { IsQueueBound store.old queue.now keep }
-    requires seen { IsSeen store.old (TdRead queue.now) own }
-    requires room { 0 < images.old.room }
-    ensures applied { IfOk result (λ answer.
-        IsApplied store.old store.new images.old.newest_first images.new.newest_first
-        (TdRead queue.now) keep own answer) }
-    ensures err_store { OnErr result (store.new ≡ store.old) }
-    ensures err_images { OnErr result (images.new ≡ images.old) }
-{
-    let _keep = keep;
-    let read = store.trans_data.read(queue, own)?;
-    keep_trans(images, read.changed.image);
-    Ok(Answer {
-        condition: read.changed.condition,
-        content: read.content,
-        number: None,
-    })
-}
-
-// DELETEQ TD. It takes no memory.
-fn delete_trans(store: &mut Store, queue: &Name4, keep: bool, images: &mut Images<Store>) -> Answer
-    requires bound { IsQueueBound store.old queue.now keep }
-    requires room { 0 < images.old.room }
-    ensures { (own : Bool) →
-        IsApplied store.old store.new images.old.newest_first images.new.newest_first
-        (TdDelete queue.now) keep own result }
-{
-    let _keep = keep;
-    let deleted = store.trans_data.delete(queue);
-    keep_trans(images, deleted.image);
-    only(deleted.condition)
 }
 
 // The file of a command, whether it is recoverable.
@@ -340,10 +284,7 @@ fn bind_queue(store: &Store, queue: &Name4) -> bool
     requires there { IsSome (value_at queue.now store.now.trans_data) }
     ensures { IsQueueBound store.now queue.now result }
 {
-    match store.trans_data.get(queue) {
-        Some(queue) => queue.recovery().is_logical(),
-        None => unreachable!(),
-    }
+    store.trans_data.at(queue).recovery().is_logical()
 }
 
 /// Where a command acts: the file or the transient data queue is there, and answers whether it is recoverable; so
@@ -403,8 +344,21 @@ pub(crate) fn apply(
             rewrite_temp(store, queue, *item, from, keep, images)
         }
         Op::TsDelete { queue } => Ok(delete_temp(store, queue, keep, images)),
-        Op::TdWrite { queue, from } => write_trans(store, queue, from, keep, images),
-        Op::TdRead { queue } => read_trans(store, queue, keep, own, images),
-        Op::TdDelete { queue } => Ok(delete_trans(store, queue, keep, images)),
+        Op::TdWrite { queue, from } => {
+            let from = from.copy()?;
+            let written = store.trans_data.at_mut(queue).write(from)?;
+            keep_trans(images, *queue, written.image);
+            Ok(only(written.condition))
+        }
+        Op::TdRead { queue } => {
+            let read = store.trans_data.at_mut(queue).read(own)?;
+            keep_trans(images, *queue, read.changed.image);
+            Ok(with_content(read.changed.condition, read.content))
+        }
+        Op::TdDelete { queue } => {
+            let deleted = store.trans_data.at_mut(queue).delete();
+            keep_trans(images, *queue, deleted.image);
+            Ok(only(deleted.condition))
+        }
     }
 }

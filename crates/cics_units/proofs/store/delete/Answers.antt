@@ -5,13 +5,14 @@ use Rattle.cics_images.specs.StoreCells.{with_files}
 use Rattle.cics_history.specs.Store.{only}
 use Rattle.cics_history.specs.declared.ops.Op.TheVariants.{Delete}
 use Rattle.cics_units.specs.Applied.{IsApplied}
-use Rattle.cics_units.proofs.Applied.{bound_here, same_store, delete_applied}
+use Rattle.cics_units.proofs.Changing.{all_stay}
+use Rattle.cics_units.proofs.Applied.{bound_here, delete_applied}
 use Rattle.cics_units.proofs.store.delete.Goals as goal
 
 pub returns-in_err-changed-clause-err_store : goal.returns-in_err-changed-clause-err_store
 returns-in_err-changed-clause-err_store c =
     let p = err_from_is_err_and c.from_residual.result c.from_residual.ensures.1 in
-    rw p.1 (same_store c.args.store.now c.args.file c.at_mut.result.now c.delete.new.self c.at_mut.ensures.in_order c.at_mut.ensures.value c.in_err-changed.ensures.err)
+    rw p.1 (ap (with_files c.args.store.now) (all_stay c.args.file c.at_mut.result.now c.delete.new.self c.args.store.now.files c.at_mut.ensures.in_order c.at_mut.ensures.value c.in_err-changed.ensures.err))
 
 pub returns-clause-applied : goal.returns-clause-applied
 returns-clause-applied c = λ own.

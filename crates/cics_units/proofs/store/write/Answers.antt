@@ -7,13 +7,14 @@ use Rattle.cics_history.specs.Store.{only}
 use Rattle.cics_history.specs.declared.ops.Op.TheVariants.{Write}
 use Rattle.cics_units.specs.Applied.{IsApplied}
 use Rattle.cics_units.specs.Parts.{IsRecordOf}
-use Rattle.cics_units.proofs.Applied.{bound_here, same_store, write_applied}
+use Rattle.cics_units.proofs.Changing.{all_stay}
+use Rattle.cics_units.proofs.Applied.{bound_here, write_applied}
 use Rattle.cics_units.proofs.store.write.Goals as goal
 
 pub returns-in_err-changed-clause-err_store : goal.returns-in_err-changed-clause-err_store
 returns-in_err-changed-clause-err_store c =
     let p = err_from_is_err_and c.from_residual-in_err-changed.result c.from_residual-in_err-changed.ensures.1 in
-    rw p.1 (same_store c.args.store.now c.args.file c.at_mut.result.now c.write.new.self c.at_mut.ensures.in_order c.at_mut.ensures.value c.in_err-changed.ensures.err)
+    rw p.1 (ap (with_files c.args.store.now) (all_stay c.args.file c.at_mut.result.now c.write.new.self c.args.store.now.files c.at_mut.ensures.in_order c.at_mut.ensures.value c.in_err-changed.ensures.err))
 
 pub returns-clause-applied : goal.returns-clause-applied
 returns-clause-applied c = λ own.
