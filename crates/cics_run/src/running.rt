@@ -97,13 +97,13 @@ pub fn run_over<S: Source, K: Sink>(
     sink: &mut K,
     wanted: Wanted,
 ) -> Result<Status, RunFault>
-    ensures whole_run { RunsOver wanted (S.remaining source.old) (S.remaining source.new)
-        (S.last source.new) (K.contents sink.old) (K.contents sink.new) result }
-    ensures asked { RisesAtMost (S.asked source.old) (S.asked source.new) most_reads }
     ensures read_faults { Rises (S.failed source.old) (S.failed source.new)
         (failed_reads_of result) }
     ensures write_faults { Rises (K.failed sink.old) (K.failed sink.new)
         (failed_writes_of result) }
+    ensures asked { RisesAtMost (S.asked source.old) (S.asked source.new) most_reads }
+    ensures whole_run { RunsOver wanted (S.remaining source.old) (S.remaining source.new)
+        (S.last source.new) (K.contents sink.old) (K.contents sink.new) result }
 {
     let mut session = Session::new(alloc);
     run_from(&mut session, source, sink, wanted)
@@ -121,13 +121,13 @@ fn run_from<S: Source, K: Sink>(
     requires number { session.old.number ≡ 0 }
     requires line { session.old.line.items ≡ [] }
     requires pending { session.old.pending.items ≡ [] }
-    ensures whole_run { RunsOver wanted (S.remaining source.old) (S.remaining source.new)
-        (S.last source.new) (K.contents sink.old) (K.contents sink.new) result }
-    ensures asked { RisesAtMost (S.asked source.old) (S.asked source.new) most_reads }
     ensures read_faults { Rises (S.failed source.old) (S.failed source.new)
         (failed_reads_of result) }
     ensures write_faults { Rises (K.failed sink.old) (K.failed sink.new)
         (failed_writes_of result) }
+    ensures asked { RisesAtMost (S.asked source.old) (S.asked source.new) most_reads }
+    ensures whole_run { RunsOver wanted (S.remaining source.old) (S.remaining source.new)
+        (S.last source.new) (K.contents sink.old) (K.contents sink.new) result }
 {
     let mut buffer = [0u8; CHUNK];
     let mut room = LIMIT;

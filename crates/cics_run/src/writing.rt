@@ -30,10 +30,10 @@ impl From<NoMemory> for Stop {
 
 // Writes all the bytes. A write of no byte is a fault, and nothing is tried again.
 fn write_all<K: Sink>(sink: &mut K, bytes: &[u8]) -> Result<(), Stop>
+    ensures failed { Rises (K.failed sink.old) (K.failed sink.new) (stopped_writes result) }
     ensures ok { OnOk result (Appends (K.contents sink.old) (K.contents sink.new) bytes.now) }
     ensures err { OnErr result
         (AppendsFront (K.contents sink.old) (K.contents sink.new) bytes.now) }
-    ensures failed { Rises (K.failed sink.old) (K.failed sink.new) (stopped_writes result) }
 {
     let mut at = 0;
     while at < bytes.len() {
