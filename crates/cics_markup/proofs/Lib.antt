@@ -4,3 +4,5 @@ pub mod TextsRead
 pub mod ReadBack
 pub mod Shown
 mod Rows
+pub mod Numbers
+pub mod Joined

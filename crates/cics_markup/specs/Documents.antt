@@ -1,10 +1,12 @@
 -- A document, and its text.
-use Rattle.std.specs.Prelude.{ℕ, List, [], ◌++◌}
+use Rattle.std.specs.Prelude.{ℕ, List, [], ◌∷◌, ◌++◌, map}
 use Rattle.std.specs.List.{flat_map}
 use Rattle.cics_markup.specs.declared.names.Tag.{Tag}
 use Rattle.cics_markup.specs.declared.names.Key.{Key}
+use Rattle.cics_markup.specs.declared.names.Key.TheVariants.{Transform}
 use Rattle.cics_markup.specs.Names.{tag_name, key_name}
-use Rattle.cics_markup.specs.Characters.{character_text, text_of}
+use Rattle.cics_markup.specs.Characters.{character_text, text_of, shown}
+use Rattle.std.specs.Fmt.{decimal}
 use lib.Chars.{codes}
 
 -- an attribute: its name, and the characters of its value
@@ -34,3 +36,38 @@ abbrev pub document_text : Document → List ℕ
 document_text Empty = []
 document_text (Character c d) = character_text c ++ document_text d
 document_text (Element tag attributes inside d) = start_text tag attributes ++ (document_text inside ++ (end_text tag ++ document_text d))
+
+-- characters, and what follows them
+abbrev pub characters_before : List ℕ → Document → Document
+characters_before [] d = d
+characters_before (c ∷ cs) d = Character c (characters_before cs d)
+
+-- the characters that are shown for bytes
+abbrev pub said : List ℕ → Document
+said bytes = characters_before (map shown bytes) Empty
+
+-- the digits of a number
+abbrev pub numeral : ℕ → Document
+numeral n = characters_before (decimal n) Empty
+
+-- an element alone
+abbrev pub element : Tag → List Attribute → Document → Document
+element tag attributes inside = Element tag attributes inside Empty
+
+-- one document behind another
+abbrev pub joined : Document → Document → Document
+joined Empty next = next
+joined (Character c d) next = Character c (joined d next)
+joined (Element tag attributes inside d) next = Element tag attributes inside (joined d next)
+
+-- an attribute that is a number
+abbrev pub number_of : Key → ℕ → Attribute
+number_of key n = attribute key (decimal n)
+
+-- the place that an element is moved to
+abbrev pub moved_to : ℕ → ℕ → Attribute
+moved_to x y = attribute Transform (codes "translate(" ++ (decimal x ++ (codes " " ++ (decimal y ++ codes ")"))))
+
+-- the text of that place
+abbrev pub move_text : ℕ → ℕ → List ℕ
+move_text x y = codes " transform=\"translate(" ++ (text_of (decimal x) ++ (codes " " ++ (text_of (decimal y) ++ codes ")\"")))

@@ -11,6 +11,8 @@ abbrev pub tag_name : Tag → List ℕ
 tag_name tag.Svg = codes "svg"
 tag_name tag.Title = codes "title"
 tag_name tag.Style = codes "style"
+tag_name tag.Defs = codes "defs"
+tag_name tag.Pattern = codes "pattern"
 tag_name tag.G = codes "g"
 tag_name tag.A = codes "a"
 tag_name tag.Rect = codes "rect"
@@ -27,6 +29,7 @@ key_name key.D = codes "d"
 key_name key.Height = codes "height"
 key_name key.Href = codes "href"
 key_name key.Id = codes "id"
+key_name key.PatternUnits = codes "patternUnits"
 key_name key.R = codes "r"
 key_name key.Role = codes "role"
 key_name key.Rx = codes "rx"
@@ -43,11 +46,11 @@ key_name key.Y1 = codes "y1"
 key_name key.Y2 = codes "y2"
 
 abbrev pub tags : List Tag
-tags = tag.Svg ∷ tag.Title ∷ tag.Style ∷ tag.G ∷ tag.A ∷ tag.Rect ∷ tag.Circle ∷ tag.Line ∷ tag.Path ∷ tag.Text ∷ []
+tags = tag.Svg ∷ tag.Title ∷ tag.Style ∷ tag.Defs ∷ tag.Pattern ∷ tag.G ∷ tag.A ∷ tag.Rect ∷ tag.Circle ∷ tag.Line ∷ tag.Path ∷ tag.Text ∷ []
 
 abbrev pub keys : List Key
 keys =
-    key.Class ∷ key.Cx ∷ key.Cy ∷ key.D ∷ key.Height ∷ key.Href ∷ key.Id ∷ key.R ∷ key.Role ∷ key.Rx ∷ key.Space
+    key.Class ∷ key.Cx ∷ key.Cy ∷ key.D ∷ key.Height ∷ key.Href ∷ key.Id ∷ key.PatternUnits ∷ key.R ∷ key.Role ∷ key.Rx ∷ key.Space
     ∷ key.Transform ∷ key.ViewBox ∷ key.Width ∷ key.X ∷ key.X1 ∷ key.X2 ∷ key.Xmlns ∷ key.Y ∷ key.Y1 ∷ key.Y2 ∷ []
 
 -- the first of these that has a name

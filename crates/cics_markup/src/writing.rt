@@ -1,11 +1,13 @@
 //! The pieces of a document, each put at the end of a text.
 
 ghost use Rattle.std.specs.Prelude.{◌≡◌, ◌++◌, map, false, Some, OnOk, codes};
+ghost use Rattle.std.specs.Fmt.{decimal};
 ghost use Rattle.cics_markup.specs.Names.{tag_name};
-ghost use Rattle.cics_markup.specs.Characters.{character_text, shown, shown_text};
+ghost use Rattle.cics_markup.specs.Characters.{character_text, shown, shown_text, text_of};
 ghost use Rattle.cics_markup.specs.Characters.{is_plain, is_special};
 ghost use Rattle.cics_markup.specs.Documents.{Document, document_text, attribute, attribute_text};
-ghost use Rattle.cics_markup.specs.Documents.{end_text};
+ghost use Rattle.cics_markup.specs.Documents.{end_text, said, number_of, numeral};
+ghost use Rattle.cics_markup.specs.Documents.{moved_to, move_text};
 ghost use Rattle.cics_markup.specs.Reading.{document_of};
 
 use crate::names::{Key, Tag};
@@ -65,14 +67,21 @@ fn push_character(out: &mut Vec<u8>, byte: u8) -> Result<(), NoMemory>
     push_ascii(out, reference(byte))
 }
 
-/// Puts bytes as characters of a text or a value.
-pub fn push_text(out: &mut Vec<u8>, bytes: &[u8]) -> Result<(), NoMemory>
+// Puts the characters that are shown for bytes.
+fn push_shown(out: &mut Vec<u8>, bytes: &[u8]) -> Result<(), NoMemory>
     ensures { OnOk result (out.new.items ≡ out.old.items ++ shown_text bytes.now) }
 {
     for byte in bytes {
         push_character(out, *byte)?;
     }
     Ok(())
+}
+
+/// Puts bytes as the characters of a text.
+pub fn push_text(out: &mut Vec<u8>, bytes: &[u8]) -> Result<(), NoMemory>
+    ensures { OnOk result (out.new.items ≡ out.old.items ++ document_text (said bytes.now)) }
+{
+    push_shown(out, bytes)
 }
 
 /// Puts the start of a start tag: attributes may follow, then [`push_inside`].
@@ -91,8 +100,63 @@ pub fn push_attribute(out: &mut Vec<u8>, key: Key, value: &[u8]) -> Result<(), N
     push_ascii(out, " ")?;
     push_ascii(out, key.name())?;
     push_ascii(out, "=\"")?;
-    push_text(out, value)?;
+    push_shown(out, value)?;
     push_ascii(out, "\"")
+}
+
+// Puts a number, as a part of a value.
+#[tactic(auto, using(crate::proofs::Numbers::decimal_text))]
+fn push_digits(out: &mut Vec<u8>, number: u64) -> Result<(), NoMemory>
+    ensures { OnOk result (out.new.items ≡ out.old.items ++ text_of (decimal number)) }
+{
+    push_decimal(out, number)
+}
+
+/// Puts a number as the characters of a text.
+pub fn push_number(out: &mut Vec<u8>, number: u64) -> Result<(), NoMemory>
+    ensures { OnOk result (out.new.items ≡ out.old.items ++ document_text (numeral number)) }
+{
+    push_digits(out, number)
+}
+
+fn push_decimal(out: &mut Vec<u8>, number: u64) -> Result<(), NoMemory>
+    ensures { OnOk result (out.new.items ≡ out.old.items ++ decimal number) }
+{
+    if number >= 10 {
+        push_decimal(out, number / 10)?;
+    }
+    out.push(b'0' + (number % 10) as u8)?;
+    Ok(())
+}
+
+/// Puts an attribute whose value is a number.
+pub fn push_number_attribute(out: &mut Vec<u8>, key: Key, value: u64) -> Result<(), NoMemory>
+    ensures { OnOk result (out.new.items ≡ out.old.items ++ attribute_text (number_of key value)) }
+{
+    push_ascii(out, " ")?;
+    push_ascii(out, key.name())?;
+    push_ascii(out, "=\"")?;
+    push_digits(out, value)?;
+    push_ascii(out, "\"")
+}
+
+// Puts the text of that attribute.
+fn push_move_text(out: &mut Vec<u8>, x: u64, y: u64) -> Result<(), NoMemory>
+    ensures { OnOk result (out.new.items ≡ out.old.items ++ move_text x y) }
+{
+    push_ascii(out, " transform=\"translate(")?;
+    push_digits(out, x)?;
+    push_ascii(out, " ")?;
+    push_digits(out, y)?;
+    push_ascii(out, ")\"")?;
+    Ok(())
+}
+
+/// Puts the attribute that moves an element to this place.
+pub fn push_move(out: &mut Vec<u8>, x: u64, y: u64) -> Result<(), NoMemory>
+    ensures { OnOk result (out.new.items ≡ out.old.items ++ attribute_text (moved_to x y)) }
+{
+    push_move_text(out, x, y)
 }
 
 /// Ends a start tag: what is inside the element follows.
