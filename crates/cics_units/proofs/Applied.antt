@@ -24,7 +24,7 @@ use Rattle.std.proofs.lemmas.List.{append-nil}
 use Rattle.cics_history.specs.Store.{apply, only, counted_answer, found_condition, with_content}
 use Rattle.cics_history.specs.Cells.{content, Ts, effect, cell_of as cell_of_op}
 use Rattle.cics_history.specs.Undo.{images_by}
-use Rattle.cics_history.specs.Records.{is_file_op, file_of}
+use Rattle.cics_history.specs.Records.{is_file_op, file_of, key_of as key_of_op}
 use Rattle.cics_history.specs.declared.ops.Answer.{Answer}
 use Rattle.cics_history.specs.declared.ops.Op.{Op}
 use Rattle.cics_history.specs.declared.ops.Op.TheVariants.{Write, Rewrite, Delete, DeleteGeneric, ReadUpdate, TsWrite, TsRewrite, TsDelete, TdWrite, TdRead, TdDelete}
@@ -236,6 +236,16 @@ pub read_applied : (s : StoreValue) (kept : List AnyImage) (f k : Bytes) (keep o
 read_applied s kept f k keep own given b is = read_applied_by s kept f k keep own (with_content (found_condition given) given) b
     (ap (λ o. with_content (found_condition o) o) (is ∙ ap (λ a. a.content) (read_answer s f b.file b.there k)) ∙ sym (read_answer s f b.file b.there k))
 
+-- a command on a file that is none of the other four is READ UPDATE
+pub read_otherwise : (op : Op) → is_file_op op ≡ true → ((f k r : Bytes) → op ≡ Write f k r → ⊥) → ((f k r : Bytes) → op ≡ Rewrite f k r → ⊥) →
+    ((f k : Bytes) → op ≡ Delete f k → ⊥) → ((f p : Bytes) → op ≡ DeleteGeneric f p → ⊥) → op ≡ ReadUpdate (file_of op) (key_of_op op)
+read_otherwise (Write f k r) on no_write no_rewrite no_delete no_generic = absurd (no_write f k r refl)
+read_otherwise (Rewrite f k r) on no_write no_rewrite no_delete no_generic = absurd (no_rewrite f k r refl)
+read_otherwise (Delete f k) on no_write no_rewrite no_delete no_generic = absurd (no_delete f k refl)
+read_otherwise (DeleteGeneric f p) on no_write no_rewrite no_delete no_generic = absurd (no_generic f p refl)
+read_otherwise (ReadUpdate f k) on no_write no_rewrite no_delete no_generic = refl
+read_otherwise _ on no_write no_rewrite no_delete no_generic = absurd (false≢true on)
+
 -- ---- temporary storage
 -- a command on temporary storage is on no file
 no_file : (op : Op) → is_temp op ≡ true → is_file_op op ≡ false
@@ -323,22 +333,22 @@ module _ (old : StoreValue) (op : Op) (keep own : Bool) (before : List AnyImage)
   spares_row : (c : Cell) → spares op own c ≡ is_other (temp_cell q) c
   spares_row c = rw (no_file op is, no_trans op is) refl
 
-  -- a command on a temporary storage queue is applied, if its rows are changed as it asks and its image is the newest
-  pub temp_applied : (answer : Answer) → answer ≡ rows_answer op old.temp_storage → (new : StoreValue) → new ≡ n → (after : List AnyImage) →
-      after ≡ with_image (option_map TempStorage image) before → IsApplied old new before after op keep own answer
-  temp_applied answer answered new store after newest = record {
+  -- the command is applied, if its image is the newest
+  pub temp_applied : (answer : Answer) → answer ≡ rows_answer op old.temp_storage → (after : List AnyImage) → after ≡ with_image (option_map TempStorage image) before →
+      IsApplied old n before after op keep own answer
+  temp_applied answer answered after newest = record {
     answered = answered ∙ sym (temp_answered op old is change.rising);
-    shown = ap shown_store store ∙ shown_then;
+    shown = shown_then;
     made = with_image (option_map TempStorage image) [];
     newest = newest ∙ with_front (option_map TempStorage image) before;
     stand = stand_if keep (is_done op old.temp_storage) image refl refl refl;
-    ready = λ kept ready. subst (λ s. AreReady s after) (sym store) (subst (AreReady n) (sym newest) (ready_if image refl kept ready));
-    others = subst (AnyKeep (spares op own) old) (sym store) (subst (λ p. AnyKeep p old n) (λ i c. sym (spares_row c) i) (temp_keeps old rows q change.others));
+    ready = λ kept ready. subst (AreReady n) (sym newest) (ready_if image refl kept ready);
+    others = subst (λ p. AnyKeep p old n) (λ i c. sym (spares_row c) i) (temp_keeps old rows q change.others);
     held = λ c unnamed has. temp_held old op keep before c
         (ap (λ o. is_unnamed cell_of_any (with_image (option_map TempStorage o) before) c) (sym change.given) ∙ ap (λ l. is_unnamed cell_of_any l c) (sym newest) ∙ unnamed)
-        (ap (λ s. any_holds s c) (sym (store ∙ ap (with_temp_storage old) change.value)) ∙ has);
-    rows = ap (λ s. s.temp_storage) store ∙ change.value;
-    queues = rw (no_trans op is) (ap (λ s. s.trans_data) store);
+        (ap (λ r. any_holds (with_temp_storage old r) c) (sym change.value) ∙ has);
+    rows = change.value;
+    queues = rw (no_trans op is) refl;
   }
 
 -- ---- transient data
