@@ -20,7 +20,7 @@ ghost use Rattle.cics_units.specs.Applied.{IsSeen, read_given, counted_as};
 
 use crate::files::FilesImage;
 use crate::queues::QueueImage;
-use crate::undoable_store::Store;
+use crate::units_core::Store;
 use cics_history::{Answer, Op};
 use cics_images::{Images, StoreImage};
 use cics_ksds::FileImage;
@@ -173,8 +173,8 @@ fn delete_generic(
     Ok(counted(removed.number))
 }
 
-// What READ UPDATE is answered, once its record was looked up.
-fn found(given: Option<Record>) -> Answer
+/// What READ UPDATE is answered, once its record was looked up.
+pub(crate) fn found(given: Option<Record>) -> Answer
     ensures { result ≡ with_content (found_condition given) given }
 {
     let condition = if given.is_some() {
