@@ -31,7 +31,7 @@ pub if-false : {A : Type 0} (b : Bool) (x y : A) → b ≡ false → (if b then 
 if-false b x y e = rw e refl
 
 -- bytes of one kind, of which no gap is, before the end or a gap
-prefix_len-all : (p : ℕ → Bool) → ((c : ℕ) → is_gap c ≡ true → p c ≡ false) → (run rest : List ℕ) → list_all p run ≡ true → ends rest ≡ true
+pub prefix_len-all : (p : ℕ → Bool) → ((c : ℕ) → is_gap c ≡ true → p c ≡ false) → (run rest : List ℕ) → list_all p run ≡ true → ends rest ≡ true
     → prefix_len p (run ++ rest) ≡ length run
 prefix_len-all p other [] [] all gap = refl
 prefix_len-all p other [] (c ∷ rest) all gap = rw (other c gap) refl
@@ -66,10 +66,10 @@ no_quote-in_capitals c e = grind (arith, nat_tests)
 no_blank-in_capitals : (c : ℕ) → is_in_capitals c ≡ true → is_blank c ≡ false
 no_blank-in_capitals c e = grind (arith, nat_tests)
 
-no_word_byte-gap : (c : ℕ) → is_gap c ≡ true → is_word_byte c ≡ false
+pub no_word_byte-gap : (c : ℕ) → is_gap c ≡ true → is_word_byte c ≡ false
 no_word_byte-gap c e = grind (arith, nat_tests)
 
-no_digit-gap : (c : ℕ) → is_gap c ≡ true → is_digit c ≡ false
+pub no_digit-gap : (c : ℕ) → is_gap c ≡ true → is_digit c ≡ false
 no_digit-gap c e = grind (arith, nat_tests)
 
 no_quote-gap : (c : ℕ) → is_gap c ≡ true → is_quote c ≡ false
@@ -82,11 +82,11 @@ capitals-itself (c ∷ letters) all =
     rw (capital-in_capitals c parts.0) (ap (λ cs. c ∷ cs) (capitals-itself letters parts.1))
 
 -- a second byte that is no quote makes no hexadecimal literal
-behind_x-no_quote : (c d : ℕ) (bytes : List ℕ) → is_quote d ≡ false → behind_x (c ∷ d ∷ bytes) ≡ None
+pub behind_x-no_quote : (c d : ℕ) (bytes : List ℕ) → is_quote d ≡ false → behind_x (c ∷ d ∷ bytes) ≡ None
 behind_x-no_quote c d bytes e = elim (cases_Bool (capital c == 88)) [ inl x ↦ rw (x, e) refl | inr other ↦ rw other refl ]
 
 -- a first byte that is no X makes none either
-behind_x-other : (c : ℕ) (bytes : List ℕ) → (capital c == 88) ≡ false → behind_x (c ∷ bytes) ≡ None
+pub behind_x-other : (c : ℕ) (bytes : List ℕ) → (capital c == 88) ≡ false → behind_x (c ∷ bytes) ≡ None
 behind_x-other c [] e = refl
 behind_x-other c (d ∷ bytes) e = rw e refl
 
@@ -133,10 +133,10 @@ digit_more n digits h are =
 decimal-digits : (n : ℕ) → n < 2 ^ 64 → AreDigits n (decimal n)
 decimal-digits n small = decimal_by_steps AreDigits one_digit digit_more n small
 
-no_letter-digit : (c : ℕ) → is_digit c ≡ true → is_letter c ≡ false
+pub no_letter-digit : (c : ℕ) → is_digit c ≡ true → is_letter c ≡ false
 no_letter-digit c e = grind (arith, nat_tests)
 
-no_x-digit : (c : ℕ) → is_digit c ≡ true → (capital c == 88) ≡ false
+pub no_x-digit : (c : ℕ) → is_digit c ≡ true → (capital c == 88) ≡ false
 no_x-digit c e = grind (arith, nat_tests)
 
 token_at-number : (n : ℕ) (digits rest : List ℕ) → n < 2 ^ 64 → AreDigits n digits → ends rest ≡ true → token_at (digits ++ rest) ≡ (number n, rest)
@@ -211,7 +211,7 @@ token_at-written opening rest can gap = ap (λ x. hexadecimal_or x (plain_at 40 
 token_at-written closing rest can gap = ap (λ x. hexadecimal_or x (plain_at 41 rest)) (behind_x-other 41 rest refl)
 token_at-written (broken fault) rest can gap = absurd can
 
-no_blank-front : (c : ℕ) (bytes : List ℕ) → is_blank c ≡ false → after_blanks (c ∷ bytes) ≡ c ∷ bytes
+pub no_blank-front : (c : ℕ) (bytes : List ℕ) → is_blank c ≡ false → after_blanks (c ∷ bytes) ≡ c ∷ bytes
 no_blank-front c bytes e = rw e refl
 
 no_blank-digit : (c : ℕ) → is_digit c ≡ true → is_blank c ≡ false

@@ -17,3 +17,6 @@ pub mod ScriptBytes
 pub mod NamesBack
 pub mod Spelled
 pub mod ReadBack
+pub mod Stuck
+pub mod Cuts
+pub mod Passed

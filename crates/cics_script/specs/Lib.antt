@@ -11,3 +11,4 @@ pub mod Lines
 pub mod Layout
 pub mod Spelling
 pub mod WrittenOut
+pub mod Columns

@@ -18,7 +18,7 @@ use Rattle.cics_script.specs.declared.words.OptionWord.{OptionWord}
 use Rattle.cics_script.specs.declared.words.Kind.{Kind}
 use Rattle.cics_script.specs.Faults.{Refuses}
 use Rattle.cics_script.specs.Literals.{said, recorded}
-use Rattle.cics_script.specs.Tokens.{Token, word, number, literal, opening, closing, broken, capital, text_in, tokens}
+use Rattle.cics_script.specs.Tokens.{Token, word, number, literal, opening, closing, broken, capital, text_in, token_at, tokens}
 use Rattle.cics_script.specs.Words.{lookup}
 use Rattle.cics_script.specs.Options.{Content, text, name8, name4, amount, nothing, Entry, Place, at_option, at_opening, at_value, at_closing, at_end, behind_option, reads}
 
@@ -146,3 +146,10 @@ Ends bytes (Err fault) = (form : Form) (found : List Entry) → Refuses (reads f
 abbrev pub GivesEntries : Result (List Entry) LineFault → Result (ArrayVec Found) LineFault → Type 0
 GivesEntries read (Ok found) = read ≡ Ok (entries found.items)
 GivesEntries read (Err fault) = Refuses read fault
+
+-- what cutting off the token in front of these bytes gave: its bytes, which are the same token if a blank stands right behind them, and the bytes behind it; nothing if it is broken
+abbrev pub CutsOff : List ℕ → Option (Bor (List ℕ) × Bor (List ℕ)) → Type 0
+CutsOff bytes None = (fault : LineFault) × (token_at bytes ≡ (broken fault, []))
+CutsOff bytes (Some found) =
+    (token : Token) × (token_at bytes ≡ (token, found.1.now)) × (bytes ≡ found.0.now ++ found.1.now)
+    × ((more : List ℕ) → token_at (found.0.now ++ 32 ∷ more) ≡ (token, 32 ∷ more))

@@ -7,6 +7,7 @@
 //! such a line, in a journal and in a listing.
 #![tactic(auto)]
 
+mod columns;
 mod commands;
 mod faults;
 mod lines;
@@ -19,6 +20,7 @@ mod values;
 mod words;
 mod writing;
 
+pub use columns::{Placed, find_fault};
 pub use faults::LineFault;
 pub use lines::{Line, read_line};
 pub use spelling::commands_in_any_order;

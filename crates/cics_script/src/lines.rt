@@ -530,8 +530,8 @@ fn read_issue(alloc: Global, label: Name8, bytes: &[u8]) -> Result<Line, LineFau
     }
 }
 
-// A line that is neither blank nor a comment.
-fn read_statement(alloc: Global, bytes: &[u8]) -> Result<Line, LineFault>
+/// Reads a line that is neither blank nor a comment.
+pub fn read_statement(alloc: Global, bytes: &[u8]) -> Result<Line, LineFault>
     ensures { Reads (statement (tokens bytes.now)) result }
 {
     let (word, rest) = match first_word(bytes) {
@@ -551,7 +551,8 @@ fn read_statement(alloc: Global, bytes: &[u8]) -> Result<Line, LineFault>
     }
 }
 
-fn is_in_script(byte: u8) -> bool
+/// Whether a line may have a byte: a tab, or printable ASCII.
+pub fn is_in_script(byte: u8) -> bool
     ensures { result ≡ is_script_byte byte }
 {
     byte == b'\t' || (b' '..=b'~').contains(&byte)

@@ -8,7 +8,7 @@ ghost use Rattle.cics_script.specs.Tokens.{is_blank, is_digit, is_letter, is_wor
 ghost use Rattle.cics_script.specs.Tokens.{after_blanks, value_of, text_in, token_at, number_at};
 ghost use Rattle.cics_script.specs.Tokens.{word_at, as_literal, behind_x};
 ghost use Rattle.cics_script.specs.Layout.{is_gap, ends, is_word};
-ghost use Rattle.cics_script.specs.Views.{GivesToken, StartsWith, Takes, IsNamed};
+ghost use Rattle.cics_script.specs.Views.{GivesToken, StartsWith, Takes, IsNamed, CutsOff};
 ghost use Rattle.cics_script.specs.Words.{lookup};
 
 use crate::faults::LineFault;
@@ -190,6 +190,18 @@ fn read_token(bytes: &[u8]) -> Result<(Token<'_>, &[u8]), LineFault>
         b'(' => Ok((Token::Opening, rest)),
         b')' => Ok((Token::Closing, rest)),
         _ => Err(LineFault::UnknownWord),
+    }
+}
+
+/// Cuts off the token in front of bytes that begin with no blank, and returns its bytes and those
+/// behind it; nothing if the token is broken in itself.
+pub fn whole_token(bytes: &[u8]) -> Option<(&[u8], &[u8])>
+    requires { 0 < length bytes.now }
+    ensures { CutsOff bytes.now result }
+{
+    match read_token(bytes) {
+        Ok((_, behind)) => Some(bytes.split_at(bytes.len() - behind.len())),
+        Err(_) => None,
     }
 }
 
