@@ -1,0 +1,3 @@
+mod Rows
+pub mod Ways
+pub mod Sought

@@ -1,0 +1,46 @@
+-- Circles in a graph of tasks, each of which waits for one other at most.
+use Rattle.std.specs.Prelude.{ℕ, zero, suc, ◌==◌, nat_lt, if◌then◌else◌, Option, Some, None, option_map, unwrap_or, slice_get, length, List, [], ◌∷◌, ◌++◌}
+use Rattle.std.specs.List.{list_any}
+
+-- a graph: at the number of each task the number of the one that it waits for, if it waits
+abbrev pub Graph : Type 0
+Graph = List (Option ℕ)
+
+-- whom a task waits for
+abbrev pub next_of : Graph → ℕ → Option ℕ
+next_of g at = unwrap_or (slice_get g at) None
+
+-- the way of a task that waits for a next one: it ends where that is the first, goes on where its number is greater than the
+-- first's, and else leads nowhere
+abbrev pub way_on : (ℕ → Option (List ℕ)) → ℕ → ℕ → Option ℕ → Option (List ℕ)
+way_on rest first at None = None
+way_on rest first at (Some next) =
+    if next == first then Some (at ∷ []) else if nat_lt first next then option_map (λ way. at ∷ way) (rest next) else None
+
+-- the tasks from one on, each waiting for the next and the last for the first, in so many steps at most
+abbrev pub way_back : Graph → ℕ → ℕ → ℕ → Option (List ℕ)
+way_back g zero first at = None
+way_back g (suc n) first at = way_on (way_back g n first) first at (next_of g at)
+
+-- the circle in which a task has the least number, if there is one
+abbrev pub circle_from : Graph → ℕ → Option (List ℕ)
+circle_from g first = way_back g (length g) first first
+
+-- these circles and one more, if there is one
+abbrev pub with_circle : List (List ℕ) → Option (List ℕ) → List (List ℕ)
+with_circle cs None = cs
+with_circle cs (Some c) = cs ++ c ∷ []
+
+-- the circles whose first task has a number below this one, in the order of those numbers
+abbrev pub circles_below : Graph → ℕ → List (List ℕ)
+circles_below g zero = []
+circles_below g (suc n) = with_circle (circles_below g n) (circle_from g n)
+
+-- all circles
+abbrev pub circles : Graph → List (List ℕ)
+circles g = circles_below g (length g)
+
+-- the first of these circles that has a task
+abbrev pub circle_with : List (List ℕ) → ℕ → Option (List ℕ)
+circle_with [] at = None
+circle_with (c ∷ cs) at = if list_any (λ k. k == at) c then Some c else circle_with cs at

@@ -1,0 +1,32 @@
+-- The deadlocks of a region: the circles of its tasks, each of which waits for the task that blocks it.
+use Rattle.std.specs.Prelude.{ℕ, zero, suc, Option, option_map, option_and_then, map, length, List, [], ◌∷◌, ◌++◌}
+use Rattle.std.specs.List.{filter_map}
+use Rattle.cics_names.specs.Keyed.{Bytes}
+use Rattle.cics_dispatch.specs.Machine.{Machine}
+use Rattle.cics_dispatch.specs.Blockers.{blocker_of, label_at, number_of}
+use Rattle.cics_deadlock.specs.Circles.{Graph, circles, circle_with}
+
+-- the number of the task for which the task of a number has to wait now
+abbrev pub blocker_at : Machine → ℕ → Option ℕ
+blocker_at m number = option_and_then (number_of m.tasks) (option_and_then (blocker_of m) (label_at m.tasks number))
+
+-- for whom the tasks below a number have to wait
+abbrev pub waits_below : Machine → ℕ → Graph
+waits_below m zero = []
+waits_below m (suc n) = waits_below m n ++ blocker_at m n ∷ []
+
+-- for whom each task has to wait
+abbrev pub waits_of : Machine → Graph
+waits_of m = waits_below m (length m.tasks)
+
+-- the labels of tasks
+abbrev pub labels_of : Machine → List ℕ → List Bytes
+labels_of m numbers = filter_map (label_at m.tasks) numbers
+
+-- the labels of the tasks of each circle
+abbrev pub deadlocks : Machine → List (List Bytes)
+deadlocks m = map (labels_of m) (circles (waits_of m))
+
+-- those of the circle that the task of a label is in, if it is in one
+abbrev pub deadlock_of : Machine → Bytes → Option (List Bytes)
+deadlock_of m label = option_map (labels_of m) (option_and_then (circle_with (circles (waits_of m))) (number_of m.tasks label))

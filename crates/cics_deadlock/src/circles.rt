@@ -1,0 +1,57 @@
+//! The circles of a graph in which each task waits for one other at most.
+
+ghost use Rattle.std.specs.Prelude.{◌≡◌, ◌<◌, ◌≤◌, ℕ, All, Some, IfOk, length};
+ghost use Rattle.cics_deadlock.specs.Circles.{next_of, circle_from, circles};
+
+use cics_names::{Items, NoMemory};
+use std::alloc::Global;
+
+// Whom a task waits for, if it waits.
+fn next_of(waits_for: &[Option<usize>], at: usize) -> Option<usize>
+    ensures { result ≡ next_of waits_for.now at }
+{
+    *waits_for.get(at)?
+}
+
+// The circle in which a task has the least number, if there is one.
+fn circle_from(
+    alloc: Global,
+    waits_for: &[Option<usize>],
+    first: usize,
+) -> Result<Option<Items<usize>>, NoMemory>
+    ensures { IfOk result (λ circle. circle ≡ circle_from waits_for.now first) }
+{
+    let mut circle = Items::new(alloc);
+    let mut at = first;
+    for _step in 0..waits_for.len() {
+        let Some(next) = next_of(waits_for, at) else {
+            return Ok(None);
+        };
+        if next < first {
+            return Ok(None);
+        }
+        circle.push(at)?;
+        if next == first {
+            return Ok(Some(circle));
+        }
+        at = next;
+    }
+    Ok(None)
+}
+
+/// Returns the circles of a graph, each once, in the order of their first tasks.
+///
+/// `waits_for` has for each task, by its number, the number of the task that it waits for.
+///
+/// Cost: O(n * n), n the number of tasks that wait.
+pub fn circles(alloc: Global, waits_for: &[Option<usize>]) -> Result<Items<Items<usize>>, NoMemory>
+    ensures circles { IfOk result (λ found. found ≡ circles waits_for.now) }
+{
+    let mut found = Items::new(alloc);
+    for first in 0..waits_for.len() {
+        if let Some(circle) = circle_from(alloc, waits_for, first)? {
+            found.push(circle)?;
+        }
+    }
+    Ok(found)
+}
