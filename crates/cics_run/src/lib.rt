@@ -15,4 +15,5 @@ mod writing;
 
 pub use command_line::{Asked, arguments, exit_status};
 pub use running::{CHUNK, LIMIT, Options, RunFault, Status, Wanted, run, run_over};
+pub use session::Session;
 pub use streams::{Failed, Sink, Source};

@@ -66,7 +66,8 @@ pub struct Wanted {
 
 /// Runs the script that a reader gives, and writes its journal and what follows it.
 ///
-/// It is [`run_over`] a source and a sink that count nothing.
+/// It is [`run_over`] a source and a sink that count nothing. `alloc` gives the memory of the region
+/// and of what is printed.
 pub fn run<R: Read, W: Write>(
     alloc: Global,
     reader: &mut R,
@@ -80,38 +81,21 @@ pub fn run<R: Read, W: Write>(
         options,
         serial: false,
     };
-    run_over(alloc, reader, writer, wanted)
+    let mut session = Session::new(alloc);
+    run_over(&mut session, reader, writer, wanted)
 }
 
 /// Runs the script that a source gives, and writes its journal and what follows it.
 ///
 /// It reads at most `LIMIT` bytes, and one more to see whether there are more. Once it has printed
-/// a fault it reads no more. A last line that lacks its LF is run at the input's end. `alloc` gives
-/// the memory of the region and of what is printed.
+/// a fault it reads no more. A last line that lacks its LF is run at the input's end.
 ///
 /// Returns how the run ended, or why it stopped: `Status` and `RunFault` say what is written then.
 /// It returns a read or a write fault only if that very call failed, and tries none again.
+///
+/// The session is a new one, and is left to its owner, who drops it. A process that ends right
+/// behind the run may forget it.
 pub fn run_over<S: Source, K: Sink>(
-    alloc: Global,
-    source: &mut S,
-    sink: &mut K,
-    wanted: Wanted,
-) -> Result<Status, RunFault>
-    ensures read_faults { Rises (S.failed source.old) (S.failed source.new)
-        (failed_reads_of result) }
-    ensures write_faults { Rises (K.failed sink.old) (K.failed sink.new)
-        (failed_writes_of result) }
-    ensures asked { RisesAtMost (S.asked source.old) (S.asked source.new) most_reads }
-    ensures whole_run { RunsOver wanted (S.remaining source.old) (S.remaining source.new)
-        (S.last source.new) (K.contents sink.old) (K.contents sink.new) result }
-{
-    let mut session = Session::new(alloc);
-    run_from(&mut session, source, sink, wanted)
-}
-
-// Runs the script from a session before its first byte, and leaves the session to its owner, who
-// alone drops it.
-fn run_from<S: Source, K: Sink>(
     session: &mut Session,
     source: &mut S,
     sink: &mut K,

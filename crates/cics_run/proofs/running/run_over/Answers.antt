@@ -5,7 +5,7 @@ use Rattle.cics_run.specs.declared.running.TheConstants.{LIMIT}
 use Rattle.cics_run.proofs.Known.{consumes-append}
 use Rattle.cics_run.proofs.Counting.{rises-first, rises-rises}
 use Rattle.cics_run.proofs.Reading.{number-bound, front-of, chunk-length, within-chunk, reads-going, reads-chunk, stopped-output, all-written, read_more, read_nothing, one_more, runs-stop, runs-ended}
-use Rattle.cics_run.proofs.running.run_from.Goals as goal
+use Rattle.cics_run.proofs.running.run_over.Goals as goal
 
 pub finish-requires : goal.finish-requires
 finish-requires g c =

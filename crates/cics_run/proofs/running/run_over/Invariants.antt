@@ -3,7 +3,7 @@ use Rattle.std.specs.Io.KnownBytes.{Consumes}
 use Rattle.cics_run.specs.Standing.{Stands}
 use Rattle.cics_run.specs.Streams.{Rises}
 use Rattle.cics_run.specs.declared.running.TheConstants.{LIMIT, CHUNK}
-use Rattle.cics_run.proofs.running.run_from.Given as goal
+use Rattle.cics_run.proofs.running.run_over.Given as goal
 
 abbrev pub invariant-reads : goal.invariant-reads
 invariant-reads g l = (bytes : List ℕ) × Consumes (g.S.Source.remaining l.fn.source) (g.S.Source.remaining l.source) bytes
