@@ -5,7 +5,7 @@ use Rattle.std.proofs.Common.{sym, ap, ◌∙◌, subst, arith, inl, inr}
 use Rattle.std.proofs.lemmas.Bool.{cases_Bool, and_parts, and_from, false≢true}
 use Rattle.cics_names.specs.Keyed.{Bytes, Map, value_at, with_value, is_rising}
 use Rattle.cics_images.specs.Cells.{Cell, Kept, is_other, is_unnamed}
-use Rattle.cics_images.specs.declared.stores.StoreImage.TheVariants.{File, TempStorage, TransData}
+use Rattle.cics_images.specs.declared.stores.StoreImage.TheVariants.{File, TempStorage}
 use Rattle.cics_ksds.specs.Prefixes.{prefix_images, under, without_prefix}
 use Rattle.cics_ksds.specs.Undo.{ImageValue, KeepsKeys, IsFileImage, written_image, rewritten_image, deleted_image}
 use Rattle.cics_images.specs.StoreCells.{file_cell, temp_cell, with_files, with_temp_storage, with_trans_data}
@@ -24,29 +24,27 @@ use Rattle.std.proofs.lemmas.List.{append-nil}
 use Rattle.cics_history.specs.Store.{apply, only, counted_answer, found_condition, with_content}
 use Rattle.cics_history.specs.Cells.{content, Ts, effect, cell_of as cell_of_op}
 use Rattle.cics_history.specs.Undo.{images_by}
-use Rattle.cics_history.specs.Records.{is_file_op, file_of}
+use Rattle.cics_history.specs.Records.{is_file_op, file_of, key_of as key_of_op}
 use Rattle.cics_history.specs.declared.ops.Answer.{Answer}
 use Rattle.cics_history.specs.declared.ops.Op.{Op}
-use Rattle.cics_history.specs.declared.ops.Op.TheVariants.{Write, Rewrite, Delete, DeleteGeneric, ReadUpdate, TsWrite, TsRewrite, TsDelete, TdWrite, TdRead, TdDelete}
+use Rattle.cics_history.specs.declared.ops.Op.TheVariants.{Write, Rewrite, Delete, DeleteGeneric, ReadUpdate, TdWrite, TdRead, TdDelete}
 use Rattle.cics_units.specs.FilesImages.{FilesImage, cell_of, cell_of_image}
-use Rattle.cics_units.specs.StoreMatching.{StoreValue, AnyImage, QueuesImage, AnyLeads, end_cell, bytes_of_end, shown_store, shown_records, bytes_of, any_content, any_undone, cell_of_any, any_holds, AnyKeep, IsImageOfChange, AreImagesOf}
+use Rattle.cics_units.specs.StoreMatching.{StoreValue, AnyImage, AnyLeads, end_cell, bytes_of_end, shown_store, shown_records, bytes_of, any_content, any_undone, cell_of_any, any_holds, AnyKeep, IsImageOfChange, AreImagesOf}
 use Rattle.cics_units.specs.Parts.{is_recoverable_in, leaves, leaves_any, of_files, with_stored, image_if}
 use Rattle.cics_units.specs.FilesChanges.{IsFilesImage, others_kept, image_among as file_image_among}
-use Rattle.cics_units.specs.QueueChanges.{is_trans, is_temp, queue_of, end_of, is_left, trans_after, trans_answer, rows_after, rows_image, rows_answer, IsTempChange, IsOneChanged, with_image, in_queue}
+use Rattle.cics_units.specs.QueueChanges.{is_trans, is_temp, queue_of, end_of, is_left, trans_after, trans_answer, rows_after, rows_image, rows_answer, IsTempChange, IsTransChange, with_image, in_queue}
 use Rattle.cics_units.specs.Applied.{IsSeenIn, spares, AreImagesMade, IsApplied, IsFileBound, IsQueueBound, marks_in, marks_if, read_given, counted_as}
 use Rattle.cics_units.proofs.StoreInPlace.{AreReady, ready_where, shown_ts}
-use Rattle.cics_units.proofs.TempChanges.{temp_cell_of, temp_single, is_done, rows_rise, rows_stay, rows_plain, rows_imaged, temp_stored, temp_answered, temp_changes}
+use Rattle.cics_units.proofs.TempChanges.{temp_cell_of, temp_single, temp_no_file, temp_no_trans, is_done, rows_rise, rows_stay, rows_plain, rows_imaged, temp_stored, temp_answered, temp_changes}
 use Rattle.cics_units.proofs.StoreTempExecuted.{temp_any_image, temp_keeps}
 use Rattle.cics_units.proofs.StoreExecuted.{all_of, IsAnyImage}
 use Rattle.cics_units.proofs.StoreQueueExecuted.{kept_with, ready_with, left_here, trans_keeps, trans_any_image}
-use Rattle.cics_units.proofs.TransChanges.{IsToldEnough, told_unwritten, trans_stored, trans_answered, carried_after, marks_of_queue, plain_image}
-use Rattle.cics_units.proofs.QueueClauses.{image_among}
+use Rattle.cics_units.proofs.TransChanges.{IsToldEnough, trans_no_file, told_unwritten, trans_stored, trans_answered, carried_after, marks_of_queue, plain_image}
 use Rattle.cics_units.proofs.QueuesHeld.{temp_held, trans_held}
 use Rattle.cics_units.proofs.MadeImages.{files_kept, ready_in_turn, images_by-one, change_of}
 use Rattle.cics_units.proofs.FilesChanged.{AreFileImagesAfter, AreFilesChanged}
 use Rattle.cics_units.proofs.FileChanges.{read_answer, write_changed, write_answer, rewrite_changed, rewrite_answer, delete_changed, delete_answer, generic_answer}
 use Rattle.cics_units.proofs.DeletedUnder.{generic_changed}
-use Rattle.cics_history.proofs.Entries.{with_value-same}
 use Rattle.cics_history.proofs.Joining.{read_only, apply-content, touches-self}
 use Rattle.cics_units.specs.FilesImagesLaws as files
 
@@ -157,10 +155,6 @@ bound_here s name keep b f there = record {
   content = subst (λ x. IsContent x.definition x.records) (same_file s name keep b f there) b.content;
 }
 
--- a file that stayed as it was leaves the store as it was
-pub same_store : (s : StoreValue) (name : Bytes) (f g : FileValue) → T (is_rising s.files) → value_at name s.files ≡ Some f → g ≡ f → with_files s (with_value name g s.files) ≡ s
-same_store s name f g rising there same = ap (with_files s) (ap (λ x. with_value name x s.files) same ∙ with_value-same name f s.files rising there)
-
 -- a file that is bound was changed by a command, which is answered
 module _ (old : StoreValue) (name : Bytes) (keep own : Bool) (b : IsFileBound old name keep) (g : FileValue) (image : Option ImageValue) (answer : Answer)
     (before after : List AnyImage) (newest : after ≡ of_files (image_if name image) ++ before) where
@@ -242,21 +236,17 @@ pub read_applied : (s : StoreValue) (kept : List AnyImage) (f k : Bytes) (keep o
 read_applied s kept f k keep own given b is = read_applied_by s kept f k keep own (with_content (found_condition given) given) b
     (ap (λ o. with_content (found_condition o) o) (is ∙ ap (λ a. a.content) (read_answer s f b.file b.there k)) ∙ sym (read_answer s f b.file b.there k))
 
+-- a command on a file that is none of the other four is READ UPDATE
+pub read_otherwise : (op : Op) → is_file_op op ≡ true → ((f k r : Bytes) → op ≡ Write f k r → ⊥) → ((f k r : Bytes) → op ≡ Rewrite f k r → ⊥) →
+    ((f k : Bytes) → op ≡ Delete f k → ⊥) → ((f p : Bytes) → op ≡ DeleteGeneric f p → ⊥) → op ≡ ReadUpdate (file_of op) (key_of_op op)
+read_otherwise (Write f k r) on no_write no_rewrite no_delete no_generic = absurd (no_write f k r refl)
+read_otherwise (Rewrite f k r) on no_write no_rewrite no_delete no_generic = absurd (no_rewrite f k r refl)
+read_otherwise (Delete f k) on no_write no_rewrite no_delete no_generic = absurd (no_delete f k refl)
+read_otherwise (DeleteGeneric f p) on no_write no_rewrite no_delete no_generic = absurd (no_generic f p refl)
+read_otherwise (ReadUpdate f k) on no_write no_rewrite no_delete no_generic = refl
+read_otherwise _ on no_write no_rewrite no_delete no_generic = absurd (false≢true on)
+
 -- ---- temporary storage
--- a command on temporary storage is on no file
-no_file : (op : Op) → is_temp op ≡ true → is_file_op op ≡ false
-no_file (TsWrite q d) is = refl
-no_file (TsRewrite q n d) is = refl
-no_file (TsDelete q) is = refl
-no_file _ is = absurd (false≢true is)
-
--- nor on a transient data queue
-no_trans : (op : Op) → is_temp op ≡ true → is_trans op ≡ false
-no_trans (TsWrite q d) is = refl
-no_trans (TsRewrite q n d) is = refl
-no_trans (TsDelete q) is = refl
-no_trans _ is = absurd (false≢true is)
-
 -- an image more lies before the others
 with_front : (o : Option AnyImage) (is : List AnyImage) → with_image o is ≡ with_image o [] ++ is
 with_front None is = refl
@@ -295,13 +285,13 @@ module _ (old : StoreValue) (op : Op) (keep own : Bool) (before : List AnyImage)
   stand_if : (k done : Bool) (o : Option TsImage) → keep ≡ k → is_done op old.temp_storage ≡ done → image ≡ o → AreImagesMade old op k (with_image (option_map TempStorage o) [])
   stand_if false done o plain is_so given = ap (λ x. with_image (option_map TempStorage x) [])
       (sym given ∙ change.given ∙ ap (λ b. rows_image op b old.temp_storage) plain ∙ rows_plain op old.temp_storage)
-  stand_if true false o kept is_so given = rw (no_trans op is) in_none
+  stand_if true false o kept is_so given = rw (temp_no_trans op is) in_none
     where
       in_none : AreImagesOf (images_by (shown_store old) op (content (shown_store old))) [] (with_image (option_map TempStorage o) [])
       in_none = subst (λ x. AreImagesOf (images_by (shown_store old) op (content (shown_store old))) [] (with_image (option_map TempStorage x) []))
           (sym (rows_stay op keep old.temp_storage is is_so).1 ∙ sym change.given ∙ given)
           (subst (λ l. AreImagesOf l [] []) (sym (changes_if false is_so)) (refl, refl))
-  stand_if true true o kept is_so given = rw (no_trans op is) in_some
+  stand_if true true o kept is_so given = rw (temp_no_trans op is) in_some
     where
       some : (i : TsImage) × (rows_image op true old.temp_storage ≡ Some i)
       some = rows_imaged op old.temp_storage is is_so
@@ -327,35 +317,28 @@ module _ (old : StoreValue) (op : Op) (keep own : Bool) (before : List AnyImage)
       (undoes.ready, ready_where (λ x. true) old (any_undone n (TempStorage i)) before undoes.back (all_of before) ready)
 
   spares_row : (c : Cell) → spares op own c ≡ is_other (temp_cell q) c
-  spares_row c = rw (no_file op is, no_trans op is) refl
+  spares_row c = rw (temp_no_file op is, temp_no_trans op is) refl
 
-  -- a command on a temporary storage queue is applied, if its rows are changed as it asks and its image is the newest
-  pub temp_applied : (answer : Answer) → answer ≡ rows_answer op old.temp_storage → (new : StoreValue) → new ≡ n → (after : List AnyImage) →
-      after ≡ with_image (option_map TempStorage image) before → IsApplied old new before after op keep own answer
-  temp_applied answer answered new store after newest = record {
+  -- the command is applied, if its image is the newest
+  pub temp_applied : (answer : Answer) → answer ≡ rows_answer op old.temp_storage → (after : List AnyImage) → after ≡ with_image (option_map TempStorage image) before →
+      IsApplied old n before after op keep own answer
+  temp_applied answer answered after newest = record {
     answered = answered ∙ sym (temp_answered op old is change.rising);
-    shown = ap shown_store store ∙ shown_then;
+    shown = shown_then;
     made = with_image (option_map TempStorage image) [];
     newest = newest ∙ with_front (option_map TempStorage image) before;
     stand = stand_if keep (is_done op old.temp_storage) image refl refl refl;
-    ready = λ kept ready. subst (λ s. AreReady s after) (sym store) (subst (AreReady n) (sym newest) (ready_if image refl kept ready));
-    others = subst (AnyKeep (spares op own) old) (sym store) (subst (λ p. AnyKeep p old n) (λ i c. sym (spares_row c) i) (temp_keeps old rows q change.others));
+    ready = λ kept ready. subst (AreReady n) (sym newest) (ready_if image refl kept ready);
+    others = subst (λ p. AnyKeep p old n) (λ i c. sym (spares_row c) i) (temp_keeps old rows q change.others);
     held = λ c unnamed has. temp_held old op keep before c
         (ap (λ o. is_unnamed cell_of_any (with_image (option_map TempStorage o) before) c) (sym change.given) ∙ ap (λ l. is_unnamed cell_of_any l c) (sym newest) ∙ unnamed)
-        (ap (λ s. any_holds s c) (sym (store ∙ ap (with_temp_storage old) change.value)) ∙ has);
-    rows = ap (λ s. s.temp_storage) store ∙ change.value;
-    queues = rw (no_trans op is) (ap (λ s. s.trans_data) store);
+        (ap (λ r. any_holds (with_temp_storage old r) c) (sym change.value) ∙ has);
+    rows = change.value;
+    queues = rw (temp_no_trans op is) refl;
   }
 
 -- ---- transient data
--- a command on a transient data queue is on no file
-no_file_trans : (op : Op) → is_trans op ≡ true → is_file_op op ≡ false
-no_file_trans (TdWrite q d) is = refl
-no_file_trans (TdRead q) is = refl
-no_file_trans (TdDelete q) is = refl
-no_file_trans _ is = absurd (false≢true is)
-
--- and leaves the rows of temporary storage
+-- a command on a transient data queue leaves the rows of temporary storage
 trans_rows : (op : Op) (keep : Bool) (rows : Map Row) → is_trans op ≡ true → rows ≡ rows_after op keep rows
 trans_rows (TdWrite q d) keep rows is = refl
 trans_rows (TdRead q) keep rows is = refl
@@ -369,80 +352,73 @@ read_told q own t marked seen = elim (cases_Bool (is_logical t.kind)) [
   | inr plain ↦ told_unwritten (TdRead q) own t (marked.unmarked plain).1
 ]
 
-module _ (old : StoreValue) (op : Op) (keep own : Bool) (before : List AnyImage) (queues : Map TransState) (image : Option QueuesImage)
-    (is : is_trans op ≡ true) (done : IsOneChanged op own old.trans_data queues image) (bound : IsQueueBound old (queue_of op) keep)
-    (told : IsToldEnough op own (marks_of done.before)) where
-  abbrev tn : StoreValue
-  tn = with_trans_data old queues
+-- the queue of a name is the one that is bound
+pub same_queue : (s : StoreValue) (name : Bytes) (keep : Bool) (b : IsQueueBound s name keep) (t : TransState) → value_at name s.trans_data ≡ Some t → b.queue ≡ t
+same_queue s name keep b t there = let same : Some b.queue ≡ Some t = sym b.there ∙ there in cc
 
+abbrev pub queue_here : (s : StoreValue) (name : Bytes) (keep : Bool) → IsQueueBound s name keep → (t : TransState) → value_at name s.trans_data ≡ Some t → IsQueueBound s name keep
+queue_here s name keep b t there = record {
+  queue = t;
+  there = there;
+  logical = b.logical ∙ ap (λ x. is_logical x.kind) (same_queue s name keep b t there);
+  marked = subst IsMarked (same_queue s name keep b t there) b.marked;
+}
+
+-- a queue that is bound was changed by a command
+module _ (old : StoreValue) (op : Op) (keep own : Bool) (is : is_trans op ≡ true) (b : IsQueueBound old (queue_of op) keep) (rising : T (is_rising old.trans_data))
+    (new : TransState) (image : Option TdImage) (change : IsTransChange op own b.queue new image) (told : IsToldEnough op own (marks_of b.queue)) (before : List AnyImage) where
   abbrev tq : Bytes
   tq = queue_of op
 
-  abbrev among_three : StoreValue
-  among_three = with_trans_data old (with_value tq done.after old.trans_data)
-
-  -- the three after it
-  then_is : tn ≡ among_three
-  then_is = ap (with_trans_data old) done.value
-
-  -- the queue is the one that is bound
-  this_queue : bound.queue ≡ done.before
-  this_queue = let same : Some bound.queue ≡ Some done.before = sym bound.there ∙ done.there in cc
+  abbrev tn : StoreValue
+  tn = with_trans_data old (with_value tq new old.trans_data)
 
   trans_shown : shown_store tn ≡ (apply (shown_store old) op).store
-  trans_shown = ap shown_store then_is ∙ ap (λ t. shown_store (with_trans_data old (with_value tq t old.trans_data))) done.change.value
-      ∙ trans_stored op own old done.before is done.there done.rising done.change.marked told
+  trans_shown = ap (λ t. shown_store (with_trans_data old (with_value tq t old.trans_data))) change.value ∙ trans_stored op own old b.queue is b.there rising b.marked told
 
   -- the images
   abbrev trans_made : List AnyImage
-  trans_made = with_image (option_map (in_queue tq) done.taken) []
-
-  trans_newest : (after : List AnyImage) → after ≡ with_image (option_map TransData image) before → after ≡ with_image (option_map (in_queue tq) done.taken) before
-  trans_newest after newest = newest ∙ ap (λ o. with_image o before) (ap (option_map TransData) done.given ∙ image_among tq done.taken)
+  trans_made = with_image (option_map (in_queue tq) image) []
 
   trans_stand : (k : Bool) → keep ≡ k → AreImagesMade old op k trans_made
   trans_stand true kept = rw is (subst (λ ms. AreImagesOf [] ms trans_made) (append-nil (mark_images op (marks_in old)))
-      (kept_with tq [] [] [] done.taken (mark_images op (marks_in old))
-      (subst (λ o. CarriesIfAny o (mark_images op (marks_in old))) (sym done.change.given)
-      (carried_after op own done.before (marks_in old) is done.change.marked (ap (λ t. is_logical t.kind) (sym this_queue) ∙ sym bound.logical ∙ kept) (ap marks_if done.there) told))
+      (kept_with tq [] [] [] image (mark_images op (marks_in old))
+      (subst (λ o. CarriesIfAny o (mark_images op (marks_in old))) (sym change.given)
+      (carried_after op own b.queue (marks_in old) is b.marked (sym b.logical ∙ kept) (ap marks_if b.there) told))
       (marks_of_queue op (marks_in old)) (refl, refl)))
-  trans_stand false plain = ap (λ o. with_image (option_map (in_queue tq) o) [])
-      (done.change.given ∙ plain_image op own done.before (ap (λ t. is_logical t.kind) (sym this_queue) ∙ sym bound.logical ∙ plain))
+  trans_stand false plain = ap (λ o. with_image (option_map (in_queue tq) o) []) (change.given ∙ plain_image op own b.queue (sym b.logical ∙ plain))
 
-  trans_ready : AreReady old before → AreReady among_three (with_image (option_map (in_queue tq) done.taken) before)
-  trans_ready ready = ready_with old among_three tq (bytes_of_end tq (end_of op)) done.taken before ready
-      (undoes done.taken done.change.undoable) (keeps done.taken done.change.without_image)
+  trans_ready : AreReady old before → AreReady tn (with_image (option_map (in_queue tq) image) before)
+  trans_ready ready = ready_with old tn tq (bytes_of_end tq (end_of op)) image before ready (undoes image change.undoable) (keeps image change.without_image)
     where
-      undoes : (o : Option TdImage) → IfSome o (IsTransImage done.before done.after (end_cell (end_of op))) →
-          IfSome o (λ i. IsAnyImage old among_three (bytes_of_end tq (end_of op)) (in_queue tq i))
+      undoes : (o : Option TdImage) → IfSome o (IsTransImage b.queue new (end_cell (end_of op))) →
+          IfSome o (λ i. IsAnyImage old tn (bytes_of_end tq (end_of op)) (in_queue tq i))
       undoes None is_so = tt
-      undoes (Some i) is_so = trans_any_image old tq done.before done.after done.there (end_cell (end_of op)) i is_so
+      undoes (Some i) is_so = trans_any_image old tq b.queue new b.there (end_cell (end_of op)) i is_so
 
-      keeps : (o : Option TdImage) → IfNone o (KeepsEnds (λ c. true) done.before done.after) → IfNone o (AnyKeep (λ c. true) old among_three)
-      keeps None is_so = trans_keeps old tq done.before done.after done.there (λ c. true) is_so
+      keeps : (o : Option TdImage) → IfNone o (KeepsEnds (λ c. true) b.queue new) → IfNone o (AnyKeep (λ c. true) old tn)
+      keeps None is_so = trans_keeps old tq b.queue new b.there (λ c. true) is_so
       keeps (Some i) is_so = tt
 
   spares_end : (c : Cell) → spares op own c ≡ is_left op own c
-  spares_end c = rw (no_file_trans op is, is) refl
+  spares_end c = rw (trans_no_file op is, is) refl
 
-  trans_others : AnyKeep (spares op own) old among_three
-  trans_others = subst (λ p. AnyKeep p old among_three) (λ i c. sym (spares_end c) i)
-      (trans_keeps old tq done.before done.after done.there (is_left op own)
-      (subst (λ p. KeepsEnds p done.before done.after) (λ i c. sym (left_here op own c) i) done.change.others))
+  trans_others : AnyKeep (spares op own) old tn
+  trans_others = subst (λ p. AnyKeep p old tn) (λ i c. sym (spares_end c) i)
+      (trans_keeps old tq b.queue new b.there (is_left op own) (subst (λ p. KeepsEnds p b.queue new) (λ i c. sym (left_here op own c) i) change.others))
 
-  -- a command on a transient data queue is applied, if its queue is changed as it asks and its image is the newest
-  pub trans_applied : (answer : Answer) → answer ≡ trans_answer op own done.before → (new : StoreValue) → new ≡ tn → (after : List AnyImage) →
-      after ≡ with_image (option_map TransData image) before → IsApplied old new before after op keep own answer
-  trans_applied answer answered new store after newest = record {
-    answered = answered ∙ sym (trans_answered op own old done.before is done.there told);
-    shown = ap shown_store store ∙ trans_shown;
+  -- the command is applied, if its image is the newest
+  pub trans_applied : (answer : Answer) → answer ≡ trans_answer op own b.queue → (after : List AnyImage) → after ≡ with_image (option_map (in_queue tq) image) before →
+      IsApplied old tn before after op keep own answer
+  trans_applied answer answered after newest = record {
+    answered = answered ∙ sym (trans_answered op own old b.queue is b.there told);
+    shown = trans_shown;
     made = trans_made;
-    newest = trans_newest after newest ∙ with_front (option_map (in_queue tq) done.taken) before;
+    newest = newest ∙ with_front (option_map (in_queue tq) image) before;
     stand = trans_stand keep refl;
-    ready = λ kept ready. subst (λ s. AreReady s after) (sym (store ∙ then_is)) (subst (AreReady among_three) (sym (trans_newest after newest)) (trans_ready ready));
-    others = subst (AnyKeep (spares op own) old) (sym (store ∙ then_is)) trans_others;
-    held = λ c unnamed has. trans_held old queues c (ap (λ s. any_holds s c) (sym store) ∙ has);
-    rows = ap (λ s. s.temp_storage) store ∙ trans_rows op keep old.temp_storage is;
-    queues = rw is (ap (λ s. s.trans_data) store ∙ done.value ∙ ap (λ t. with_value tq t old.trans_data) done.change.value
-        ∙ ap (λ o. changed_where (λ t. trans_after op own t) tq o old.trans_data) (sym done.there));
+    ready = λ kept ready. subst (AreReady tn) (sym newest) (trans_ready ready);
+    others = trans_others;
+    held = λ c unnamed has. trans_held old (with_value tq new old.trans_data) c has;
+    rows = trans_rows op keep old.temp_storage is;
+    queues = rw is (ap (λ t. with_value tq t old.trans_data) change.value ∙ ap (λ o. changed_where (λ t. trans_after op own t) tq o old.trans_data) (sym b.there));
   }

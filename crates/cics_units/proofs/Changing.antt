@@ -1,6 +1,6 @@
--- One of the values by name is changed where it stands: what the values are then, and what its image is among them. The
--- values are the files of a region, or its transient data queues.
-use Rattle.std.specs.Prelude.{◌≡◌, T, Bool, true, false, cond, ◌&&◌, [], ◌∷◌, Option, Some, None, option_map, IsSome, IfSome, IfNone, Result, Ok, Err, IfOk}
+-- One of the values by name is changed where it stands: what the values are then. The values are the files of a region, or its
+-- transient data queues.
+use Rattle.std.specs.Prelude.{◌≡◌, T, Bool, true, false, cond, ◌&&◌, [], ◌∷◌, Option, Some, None, IsSome, Result, Ok, Err, IfOk}
 use Rattle.std.proofs.Common.{sym, ap, ◌∙◌, subst, refl}
 use Rattle.std.specs.Borrow.{MutBor}
 use Rattle.std.specs.Option.{option_copied_mut}
@@ -9,22 +9,18 @@ use Rattle.std.specs.Ordering.{is_lt}
 use Rattle.std.specs.FinMap.Entries.{below_all}
 use Rattle.std.specs.BTreeMap.{is_at}
 use Rattle.cics_names.specs.Keyed.{Bytes, Map, bytes_cmp, value_at, with_value, is_rising}
-use Rattle.cics_images.specs.Cells.{Cell, is_other}
-use Rattle.cics_images.specs.NamedValues.{cell_of as value_cell, changed_at, changed_where, KeepsIn, NamedKeep}
-use Rattle.cics_images.specs.NamedLaws as laws
-use Rattle.cics_images.specs.NamedChanges as named
-use Rattle.cics_transdata.specs.declared.images.TdImage.{TdImage}
-use Rattle.cics_transdata.specs.Trans.{TransState}
-use Rattle.cics_transdata.specs.Undo.{content_at as end_content, end_of, Leads as EndLeads, IsReadyImage as IsEndReady, undone as queue_undone, KeepsEnds, IsTransImage}
-use Rattle.cics_transdata.specs.UndoLaws as ends
-use Rattle.cics_units.specs.RegionQueues.{queue_image, QueuesKeep, IsQueuesImage}
-use Rattle.cics_history.proofs.Entries.{value_at-looked_up, with_value-set, rising-set, unchanged-set}
+use Rattle.cics_images.specs.NamedValues.{IsReadyIn, changed_at, changed_where}
+use Rattle.cics_history.proofs.Entries.{lookup-value_at, value_at-looked_up, with_value-same, with_value-set, rising-set}
 
 -- ---- values of any kind
--- what is lent is there, if its value is
-pub some_lent : {M : Type 0} (r : Option (MutBor M)) → IsSome (option_copied_mut r) → IsSome r
-some_lent None is = is
-some_lent (Some r) is = is
+-- a value that is there is lent
+pub is_lent : {M : Type 0} (name : Bytes) (es values : Map M) (r : Option (MutBor M)) → option_copied_mut r ≡ lookup (is_at (bytes_cmp name)) es → es ≡ values →
+    IsSome (value_at name values) → IsSome r
+is_lent name es values r found view there = lent r (subst IsSome (sym (found ∙ lookup-value_at name es ∙ ap (value_at name) view)) there)
+  where
+    lent : {M : Type 0} (r : Option (MutBor M)) → IsSome (option_copied_mut r) → IsSome r
+    lent None is = is
+    lent (Some r) is = is
 
 -- where a value is set the names rise as before
 below_set : {M : Type 0} (is : Bytes → Bool) (g : M) (k : Bytes) (es : Map M) → below_all bytes_cmp k (set_value is es g) ≡ below_all bytes_cmp k es
@@ -65,37 +61,14 @@ module _ {M : Type 0} (name : Bytes) (es values : Map M) (f : M) (rising : T (is
     pub stepped : (step : M → M) → g ≡ step f → new ≡ changed_at step name values
     stepped step is = changed ∙ ap (λ x. with_value name x values) is ∙ ap (λ o. changed_where step name o values) (sym there)
 
-    -- where the value stayed they all did
-    pub unchanged : g ≡ f → new ≡ values
-    unchanged same = unchanged-set name g f es new rising there_inside set same ∙ view
+-- where the value of a name stays all do
+pub all_stay : {M : Type 0} (name : Bytes) (f g : M) (m : Map M) → T (is_rising m) → value_at name m ≡ Some f → g ≡ f → with_value name g m ≡ m
+all_stay name f g m rising there same = ap (λ x. with_value name x m) same ∙ with_value-same name f m rising there
 
-    -- what the value keeps they all keep
-    pub kept : (Keeps : (Cell → Bool) → M → M → Type 0) → ((p : Cell → Bool) (m : M) → Keeps p m m) → (p : Cell → Bool) →
-        Keeps (λ c. p (value_cell name c)) f g → NamedKeep Keeps p values new
-    kept Keeps itself p keeps = subst (NamedKeep Keeps p values) (sym (stepped (λ _. g) refl))
-        (laws.each_name (λ _. g) name values (λ q before after. KeepsIn Keeps (λ c. p (value_cell q c)) before after)
-        (subst (λ o. KeepsIn Keeps (λ c. p (value_cell name c)) o (option_map (λ _. g) o)) (sym there) keeps)
-        (λ q apart. laws.keeps_itself_in Keeps itself (λ c. p (value_cell q c)) (value_at q values)))
-
--- ---- transient data queues
-module _ (name : Bytes) (es queues : Map TransState) (f : TransState) (rising : T (is_rising es)) (found : Some f ≡ lookup (is_at (bytes_cmp name)) es) (view : es ≡ queues)
-    (g : TransState) (new : Map TransState) (set : new ≡ set_value (is_at (bytes_cmp name)) es g) where
-  -- the ends that the change of a queue leaves
-  pub other_ends : (end : Cell) → KeepsEnds (is_other end) f g → QueuesKeep (is_other (value_cell name end)) queues new
-  other_ends end keeps = kept name es queues f rising found view g new set KeepsEnds ends.keeps_itself (is_other (value_cell name end))
-      (ends.keeps_fewer (is_other end) (λ c. is_other (value_cell name end) (value_cell name c)) f g (λ c. laws.other_cell name end c) keeps)
-
-  -- the image that a change of a queue gives, if it gives one, is one among the queues
-  pub end_image : (end : Cell) (o : Option TdImage) → IfSome o (IsTransImage f g end) →
-      IfSome (option_map (queue_image name) o) (IsQueuesImage queues new (value_cell name end))
-  end_image end None is = tt
-  end_image end (Some i) is = subst (λ to. IsQueuesImage queues to (value_cell name end) (queue_image name i)) (sym (changed name es queues f rising found view g new set))
-      (named.image_among name f g queues (there name es queues f rising found view) KeepsEnds ends.keeps_itself ends.keeps_fewer end_content end_of EndLeads IsEndReady queue_undone end i is)
-
-  -- where a change gives no image all ends are kept
-  pub without_image : (o : Option TdImage) → IfNone o (KeepsEnds (λ _. true) f g) → IfNone (option_map (queue_image name) o) (QueuesKeep (λ _. true) queues new)
-  without_image None keeps = kept name es queues f rising found view g new set KeepsEnds ends.keeps_itself (λ _. true) keeps
-  without_image (Some i) keeps = tt
+-- an image is ready for a value that is there
+pub there_if_ready : {M I : Type 0} (IsReady : M → I → Type 0) (o : Option M) (i : I) → IsReadyIn IsReady o i → IsSome o
+there_if_ready IsReady None i ready = absurd ready
+there_if_ready IsReady (Some m) i ready = refl
 
 -- what follows from a fact of the value of a success
 pub IfOk-more : {A E : Type 0} (r : Result A E) (P Q : A → Type 0) → ((a : A) → P a → Q a) → IfOk r P → IfOk r Q

@@ -8,9 +8,7 @@ use Rattle.std.specs.declared.cmp.Ordering.TheVariants.{Less, Equal, Greater}
 use Rattle.std.specs.Ordering.{is_lt}
 use Rattle.std.specs.FinMap.Entries.{by_order, below_all}
 use Rattle.cics_names.specs.Keyed.{Bytes, Map, bytes_cmp, is_same, value_at, has_key, with_value, is_rising, without_key}
-use Rattle.std.specs.Cmp.{tied_itself}
-use Rattle.std.specs.Cmp.Lexicographic.{nat_list_cmp_total}
-use Rattle.cics_names.specs.KeyedLaws.{same_bytes, value_at-with_value_same}
+use Rattle.cics_names.specs.KeyedLaws.{same_bytes}
 use Rattle.cics_names.specs.RisingLaws.{rising-with_value}
 use Rattle.cics_ksds.specs.Files.{FileValue, key_of, fits_file, written, filled}
 use Rattle.cics_ksds.specs.declared.definition.FileDef.{FileDef}
@@ -192,40 +190,13 @@ opened_with-written m ps qs name r f found new =
     ∙ ap (λ files. record { files = files; prefixes = ps; queues = queue_openings qs }) (with_value-each opening_of name (filled f (key_of f.definition r) r) m)
     ∙ sym (with_record-found (opened_with m ps qs) name r (opening_of f) (value_at-each opening_of name m ∙ ap (option_map opening_of) found))
 
--- ---- one value of a map changed twice
-module _ {X : Type 0} (k : Bytes) (x y : X) where
-  self : bytes_cmp k k ≡ Equal
-  self = tied_itself nat_list_cmp_total k
-
-  -- of two values that are put under a name the last one stands
-  pub with_value-over : (m : Map X) → with_value k x (with_value k y m) ≡ with_value k x m
-  with_value-over [] = ap (λ o. by_order o ((k, x) ∷ (k, y) ∷ []) ((k, x) ∷ []) ((k, y) ∷ with_value k x [])) self
-  with_value-over (e ∷ m) =
-      elim (bytes_cmp k e.0) as (λ o. bytes_cmp k e.0 ≡ o → with_value k x (by_order o ((k, y) ∷ e ∷ m) ((e.0, y) ∷ m) (e ∷ with_value k y m)) ≡ by_order o ((k, x) ∷ e ∷ m) ((e.0, x) ∷ m) (e ∷ with_value k x m)) [
-        | Less ↦ λ is. ap (λ o. by_order o ((k, x) ∷ (k, y) ∷ e ∷ m) ((k, x) ∷ e ∷ m) ((k, y) ∷ with_value k x (e ∷ m))) self
-        | Equal ↦ λ is. ap (λ o. by_order o ((k, x) ∷ (e.0, y) ∷ m) ((e.0, x) ∷ m) ((e.0, y) ∷ with_value k x m)) is
-        | Greater ↦ λ is. ap (λ o. by_order o ((k, x) ∷ e ∷ with_value k y m) ((e.0, x) ∷ with_value k y m) (e ∷ with_value k x (with_value k y m))) is ∙ ap (λ r. e ∷ r) (with_value-over m)
-      ] refl
-
--- two changes of the value of a name are one change
-pub changed_twice : {X : Type 0} (f g : X → X) (k : Bytes) (m : Map X) → changed_at f k (changed_at g k m) ≡ changed_at (λ x. f (g x)) k m
-changed_twice {X} f g k m = by (value_at k m) refl
-  where
-    by : (o : Option X) → value_at k m ≡ o → changed_at f k (changed_where g k o m) ≡ changed_where (λ x. f (g x)) k o m
-    by None is = ap (λ o. changed_where f k o m) is
-    by (Some x) is = ap (λ o. changed_where f k o (with_value k (g x) m)) (value_at-with_value_same k (g x) m) ∙ with_value-over k (f (g x)) (g x) m
-
 -- ---- the transient data queues of an opening
 -- a record that is written and whose writer commits is one more without a mark
-pub loaded_with-committed : (d : Bytes) (m : Map TransState) (name : Bytes) →
-    changed_at writer_committed name (changed_at (λ q. trans_written q d) name m) ≡ changed_at (λ q. loaded_with q d) name m
-loaded_with-committed d m name = changed_twice writer_committed (λ q. trans_written q d) name m ∙ ap (λ step. changed_at step name m) (λ i q. same q i)
-  where
-    same : (q : TransState) → writer_committed (trans_written q d) ≡ loaded_with q d
-    same q = elim (is_logical q.kind) as (λ b. writer_committed (if b then record { kind = q.kind; placed = q.placed ++ d ∷ []; read = q.read; written = q.written + 1 } else record { kind = q.kind; placed = q.placed ++ d ∷ []; read = q.read; written = q.written }) ≡ loaded_with q d) [
-      | true ↦ refl
-      | false ↦ refl
-    ]
+pub loaded_with-committed : (d : Bytes) (q : TransState) → writer_committed (trans_written q d) ≡ loaded_with q d
+loaded_with-committed d q = elim (is_logical q.kind) as (λ b. writer_committed (if b then record { kind = q.kind; placed = q.placed ++ d ∷ []; read = q.read; written = q.written + 1 } else record { kind = q.kind; placed = q.placed ++ d ∷ []; read = q.read; written = q.written }) ≡ loaded_with q d) [
+  | true ↦ refl
+  | false ↦ refl
+]
 
 -- a queue that has loaded records alone is the one that its opening gives
 opened_queue-again : (q : TransState) → IsLoadedQueue q → opened_queue (queue_opening q) ≡ q

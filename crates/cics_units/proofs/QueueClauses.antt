@@ -1,14 +1,13 @@
 -- What the calls of a transient data queue promise is a change of it as `IsTransChange` says, and what the table of enqueues has
 -- tells whether a unit holds the writing end.
-use Rattle.std.proofs.Common.{◌≡◌, ℕ, Bool, true, false, not, ◌&&◌, Option, Some, None, refl, ap, sym, ◌∙◌}
-use Rattle.std.specs.Prelude.{IfSome, IfNone, option_map}
+use Rattle.std.proofs.Common.{◌≡◌, ℕ, Bool, true, false, not, ◌&&◌, Option, refl, ap, sym, ◌∙◌}
+use Rattle.std.specs.Prelude.{IfSome, IfNone}
 use Rattle.std.proofs.lemmas.Bool.{false≢true}
 use Rattle.cics_names.specs.Keyed.{Bytes}
 use Rattle.cics_images.specs.Cells.{is_other}
-use Rattle.cics_images.specs.declared.stores.StoreImage.TheVariants.{TransData}
 use Rattle.cics_enqueue.specs.Resources.{Table, holder_of}
 use Rattle.cics_transdata.specs.declared.images.TdImage.{TdImage}
-use Rattle.cics_transdata.specs.Trans.{TransState, IsMarked, unread, trans_written, trans_read, trans_deleted}
+use Rattle.cics_transdata.specs.Trans.{TransState, unread, trans_written, trans_read, trans_deleted}
 use Rattle.cics_transdata.specs.Undo.{reading_end, writing_end, KeepsEnds, IsTransImage, written_image, read_image, deleted_image}
 use Rattle.cics_history.specs.History.{outcome_of, is_open}
 use Rattle.cics_history.specs.Holding.{UnitsState}
@@ -18,8 +17,7 @@ use Rattle.cics_history.specs.Cells.{End}
 use Rattle.cics_history.proofs.EndsHeld.{end_held}
 use Rattle.cics_units.specs.TableInPlace.{is_holder, IsTableOf}
 use Rattle.cics_units.specs.StoreInPlace.{holds_end}
-use Rattle.cics_units.specs.RegionQueues.{queue_image}
-use Rattle.cics_units.specs.QueueChanges.{IsTransChange, in_queue}
+use Rattle.cics_units.specs.QueueChanges.{IsTransChange}
 use Rattle.cics_units.proofs.TransChanges.{kind_after}
 
 -- the table has a unit as the holder of an end where the unit, which is open, holds it
@@ -28,13 +26,12 @@ pub end_by_table : (s : UnitsState) (table : Table) → IsTableOf s table → (u
 end_by_table s table of unit on q end =
     sym (of.holders (end_resource q end) unit) ∙ end_held s unit q end ∙ ap (λ b. b && holds_end s unit q end) on
 
-module _ (old new : TransState) (image : Option TdImage) (marked : IsMarked old) (q : Bytes) (own : Bool)
+module _ (old new : TransState) (image : Option TdImage) (q : Bytes) (own : Bool)
     (without_image : IfNone image (KeepsEnds (λ c. true) old new)) where
   -- WRITEQ TD
   pub write_change : (d : Bytes) → new ≡ trans_written old d → image ≡ written_image old → IfSome image (IsTransImage old new writing_end) →
       KeepsEnds (is_other writing_end) old new → IsTransChange (TdWrite q d) own old new image
   write_change d value given undoable others = record {
-    marked = marked;
     value = value;
     given = given;
     undoable = undoable;
@@ -47,7 +44,6 @@ module _ (old new : TransState) (image : Option TdImage) (marked : IsMarked old)
       (own ≡ false → unread new ≡ unread old) → (unread new ≡ unread old → KeepsEnds (is_other reading_end) old new) →
       IsTransChange (TdRead q) own old new image
   read_change value given undoable fresh others = record {
-    marked = marked;
     value = value;
     given = given;
     undoable = undoable;
@@ -67,7 +63,6 @@ module _ (old new : TransState) (image : Option TdImage) (marked : IsMarked old)
   pub delete_change : new ≡ trans_deleted old → image ≡ deleted_image old → IfSome image (IsTransImage old new reading_end) →
       IsTransChange (TdDelete q) own old new image
   delete_change value given undoable = record {
-    marked = marked;
     value = value;
     given = given;
     undoable = undoable;
@@ -78,8 +73,3 @@ module _ (old new : TransState) (image : Option TdImage) (marked : IsMarked old)
     };
     without_image = without_image;
   }
-
--- an image of a queue's change, among those of the three
-pub image_among : (q : Bytes) (o : Option TdImage) → option_map TransData (option_map (queue_image q) o) ≡ option_map (in_queue q) o
-image_among q None = refl
-image_among q (Some i) = refl

@@ -33,34 +33,3 @@ kept_recoveries p o m n keeps have q = by (value_at q m.trans_data) (value_at q 
     by None (Some t) kept = absurd kept
     by (Some t) None kept = absurd kept
     by (Some t) (Some r) kept = ap Some kept.same_kind
-
--- and so does what leaves what was fixed, as undoing and sweeping images do
-pub fixed_recoveries : (o : OpeningState) (m n : StoreValue) → named_fixed (λ t. t.kind) n.trans_data ≡ named_fixed (λ t. t.kind) m.trans_data →
-    HaveRecoveries o m → HaveRecoveries o n
-fixed_recoveries o m n fixed have q = ap (λ f. f q) fixed ∙ have q
-
--- committing the ends that a unit holds leaves each recovery
-pub committed_recoveries : (s : UnitsState) (m n : StoreValue) (v : ℕ) → ((q : Bytes) → value_at q n.trans_data ≡ committed_at s v q
-    (value_at q m.trans_data)) →
-    HaveRecoveries s.opening m → HaveRecoveries s.opening n
-committed_recoveries s m n v settled have q = ap (option_map (λ t. t.kind)) (settled q) ∙ by (value_at q m.trans_data) ∙ have q
-  where
-    ended : (reads writes : Bool) (t : TransState) → (ends_committed reads writes t).kind ≡ t.kind
-    ended false false t = refl
-    ended false true t = refl
-    ended true false t = refl
-    ended true true t = refl
-
-    by : (a : Option TransState) → option_map (λ t. t.kind) (committed_at s v q a) ≡ option_map (λ t. t.kind) a
-    by None = refl
-    by (Some t) = ap Some (ended _ _ t)
-
--- at the beginning each queue holds what was loaded, with its recovery
-pub opened_recoveries : (o : OpeningState) (m : StoreValue) → m.trans_data ≡ map (λ e. (e.0, holding e.1.recovery e.1.records)) o.queues → HaveRecoveries o m
-opened_recoveries o m loaded q =
-    ap (λ d. named_fixed (λ t. t.kind) d q) loaded ∙ ap (option_map (λ t. t.kind)) (value_at-each (λ e. holding e.recovery e.records) q o.queues)
-    ∙ by (value_at q o.queues)
-  where
-    by : (e : Option QueueOpening) → option_map (λ t. t.kind) (option_map (λ e. holding e.recovery e.records) e) ≡ option_map (λ e. e.recovery) e
-    by None = refl
-    by (Some e) = refl

@@ -269,16 +269,6 @@ pub table_entered : (s : UnitsState) (t : Table) (u : Option ℕ) (op : Op) (a :
     IsTableOf (entered s u op a) (table_executed s.opening (unit_or_next u s.outcomes) op a.condition s.reads t)
 table_entered s t u op a i k acts free ready short = executed_table s t u op a i k acts free ready short
 
--- the same of the units after it
-pub table_after : (s : UnitsState) (t : Table) (u : Option ℕ) (op : Op) → IsSound s → IsTableOf s t →
-    may_act s u ≡ true → awaited s u op ≡ None → is_ready_op s u op ≡ true →
-    length (key_of op) ≤ 255 →
-    IsTableOf (after_execution s u op)
-    (table_executed s.opening (unit_or_next u s.outcomes) op (apply (store_of s) op).answer.condition s.reads t)
-table_after s t u op i k acts free ready short =
-    subst (λ h. IsTableOf (state_of s u op h) (table_executed s.opening (unit_or_next u s.outcomes) op (apply (store_of s) op).answer.condition s.reads t))
-    (sym free) (table_entered s t u op (apply (store_of s) op).answer i k acts free ready short)
-
 -- ---- UNLOCK
 
 pub table_unlocked_of : (s : UnitsState) (t : Table) (u : ℕ) (f : Bytes) → IsSound s → IsTableOf s t → is_live s u ≡ true →

@@ -33,15 +33,6 @@ uses_alike o (TdWrite q d) = refl
 uses_alike o (TdRead q) = refl
 uses_alike o (TdDelete q) = refl
 
--- what a command takes is what it uses by the opening, or nothing
-pub takes_alike : (o : OpeningState) (op : Op) → takes_of o op ≡ (if is_recoverable o op || is_read op then uses_of o op else [])
-takes_alike o op = ap (λ rs. if is_recoverable o op || is_read op then rs else []) (uses_alike o op)
-
--- a command answered NORMAL leaves the table with what it takes, where that is anything
-pub table_takes : (o : OpeningState) (u : ℕ) (op : Op) (c : Condition) (reads : List UpdateRead) (t : Table) → is_normal c ≡ true →
-    (is_recoverable o op || is_read op) ≡ true → table_executed o u op c reads t ≡ taken_all t u (takes_of o op)
-table_takes o u op c reads t normal takes = rw (normal, takes) refl
-
 -- no command uses a value
 pub uses_plain : (recoverable : Bool) (op : Op) → list_any is_user (uses_if recoverable op) ≡ false
 uses_plain b (Write f k r) = refl

@@ -1,8 +1,8 @@
 -- Recovery: what a command on a queue makes of it where it stands: the queue after it, its image, and what the unit that
 -- executes it keeps from then on.
-use Rattle.std.specs.Prelude.{◌≡◌, Bool, true, false, not, if◌then◌else◌, T, Option, Some, None, option_map, IfSome, IfNone, List, [], ◌∷◌}
+use Rattle.std.specs.Prelude.{◌≡◌, Bool, true, false, not, if◌then◌else◌, T, Option, Some, None, IfSome, IfNone, List, [], ◌∷◌}
 use Rattle.std.specs.Str.{bytes_eq}
-use Rattle.cics_names.specs.Keyed.{Bytes, Map, value_at, with_value, is_same, is_rising}
+use Rattle.cics_names.specs.Keyed.{Bytes, Map, is_same, is_rising}
 use Rattle.cics_names.specs.declared.conditions.Condition.TheVariants.{Normal}
 use Rattle.cics_images.specs.Cells.{is_other}
 use Rattle.cics_images.specs.Cells as images
@@ -15,7 +15,7 @@ use Rattle.cics_tempstor.specs.Queues.{queue_at, write_condition, write_number, 
 use Rattle.cics_tempstor.specs.Undo.{KeepsQueues, IsTsImage}
 use Rattle.cics_tempstor.specs.Undo as ts
 use Rattle.cics_transdata.specs.declared.images.TdImage.{TdImage}
-use Rattle.cics_transdata.specs.Trans.{TransState, IsMarked, first_of, read_condition, trans_written, trans_read, trans_deleted}
+use Rattle.cics_transdata.specs.Trans.{TransState, first_of, read_condition, trans_written, trans_read, trans_deleted}
 use Rattle.cics_transdata.specs.Undo.{reading_end, writing_end, KeepsEnds, IsTransImage}
 use Rattle.cics_transdata.specs.Undo as td
 use Rattle.cics_history.specs.Openings.{OpeningState}
@@ -24,8 +24,7 @@ use Rattle.cics_history.specs.declared.ops.Answer.{Answer}
 use Rattle.cics_history.specs.declared.ops.Op.{Op}
 use Rattle.cics_history.specs.declared.ops.Op.TheVariants.{TsWrite, TsRewrite, TsDelete, TdWrite, TdRead, TdDelete}
 use Rattle.cics_history.specs.Cells.{End, Reading, Writing}
-use Rattle.cics_units.specs.RegionQueues.{queue_image}
-use Rattle.cics_units.specs.StoreMatching.{StoreValue, AnyImage, QueuesImage, end_cell}
+use Rattle.cics_units.specs.StoreMatching.{StoreValue, AnyImage, end_cell}
 
 -- ---- which queue a command is on
 -- a command on a transient data queue
@@ -101,25 +100,11 @@ is_left op own c = by_part true (λ c. true) (λ c. true) (λ c. is_left_split o
 -- a command has changed a transient data queue and given an image: the queue is what the command leaves, the image undoes the
 -- change, and the ends that the command leaves have what they had; without an image both ends have
 pub record IsTransChange (op : Op) (own : Bool) (old new : TransState) (image : Option TdImage) : Type 0 where
-  -- which each queue keeps by itself
-  pub marked : IsMarked old
   pub value : new ≡ trans_after op own old
   pub given : image ≡ trans_image op own old
   pub undoable : IfSome image (IsTransImage old new (end_cell (end_of op)))
   pub others : KeepsEnds (is_left_end op own) old new
   pub without_image : IfNone image (KeepsEnds (λ _. true) old new)
-
--- a command has changed one of the transient data queues and given an image: that queue is changed, and the others are as they
--- were
-pub record IsOneChanged (op : Op) (own : Bool) (old new : Map TransState) (image : Option QueuesImage) : Type 0 where
-  pub before : TransState
-  pub after : TransState
-  pub taken : Option TdImage
-  pub rising : T (is_rising old)
-  pub there : value_at (queue_of op) old ≡ Some before
-  pub change : IsTransChange op own before after taken
-  pub value : new ≡ with_value (queue_of op) after old
-  pub given : image ≡ option_map (queue_image (queue_of op)) taken
 
 -- ---- temporary storage: `keep` says that the queue is recoverable, and so a change gives an image
 -- the rows after a command

@@ -1,29 +1,8 @@
--- The transient data queues of a region, by name, as one value whose changes are undone: values by name, where each value
--- is a queue. A cell is an end of a queue.
-use Rattle.std.specs.Prelude.{◌≡◌, Bool, T, All, ◌∷◌, [], ◌++◌, map}
+-- The transient data queues of a region, by name, and those of an opening.
+use Rattle.std.specs.Prelude.{◌≡◌, T, All, ◌∷◌, [], ◌++◌, map}
 use Rattle.cics_names.specs.Keyed.{Bytes, Map, is_rising}
-use Rattle.cics_images.specs.Cells.{Cell}
-use Rattle.cics_images.specs.Turns.{IsImageOf}
-use Rattle.cics_images.specs.NamedValues.{named_content, named_cell, IsNamedReady, named_undone, NamedKeep}
-use Rattle.cics_images.specs.declared.named.NamedImage.{NamedImage}
-use Rattle.cics_transdata.specs.declared.images.TdImage.{TdImage}
 use Rattle.cics_transdata.specs.Trans.{TransState, holding}
-use Rattle.cics_transdata.specs.Undo.{content_at as end_content, end_of, Leads as EndLeads, IsReadyImage as IsEndReady, undone as queue_undone, KeepsEnds}
 use Rattle.cics_history.specs.Openings.{QueueOpening}
-
--- the image of a change of the queue of a name
-abbrev pub queue_image : Bytes → TdImage → NamedImage TdImage
-queue_image name image = record { name = name; image = image }
-
--- at the ends that pass, the second queues have what the first have, and what an undo there needs
-abbrev pub QueuesKeep : (Cell → Bool) → Map TransState → Map TransState → Type 0
-QueuesKeep p old new = NamedKeep KeepsEnds p old new
-
--- an image among the queues of a change of an end of one of them
-abbrev pub IsQueuesImage : Map TransState → Map TransState → Cell → NamedImage TdImage → Type 0
-IsQueuesImage old new c image =
-    IsImageOf (λ s c. named_content end_content s c) (λ i. named_cell end_of i) (λ i. EndLeads i.image) (λ s i. IsNamedReady IsEndReady s i)
-    (λ s i. named_undone queue_undone s i) (λ p s n. QueuesKeep p s n) old new c image
 
 -- a queue of which no unit of work has written a record, with a record more
 abbrev pub loaded_with : TransState → Bytes → TransState

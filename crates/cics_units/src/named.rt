@@ -176,10 +176,7 @@ impl<M: Undoable + Drop> Undoable for Named<M> {
     ghost keeps_on = { laws.keeps_on M.Keeps M.keeps_on };
 
     fn undo(&mut self, image: &mut NamedImage<M::Image>) {
-        match self.rows.get_mut(&image.name) {
-            Some(value) => value.undo(&mut image.image),
-            None => unreachable!(),
-        }
+        self.at_mut(&image.name).undo(&mut image.image);
     }
 
     fn settle(&mut self, image: NamedImage<M::Image>) {

@@ -101,8 +101,9 @@ fn add_loaded(queues: &mut Queues, name: &Name4, content: Record) -> Result<(), 
         ≡ changed_at (λ q. loaded_with q content) name.now queues.old) }
     ensures err { OnErr result (queues.new ≡ queues.old) }
 {
-    queues.write(name, content)?;
-    queues.commit_writer(name);
+    let queue = queues.at_mut(name);
+    queue.write(content)?;
+    queue.commit_writer();
     Ok(())
 }
 

@@ -1,12 +1,16 @@
 //! The transient data queues of a region by name.
 
-mod changes;
-
 ghost use Rattle.std.specs.Prelude.{◌≡◌, ◌<◌, ◌^◌, [], length, T, IfOk, OnOk, OnErr, None};
+ghost use Rattle.std.specs.Prelude.{Some, IsSome};
 ghost use Rattle.std.specs.Option.{option_copied};
+ghost use Rattle.std.specs.Borrow.{Lends, sem};
 ghost use Rattle.std.specs.Map.Iter.{ShowsInOrder, deref_pair};
 ghost use Rattle.cics_names.specs.Keyed.{has_key, value_at, with_value, is_rising};
+ghost use Rattle.cics_images.specs.NamedValues.{changed_at};
+ghost use Rattle.cics_transdata.specs.Trans.{reader_committed, writer_committed};
+ghost use Rattle.cics_transdata.specs.contracts.queues.TransQueue.{the_row as queue_row};
 ghost use Rattle.cics_units.specs.RegionFiles.{refilled};
+ghost use Rattle.cics_units.specs.contracts.queues.Queues.{the_row};
 
 use cics_images::Undoable;
 use cics_names::{Name4, NoMemory};
@@ -81,6 +85,46 @@ impl Queues {
         ensures in_order { T (is_rising self.now) }
     {
         self.rows.get(name)
+    }
+
+    /// The queue of a name that is there.
+    pub(crate) fn at(&self, name: &Name4) -> &TransQueue
+        requires { IsSome (value_at name.now self.now) }
+        ensures value { value_at name.now self.now ≡ Some result.now }
+        ensures in_order { T (is_rising self.now) }
+    {
+        self.get(name).unwrap()
+    }
+
+    /// The queue of a name that is there, to be changed. The other queues stay.
+    pub(crate) fn at_mut(&mut self, name: &Name4) -> &mut TransQueue
+        requires { IsSome (value_at name.now self.old) }
+        ensures* writes_back { sem 𝓛 (Lends the_row queue_row self.entry
+            result (λ queue. with_value name.now queue self.old)) }
+        ensures value { value_at name.now self.old ≡ Some result.now }
+        ensures in_order { T (is_rising self.old) }
+    {
+        self.rows.get_mut(name).unwrap()
+    }
+
+    /// Commits the unit at the reading end of the queue of a name, if there is one.
+    pub(crate) fn commit_reader(&mut self, name: &Name4)
+        ensures { self.new ≡ changed_at reader_committed name.now self.old }
+    {
+        let Some(queue) = self.rows.get_mut(name) else {
+            return;
+        };
+        queue.commit_reader();
+    }
+
+    /// Commits the unit at the writing end of the queue of a name, if there is one.
+    pub(crate) fn commit_writer(&mut self, name: &Name4)
+        ensures { self.new ≡ changed_at writer_committed name.now self.old }
+    {
+        let Some(queue) = self.rows.get_mut(name) else {
+            return;
+        };
+        queue.commit_writer();
     }
 
     /// Puts a queue under a name, and answers the queue that stood there.
@@ -202,10 +246,7 @@ impl Undoable for Queues {
     ghost keeps_on = { laws.keeps_on KeepsEnds ends.keeps_on };
 
     fn undo(&mut self, image: &mut QueueImage) {
-        match self.rows.get_mut(&image.name) {
-            Some(queue) => queue.undo(&mut image.image),
-            None => unreachable!(),
-        }
+        self.at_mut(&image.name).undo(&mut image.image);
     }
 
     // Nothing is held back for an undo.

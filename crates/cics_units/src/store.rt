@@ -4,17 +4,13 @@ ghost use Rattle.std.specs.Prelude.{◌≡◌, ◌<◌, ◌≤◌, ◌++◌, Boo
 ghost use Rattle.std.specs.Prelude.{IsSome, option_map};
 ghost use Rattle.cics_units.specs.RegionFiles.{IsThere};
 ghost use Rattle.cics_names.specs.Keyed.{value_at};
-ghost use Rattle.cics_images.specs.declared.stores.StoreImage.TheVariants.{TempStorage, TransData};
-ghost use Rattle.cics_history.specs.Records.{is_file_op, file_of, key_of};
+ghost use Rattle.cics_images.specs.declared.stores.StoreImage.TheVariants.{TempStorage};
+ghost use Rattle.cics_history.specs.Records.{is_file_op, file_of};
 ghost use Rattle.cics_history.specs.Store.{only as answer_of, numbered as answer_with};
-ghost use Rattle.cics_history.specs.Store.{with_content, found_condition};
-ghost use Rattle.cics_history.specs.declared.ops.Op.TheVariants.{Write, Rewrite, Delete};
-ghost use Rattle.cics_history.specs.declared.ops.Op.TheVariants.{DeleteGeneric, ReadUpdate};
-ghost use Rattle.cics_history.specs.declared.ops.Op.TheVariants.{TsWrite, TsRewrite, TsDelete};
-ghost use Rattle.cics_history.specs.declared.ops.Op.TheVariants.{TdWrite, TdRead, TdDelete};
-ghost use Rattle.cics_units.specs.QueueChanges.{with_image, is_temp};
-ghost use Rattle.cics_units.specs.Parts.{IsFitOp, IsRecordOf, image_if, with_stored, of_files};
-ghost use Rattle.cics_units.specs.Parts.{most_in, most_images};
+ghost use Rattle.cics_history.specs.Store.{with_content as answer_of_record, found_condition};
+ghost use Rattle.cics_units.specs.QueueChanges.{with_image, in_queue, is_temp};
+ghost use Rattle.cics_units.specs.Parts.{IsFitOp, image_if, with_stored, of_files};
+ghost use Rattle.cics_units.specs.Parts.{most_images};
 ghost use Rattle.cics_units.specs.Applied.{IsApplied, IsFileBound, IsQueueBound, IsBound};
 ghost use Rattle.cics_units.specs.Applied.{IsSeen, read_given, counted_as};
 
@@ -26,6 +22,7 @@ use cics_images::{Images, StoreImage};
 use cics_ksds::FileImage;
 use cics_names::{Condition, Items, Name4, Name8, NoMemory, Record};
 use cics_tempstor::TsImage;
+use cics_transdata::TdImage;
 
 // An answer of a condition alone.
 fn only(condition: Condition) -> Answer
@@ -59,75 +56,6 @@ fn keep_file(images: &mut Images<Store>, file: Name8, image: Option<FileImage>)
     }
 }
 
-// WRITE.
-fn write(
-    store: &mut Store,
-    file: Name8,
-    key: &Record,
-    from: &Record,
-    keep: bool,
-    images: &mut Images<Store>,
-) -> Result<Answer, NoMemory>
-    requires bound { IsFileBound store.old file keep }
-    requires fit { IsRecordOf (value_at file store.old.files) key.now from.now }
-    requires room { 0 < images.old.room }
-    ensures applied { IfOk result (λ answer. (own : Bool) →
-        IsApplied store.old store.new images.old.newest_first images.new.newest_first
-        (Write file key.now from.now) keep own answer) }
-    ensures err_store { OnErr result (store.new ≡ store.old) }
-    ensures err_images { OnErr result (images.new ≡ images.old) }
-{
-    let from = from.copy()?;
-    let changed = store.files.at_mut(&file).write(from, keep)?;
-    keep_file(images, file, changed.image);
-    Ok(only(changed.condition))
-}
-
-// REWRITE.
-fn rewrite(
-    store: &mut Store,
-    file: Name8,
-    key: &Record,
-    from: &Record,
-    keep: bool,
-    images: &mut Images<Store>,
-) -> Result<Answer, NoMemory>
-    requires bound { IsFileBound store.old file keep }
-    requires fit { IsRecordOf (value_at file store.old.files) key.now from.now }
-    requires room { 0 < images.old.room }
-    ensures applied { IfOk result (λ answer. (own : Bool) →
-        IsApplied store.old store.new images.old.newest_first images.new.newest_first
-        (Rewrite file key.now from.now) keep own answer) }
-    ensures err_store { OnErr result (store.new ≡ store.old) }
-    ensures err_images { OnErr result (images.new ≡ images.old) }
-{
-    let from = from.copy()?;
-    let changed = store.files.at_mut(&file).rewrite(from, keep);
-    keep_file(images, file, changed.image);
-    Ok(only(changed.condition))
-}
-
-// DELETE.
-fn delete(
-    store: &mut Store,
-    file: Name8,
-    key: &Record,
-    keep: bool,
-    images: &mut Images<Store>,
-) -> Result<Answer, NoMemory>
-    requires bound { IsFileBound store.old file keep }
-    requires room { 0 < images.old.room }
-    ensures applied { IfOk result (λ answer. (own : Bool) →
-        IsApplied store.old store.new images.old.newest_first images.new.newest_first
-        (Delete file key.now) keep own answer) }
-    ensures err_store { OnErr result (store.new ≡ store.old) }
-    ensures err_images { OnErr result (images.new ≡ images.old) }
-{
-    let changed = store.files.at_mut(&file).delete(key.bytes(), keep)?;
-    keep_file(images, file, changed.image);
-    Ok(only(changed.condition))
-}
-
 // Keeps the images of changes of a file, the last one as the newest.
 fn keep_files(images: &mut Images<Store>, file: Name8, made: Items<FileImage>)
     requires room { length made ≤ images.old.room }
@@ -149,44 +77,27 @@ fn counted(number: u64) -> Answer
     }
 }
 
-// DELETE GENERIC.
-fn delete_generic(
-    store: &mut Store,
-    file: Name8,
-    prefix: &Record,
-    keep: bool,
-    images: &mut Images<Store>,
-) -> Result<Answer, NoMemory>
-    requires bound { IsFileBound store.old file keep }
-    requires room { most_in prefix.now (value_at file store.old.files) ≤ images.old.room }
-    ensures applied { IfOk result (λ answer. (own : Bool) →
-        IsApplied store.old store.new images.old.newest_first images.new.newest_first
-        (DeleteGeneric file prefix.now) keep own answer) }
-    ensures err_store { OnErr result (store.new ≡ store.old) }
-    ensures err_images { OnErr result (images.new ≡ images.old) }
+// An answer with a record, if there is one.
+fn with_content(condition: Condition, content: Option<Record>) -> Answer
+    ensures { result ≡ answer_of_record condition content }
 {
-    let removed = store
-        .files
-        .at_mut(&file)
-        .delete_prefix(prefix.bytes(), keep)?;
-    keep_files(images, file, removed.images);
-    Ok(counted(removed.number))
+    Answer {
+        condition,
+        content,
+        number: None,
+    }
 }
 
 /// What READ UPDATE is answered, once its record was looked up.
 pub(crate) fn found(given: Option<Record>) -> Answer
-    ensures { result ≡ with_content (found_condition given) given }
+    ensures { result ≡ answer_of_record (found_condition given) given }
 {
     let condition = if given.is_some() {
         Condition::Normal
     } else {
         Condition::Notfnd
     };
-    Answer {
-        condition,
-        content: given,
-        number: None,
-    }
+    with_content(condition, given)
 }
 
 // Keeps the image of a change of a temporary storage queue as the newest, if the change has one.
@@ -200,131 +111,15 @@ fn keep_temp(images: &mut Images<Store>, image: Option<TsImage>)
     }
 }
 
-// WRITEQ TS.
-fn write_temp(
-    store: &mut Store,
-    queue: Name8,
-    from: &Record,
-    keep: bool,
-    images: &mut Images<Store>,
-) -> Result<Answer, NoMemory>
-    requires room { 0 < images.old.room }
-    ensures applied { IfOk result (λ answer. (own : Bool) →
-        IsApplied store.old store.new images.old.newest_first images.new.newest_first
-        (TsWrite queue from.now) keep own answer) }
-    ensures err_store { OnErr result (store.new ≡ store.old) }
-    ensures err_images { OnErr result (images.new ≡ images.old) }
-{
-    let written = store.temp_storage.write(queue, from.copy()?, keep)?;
-    keep_temp(images, written.image);
-    Ok(numbered(written.condition, written.number))
-}
-
-// WRITEQ TS REWRITE.
-fn rewrite_temp(
-    store: &mut Store,
-    queue: &Name8,
-    item: u64,
-    from: &Record,
-    keep: bool,
-    images: &mut Images<Store>,
-) -> Result<Answer, NoMemory>
-    requires room { 0 < images.old.room }
-    ensures applied { IfOk result (λ answer. (own : Bool) →
-        IsApplied store.old store.new images.old.newest_first images.new.newest_first
-        (TsRewrite queue.now item from.now) keep own answer) }
-    ensures err_store { OnErr result (store.new ≡ store.old) }
-    ensures err_images { OnErr result (images.new ≡ images.old) }
-{
-    let written = store.temp_storage.rewrite(queue, item, from.copy()?, keep);
-    keep_temp(images, written.image);
-    Ok(numbered(written.condition, written.number))
-}
-
-// DELETEQ TS. It takes no memory.
-fn delete_temp(store: &mut Store, queue: &Name8, keep: bool, images: &mut Images<Store>) -> Answer
-    requires room { 0 < images.old.room }
-    ensures { (own : Bool) →
-        IsApplied store.old store.new images.old.newest_first images.new.newest_first
-        (TsDelete queue.now) keep own result }
-{
-    let deleted = store.temp_storage.delete(queue, keep);
-    keep_temp(images, deleted.image);
-    only(deleted.condition)
-}
-
 // Keeps the image of a change of a transient data queue as the newest, if the change has one.
-fn keep_trans(images: &mut Images<Store>, image: Option<QueueImage>)
+fn keep_trans(images: &mut Images<Store>, queue: Name4, image: Option<TdImage>)
     requires room { 0 < images.old.room }
     ensures { images.new.newest_first
-        ≡ with_image (option_map TransData image) images.old.newest_first }
+        ≡ with_image (option_map (in_queue queue) image) images.old.newest_first }
 {
     if let Some(image) = image {
-        images.store(StoreImage::TransData(image));
+        images.store(StoreImage::TransData(QueueImage { name: queue, image }));
     }
-}
-
-// WRITEQ TD.
-fn write_trans(
-    store: &mut Store,
-    queue: &Name4,
-    from: &Record,
-    keep: bool,
-    images: &mut Images<Store>,
-) -> Result<Answer, NoMemory>
-    requires bound { IsQueueBound store.old queue.now keep }
-    requires room { 0 < images.old.room }
-    ensures applied { IfOk result (λ answer. (own : Bool) →
-        IsApplied store.old store.new images.old.newest_first images.new.newest_first
-        (TdWrite queue.now from.now) keep own answer) }
-    ensures err_store { OnErr result (store.new ≡ store.old) }
-    ensures err_images { OnErr result (images.new ≡ images.old) }
-{
-    let _keep = keep;
-    let written = store.trans_data.write(queue, from.copy()?)?;
-    keep_trans(images, written.image);
-    Ok(only(written.condition))
-}
-
-// READQ TD: a unit that holds the writing end may be given a record that it wrote itself (`own`).
-fn read_trans(
-    store: &mut Store,
-    queue: &Name4,
-    keep: bool,
-    own: bool,
-    images: &mut Images<Store>,
-) -> Result<Answer, NoMemory>
-    requires bound { IsQueueBound store.old queue.now keep }
-    requires seen { IsSeen store.old (TdRead queue.now) own }
-    requires room { 0 < images.old.room }
-    ensures applied { IfOk result (λ answer.
-        IsApplied store.old store.new images.old.newest_first images.new.newest_first
-        (TdRead queue.now) keep own answer) }
-    ensures err_store { OnErr result (store.new ≡ store.old) }
-    ensures err_images { OnErr result (images.new ≡ images.old) }
-{
-    let _keep = keep;
-    let read = store.trans_data.read(queue, own)?;
-    keep_trans(images, read.changed.image);
-    Ok(Answer {
-        condition: read.changed.condition,
-        content: read.content,
-        number: None,
-    })
-}
-
-// DELETEQ TD. It takes no memory.
-fn delete_trans(store: &mut Store, queue: &Name4, keep: bool, images: &mut Images<Store>) -> Answer
-    requires bound { IsQueueBound store.old queue.now keep }
-    requires room { 0 < images.old.room }
-    ensures { (own : Bool) →
-        IsApplied store.old store.new images.old.newest_first images.new.newest_first
-        (TdDelete queue.now) keep own result }
-{
-    let _keep = keep;
-    let deleted = store.trans_data.delete(queue);
-    keep_trans(images, deleted.image);
-    only(deleted.condition)
 }
 
 // The file of a command, whether it is recoverable.
@@ -340,10 +135,7 @@ fn bind_queue(store: &Store, queue: &Name4) -> bool
     requires there { IsSome (value_at queue.now store.now.trans_data) }
     ensures { IsQueueBound store.now queue.now result }
 {
-    match store.trans_data.get(queue) {
-        Some(queue) => queue.recovery().is_logical(),
-        None => unreachable!(),
-    }
+    store.trans_data.at(queue).recovery().is_logical()
 }
 
 /// Where a command acts: the file or the transient data queue is there, and answers whether it is recoverable; so
@@ -363,6 +155,54 @@ pub(crate) fn bind(store: &Store, op: &Op, recoverable: bool) -> bool
         Op::TdRead { queue } => bind_queue(store, queue),
         Op::TdDelete { queue } => bind_queue(store, queue),
         _ => recoverable,
+    }
+}
+
+// Applies a command on a file where the file stands.
+fn apply_to_file(
+    store: &mut Store,
+    op: &Op,
+    keep: bool,
+    given: Option<Record>,
+    images: &mut Images<Store>,
+) -> Result<Answer, NoMemory>
+    requires on_file { is_file_op op.now ≡ true }
+    requires bound { IsFileBound store.old (file_of op.now) keep }
+    requires fit { IsFitOp store.old op.now }
+    requires given { given ≡ read_given store.old op.now }
+    requires one { 0 < images.old.room }
+    requires room { most_images store.old.files op.now ≤ images.old.room }
+    ensures applied { IfOk result (λ answer. (own : Bool) →
+        IsApplied store.old store.new images.old.newest_first images.new.newest_first
+        op.now keep own answer) }
+    ensures err_store { OnErr result (store.new ≡ store.old) }
+    ensures err_images { OnErr result (images.new ≡ images.old) }
+{
+    match op {
+        Op::Write { file, from, .. } => {
+            let from = from.copy()?;
+            let changed = store.files.at_mut(file).write(from, keep)?;
+            keep_file(images, *file, changed.image);
+            Ok(only(changed.condition))
+        }
+        Op::Rewrite { file, from, .. } => {
+            let from = from.copy()?;
+            let changed = store.files.at_mut(file).rewrite(from, keep);
+            keep_file(images, *file, changed.image);
+            Ok(only(changed.condition))
+        }
+        Op::Delete { file, key } => {
+            let changed = store.files.at_mut(file).delete(key.bytes(), keep)?;
+            keep_file(images, *file, changed.image);
+            Ok(only(changed.condition))
+        }
+        Op::DeleteGeneric { file, prefix } => {
+            let lent = store.files.at_mut(file);
+            let removed = lent.delete_prefix(prefix.bytes(), keep)?;
+            keep_files(images, *file, removed.images);
+            Ok(counted(removed.number))
+        }
+        _ => Ok(found(given)),
     }
 }
 
@@ -393,18 +233,38 @@ pub(crate) fn apply(
     ensures err_images { OnErr result (images.new ≡ images.old) }
 {
     match op {
-        Op::Write { file, key, from } => write(store, *file, key, from, keep, images),
-        Op::Rewrite { file, key, from } => rewrite(store, *file, key, from, keep, images),
-        Op::Delete { file, key } => delete(store, *file, key, keep, images),
-        Op::DeleteGeneric { file, prefix } => delete_generic(store, *file, prefix, keep, images),
-        Op::ReadUpdate { .. } => Ok(found(given)),
-        Op::TsWrite { queue, from } => write_temp(store, *queue, from, keep, images),
-        Op::TsRewrite { queue, item, from } => {
-            rewrite_temp(store, queue, *item, from, keep, images)
+        Op::TsWrite { queue, from } => {
+            let written = store.temp_storage.write(*queue, from.copy()?, keep)?;
+            keep_temp(images, written.image);
+            Ok(numbered(written.condition, written.number))
         }
-        Op::TsDelete { queue } => Ok(delete_temp(store, queue, keep, images)),
-        Op::TdWrite { queue, from } => write_trans(store, queue, from, keep, images),
-        Op::TdRead { queue } => read_trans(store, queue, keep, own, images),
-        Op::TdDelete { queue } => Ok(delete_trans(store, queue, keep, images)),
+        Op::TsRewrite { queue, item, from } => {
+            let from = from.copy()?;
+            let written = store.temp_storage.rewrite(queue, *item, from, keep);
+            keep_temp(images, written.image);
+            Ok(numbered(written.condition, written.number))
+        }
+        Op::TsDelete { queue } => {
+            let deleted = store.temp_storage.delete(queue, keep);
+            keep_temp(images, deleted.image);
+            Ok(only(deleted.condition))
+        }
+        Op::TdWrite { queue, from } => {
+            let from = from.copy()?;
+            let written = store.trans_data.at_mut(queue).write(from)?;
+            keep_trans(images, *queue, written.image);
+            Ok(only(written.condition))
+        }
+        Op::TdRead { queue } => {
+            let read = store.trans_data.at_mut(queue).read(own)?;
+            keep_trans(images, *queue, read.changed.image);
+            Ok(with_content(read.changed.condition, read.content))
+        }
+        Op::TdDelete { queue } => {
+            let deleted = store.trans_data.at_mut(queue).delete();
+            keep_trans(images, *queue, deleted.image);
+            Ok(only(deleted.condition))
+        }
+        _ => apply_to_file(store, op, keep, given, images),
     }
 }

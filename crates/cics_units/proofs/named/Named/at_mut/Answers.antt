@@ -1,16 +1,13 @@
-use Rattle.std.proofs.Common.{◌≡◌, ◌∙◌, ap, subst, sym, refl, Some, IsSome, T}
+use Rattle.std.proofs.Common.{◌≡◌, ◌∙◌, ap, subst, sym, refl, Some, T}
 use Rattle.std.specs.Map.{lookup}
 use Rattle.std.specs.BTreeMap.{is_at}
 use Rattle.std.specs.Option.{option_copied_mut}
-use Rattle.cics_names.specs.Keyed.{bytes_cmp, value_at, is_rising}
-use Rattle.cics_history.proofs.Entries.{lookup-value_at}
-use Rattle.cics_units.proofs.Changing.{there, changed, still_rising, some_lent}
+use Rattle.cics_names.specs.Keyed.{bytes_cmp, is_rising}
+use Rattle.cics_units.proofs.Changing.{is_lent, there, changed, still_rising}
 use Rattle.cics_units.proofs.named.Named.at_mut.Goals as goal
 
 pub unwrap-requires : goal.unwrap-requires
-unwrap-requires g c = some_lent c.get_mut.result (subst IsSome
-    (ap (λ m. value_at c.args.name.now m) (sym c.self.view_is) ∙ sym (lookup-value_at c.args.name.now c.self.inside.rows.entries) ∙ sym c.get_mut.ensures.value)
-    c.requires)
+unwrap-requires g c = is_lent c.args.name.now c.self.inside.rows.entries c.args.self.now c.get_mut.result c.get_mut.ensures.value c.self.view_is c.requires
 
 pub invariant_of-self-lent : goal.invariant_of-self-lent
 invariant_of-self-lent g c = λ w. still_rising (is_at (bytes_cmp c.args.name.now)) w c.self.inside.rows.entries _ (c.get_mut.follows.holds w).0 c.self.invariant
