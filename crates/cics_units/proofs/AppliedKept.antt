@@ -17,7 +17,7 @@ use Rattle.cics_history.specs.Events.{may_act}
 use Rattle.cics_history.specs.Marks.{marks_of}
 use Rattle.cics_history.specs.declared.ops.Answer.{Answer}
 use Rattle.cics_history.specs.declared.ops.Op.{Op}
-use Rattle.cics_history.specs.declared.ops.Op.TheVariants.{TdWrite, TdRead, TdDelete}
+use Rattle.cics_history.specs.declared.ops.Op.TheVariants.{ReadUpdate, TdWrite, TdRead, TdDelete}
 use Rattle.cics_history.proofs.States.{acting_open}
 use Rattle.cics_units.specs.UnitImages.{kept_none, kept_by, AreOthersKept}
 use Rattle.cics_units.specs.StoreMatching.{StoreValue, UndoableValue, AnyImage, cell_of_any}
@@ -55,6 +55,12 @@ seen_told _ own m x is there marked seen = absurd (false≢true is)
 pub seen_own : (op : Op) (own w : Bool) (m : StoreValue) → (is_trans op ≡ true → own ≡ w) → IsSeen m op w → IsSeen m op own
 seen_own (TdRead q) own w m same seen = subst (IsSeen m (TdRead q)) (sym (same refl)) seen
 seen_own _ own w m same seen = tt
+
+-- and so is the record that a command is given
+pub given_own : (op : Op) (own w : Bool) (m : StoreValue) → (is_trans op ≡ true → own ≡ w) → given_record m own op ≡ given_record m w op
+given_own (TdRead q) own w m same = ap (λ b. given_record m b (TdRead q)) (same refl)
+given_own (ReadUpdate f k) own w m same = refl
+given_own _ own w m same = refl
 
 -- a command on a transient data queue is bound to it
 queue_bound : (op : Op) (m : StoreValue) (keep : Bool) → is_trans op ≡ true → IsBound m op keep → IsQueueBound m (queue_of op) keep

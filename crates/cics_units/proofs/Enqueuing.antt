@@ -24,7 +24,7 @@ use Rattle.cics_history.specs.Undo.{IsUndoable}
 use Rattle.cics_history.specs.Ends.{AreMarked}
 use Rattle.cics_units.specs.StoreMatching.{StoreValue, UndoableValue, shown_store}
 use Rattle.cics_units.specs.TableInPlace.{value_of, counted_before, counts_in}
-use Rattle.cics_units.specs.Parts.{PartsValue, AreRoomier, AreEnqueued, ArePartsKept}
+use Rattle.cics_units.specs.Parts.{CoreValue, AreRoomier, AreEnqueued, ArePartsKept}
 use Rattle.cics_units.specs.KeptUnits.{state_shown, AreKept}
 use Rattle.cics_history.specs.declared.ops.Entry.{Entry}
 use Rattle.cics_history.specs.declared.ops.UnitState.{UnitState}
@@ -150,7 +150,7 @@ kept_dequeued s st t is u v = kept_with s st t (given_back t (value_of v) u) is 
 
 -- ---- What the units show
 
-module _ (o : OpeningState) (trace : List Entry) (outcomes : List UnitState) (commits : List ℕ) (p new : PartsValue)
+module _ (o : OpeningState) (trace : List Entry) (outcomes : List UnitState) (commits : List ℕ) (p new : CoreValue)
     (is : AreKept (state_shown o trace outcomes commits p) p.stores p.table) where
   abbrev before : UnitsState
   before = state_shown o trace outcomes commits p
@@ -188,7 +188,7 @@ module _ (o : OpeningState) (trace : List Entry) (outcomes : List UnitState) (co
 
   -- DEQ
   module _ (u : ℕ) (v : Bytes) (done : new ≡ record p { table = given_back p.table (value_of v) u }) where
-    abbrev after : PartsValue
+    abbrev after : CoreValue
     after = record p { table = given_back p.table (value_of v) u }
 
     after_state : state_shown o trace outcomes commits after ≡ after_dequeue before u v

@@ -9,11 +9,11 @@ pub mod FilesChanged
 mod Unpadded
 mod FileChanges
 mod PartChanges
-mod QueueParts
 pub mod RefusedCommands
 pub mod OpenReads
 mod UnitReads
 pub mod HeldPlaces
+mod UnitRows
 pub mod HeldReads
 pub mod HeldSums
 mod Unprefixed

@@ -1,33 +1,33 @@
 -- What the units show after each call is what the call makes of their state.
 use Rattle.std.proofs.Common.{◌≡◌, ℕ, ◌+◌, length-append, ◌<◌, ◌≤◌, Bool, true, false, not, Option, Some, None, List, [], ◌∷◌, ◌++◌, length, refl, ap, sym, subst, ◌∙◌, arith}
 use Rattle.std.specs.Prelude.{if◌then◌else◌, IfSome, filter, slice_set, ◌==◌, All}
-use Rattle.std.specs.Option.{option_copied}
-use Rattle.std.proofs.Common.{Bor}
 use Rattle.std.proofs.lemmas.List.Elements.{All-head, All-tail}
 use Rattle.cics_names.specs.Keyed.{is_same}
 use Rattle.std.specs.List.{list_any}
 use Rattle.std.specs.Prelude.{is_some}
 use Rattle.std.proofs.Common.{inl, inr, eqb}
 use Rattle.std.proofs.lemmas.Bool.{cases_Bool, and_parts, or_left, or_right, false≢true, and_from, lt-ltb}
-use Rattle.cics_names.specs.Keyed.{Bytes, Map, value_at}
+use Rattle.cics_names.specs.Keyed.{Bytes, Map}
 use Rattle.cics_tempstor.specs.Queues.{places_of}
 use Rattle.cics_enqueue.specs.Resources.{Table, released}
-use Rattle.cics_history.specs.Openings.{OpeningState, file_recoverable}
+use Rattle.cics_history.specs.Openings.{OpeningState}
 use Rattle.cics_history.specs.Store.{apply, is_normal, is_recoverable}
 use Rattle.cics_history.specs.Holding.{UnitsState, UpdateRead, store_of, awaited}
 use Rattle.cics_history.specs.Execution.{execution, done_of, state_of, has_read, IsOpenUnit, IsOpenOrNone, unit_or_next, outcomes_with, reads_after, is_read_of, read_at, commits_with, entered, after_execution, after_unlock, after_end, is_ready_op}
 use Rattle.cics_history.specs.Headline.{beginning}
 use Rattle.cics_history.specs.Events.{is_live, may_act}
-use Rattle.cics_units.specs.StoreMatching.{StoreValue, UndoableValue}
+use Rattle.cics_units.specs.StoreMatching.{StoreValue}
 use Rattle.cics_history.specs.Records.{file_of}
-use Rattle.cics_units.specs.Uses.{uses_if, AreFreeFor}
+use Rattle.cics_units.specs.Uses.{uses_if, listed, AreFreeFor}
+use Rattle.cics_units.specs.Cores.{IsBoundFor}
+use Rattle.cics_units.specs.declared.units_core.BoundOp.{BoundOp}
 use Rattle.cics_units.specs.Awaiting.{is_writer, unit_in_way}
-use Rattle.cics_units.specs.QueueChanges.{is_trans, queue_of as queue_on}
+use Rattle.cics_units.specs.QueueChanges.{is_trans, is_temp, queue_of as queue_on}
 use Rattle.cics_units.specs.Applied.{IsApplied, IsBound, IsSeen}
 use Rattle.cics_units.specs.Executed.{IsExecuted}
 use Rattle.cics_units.specs.UnitImages.{kept_by, AreOthersKept}
-use Rattle.cics_units.specs.TableInPlace.{is_read, counts_in, table_changed, table_executed, table_given_back}
-use Rattle.cics_units.specs.Parts.{PartsValue, ArePartsKept, is_recoverable_in, given_record}
+use Rattle.cics_units.specs.TableInPlace.{is_read, counts_in, table_changed, table_executed, table_unlocked}
+use Rattle.cics_units.specs.Parts.{CoreValue, ArePartsKept, given_record}
 use Rattle.cics_units.specs.KeptUnits.{state_shown, AreKept}
 use Rattle.cics_history.specs.declared.ops.Op.{Op}
 use Rattle.cics_history.specs.declared.ops.Op.TheVariants.{Write, Rewrite, Delete, DeleteGeneric, ReadUpdate, TsWrite, TsRewrite, TsDelete, TdWrite, TdRead, TdDelete}
@@ -38,8 +38,8 @@ use Rattle.cics_history.specs.declared.ops.UnitState.{UnitState}
 use Rattle.cics_history.specs.declared.ops.UnitState.TheVariants.{Open}
 use Rattle.cics_units.proofs.UsesInTable.{uses_alike, uses_free, awaited_open}
 use Rattle.cics_units.proofs.Awaiting.{awaited-in_place}
-use Rattle.cics_units.proofs.AppliedKept.{op_seen, kept_applied, applied_answer, applied_content}
-use Rattle.cics_units.proofs.KeptUnits.{kept_roomier, recoverable_alike, logical_alike, is_entered, kept_unlocked}
+use Rattle.cics_units.proofs.AppliedKept.{bound_as_opened, op_seen, kept_applied, applied_answer, applied_content}
+use Rattle.cics_units.proofs.KeptUnits.{kept_roomier, logical_alike, is_entered, kept_unlocked}
 
 -- a unit that is open has begun and not ended
 pub live_of : (s : UnitsState) (u : ℕ) → IsOpenUnit s u → is_live s u ≡ true
@@ -50,29 +50,29 @@ pub acts_of : (s : UnitsState) (u : Option ℕ) → IsOpenOrNone s u → may_act
 acts_of s None opened = refl
 acts_of s (Some u) opened = live_of s u opened
 
-module _ (o : OpeningState) (trace : List Entry) (outcomes : List UnitState) (commits : List ℕ) (p new : PartsValue)
+module _ (o : OpeningState) (trace : List Entry) (outcomes : List UnitState) (commits : List ℕ) (p new : CoreValue)
     (is : AreKept (state_shown o trace outcomes commits p) p.stores p.table) where
   abbrev before : UnitsState
   before = state_shown o trace outcomes commits p
 
   -- ---- UNLOCK
-  module _ (u : ℕ) (f : Bytes) (live : is_live before u ≡ true) (stores : new.stores ≡ p.stores)
-      (table : new.table ≡ table_given_back (is_recoverable_in (value_at f p.stores.store.files)) u f (read_at p.reads u f) p.table)
-      (reads : new.reads ≡ filter (λ r. not (is_read_of u f r)) p.reads) where
-    table_then : new.table ≡ table_given_back (file_recoverable o f) u f (read_at p.reads u f) p.table
-    table_then = table ∙ ap (λ b. table_given_back b u f (read_at p.reads u f) p.table) (recoverable_alike before p.stores p.table is f)
+  module _ (u : ℕ) (f : Bytes) (live : is_live before u ≡ true)
+      (done : new ≡ record p { table = table_unlocked o u f (read_at p.reads u f) p.table; reads = filter (λ r. not (is_read_of u f r)) p.reads }) where
+    abbrev unlocked : CoreValue
+    unlocked = record p { table = table_unlocked o u f (read_at p.reads u f) p.table; reads = filter (λ r. not (is_read_of u f r)) p.reads }
+
+    unlocked_then : AreKept (after_unlock before u f) p.stores unlocked.table
+    unlocked_then = kept_unlocked before p.stores p.table is u f live
+
+    state_then : state_shown o trace outcomes commits unlocked ≡ after_unlock before u f
+    state_then = λ i. record before { reads = unlocked.reads; counts = sym unlocked_then.table.counts i }
 
     pub unlocked_state : state_shown o trace outcomes commits new ≡ after_unlock before u f
-    unlocked_state = λ i. record before {
-      reads = reads i;
-      counts = (ap counts_in table_then ∙ sym (kept_unlocked before p.stores p.table is u f live).table.counts) i;
-      next = ap (λ (st : UndoableValue). places_of st.store.temp_storage) stores i;
-    }
+    unlocked_state = ap (state_shown o trace outcomes commits) done ∙ state_then
 
     pub unlocked_kept : AreKept (state_shown o trace outcomes commits new) new.stores new.table
-    unlocked_kept = subst (λ s. AreKept s new.stores new.table) (sym unlocked_state)
-        (subst (λ st. AreKept (after_unlock before u f) st new.table) (sym stores)
-        (subst (AreKept (after_unlock before u f) p.stores) (sym table_then) (kept_unlocked before p.stores p.table is u f live)))
+    unlocked_kept = subst (λ n. AreKept (state_shown o trace outcomes commits n) n.stores n.table) (sym done)
+        (subst (λ s. AreKept s p.stores unlocked.table) (sym state_then) unlocked_then)
 
   -- ---- The end of a unit
   module _ (u : ℕ) (live : is_live before u ≡ true) (outcome : UnitState) (table : new.table ≡ released p.table u)
@@ -137,20 +137,16 @@ read_short (r ∷ rs) u f short =
       | false ↦ read_short rs u f (All-tail (λ x. length x.key ≤ 255) r rs short)
     ]
 
-pub copied_short : (k : Option (Bor Bytes)) (o : Option Bytes) → option_copied k ≡ o → IfSome o (λ b. length b ≤ 255) → IfSome k (λ b. length b.now ≤ 255)
-copied_short None o is short = tt
-copied_short (Some k) o is short = subst (λ x. IfSome x (λ b. length b ≤ 255)) (sym is) short
-
 -- ---- The beginning
 -- what has just begun shows the beginning
-pub begun_shown : (o : OpeningState) (trace : List Entry) (outcomes : List UnitState) (commits : List ℕ) (p : PartsValue) (m : StoreValue) →
+pub begun_shown : (o : OpeningState) (trace : List Entry) (outcomes : List UnitState) (commits : List ℕ) (p : CoreValue) (m : StoreValue) →
     p ≡ record { stores = record { store = m; images = [] }; table = []; reads = [] } → trace ≡ [] → outcomes ≡ [] → commits ≡ [] →
     AreKept (beginning o) (record { store = m; images = [] }) [] → AreKept (state_shown o trace outcomes commits p) p.stores p.table
 begun_shown o trace outcomes commits p m parts no_entry no_unit no_commit kept = rw (parts, no_entry, no_unit, no_commit) (subst (λ next. AreKept (record (beginning o) { next = next })
     (record { store = m; images = [] }) []) kept.places kept)
 
 -- ---- Calls of the parts
-module _ (o : OpeningState) (trace : List Entry) (outcomes : List UnitState) (commits : List ℕ) (p new : PartsValue)
+module _ (o : OpeningState) (trace : List Entry) (outcomes : List UnitState) (commits : List ℕ) (p new : CoreValue)
     (is : AreKept (state_shown o trace outcomes commits p) p.stores p.table) where
   abbrev state_before : UnitsState
   state_before = state_shown o trace outcomes commits p
@@ -201,7 +197,7 @@ module _ (o : OpeningState) (trace : List Entry) (outcomes : List UnitState) (co
       free : awaited state_before u op ≡ None
       free = awaited_is ∙ none
 
-      abbrev roomy_parts : PartsValue
+      abbrev roomy_parts : CoreValue
       roomy_parts = record { stores = done.roomy; table = p.table; reads = p.reads }
 
       -- room changes no NEXT place
@@ -250,6 +246,28 @@ module _ (o : OpeningState) (trace : List Entry) (outcomes : List UnitState) (co
           (told o trace outcomes commits roomy_parts new roomy_kept u op roomy_acts roomy_free roomy_ready done.begun answer bound_then done.own done.own_is done.done.applied done.done.others table_is done.done.reads
           ∙ ap (λ s. (apply (store_of s) op).answer) roomy_state)
           ∙ sym (ap (done_of state_before u op) free)
+
+  -- ---- A command that is bound to what stands
+  module _ (u : Option ℕ) (b : BoundOp) (n : ℕ) (acting : n ≡ unit_or_next u outcomes) (bound : IsBoundFor p n b)
+      (temp : is_temp b.op.now ≡ true → b.recoverable ≡ is_recoverable o b.op.now) where
+    -- it is as recoverable as the opening has it
+    pub recoverable_is : b.recoverable ≡ is_recoverable o b.op.now
+    recoverable_is = bound_as_opened state_before p.stores p.table is b.op.now b.recoverable bound.bound temp
+
+    pub bound_is : IsBound p.stores.store b.op.now (is_recoverable o b.op.now)
+    bound_is = subst (IsBound p.stores.store b.op.now) recoverable_is bound.bound
+
+    pub used_is : listed b.uses ≡ uses_if (is_recoverable o b.op.now) b.op.now
+    used_is = bound.used ∙ ap (λ r. uses_if r b.op.now) recoverable_is
+
+    pub own_is : is_trans b.op.now ≡ true → b.own ≡ is_writer p.table (unit_or_next u outcomes) (queue_on b.op.now)
+    own_is trans = bound.own trans ∙ ap (λ n. is_writer p.table n (queue_on b.op.now)) acting
+
+    -- whom it has to wait for is the unit in its way
+    pub blocker_is : (h : Option ℕ) → ((n : ℕ) → IsBoundFor p n b → h ≡ unit_in_way p.table p.stores.store.trans_data b.recoverable u n b.op.now) →
+        h ≡ unit_in_way p.table p.stores.store.trans_data (is_recoverable o b.op.now) u (unit_or_next u outcomes) b.op.now
+    blocker_is h told = told n bound ∙ ap (λ r. unit_in_way p.table p.stores.store.trans_data r u n b.op.now) recoverable_is
+        ∙ ap (λ n. unit_in_way p.table p.stores.store.trans_data (is_recoverable o b.op.now) u n b.op.now) acting
 
 -- READ UPDATE is ready where the unit has no record of the file read for update
 pub none_open_of : (s : UnitsState) (u : Option ℕ) (op : Op) → ((v : ℕ) → list_any (λ r. r.unit == v) s.reads ≡ true → v < length s.outcomes) → is_ready_op s u op ≡ true → is_read op ≡ true → read_at s.reads (unit_or_next u s.outcomes) (file_of op) ≡ None

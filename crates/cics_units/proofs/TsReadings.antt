@@ -25,7 +25,7 @@ use Rattle.cics_history.proofs.SerialRuns.{ts_reading-IsInOrder}
 use Rattle.cics_units.specs.StoreMatching.{UndoableValue, shown_store}
 use Rattle.cics_units.specs.StorePlaces.{HavePlaces, number_asked}
 use Rattle.cics_units.specs.TableInPlace.{IsTableOf}
-use Rattle.cics_units.specs.Parts.{PartsValue}
+use Rattle.cics_units.specs.Parts.{CoreValue}
 use Rattle.cics_units.specs.KeptUnits.{state_shown, AreKept, AreAsDefined}
 use Rattle.cics_units.proofs.StoreCalls.{read_in_place}
 use Rattle.cics_units.proofs.StorePlaces.{read_places}
@@ -127,27 +127,28 @@ module _ (s : UnitsState) (st : UndoableValue) (t : Table) (is : AreKept s st t)
       begun = read_begun;
     }
 
-module _ (o : OpeningState) (trace : List Entry) (outcomes : List UnitState) (commits : List ℕ) (p : PartsValue) (is : AreKept (state_shown o trace outcomes commits p) p.stores p.table)
-    (q : Bytes) (n : ℕ) (kept : KeepsQueues (λ q. true) p.stores.store.temp_storage (after_read_item p.stores.store.temp_storage q n)) (new : PartsValue)
-    (done : new ≡ record p { stores = record { store = with_temp_storage p.stores.store (after_read_item p.stores.store.temp_storage q n); images = p.stores.images } }) where
+module _ (o : OpeningState) (trace : List Entry) (outcomes : List UnitState) (commits : List ℕ) (p : CoreValue) (is : AreKept (state_shown o trace outcomes commits p) p.stores p.table)
+    (q : Bytes) (n : ℕ) (rows : Map Row) (value : rows ≡ after_read_item p.stores.store.temp_storage q n) (keeps : KeepsQueues (λ q. true) p.stores.store.temp_storage rows) where
   abbrev before : UnitsState
   before = state_shown o trace outcomes commits p
 
-  abbrev later : PartsValue
-  later = record p { stores = record { store = with_temp_storage p.stores.store (after_read_item p.stores.store.temp_storage q n); images = p.stores.images } }
+  -- the core with these rows
+  abbrev with_rows : Map Row → CoreValue
+  with_rows rows = record p { stores = record { store = with_temp_storage p.stores.store rows; images = p.stores.images } }
 
-  later_state : state_shown o trace outcomes commits later ≡ after_ts_reading before q n
-  later_state = next_alone before (has_item (ts_queue (store_of before) q) n) (places_of later.stores.store.temp_storage) (with_value q n before.next)
-      (places_then before p.stores p.table is q n kept).places
+  kept : KeepsQueues (λ q. true) p.stores.store.temp_storage (after_read_item p.stores.store.temp_storage q n)
+  kept = subst (KeepsQueues (λ q. true) p.stores.store.temp_storage) value keeps
 
   -- the units show what the read leaves
-  pub read_state : state_shown o trace outcomes commits new ≡ after_ts_reading before q n
-  read_state = ap (state_shown o trace outcomes commits) done ∙ later_state
+  pub read_state : state_shown o trace outcomes commits (with_rows rows) ≡ after_ts_reading before q n
+  read_state = ap (λ r. state_shown o trace outcomes commits (with_rows r)) value
+      ∙ next_alone before (has_item (ts_queue (store_of before) q) n) (places_of (after_read_item p.stores.store.temp_storage q n)) (with_value q n before.next)
+      (places_then before p.stores p.table is q n kept).places
 
-  pub read_kept : AreKept (state_shown o trace outcomes commits new) new.stores new.table
-  read_kept = subst (λ w. AreKept (state_shown o trace outcomes commits w) w.stores w.table) (sym done)
-      (subst (λ s. AreKept s later.stores p.table) (sym later_state) (kept_read before p.stores p.table is q n kept))
+  pub read_kept : AreKept (state_shown o trace outcomes commits (with_rows rows)) (with_rows rows).stores p.table
+  read_kept = subst (λ s. AreKept s (with_rows rows).stores p.table) (sym read_state)
+      (subst (λ r. AreKept (after_ts_reading before q n) (with_rows r).stores p.table) (sym value) (kept_read before p.stores p.table is q n kept))
 
   -- and the store that was there
-  pub read_store : shown_store new.stores.store ≡ shown_store p.stores.store
-  read_store = ap (λ (w : PartsValue). shown_store w.stores.store) done ∙ read_shown before p.stores p.table is q n kept
+  pub read_store : shown_store (with_rows rows).stores.store ≡ shown_store p.stores.store
+  read_store = ap (λ r. shown_store (with_rows r).stores.store) value ∙ read_shown before p.stores p.table is q n kept

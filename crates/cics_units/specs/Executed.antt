@@ -6,21 +6,21 @@ use Rattle.cics_history.specs.declared.ops.Answer.{Answer}
 use Rattle.cics_history.specs.declared.ops.Op.{Op}
 use Rattle.cics_units.specs.Applied.{IsApplied}
 use Rattle.cics_units.specs.Awaiting.{is_writer}
-use Rattle.cics_units.specs.Parts.{PartsValue, AreRoomier}
+use Rattle.cics_units.specs.Parts.{CoreValue, AreRoomier}
 use Rattle.cics_units.specs.QueueChanges.{is_trans, queue_of}
 use Rattle.cics_units.specs.StoreMatching.{UndoableValue}
 use Rattle.cics_units.specs.TableInPlace.{table_changed}
 use Rattle.cics_units.specs.UnitImages.{kept_by, AreOthersKept}
 
 -- a command is applied for a unit, which goes on holding what it uses, or gives back what it covers, where it is answered NORMAL
-pub record IsDone (old new : PartsValue) (unit : ℕ) (op : Op) (recoverable own : Bool) (answer : Answer) : Type 0 where
+pub record IsDone (old new : CoreValue) (unit : ℕ) (op : Op) (recoverable own : Bool) (answer : Answer) : Type 0 where
   pub applied : IsApplied old.stores.store new.stores.store (kept_by old.stores.images unit) (kept_by new.stores.images unit) op recoverable own answer
   pub others : AreOthersKept old.stores.images new.stores.images unit
   pub table : new.table ≡ (if is_normal answer.condition then table_changed recoverable unit op old.reads old.table else old.table)
   pub reads : new.reads ≡ reads_after unit op answer.condition old.reads
 
 -- so it is once there is room for its images
-pub record IsExecuted (old new : PartsValue) (unit : ℕ) (op : Op) (recoverable : Bool) (answer : Answer) : Type 0 where
+pub record IsExecuted (old new : CoreValue) (unit : ℕ) (op : Op) (recoverable : Bool) (answer : Answer) : Type 0 where
   pub roomy : UndoableValue
   pub room : AreRoomier old.stores roomy
   pub begun : unit < length roomy.images

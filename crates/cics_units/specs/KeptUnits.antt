@@ -16,12 +16,12 @@ use Rattle.cics_units.specs.UnitImages.{AreHeldForImages}
 use Rattle.cics_units.specs.StoreInPlace.{AreInPlace}
 use Rattle.cics_units.specs.StoreMatching.{StoreValue, UndoableValue, shown_store, any_holds, cell_of_any}
 use Rattle.cics_units.specs.TableInPlace.{counts_in, IsTableOf}
-use Rattle.cics_units.specs.Parts.{PartsValue}
+use Rattle.cics_units.specs.Parts.{CoreValue}
 use Rattle.cics_history.specs.declared.ops.Entry.{Entry}
 use Rattle.cics_history.specs.declared.ops.UnitState.{UnitState}
 
 -- the state of the units, as their parts show it: a NEXT place that isn't 0 is that of a queue that is there
-abbrev pub state_shown : OpeningState → List Entry → List UnitState → List ℕ → PartsValue → UnitsState
+abbrev pub state_shown : OpeningState → List Entry → List UnitState → List ℕ → CoreValue → UnitsState
 state_shown opening trace outcomes commits parts = record {
   opening = opening;
   trace = trace;

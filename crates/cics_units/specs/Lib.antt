@@ -23,3 +23,4 @@ pub mod HeldBack
 pub mod Submitting
 pub mod Applied
 pub mod Executed
+pub mod Cores

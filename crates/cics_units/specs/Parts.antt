@@ -16,7 +16,6 @@ use Rattle.cics_history.specs.Holding.{UpdateRead}
 use Rattle.cics_units.specs.RegionFiles.{IsThere, key_in}
 use Rattle.cics_units.specs.FilesImages.{cell_of}
 use Rattle.cics_units.specs.StoreMatching.{StoreValue, AnyImage, UndoableValue, shown_store, cell_of_any, any_holds}
-use Rattle.cics_units.specs.StoreEnds.{ends_settled}
 use Rattle.cics_units.specs.UnitImages.{kept_by}
 use Rattle.cics_history.specs.Records.{file_of, key_of}
 use Rattle.cics_units.specs.TableInPlace.{value_of}
@@ -25,7 +24,7 @@ use Rattle.cics_history.specs.declared.ops.Op.TheVariants.{Write, Rewrite, Delet
 use Rattle.cics_units.specs.FilesImages.{FilesImage}
 
 -- the store and the images, who holds what, and the open update reads
-pub record PartsValue : Type 0 where
+pub record CoreValue : Type 0 where
   pub stores : UndoableValue
   pub table : Table
   pub reads : List UpdateRead
@@ -35,10 +34,6 @@ pub record AreRoomier (old new : UndoableValue) : Type 0 where
   pub store : new.store ≡ old.store
   pub kept : (w : ℕ) → kept_by new.images w ≡ kept_by old.images w
   pub longer : length old.images ≤ length new.images
-
--- the store once the ends are settled that images of a unit are of
-abbrev pub settled_by : UndoableValue → ℕ → StoreValue
-settled_by s unit = ends_settled s.store (kept_by s.images unit)
 
 -- a file is recoverable where its definition says so
 abbrev pub is_recoverable_in : Option FileValue → Bool
@@ -128,14 +123,14 @@ abbrev pub IsHeldAsBefore : StoreValue → StoreValue → List AnyImage → Type
 IsHeldAsBefore old new images = (c : Cell) → is_unnamed cell_of_any images c ≡ true → any_holds new c ≡ true → any_holds old c ≡ true
 
 -- a unit has taken a value, and has its list of images
-pub record AreEnqueued (old new : PartsValue) (unit : ℕ) (value : Bytes) : Type 0 where
+pub record AreEnqueued (old new : CoreValue) (unit : ℕ) (value : Bytes) : Type 0 where
   pub stores : AreRoomier old.stores new.stores
   pub begun : unit < length new.stores.images
   pub table : new.table ≡ taken old.table (value_of value) unit
   pub reads : new.reads ≡ old.reads
 
 -- a refused call leaves the store, the table and the reads, and may leave more room
-pub record ArePartsKept (old new : PartsValue) : Type 0 where
+pub record ArePartsKept (old new : CoreValue) : Type 0 where
   pub stores : AreRoomier old.stores new.stores
   pub table : new.table ≡ old.table
   pub reads : new.reads ≡ old.reads

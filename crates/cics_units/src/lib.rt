@@ -6,14 +6,12 @@ mod listings;
 mod named;
 mod open_reads;
 mod opening;
-mod parts;
 mod prefixes;
 mod queues;
 mod replay;
 mod store;
-mod undoable_store;
-mod unit_images;
 mod units;
+mod units_core;
 mod uses;
 
 pub use cics_history::{Answer, Done, Enqueued, Entry, Op, UnitState};

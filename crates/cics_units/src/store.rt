@@ -16,7 +16,7 @@ ghost use Rattle.cics_units.specs.Applied.{IsSeen, read_given, counted_as};
 
 use crate::files::FilesImage;
 use crate::queues::QueueImage;
-use crate::undoable_store::Store;
+use crate::units_core::Store;
 use cics_history::{Answer, Op};
 use cics_images::{Images, StoreImage};
 use cics_ksds::FileImage;
@@ -88,8 +88,8 @@ fn with_content(condition: Condition, content: Option<Record>) -> Answer
     }
 }
 
-// What READ UPDATE is answered, once its record was looked up.
-fn found(given: Option<Record>) -> Answer
+/// What READ UPDATE is answered, once its record was looked up.
+pub(crate) fn found(given: Option<Record>) -> Answer
     ensures { result ≡ answer_of_record (found_condition given) given }
 {
     let condition = if given.is_some() {

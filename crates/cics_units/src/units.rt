@@ -18,21 +18,25 @@ ghost use Rattle.cics_history.specs.Headline.{IsHeadline, LeavesNoTrace, beginni
 ghost use Rattle.cics_history.specs.Isolation.{IsSound};
 ghost use Rattle.cics_units.specs.Listings.{listing_of, replayed_listing};
 ghost use Rattle.cics_units.specs.Submitting.{as_done, IsBackIfItWaits};
+ghost use Rattle.cics_units.specs.StorePlaces.{number_asked};
+ghost use Rattle.cics_units.specs.UnitImages.{kept_by, AreOthersKept};
+ghost use Rattle.cics_tempstor.specs.Queues.{read_item, after_read_item};
+ghost use Rattle.cics_tempstor.specs.Undo.{KeepsQueues};
 ghost use Rattle.cics_history.specs.declared.ops.UnitState.TheVariants.{Committed, BackedOut};
 
 use crate::listings::Listing;
 use crate::opening::Opening;
-use crate::parts::Parts;
-use crate::uses::uses_of;
+use crate::units_core::{Store, UnitsCore, settle_ends};
 use cics_enqueue::{ResourceRef, TakeFault, UnitId};
 use cics_history::{Answer, Done, Enqueued, Entry, Op, UnitState};
-use cics_images::Stores;
+use cics_images::{Images, Stores, Undoable};
 use cics_ksds::File;
 use cics_names::{Name4, Name8, NoMemory};
-use cics_tempstor::TempStore;
+use cics_tempstor::{TempStore, TsRead};
 use cics_transdata::Recovery;
 use std::alloc::Global;
 use std::marker::Model;
+use std::mem;
 
 /// What came of a command that was handed over.
 #[derive(Drop)]
@@ -62,7 +66,7 @@ pub enum Submitted {
 #[derive(Drop)]
 pub struct Units {
     opening: Opening,
-    parts: Parts,
+    core: UnitsCore,
     trace: Vec<Entry>,
     outcomes: Vec<UnitState>,
     commits: Vec<UnitId>,
@@ -72,19 +76,21 @@ pub struct Units {
 impl Model for Units {
     ghost use Rattle.cics_history.specs.Execution.{UnitsValue};
     ghost use Rattle.cics_units.specs.StoreMatching.{shown_store};
+    ghost use Rattle.cics_units.specs.Cores.{core_value};
     ghost use Rattle.cics_units.specs.KeptUnits.{state_shown, AreKept};
     ghost use Rattle.std.specs.Prelude.{◌≤◌, length, vec_capacity};
 
     ghost Value = { UnitsValue };
 
     ghost view = { λ u. record {
-      state = state_shown u.opening u.trace.items u.outcomes.items u.commits.items u.parts;
-      store = shown_store u.parts.stores.store;
+      state = state_shown u.opening u.trace.items u.outcomes.items u.commits.items
+          (core_value u.core);
+      store = shown_store u.core.store;
     } };
 
     ghost invariant = { λ u.
-        AreKept (state_shown u.opening u.trace.items u.outcomes.items u.commits.items u.parts)
-        u.parts.stores u.parts.table
+        AreKept (state_shown u.opening u.trace.items u.outcomes.items u.commits.items
+        (core_value u.core)) (core_value u.core).stores u.core.locks
         × (length u.outcomes.items ≤ vec_capacity u.commits) };
 }
 
@@ -133,6 +139,33 @@ fn enter(trace: &mut Vec<Entry>, outcomes: &mut Vec<UnitState>, unit: Option<Uni
     trace.push_reserved(entry);
 }
 
+// Reads the item of a number, or the one after the item that was read last. The number of an item that
+// is given becomes the NEXT place of its queue.
+fn read_ts(queues: &mut TempStore, queue: &Name8, item: Option<u64>) -> Result<TsRead, NoMemory>
+    ensures answer { IfOk result (λ read. read
+        ≡ read_item queues.old queue.now (number_asked queues.old queue.now item)) }
+    ensures value { OnOk result (queues.new
+        ≡ after_read_item queues.old queue.now (number_asked queues.old queue.now item)) }
+    ensures kept { OnOk result (KeepsQueues (λ _. true) queues.old queues.new) }
+    ensures err { OnErr result (queues.new ≡ queues.old) }
+{
+    match item {
+        Some(number) => queues.read_item(queue, number),
+        None => queues.read_next(queue),
+    }
+}
+
+// Takes the images of a unit, which keeps none from then on.
+fn take_images(rows: &mut Vec<Images<Store>>, alloc: Global, unit: UnitId) -> Images<Store>
+    requires begun { unit < length rows.old.items }
+    ensures images { result.newest_first ≡ kept_by rows.old.items unit }
+    ensures none { kept_by rows.new.items unit ≡ [] }
+    ensures others { AreOthersKept rows.old.items rows.new.items unit }
+{
+    let at = unit.number() as usize;
+    mem::replace(&mut rows[at], Images::new(alloc))
+}
+
 impl Units {
     /// Starts with what an opening holds: no command is executed, and no unit has begun. It takes
     /// memory for a copy of the files and queues; where that is refused the opening comes back.
@@ -159,7 +192,7 @@ impl Units {
         };
         Ok(Units {
             opening,
-            parts: Parts::new(alloc, store),
+            core: UnitsCore::new(alloc, store),
             trace: Vec::new(alloc),
             outcomes: Vec::new(alloc),
             commits: Vec::new(alloc),
@@ -182,9 +215,9 @@ impl Units {
     {
         // A copy for each call that the unit is handed to.
         let acts = asking;
-        let uses = uses_of(op, self.opening.is_recoverable(op));
         let acting = unit_or_next(acts, self.outcomes.as_slice());
-        self.parts.awaited(asking, acting, op, &uses)
+        let bound = self.core.bind(acting, op, self.opening.is_prefixed(op));
+        self.core.blocker(asking, &bound)
     }
 
     /// Executes a command for a unit, or for the next one, which begins with it, or answers the unit to
@@ -233,16 +266,15 @@ impl Units {
         // A copy for each call that the unit is handed to.
         let asking = unit;
         let begins = unit;
-        let recoverable = self.parts.bind(&op, self.opening.is_prefixed(&op));
-        let uses = uses_of(&op, recoverable);
         let acting = unit_or_next(unit, self.outcomes.as_slice());
-        if let Some(holder) = self.parts.awaited(asking, acting, &op, &uses) {
+        let bound = self.core.bind(acting, &op, self.opening.is_prefixed(&op));
+        if let Some(holder) = self.core.blocker(asking, &bound) {
             return Ok(Submitted::MustWait(holder, op));
         }
-        let content = self.parts.given_record(acting, &op)?;
+        let content = self.core.given_record(&bound)?;
         self.trace.reserve(1)?;
         make_room(&mut self.outcomes, &mut self.commits)?;
-        let answer = self.parts.execute(acting, &op, &uses, recoverable)?;
+        let answer = self.core.execute(acting, &bound, content.as_ref())?;
         let entry = Entry {
             unit: acting,
             op,
@@ -276,7 +308,7 @@ impl Units {
         let begins = unit;
         let acting = unit_or_next(unit, self.outcomes.as_slice());
         make_room(&mut self.outcomes, &mut self.commits)?;
-        match self.parts.enq(acting, value) {
+        match self.core.enq(acting, value) {
             Ok(None) => {}
             Ok(Some(holder)) => return Ok(Enqueued::MustWait(holder)),
             Err(TakeFault::Full) => return Ok(Enqueued::CountFull),
@@ -293,7 +325,9 @@ impl Units {
         ensures holder { result ≡ value_holder self.now.state asking value.now }
         ensures is_open { IfSome result (IsOpenUnit self.now.state) }
     {
-        self.parts.holder_over(asking, &ResourceRef::value(value))
+        self.core
+            .locks
+            .holder_over(&ResourceRef::value(value), asking)
     }
 
     /// Dequeues from a value for a unit: DEQ. With as many as it enqueued the value is free.
@@ -307,7 +341,7 @@ impl Units {
         ensures headline { IsHeadline self.new }
         ensures store { self.new.store ≡ self.old.store }
     {
-        self.parts.deq(unit, value);
+        self.core.locks.let_go(&ResourceRef::value(value), unit);
     }
 
     /// The key of the record that a unit has read for update in a file, if it has.
@@ -315,7 +349,8 @@ impl Units {
         ensures key { option_copied result ≡ read_at self.now.state.reads unit file.now }
         ensures most { IfSome result (λ key. length key.now ≤ 255) }
     {
-        self.parts.open_read(unit, file)
+        let key = self.core.reads.key(unit, file)?;
+        Some(key.bytes())
     }
 
     /// Ends a unit's update read of a file, if it has one: UNLOCK. The record of an unrecoverable file is
@@ -326,7 +361,8 @@ impl Units {
         ensures headline { IsHeadline self.new }
         ensures store { self.new.store ≡ self.old.store }
     {
-        self.parts.unlock(unit, file);
+        let recoverable = self.opening.is_recoverable_file(file);
+        self.core.end_read(unit, file, recoverable);
     }
 
     /// READQ TS ITEM, and READQ TS NEXT where `item` is None: the item of a number, or the one after the
@@ -345,7 +381,7 @@ impl Units {
         ensures store { self.new.store ≡ self.old.store }
         ensures err { OnErr result (self.new ≡ self.old) }
     {
-        let read = self.parts.read_ts(queue, item)?;
+        let read = read_ts(&mut self.core.store.temp_storage, queue, item)?;
         Ok(Answer {
             condition: read.condition,
             content: read.content,
@@ -359,7 +395,7 @@ impl Units {
     pub fn next_place(&self, queue: &Name8) -> u16
         ensures { result ≡ place_at self.now.state queue.now }
     {
-        self.parts.stores().store().temp_storage.next_place(queue)
+        self.core.store.temp_storage.next_place(queue)
     }
 
     /// The recovery of a transient data queue; None where no queue of the name is defined.
@@ -367,7 +403,7 @@ impl Units {
         ensures { result
             ≡ option_map (λ q. q.recovery) (value_at queue.now self.now.state.opening.queues) }
     {
-        match self.parts.stores().store().trans_data.get(queue) {
+        match self.core.store.trans_data.get(queue) {
             Some(queue) => Some(queue.recovery()),
             None => None,
         }
@@ -381,7 +417,11 @@ impl Units {
         ensures headline { IsHeadline self.new }
         ensures store { self.new.store ≡ self.old.store }
     {
-        self.parts.commit(unit);
+        let mut images = take_images(&mut self.core.rows, self.alloc, unit);
+        settle_ends(&mut self.core.store, images.oldest_first());
+        images.forget(&mut self.core.store);
+        self.core.locks.release_all(unit);
+        self.core.reads.end(unit);
         self.outcomes[unit.number() as usize] = UnitState::Committed;
         self.commits.push_reserved(unit);
     }
@@ -397,7 +437,10 @@ impl Units {
         ensures headline { IsHeadline self.new }
         ensures alone { LeavesNoTrace self.old self.new unit }
     {
-        self.parts.back_out(unit);
+        let mut images = take_images(&mut self.core.rows, self.alloc, unit);
+        images.back_out(&mut self.core.store);
+        self.core.locks.release_all(unit);
+        self.core.reads.end(unit);
         self.outcomes[unit.number() as usize] = UnitState::BackedOut;
     }
 
@@ -411,7 +454,7 @@ impl Units {
             ≡ option_map (λ f. f.definition) (option_copied result) }
         ensures lawful { IfSome result (λ f. is_key f.now.definition ≡ true) }
     {
-        self.parts.stores().store().files.get(name)
+        self.core.store.files.get(name)
     }
 
     /// What the units started with.
@@ -466,6 +509,6 @@ impl Units {
             self.now.state.trace self.now.state.outcomes) }
         ensures headline { IsHeadline self.now }
     {
-        Listing::of_store(self.alloc, &self.opening, self.parts.stores().store())
+        Listing::of_store(self.alloc, &self.opening, &self.core.store)
     }
 }

@@ -1,6 +1,6 @@
 //! What a command uses, and how its unit takes it: all of it, or nothing where memory is refused.
 
-ghost use Rattle.std.specs.Prelude.{◌≡◌, ◌≤◌, ◌∷◌, [], false, Some, length, IfOk, OnOk, OnErr};
+ghost use Rattle.std.specs.Prelude.{◌≡◌, ◌≤◌, ◌∷◌, [], false, length, IfOk, OnOk, OnErr};
 ghost use Rattle.std.specs.List.{list_any};
 ghost use Rattle.cics_enqueue.specs.Resources.{is_user, bytes_of};
 ghost use Rattle.cics_enqueue.specs.declared.resources.Resource.TheVariants.{FileKey};
@@ -9,12 +9,10 @@ ghost use Rattle.cics_enqueue.specs.declared.resources.Resource.TheVariants.{TdR
 ghost use Rattle.cics_history.specs.Records.{key_of};
 ghost use Rattle.cics_units.specs.Uses.{uses_if, listed, taken_all, AreFreeFor, holder_over_all};
 ghost use Rattle.cics_units.specs.Uses.{given_back_if, let_go};
-ghost use Rattle.cics_units.specs.Awaiting.{writer_of};
 
 use cics_enqueue::{Enqueues, ResourceRef, UnitId};
 use cics_history::Op;
-use cics_names::{Name4, Name8, NoMemory};
-use cics_transdata::TransQueue;
+use cics_names::{Name8, NoMemory};
 
 /// What a command uses: two resources at most, the reading end of a queue before its writing end. Their
 /// bytes lie in the command.
@@ -33,6 +31,18 @@ pub(crate) enum Uses<'a> {
 pub(crate) struct WereFree {
     first: bool,
     second: bool,
+}
+
+impl WereFree {
+    /// Returns that none was free.
+    pub(crate) fn none() -> WereFree
+        ensures { result ≡ record { first = false; second = false } }
+    {
+        WereFree {
+            first: false,
+            second: false,
+        }
+    }
 }
 
 // The record of a file.
@@ -103,10 +113,7 @@ pub(crate) fn hold_all(
     ensures err { OnErr result (enqueues.new ≡ enqueues.old) }
 {
     match uses {
-        Uses::Nothing => Ok(WereFree {
-            first: false,
-            second: false,
-        }),
+        Uses::Nothing => Ok(WereFree::none()),
         Uses::One(resource) => {
             let first = enqueues.hold(resource, unit)?;
             Ok(WereFree {
@@ -166,28 +173,4 @@ pub(crate) fn holder_over_all(
             None => enqueues.holder_over(other, again),
         },
     }
-}
-
-/// The unit, other than the one that asks, for which a READQ TD of the acting unit waits once no unit
-/// is in the way of its reading end: the one at the writing end of a LOGICAL queue in which there is
-/// no record that the acting unit may read. A unit that holds the writing end itself may read what it
-/// wrote.
-pub(crate) fn writer_of(
-    enqueues: &Enqueues,
-    queue: &TransQueue,
-    name: Name4,
-    asking: Option<UnitId>,
-    acting: UnitId,
-) -> Option<UnitId>
-    ensures { result ≡ writer_of enqueues.now (Some queue.now) name asking acting }
-{
-    let end = ResourceRef::writing_end(name);
-    let past_fresh = match enqueues.holder_of(&end) {
-        Some(holder) => holder == acting,
-        None => false,
-    };
-    if !queue.recovery().is_logical() || queue.first(past_fresh).is_some() {
-        return None;
-    }
-    enqueues.holder_over(&end, asking)
 }

@@ -1,5 +1,5 @@
 use Rattle.std.proofs.Common.{◌≡◌, true, arith, ◌∙◌, sym, ap, subst}
-use Rattle.std.specs.Prelude.{slice_set}
+use Rattle.std.specs.Prelude.{◌&&◌, slice_set, fold}
 use Rattle.std.proofs.lemmas.List.{length-set}
 use Rattle.cics_enqueue.specs.Resources.{released}
 use Rattle.cics_history.specs.Holding.{UnitsState}
@@ -8,58 +8,85 @@ use Rattle.cics_history.specs.Events.{is_live}
 use Rattle.cics_history.specs.Headline.{LeavesNoTrace}
 use Rattle.cics_history.proofs.Alone.{leaves_no_trace}
 use Rattle.cics_history.specs.declared.ops.UnitState.TheVariants.{BackedOut}
-use Rattle.cics_units.specs.StoreMatching.{shown_store}
+use Rattle.cics_images.specs.Cells.{AreReadyInTurn, LeadBack, images_of, is_unnamed, all_swept}
+use Rattle.cics_units.specs.Parts.{CoreValue}
+use Rattle.cics_units.specs.StoreMatching.{shown_store, cell_of_any, any_content, AnyLeads, IsAnyReady, any_undone, any_swept, any_holds, AnyKeep}
+use Rattle.cics_units.specs.UnitImages.{kept_by}
+use Rattle.cics_units.specs.UnitImagesLaws.{held_after_end}
+use Rattle.cics_units.specs.Cores.{core_value}
 use Rattle.cics_units.specs.KeptUnits.{state_shown, AreKept}
 use Rattle.cics_units.proofs.KeptUnits.{store_is, kept_headline, kept_backed_out}
 use Rattle.cics_units.proofs.ShownUnits.{live_of, ended_state, ended_kept}
 use Rattle.cics_units.proofs.units.Units.back_out.Goals as goal
-use Rattle.cics_units.proofs.units.Units.back_out.Goals.{After-back_out}
+use Rattle.cics_units.proofs.units.Units.back_out.Goals.{After-end}
 
--- what is known once the parts have backed the unit out
-module _ (c : After-back_out) where
+-- each image of the unit can be undone in its turn
+pub back_out-requires : goal.back_out-requires
+back_out-requires c = subst (AreReadyInTurn IsAnyReady any_undone c.self.inside.core.store) (sym c.take_images-images.ensures.images) (c.self.invariant.0.place.ready c.args.unit)
+
+-- what is known once the unit is backed out
+module _ (c : After-end) where
+  abbrev core : CoreValue
+  core = core_value c.self.inside.core
+
   abbrev before : UnitsState
-  before = state_shown c.self.inside.opening c.self.inside.trace.items c.self.inside.outcomes.items c.self.inside.commits.items c.self.inside.parts
+  before = state_shown c.self.inside.opening c.self.inside.trace.items c.self.inside.outcomes.items c.self.inside.commits.items core
 
   live : is_live before c.args.unit ≡ true
   live = live_of before c.args.unit (subst (λ v. IsOpenUnit v.state c.args.unit) (sym c.self.view_is) c.requires.is_open)
 
-  ended : AreKept (after_end before c.args.unit BackedOut) c.back_out.new.self.stores (released c.self.inside.parts.table c.args.unit)
-  ended = kept_backed_out before c.self.inside.parts.stores c.back_out.new.self.stores c.self.inside.parts.table c.self.invariant.0 c.args.unit live
-      c.back_out.ensures.none c.back_out.ensures.others c.back_out.ensures.led_back c.back_out.ensures.cells c.back_out.ensures.fixed c.back_out.ensures.held c.back_out.ensures.whole
+  -- the core that is left
+  abbrev left : CoreValue
+  left = record { stores = record { store = c.back_out.new.target; images = c.take_images-images.new.rows.items }; table = c.release_all.new.self; reads = c.end.new.self }
+
+  images : c.take_images-images.result.newest_first ≡ kept_by core.stores.images c.args.unit
+  images = c.take_images-images.ensures.images
+
+  ended : AreKept (after_end before c.args.unit BackedOut) left.stores (released core.table c.args.unit)
+  ended =
+      let old = core.stores.store in
+      let new = left.stores.store in
+      let back = c.back_out.ensures in
+      kept_backed_out before core.stores left.stores core.table c.self.invariant.0 c.args.unit live c.take_images-images.ensures.none c.take_images-images.ensures.others
+      (λ x. subst (λ is. LeadBack AnyLeads (images_of cell_of_any x is) (any_content old x) (any_content new x)) images (back.led_back x))
+      (subst (λ is. AnyKeep (is_unnamed cell_of_any is) old new) images back.others) back.fixed
+      (held_after_end any_holds cell_of_any old new core.stores.images left.stores.images c.args.unit c.take_images-images.ensures.others
+      (λ x. back.swept x ∙ ap (λ is. any_holds old x && is_unnamed cell_of_any is x) images))
+      (subst (λ is. new ≡ all_swept any_swept cell_of_any (fold any_undone old is) is) images back.whole)
 
   abbrev after : UnitsState
-  after = state_shown c.self.inside.opening c.self.inside.trace.items (slice_set c.self.inside.outcomes.items c.args.unit BackedOut) c.self.inside.commits.items c.back_out.new.self
+  after = state_shown c.self.inside.opening c.self.inside.trace.items (slice_set c.self.inside.outcomes.items c.args.unit BackedOut) c.self.inside.commits.items left
 
-  kept : AreKept after c.back_out.new.self.stores c.back_out.new.self.table
+  kept : AreKept after left.stores left.table
   kept =
       let u = c.self.inside in
-      ended_kept u.opening u.trace.items u.outcomes.items u.commits.items u.parts c.back_out.new.self c.self.invariant.0 c.args.unit live BackedOut c.back_out.ensures.table c.back_out.ensures.reads ended
+      ended_kept u.opening u.trace.items u.outcomes.items u.commits.items core left c.self.invariant.0 c.args.unit live BackedOut c.release_all.ensures c.end.ensures ended
 
 pub invariant_of-self : goal.invariant_of-self
 invariant_of-self c = rw c.number.ensures (
-  kept (goal.at.invariant_of-self c).After-back_out,
+  kept (goal.at.invariant_of-self c).After-end,
   omega (arith, c.self.invariant.1, length-set c.self.inside.outcomes.items c.args.unit BackedOut),
 )
 
 pub returns-clause-state : goal.returns-clause-state
 returns-clause-state c =
     let u = c.self.inside in
-    let at = (goal.at.returns-clause-state c).After-back_out in
+    let at = (goal.at.returns-clause-state c).After-end in
     rw c.number.ensures (
-    ended_state u.opening u.trace.items u.outcomes.items u.commits.items u.parts c.back_out.new.self c.self.invariant.0 c.args.unit (live at) BackedOut c.back_out.ensures.table c.back_out.ensures.reads (ended at)
+    ended_state u.opening u.trace.items u.outcomes.items u.commits.items (core_value u.core) (left at) c.self.invariant.0 c.args.unit (live at) BackedOut c.release_all.ensures c.end.ensures (ended at)
     ∙ ap (λ v. after_end v.state c.args.unit BackedOut) c.self.view_is)
 
 pub returns-clause-headline : goal.returns-clause-headline
 returns-clause-headline c =
-    let at = (goal.at.returns-clause-headline c).After-back_out in
-    rw c.number.ensures (kept_headline (after at) c.back_out.new.self.stores c.back_out.new.self.table (kept at))
+    let at = (goal.at.returns-clause-headline c).After-end in
+    rw c.number.ensures (kept_headline (after at) (left at).stores (left at).table (kept at))
 
 pub returns-clause-alone : goal.returns-clause-alone
 returns-clause-alone c =
     let u = c.self.inside in
-    let at = (goal.at.returns-clause-alone c).After-back_out in
+    let at = (goal.at.returns-clause-alone c).After-end in
     let old = before at in
-    let now = shown_store c.back_out.new.self.stores.store in
+    let now = shown_store c.back_out.new.target in
     rw c.number.ensures (subst (λ v. LeavesNoTrace v (record { state = after_end old c.args.unit BackedOut; store = now }) c.args.unit) c.self.view_is
-    (leaves_no_trace (record { state = old; store = shown_store u.parts.stores.store }) c.args.unit now c.self.invariant.0.in_order (live at)
-    (store_is (after_end old c.args.unit BackedOut) c.back_out.new.self.stores (released u.parts.table c.args.unit) (ended at))))
+    (leaves_no_trace (record { state = old; store = shown_store u.core.store }) c.args.unit now c.self.invariant.0.in_order (live at)
+    (store_is (after_end old c.args.unit BackedOut) (left at).stores (released u.core.locks c.args.unit) (ended at))))

@@ -1,5 +1,6 @@
 use Rattle.std.proofs.Common.{subst}
 use Rattle.cics_history.specs.Headline.{IsHeadline}
+use Rattle.cics_units.specs.Cores.{core_value}
 use Rattle.cics_units.specs.KeptUnits.{state_shown}
 use Rattle.cics_units.proofs.KeptUnits.{kept_headline}
 use Rattle.cics_units.proofs.units.Units.commits.Goals as goal
@@ -7,5 +8,5 @@ use Rattle.cics_units.proofs.units.Units.commits.Goals as goal
 pub returns-clause-headline : goal.returns-clause-headline
 returns-clause-headline c =
     let u = c.self.inside in
-    let s = state_shown u.opening u.trace.items u.outcomes.items u.commits.items u.parts in
-    subst IsHeadline c.self.view_is (kept_headline s u.parts.stores u.parts.table c.self.invariant.0)
+    let s = state_shown u.opening u.trace.items u.outcomes.items u.commits.items (core_value u.core) in
+    subst IsHeadline c.self.view_is (kept_headline s (core_value u.core).stores u.core.locks c.self.invariant.0)

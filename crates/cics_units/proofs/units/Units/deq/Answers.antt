@@ -1,23 +1,37 @@
-use Rattle.std.proofs.Common.{◌∙◌, ap}
+use Rattle.std.proofs.Common.{◌≡◌, ◌∙◌, ap}
+use Rattle.cics_enqueue.specs.Resources.{given_back}
 use Rattle.cics_history.specs.Execution.{after_dequeue}
-use Rattle.cics_units.specs.KeptUnits.{state_shown}
+use Rattle.cics_units.specs.Cores.{core_value}
+use Rattle.cics_units.specs.Parts.{CoreValue}
+use Rattle.cics_units.specs.TableInPlace.{value_of}
 use Rattle.cics_units.proofs.KeptUnits.{kept_headline}
 use Rattle.cics_units.proofs.Enqueuing.{dequeued_shown, dequeued_kept}
 use Rattle.cics_units.proofs.units.Units.deq.Goals as goal
+use Rattle.cics_units.proofs.units.Units.deq.Goals.{After-let_go}
+
+-- the core once the value is given back
+abbrev after : After-let_go → CoreValue
+after c = record (core_value c.self.inside.core) { table = c.let_go.new.self }
+
+done : (c : After-let_go) → after c ≡ record (core_value c.self.inside.core) { table = given_back c.self.inside.core.locks (value_of c.args.value.now) c.args.unit }
+done c = λ i. record (core_value c.self.inside.core) { table = (c.let_go.ensures ∙ ap (λ r. given_back c.self.inside.core.locks r c.args.unit) c.value.ensures) i }
 
 pub invariant_of-self : goal.invariant_of-self
 invariant_of-self c =
     let u = c.self.inside in
-    (dequeued_kept u.opening u.trace.items u.outcomes.items u.commits.items u.parts c.deq.new.self c.self.invariant.0 c.args.unit c.args.value.now c.deq.ensures, c.self.invariant.1)
+    let at = (goal.at.invariant_of-self c).After-let_go in
+    (dequeued_kept u.opening u.trace.items u.outcomes.items u.commits.items (core_value u.core) (after at) c.self.invariant.0 c.args.unit c.args.value.now (done at), c.self.invariant.1)
 
 pub returns-clause-state : goal.returns-clause-state
 returns-clause-state c =
     let u = c.self.inside in
-    dequeued_shown u.opening u.trace.items u.outcomes.items u.commits.items u.parts c.deq.new.self c.self.invariant.0 c.args.unit c.args.value.now c.deq.ensures
+    let at = (goal.at.returns-clause-state c).After-let_go in
+    dequeued_shown u.opening u.trace.items u.outcomes.items u.commits.items (core_value u.core) (after at) c.self.invariant.0 c.args.unit c.args.value.now (done at)
     ∙ ap (λ v. after_dequeue v.state c.args.unit c.args.value.now) c.self.view_is
 
 pub returns-clause-headline : goal.returns-clause-headline
 returns-clause-headline c =
     let u = c.self.inside in
-    kept_headline (state_shown u.opening u.trace.items u.outcomes.items u.commits.items c.deq.new.self) c.deq.new.self.stores c.deq.new.self.table
-    (dequeued_kept u.opening u.trace.items u.outcomes.items u.commits.items u.parts c.deq.new.self c.self.invariant.0 c.args.unit c.args.value.now c.deq.ensures)
+    let at = (goal.at.returns-clause-headline c).After-let_go in
+    kept_headline _ (after at).stores (after at).table
+    (dequeued_kept u.opening u.trace.items u.outcomes.items u.commits.items (core_value u.core) (after at) c.self.invariant.0 c.args.unit c.args.value.now (done at))

@@ -5,6 +5,7 @@ use Rattle.cics_history.specs.Holding.{UnitsState}
 use Rattle.cics_history.specs.Execution.{IsOpenUnit, IsOpenOrNone, unit_or_next, outcomes_with, enqueue, after_enqueued, after_enqueue}
 use Rattle.cics_history.specs.Events.{may_act}
 use Rattle.cics_history.specs.Headline.{IsHeadline}
+use Rattle.cics_units.specs.Cores.{core_value}
 use Rattle.cics_units.specs.KeptUnits.{state_shown, AreKept}
 use Rattle.cics_units.specs.StoreMatching.{shown_store}
 use Rattle.cics_units.specs.Parts.{AreEnqueued, ArePartsKept}
@@ -25,16 +26,16 @@ where_some {P} is held = subst (λ o. IfSome o (λ m. P)) is held
 where_none : {P : Type 0} {o : Option ℕ} → o ≡ None → IfNone o P → P
 where_none {P} is free = subst (λ o. IfNone o P) is free
 
-held : (c : In-Ok-Some) → holder_over (value_of c.args.value.now) c.args.unit c.self.inside.parts.table ≡ Some c.in-Ok-Some.holder
+held : (c : In-Ok-Some) → holder_over (value_of c.args.value.now) c.args.unit c.self.inside.core.locks ≡ Some c.in-Ok-Some.holder
 held c =
     let u = c.self.inside in
-    sym (value_over (state_shown u.opening u.trace.items u.outcomes.items u.commits.items u.parts) u.parts.stores u.parts.table c.self.invariant.0 c.args.unit c.args.value.now
+    sym (value_over (state_shown u.opening u.trace.items u.outcomes.items u.commits.items (core_value u.core)) (core_value u.core).stores u.core.locks c.self.invariant.0 c.args.unit c.args.value.now
     c.unit_or_next-acting.result (c.unit_or_next-acting.ensures ∙ ap (unit_or_next c.args.unit) c.as_slice.ensures.value)) ∙ sym c.in-Ok-Some.ensures.holder ∙ c.in-Ok-Some.field-0-is
 
-waits : (c : In-Ok-Some) → enqueue (state_shown c.self.inside.opening c.self.inside.trace.items c.self.inside.outcomes.items c.self.inside.commits.items c.self.inside.parts) c.args.unit c.args.value.now ≡ MustWait c.in-Ok-Some.holder
+waits : (c : In-Ok-Some) → enqueue (state_shown c.self.inside.opening c.self.inside.trace.items c.self.inside.outcomes.items c.self.inside.commits.items (core_value c.self.inside.core)) c.args.unit c.args.value.now ≡ MustWait c.in-Ok-Some.holder
 waits c =
     let u = c.self.inside in
-    enqueue-waits (state_shown u.opening u.trace.items u.outcomes.items u.commits.items u.parts) u.parts.stores u.parts.table c.self.invariant.0 c.args.unit c.args.value.now c.in-Ok-Some.holder (held c)
+    enqueue-waits (state_shown u.opening u.trace.items u.outcomes.items u.commits.items (core_value u.core)) (core_value u.core).stores u.core.locks c.self.invariant.0 c.args.unit c.args.value.now c.in-Ok-Some.holder (held c)
 
 pub returns-in-Ok-Some-clause-done : goal.returns-in-Ok-Some-clause-done
 returns-in-Ok-Some-clause-done c = sym (waits (goal.at.returns-in-Ok-Some-clause-done c).In-Ok-Some) ∙ ap (λ w. enqueue w.state c.args.unit c.args.value.now) c.self.view_is
@@ -42,15 +43,15 @@ returns-in-Ok-Some-clause-done c = sym (waits (goal.at.returns-in-Ok-Some-clause
 pub returns-in-Ok-Some-clause-holder_open : goal.returns-in-Ok-Some-clause-holder_open
 returns-in-Ok-Some-clause-holder_open c =
     let u = c.self.inside in
-    let s = state_shown u.opening u.trace.items u.outcomes.items u.commits.items u.parts in
+    let s = state_shown u.opening u.trace.items u.outcomes.items u.commits.items (core_value u.core) in
     subst (λ w. IsOpenUnit w.state c.in-Ok-Some.holder) c.self.view_is
-    (holder_open s u.parts.table c.self.invariant.0.sound c.self.invariant.0.table c.args.unit (value_of c.args.value.now) c.in-Ok-Some.holder (held (goal.at.returns-in-Ok-Some-clause-holder_open c).In-Ok-Some))
+    (holder_open s u.core.locks c.self.invariant.0.sound c.self.invariant.0.table c.args.unit (value_of c.args.value.now) c.in-Ok-Some.holder (held (goal.at.returns-in-Ok-Some-clause-holder_open c).In-Ok-Some))
 
 pub returns-in-Ok-Some-clause-state : goal.returns-in-Ok-Some-clause-state
 returns-in-Ok-Some-clause-state c =
     let u = c.self.inside in
-    let s = state_shown u.opening u.trace.items u.outcomes.items u.commits.items u.parts in
-    refused_shown u.opening u.trace.items u.outcomes.items u.commits.items u.parts c.enq.new.self c.self.invariant.0 (where_some c.in-Ok-Some.field-0-is c.in-Ok-Some.ensures.waits) c.make_room.new.outcomes.items c.make_room.new.commits.items c.make_room.ensures.outcomes c.make_room.ensures.commits
+    let s = state_shown u.opening u.trace.items u.outcomes.items u.commits.items (core_value u.core) in
+    refused_shown u.opening u.trace.items u.outcomes.items u.commits.items (core_value u.core) (core_value c.enq.new.self) c.self.invariant.0 (where_some c.in-Ok-Some.field-0-is c.in-Ok-Some.ensures.waits) c.make_room.new.outcomes.items c.make_room.new.commits.items c.make_room.ensures.outcomes c.make_room.ensures.commits
     ∙ sym (ap (after_enqueued s c.args.unit c.args.value.now) (waits (goal.at.returns-in-Ok-Some-clause-state c).In-Ok-Some))
     ∙ ap (λ w. after_enqueue w.state c.args.unit c.args.value.now) c.self.view_is
 
@@ -58,16 +59,16 @@ returns-in-Ok-Some-clause-state c =
 pub returns-in_err-make_room-clause-headline : goal.returns-in_err-make_room-clause-headline
 returns-in_err-make_room-clause-headline c =
     let u = c.self.inside in
-    subst (λ s. IsHeadline (record { state = s; store = shown_store u.parts.stores.store }))
-    (λ i. state_shown u.opening u.trace.items (sym c.make_room.ensures.outcomes i) (sym c.make_room.ensures.commits i) u.parts)
-    (kept_headline (state_shown u.opening u.trace.items u.outcomes.items u.commits.items u.parts) u.parts.stores u.parts.table c.self.invariant.0)
+    subst (λ s. IsHeadline (record { state = s; store = shown_store u.core.store }))
+    (λ i. state_shown u.opening u.trace.items (sym c.make_room.ensures.outcomes i) (sym c.make_room.ensures.commits i) (core_value u.core))
+    (kept_headline (state_shown u.opening u.trace.items u.outcomes.items u.commits.items (core_value u.core)) (core_value u.core).stores u.core.locks c.self.invariant.0)
 
-full : (c : In-Err-Full) → enqueue (state_shown c.self.inside.opening c.self.inside.trace.items c.self.inside.outcomes.items c.self.inside.commits.items c.self.inside.parts) c.args.unit c.args.value.now ≡ CountFull
+full : (c : In-Err-Full) → enqueue (state_shown c.self.inside.opening c.self.inside.trace.items c.self.inside.outcomes.items c.self.inside.commits.items (core_value c.self.inside.core)) c.args.unit c.args.value.now ≡ CountFull
 full c =
     let u = c.self.inside in
-    let none = sym (value_over (state_shown u.opening u.trace.items u.outcomes.items u.commits.items u.parts) u.parts.stores u.parts.table c.self.invariant.0 c.args.unit c.args.value.now
+    let none = sym (value_over (state_shown u.opening u.trace.items u.outcomes.items u.commits.items (core_value u.core)) (core_value u.core).stores u.core.locks c.self.invariant.0 c.args.unit c.args.value.now
     c.unit_or_next-acting.result (c.unit_or_next-acting.ensures ∙ ap (unit_or_next c.args.unit) c.as_slice.ensures.value)) ∙ c.in-Err-Full.ensures.own c.in-Err-Full.field-0-is in
-    enqueue-full (state_shown u.opening u.trace.items u.outcomes.items u.commits.items u.parts) u.parts.stores u.parts.table c.self.invariant.0 c.args.unit c.args.value.now none (c.in-Err-Full.ensures.full c.in-Err-Full.field-0-is)
+    enqueue-full (state_shown u.opening u.trace.items u.outcomes.items u.commits.items (core_value u.core)) (core_value u.core).stores u.core.locks c.self.invariant.0 c.args.unit c.args.value.now none (c.in-Err-Full.ensures.full c.in-Err-Full.field-0-is)
 
 pub returns-in-Err-Full-clause-done : goal.returns-in-Err-Full-clause-done
 returns-in-Err-Full-clause-done c =
@@ -77,19 +78,19 @@ returns-in-Err-Full-clause-done c =
 pub returns-in-Err-Full-clause-state : goal.returns-in-Err-Full-clause-state
 returns-in-Err-Full-clause-state c =
     let u = c.self.inside in
-    let s = state_shown u.opening u.trace.items u.outcomes.items u.commits.items u.parts in
+    let s = state_shown u.opening u.trace.items u.outcomes.items u.commits.items (core_value u.core) in
     let at = goal.at.returns-in-Err-Full-clause-state c in
-    refused_shown u.opening u.trace.items u.outcomes.items u.commits.items u.parts c.enq.new.self c.self.invariant.0 c.in-Err-Full.ensures.err c.make_room.new.outcomes.items c.make_room.new.commits.items c.make_room.ensures.outcomes c.make_room.ensures.commits
+    refused_shown u.opening u.trace.items u.outcomes.items u.commits.items (core_value u.core) (core_value c.enq.new.self) c.self.invariant.0 c.in-Err-Full.ensures.err c.make_room.new.outcomes.items c.make_room.new.commits.items c.make_room.ensures.outcomes c.make_room.ensures.commits
     ∙ sym (ap (after_enqueued s c.args.unit c.args.value.now) (full at.In-Err-Full))
     ∙ ap (λ w. after_enqueue w.state c.args.unit c.args.value.now) c.self.view_is
 
 -- what the parts kept shows a headline
-refused : (c : After-enq) → ArePartsKept c.self.inside.parts c.enq.new.self →
-    IsHeadline (record { state = state_shown c.self.inside.opening c.self.inside.trace.items c.make_room.new.outcomes.items c.make_room.new.commits.items c.enq.new.self; store = shown_store c.enq.new.self.stores.store })
+refused : (c : After-enq) → ArePartsKept (core_value c.self.inside.core) (core_value c.enq.new.self) →
+    IsHeadline (record { state = state_shown c.self.inside.opening c.self.inside.trace.items c.make_room.new.outcomes.items c.make_room.new.commits.items (core_value c.enq.new.self); store = shown_store c.enq.new.self.store })
 refused c same =
     let u = c.self.inside in
-    kept_headline _ c.enq.new.self.stores c.enq.new.self.table
-    (refused_kept u.opening u.trace.items u.outcomes.items u.commits.items u.parts c.enq.new.self c.self.invariant.0 same u.trace.items c.make_room.new.outcomes.items c.make_room.new.commits.items refl
+    kept_headline _ (core_value c.enq.new.self).stores c.enq.new.self.locks
+    (refused_kept u.opening u.trace.items u.outcomes.items u.commits.items (core_value u.core) (core_value c.enq.new.self) c.self.invariant.0 same u.trace.items c.make_room.new.outcomes.items c.make_room.new.commits.items refl
     c.make_room.ensures.outcomes c.make_room.ensures.commits)
 
 pub returns-in-Ok-Some-clause-headline : goal.returns-in-Ok-Some-clause-headline
@@ -102,18 +103,18 @@ pub returns-in-Err-NoMemory-clause-headline : goal.returns-in-Err-NoMemory-claus
 returns-in-Err-NoMemory-clause-headline c = refused (goal.at.returns-in-Err-NoMemory-clause-headline c).After-enq c.in-Err-NoMemory.ensures.err
 
 -- ---- it is taken
-none : (c : In-Ok-None) → holder_over (value_of c.args.value.now) c.args.unit c.self.inside.parts.table ≡ None
+none : (c : In-Ok-None) → holder_over (value_of c.args.value.now) c.args.unit c.self.inside.core.locks ≡ None
 none c =
     let u = c.self.inside in
-    sym (value_over (state_shown u.opening u.trace.items u.outcomes.items u.commits.items u.parts) u.parts.stores u.parts.table c.self.invariant.0 c.args.unit c.args.value.now
+    sym (value_over (state_shown u.opening u.trace.items u.outcomes.items u.commits.items (core_value u.core)) (core_value u.core).stores u.core.locks c.self.invariant.0 c.args.unit c.args.value.now
     c.unit_or_next-acting.result (c.unit_or_next-acting.ensures ∙ ap (unit_or_next c.args.unit) c.as_slice.ensures.value)) ∙ sym c.in-Ok-None.ensures.holder ∙ c.in-Ok-None.field-0-is
 
-module _ (c : After-begin) (none : holder_over (value_of c.args.value.now) c.args.unit c.self.inside.parts.table ≡ None) where
+module _ (c : After-begin) (none : holder_over (value_of c.args.value.now) c.args.unit c.self.inside.core.locks ≡ None) where
   abbrev old : UnitsState
-  old = state_shown c.self.inside.opening c.self.inside.trace.items c.self.inside.outcomes.items c.self.inside.commits.items c.self.inside.parts
+  old = state_shown c.self.inside.opening c.self.inside.trace.items c.self.inside.outcomes.items c.self.inside.commits.items (core_value c.self.inside.core)
 
   abbrev now : UnitsState
-  now = state_shown c.self.inside.opening c.self.inside.trace.items c.begin.new.outcomes.items c.make_room.new.commits.items c.enq.new.self
+  now = state_shown c.self.inside.opening c.self.inside.trace.items c.begin.new.outcomes.items c.make_room.new.commits.items (core_value c.enq.new.self)
 
   acts : may_act old c.args.unit ≡ true
   acts = acts_of old c.args.unit (subst (λ w. IsOpenOrNone w.state c.args.unit) (sym c.self.view_is) c.requires.is_open)
@@ -122,26 +123,26 @@ module _ (c : After-begin) (none : holder_over (value_of c.args.value.now) c.arg
   acting = c.unit_or_next-acting.ensures ∙ ap (unit_or_next c.args.unit) c.as_slice.ensures.value
 
   takes : enqueue old c.args.unit c.args.value.now ≡ Taken (unit_or_next c.args.unit c.self.inside.outcomes.items)
-  takes = enqueue-takes old c.self.inside.parts.stores c.self.inside.parts.table c.self.invariant.0 c.args.unit c.args.value.now none (where_none c.in-Ok-None.field-0-is c.in-Ok-None.ensures.room)
+  takes = enqueue-takes old (core_value c.self.inside.core).stores c.self.inside.core.locks c.self.invariant.0 c.args.unit c.args.value.now none (where_none c.in-Ok-None.field-0-is c.in-Ok-None.ensures.room)
 
-  done : AreEnqueued c.self.inside.parts c.enq.new.self (unit_or_next c.args.unit c.self.inside.outcomes.items) c.args.value.now
-  done = subst (λ n. AreEnqueued c.self.inside.parts c.enq.new.self n c.args.value.now) acting (where_none c.in-Ok-None.field-0-is c.in-Ok-None.ensures.enqueued)
+  done : AreEnqueued (core_value c.self.inside.core) (core_value c.enq.new.self) (unit_or_next c.args.unit c.self.inside.outcomes.items) c.args.value.now
+  done = subst (λ n. AreEnqueued (core_value c.self.inside.core) (core_value c.enq.new.self) n c.args.value.now) acting (where_none c.in-Ok-None.field-0-is c.in-Ok-None.ensures.enqueued)
 
-  shown : now ≡ state_shown c.self.inside.opening c.self.inside.trace.items (outcomes_with c.args.unit c.self.inside.outcomes.items) c.self.inside.commits.items c.enq.new.self
+  shown : now ≡ state_shown c.self.inside.opening c.self.inside.trace.items (outcomes_with c.args.unit c.self.inside.outcomes.items) c.self.inside.commits.items (core_value c.enq.new.self)
   shown =
       let outcomes : c.begin.new.outcomes.items ≡ outcomes_with c.args.unit c.self.inside.outcomes.items = c.begin.ensures ∙ ap (outcomes_with c.args.unit) c.make_room.ensures.outcomes in
-      λ i. state_shown c.self.inside.opening c.self.inside.trace.items (outcomes i) (c.make_room.ensures.commits i) c.enq.new.self
+      λ i. state_shown c.self.inside.opening c.self.inside.trace.items (outcomes i) (c.make_room.ensures.commits i) (core_value c.enq.new.self)
 
   state : now ≡ after_enqueue old c.args.unit c.args.value.now
   state =
       let u = c.self.inside in
-      shown ∙ enqueued_shown u.opening u.trace.items u.outcomes.items u.commits.items u.parts c.enq.new.self c.self.invariant.0 c.args.unit c.args.value.now acts takes done
+      shown ∙ enqueued_shown u.opening u.trace.items u.outcomes.items u.commits.items (core_value u.core) (core_value c.enq.new.self) c.self.invariant.0 c.args.unit c.args.value.now acts takes done
 
-  kept : AreKept now c.enq.new.self.stores c.enq.new.self.table
+  kept : AreKept now (core_value c.enq.new.self).stores c.enq.new.self.locks
   kept =
       let u = c.self.inside in
-      subst (λ s. AreKept s c.enq.new.self.stores c.enq.new.self.table) (sym shown)
-      (enqueued_kept u.opening u.trace.items u.outcomes.items u.commits.items u.parts c.enq.new.self c.self.invariant.0 c.args.unit c.args.value.now acts takes done)
+      subst (λ s. AreKept s (core_value c.enq.new.self).stores c.enq.new.self.locks) (sym shown)
+      (enqueued_kept u.opening u.trace.items u.outcomes.items u.commits.items (core_value u.core) (core_value c.enq.new.self) c.self.invariant.0 c.args.unit c.args.value.now acts takes done)
 
 pub invariant_of-self-2 : goal.invariant_of-self-2
 invariant_of-self-2 c =
@@ -161,4 +162,4 @@ returns-clause-state c =
 pub returns-clause-headline : goal.returns-clause-headline
 returns-clause-headline c =
     let at = goal.at.returns-clause-headline c in
-    kept_headline _ c.enq.new.self.stores c.enq.new.self.table (kept at.After-begin (none at.In-Ok-None))
+    kept_headline _ (core_value c.enq.new.self).stores c.enq.new.self.locks (kept at.After-begin (none at.In-Ok-None))

@@ -7,5 +7,5 @@ use Rattle.cics_units.proofs.units.Units.file.Goals as goal
 pub returns-clause-records : goal.returns-clause-records
 returns-clause-records c =
     let name = c.args.name.now in
-    ap (λ v. value_at name v.store.files) (sym c.self.view_is) ∙ value_at_each (λ x. x.records) name c.self.inside.parts.stores.store.files
-    ∙ ap (option_map (λ x. x.records)) (sym (c.get.ensures.value ∙ ap (value_at name) (ap (λ s. s.files) (c.store.ensures ∙ ap (λ s. s.store) c.stores.ensures))))
+    ap (λ v. value_at name v.store.files) (sym c.self.view_is) ∙ value_at_each (λ x. x.records) name c.self.inside.core.store.files
+    ∙ ap (option_map (λ x. x.records)) (sym c.get.ensures.value)

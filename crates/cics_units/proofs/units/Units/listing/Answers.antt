@@ -1,22 +1,21 @@
-use Rattle.std.proofs.Common.{◌≡◌, ◌∙◌, ap, subst, IfOk}
+use Rattle.std.proofs.Common.{◌≡◌, subst, IfOk}
 use Rattle.cics_history.specs.Headline.{IsHeadline}
+use Rattle.cics_units.specs.Cores.{core_value}
 use Rattle.cics_units.specs.KeptUnits.{state_shown}
 use Rattle.cics_units.specs.Listings.{listing_of, replayed_listing}
-use Rattle.cics_units.specs.StoreMatching.{shown_store}
 use Rattle.cics_units.proofs.KeptUnits.{store_is, kept_headline}
 use Rattle.cics_units.proofs.units.Units.listing.Goals as goal
 
 pub returns-clause-replayed : goal.returns-clause-replayed
 returns-clause-replayed c =
     let u = c.self.inside in
-    let s = state_shown u.opening u.trace.items u.outcomes.items u.commits.items u.parts in
-    let stands = c.store.ensures ∙ ap (λ st. st.store) c.stores.ensures in
+    let s = state_shown u.opening u.trace.items u.outcomes.items u.commits.items (core_value u.core) in
     subst (λ v. IfOk c.of_store.result (λ l. l ≡ replayed_listing v.state.opening v.state.trace v.state.outcomes)) c.self.view_is
     (subst (λ m. IfOk c.of_store.result (λ l. l ≡ listing_of u.opening m))
-    (ap shown_store stands ∙ store_is s u.parts.stores u.parts.table c.self.invariant.0) c.of_store.ensures)
+    (store_is s (core_value u.core).stores u.core.locks c.self.invariant.0) c.of_store.ensures)
 
 pub returns-clause-headline : goal.returns-clause-headline
 returns-clause-headline c =
     let u = c.self.inside in
-    let s = state_shown u.opening u.trace.items u.outcomes.items u.commits.items u.parts in
-    subst IsHeadline c.self.view_is (kept_headline s u.parts.stores u.parts.table c.self.invariant.0)
+    let s = state_shown u.opening u.trace.items u.outcomes.items u.commits.items (core_value u.core) in
+    subst IsHeadline c.self.view_is (kept_headline s (core_value u.core).stores u.core.locks c.self.invariant.0)

@@ -1,72 +1,78 @@
-use Rattle.std.proofs.Common.{◌∙◌, ℕ, true, sym, ap, subst}
-use Rattle.cics_tempstor.specs.Queues.{after_read_item}
-use Rattle.cics_tempstor.specs.Undo.{KeepsQueues}
+use Rattle.std.proofs.Common.{◌∙◌, ℕ, sym, ap, subst}
+use Rattle.cics_tempstor.specs.Queues.{places_of}
 use Rattle.cics_history.specs.Execution.{item_asked, ts_reading, after_ts_reading}
 use Rattle.cics_history.specs.Headline.{IsHeadline}
-use Rattle.cics_units.specs.KeptUnits.{state_shown}
-use Rattle.cics_units.specs.Parts.{PartsValue}
+use Rattle.cics_history.specs.Holding.{UnitsState}
+use Rattle.cics_images.specs.StoreCells.{with_temp_storage}
+use Rattle.cics_units.specs.Cores.{core_value}
+use Rattle.cics_units.specs.KeptUnits.{state_shown, AreKept}
+use Rattle.cics_units.specs.Parts.{CoreValue}
 use Rattle.cics_units.specs.StoreMatching.{shown_store}
 use Rattle.cics_units.specs.StorePlaces.{number_asked}
 use Rattle.cics_units.proofs.KeptUnits.{kept_headline}
 use Rattle.cics_units.proofs.TsReadings.{asked_told, reading_told, read_state, read_kept, read_store}
 use Rattle.cics_units.proofs.units.Units.read_ts.Goals as goal
+use Rattle.cics_units.proofs.units.Units.read_ts.Goals.{In_ok-read}
 
 pub returns-in_err-read-clause-headline : goal.returns-in_err-read-clause-headline
 returns-in_err-read-clause-headline c =
     let u = c.self.inside in
-    subst (λ (p : PartsValue). IsHeadline (record { state = state_shown u.opening u.trace.items u.outcomes.items u.commits.items p; store = shown_store p.stores.store })) (sym c.in_err-read.ensures.err)
-    (kept_headline (state_shown u.opening u.trace.items u.outcomes.items u.commits.items u.parts) u.parts.stores u.parts.table c.self.invariant.0)
+    subst (λ rows. IsHeadline (record {
+      state = record (state_shown u.opening u.trace.items u.outcomes.items u.commits.items (core_value u.core)) { next = places_of rows };
+      store = shown_store (with_temp_storage u.core.store rows);
+    })) (sym c.in_err-read.ensures.err)
+    (kept_headline (state_shown u.opening u.trace.items u.outcomes.items u.commits.items (core_value u.core)) (core_value u.core).stores u.core.locks c.self.invariant.0)
+
+-- what is known once the item is read
+module _ (c : In_ok-read) where
+  abbrev before : UnitsState
+  before = state_shown c.self.inside.opening c.self.inside.trace.items c.self.inside.outcomes.items c.self.inside.commits.items (core_value c.self.inside.core)
+
+  -- the number of the item that is asked for
+  abbrev number : ℕ
+  number = number_asked c.self.inside.core.store.temp_storage c.args.queue.now c.args.item
+
+  -- the core that is left
+  abbrev left : CoreValue
+  left = record (core_value c.self.inside.core) { stores = record { store = with_temp_storage c.self.inside.core.store c.read_ts.new.queues; images = c.self.inside.core.rows.items } }
+
+  abbrev after : UnitsState
+  after = state_shown c.self.inside.opening c.self.inside.trace.items c.self.inside.outcomes.items c.self.inside.commits.items left
+
+  kept : AreKept after left.stores left.table
+  kept =
+      let u = c.self.inside in
+      read_kept u.opening u.trace.items u.outcomes.items u.commits.items (core_value u.core) c.self.invariant.0 c.args.queue.now number c.read_ts.new.queues c.in_ok-read.ensures.value c.in_ok-read.ensures.kept
 
 pub invariant_of-self-2 : goal.invariant_of-self-2
-invariant_of-self-2 c =
-    let u = c.self.inside in
-    let q = c.args.queue.now in
-    let rows = u.parts.stores.store.temp_storage in
-    let n : ℕ = number_asked rows q c.args.item in
-    let kept : KeepsQueues (λ q. true) rows (after_read_item rows q n) =
-    subst (KeepsQueues (λ q. true) rows) (ap (λ (p : PartsValue). p.stores.store.temp_storage) c.in_ok-read.ensures.value) c.in_ok-read.ensures.kept in
-    (read_kept u.opening u.trace.items u.outcomes.items u.commits.items u.parts c.self.invariant.0 q n kept c.read_ts.new.self c.in_ok-read.ensures.value, c.self.invariant.1)
+invariant_of-self-2 c = (kept (goal.at.invariant_of-self-2 c).In_ok-read, c.self.invariant.1)
 
 pub returns-clause-answer : goal.returns-clause-answer
 returns-clause-answer c =
     let u = c.self.inside in
     let q = c.args.queue.now in
-    let s = state_shown u.opening u.trace.items u.outcomes.items u.commits.items u.parts in
-    let n : ℕ = number_asked u.parts.stores.store.temp_storage q c.args.item in
-    reading_told s u.parts.stores u.parts.table c.self.invariant.0 q n c.in_ok-read.read c.in_ok-read.ensures.answer
-    ∙ ap (ts_reading s q) (asked_told s u.parts.stores u.parts.table c.self.invariant.0 q c.args.item)
+    let at = (goal.at.returns-clause-answer c).In_ok-read in
+    reading_told (before at) (core_value u.core).stores u.core.locks c.self.invariant.0 q (number at) c.in_ok-read.read c.in_ok-read.ensures.answer
+    ∙ ap (ts_reading (before at) q) (asked_told (before at) (core_value u.core).stores u.core.locks c.self.invariant.0 q c.args.item)
     ∙ ap (λ v. ts_reading v.state q (item_asked v.state q c.args.item)) c.self.view_is
 
 pub returns-clause-state : goal.returns-clause-state
 returns-clause-state c =
     let u = c.self.inside in
     let q = c.args.queue.now in
-    let s = state_shown u.opening u.trace.items u.outcomes.items u.commits.items u.parts in
-    let rows = u.parts.stores.store.temp_storage in
-    let n : ℕ = number_asked rows q c.args.item in
-    let kept : KeepsQueues (λ q. true) rows (after_read_item rows q n) =
-    subst (KeepsQueues (λ q. true) rows) (ap (λ (p : PartsValue). p.stores.store.temp_storage) c.in_ok-read.ensures.value) c.in_ok-read.ensures.kept in
-    read_state u.opening u.trace.items u.outcomes.items u.commits.items u.parts c.self.invariant.0 q n kept c.read_ts.new.self c.in_ok-read.ensures.value
-    ∙ ap (after_ts_reading s q) (asked_told s u.parts.stores u.parts.table c.self.invariant.0 q c.args.item)
+    let at = (goal.at.returns-clause-state c).In_ok-read in
+    read_state u.opening u.trace.items u.outcomes.items u.commits.items (core_value u.core) c.self.invariant.0 q (number at) c.read_ts.new.queues c.in_ok-read.ensures.value c.in_ok-read.ensures.kept
+    ∙ ap (after_ts_reading (before at) q) (asked_told (before at) (core_value u.core).stores u.core.locks c.self.invariant.0 q c.args.item)
     ∙ ap (λ v. after_ts_reading v.state q (item_asked v.state q c.args.item)) c.self.view_is
 
 pub returns-clause-headline : goal.returns-clause-headline
 returns-clause-headline c =
-    let u = c.self.inside in
-    let q = c.args.queue.now in
-    let rows = u.parts.stores.store.temp_storage in
-    let n : ℕ = number_asked rows q c.args.item in
-    let kept : KeepsQueues (λ q. true) rows (after_read_item rows q n) =
-    subst (KeepsQueues (λ q. true) rows) (ap (λ (p : PartsValue). p.stores.store.temp_storage) c.in_ok-read.ensures.value) c.in_ok-read.ensures.kept in
-    kept_headline (state_shown u.opening u.trace.items u.outcomes.items u.commits.items c.read_ts.new.self) c.read_ts.new.self.stores c.read_ts.new.self.table
-    (read_kept u.opening u.trace.items u.outcomes.items u.commits.items u.parts c.self.invariant.0 q n kept c.read_ts.new.self c.in_ok-read.ensures.value)
+    let at = (goal.at.returns-clause-headline c).In_ok-read in
+    kept_headline (after at) (left at).stores (left at).table (kept at)
 
 pub returns-clause-store : goal.returns-clause-store
 returns-clause-store c =
     let u = c.self.inside in
-    let q = c.args.queue.now in
-    let rows = u.parts.stores.store.temp_storage in
-    let n : ℕ = number_asked rows q c.args.item in
-    let kept : KeepsQueues (λ q. true) rows (after_read_item rows q n) =
-    subst (KeepsQueues (λ q. true) rows) (ap (λ (p : PartsValue). p.stores.store.temp_storage) c.in_ok-read.ensures.value) c.in_ok-read.ensures.kept in
-    read_store u.opening u.trace.items u.outcomes.items u.commits.items u.parts c.self.invariant.0 q n kept c.read_ts.new.self c.in_ok-read.ensures.value ∙ ap (λ v. v.store) c.self.view_is
+    let at = (goal.at.returns-clause-store c).In_ok-read in
+    read_store u.opening u.trace.items u.outcomes.items u.commits.items (core_value u.core) c.self.invariant.0 c.args.queue.now (number at) c.read_ts.new.queues c.in_ok-read.ensures.value c.in_ok-read.ensures.kept
+    ∙ ap (λ v. v.store) c.self.view_is

@@ -1,5 +1,6 @@
 use Rattle.std.proofs.Common.{arith, ◌≡◌, ◌≤◌, ◌∙◌, length, sym, subst}
 use Rattle.std.specs.Vec.{vec_capacity}
+use Rattle.cics_units.specs.Cores.{core_value}
 use Rattle.cics_units.specs.KeptUnits.{state_shown, opened_store}
 use Rattle.cics_units.specs.StoreMatching.{StoreValue}
 use Rattle.cics_units.proofs.KeptUnits.{kept_headline, kept_begins}
@@ -14,7 +15,7 @@ invariant_of-result c =
       temp_storage = c.new.ensures i;
       trans_data = (c.in-Ok-copy.ensures ∙ c.queues.ensures) i;
     } in (
-      begun_shown c.args.opening c.new-3.result.items c.new-4.result.items c.new-5.result.items c.new-2.result store c.new-2.ensures c.new-3.ensures.items c.new-4.ensures.items c.new-5.ensures.items
+      begun_shown c.args.opening c.new-3.result.items c.new-4.result.items c.new-5.result.items (core_value c.new-2.result) store c.new-2.ensures c.new-3.ensures.items c.new-4.ensures.items c.new-5.ensures.items
           (kept_begins c.args.opening c.files.ensures.in_order c.files.ensures.lawful_keys store opened),
       subst (λ l. length l ≤ vec_capacity c.new-5.result) (sym c.new-4.ensures.items) (omega arith),
     )
@@ -27,6 +28,6 @@ returns-clause-headline c =
       temp_storage = c.new.ensures i;
       trans_data = (c.in-Ok-copy.ensures ∙ c.queues.ensures) i;
     } in
-    kept_headline (state_shown c.args.opening c.new-3.result.items c.new-4.result.items c.new-5.result.items c.new-2.result) c.new-2.result.stores c.new-2.result.table
-    (begun_shown c.args.opening c.new-3.result.items c.new-4.result.items c.new-5.result.items c.new-2.result store c.new-2.ensures c.new-3.ensures.items c.new-4.ensures.items c.new-5.ensures.items
+    kept_headline (state_shown c.args.opening c.new-3.result.items c.new-4.result.items c.new-5.result.items (core_value c.new-2.result)) (core_value c.new-2.result).stores c.new-2.result.locks
+    (begun_shown c.args.opening c.new-3.result.items c.new-4.result.items c.new-5.result.items (core_value c.new-2.result) store c.new-2.ensures c.new-3.ensures.items c.new-4.ensures.items c.new-5.ensures.items
     (kept_begins c.args.opening c.files.ensures.in_order c.files.ensures.lawful_keys store opened))

@@ -1,6 +1,6 @@
 use Rattle.std.proofs.Common.{◌≡◌, map}
 use Rattle.cics_units.specs.StoreEnds.{writers_settled, readers_settled}
-use Rattle.cics_units.proofs.undoable_store.settle_ends.Given as goal
+use Rattle.cics_units.proofs.units_core.settle_ends.Given as goal
 
 -- the writing ends are settled of the images so far
 abbrev pub invariant-loop-image : goal.invariant-loop-image

@@ -1,0 +1,443 @@
+//! All that units change where it stands: the files and queues, the images of each unit, who holds what,
+//! and the open update reads.
+
+ghost use Rattle.std.specs.Prelude.{◌≡◌, ◌<◌, ◌≤◌, ℕ, true, false, not, if◌then◌else◌};
+ghost use Rattle.std.specs.Prelude.{[], None, Some, length, filter, reverse, IfOk, IfNone};
+ghost use Rattle.std.specs.Prelude.{IfErr, IfSome, OnOk, OnErr, All};
+ghost use Rattle.std.specs.List.{list_any};
+ghost use Rattle.std.specs.Option.{option_copied};
+ghost use Rattle.cics_names.specs.Keyed.{value_at};
+ghost use Rattle.cics_enqueue.specs.Resources.{is_full, is_user, holder_over};
+ghost use Rattle.cics_history.specs.Cells.{Reading, Writing};
+ghost use Rattle.cics_history.specs.Execution.{covers, read_at, with_read, is_read_of};
+ghost use Rattle.cics_history.specs.Records.{file_of, key_of};
+ghost use Rattle.cics_units.specs.Applied.{IsSeen};
+ghost use Rattle.cics_units.specs.Awaiting.{is_writer, unit_in_way};
+ghost use Rattle.cics_units.specs.Cores.{core_value, IsBoundFor};
+ghost use Rattle.cics_units.specs.Executed.{IsExecuted};
+ghost use Rattle.cics_units.specs.Parts.{IsFitOp, first_in, given_record, most_images};
+ghost use Rattle.cics_units.specs.Parts.{AreEnqueued, ArePartsKept};
+ghost use Rattle.cics_units.specs.QueueChanges.{is_trans, is_temp, queue_of};
+ghost use Rattle.cics_units.specs.StoreEnds.{end_settled, ends_settled};
+ghost use Rattle.cics_units.specs.TableInPlace.{is_read, covered_read, value_of, AreOnce};
+ghost use Rattle.cics_units.specs.TableInPlace.{table_given_back};
+ghost use Rattle.cics_units.specs.UnitImages.{kept_by, room_of};
+ghost use Rattle.cics_units.specs.Uses.{listed, taken_all, AreFreeFor, let_go};
+
+use crate::files::{Files, FilesImage};
+use crate::open_reads::OpenReads;
+use crate::queues::{QueueImage, Queues};
+use crate::store;
+use crate::uses::{Uses, WereFree, hold_all, holder_over_all, let_go_all, uses_of};
+use cics_enqueue::{Enqueues, ResourceRef, TakeFault, UnitId};
+use cics_history::{Answer, Op};
+use cics_images::{Images, StoreImage, Stores, Undoable};
+use cics_ksds::FileImage;
+use cics_names::{Condition, Items, Name4, Name8, NoMemory, Record};
+use cics_tempstor::{TempStore, TsImage};
+use cics_transdata::TdImage;
+use std::alloc::Global;
+
+/// The files, temporary storage and transient data of a region.
+pub(crate) type Store = Stores<Files, TempStore, Queues>;
+
+/// An image of a change of any of them.
+type AnyImage = StoreImage<FilesImage, TsImage, QueueImage>;
+
+/// The core of the units of work: the files and queues as they stand, the images of each unit, what
+/// units hold, and the open update reads.
+///
+/// It has no invariant of its own. `Units` reaches its fields, and says what holds between them.
+#[derive(Drop)]
+pub(crate) struct UnitsCore {
+    pub(crate) store: Store,
+    /// The images of each unit that has begun or is about to, by its number. A unit that has ended
+    /// keeps none.
+    pub(crate) rows: Vec<Images<Store>>,
+    pub(crate) locks: Enqueues,
+    pub(crate) reads: OpenReads,
+    pub(crate) alloc: Global,
+}
+
+/// A command of a unit with what was looked up for it: where it acts, and what it uses.
+#[derive(Drop)]
+pub(crate) struct BoundOp<'a> {
+    pub(crate) op: &'a Op,
+    /// What the command acts on is recoverable.
+    pub(crate) recoverable: bool,
+    pub(crate) uses: Uses<'a>,
+    /// The unit holds the writing end of the queue, and so may read what it wrote itself.
+    pub(crate) own: bool,
+}
+
+// A count, and 1 for none.
+fn at_least_one(count: usize) -> usize
+    ensures some { 0 < result }
+    ensures all { count ≤ result }
+{
+    if count == 0 { 1 } else { count }
+}
+
+// Commits the writing end of the queue that an image is of, where it is of that end.
+fn settle_writer(store: &mut Store, image: &AnyImage)
+    ensures { store.new ≡ end_settled Writing store.old image.now }
+{
+    if let StoreImage::TransData(image) = image {
+        if let TdImage::Written = image.image {
+            store.trans_data.commit_writer(&image.name);
+        }
+    }
+}
+
+// Commits the reading end of the queue that an image is of, where it is of that end.
+fn settle_reader(store: &mut Store, image: &AnyImage)
+    ensures { store.new ≡ end_settled Reading store.old image.now }
+{
+    if let StoreImage::TransData(image) = image {
+        if let TdImage::Taken(_) = image.image {
+            store.trans_data.commit_reader(&image.name);
+        }
+    }
+}
+
+/// Commits the ends of the queues that a unit's images are of, the oldest image first in the list: the
+/// writing ends first, so that no record has both marks where a reading end is committed. What stands
+/// afterwards is the same in either order.
+pub(crate) fn settle_ends(store: &mut Store, images: &[AnyImage])
+    ensures { store.new ≡ ends_settled store.old (reverse images.now) }
+{
+    for image in images.iter().rev() {
+        settle_writer(store, image);
+    }
+    for image in images.iter().rev() {
+        settle_reader(store, image);
+    }
+}
+
+// Returns how many images a command gives at most.
+fn most_images(store: &Store, op: &Op) -> usize
+    requires fit { IsFitOp store.now op.now }
+    ensures { result ≡ most_images store.now.files op.now }
+{
+    match op {
+        Op::DeleteGeneric { file, prefix } => {
+            store.files.at(file).count_prefix(prefix.bytes()) as usize
+        }
+        _ => 1,
+    }
+}
+
+// Copies a record, if there is one.
+fn copied(given: Option<&Record>) -> Result<Option<Record>, NoMemory>
+    ensures { IfOk result (λ copy. copy ≡ option_copied given.entry) }
+{
+    match given {
+        Some(record) => Ok(Some(record.copy()?)),
+        None => Ok(None),
+    }
+}
+
+// Makes room for so many more images of a unit, which may be the next one, that has yet to begin. A
+// command that changes many cells makes room for all its images before its first change.
+fn make_room(
+    rows: &mut Vec<Images<Store>>,
+    alloc: Global,
+    unit: UnitId,
+    count: usize,
+) -> Result<(), NoMemory>
+    requires begun { unit ≤ length rows.old.items }
+    ensures kept { (w : ℕ) → kept_by rows.new.items w ≡ kept_by rows.old.items w }
+    ensures longer { length rows.old.items ≤ length rows.new.items }
+    ensures begun { OnOk result (unit < length rows.new.items) }
+    ensures room { OnOk result (count ≤ room_of rows.new.items unit) }
+{
+    let at = unit.number() as usize;
+    if at == rows.len() {
+        rows.push(Images::new(alloc))?;
+    }
+    Ok(rows[at].make_room(count)?)
+}
+
+// Acquires what a command goes on holding: what it uses of something recoverable. Returns what was
+// free before.
+fn acquire(locks: &mut Enqueues, unit: UnitId, bound: &BoundOp<'_>) -> Result<WereFree, NoMemory>
+    requires plain { list_any is_user (listed bound.now.uses) ≡ false }
+    requires free { AreFreeFor locks.old (listed bound.now.uses) unit }
+    ensures taken { OnOk result (locks.new
+        ≡ (if bound.now.recoverable then taken_all locks.old unit (listed bound.now.uses)
+        else locks.old)) }
+    ensures undone { IfOk result (λ were_free.
+        let_go locks.new bound.now.uses were_free unit ≡ locks.old) }
+    ensures err { OnErr result (locks.new ≡ locks.old) }
+{
+    if !bound.recoverable {
+        return Ok(WereFree::none());
+    }
+    hold_all(locks, &bound.uses, unit)
+}
+
+impl UnitsCore {
+    /// Returns a core with these files and queues, in which no unit has begun.
+    pub(crate) fn new(alloc: Global, store: Store) -> UnitsCore
+        ensures { core_value result ≡ record
+            { stores = record { store = store; images = [] }; table = []; reads = [] } }
+    {
+        UnitsCore {
+            store,
+            rows: Vec::new(alloc),
+            locks: Enqueues::new(alloc),
+            reads: OpenReads::new(alloc),
+            alloc,
+        }
+    }
+
+    // Returns whether a unit holds the writing end of the transient data queue that a command is on.
+    fn is_writer(&self, unit: UnitId, op: &Op) -> bool
+        ensures { is_trans op.now ≡ true → result ≡ is_writer self.now.locks unit (queue_of op.now) }
+    {
+        let queue = match op {
+            Op::TdWrite { queue, .. } => queue,
+            Op::TdRead { queue } => queue,
+            Op::TdDelete { queue } => queue,
+            _ => return false,
+        };
+        match self.locks.holder_of(&ResourceRef::writing_end(*queue)) {
+            Some(holder) => holder == unit,
+            None => false,
+        }
+    }
+
+    /// Looks up where a command of a unit acts, and what it uses. `recoverable` says whether a command
+    /// on temporary storage acts on something recoverable.
+    pub(crate) fn bind<'a>(&self, unit: UnitId, op: &'a Op, recoverable: bool) -> BoundOp<'a>
+        requires fit { IsFitOp self.now.store op.now }
+        requires short { length (key_of op.now) ≤ 255 }
+        ensures op { result.op.now ≡ op.now }
+        ensures bound { IsBoundFor (core_value self.now) unit result }
+        ensures temp { is_temp op.now ≡ true → result.recoverable ≡ recoverable }
+    {
+        let recoverable = store::bind(&self.store, op, recoverable);
+        BoundOp {
+            op,
+            recoverable,
+            uses: uses_of(op, recoverable),
+            own: self.is_writer(unit, op),
+        }
+    }
+
+    /// Returns the unit that a command has to wait for, if any: another than the one that asks that
+    /// holds what overlaps what the command uses, else for READQ TD the writer of a LOGICAL queue in
+    /// which there is no record that the acting unit may read.
+    pub(crate) fn blocker(&self, asking: Option<UnitId>, bound: &BoundOp<'_>) -> Option<UnitId>
+        ensures { (acting : ℕ) → IsBoundFor (core_value self.now) acting bound.now →
+            result ≡ unit_in_way self.now.locks self.now.store.trans_data bound.now.recoverable
+            asking acting bound.now.op.now }
+    {
+        // A copy for each call that the unit is handed to.
+        let again = asking;
+        if let Some(holder) = holder_over_all(&self.locks, &bound.uses, asking) {
+            return Some(holder);
+        }
+        let Op::TdRead { queue: name } = bound.op else {
+            return None;
+        };
+        let queue = self.store.trans_data.get(name)?;
+        if !queue.recovery().is_logical() || queue.first(bound.own).is_some() {
+            return None;
+        }
+        self.locks
+            .holder_over(&ResourceRef::writing_end(*name), again)
+    }
+
+    // Returns the first record of a queue that a reader may be given: of what isn't committed only what
+    // it wrote itself.
+    fn first_for(&self, queue: &Name4, own: bool) -> Option<&Record>
+        ensures { option_copied result ≡ first_in (value_at queue.now self.now.store.trans_data) own }
+    {
+        self.store.trans_data.get(queue)?.first(own)
+    }
+
+    /// Returns a copy of the record that a command would be answered with now: READ UPDATE's, and READQ
+    /// TD's, which may be one that its unit wrote itself. Other commands are given none.
+    #[inline(never)]
+    pub(crate) fn given_record(&self, bound: &BoundOp<'_>) -> Result<Option<Record>, NoMemory>
+        requires fit { IsFitOp self.now.store bound.now.op.now }
+        ensures { IfOk result (λ given. given
+            ≡ given_record self.now.store bound.now.own bound.now.op.now) }
+    {
+        match bound.op {
+            Op::ReadUpdate { file, key } => copied(self.store.files.at(file).read(key.bytes())),
+            Op::TdRead { queue } => copied(self.first_for(queue, bound.own)),
+            _ => Ok(None),
+        }
+    }
+
+    // Returns whether a command covers an update read of its unit.
+    fn covers(&self, unit: UnitId, op: &Op) -> bool
+        requires once { AreOnce self.now.reads }
+        ensures { result ≡ list_any (covers unit op.now) self.now.reads }
+    {
+        match op {
+            Op::Rewrite { file, key, .. } => self.reads.is_of_key(unit, file, key.bytes()),
+            Op::Delete { file, key } => self.reads.is_of_key(unit, file, key.bytes()),
+            Op::DeleteGeneric { file, prefix } => self.reads.is_under(unit, file, prefix.bytes()),
+            _ => false,
+        }
+    }
+
+    /// Ends a unit's update read of a file, if it has one, and releases its record if the file isn't
+    /// recoverable.
+    pub(crate) fn end_read(&mut self, unit: UnitId, file: &Name8, recoverable: bool)
+        requires short { IfSome (read_at self.old.reads unit file.now) (λ key. length key ≤ 255) }
+        ensures { self.new ≡ record self.old {
+          locks = table_given_back recoverable unit file.now
+              (read_at self.old.reads unit file.now) self.old.locks;
+          reads = filter (λ r. not (is_read_of unit file.now r)) self.old.reads;
+        } }
+    {
+        let Some(key) = self.reads.close(unit, file) else {
+            return;
+        };
+        if !recoverable {
+            self.locks
+                .let_go(&ResourceRef::record(*file, key.bytes()), unit);
+        }
+    }
+
+    // Ends the update read that a command covers, if it covers one, and releases its record if the
+    // file isn't recoverable.
+    fn end_covered(&mut self, unit: UnitId, op: &Op, recoverable: bool)
+        requires short { All (λ r. length r.key ≤ 255) self.old.reads }
+        requires once { AreOnce self.old.reads }
+        ensures { self.new ≡ record self.old {
+          locks = table_given_back recoverable unit (file_of op.now)
+              (covered_read unit op.now self.old.reads) self.old.locks;
+          reads = filter (λ r. not (covers unit op.now r)) self.old.reads;
+        } }
+    {
+        if !self.covers(unit, op) {
+            return;
+        }
+        if let Some((file, _)) = op.record() {
+            self.end_read(unit, file, recoverable);
+        }
+    }
+
+    // READ UPDATE: the unit acquires the record, and has it read for update.
+    fn open_read(
+        &mut self,
+        unit: UnitId,
+        file: Name8,
+        key: &Record,
+        uses: &Uses<'_>,
+    ) -> Result<(), NoMemory>
+        requires plain { list_any is_user (listed uses.now) ≡ false }
+        requires free { AreFreeFor self.old.locks (listed uses.now) unit }
+        requires none_open { read_at self.old.reads unit file ≡ None }
+        ensures value { OnOk result (self.new ≡ record self.old {
+          locks = taken_all self.old.locks unit (listed uses.now);
+          reads = with_read (record { unit = unit; file = file; key = key.now }) self.old.reads;
+        }) }
+        ensures err { OnErr result (self.new ≡ self.old) }
+    {
+        let copy = key.copy()?;
+        let were_free = hold_all(&mut self.locks, uses, unit)?;
+        match self.reads.open(unit, file, copy) {
+            Ok(()) => Ok(()),
+            Err(refused) => {
+                let_go_all(&mut self.locks, uses, unit, were_free);
+                Err(refused)
+            }
+        }
+    }
+
+    /// Executes a command of a unit that needn't wait, and may be the next one to begin, and answers it.
+    ///
+    /// Every command goes one way: room for its images, what it uses, `store::apply`, the update read
+    /// that it covers. If it isn't answered NORMAL, what it acquired is released. READ UPDATE changes
+    /// nothing, and is answered with `given`, which `given_record` looked up. What a command uses of
+    /// something that isn't recoverable it doesn't acquire.
+    pub(crate) fn execute(
+        &mut self,
+        unit: UnitId,
+        bound: &BoundOp<'_>,
+        given: Option<&Record>,
+    ) -> Result<Answer, NoMemory>
+        requires fit { IsFitOp self.old.store bound.now.op.now }
+        requires bound { IsBoundFor (core_value self.old) unit bound.now }
+        requires seen { IsSeen self.old.store bound.now.op.now bound.now.own }
+        requires given { option_copied given
+            ≡ given_record self.old.store bound.now.own bound.now.op.now }
+        requires begun { unit ≤ length self.old.rows.items }
+        requires short { All (λ r. length r.key ≤ 255) self.old.reads }
+        requires free { AreFreeFor self.old.locks (listed bound.now.uses) unit }
+        requires once { AreOnce self.old.reads }
+        requires none_open { is_read bound.now.op.now ≡ true →
+            read_at self.old.reads unit (file_of bound.now.op.now) ≡ None }
+        ensures executed { IfOk result (λ answer. IsExecuted (core_value self.old)
+            (core_value self.new) unit bound.now.op.now bound.now.recoverable answer) }
+        ensures err { OnErr result (ArePartsKept (core_value self.old) (core_value self.new)) }
+    {
+        let most = at_least_one(most_images(&self.store, bound.op));
+        make_room(&mut self.rows, self.alloc, unit, most)?;
+        if let Op::ReadUpdate { file, key } = bound.op {
+            let answer = store::found(copied(given)?);
+            if given.is_none() {
+                return Ok(answer);
+            }
+            self.open_read(unit, *file, key, &bound.uses)?;
+            return Ok(answer);
+        }
+        let at = unit.number() as usize;
+        let were_free = acquire(&mut self.locks, unit, bound)?;
+        match store::apply(
+            &mut self.store,
+            bound.op,
+            bound.recoverable,
+            bound.own,
+            None,
+            &mut self.rows[at],
+        ) {
+            Ok(answer) => match answer.condition {
+                Condition::Normal => {
+                    self.end_covered(unit, bound.op, bound.recoverable);
+                    Ok(answer)
+                }
+                _ => {
+                    let_go_all(&mut self.locks, &bound.uses, unit, were_free);
+                    Ok(answer)
+                }
+            },
+            Err(refused) => {
+                let_go_all(&mut self.locks, &bound.uses, unit, were_free);
+                Err(refused)
+            }
+        }
+    }
+
+    /// A unit, which may be the next one to begin, takes a value, once more where it holds it
+    /// already, or the other unit that holds it is answered. Full where the unit holds it 65,535
+    /// times, and NoMemory where memory is refused. What isn't taken leaves all as it was.
+    pub(crate) fn enq(&mut self, unit: UnitId, value: &[u8]) -> Result<Option<UnitId>, TakeFault>
+        requires begun { unit ≤ length self.old.rows.items }
+        requires most { length value.now ≤ 255 }
+        ensures holder { IfOk result (λ holder.
+            holder ≡ holder_over (value_of value.now) (Some unit) self.old.locks) }
+        ensures enqueued { IfOk result (λ holder. IfNone holder
+            (AreEnqueued (core_value self.old) (core_value self.new) unit value.now)) }
+        ensures waits { IfOk result (λ holder. IfSome holder
+            (λ _. ArePartsKept (core_value self.old) (core_value self.new))) }
+        ensures room { IfOk result (λ holder. IfNone holder
+            (is_full (value_of value.now) self.old.locks ≡ false)) }
+        ensures full { IfErr result
+            (λ fault. fault ≡ TakeFault.Full →
+            is_full (value_of value.now) self.old.locks ≡ true) }
+        ensures own { IfErr result
+            (λ fault. fault ≡ TakeFault.Full →
+            holder_over (value_of value.now) (Some unit) self.old.locks ≡ None) }
+        ensures err { OnErr result (ArePartsKept (core_value self.old) (core_value self.new)) }
+    {
+        make_room(&mut self.rows, self.alloc, unit, 0)?;
+        self.locks.enq(value, unit)
+    }
+}
