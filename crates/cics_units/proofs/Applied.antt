@@ -27,7 +27,7 @@ use Rattle.cics_history.specs.Undo.{images_by}
 use Rattle.cics_history.specs.Records.{is_file_op, file_of, key_of as key_of_op}
 use Rattle.cics_history.specs.declared.ops.Answer.{Answer}
 use Rattle.cics_history.specs.declared.ops.Op.{Op}
-use Rattle.cics_history.specs.declared.ops.Op.TheVariants.{Write, Rewrite, Delete, DeleteGeneric, ReadUpdate, TsWrite, TsRewrite, TsDelete, TdWrite, TdRead, TdDelete}
+use Rattle.cics_history.specs.declared.ops.Op.TheVariants.{Write, Rewrite, Delete, DeleteGeneric, ReadUpdate, TdWrite, TdRead, TdDelete}
 use Rattle.cics_units.specs.FilesImages.{FilesImage, cell_of, cell_of_image}
 use Rattle.cics_units.specs.StoreMatching.{StoreValue, AnyImage, AnyLeads, end_cell, bytes_of_end, shown_store, shown_records, bytes_of, any_content, any_undone, cell_of_any, any_holds, AnyKeep, IsImageOfChange, AreImagesOf}
 use Rattle.cics_units.specs.Parts.{is_recoverable_in, leaves, leaves_any, of_files, with_stored, image_if}
@@ -35,11 +35,11 @@ use Rattle.cics_units.specs.FilesChanges.{IsFilesImage, others_kept, image_among
 use Rattle.cics_units.specs.QueueChanges.{is_trans, is_temp, queue_of, end_of, is_left, trans_after, trans_answer, rows_after, rows_image, rows_answer, IsTempChange, IsTransChange, with_image, in_queue}
 use Rattle.cics_units.specs.Applied.{IsSeenIn, spares, AreImagesMade, IsApplied, IsFileBound, IsQueueBound, marks_in, marks_if, read_given, counted_as}
 use Rattle.cics_units.proofs.StoreInPlace.{AreReady, ready_where, shown_ts}
-use Rattle.cics_units.proofs.TempChanges.{temp_cell_of, temp_single, is_done, rows_rise, rows_stay, rows_plain, rows_imaged, temp_stored, temp_answered, temp_changes}
+use Rattle.cics_units.proofs.TempChanges.{temp_cell_of, temp_single, temp_no_file, temp_no_trans, is_done, rows_rise, rows_stay, rows_plain, rows_imaged, temp_stored, temp_answered, temp_changes}
 use Rattle.cics_units.proofs.StoreTempExecuted.{temp_any_image, temp_keeps}
 use Rattle.cics_units.proofs.StoreExecuted.{all_of, IsAnyImage}
 use Rattle.cics_units.proofs.StoreQueueExecuted.{kept_with, ready_with, left_here, trans_keeps, trans_any_image}
-use Rattle.cics_units.proofs.TransChanges.{IsToldEnough, told_unwritten, trans_stored, trans_answered, carried_after, marks_of_queue, plain_image}
+use Rattle.cics_units.proofs.TransChanges.{IsToldEnough, trans_no_file, told_unwritten, trans_stored, trans_answered, carried_after, marks_of_queue, plain_image}
 use Rattle.cics_units.proofs.QueuesHeld.{temp_held, trans_held}
 use Rattle.cics_units.proofs.MadeImages.{files_kept, ready_in_turn, images_by-one, change_of}
 use Rattle.cics_units.proofs.FilesChanged.{AreFileImagesAfter, AreFilesChanged}
@@ -247,20 +247,6 @@ read_otherwise (ReadUpdate f k) on no_write no_rewrite no_delete no_generic = re
 read_otherwise _ on no_write no_rewrite no_delete no_generic = absurd (false≢true on)
 
 -- ---- temporary storage
--- a command on temporary storage is on no file
-no_file : (op : Op) → is_temp op ≡ true → is_file_op op ≡ false
-no_file (TsWrite q d) is = refl
-no_file (TsRewrite q n d) is = refl
-no_file (TsDelete q) is = refl
-no_file _ is = absurd (false≢true is)
-
--- nor on a transient data queue
-no_trans : (op : Op) → is_temp op ≡ true → is_trans op ≡ false
-no_trans (TsWrite q d) is = refl
-no_trans (TsRewrite q n d) is = refl
-no_trans (TsDelete q) is = refl
-no_trans _ is = absurd (false≢true is)
-
 -- an image more lies before the others
 with_front : (o : Option AnyImage) (is : List AnyImage) → with_image o is ≡ with_image o [] ++ is
 with_front None is = refl
@@ -299,13 +285,13 @@ module _ (old : StoreValue) (op : Op) (keep own : Bool) (before : List AnyImage)
   stand_if : (k done : Bool) (o : Option TsImage) → keep ≡ k → is_done op old.temp_storage ≡ done → image ≡ o → AreImagesMade old op k (with_image (option_map TempStorage o) [])
   stand_if false done o plain is_so given = ap (λ x. with_image (option_map TempStorage x) [])
       (sym given ∙ change.given ∙ ap (λ b. rows_image op b old.temp_storage) plain ∙ rows_plain op old.temp_storage)
-  stand_if true false o kept is_so given = rw (no_trans op is) in_none
+  stand_if true false o kept is_so given = rw (temp_no_trans op is) in_none
     where
       in_none : AreImagesOf (images_by (shown_store old) op (content (shown_store old))) [] (with_image (option_map TempStorage o) [])
       in_none = subst (λ x. AreImagesOf (images_by (shown_store old) op (content (shown_store old))) [] (with_image (option_map TempStorage x) []))
           (sym (rows_stay op keep old.temp_storage is is_so).1 ∙ sym change.given ∙ given)
           (subst (λ l. AreImagesOf l [] []) (sym (changes_if false is_so)) (refl, refl))
-  stand_if true true o kept is_so given = rw (no_trans op is) in_some
+  stand_if true true o kept is_so given = rw (temp_no_trans op is) in_some
     where
       some : (i : TsImage) × (rows_image op true old.temp_storage ≡ Some i)
       some = rows_imaged op old.temp_storage is is_so
@@ -331,7 +317,7 @@ module _ (old : StoreValue) (op : Op) (keep own : Bool) (before : List AnyImage)
       (undoes.ready, ready_where (λ x. true) old (any_undone n (TempStorage i)) before undoes.back (all_of before) ready)
 
   spares_row : (c : Cell) → spares op own c ≡ is_other (temp_cell q) c
-  spares_row c = rw (no_file op is, no_trans op is) refl
+  spares_row c = rw (temp_no_file op is, temp_no_trans op is) refl
 
   -- the command is applied, if its image is the newest
   pub temp_applied : (answer : Answer) → answer ≡ rows_answer op old.temp_storage → (after : List AnyImage) → after ≡ with_image (option_map TempStorage image) before →
@@ -348,18 +334,11 @@ module _ (old : StoreValue) (op : Op) (keep own : Bool) (before : List AnyImage)
         (ap (λ o. is_unnamed cell_of_any (with_image (option_map TempStorage o) before) c) (sym change.given) ∙ ap (λ l. is_unnamed cell_of_any l c) (sym newest) ∙ unnamed)
         (ap (λ r. any_holds (with_temp_storage old r) c) (sym change.value) ∙ has);
     rows = change.value;
-    queues = rw (no_trans op is) refl;
+    queues = rw (temp_no_trans op is) refl;
   }
 
 -- ---- transient data
--- a command on a transient data queue is on no file
-no_file_trans : (op : Op) → is_trans op ≡ true → is_file_op op ≡ false
-no_file_trans (TdWrite q d) is = refl
-no_file_trans (TdRead q) is = refl
-no_file_trans (TdDelete q) is = refl
-no_file_trans _ is = absurd (false≢true is)
-
--- and leaves the rows of temporary storage
+-- a command on a transient data queue leaves the rows of temporary storage
 trans_rows : (op : Op) (keep : Bool) (rows : Map Row) → is_trans op ≡ true → rows ≡ rows_after op keep rows
 trans_rows (TdWrite q d) keep rows is = refl
 trans_rows (TdRead q) keep rows is = refl
@@ -422,7 +401,7 @@ module _ (old : StoreValue) (op : Op) (keep own : Bool) (is : is_trans op ≡ tr
       keeps (Some i) is_so = tt
 
   spares_end : (c : Cell) → spares op own c ≡ is_left op own c
-  spares_end c = rw (no_file_trans op is, is) refl
+  spares_end c = rw (trans_no_file op is, is) refl
 
   trans_others : AnyKeep (spares op own) old tn
   trans_others = subst (λ p. AnyKeep p old tn) (λ i c. sym (spares_end c) i)

@@ -3,7 +3,7 @@
 use Rattle.std.proofs.Common.{◌≡◌, ◌≢◌, ℕ, Bool, true, false, ◌&&◌, not, Option, Some, None, List, [], ◌++◌, refl, ap, sym, subst, ◌∙◌, eqb, inl, inr, ◌⊎◌}
 use Rattle.std.specs.Prelude.{if◌then◌else◌}
 use Rattle.std.specs.List.{list_any}
-use Rattle.std.proofs.lemmas.Bool.{true≢false, false≢true, cases_Bool, and_parts, eq-eqb, false_from_ne_true}
+use Rattle.std.proofs.lemmas.Bool.{true≢false, false≢true, cases_Bool, and_parts, and_left, eq-eqb, eqb-true, false_from_ne_true, true_from_ne_false}
 use Rattle.cics_names.specs.Keyed.{Bytes, value_at, with_value, is_same}
 use Rattle.cics_names.specs.KeyedLaws.{is_same-eq, value_at-with_value_same, value_at-with_value_other}
 use Rattle.cics_images.specs.Cells.{Kept}
@@ -21,32 +21,37 @@ use Rattle.cics_history.specs.Records.{is_file_op}
 use Rattle.cics_history.specs.declared.ops.Answer.{Answer}
 use Rattle.cics_history.specs.declared.ops.Op.{Op}
 use Rattle.cics_history.specs.declared.ops.Op.TheVariants.{Write, Rewrite, Delete, DeleteGeneric, ReadUpdate, TsWrite, TsRewrite, TsDelete, TdWrite, TdRead, TdDelete}
-use Rattle.cics_history.specs.Cells.{Cell, Ts, Td, content, touches, effect, same_cell, cell_of as cell_of_op, End, Reading, Writing, uses, IsOrdered}
+use Rattle.cics_history.specs.Cells.{Cell, Ts, Td, content, touches, effect, same_cell, cell_of as cell_of_op, End, Reading, Writing, uses, recovers, IsOrdered}
 use Rattle.cics_history.specs.Events.{may_act}
 use Rattle.cics_history.specs.Isolation.{used, IsSound, IsFree}
-use Rattle.cics_history.specs.Undo.{Image, is_plain, image_of, images_by, IsPlaceOf, place_executed, after}
+use Rattle.cics_history.specs.Undo.{Image, names, is_plain, image_of, images_by, IsPlaceOf, place_executed, after, put}
 use Rattle.cics_history.specs.Marks.{Queues, marked, marks_of, queues_executed}
-use Rattle.cics_history.specs.MarkImages.{mark_images}
-use Rattle.cics_history.specs.Ends.{marks_executed}
-use Rattle.cics_history.proofs.Joining.{same_cell-true, same_cell-refl, apply-content, touches-named}
+use Rattle.cics_history.specs.MarkImages.{MarkImage, mark_images}
+use Rattle.cics_history.specs.Ends.{Marks, marks_executed}
+use Rattle.cics_history.proofs.Joining.{same_cell-true, same_cell-refl, apply-content, touches-named, touches-recovers}
 use Rattle.cics_history.proofs.Places.{execution-IsPlaceOf, image_of-AreImages}
 use Rattle.cics_history.proofs.PrefixImages.{images_by-AreImages}
 use Rattle.cics_history.proofs.States.{one_at_each_end}
 use Rattle.cics_units.specs.FilesImagesLaws.{bytes_eq-turned}
 use Rattle.cics_units.specs.UnitImages.{kept_by}
-use Rattle.cics_units.specs.StoreMatching.{StoreValue, AnyImage, shown_store, bytes_of, bytes_of_end, AnyKeep, AreImagesOf}
+use Rattle.cics_units.specs.StoreMatching.{StoreValue, AnyImage, shown_store, bytes_of, bytes_of_end, AreImagesOf}
 use Rattle.cics_units.specs.StoreInPlace.{AreInPlace, HasMarks, holds_end}
 use Rattle.cics_units.specs.Parts.{leaves_any}
 use Rattle.cics_units.specs.QueueChanges.{is_trans, is_temp, queue_of, is_left, leaves_end, trans_after}
 use Rattle.cics_units.specs.Applied.{IsApplied, spares, marks_in, marks_if, AreImagesMade}
 use Rattle.cics_units.proofs.StoreMatched.{is_of_end, each_passes, plain_apart}
 use Rattle.cics_units.proofs.StoreInPlace.{AreReady, ready_where, place_by, marked_used}
-use Rattle.cics_units.proofs.StoreExecuted.{kept_joined, executed_with, executed_without}
+use Rattle.cics_units.proofs.StoreExecuted.{no_mark, kept_joined}
 use Rattle.cics_units.proofs.StoreExecution.{open_unit, may_run, opening_stays, executed_by}
 use Rattle.cics_units.proofs.StoreQueueExecuted.{left_plain, left_marked, uses_or_own, no_more}
-use Rattle.cics_units.proofs.TransChanges.{IsToldEnough, kind_after, fits_after, marks_after, trans_cell_of, trans_single, trans_recoverable}
-use Rattle.cics_units.proofs.TempChanges.{temp_cell_of, temp_single, temp_uses}
+use Rattle.cics_units.proofs.TransChanges.{IsToldEnough, kind_after, fits_after, marks_after, trans_cell_of, trans_single, trans_no_file, trans_recoverable}
+use Rattle.cics_units.proofs.TempChanges.{temp_cell_of, temp_single, temp_no_file, temp_uses}
 use Rattle.cics_units.proofs.FileCommands.{key_op, writes_op, no_queue_op, same_from, acted_on}
+
+-- the same either way
+either_way : {X : Type 0} (b : Bool) (x : X) → (if b then x else x) ≡ x
+either_way true x = refl
+either_way false x = refl
 
 -- ---- commands on files and on temporary storage: what they act on is plain
 -- a command is on a file, on temporary storage, or on transient data
@@ -60,12 +65,6 @@ no_trans_of (TsWrite q d) plainly = inr refl
 no_trans_of (TsRewrite q n d) plainly = inr refl
 no_trans_of (TsDelete q) plainly = inr refl
 no_trans_of _ plainly = absurd (true≢false plainly)
-
-pub temp_no_file : (op : Op) → is_temp op ≡ true → is_file_op op ≡ false
-temp_no_file (TsWrite q d) is = refl
-temp_no_file (TsRewrite q n d) is = refl
-temp_no_file (TsDelete q) is = refl
-temp_no_file _ is = absurd (false≢true is)
 
 plain_writes : (op : Op) → is_trans op ≡ false → uses op Writing ≡ true
 plain_writes op plainly = elim (no_trans_of op plainly) [ inl file ↦ writes_op op file | inr temp ↦ temp_uses op temp ]
@@ -87,12 +86,6 @@ spares_file op own c file = rw file refl
 
 spares_temp : (op : Op) (own : Bool) (c : images.Cell) → is_temp op ≡ true → is_trans op ≡ false → spares op own c ≡ images.is_other (temp_cell (queue_of op)) c
 spares_temp op own c temp plainly = rw (temp_no_file op temp, plainly) refl
-
-trans_no_file : (op : Op) → is_trans op ≡ true → is_file_op op ≡ false
-trans_no_file (TdWrite q d) is = refl
-trans_no_file (TdRead q) is = refl
-trans_no_file (TdDelete q) is = refl
-trans_no_file _ is = absurd (false≢true is)
 
 spares_trans : (op : Op) (own : Bool) (c : images.Cell) → is_trans op ≡ true → spares op own c ≡ is_left op own c
 spares_trans op own c is = rw (trans_no_file op is, is) refl
@@ -119,30 +112,95 @@ module _ (s : UnitsState) (m n : StoreValue) (images after_images : List (Kept A
   abbrev unit : ℕ
   unit = unit_or_next u s.outcomes
 
+  -- each cell holds what the command leaves
+  moved : (x : Cell) → after (content (shown_store m)) op x ≡ content (shown_store n) x
+  moved x = sym (apply-content (shown_store m) op x) ∙ ap (λ s. content s x) (sym done.shown)
+
+  -- the marks from then on
+  abbrev marks_then : Marks
+  marks_then = marks_executed s place.marks u op
+
+  stand_by : (b : Bool) → is_recoverable s.opening op ≡ b → AreImagesMade m op b done.made
+  stand_by b is = subst (λ b. AreImagesMade m op b done.made) is done.stand
+
+  -- the images of a unit stay ready, if the command leaves all that they are of
+  still_ready : (w : ℕ) → ((x : Cell) → names x (place.changes w) ≡ true → spares op own (bytes_of x) ≡ true) →
+      ((q : Bytes) (end : End) → list_any (is_of_end q end) (place.marks.images w) ≡ true → spares op own (bytes_of_end q end) ≡ true) → AreReady n (kept_by images w)
+  still_ready w cells ends = ready_where (spares op own) m n (kept_by images w) done.others
+      (each_passes (spares op own) (place.changes w) (place.marks.images w) (kept_by images w) (place.kept w) cells ends) (place.ready w)
+
+  -- those of its own unit are ready
+  own_ready : (is_recoverable s.opening op ≡ false → AreReady n (kept_by images unit)) → AreReady n (kept_by after_images unit)
+  own_ready still = elim (cases_Bool (is_recoverable s.opening op)) [
+    | inl rec ↦ done.ready rec (place.ready unit)
+    | inr plain ↦ subst (AreReady n) (sym (done.newest ∙ ap (λ l. l ++ kept_by images unit) (stand_by false plain))) (still plain)
+  ]
+
+  -- and stand for what it has changed and marked
+  own_kept : (cs : List Image) (ms : List MarkImage) → (is_recoverable s.opening op ≡ true → AreImagesOf cs ms done.made) →
+      AreImagesOf (if is_recoverable s.opening op then cs ++ place.changes unit else place.changes unit)
+      (if is_recoverable s.opening op then ms ++ place.marks.images unit else place.marks.images unit) (kept_by after_images unit)
+  own_kept cs ms stand = elim (cases_Bool (is_recoverable s.opening op)) [
+    | inl rec ↦ rw (rec, done.newest) (kept_joined cs ms done.made (stand rec) (place.changes unit) (place.marks.images unit) (kept_by images unit) (place.kept unit))
+    | inr plain ↦ rw (plain, done.newest, stand_by false plain) (place.kept unit)
+  ]
+
   -- on a file or on temporary storage
   module _ (plainly : is_trans op ≡ false) where
+    -- its changes
     abbrev made : List Image
     made = images_by (shown_store m) op (content (shown_store m))
 
-    queues_same : n.trans_data ≡ m.trans_data
-    queues_same = done.queues ∙ rw plainly refl
+    -- those of the open units from then on
+    abbrev changes_then : ℕ → List Image
+    changes_then w = if eqb w unit && is_recoverable s.opening op then made ++ place.changes w else place.changes w
 
-    stand_by : (b : Bool) → is_recoverable s.opening op ≡ b → AreImagesMade m op b done.made
-    stand_by b is = subst (λ b. AreImagesMade m op b done.made) is done.stand
+    same_changes : (w : ℕ) → w ≢ unit → changes_then w ≡ place.changes w
+    same_changes w other = ap (λ b. if b && is_recoverable s.opening op then made ++ place.changes w else place.changes w)
+        (false_from_ne_true (eqb w unit) (λ t. other (eqb-true w unit t)))
+
+    place_plain : IsPlaceOf (after_execution s u op) (record { cells = content (shown_store n); images = changes_then })
+    place_plain = subst (λ c. IsPlaceOf (after_execution s u op) (record { cells = c; images = changes_then })) (λ i x. moved x i)
+        (subst (λ b. IsPlaceOf (after_execution s u op) (if b then put s.opening (record { cells = content (shown_store m); images = place.changes }) unit op made
+        else record { cells = content (shown_store m); images = place.changes })) (plain_cell s op plainly)
+        (execution-IsPlaceOf s (record { cells = content (shown_store m); images = place.changes }) u op made sound place.place acts free
+        (images_by-AreImages (shown_store m) op (content (shown_store m)) ordered (λ g k. refl))))
+
+    -- no queue is marked
+    queues_plain : (q : Bytes) → queue_logical s.opening q ≡ true → (t : TransState) × (value_at q n.trans_data ≡ Some t) × HasMarks (marks_then.queues q) t
+    queues_plain q l = let queue = place.queues q l in
+        (queue.0, ap (value_at q) (done.queues ∙ rw plainly refl) ∙ queue.1, subst (λ k. HasMarks k queue.0) (sym (unmarked (is_recoverable s.opening op))) queue.2)
+      where
+        unmarked : (b : Bool) → (if b then queues_executed place.marks.queues op else place.marks.queues) q ≡ place.marks.queues q
+        unmarked true = rw (plain_no_queue op plainly q) refl
+        unmarked false = refl
+
+    -- a unit that keeps no image of what the command acts on keeps images of what it leaves
+    left_of : (w : ℕ) → ((x : Cell) → touches op x ≡ true → names x (place.changes w) ≡ false) → AreReady n (kept_by images w)
+    left_of w none = still_ready w
+        (λ x named. true_from_ne_false (spares op own (bytes_of x)) (λ gone. true≢false (sym named ∙ none x (plain_acted op own plainly x gone))))
+        (λ q end marks. plain_ends op own plainly q end)
+
+    -- so does another open unit, since the command doesn't wait for it
+    unnamed : (w : ℕ) → w ≢ unit → is_open (outcome_of s.outcomes w) ≡ true → (x : Cell) → touches op x ≡ true → names x (place.changes w) ≡ false
+    unnamed w other on x touched = place.place.named x w (false_from_ne_true _ (λ t.
+        let both = and_parts (recovers s.opening x) (used s.trace w x Writing) t in
+        elim ((may_run s u op acts free sound).writing (touches-recovers s.opening op x touched ∙ both.0) (plain_writes op plainly) x touched w both.1) [
+          | inl same ↦ other same
+          | inr shut ↦ true≢false (sym on ∙ shut)
+        ]))
+
+    -- and its own unit, where it isn't recoverable
+    unnamed_own : is_recoverable s.opening op ≡ false → (x : Cell) → touches op x ≡ true → names x (place.changes unit) ≡ false
+    unnamed_own plain x touched = place.place.named x unit
+        (and_left (recovers s.opening x) (used s.trace unit x Writing) (sym (touches-recovers s.opening op x touched) ∙ plain))
 
     pub plain_applied : AreInPlace (after_execution s u op) n after_images
-    plain_applied = elim (cases_Bool (is_recoverable s.opening op)) [
-      | inl rec ↦
-          executed_with s m n images after_images u op (spares op own) made sound place acts free
-          (images_by-AreImages (shown_store m) op (content (shown_store m)) ordered (λ g k. refl)) (plain_writes op plainly) (plain_cell s op plainly) (plain_no_queue op plainly)
-          (plain_acted op own plainly) (plain_ends op own plainly) done.shown done.others (λ q. ap (value_at q) queues_same) apart
-          rec done.made (rw plainly at (stand_by true rec)) done.newest (done.ready rec)
-      | inr rec ↦
-          executed_without s m n images after_images u op (spares op own) made sound place acts free
-          (images_by-AreImages (shown_store m) op (content (shown_store m)) ordered (λ g k. refl)) (plain_writes op plainly) (plain_cell s op plainly) (plain_no_queue op plainly)
-          (plain_acted op own plainly) (plain_ends op own plainly) done.shown done.others (λ q. ap (value_at q) queues_same) apart
-          rec (done.newest ∙ ap (λ l. l ++ kept_by images unit) (stand_by false rec))
-    ]
+    plain_applied = executed_by s u op acts free m n images after_images sound place apart changes_then same_changes place_plain queues_plain
+        (λ w other on. left_of w (unnamed w other on))
+        (rw (eq-eqb unit unit refl) (own_kept made (mark_images op place.marks.queues)
+        (λ rec. rw (no_mark op (plain_no_queue op plainly) place.marks.queues) (rw plainly at (stand_by true rec)))))
+        (own_ready (λ plain. left_of unit (unnamed_own plain)))
 
   -- on a transient data queue that stands there with its recovery, and shows its reader enough
   module _ (is : is_trans op ≡ true) (t : TransState) (there : value_at (queue_of op) m.trans_data ≡ Some t)
@@ -172,9 +230,6 @@ module _ (s : UnitsState) (m n : StoreValue) (images after_images : List (Kept A
         let same : Some queue.0 ≡ Some t = sym queue.1 ∙ there in
         let one : queue.0 ≡ t = cc in
         subst (HasMarks (place.marks.queues q)) one queue.2
-
-    moved : (x : Cell) → after (content (shown_store m)) op x ≡ content (shown_store n) x
-    moved x = sym (apply-content (shown_store m) op x) ∙ ap (λ s. content s x) (sym done.shown)
 
     touched_where : (x : Cell) → touches op x ≡ same_cell (Td q) x
     touched_where x = touches-named op (trans_single op is) x ∙ ap (λ y. same_cell y x) (trans_cell_of op is)
@@ -270,17 +325,10 @@ module _ (s : UnitsState) (m n : StoreValue) (images after_images : List (Kept A
         free_end Reading uses = (may_run s u op acts free sound).reading (trans_recoverable s.opening op is ∙ used_it.0) uses (Td q) touched
         free_end Writing uses = (may_run s u op acts free sound).writing (trans_recoverable s.opening op is ∙ used_it.0) uses (Td q) touched
 
-    -- the cells that the command leaves are kept
-    others_left : AnyKeep (is_left op own) m n
-    others_left = subst (λ p. AnyKeep p m n) (λ i c. spares_trans op own c is i) done.others
-
     others_ready : (w : ℕ) → w ≢ unit → is_open (outcome_of s.outcomes w) ≡ true → AreReady n (kept_by images w)
-    others_ready w other on = ready_where (is_left op own) m n (kept_by images w) others_left
-        (each_passes (is_left op own) (place.changes w) (place.marks.images w) (kept_by images w) (place.kept w)
-        (λ x named. left_plain op own x)
-        (λ r end marks. left_marked op own r end (λ same.
-        left_to_others w other on end (subst (λ x. list_any (is_of_end x end) (place.marks.images w) ≡ true) same marks))))
-        (place.ready w)
+    others_ready w other on = still_ready w (λ x named. spares_trans op own (bytes_of x) is ∙ left_plain op own x)
+        (λ r end marks. spares_trans op own (bytes_of_end r end) is ∙ left_marked op own r end (λ same.
+        left_to_others w other on end (subst (λ x. list_any (is_of_end x end) (place.marks.images w) ≡ true) same marks)))
 
     -- the marks that the images stand for are those of the units' state
     same_marks : (queues : Queues) → queues q ≡ marks_of t → mark_images op (marks_in m) ≡ mark_images op queues
@@ -292,38 +340,15 @@ module _ (s : UnitsState) (m n : StoreValue) (images after_images : List (Kept A
         by (TdDelete r) is e = ap (λ k. mark_images (TdDelete r) (λ x. k)) e
         by _ is e = absurd (false≢true is)
 
-    stand_of : (b : Bool) → is_recoverable s.opening op ≡ b → AreImagesMade m op b done.made
-    stand_of b e = subst (λ b. AreImagesMade m op b done.made) e done.stand
-
-    own_kept : AreImagesOf (place.changes unit) ((marks_executed s place.marks u op).images unit) (kept_by after_images unit)
-    own_kept = subst (AreImagesOf (place.changes unit) ((marks_executed s place.marks u op).images unit)) (sym done.newest) (elim (cases_Bool (queue_logical s.opening q)) [
-      | inl l ↦
-          let rec = trans_recoverable s.opening op is ∙ l in
-          let stand : AreImagesOf [] (mark_images op (marks_in m)) done.made = rw is at (stand_of true rec) in
-          rw (eq-eqb unit unit refl, rec)
-          (kept_joined [] (mark_images op place.marks.queues) done.made
-          (subst (λ ms. AreImagesOf [] ms done.made) (same_marks place.marks.queues (has_marks l).marks) stand)
-          (place.changes unit) (place.marks.images unit) (kept_by images unit) (place.kept unit))
-      | inr plain ↦
-          let rec = trans_recoverable s.opening op is ∙ plain in
-          rw (rec, stand_of false rec)
-          (subst (λ l. AreImagesOf (place.changes unit) l (kept_by images unit)) (sym (no_more (eqb unit unit) _ (place.marks.images unit))) (place.kept unit))
-    ])
-
-    own_ready : AreReady n (kept_by after_images unit)
-    own_ready = elim (cases_Bool (queue_logical s.opening q)) [
-      | inl l ↦ done.ready (trans_recoverable s.opening op is ∙ l) (place.ready unit)
-      | inr plain ↦
-          let rec = trans_recoverable s.opening op is ∙ plain in
-          subst (AreReady n) (sym (done.newest ∙ ap (λ l. l ++ kept_by images unit) (stand_of false rec)))
-          (ready_where (is_left op own) m n (kept_by images unit) others_left
-          (each_passes (is_left op own) (place.changes unit) (place.marks.images unit) (kept_by images unit) (place.kept unit)
-          (λ x named. left_plain op own x)
-          (λ r end marks. left_marked op own r end (λ same.
-          absurd (true≢false (sym (marked_used s m images sound place unit (open_unit s u op acts free) r end marks).0 ∙ ap (queue_logical s.opening) same ∙ plain)))))
-          (place.ready unit))
-    ]
+    logical_if : is_recoverable s.opening op ≡ true → queue_logical s.opening q ≡ true
+    logical_if rec = sym (trans_recoverable s.opening op is) ∙ rec
 
     pub trans_applied_in_place : AreInPlace (after_execution s u op) n after_images
     trans_applied_in_place = executed_by s u op acts free m n images after_images sound place apart place.changes (λ w other. refl) place_then queues_then others_ready
-        own_kept own_ready
+        (rw (eq-eqb unit unit refl) (subst (λ l. AreImagesOf l (if is_recoverable s.opening op then mark_images op place.marks.queues ++ place.marks.images unit else place.marks.images unit)
+        (kept_by after_images unit)) (either_way (is_recoverable s.opening op) (place.changes unit)) (own_kept [] (mark_images op place.marks.queues)
+        (λ rec. subst (λ ms. AreImagesOf [] ms done.made) (same_marks place.marks.queues (has_marks (logical_if rec)).marks) (rw is at (stand_by true rec))))))
+        (own_ready (λ plain. still_ready unit (λ x named. spares_trans op own (bytes_of x) is ∙ left_plain op own x)
+        (λ r end marks. spares_trans op own (bytes_of_end r end) is ∙ left_marked op own r end (λ same.
+        absurd (true≢false (sym (marked_used s m images sound place unit (open_unit s u op acts free) r end marks).0
+        ∙ ap (queue_logical s.opening) same ∙ sym (trans_recoverable s.opening op is) ∙ plain))))))

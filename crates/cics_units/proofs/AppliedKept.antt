@@ -32,8 +32,8 @@ use Rattle.cics_units.specs.Parts.{is_recoverable_in, given_record}
 use Rattle.cics_history.specs.Records.{file_of}
 use Rattle.cics_units.proofs.GivenRecords.{file_content, trans_content, temp_content}
 use Rattle.cics_units.proofs.HeldSums.{recoverable_op}
-use Rattle.cics_units.proofs.TempChanges.{temp_answered}
-use Rattle.cics_units.proofs.AppliedInPlace.{plain_applied, trans_applied_in_place, no_trans_of, temp_no_file}
+use Rattle.cics_units.proofs.TempChanges.{temp_no_file, temp_answered}
+use Rattle.cics_units.proofs.AppliedInPlace.{plain_applied, trans_applied_in_place, no_trans_of}
 use Rattle.cics_units.proofs.FileChanges.{kept_definitions}
 use Rattle.cics_units.proofs.KeptUnits.{kept_left, is_entered, store_is, recoverable_alike}
 use Rattle.cics_units.proofs.QueueClauses.{end_by_table}

@@ -24,7 +24,6 @@ pub mod TableInPlace
 pub mod Plain
 pub mod PlainOpening
 pub mod PlainTrace
-pub mod OpeningStore
 pub mod TableValues
 pub mod GivenRecords
 mod KeptUnits

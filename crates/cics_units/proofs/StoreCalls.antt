@@ -1,5 +1,5 @@
--- ENQ, DEQ, UNLOCK and READQ TS keep files, temporary storage, transient data and the images in place.
-use Rattle.std.proofs.Common.{◌≡◌, ℕ, true, false, T, Option, Some, List, [], refl, ap, sym, ◌∙◌}
+-- READQ TS keeps files, temporary storage, transient data and the images in place.
+use Rattle.std.proofs.Common.{◌≡◌, ℕ, true, false, T, Some, List, [], refl, ap, sym, ◌∙◌}
 use Rattle.cics_names.specs.Keyed.{Bytes, value_at, is_rising}
 use Rattle.cics_images.specs.Cells.{Kept}
 use Rattle.cics_images.specs.NamedLaws as named
@@ -13,11 +13,11 @@ use Rattle.cics_transdata.specs.UndoLaws as queue
 use Rattle.cics_history.specs.Openings.{queue_logical}
 use Rattle.cics_history.specs.History.{is_open}
 use Rattle.cics_history.specs.Holding.{UnitsState}
-use Rattle.cics_history.specs.Execution.{after_enqueue, after_dequeue, after_unlock, after_ts_reading}
+use Rattle.cics_history.specs.Execution.{after_ts_reading}
 use Rattle.cics_history.specs.Cells.{Cell, Key, Ts, Td, content}
-use Rattle.cics_history.proofs.Places.{enqueue-IsPlaceOf, dequeue-IsPlaceOf, unlock-IsPlaceOf, ts_reading-IsPlaceOf}
-use Rattle.cics_history.proofs.InPlace.{enqueue-AreMarksOf, dequeue-AreMarksOf, unlock-AreMarksOf, ts_reading-AreMarksOf}
-use Rattle.cics_history.proofs.SameHistory.{enqueue-same, ts_reading-same}
+use Rattle.cics_history.proofs.Places.{ts_reading-IsPlaceOf}
+use Rattle.cics_history.proofs.InPlace.{ts_reading-AreMarksOf}
+use Rattle.cics_history.proofs.SameHistory.{ts_reading-same}
 use Rattle.cics_units.specs.FilesImagesLaws as files
 use Rattle.cics_units.specs.UnitImages.{kept_by}
 use Rattle.cics_units.specs.StoreMatching.{StoreValue, AnyImage, shown_store, AnyKeep}
@@ -26,47 +26,6 @@ use Rattle.cics_units.proofs.StoreInPlace.{ready_where, place_by}
 use Rattle.cics_units.proofs.StoreExecuted.{all_of}
 
 module _ (s : UnitsState) (m : StoreValue) (images : List (Kept AnyImage)) (place : AreInPlace s m images) where
-  -- ENQ changes no cell, no mark and no image
-  pub enqueued_in_place : (u : Option ℕ) (v : Bytes) → AreInPlace (after_enqueue s u v) m images
-  enqueued_in_place u v = record {
-    changes = place.changes;
-    marks = place.marks;
-    place = enqueue-IsPlaceOf s (record { cells = content (shown_store m); images = place.changes }) u v place.place;
-    ends = enqueue-AreMarksOf s place.marks u v place.ends;
-    queues = enqueue-same
-        (λ o es out. (q : Bytes) → queue_logical o q ≡ true → (t : TransState) × (value_at q m.trans_data ≡ Some t) × HasMarks (place.marks.queues q) t) s
-        place.queues u v;
-    kept = place.kept;
-    ready = place.ready;
-    over = enqueue-same (λ o es out. (w : ℕ) → is_open (out w) ≡ false → kept_by images w ≡ []) s place.over u v;
-  }
-
-  -- nor does DEQ
-  pub dequeued_in_place : (u : ℕ) (v : Bytes) → AreInPlace (after_dequeue s u v) m images
-  dequeued_in_place u v = record {
-    changes = place.changes;
-    marks = place.marks;
-    place = dequeue-IsPlaceOf s (record { cells = content (shown_store m); images = place.changes }) u v place.place;
-    ends = dequeue-AreMarksOf s place.marks u v place.ends;
-    queues = place.queues;
-    kept = place.kept;
-    ready = place.ready;
-    over = place.over;
-  }
-
-  -- nor UNLOCK
-  pub unlocked_in_place : (u : ℕ) (f : Bytes) → AreInPlace (after_unlock s u f) m images
-  unlocked_in_place u f = record {
-    changes = place.changes;
-    marks = place.marks;
-    place = unlock-IsPlaceOf s (record { cells = content (shown_store m); images = place.changes }) u f place.place;
-    ends = unlock-AreMarksOf s place.marks u f place.ends;
-    queues = place.queues;
-    kept = place.kept;
-    ready = place.ready;
-    over = place.over;
-  }
-
   -- READQ TS changes a NEXT place alone
   module _ (new : List (Bytes × Row)) (kept : KeepsQueues (λ q. true) m.temp_storage new)
       (rising_before : T (is_rising m.temp_storage)) (rising_after : T (is_rising new)) where

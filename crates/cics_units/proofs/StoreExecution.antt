@@ -92,17 +92,3 @@ module _ (s : UnitsState) (u : Option ℕ) (op : Op) (acts : may_act s u ≡ tru
           ]));
       over = λ w shut. let h = over_then w (ap (λ l. is_open (outcome_of l w)) (sym outcomes_then) ∙ shut) in apart w h.0 ∙ h.1;
     }
-
--- all is in place in any lists in which each unit keeps the same
-pub same_images_in_place : (s : UnitsState) (m : StoreValue) (images others : List (Kept AnyImage)) → ((w : ℕ) → kept_by others w ≡ kept_by images w) →
-    AreInPlace s m images → AreInPlace s m others
-same_images_in_place s m images others same place = record {
-  changes = place.changes;
-  marks = place.marks;
-  place = place.place;
-  ends = place.ends;
-  queues = place.queues;
-  kept = λ w. subst (AreImagesOf (place.changes w) (place.marks.images w)) (sym (same w)) (place.kept w);
-  ready = λ w. subst (AreReady m) (sym (same w)) (place.ready w);
-  over = λ w shut. same w ∙ place.over w shut;
-}

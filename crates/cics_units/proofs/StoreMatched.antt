@@ -238,13 +238,6 @@ each_passes p cs (m ∷ ms) (TransData i ∷ is) kept named marked = (
     own (OfReading q before made) = is_same-self q
     own (OfWriting q before made) = is_same-self q
 
--- where no change names a cell, no image that is kept is of it
-pub kept_elsewhere : (cs : List Image) (ms : List MarkImage) (is : List AnyImage) → AreImagesOf cs ms is → (x : Cell) → names x cs ≡ false →
-    AreOf cell_of_any (is_other (bytes_of x)) is
-kept_elsewhere cs ms is kept x n = each_passes (is_other (bytes_of x)) cs ms is kept
-    (λ y t. ap not (same_bytes y x ∙ false_from_ne_true (same_cell y x) (λ s. false≢true (sym n ∙ subst (λ z. names z cs ≡ true) (same_cell-true y x s) t))))
-    (λ q end t. ap not (bytes_eq-turned (bytes_of_end q end) (bytes_of x) ∙ plain_apart x q end))
-
 -- where no image that is kept is of these bytes, they are none that the images name
 pub unnamed_by : (b : images.Cell) (named : Image → Bool) (marked : MarkImage → Bool) →
     ((c : Image) (i : AnyImage) → IsImageOfChange c i → bytes_eq (cell_of_any i) b ≡ named c) →

@@ -1,26 +1,17 @@
 -- The NEXT places of the queues as they stand are those of the units, through each call.
-use Rattle.std.proofs.Common.{◌≡◌, ℕ, Bool, true, false, Option, None, List, [], ◌∷◌, refl, ap, sym, subst, ◌∙◌}
-use Rattle.std.specs.Prelude.{if◌then◌else◌, fold, filter}
+use Rattle.std.proofs.Common.{◌≡◌, ℕ, Bool, true, false, Option, None, refl, ap, sym, ◌∙◌}
+use Rattle.std.specs.Prelude.{if◌then◌else◌}
 use Rattle.cics_names.specs.Keyed.{Bytes, Map, has_key, with_value, without}
-use Rattle.cics_images.specs.Cells.{all_swept}
-use Rattle.cics_images.specs.declared.stores.StoreImage.TheVariants.{File, TempStorage, TransData}
-use Rattle.cics_tempstor.specs.declared.images.TsImage.{TsImage}
 use Rattle.cics_tempstor.specs.declared.queue_rows.Row.{Row}
-use Rattle.cics_tempstor.specs.Queues.{Queue, is_there, has_item, queue_at, queues_of, places_of, ts_swept, delete_condition, after_read_item}
+use Rattle.cics_tempstor.specs.Queues.{Queue, is_there, has_item, queue_at, queues_of, places_of, delete_condition, after_read_item}
 use Rattle.cics_tempstor.specs.Shown.{queue_at-queues_of}
-use Rattle.cics_tempstor.specs.Undo.{undone as rows_undone, name_of_image}
-use Rattle.cics_tempstor.specs.Places.{AreInOrder, committed, backed_out, places_there as places_of_those, has_key-queues_of, places_of-written, places_of-rewritten, places_of-deleted, places_of-read, without-absent_queue}
-use Rattle.cics_tempstor.specs.Places.{in_order_written, in_order_rewritten, in_order_deleted, in_order_read, in_order_committed, in_order_backed_out, places_of-there, places_of-committed, places_of-backed_out}
+use Rattle.cics_tempstor.specs.Places.{AreInOrder, has_key-queues_of, places_of-written, places_of-rewritten, places_of-deleted, places_of-read, without-absent_queue}
+use Rattle.cics_tempstor.specs.Places.{in_order_written, in_order_rewritten, in_order_deleted, in_order_read}
 use Rattle.cics_history.specs.Store.{Store, apply, ts_queue, is_normal}
 use Rattle.cics_history.specs.Holding.{UnitsState, store_of, awaited}
-use Rattle.cics_history.specs.Execution.{next_after, state_of, after_execution, after_end, after_enqueued, after_enqueue, enqueue, after_dequeue, after_unlock, after_ts_reading}
+use Rattle.cics_history.specs.Execution.{next_after, state_of, after_execution, after_ts_reading}
 use Rattle.cics_history.specs.declared.ops.Op.{Op}
 use Rattle.cics_history.specs.declared.ops.Op.TheVariants.{TsWrite, TsRewrite, TsDelete}
-use Rattle.cics_history.specs.declared.ops.Enqueued.{Enqueued}
-use Rattle.cics_history.specs.declared.ops.Enqueued.TheVariants.{Taken, MustWait, CountFull}
-use Rattle.cics_history.specs.declared.ops.UnitState.{UnitState}
-use Rattle.cics_history.specs.declared.ops.UnitState.TheVariants.{Committed, BackedOut}
-use Rattle.cics_units.specs.StoreMatching.{StoreValue, AnyImage, cell_of_any, any_undone, any_swept}
 use Rattle.cics_units.specs.QueueChanges.{rows_after}
 use Rattle.cics_units.specs.StorePlaces.{HavePlaces}
 
@@ -85,72 +76,3 @@ module _ (s : UnitsState) (rows : Map Row) (have : HavePlaces s rows) where
       by : (b : Bool) → (if b then with_value q n (places_of rows) else places_of rows) ≡ (if b then record s { next = with_value q n s.next } else s).next
       by true = ap (with_value q n) have.places
       by false = have.places
-
-  -- ENQ, DEQ and UNLOCK leave them
-  pub enqueued_places : (u : Option ℕ) (v : Bytes) → HavePlaces (after_enqueue s u v) rows
-  enqueued_places u v = record { in_order = have.in_order; places = have.places ∙ by (enqueue s u v) }
-    where
-      by : (done : Enqueued) → s.next ≡ (after_enqueued s u v done).next
-      by (Taken unit) = refl
-      by (MustWait holder) = refl
-      by CountFull = refl
-
-  pub dequeued_places : (u : ℕ) (v : Bytes) → HavePlaces (after_dequeue s u v) rows
-  dequeued_places u v = record { in_order = have.in_order; places = have.places }
-
-  pub unlocked_places : (u : ℕ) (f : Bytes) → HavePlaces (after_unlock s u f) rows
-  unlocked_places u f = record { in_order = have.in_order; places = have.places }
-
--- ---- the end of a unit
--- the images of temporary storage among those of the three
-abbrev temp_images : List AnyImage → List TsImage
-temp_images [] = []
-temp_images (File i ∷ is) = temp_images is
-temp_images (TempStorage i ∷ is) = i ∷ temp_images is
-temp_images (TransData i ∷ is) = temp_images is
-
--- undoing images undoes those of temporary storage there
-rows_all_undone : (m : StoreValue) (is : List AnyImage) → (fold any_undone m is).temp_storage ≡ fold rows_undone m.temp_storage (temp_images is)
-rows_all_undone m [] = refl
-rows_all_undone m (File i ∷ is) = rows_all_undone (any_undone m (File i)) is
-rows_all_undone m (TempStorage i ∷ is) = rows_all_undone (any_undone m (TempStorage i)) is
-rows_all_undone m (TransData i ∷ is) = rows_all_undone (any_undone m (TransData i)) is
-
--- sweeping their cells sweeps the queues of those
-rows_all_swept : (m : StoreValue) (is : List AnyImage) → (all_swept any_swept cell_of_any m is).temp_storage ≡ all_swept ts_swept name_of_image m.temp_storage
-    (temp_images is)
-rows_all_swept m [] = refl
-rows_all_swept m (File i ∷ is) = rows_all_swept (any_swept m (cell_of_any (File i))) is
-rows_all_swept m (TempStorage i ∷ is) = rows_all_swept (any_swept m (cell_of_any (TempStorage i))) is
-rows_all_swept m (TransData i ∷ is) = rows_all_swept (any_swept m (cell_of_any (TransData i))) is
-
-module _ (s : UnitsState) (m n : StoreValue) (is : List AnyImage) (v : ℕ) (have : HavePlaces s m.temp_storage) where
-  -- the places that are left of those of the units are those of the queues that are there
-  left_places : (outcome : UnitState) → (store_of (after_end s v outcome)).ts ≡ queues_of n.temp_storage →
-      places_of n.temp_storage ≡ places_of_those (queues_of n.temp_storage) (places_of m.temp_storage) → places_of n.temp_storage ≡ (after_end s v outcome).next
-  left_places outcome same left =
-      left ∙ ap (places_of_those (queues_of n.temp_storage)) have.places ∙ ap (λ queues. filter (λ e. has_key e.0 queues) s.next) (sym same)
-
-  -- a commit leaves the places: the unit's images are given up
-  pub committed_places : (store_of (after_end s v Committed)).ts ≡ queues_of n.temp_storage →
-      n.temp_storage ≡ (all_swept any_swept cell_of_any m is).temp_storage → HavePlaces (after_end s v Committed) n.temp_storage
-  committed_places same whole =
-      let rows : n.temp_storage ≡ committed m.temp_storage (temp_images is) = whole ∙ rows_all_swept m is in
-      let in_order : AreInOrder n.temp_storage = subst AreInOrder (sym rows) (in_order_committed m.temp_storage (temp_images is) have.in_order) in
-      let stay : places_of n.temp_storage ≡ places_of m.temp_storage = ap places_of rows ∙ places_of-committed m.temp_storage (temp_images is) have.in_order.rising in
-      record {
-        in_order = in_order;
-        places = left_places Committed same (places_of-there n.temp_storage in_order.rising ∙ ap (places_of_those (queues_of n.temp_storage)) stay);
-      }
-
-  -- a backout leaves the places of the queues that are there after it
-  pub backed_out_places : (store_of (after_end s v BackedOut)).ts ≡ queues_of n.temp_storage →
-      n.temp_storage ≡ (all_swept any_swept cell_of_any (fold any_undone m is) is).temp_storage → HavePlaces (after_end s v BackedOut) n.temp_storage
-  backed_out_places same whole =
-      let rows : n.temp_storage ≡ backed_out m.temp_storage (temp_images is) =
-      whole ∙ rows_all_swept (fold any_undone m is) is ∙ ap (λ r. all_swept ts_swept name_of_image r (temp_images is)) (rows_all_undone m is) in
-      record {
-        in_order = subst AreInOrder (sym rows) (in_order_backed_out m.temp_storage (temp_images is) have.in_order);
-        places = left_places BackedOut same (subst (λ r. places_of r ≡ places_of_those (queues_of r) (places_of m.temp_storage)) (sym rows)
-            (places_of-backed_out m.temp_storage (temp_images is) have.in_order));
-      }

@@ -216,25 +216,6 @@ end_reversed q end (i ∷ is) = ap (has_end q end) (reverse-append (i ∷ []) is
     turned false true = refl
     turned false false = refl
 
--- images of the same ends settle the same
-pub same_ends_settled : (m : StoreValue) (is js : List AnyImage) → is_rising m.trans_data ≡ true →
-    ((q : Bytes) (end : End) → has_end q end is ≡ has_end q end js) → ends_settled m is ≡ ends_settled m js
-same_ends_settled m is js rising same = λ i. record {
-  files = (ends_files m is ∙ sym (ends_files m js)) i;
-  temp_storage = (ends_rows m is ∙ sym (ends_rows m js)) i;
-  trans_data = queues i;
-}
-  where
-    queues : (ends_settled m is).trans_data ≡ (ends_settled m js).trans_data
-    queues = same_map (ends_settled m is).trans_data (ends_settled m js).trans_data (ends_rising m is rising) (ends_rising m js rising) (λ q.
-        ends_at m is q
-        ∙ (λ i. option_map (reader_ended (same q Reading i)) (option_map (writer_ended (same q Writing i)) (value_at q m.trans_data)))
-        ∙ sym (ends_at m js q))
-
--- so it is the same in which order the images are gone by
-pub reversed_settled : (m : StoreValue) (is : List AnyImage) → is_rising m.trans_data ≡ true → ends_settled m (reverse is) ≡ ends_settled m is
-reversed_settled m is rising = same_ends_settled m (reverse is) is rising (λ q end. end_reversed q end is)
-
 -- ---- the ends that the unit holds
 -- the images that are kept are of the ends that the marks are of
 kept_ends : (q : Bytes) (end : End) (cs : List Image) (ms : List MarkImage) (is : List AnyImage) → AreImagesOf cs ms is →

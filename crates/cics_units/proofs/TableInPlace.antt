@@ -12,10 +12,10 @@ use Rattle.cics_enqueue.specs.Resources.{Table, bytes_of, is_one, is_user, given
 use Rattle.cics_enqueue.specs.declared.resources.Resource.{Resource}
 use Rattle.cics_enqueue.specs.declared.resources.Resource.TheVariants.{User}
 use Rattle.cics_history.specs.Openings.{OpeningState, file_recoverable}
-use Rattle.cics_history.specs.Store.{apply, is_normal, is_recoverable}
+use Rattle.cics_history.specs.Store.{is_normal, is_recoverable}
 use Rattle.cics_history.specs.History.{outcome_of, is_open}
-use Rattle.cics_history.specs.Holding.{UnitsState, UpdateRead, EnqCount, store_of, uses_of, held_by, held_by_count, awaited}
-use Rattle.cics_history.specs.Execution.{unit_or_next, is_read_of, read_at, covers, opened, reads_after, entered, state_of, after_execution, after_unlock, after_end, is_ready_op}
+use Rattle.cics_history.specs.Holding.{UnitsState, UpdateRead, EnqCount, uses_of, held_by, held_by_count, awaited}
+use Rattle.cics_history.specs.Execution.{unit_or_next, is_read_of, read_at, covers, opened, reads_after, entered, after_unlock, after_end, is_ready_op}
 use Rattle.cics_history.specs.Headline.{beginning}
 use Rattle.cics_history.specs.Events.{is_live, may_act}
 use Rattle.cics_history.specs.Isolation.{IsSound}
@@ -268,16 +268,6 @@ pub table_entered : (s : UnitsState) (t : Table) (u : Option ℕ) (op : Op) (a :
     length (key_of op) ≤ 255 →
     IsTableOf (entered s u op a) (table_executed s.opening (unit_or_next u s.outcomes) op a.condition s.reads t)
 table_entered s t u op a i k acts free ready short = executed_table s t u op a i k acts free ready short
-
--- the same of the units after it
-pub table_after : (s : UnitsState) (t : Table) (u : Option ℕ) (op : Op) → IsSound s → IsTableOf s t →
-    may_act s u ≡ true → awaited s u op ≡ None → is_ready_op s u op ≡ true →
-    length (key_of op) ≤ 255 →
-    IsTableOf (after_execution s u op)
-    (table_executed s.opening (unit_or_next u s.outcomes) op (apply (store_of s) op).answer.condition s.reads t)
-table_after s t u op i k acts free ready short =
-    subst (λ h. IsTableOf (state_of s u op h) (table_executed s.opening (unit_or_next u s.outcomes) op (apply (store_of s) op).answer.condition s.reads t))
-    (sym free) (table_entered s t u op (apply (store_of s) op).answer i k acts free ready short)
 
 -- ---- UNLOCK
 

@@ -13,12 +13,13 @@ use Rattle.cics_tempstor.specs.Queues.{Queue, most_items, is_there, has_item, ro
 use Rattle.cics_tempstor.specs.Undo.{item_at}
 use Rattle.cics_tempstor.specs.Shown.{rising_written, rising_rewritten, rising_deleted, queue_shown, put_if, queues_of-with_value, queues_of-without, queue_at-queues_of}
 use Rattle.cics_history.specs.Store.{apply, apply_ts_write, apply_ts_rewrite, apply_ts_delete, with_ts, ts_queue, is_normal}
+use Rattle.cics_history.specs.Records.{is_file_op}
 use Rattle.cics_history.specs.declared.ops.Op.{Op}
 use Rattle.cics_history.specs.declared.ops.Op.TheVariants.{TsWrite, TsRewrite, TsDelete}
 use Rattle.cics_history.specs.Cells.{Ts, cell_of as cell_of_op, content, is_generic, Writing, uses}
 use Rattle.cics_history.specs.Undo.{changes}
 use Rattle.cics_units.specs.StoreMatching.{StoreValue, shown_store}
-use Rattle.cics_units.specs.QueueChanges.{is_temp, queue_of, rows_after, rows_image, rows_answer}
+use Rattle.cics_units.specs.QueueChanges.{is_trans, is_temp, queue_of, rows_after, rows_image, rows_answer}
 
 -- ---- the command and its queue
 -- it names the queue
@@ -34,6 +35,19 @@ temp_single (TsWrite q d) is = refl
 temp_single (TsRewrite q n d) is = refl
 temp_single (TsDelete q) is = refl
 temp_single _ is = absurd (false≢true is)
+
+-- it is on no file, nor on a transient data queue
+pub temp_no_file : (op : Op) → is_temp op ≡ true → is_file_op op ≡ false
+temp_no_file (TsWrite q d) is = refl
+temp_no_file (TsRewrite q n d) is = refl
+temp_no_file (TsDelete q) is = refl
+temp_no_file _ is = absurd (false≢true is)
+
+pub temp_no_trans : (op : Op) → is_temp op ≡ true → is_trans op ≡ false
+temp_no_trans (TsWrite q d) is = refl
+temp_no_trans (TsRewrite q n d) is = refl
+temp_no_trans (TsDelete q) is = refl
+temp_no_trans _ is = absurd (false≢true is)
 
 -- and uses it whole
 pub temp_uses : (op : Op) → is_temp op ≡ true → uses op Writing ≡ true

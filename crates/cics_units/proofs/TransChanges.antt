@@ -15,6 +15,7 @@ use Rattle.cics_transdata.specs.Undo.{taken_image}
 use Rattle.cics_history.specs.Store.{apply, apply_td_write, apply_td_read, apply_td_delete, with_td, with_content, is_recoverable}
 use Rattle.cics_history.specs.Openings.{OpeningState, queue_logical}
 use Rattle.cics_history.specs.Holding.{is_nothing}
+use Rattle.cics_history.specs.Records.{is_file_op}
 use Rattle.cics_history.specs.declared.ops.Op.{Op}
 use Rattle.cics_history.specs.declared.ops.Op.TheVariants.{TdWrite, TdRead, TdDelete}
 use Rattle.cics_history.specs.Cells.{Td, cell_of as cell_of_op, is_generic}
@@ -32,6 +33,13 @@ use Rattle.cics_units.proofs.Opened.{value_at-each, with_value-each}
 abbrev pub IsToldEnough : Op → Bool → MarkedQueue → Type 0
 IsToldEnough (TdRead q) own m = is_nothing (seen false (not own) m) ≡ is_nothing (shown m)
 IsToldEnough _ own m = Unit {0}
+
+-- a command on a transient data queue is on no file
+pub trans_no_file : (op : Op) → is_trans op ≡ true → is_file_op op ≡ false
+trans_no_file (TdWrite q d) is = refl
+trans_no_file (TdRead q) is = refl
+trans_no_file (TdDelete q) is = refl
+trans_no_file _ is = absurd (false≢true is)
 
 -- ---- the queue itself
 -- of a choice both parts have the recovery

@@ -88,7 +88,7 @@ fn with_content(condition: Condition, content: Option<Record>) -> Answer
     }
 }
 
-// What READ UPDATE is answered, once its record was looked up.
+/// What READ UPDATE is answered, once its record was looked up.
 pub(crate) fn found(given: Option<Record>) -> Answer
     ensures { result ≡ answer_of_record (found_condition given) given }
 {
