@@ -1,0 +1,40 @@
+-- The lanes that may give, in the order of their numbers.
+use Rattle.std.proofs.Common.{◌≡◌, ◌<◌, ◌≤◌, ℕ, suc, ◌+◌, Bool, true, false, List, [], ◌∷◌, length, drop, get_or, refl, ap, sym, ◌∙◌, arith, drop-cons}
+use Rattle.std.proofs.Math.ListN.{drop_of_length-le}
+use Rattle.std.proofs.lemmas.List.{drop-drop}
+use Rattle.cics_lanes.specs.Orders.{numbered, numbered_from}
+
+pub giver_here : {X : Type 0} (may : X → Bool) (xs : List X) (i : ℕ) (d : X) → i < length xs → may (get_or xs i d) ≡ true →
+    numbered_from may xs i ≡ i ∷ numbered_from may xs (suc i)
+giver_here may xs i d short is = ap (numbered may i) (drop-cons xs i d short) ∙ rw is refl
+
+pub giver_past : {X : Type 0} (may : X → Bool) (xs : List X) (i : ℕ) (d : X) → i < length xs → may (get_or xs i d) ≡ false →
+    numbered_from may xs i ≡ numbered_from may xs (suc i)
+giver_past may xs i d short is = ap (numbered may i) (drop-cons xs i d short) ∙ rw is refl
+
+pub giver_none : {X : Type 0} (may : X → Bool) (xs : List X) (i : ℕ) → length xs ≤ i → numbered_from may xs i ≡ []
+giver_none may xs i long = ap (numbered may i) (drop_of_length-le xs long)
+
+-- behind the first number stand those of the lanes behind it
+numbers_behind : {X : Type 0} (may : X → Bool) (ys : List X) (from l : ℕ) (ls : List ℕ) → numbered may from ys ≡ l ∷ ls →
+    (k : ℕ) × (l ≡ from + k) × (ls ≡ numbered may (suc l) (drop (suc k) ys))
+numbers_behind may [] from l ls is = absurd (grind (arith, is))
+numbers_behind {X} may (y ∷ ys) from l ls is = by (numbers_behind may ys (suc from) l ls) (may y) refl is
+  where
+    by : (numbered may (suc from) ys ≡ l ∷ ls → (k : ℕ) × (l ≡ suc from + k) × (ls ≡ numbered may (suc l) (drop (suc k) ys))) →
+        (b : Bool) → may y ≡ b → numbered may from (y ∷ ys) ≡ l ∷ ls → (k : ℕ) × (l ≡ from + k) × (ls ≡ numbered may (suc l) (drop (suc k) (y ∷ ys)))
+    by rest true at is =
+        let heads : from ∷ numbered may (suc from) ys ≡ l ∷ ls = rw at at is in
+        let first : from ≡ l = grind (arith, heads) in
+        let others : numbered may (suc from) ys ≡ ls = grind (arith, heads) in
+        (0, omega (arith, first), sym others ∙ ap (λ n. numbered may (suc n) ys) first)
+    by rest false at is =
+        let tail = rest (rw at at is) in
+        (suc tail.0, omega (arith, tail.1), tail.2)
+
+pub givers_ordered : {X : Type 0} (may : X → Bool) (xs : List X) (from l : ℕ) (ls : List ℕ) → numbered_from may xs from ≡ l ∷ ls →
+    ls ≡ numbered_from may xs (suc l)
+givers_ordered may xs from l ls is =
+    let found = numbers_behind may (drop from xs) from l ls is in
+    let place : from + suc found.0 ≡ suc l = omega (arith, found.1) in
+    found.2 ∙ ap (numbered may (suc l)) (drop-drop (suc found.0) from xs ∙ ap (λ n. drop n xs) place)

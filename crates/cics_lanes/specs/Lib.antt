@@ -1,0 +1,3 @@
+pub mod Orders
+pub mod Endings
+pub mod Reports

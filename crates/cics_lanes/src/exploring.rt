@@ -1,0 +1,145 @@
+//! Every order, one after the other.
+
+ghost use Rattle.std.specs.Prelude.{◌≡◌, ◌≤◌, ◌<◌, ℕ, [], ◌∷◌, ◌++◌, IfOk, OnOk, length};
+ghost use Rattle.cics_lanes.specs.Orders.{Order, BranchesAt, Reaches, IsFollowed, after, orders};
+ghost use Rattle.cics_lanes.specs.Endings.{run_to};
+ghost use Rattle.cics_lanes.specs.Reports.{IsReport};
+
+use crate::endings::{Ending, Run, tell};
+use crate::walks::Walk;
+use cics_names::{Items, NoMemory};
+use std::alloc::Global;
+
+/// Where an order branches off: as far as `depth` it stays as it is, and there `lane` gives.
+#[derive(Clone, Copy)]
+pub(crate) struct Branch {
+    pub(crate) depth: usize,
+    pub(crate) lane: usize,
+}
+
+/// The endings of orders.
+#[derive(Drop)]
+pub struct Report {
+    /// The endings, in the order of their first orders.
+    pub endings: Vec<Ending>,
+    /// How many orders were followed.
+    pub orders: u64,
+    /// Whether these are all orders.
+    pub is_whole: bool,
+}
+
+// Returns where an order branches off once a lane has given: where another lane may, or else where
+// it did.
+fn branch_at<W: Walk>(walk: &W, depth: usize, lane: usize, before: Option<Branch>) -> Option<Branch>
+    ensures { (n : ℕ) (s : W) (o : Order) → walk.now ≡ after W.lanes s o → length o ≡ depth →
+        length o < n → BranchesAt W.lanes n s o before →
+        BranchesAt W.lanes n s (o ++ lane ∷ []) result }
+{
+    match walk.giver_behind(lane) {
+        Some(lane) => Some(Branch { depth, lane }),
+        None => before,
+    }
+}
+
+// Gives the lines of an order. Returns where it branches off.
+fn retrace<W: Walk>(walk: &mut W, order: &[usize]) -> Result<Option<Branch>, NoMemory>
+    ensures { IfOk result (λ branch. (n : ℕ) → length order.now ≤ n →
+        Reaches W.lanes n walk.old order.now walk.new order.now branch) }
+{
+    let mut branch = None;
+    for depth in 0..order.len() {
+        let lane = order[depth];
+        branch = branch_at(walk, depth, lane, branch);
+        walk.give(lane)?;
+    }
+    Ok(branch)
+}
+
+// Goes on to the end of an order of at most so many lines, with the first lane that may give.
+// Returns where the order branches off.
+fn go_on<W: Walk>(
+    walk: &mut W,
+    lines: usize,
+    order: &mut Vec<usize>,
+    branch: Option<Branch>,
+) -> Result<Option<Branch>, NoMemory>
+    ensures { IfOk result (λ last. (s : W) (begun : Order) →
+        Reaches W.lanes lines s begun walk.old order.old.items branch →
+        IsFollowed W.lanes lines s begun walk.new order.new.items last) }
+{
+    let mut branch = branch;
+    for depth in order.len()..lines {
+        let Some(lane) = walk.first_giver() else {
+            break;
+        };
+        branch = branch_at(walk, depth, lane, branch);
+        order.push(lane)?;
+        walk.give(lane)?;
+    }
+    Ok(branch)
+}
+
+// Follows an order from the start to its end. Returns where it branches off.
+fn follow<W: Walk>(
+    walk: &mut W,
+    lines: usize,
+    order: &mut Vec<usize>,
+) -> Result<Option<Branch>, NoMemory>
+    ensures { IfOk result (λ branch. length order.old.items ≤ lines →
+        IsFollowed W.lanes lines (W.start walk.old) order.old.items walk.new order.new.items
+        branch) }
+{
+    walk.restart()?;
+    let branch = retrace(walk, order.as_slice())?;
+    go_on(walk, lines, order, branch)
+}
+
+// The run of an order that was followed.
+fn run_to<W: Walk>(alloc: Global, walk: &W, order: &[usize]) -> Result<Run, NoMemory>
+    ensures { IfOk result (λ run. run ≡ run_to W.ending W.serial order.now walk.now) }
+{
+    let order = Vec::from_slice(alloc, order)?;
+    Ok(Run {
+        order: Items::from_vec(order),
+        parts: walk.parts()?,
+        is_serial: walk.is_serial(),
+    })
+}
+
+/// Follows every order from the start of a walk, at most so many. Returns the endings that they
+/// lead to.
+///
+/// If the report is whole, the endings are those of all orders. Each stands once, with the first
+/// order that leads to it, and how many orders and serial orders do. They stand in the order of
+/// their first orders. Else they are the endings of the first orders, as many as were followed.
+///
+/// Cost: for each order a walk from the start, and a look at each ending.
+///
+/// Errors: `NoMemory`.
+pub fn explore<W: Walk>(alloc: Global, walk: &mut W, limit: u64) -> Result<Report, NoMemory>
+    ensures { IfOk result (λ report. IsReport W.lanes W.ending W.serial
+        (W.most (W.start walk.old)) (W.start walk.old) report) }
+{
+    walk.restart()?;
+    let lines = walk.line_count();
+    let mut endings = Vec::new(alloc);
+    let mut order = Vec::new(alloc);
+    for told in 0..limit {
+        let branch = follow(walk, lines, &mut order)?;
+        tell(&mut endings, run_to(alloc, walk, order.as_slice())?)?;
+        let Some(branch) = branch else {
+            return Ok(Report {
+                endings,
+                orders: told + 1,
+                is_whole: true,
+            });
+        };
+        order.truncate(branch.depth);
+        order.push(branch.lane)?;
+    }
+    Ok(Report {
+        endings,
+        orders: limit,
+        is_whole: false,
+    })
+}
