@@ -10,7 +10,7 @@ use Rattle.cics_run.specs.Printing.{AppendsFront, Prints}
 use Rattle.cics_run.specs.Running.{Played, next, play, start, stepped, journal, whole, ending, output, is_faulty}
 use Rattle.cics_run.specs.Standing.{Stands, IsClosed, Closes}
 use Rattle.cics_run.specs.declared.stage.Stage.{Stage}
-use Rattle.cics_run.specs.declared.running.Options.{Options}
+use Rattle.cics_run.specs.declared.running.Wanted.{Wanted}
 use Rattle.cics_run.specs.declared.session.Session.{Session}
 use Rattle.cics_run.proofs.Printing.{prints-prints, prints-all, prints-front, prints-written, front-longer}
 use Rattle.cics_run.proofs.Playing.{next-going, whole-front}
@@ -84,40 +84,40 @@ module _ {E : Type 0} (bytes : List ℕ) (before old now : Option (List ℕ)) (s
       (subst (λ l. OnErr result (AppendsFront old now (s.pending.items ++ (step (s.number + 1) s.stage l).text))) e front)
 
 -- a front of the journal is a front of the output
-pub front-output : (options : Options) (bytes : List ℕ) (before now : Option (List ℕ)) → AppendsFront before now (play (all_lines bytes)).journal → AppendsFront before now (output options bytes)
-front-output options bytes before now front = front-longer before now (play (all_lines bytes)).journal (output options bytes) (whole-front options (play (all_lines bytes))) front
+pub front-output : (wanted : Wanted) (bytes : List ℕ) (before now : Option (List ℕ)) → AppendsFront before now (play (all_lines bytes)).journal → AppendsFront before now (output wanted bytes)
+front-output wanted bytes before now front = front-longer before now (play (all_lines bytes)).journal (output wanted bytes) (whole-front wanted (play (all_lines bytes))) front
 
-whole-fault : (options : Options) (p : Played) → p.has_fault ≡ true → whole options p ≡ p.journal
-whole-fault options p fault = subst (λ b. cond b p.journal (p.journal ++ ending options p.stage) ≡ p.journal) (sym fault) refl
+whole-fault : (wanted : Wanted) (p : Played) → p.has_fault ≡ true → whole wanted p ≡ p.journal
+whole-fault wanted p fault = subst (λ b. cond b p.journal (p.journal ++ ending wanted p.stage) ≡ p.journal) (sym fault) refl
 
-whole-going : (options : Options) (p : Played) → p.has_fault ≡ false → whole options p ≡ p.journal ++ ending options p.stage
-whole-going options p going = subst (λ b. cond b p.journal (p.journal ++ ending options p.stage) ≡ p.journal ++ ending options p.stage) (sym going) refl
+whole-going : (wanted : Wanted) (p : Played) → p.has_fault ≡ false → whole wanted p ≡ p.journal ++ ending wanted p.stage
+whole-going wanted p going = subst (λ b. cond b p.journal (p.journal ++ ending wanted p.stage) ≡ p.journal ++ ending wanted p.stage) (sym going) refl
 
 -- the last line was a fault, and nothing is pending
-pub fault-written : (options : Options) (bytes : List ℕ) (before now : Option (List ℕ)) (pending : List ℕ) (stage : Stage) → IsClosed bytes before now pending stage true → pending ≡ []
-    → Appends before now (output options bytes) × (is_faulty bytes ≡ true)
-fault-written options bytes before now pending stage (fault, same, printed) none =
+pub fault-written : (wanted : Wanted) (bytes : List ℕ) (before now : Option (List ℕ)) (pending : List ℕ) (stage : Stage) → IsClosed bytes before now pending stage true → pending ≡ []
+    → Appends before now (output wanted bytes) × (is_faulty bytes ≡ true)
+fault-written wanted bytes before now pending stage (fault, same, printed) none =
     let p = play (all_lines bytes) in (
-      subst (Appends before now) (sym (whole-fault options p fault)) (prints-all before now [] p.journal (subst (λ x. Prints before now [] x p.journal) none printed)),
+      subst (Appends before now) (sym (whole-fault wanted p fault)) (prints-all before now [] p.journal (subst (λ x. Prints before now [] x p.journal) none printed)),
       fault,
     )
 
 -- the text of a whole run: the journal, and behind it the listing
-output-going : (options : Options) (bytes : List ℕ) (stage : Stage) → (play (all_lines bytes)).has_fault ≡ false → (play (all_lines bytes)).stage ≡ stage
-    → output options bytes ≡ (play (all_lines bytes)).journal ++ ending options stage
-output-going options bytes stage going same = whole-going options (play (all_lines bytes)) going ∙ ap (λ s. (play (all_lines bytes)).journal ++ ending options s) same
+output-going : (wanted : Wanted) (bytes : List ℕ) (stage : Stage) → (play (all_lines bytes)).has_fault ≡ false → (play (all_lines bytes)).stage ≡ stage
+    → output wanted bytes ≡ (play (all_lines bytes)).journal ++ ending wanted stage
+output-going wanted bytes stage going same = whole-going wanted (play (all_lines bytes)) going ∙ ap (λ s. (play (all_lines bytes)).journal ++ ending wanted s) same
 
-pub end-written : (options : Options) (bytes : List ℕ) (before old now : Option (List ℕ)) (pending : List ℕ) (stage : Stage) → IsClosed bytes before old pending stage false
-    → Appends old now (pending ++ ending options stage) → Appends before now (output options bytes) × (is_faulty bytes ≡ false)
-end-written options bytes before old now pending stage (going, same, printed) took =
+pub end-written : (wanted : Wanted) (bytes : List ℕ) (before old now : Option (List ℕ)) (pending : List ℕ) (stage : Stage) → IsClosed bytes before old pending stage false
+    → Appends old now (pending ++ ending wanted stage) → Appends before now (output wanted bytes) × (is_faulty bytes ≡ false)
+end-written wanted bytes before old now pending stage (going, same, printed) took =
     let j = (play (all_lines bytes)).journal in
-    let all = prints-prints before old now [] pending [] j (ending options stage) printed (prints-written old now pending (ending options stage) took) in (
-      subst (Appends before now) (sym (output-going options bytes stage going same)) (prints-all before now [] (j ++ ending options stage) all),
+    let all = prints-prints before old now [] pending [] j (ending wanted stage) printed (prints-written old now pending (ending wanted stage) took) in (
+      subst (Appends before now) (sym (output-going wanted bytes stage going same)) (prints-all before now [] (j ++ ending wanted stage) all),
       going,
     )
 
-pub end-front : (options : Options) (bytes : List ℕ) (before old now : Option (List ℕ)) (pending : List ℕ) (stage : Stage) → IsClosed bytes before old pending stage false
-    → AppendsFront old now (pending ++ ending options stage) → AppendsFront before now (output options bytes)
-end-front options bytes before old now pending stage (going, same, printed) front =
-    subst (AppendsFront before now) (sym (output-going options bytes stage going same))
-    (prints-front before old now [] pending (play (all_lines bytes)).journal (ending options stage) printed front)
+pub end-front : (wanted : Wanted) (bytes : List ℕ) (before old now : Option (List ℕ)) (pending : List ℕ) (stage : Stage) → IsClosed bytes before old pending stage false
+    → AppendsFront old now (pending ++ ending wanted stage) → AppendsFront before now (output wanted bytes)
+end-front wanted bytes before old now pending stage (going, same, printed) front =
+    subst (AppendsFront before now) (sym (output-going wanted bytes stage going same))
+    (prints-front before old now [] pending (play (all_lines bytes)).journal (ending wanted stage) printed front)

@@ -3,6 +3,7 @@ mod QueueScripts
 mod ScriptRows
 mod SerialScripts
 pub mod Known
+pub mod Counting
 pub mod Scripts
 pub mod Playing
 pub mod Printing

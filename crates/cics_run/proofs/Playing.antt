@@ -10,7 +10,7 @@ use Rattle.cics_run.specs.Lines.{Pieces, pieces, with_first, completed, unfinish
 use Rattle.cics_run.specs.Stages.{step}
 use Rattle.cics_run.specs.Running.{Played, next, stepped, play, start, journal, output, whole, ending, is_faulty}
 use Rattle.cics_run.specs.Printing.{IsFront}
-use Rattle.cics_run.specs.declared.running.Options.{Options}
+use Rattle.cics_run.specs.declared.running.Wanted.{Wanted}
 
 -- what isn't so is false
 pub not-true : (b : Bool) → not b ≡ true → b ≡ false
@@ -118,20 +118,20 @@ fault-stays bytes more fault =
 chosen-true : (b : Bool) (x y : List ℕ) → b ≡ true → cond b x y ≡ x
 chosen-true b x y e = subst (λ v. cond v x y ≡ x) (sym e) refl
 
-pub fault-output : (options : Options) (bytes : List ℕ) → (play (completed bytes)).has_fault ≡ true → (output options bytes ≡ journal bytes) × (is_faulty bytes ≡ true)
-fault-output options bytes fault =
+pub fault-output : (wanted : Wanted) (bytes : List ℕ) → (play (completed bytes)).has_fault ≡ true → (output wanted bytes ≡ journal bytes) × (is_faulty bytes ≡ true)
+fault-output wanted bytes fault =
     let same : play (all_lines bytes) ≡ play (completed bytes) = rw (fold-append next start (completed bytes) (last_line (unfinished bytes))) (fault-fold (last_line (unfinished bytes)) (play (completed bytes)) fault) in
     let faulty : (play (all_lines bytes)).has_fault ≡ true = ap (λ p. p.has_fault) same ∙ fault in
     (chosen-true _ _ _ faulty ∙ ap (λ p. p.journal) same, faulty)
 
-pub whole-front : (options : Options) (p : Played) → IsFront p.journal (whole options p)
-whole-front options p =
+pub whole-front : (wanted : Wanted) (p : Played) → IsFront p.journal (whole wanted p)
+whole-front wanted p =
     elim (cases_Bool p.has_fault) [
       | inl fault ↦ rw fault (front-whole p.journal)
-      | inr none ↦ rw none (ending options p.stage, refl)
+      | inr none ↦ rw none (ending wanted p.stage, refl)
     ]
 
-pub output-front : (options : Options) (bytes : List ℕ) → IsFront (journal bytes) (output options bytes)
-output-front options bytes =
+pub output-front : (wanted : Wanted) (bytes : List ℕ) → IsFront (journal bytes) (output wanted bytes)
+output-front wanted bytes =
     front-trans _ _ _ (rw (fold-append next start (completed bytes) (last_line (unfinished bytes))) (journal-fold (last_line (unfinished bytes)) (play (completed bytes))))
-    (whole-front options (play (all_lines bytes)))
+    (whole-front wanted (play (all_lines bytes)))

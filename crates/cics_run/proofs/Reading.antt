@@ -1,5 +1,5 @@
 -- What a read adds to the bytes that were read.
-use Rattle.std.proofs.Common.{◌≡◌, ℕ, false, ◌+◌, ◌≤◌, List, [], ◌∷◌, ◌++◌, length, take, refl, arith, sym, subst, append-nil, Option, length-append, inl, inr, ◌==◌}
+use Rattle.std.proofs.Common.{◌≡◌, ℕ, false, ◌+◌, ◌≤◌, List, [], ◌∷◌, ◌++◌, length, take, refl, arith, sym, subst, append-nil, Option, Some, None, length-append, inl, inr, ◌==◌}
 use Rattle.std.proofs.lemmas.List.{take-append-le, length-map, length-take-le}
 use Rattle.std.proofs.lemmas.Bool.{cases_Bool}
 use Rattle.std.proofs.Math.Seq.{take-append_seam}
@@ -8,18 +8,19 @@ use Rattle.std.specs.Prelude.{Result, Ok, Err}
 use Rattle.std.specs.Io.KnownBytes.{Appends, Consumes, IsAtEnd}
 use Rattle.std.specs.Io.BufRead.{strip_last}
 use Rattle.cics_run.specs.Lines.{Pieces, pieces, with_first, completed}
-use Rattle.cics_run.specs.Running.{Played, next, start, journal, output, is_stopped, WritesFront, Answers, ReadsOn, RunsOver}
-use Rattle.cics_run.specs.Printing.{AppendsFront}
+use Rattle.cics_run.specs.Running.{Played, next, start, journal, output, is_stopped, WritesFront, Answers, ReadsOn, RunsOver, failed_reads_of, failed_writes_of}
+use Rattle.cics_run.specs.Printing.{AppendsFront, Prints, stopped_writes}
 use Rattle.cics_run.specs.Standing.{Stands, Stopped, Finishes, fault_of, ended}
+use Rattle.cics_run.specs.Streams.{Rises, RisesAtMost, Tells}
 use Rattle.cics_run.specs.declared.writing.Stop.{Stop}
 use Rattle.cics_run.specs.declared.writing.Stop.TheVariants as stops
 use Rattle.cics_run.specs.declared.running.Status.{Status}
 use Rattle.cics_run.specs.declared.running.Status.TheVariants as status
-use Rattle.cics_run.specs.declared.running.Options.{Options}
+use Rattle.cics_run.specs.declared.running.Wanted.{Wanted}
 use Rattle.cics_run.specs.declared.running.TheConstants.{LIMIT, CHUNK}
 use Rattle.cics_run.specs.declared.session.Session.{Session}
 use Rattle.cics_run.proofs.Known.{consumes-append}
-use Rattle.cics_run.proofs.Printing.{front-longer}
+use Rattle.cics_run.proofs.Printing.{front-longer, prints-all}
 use Rattle.cics_run.proofs.Playing.{output-front, fault-output}
 
 -- there are no more lines than bytes
@@ -55,18 +56,22 @@ chunk-length n got rest fits = rw (front-of n got rest fits) (length-take-le n g
 pub within-chunk : (bytes chunk : List ℕ) (n room : ℕ) → length chunk ≡ n → n ≤ room → length bytes + room ≡ LIMIT → length (bytes ++ chunk) ≤ LIMIT
 within-chunk bytes chunk n room count fits full = rw length-append (omega (arith, count, fits, full))
 
--- no line of these bytes is a fault, and so no line before them
-pub reads-going : (bytes : List ℕ) → is_stopped bytes ≡ false → ReadsOn bytes
-reads-going bytes going = (bytes, [], sym (append-nil bytes), omega arith, going)
+-- no line of these bytes is a fault, and the last read gave nothing
+pub reads-going : (bytes : List ℕ) (told : Option (List ℕ)) → is_stopped bytes ≡ false → Tells told [] → ReadsOn bytes told
+reads-going bytes told going none = (bytes, [], sym (append-nil bytes), omega arith, going, none)
 
--- a chunk came behind them
-pub reads-chunk : (bytes chunk : List ℕ) → is_stopped bytes ≡ false → length chunk ≤ CHUNK → ReadsOn (bytes ++ chunk)
-reads-chunk bytes chunk going fits = (bytes, chunk, refl, fits, going)
+-- the last read gave a chunk behind them
+pub reads-chunk : (bytes chunk : List ℕ) (told : Option (List ℕ)) → is_stopped bytes ≡ false → length chunk ≤ CHUNK → Tells told chunk → ReadsOn (bytes ++ chunk) told
+reads-chunk bytes chunk told going fits last = (bytes, chunk, refl, fits, going, last)
 
-pub stopped-output : (options : Options) (bytes : List ℕ) (rest before now : Option (List ℕ)) → Stopped bytes before now → Answers options bytes rest before now (Ok status.LineFault)
-stopped-output options bytes rest before now stop =
-    let (same, faulty) = fault-output options bytes stop.fault in
+pub stopped-output : (wanted : Wanted) (bytes : List ℕ) (rest before now : Option (List ℕ)) → Stopped bytes before now → Answers wanted bytes rest before now (Ok status.LineFault)
+stopped-output wanted bytes rest before now stop =
+    let (same, faulty) = fault-output wanted bytes stop.fault in
     (subst (λ t. Appends before now t) (sym same) stop.written, faulty, inl stop.fault)
+
+-- where nothing is pending, the journal is written
+pub all-written : (bytes : List ℕ) (before now : Option (List ℕ)) (s : Session) → Stands bytes before now s → s.pending.items ≡ [] → Appends before now (journal bytes)
+all-written bytes before now s at none = prints-all before now [] (journal bytes) (subst (λ x. Prints before now [] x (journal bytes)) none at.printed)
 
 -- one chunk more
 pub read_more : (a b c : Option (List ℕ)) (bytes got rest : List ℕ) (n : ℕ) → n ≤ length got → Consumes a b bytes → Consumes b c (take n got)
@@ -81,21 +86,16 @@ pub one_more : (bytes got : List ℕ) (n limit : ℕ) → length bytes ≡ limit
 one_more bytes got n limit full one fits =
     (simp (length-append, length-take-le n got fits) (omega (arith, full, one)), rw (← full) (take-append_seam bytes (take n got)))
 
--- whether or not the input is at its end, a front of the whole output is written
-pub front-written : (options : Options) (bytes : List ℕ) (rest before now : Option (List ℕ)) → WritesFront options bytes rest before now → AppendsFront before now (output options bytes)
-front-written options bytes rest before now (inl front) = front-longer before now (journal bytes) (output options bytes) (output-front options bytes) front
-front-written options bytes rest before now (inr (end, front)) = front
-
 -- a run that printing stopped
-pub runs-stop : (options : Options) (bytes : List ℕ) (input rest before now : Option (List ℕ)) (stop : Stop) → Consumes input rest bytes → length bytes ≤ LIMIT → ReadsOn bytes
-    → AppendsFront before now (journal bytes) → RunsOver options input rest before now (Err (fault_of stop))
-runs-stop options bytes input rest before now stops.NoMemory read within on front = (bytes, read, within, on, inl front)
-runs-stop options bytes input rest before now stops.WriteFault read within on front = (bytes, read, within, on, inl front)
+pub runs-stop : (wanted : Wanted) (bytes : List ℕ) (input rest last before now : Option (List ℕ)) (stop : Stop) → Consumes input rest bytes → length bytes ≤ LIMIT → ReadsOn bytes last
+    → AppendsFront before now (journal bytes) → RunsOver wanted input rest last before now (Err (fault_of stop))
+runs-stop wanted bytes input rest last before now stops.NoMemory read within on front = (bytes, read, within, on, inl front)
+runs-stop wanted bytes input rest last before now stops.WriteFault read within on front = (bytes, read, within, on, inl front)
 
 -- a run that came to the input's end
-pub runs-ended : (options : Options) (bytes : List ℕ) (input rest before now : Option (List ℕ)) (answer : Result Status Stop) → Consumes input rest bytes → length bytes ≤ LIMIT → ReadsOn bytes
-    → IsAtEnd rest → Finishes options bytes before now answer → RunsOver options input rest before now (ended answer)
-runs-ended options bytes input rest before now (Ok status.Done) read within on end (wrote, going) = (bytes, read, within, on, (wrote, going, end))
-runs-ended options bytes input rest before now (Ok status.LineFault) read within on end (wrote, faulty) = (bytes, read, within, on, (wrote, faulty, inr end))
-runs-ended options bytes input rest before now (Err stops.NoMemory) read within on end front = (bytes, read, within, on, inr (end, front))
-runs-ended options bytes input rest before now (Err stops.WriteFault) read within on end front = (bytes, read, within, on, inr (end, front))
+pub runs-ended : (wanted : Wanted) (bytes : List ℕ) (input rest last before now : Option (List ℕ)) (answer : Result Status Stop) → Consumes input rest bytes → length bytes ≤ LIMIT → ReadsOn bytes last
+    → IsAtEnd rest → Finishes wanted bytes before now answer → RunsOver wanted input rest last before now (ended answer)
+runs-ended wanted bytes input rest last before now (Ok status.Done) read within on end (wrote, going) = (bytes, read, within, on, (wrote, going, end))
+runs-ended wanted bytes input rest last before now (Ok status.LineFault) read within on end (wrote, faulty) = (bytes, read, within, on, (wrote, faulty, inr end))
+runs-ended wanted bytes input rest last before now (Err stops.NoMemory) read within on end front = (bytes, read, within, on, inr (end, front))
+runs-ended wanted bytes input rest last before now (Err stops.WriteFault) read within on end front = (bytes, read, within, on, inr (end, front))

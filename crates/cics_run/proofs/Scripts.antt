@@ -3,20 +3,20 @@ use Rattle.std.proofs.Common.{◌≡◌, true, false, List, ℕ}
 use Rattle.std.specs.List.{flat_map}
 use Rattle.cics_run.specs.Journal.{line}
 use Rattle.cics_run.specs.Running.{output}
-use Rattle.cics_run.specs.declared.running.Options.{Options}
+use Rattle.cics_run.specs.declared.running.Wanted.{Wanted}
 
 -- lines, each with its LF
 abbrev pub lines : List (List ℕ) → List ℕ
 lines texts = flat_map line texts
 
 -- a run of a script of these lines writes these lines
-abbrev pub Writes : Options → List (List ℕ) → List (List ℕ) → Type 0
-Writes options script written = output options (lines script) ≡ lines written
+abbrev pub Writes : Wanted → List (List ℕ) → List (List ℕ) → Type 0
+Writes wanted script written = output wanted (lines script) ≡ lines written
 
 -- the listing stands behind the journal
-abbrev pub listed : Options
-listed = record { no_list = false; replay = false; serial = false }
+abbrev pub listed : Wanted
+listed = record { options = record { replay = false; no_list = false }; serial = false }
 
 -- and the replay behind the listing
-abbrev pub replayed : Options
-replayed = record { no_list = false; replay = true; serial = false }
+abbrev pub replayed : Wanted
+replayed = record { options = record { replay = true; no_list = false }; serial = false }

@@ -3,6 +3,7 @@ pub mod Listings
 pub mod Serial
 pub mod UnitLines
 pub mod Lines
+pub mod Streams
 pub mod Settling
 pub mod Stages
 pub mod Running

@@ -5,6 +5,7 @@ use Rattle.std.specs.Io.KnownBytes.{Appends, Consumes, IsAtEnd}
 use Rattle.cics_run.specs.Lines.{completed, all_lines}
 use Rattle.cics_run.specs.Stages.{step, Step, first_stage, listing_at, replay_at, serial_at}
 use Rattle.cics_run.specs.Printing.{AppendsFront}
+use Rattle.cics_run.specs.Streams.{Tells}
 use Rattle.cics_run.specs.declared.running.TheConstants.{CHUNK}
 use Rattle.cics_run.specs.declared.stage.Stage.{Stage}
 use Rattle.cics_run.specs.declared.running.Status.{Status}
@@ -12,6 +13,7 @@ use Rattle.cics_run.specs.declared.running.Status.TheVariants as status
 use Rattle.cics_run.specs.declared.running.RunFault.{RunFault}
 use Rattle.cics_run.specs.declared.running.RunFault.TheVariants as faults
 use Rattle.cics_run.specs.declared.running.Options.{Options}
+use Rattle.cics_run.specs.declared.running.Wanted.{Wanted}
 
 -- what stands behind some lines: the stage, how many lines there were, what was printed, and whether that ends with a fault
 pub record Played : Type 0 where
@@ -44,19 +46,23 @@ play lines = fold next start lines
 abbrev pub journal : List ℕ → List ℕ
 journal bytes = (play (completed bytes)).journal
 
+-- a run with these options, and no serial run
+abbrev pub alone : Options → Wanted
+alone options = record { options = options; serial = false }
+
 -- the listing stands behind the journal, unless it is left out, and behind that the replay and the serial run, where they are asked for
-abbrev pub ending : Options → Stage → List ℕ
-ending options stage =
-    (if options.no_list then [] else listing_at stage)
-    ++ ((if options.replay then replay_at stage else []) ++ (if options.serial then serial_at stage else []))
+abbrev pub ending : Wanted → Stage → List ℕ
+ending wanted stage =
+    (if wanted.options.no_list then [] else listing_at stage)
+    ++ ((if wanted.options.replay then replay_at stage else []) ++ (if wanted.serial then serial_at stage else []))
 
 -- behind a fault stand no listing, no replay and no serial run
-abbrev pub whole : Options → Played → List ℕ
-whole options p = if p.has_fault then p.journal else p.journal ++ ending options p.stage
+abbrev pub whole : Wanted → Played → List ℕ
+whole wanted p = if p.has_fault then p.journal else p.journal ++ ending wanted p.stage
 
 -- what a run over a whole script writes
-abbrev pub output : Options → List ℕ → List ℕ
-output options bytes = whole options (play (all_lines bytes))
+abbrev pub output : Wanted → List ℕ → List ℕ
+output wanted bytes = whole wanted (play (all_lines bytes))
 
 -- whether a fault is printed by a run over a whole script
 abbrev pub is_faulty : List ℕ → Bool
@@ -68,8 +74,8 @@ is_stopped bytes = (play (completed bytes)).has_fault
 
 -- A front is written of what these bytes call for: the journal of the lines that they complete, and only at the input's end,
 -- where the last line may lack its LF, the whole output.
-abbrev pub WritesFront : Options → List ℕ → Option (List ℕ) → Option (List ℕ) → Option (List ℕ) → Type 0
-WritesFront options bytes rest old new = AppendsFront old new (journal bytes) ⊎ (IsAtEnd rest × AppendsFront old new (output options bytes))
+abbrev pub WritesFront : Wanted → List ℕ → Option (List ℕ) → Option (List ℕ) → Option (List ℕ) → Type 0
+WritesFront wanted bytes rest old new = AppendsFront old new (journal bytes) ⊎ (IsAtEnd rest × AppendsFront old new (output wanted bytes))
 
 -- What a run has done at each answer, where bytes are the bytes that it read:
 -- - Done: the input is at its end, no fault was printed, and the whole output is written;
@@ -79,26 +85,42 @@ WritesFront options bytes rest old new = AppendsFront old new (journal bytes) �
 --   journal is written;
 -- - ReadFault: none of the lines that the bytes complete is a fault, and their journal is written;
 -- - WriteFault and NoMemory: a front is written.
-abbrev pub Answers : Options → List ℕ → Option (List ℕ) → Option (List ℕ) → Option (List ℕ) → Result Status RunFault → Type 0
-Answers options bytes rest old new (Ok status.Done) = Appends old new (output options bytes) × (is_faulty bytes ≡ false) × IsAtEnd rest
-Answers options bytes rest old new (Ok status.LineFault) =
-    Appends old new (output options bytes) × (is_faulty bytes ≡ true) × ((is_stopped bytes ≡ true) ⊎ IsAtEnd rest)
-Answers options bytes rest old new (Err faults.InputTooLong) =
+abbrev pub Answers : Wanted → List ℕ → Option (List ℕ) → Option (List ℕ) → Option (List ℕ) → Result Status RunFault → Type 0
+Answers wanted bytes rest old new (Ok status.Done) = Appends old new (output wanted bytes) × (is_faulty bytes ≡ false) × IsAtEnd rest
+Answers wanted bytes rest old new (Ok status.LineFault) =
+    Appends old new (output wanted bytes) × (is_faulty bytes ≡ true) × ((is_stopped bytes ≡ true) ⊎ IsAtEnd rest)
+Answers wanted bytes rest old new (Err faults.InputTooLong) =
     (length bytes ≡ most_bytes + 1) × (is_stopped (take most_bytes bytes) ≡ false) × Appends old new (journal (take most_bytes bytes))
-Answers options bytes rest old new (Err faults.ReadFault) = (is_stopped bytes ≡ false) × Appends old new (journal bytes)
-Answers options bytes rest old new (Err faults.WriteFault) = WritesFront options bytes rest old new
-Answers options bytes rest old new (Err faults.NoMemory) = WritesFront options bytes rest old new
+Answers wanted bytes rest old new (Err faults.ReadFault) = (is_stopped bytes ≡ false) × Appends old new (journal bytes)
+Answers wanted bytes rest old new (Err faults.WriteFault) = WritesFront wanted bytes rest old new
+Answers wanted bytes rest old new (Err faults.NoMemory) = WritesFront wanted bytes rest old new
 
 -- how many bytes a run reads at most: as many as a script may have, and one more where it tells that there are more
 abbrev pub most : Result Status RunFault → ℕ
 most (Err faults.InputTooLong) = most_bytes + 1
 most _ = most_bytes
 
--- No more is read behind a fault: without the last bytes, no more than are asked for at once, no complete line is one.
-abbrev pub ReadsOn : List ℕ → Type 0
-ReadsOn bytes = (front : List ℕ) × (last : List ℕ) × (bytes ≡ front ++ last) × (length last ≤ CHUNK) × (is_stopped front ≡ false)
+-- No more is read behind a fault: no line is one that is complete without what the last read gave, which is no more than is asked for
+-- at once.
+abbrev pub ReadsOn : List ℕ → Option (List ℕ) → Type 0
+ReadsOn bytes told = (front : List ℕ) × (last : List ℕ) × (bytes ≡ front ++ last) × (length last ≤ CHUNK) × (is_stopped front ≡ false) × Tells told last
 
--- Some bytes were read, not too many and no more behind a fault, and what was written is what they call for.
-abbrev pub RunsOver : Options → Option (List ℕ) → Option (List ℕ) → Option (List ℕ) → Option (List ℕ) → Result Status RunFault → Type 0
-RunsOver options input rest old new result =
-    (bytes : List ℕ) × Consumes input rest bytes × (length bytes ≤ most result) × ReadsOn bytes × Answers options bytes rest old new result
+-- Some bytes were read, not too many and no more behind a fault, and what was written is what they call for. What the last read gave
+-- may be told.
+abbrev pub RunsOver : Wanted → Option (List ℕ) → Option (List ℕ) → Option (List ℕ) → Option (List ℕ) → Option (List ℕ) → Result Status RunFault → Type 0
+RunsOver wanted input rest last old new result =
+    (bytes : List ℕ) × Consumes input rest bytes × (length bytes ≤ most result) × ReadsOn bytes last × Answers wanted bytes rest old new result
+
+-- how often a run reads at most: each read but the last gives a byte
+abbrev pub most_reads : ℕ
+most_reads = most_bytes + 1
+
+-- how many reads failed in a run: the last one, where it says so
+abbrev pub failed_reads_of : Result Status RunFault → ℕ
+failed_reads_of (Err faults.ReadFault) = 1
+failed_reads_of _ = 0
+
+-- how many writes failed in a run: the last one, where it says so
+abbrev pub failed_writes_of : Result Status RunFault → ℕ
+failed_writes_of (Err faults.WriteFault) = 1
+failed_writes_of _ = 0

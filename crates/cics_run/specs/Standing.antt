@@ -11,7 +11,7 @@ use Rattle.cics_run.specs.declared.running.RunFault.{RunFault}
 use Rattle.cics_run.specs.declared.running.RunFault.TheVariants as faults
 use Rattle.cics_run.specs.declared.writing.Stop.{Stop}
 use Rattle.cics_run.specs.declared.writing.Stop.TheVariants as stops
-use Rattle.cics_run.specs.declared.running.Options.{Options}
+use Rattle.cics_run.specs.declared.running.Wanted.{Wanted}
 use Rattle.cics_run.specs.declared.running.Status.{Status}
 use Rattle.cics_run.specs.declared.running.Status.TheVariants as status
 use Rattle.cics_run.specs.declared.session.Session.{Session}
@@ -63,10 +63,10 @@ Closes bytes before now pending stage result =
     MatchResult result (IsClosed bytes before now pending stage) (λ _. AppendsFront before now (play (all_lines bytes)).journal)
 
 -- the input's end came
-abbrev pub Finishes : {E : Type 0} → Options → List ℕ → Option (List ℕ) → Option (List ℕ) → Result Status E → Type 0
-Finishes options bytes before now (Ok status.Done) = Appends before now (output options bytes) × (is_faulty bytes ≡ false)
-Finishes options bytes before now (Ok status.LineFault) = Appends before now (output options bytes) × (is_faulty bytes ≡ true)
-Finishes options bytes before now (Err e) = AppendsFront before now (output options bytes)
+abbrev pub Finishes : {E : Type 0} → Wanted → List ℕ → Option (List ℕ) → Option (List ℕ) → Result Status E → Type 0
+Finishes wanted bytes before now (Ok status.Done) = Appends before now (output wanted bytes) × (is_faulty bytes ≡ false)
+Finishes wanted bytes before now (Ok status.LineFault) = Appends before now (output wanted bytes) × (is_faulty bytes ≡ true)
+Finishes wanted bytes before now (Err e) = AppendsFront before now (output wanted bytes)
 
 -- the fault of a run that stopped
 abbrev pub fault_of : Stop → RunFault

@@ -3,7 +3,7 @@
 ghost use Rattle.std.specs.Prelude.{◌≡◌};
 ghost use Rattle.cics_run.specs.Statuses.{status_of};
 
-use crate::running::{Options, RunFault, Status};
+use crate::running::{Options, RunFault, Status, Wanted};
 use cics_names::NoMemory;
 use clap::error::ErrorKind;
 use clap::{Arg, ArgAction, Command, Error};
@@ -56,7 +56,7 @@ END";
 ///   error.
 #[derive(Drop)]
 pub enum Asked {
-    Run(Options),
+    Run(Wanted),
     Help(String),
     Bad(String),
 }
@@ -64,11 +64,12 @@ pub enum Asked {
 /// Reads the words of a command line, of which the first is the program's name.
 ///
 /// The options are `--no-list`, which leaves out the listing, `--replay`, which asks for the replay
-/// behind it, `--serial`, which asks for the serial run behind both, and `--help` (or `-h`). An option that is given twice is bad, and so is every other
-/// word but a `--`, behind which no option may stand. It is refused for want of memory alone.
+/// behind it, `--serial`, which asks for the serial run behind both, and `--help` (or `-h`). An
+/// option that is given twice is bad, and so is every other word but a `--`, behind which no option
+/// may stand. It is refused for want of memory alone.
 pub fn arguments(alloc: Global, words: Vec<String>) -> Result<Asked, NoMemory> {
-    match options(alloc, &words) {
-        Ok(options) => Ok(Asked::Run(options)),
+    match wanted(alloc, &words) {
+        Ok(wanted) => Ok(Asked::Run(wanted)),
         Err(error) => match error.kind() {
             ErrorKind::DisplayHelp => Ok(Asked::Help(error.to_string(alloc)?)),
             ErrorKind::OutOfMemory => Err(NoMemory),
@@ -77,7 +78,7 @@ pub fn arguments(alloc: Global, words: Vec<String>) -> Result<Asked, NoMemory> {
     }
 }
 
-fn options(alloc: Global, words: &[String]) -> Result<Options, Error> {
+fn wanted(alloc: Global, words: &[String]) -> Result<Wanted, Error> {
     let no_list = Arg::new(alloc, "no-list")
         .long("no-list")
         .action(ArgAction::SetTrue)
@@ -97,9 +98,12 @@ fn options(alloc: Global, words: &[String]) -> Result<Options, Error> {
         .arg(replay)?
         .arg(serial)?;
     let matches = command.try_get_matches_from(words)?;
-    Ok(Options {
-        no_list: matches.get_flag("no-list"),
+    let options = Options {
         replay: matches.get_flag("replay"),
+        no_list: matches.get_flag("no-list"),
+    };
+    Ok(Wanted {
+        options,
         serial: matches.get_flag("serial"),
     })
 }

@@ -1,16 +1,19 @@
-//! Runs the script of a region from a reader, and writes its journal and listings to a writer.
+//! Runs the script of a region from a source, and writes its journal and listings to a sink.
 #![tactic(auto)]
 
 mod command_line;
-mod journal;
-mod listing;
+pub mod journal;
+pub mod listing;
 mod running;
 mod serial;
 mod session;
 mod settling;
-mod stage;
+pub mod stage;
+mod streams;
 mod unit_lines;
 mod writing;
 
 pub use command_line::{Asked, arguments, exit_status};
-pub use running::{CHUNK, LIMIT, Options, RunFault, Status, run, run_before_exit};
+pub use running::{CHUNK, LIMIT, Options, RunFault, Status, Wanted, run, run_over};
+pub use session::Session;
+pub use streams::{Failed, Sink, Source};

@@ -1,15 +1,17 @@
 //! The run of a script.
 
-ghost use Rattle.std.specs.Prelude.{◌≡◌, []};
+ghost use Rattle.std.specs.Prelude.{◌≡◌, [], None};
 ghost use Rattle.cics_run.specs.Stages.{first_stage};
-ghost use Rattle.cics_run.specs.Running.{RunsOver};
+ghost use Rattle.cics_run.specs.Streams.{Rises, RisesAtMost};
+ghost use Rattle.cics_run.specs.Running.{RunsOver, alone, most_reads, failed_reads_of};
+ghost use Rattle.cics_run.specs.Running.{failed_writes_of};
 ghost use Rattle.cics_run.specs.Standing.{ended, fault_of};
 
 use crate::session::Session;
+use crate::streams::{Sink, Source};
 use crate::writing::Stop;
 use std::alloc::Global;
 use std::io::{Read, Write};
-use std::mem;
 use thiserror::Error;
 
 /// The greatest number of bytes that a script may have.
@@ -23,8 +25,8 @@ pub const CHUNK: usize = 65_536;
 pub enum Status {
     /// Every line was run; the journal and what was asked for behind it are written.
     Done,
-    /// A line or a definition has a fault: the journal up to it is written, with the fault as its last line, and nothing
-    /// behind it.
+    /// A line or a definition has a fault: the journal up to it is written, with the fault as its
+    /// last line, and nothing behind it.
     LineFault,
 }
 
@@ -45,94 +47,86 @@ pub enum RunFault {
     InputTooLong,
 }
 
-/// What a run is asked for: to leave out the listing, to print the replay, and to print the serial
-/// run.
+/// What a run prints beside the journal.
 #[derive(Clone, Copy, Debug, PartialEq, Eq)]
 pub struct Options {
-    pub no_list: bool,
+    /// Print the replay behind the listing.
     pub replay: bool,
+    /// Leave out the listing.
+    pub no_list: bool,
+}
+
+/// What the program prints beside the journal.
+#[derive(Clone, Copy, Debug, PartialEq, Eq)]
+pub struct Wanted {
+    pub options: Options,
+    /// Print the serial run behind the listing and the replay.
     pub serial: bool,
 }
 
-/// Runs the script that the reader gives, and writes its journal and what follows it.
+/// Runs the script that a reader gives, and writes its journal and what follows it.
 ///
-/// It reads at most `LIMIT` bytes, and one more to see whether there are more. Once it has printed
-/// a fault it reads no more. A last line that lacks its LF is run at the input's end.
-///
-/// It answers how the run ended, or why it stopped: `Status` and `RunFault` say what is written then. `alloc` gives
-/// the memory of the region and of what is printed.
+/// It is [`run_over`] a source and a sink that count nothing. `alloc` gives the memory of the region
+/// and of what is printed.
 pub fn run<R: Read, W: Write>(
     alloc: Global,
     reader: &mut R,
     writer: &mut W,
     options: Options,
 ) -> Result<Status, RunFault>
-    ensures whole_run { RunsOver options (R.remaining reader.old) (R.remaining reader.new)
-        (W.contents writer.old) (W.contents writer.new) result }
+    ensures whole_run { RunsOver (alone options) (R.remaining reader.old) (R.remaining reader.new)
+        None (W.contents writer.old) (W.contents writer.new) result }
 {
+    let wanted = Wanted {
+        options,
+        serial: false,
+    };
     let mut session = Session::new(alloc);
-    run_from(&mut session, reader, writer, options)
+    run_over(&mut session, reader, writer, wanted)
 }
 
-/// Runs a script as [`run`] does, with the same answers, for a process that ends right behind it: the
-/// memory of the region and of the buffers isn't given back. To give it back takes up to a sixth of the
-/// time of a long script.
-pub fn run_before_exit<R: Read, W: Write>(
-    alloc: Global,
-    reader: &mut R,
-    writer: &mut W,
-    options: Options,
-) -> Result<Status, RunFault>
-    ensures whole_run { RunsOver options (R.remaining reader.old) (R.remaining reader.new)
-        (W.contents writer.old) (W.contents writer.new) result }
-{
-    let mut session = Session::new(alloc);
-    let answer = run_from(&mut session, reader, writer, options);
-    mem::forget(session);
-    answer
-}
-
-// Runs the script from a session before its first byte, and leaves the session to its owner, who
-// alone drops or forgets it.
-fn run_from<R: Read, W: Write>(
+/// Runs the script that a source gives, and writes its journal and what follows it.
+///
+/// It reads at most `LIMIT` bytes, and one more to see whether there are more. Once it has printed
+/// a fault it reads no more. A last line that lacks its LF is run at the input's end.
+///
+/// Returns how the run ended, or why it stopped: `Status` and `RunFault` say what is written then.
+/// It returns a read or a write fault only if that very call failed, and tries none again.
+///
+/// The session is a new one, and is left to its owner, who drops it. A process that ends right
+/// behind the run may forget it.
+pub fn run_over<S: Source, K: Sink>(
     session: &mut Session,
-    reader: &mut R,
-    writer: &mut W,
-    options: Options,
+    source: &mut S,
+    sink: &mut K,
+    wanted: Wanted,
 ) -> Result<Status, RunFault>
     requires stage { session.old.stage ≡ first_stage }
     requires number { session.old.number ≡ 0 }
     requires line { session.old.line.items ≡ [] }
     requires pending { session.old.pending.items ≡ [] }
-    ensures { RunsOver options (R.remaining reader.old) (R.remaining reader.new)
-        (W.contents writer.old) (W.contents writer.new) result }
+    ensures read_faults { Rises (S.failed source.old) (S.failed source.new)
+        (failed_reads_of result) }
+    ensures write_faults { Rises (K.failed sink.old) (K.failed sink.new)
+        (failed_writes_of result) }
+    ensures asked { RisesAtMost (S.asked source.old) (S.asked source.new) most_reads }
+    ensures whole_run { RunsOver wanted (S.remaining source.old) (S.remaining source.new)
+        (S.last source.new) (K.contents sink.old) (K.contents sink.new) result }
 {
     let mut buffer = [0u8; CHUNK];
     let mut room = LIMIT;
-    while room > 0 {
-        match session.write(writer) {
-            Ok(()) => {}
-            Err(stop) => return Err(fault_of(stop)),
-        }
-        let size = room.min(CHUNK);
-        match reader.read(&mut buffer[..size]) {
-            Ok(0) => return ended(session.finish(options, writer)),
-            Ok(n) => match session.feed(&buffer[..n], writer) {
+    'reads: loop {
+        let size = room.min(CHUNK).max(1);
+        match source.read(&mut buffer[..size]) {
+            Ok(0) => return ended(session.finish(wanted, sink)),
+            Ok(_) if room == 0 => return Err(RunFault::InputTooLong),
+            Ok(n) => match session.feed(&buffer[..n], sink) {
                 Ok(false) => room -= n,
                 Ok(true) => return Ok(Status::LineFault),
                 Err(stop) => return Err(fault_of(stop)),
             },
             Err(_) => return Err(RunFault::ReadFault),
         }
-    }
-    match session.write(writer) {
-        Ok(()) => {}
-        Err(stop) => return Err(fault_of(stop)),
-    }
-    match reader.read(&mut buffer[..1]) {
-        Ok(0) => ended(session.finish(options, writer)),
-        Ok(_) => Err(RunFault::InputTooLong),
-        Err(_) => Err(RunFault::ReadFault),
     }
 }
 

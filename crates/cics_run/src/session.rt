@@ -1,27 +1,28 @@
 //! A run between two reads.
 
-ghost use Rattle.std.specs.Prelude.{◌≡◌, true, [], ◌++◌, ◌+◌, ◌<◌, ◌≤◌, ◌^◌, length, if◌then◌else◌};
+ghost use Rattle.std.specs.Prelude.{◌≡◌, true, false, [], ◌++◌, ◌+◌, ◌<◌, ◌≤◌, ◌^◌, length, if◌then◌else◌};
 ghost use Rattle.std.specs.Prelude.{IfOk, OnOk, OnErr};
 ghost use Rattle.std.specs.List.{prefix_len, list_all};
 ghost use Rattle.std.specs.Io.BufRead.{strip_last};
 ghost use Rattle.cics_run.specs.Lines.{is_in_line};
 ghost use Rattle.cics_run.specs.Stages.{step, first_stage, listing_at, replay_at, serial_at};
 ghost use Rattle.cics_run.specs.declared.stage.Stage.TheVariants.{Running};
-ghost use Rattle.cics_run.specs.Printing.{AppendsFront, Prints};
+ghost use Rattle.cics_run.specs.Printing.{AppendsFront, Prints, stopped_writes};
+ghost use Rattle.cics_run.specs.Streams.{Rises};
 ghost use Rattle.std.specs.Io.KnownBytes.{Appends};
 ghost use Rattle.cics_run.specs.Running.{ending};
 ghost use Rattle.cics_run.specs.Standing.{line_step, WhereverStands, Feeds, Writes, Closes};
 ghost use Rattle.cics_run.specs.Standing.{Finishes};
 
 use crate::listing::{push_listing, push_replay};
-use crate::running::{Options, Status};
+use crate::running::{Status, Wanted};
 use crate::serial::push_serial;
 use crate::stage::Stage;
+use crate::streams::Sink;
 use crate::writing::{Stop, write_pending, write_printed};
 use cics_dispatch::Region;
 use cics_names::NoMemory;
 use std::alloc::Global;
-use std::io::Write;
 
 const LF: u8 = 10;
 
@@ -87,28 +88,29 @@ fn line_len(bytes: &[u8]) -> usize
 
 // Runs a line and prints what comes of it, and tells whether that is a fault. A fault is written
 // at once.
-fn run_one<W: Write>(
+fn run_one<K: Sink>(
     stage: &mut Stage,
     number: u64,
     line: &[u8],
     pending: &mut Vec<u8>,
-    writer: &mut W,
+    sink: &mut K,
 ) -> Result<bool, Stop>
     ensures stage { IfOk result (λ _. stage.new ≡ (step number stage.old line.now).stage) }
     ensures fault { IfOk result (λ fault. fault ≡ (step number stage.old line.now).is_fault) }
-    ensures printed { OnOk result (Prints (W.contents writer.old)
-        (W.contents writer.new) pending.old.items pending.new.items
+    ensures printed { OnOk result (Prints (K.contents sink.old)
+        (K.contents sink.new) pending.old.items pending.new.items
         (step number stage.old line.now).text) }
     ensures left { IfOk result (λ fault. fault ≡ true → pending.new.items ≡ []) }
     ensures err { OnErr result
-        (AppendsFront (W.contents writer.old) (W.contents writer.new)
+        (AppendsFront (K.contents sink.old) (K.contents sink.new)
         (pending.old.items ++ (step number stage.old line.now).text)) }
+    ensures failed { Rises (K.failed sink.old) (K.failed sink.new) (stopped_writes result) }
 {
     let is_fault = match stage.run_line(number, line, pending) {
         Ok(is_fault) => is_fault,
         Err(_) => return Err(Stop::NoMemory),
     };
-    write_printed(pending, writer, is_fault)?;
+    write_printed(pending, sink, is_fault)?;
     Ok(is_fault)
 }
 
@@ -128,53 +130,46 @@ impl Session {
         }
     }
 
-    /// Writes all that was printed and not yet written, and keeps none of it where all is written.
-    /// `Stop::WriteFault` comes where the writer fails or takes no byte: a front of the text has then
-    /// been written.
-    pub fn write<W: Write>(&mut self, writer: &mut W) -> Result<(), Stop>
-        ensures { WhereverStands (W.contents writer.old) self.old (λ bytes before.
-            Writes bytes before (W.contents writer.new) self.new result) }
+    // Writes all that was printed and not yet written.
+    fn write<K: Sink>(&mut self, sink: &mut K) -> Result<(), Stop>
+        ensures writes { WhereverStands (K.contents sink.old) self.old (λ bytes before.
+            Writes bytes before (K.contents sink.new) self.new result) }
+        ensures left { OnOk result (self.new.pending.items ≡ []) }
+        ensures failed { Rises (K.failed sink.old) (K.failed sink.new) (stopped_writes result) }
     {
-        write_pending(&mut self.pending, writer)
+        write_pending(&mut self.pending, sink)
     }
 
     // Runs the line whose LF came.
-    fn end_line<W: Write>(&mut self, writer: &mut W) -> Result<bool, Stop>
+    fn end_line<K: Sink>(&mut self, sink: &mut K) -> Result<bool, Stop>
         requires { self.old.number + 1 < 2 ^ 64 }
         ensures stage { IfOk result (λ _. self.new.stage ≡ (line_step self.old).stage) }
         ensures number { OnOk result (self.new.number ≡ self.old.number + 1) }
         ensures line { OnOk result (self.new.line.items ≡ []) }
         ensures fault { IfOk result (λ fault. fault ≡ (line_step self.old).is_fault) }
-        ensures printed { OnOk result (Prints (W.contents writer.old)
-            (W.contents writer.new) self.old.pending.items self.new.pending.items
+        ensures printed { OnOk result (Prints (K.contents sink.old)
+            (K.contents sink.new) self.old.pending.items self.new.pending.items
             (line_step self.old).text) }
         ensures left { IfOk result (λ fault. fault ≡ true → self.new.pending.items ≡ []) }
         ensures err { OnErr result
-            (AppendsFront (W.contents writer.old) (W.contents writer.new)
+            (AppendsFront (K.contents sink.old) (K.contents sink.new)
             (self.old.pending.items ++ (line_step self.old).text)) }
+        ensures failed { Rises (K.failed sink.old) (K.failed sink.new) (stopped_writes result) }
     {
         self.number += 1;
         let line = without_cr(&self.line);
-        let fault = run_one(
-            &mut self.stage,
-            self.number,
-            line,
-            &mut self.pending,
-            writer,
-        )?;
+        let fault = run_one(&mut self.stage, self.number, line, &mut self.pending, sink)?;
         self.line.clear();
         Ok(fault)
     }
 
-    /// Runs the lines that more bytes complete, up to the first fault, and tells whether there was
-    /// one: what was printed up to it is then written. Without a fault the bytes of a line that is
-    /// not yet whole are kept, and what was printed may wait to be written. `Stop::NoMemory` comes
-    /// where memory is refused, `Stop::WriteFault` where the writer refuses; with either a front of
-    /// what is to be written has been.
-    pub fn feed<W: Write>(&mut self, chunk: &[u8], writer: &mut W) -> Result<bool, Stop>
+    // Runs the lines that more bytes complete, up to the first fault, and tells whether there was
+    // one. Without a fault what was printed may wait to be written.
+    fn run_lines<K: Sink>(&mut self, chunk: &[u8], sink: &mut K) -> Result<bool, Stop>
         requires { self.old.number + length chunk.now < 2 ^ 64 }
-        ensures { WhereverStands (W.contents writer.old) self.old (λ bytes before.
-            Feeds (bytes ++ chunk.now) before (W.contents writer.new) self.new result) }
+        ensures feeds { WhereverStands (K.contents sink.old) self.old (λ bytes before.
+            Feeds (bytes ++ chunk.now) before (K.contents sink.new) self.new result) }
+        ensures failed { Rises (K.failed sink.old) (K.failed sink.new) (stopped_writes result) }
     {
         let mut rest = chunk;
         'lines: loop {
@@ -186,7 +181,7 @@ impl Session {
             let Some((_, after)) = behind.split_first() else {
                 return Ok(false);
             };
-            match self.end_line(writer) {
+            match self.end_line(sink) {
                 Ok(false) => rest = after,
                 Ok(true) => return Ok(true),
                 Err(stop) => return Err(stop),
@@ -194,13 +189,34 @@ impl Session {
         }
     }
 
+    /// Runs the lines that more bytes complete, up to the first fault, and tells whether there was
+    /// one. All that they print is written, and the bytes of a line that isn't whole are kept.
+    /// On `Stop` the first part of the text is written.
+    pub fn feed<K: Sink>(&mut self, chunk: &[u8], sink: &mut K) -> Result<bool, Stop>
+        requires { self.old.number + length chunk.now < 2 ^ 64 }
+        ensures feeds { WhereverStands (K.contents sink.old) self.old (λ bytes before.
+            Feeds (bytes ++ chunk.now) before (K.contents sink.new) self.new result) }
+        ensures left { IfOk result (λ fault. fault ≡ false → self.new.pending.items ≡ []) }
+        ensures failed { Rises (K.failed sink.old) (K.failed sink.new) (stopped_writes result) }
+    {
+        match self.run_lines(chunk, sink) {
+            Ok(false) => match self.write(sink) {
+                Ok(()) => Ok(false),
+                Err(stop) => Err(stop),
+            },
+            Ok(true) => Ok(true),
+            Err(stop) => Err(stop),
+        }
+    }
+
     // Runs the last line where it lacks its LF.
-    fn end_input<W: Write>(&mut self, writer: &mut W) -> Result<bool, Stop>
+    fn end_input<K: Sink>(&mut self, sink: &mut K) -> Result<bool, Stop>
         requires { self.old.number + 1 < 2 ^ 64 }
-        ensures closes { WhereverStands (W.contents writer.old) self.old (λ bytes before.
-            Closes bytes before (W.contents writer.new) self.new.pending.items self.new.stage
+        ensures closes { WhereverStands (K.contents sink.old) self.old (λ bytes before.
+            Closes bytes before (K.contents sink.new) self.new.pending.items self.new.stage
             result) }
         ensures left { IfOk result (λ fault. fault ≡ true → self.new.pending.items ≡ []) }
+        ensures failed { Rises (K.failed sink.old) (K.failed sink.new) (stopped_writes result) }
     {
         if self.line.is_empty() {
             return Ok(false);
@@ -211,24 +227,25 @@ impl Session {
             self.number,
             &self.line,
             &mut self.pending,
-            writer,
+            sink,
         )
     }
 
     /// Runs the last line where it lacks its LF, and where it was no fault, writes what is asked for
     /// of the listing, the replay and the serial run. The status tells which of the two came. `Stop`
     /// comes as it does from [`Session::feed`], and a front of the output has then been written.
-    pub fn finish<W: Write>(&mut self, options: Options, writer: &mut W) -> Result<Status, Stop>
+    pub fn finish<K: Sink>(&mut self, wanted: Wanted, sink: &mut K) -> Result<Status, Stop>
         requires { self.old.number + 1 < 2 ^ 64 }
-        ensures { WhereverStands (W.contents writer.old) self.old (λ bytes before.
-            Finishes options bytes before (W.contents writer.new) result) }
+        ensures finishes { WhereverStands (K.contents sink.old) self.old (λ bytes before.
+            Finishes wanted bytes before (K.contents sink.new) result) }
+        ensures failed { Rises (K.failed sink.old) (K.failed sink.new) (stopped_writes result) }
     {
-        match self.end_input(writer) {
+        match self.end_input(sink) {
             Ok(false) => {}
             Ok(true) => return Ok(Status::LineFault),
             Err(stop) => return Err(stop),
         }
-        match write_end(&mut self.stage, options, &mut self.pending, writer) {
+        match write_end(&mut self.stage, wanted, &mut self.pending, sink) {
             Ok(()) => Ok(Status::Done),
             Err(stop) => Err(stop),
         }
@@ -237,32 +254,33 @@ impl Session {
 
 // Writes what is pending, and behind it what is asked for of the listing, the replay and the serial
 // run.
-fn write_end<W: Write>(
+fn write_end<K: Sink>(
     stage: &mut Stage,
-    options: Options,
+    wanted: Wanted,
     pending: &mut Vec<u8>,
-    writer: &mut W,
+    sink: &mut K,
 ) -> Result<(), Stop>
-    ensures ok { OnOk result (Appends (W.contents writer.old) (W.contents writer.new)
-        (pending.old.items ++ ending options stage.old)) }
+    ensures ok { OnOk result (Appends (K.contents sink.old) (K.contents sink.new)
+        (pending.old.items ++ ending wanted stage.old)) }
     ensures err { OnErr result
-        (AppendsFront (W.contents writer.old) (W.contents writer.new)
-        (pending.old.items ++ ending options stage.old)) }
+        (AppendsFront (K.contents sink.old) (K.contents sink.new)
+        (pending.old.items ++ ending wanted stage.old)) }
+    ensures failed { Rises (K.failed sink.old) (K.failed sink.new) (stopped_writes result) }
 {
-    match push_ending(stage, options, pending) {
-        Ok(()) => write_pending(pending, writer),
+    match push_ending(stage, wanted, pending) {
+        Ok(()) => write_pending(pending, sink),
         Err(_) => Err(Stop::NoMemory),
     }
 }
 
 // Prints what is asked for of the listing, the replay and the serial run. Where no line has made
 // the region yet, it is made here.
-fn push_ending(stage: &mut Stage, options: Options, out: &mut Vec<u8>) -> Result<(), NoMemory>
-    ensures { OnOk result (out.new.items ≡ out.old.items ++ ending options stage.old) }
+fn push_ending(stage: &mut Stage, wanted: Wanted, out: &mut Vec<u8>) -> Result<(), NoMemory>
+    ensures { OnOk result (out.new.items ≡ out.old.items ++ ending wanted stage.old) }
 {
     stage.open()?;
     match stage {
-        Stage::Running(region) => push_all_wanted(region, options, out),
+        Stage::Running(region) => push_all_wanted(region, wanted, out),
         Stage::Opening(_) => unreachable!(),
     }
 }
@@ -301,10 +319,10 @@ fn push_wanted_serial_run(region: &Region, serial: bool, out: &mut Vec<u8>) -> R
 }
 
 // Prints what is asked for of the listing of a region, the replay and the serial run.
-fn push_all_wanted(region: &Region, options: Options, out: &mut Vec<u8>) -> Result<(), NoMemory>
-    ensures { OnOk result (out.new.items ≡ out.old.items ++ ending options (Running region.now)) }
+fn push_all_wanted(region: &Region, wanted: Wanted, out: &mut Vec<u8>) -> Result<(), NoMemory>
+    ensures { OnOk result (out.new.items ≡ out.old.items ++ ending wanted (Running region.now)) }
 {
-    push_wanted_listing(region, options.no_list, out)?;
-    push_wanted_replay(region, options.replay, out)?;
-    push_wanted_serial_run(region, options.serial, out)
+    push_wanted_listing(region, wanted.options.no_list, out)?;
+    push_wanted_replay(region, wanted.options.replay, out)?;
+    push_wanted_serial_run(region, wanted.serial, out)
 }

@@ -2,10 +2,11 @@
 
 ghost use Rattle.std.specs.Prelude.{◌≡◌, ◌++◌, [], true, OnOk, OnErr};
 ghost use Rattle.std.specs.Io.KnownBytes.{Appends};
-ghost use Rattle.cics_run.specs.Printing.{AppendsFront, Prints};
+ghost use Rattle.cics_run.specs.Printing.{AppendsFront, Prints, stopped_writes};
+ghost use Rattle.cics_run.specs.Streams.{Rises};
 
+use crate::streams::Sink;
 use cics_names::NoMemory;
-use std::io::Write;
 
 /// How many bytes come together before they are written.
 const FULL: usize = 65_536;
@@ -15,7 +16,7 @@ const FULL: usize = 65_536;
 pub enum Stop {
     /// A request for memory was refused.
     NoMemory,
-    /// The writer failed, or took nothing.
+    /// The sink failed, or took nothing.
     WriteFault,
 }
 
@@ -28,14 +29,15 @@ impl From<NoMemory> for Stop {
 }
 
 // Writes all the bytes. A write of no byte is a fault, and nothing is tried again.
-fn write_all<W: Write>(writer: &mut W, bytes: &[u8]) -> Result<(), Stop>
-    ensures ok { OnOk result (Appends (W.contents writer.old) (W.contents writer.new) bytes.now) }
+fn write_all<K: Sink>(sink: &mut K, bytes: &[u8]) -> Result<(), Stop>
+    ensures failed { Rises (K.failed sink.old) (K.failed sink.new) (stopped_writes result) }
+    ensures ok { OnOk result (Appends (K.contents sink.old) (K.contents sink.new) bytes.now) }
     ensures err { OnErr result
-        (AppendsFront (W.contents writer.old) (W.contents writer.new) bytes.now) }
+        (AppendsFront (K.contents sink.old) (K.contents sink.new) bytes.now) }
 {
     let mut at = 0;
     while at < bytes.len() {
-        match writer.write(&bytes[at..]) {
+        match sink.write(&bytes[at..]) {
             Ok(0) => return Err(Stop::WriteFault),
             Ok(n) => at += n,
             Err(_) => return Err(Stop::WriteFault),
@@ -45,14 +47,15 @@ fn write_all<W: Write>(writer: &mut W, bytes: &[u8]) -> Result<(), Stop>
 }
 
 /// Writes what is pending.
-pub fn write_pending<W: Write>(pending: &mut Vec<u8>, writer: &mut W) -> Result<(), Stop>
+pub fn write_pending<K: Sink>(pending: &mut Vec<u8>, sink: &mut K) -> Result<(), Stop>
     ensures ok { OnOk result
-        (Appends (W.contents writer.old) (W.contents writer.new) pending.old.items) }
+        (Appends (K.contents sink.old) (K.contents sink.new) pending.old.items) }
     ensures err { OnErr result
-        (AppendsFront (W.contents writer.old) (W.contents writer.new) pending.old.items) }
+        (AppendsFront (K.contents sink.old) (K.contents sink.new) pending.old.items) }
     ensures left { OnOk result (pending.new.items ≡ []) }
+    ensures failed { Rises (K.failed sink.old) (K.failed sink.new) (stopped_writes result) }
 {
-    match write_all(writer, pending) {
+    match write_all(sink, pending) {
         Ok(()) => {
             pending.clear();
             Ok(())
@@ -61,20 +64,21 @@ pub fn write_pending<W: Write>(pending: &mut Vec<u8>, writer: &mut W) -> Result<
     }
 }
 
-/// Writes what is pending, where that is to be at once or enough of it has come together.
-pub fn write_printed<W: Write>(
+/// Writes what is pending, if that is to be at once or enough of it has come together.
+pub fn write_printed<K: Sink>(
     pending: &mut Vec<u8>,
-    writer: &mut W,
+    sink: &mut K,
     at_once: bool,
 ) -> Result<(), Stop>
-    ensures printed { OnOk result (Prints (W.contents writer.old)
-        (W.contents writer.new) pending.old.items pending.new.items []) }
+    ensures printed { OnOk result (Prints (K.contents sink.old)
+        (K.contents sink.new) pending.old.items pending.new.items []) }
     ensures left { OnOk result (at_once ≡ true → pending.new.items ≡ []) }
     ensures err { OnErr result
-        (AppendsFront (W.contents writer.old) (W.contents writer.new) pending.old.items) }
+        (AppendsFront (K.contents sink.old) (K.contents sink.new) pending.old.items) }
+    ensures failed { Rises (K.failed sink.old) (K.failed sink.new) (stopped_writes result) }
 {
     if at_once || pending.len() >= FULL {
-        return write_pending(pending, writer);
+        return write_pending(pending, sink);
     }
     Ok(())
 }

@@ -4,4 +4,4 @@ use Rattle.cics_run.proofs.session.write_end.Goals as goal
 
 pub returns-in-Ok-clause-err : goal.returns-in-Ok-clause-err
 returns-in-Ok-clause-err g c =
-    subst (λ text. OnErr c.write_pending.result (AppendsFront (g.W.Write.contents c.args.writer.now) (g.W.Write.contents c.write_pending.new.writer) text)) c.in-Ok.ensures c.write_pending.ensures.err
+    subst (λ text. OnErr c.write_pending.result (AppendsFront (g.K.Sink.contents c.args.sink.now) (g.K.Sink.contents c.write_pending.new.sink) text)) c.in-Ok.ensures c.write_pending.ensures.err

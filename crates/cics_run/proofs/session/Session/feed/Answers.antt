@@ -1,58 +1,13 @@
-use Rattle.std.proofs.Common.{arith, [], ◌∷◌, ◌++◌, ◌+◌, ◌≤◌, length, subst, sym, ◌∙◌, refl}
-use Rattle.cics_run.specs.Running.{journal}
-use Rattle.cics_run.specs.Printing.{AppendsFront}
-use Rattle.cics_run.specs.Standing.{Stands, Stopped}
-use Rattle.cics_run.proofs.Steps.{cut-line, stands-bytes, stands-line, stopped-line, front-line, front-here, all-came, line-came, some-came, behind-line}
+use Rattle.std.proofs.Common.{◌++◌}
 use Rattle.cics_run.proofs.session.Session.feed.Goals as goal
 
-pub returns-in-Err : goal.returns-in-Err
-returns-in-Err g c bytes before at =
-    let (done, whole, bound, stands) = c.lines.invariant in
-    subst (λ b. AppendsFront before (g.W.Write.contents c.lines.writer) (journal b)) (some-came bytes done [] _ c.lines.rest.now c.args.chunk.now refl whole)
-    (front-here (bytes ++ done) c.lines.rest.now before _ _ (stands bytes before at))
+pub returns-in-Ok-true-clause-feeds : goal.returns-in-Ok-true-clause-feeds
+returns-in-Ok-true-clause-feeds g c bytes before at = rw c.in-Ok-true.field-0-test at (c.in-Ok-true.ensures.feeds bytes before at)
 
-pub returns-in_default : goal.returns-in_default
-returns-in_default g c bytes before at =
-    let cut = cut-line c.lines.rest.now c.split_at.result.0.now c.split_at.result.1.now _ c.line_len.ensures.value c.split_at.ensures.front c.split_at.ensures.back in
-    let (done, whole, bound, stands) = c.lines.invariant in
-    let came = stands-bytes (bytes ++ done) c.split_at.result.0.now before (g.W.Write.contents c.lines.writer) c.lines.self (record c.lines.self { line = c.extend_from_slice.new.self }) cut.in_line (stands bytes before at) refl refl c.in-Ok.ensures.items refl in
-    let all = all-came bytes done c.split_at.result.0.now c.split_at.result.1.now c.lines.rest.now c.args.chunk.now cut.whole whole c.in_default.ensures.cases in
-    let there = subst (λ x. Stands x before (g.W.Write.contents c.lines.writer) (record c.lines.self { line = c.extend_from_slice.new.self })) all came in
-    there
+pub returns-in-Ok-clause-feeds : goal.returns-in-Ok-clause-feeds
+returns-in-Ok-clause-feeds g c bytes before at =
+    (c.in-Ok.ensures.writes (bytes ++ c.args.chunk.now) before (rw c.in-Ok-false.field-0-test at (c.in-Ok-false.ensures.feeds bytes before at))).0
 
-pub returns-in-Ok-true : goal.returns-in-Ok-true
-returns-in-Ok-true g c bytes before at =
-    let cut = cut-line c.lines.rest.now c.split_at.result.0.now c.split_at.result.1.now _ c.line_len.ensures.value c.split_at.ensures.front c.split_at.ensures.back in
-    let (done, whole, bound, stands) = c.lines.invariant in
-    let first = c.in-Some.ensures.cases.0 in
-    let came = stands-bytes (bytes ++ done) c.split_at.result.0.now before (g.W.Write.contents c.lines.writer) c.lines.self (record c.lines.self { line = c.extend_from_slice.new.self }) cut.in_line (stands bytes before at) refl refl c.in-Ok.ensures.items refl in
-    let e = line-came bytes done c.split_at.result.0.now c.split_at.result.1.now c.in-Some.after.now c.lines.rest.now c.args.chunk.now c.in-Some.field-0-0.now cut.whole whole first (cut.lf _ _ first) in
-    subst (λ b. Stopped b before (g.W.Write.contents c.end_line.new.writer)) e
-    (stopped-line ((bytes ++ done) ++ c.split_at.result.0.now) c.in-Some.after.now before _ _ _ c.end_line.new.self came c.in-Ok-true.ensures.printed (c.in-Ok-true.ensures.left c.in-Ok-true.field-0-test) (sym c.in-Ok-true.field-0-test ∙ c.in-Ok-true.ensures.fault))
-
-pub lines-preserved : goal.lines-preserved
-lines-preserved g c =
-    let cut = cut-line c.lines.rest.now c.split_at.result.0.now c.split_at.result.1.now _ c.line_len.ensures.value c.split_at.ensures.front c.split_at.ensures.back in
-    let (done, whole, bound, stands) = c.lines.invariant in
-    let first = c.in-Some.ensures.cases.0 in
-    let fewer = c.in-Some.ensures.cases.1 in
-    let number = c.in-Ok-false.ensures.number in
-    let within : c.end_line.new.self.number + length c.in-Some.after.now ≤ c.args.self.now.number + length c.args.chunk.now = omega (arith, number, fewer, bound, c.split_at.ensures.back_len) in (
-      (done ++ c.split_at.result.0.now) ++ 10 ∷ [],
-      line-came [] done c.split_at.result.0.now c.split_at.result.1.now c.in-Some.after.now c.lines.rest.now c.args.chunk.now c.in-Some.field-0-0.now cut.whole whole first (cut.lf _ _ first),
-      within,
-      λ bytes before at.
-          let came = stands-bytes (bytes ++ done) c.split_at.result.0.now before (g.W.Write.contents c.lines.writer) c.lines.self (record c.lines.self { line = c.extend_from_slice.new.self }) cut.in_line (stands bytes before at) refl refl c.in-Ok.ensures.items refl in
-          rw (behind-line bytes done c.split_at.result.0.now (10 ∷ []))
-          (stands-line _ _ _ _ _ _ came c.in-Ok-false.ensures.stage number c.in-Ok-false.ensures.line c.in-Ok-false.ensures.printed (sym c.in-Ok-false.field-0-test ∙ c.in-Ok-false.ensures.fault)),
-    )
-
-pub returns-in-Err-end_line : goal.returns-in-Err-end_line
-returns-in-Err-end_line g c bytes before at =
-    let cut = cut-line c.lines.rest.now c.split_at.result.0.now c.split_at.result.1.now _ c.line_len.ensures.value c.split_at.ensures.front c.split_at.ensures.back in
-    let (done, whole, bound, stands) = c.lines.invariant in
-    let first = c.in-Some.ensures.cases.0 in
-    let came = stands-bytes (bytes ++ done) c.split_at.result.0.now before (g.W.Write.contents c.lines.writer) c.lines.self (record c.lines.self { line = c.extend_from_slice.new.self }) cut.in_line (stands bytes before at) refl refl c.in-Ok.ensures.items refl in
-    let e = line-came bytes done c.split_at.result.0.now c.split_at.result.1.now c.in-Some.after.now c.lines.rest.now c.args.chunk.now c.in-Some.field-0-0.now cut.whole whole first (cut.lf _ _ first) in
-    subst (λ b. AppendsFront before (g.W.Write.contents c.end_line.new.writer) (journal b)) e
-    (front-line ((bytes ++ done) ++ c.split_at.result.0.now) c.in-Some.after.now before _ _ _ came c.in-Err-end_line.ensures.err)
+pub returns-in-Err-write-clause-feeds : goal.returns-in-Err-write-clause-feeds
+returns-in-Err-write-clause-feeds g c bytes before at =
+    c.in-Err-write.ensures.writes (bytes ++ c.args.chunk.now) before (rw c.in-Ok-false.field-0-test at (c.in-Ok-false.ensures.feeds bytes before at))

@@ -1,13 +1,15 @@
 use Rattle.std.proofs.Common.{◌≡◌, ◌++◌, ◌+◌, ◌≤◌, ℕ, List, Option, length}
 use Rattle.cics_run.specs.Standing.{Stands}
-use Rattle.cics_run.proofs.session.Session.feed.Given as goal
+use Rattle.cics_run.specs.Streams.{Rises}
+use Rattle.cics_run.proofs.session.Session.run_lines.Given as goal
 
 -- some bytes came before the rest, and the session stands behind them
 abbrev pub invariant-lines : goal.invariant-lines
 invariant-lines g l = (done : List ℕ) × (done ++ l.rest ≡ l.chunk)
     × (l.self.number + length l.rest ≤ l.fn.self.number + length l.chunk)
-    × ((bytes : List ℕ) (before : Option (List ℕ)) → Stands bytes before (g.W.Write.contents l.fn.writer) l.fn.self
-    → Stands (bytes ++ done) before (g.W.Write.contents l.writer) l.self)
+    × Rises (g.K.Sink.failed l.fn.sink) (g.K.Sink.failed l.sink) 0
+    × ((bytes : List ℕ) (before : Option (List ℕ)) → Stands bytes before (g.K.Sink.contents l.fn.sink) l.fn.self
+    → Stands (bytes ++ done) before (g.K.Sink.contents l.sink) l.self)
 
 abbrev pub decreases-lines : goal.decreases-lines
 decreases-lines g l = length l.rest
