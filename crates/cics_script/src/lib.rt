@@ -25,4 +25,5 @@ pub use faults::LineFault;
 pub use lines::{Line, read_line};
 pub use spelling::commands_in_any_order;
 pub use texts::{push_bare, push_name, push_number, push_str, push_text};
+pub use tokens::{skip_blanks, whole_token};
 pub use writing::write_out;

@@ -1,0 +1,97 @@
+//! What stands in front of the token at which a line can't be read on.
+
+use cics_names::NoMemory;
+use cics_script::{skip_blanks, whole_token};
+use std::alloc::Global;
+
+/// The tokens in front of a column, each with how many bytes stand before it, and the token there:
+/// nothing if the line ends.
+#[derive(Drop)]
+pub struct Context<'a> {
+    pub front: Vec<(usize, &'a [u8])>,
+    pub token: &'a [u8],
+}
+
+/// Whether a token is a word, in capitals or small letters.
+pub fn is_word(token: &[u8], word: &str) -> bool {
+    token.eq_ignore_ascii_case(word.as_bytes())
+}
+
+/// Whether a token is one of these words, parted by blanks.
+pub fn is_one(token: &[u8], words: &str) -> bool {
+    words.split(' ').any(|word| is_word(token, word))
+}
+
+// The token in front of a text, also one that is broken in itself: then all that is left.
+fn token_of(text: &[u8]) -> &[u8] {
+    let here = skip_blanks(text);
+    if here.is_empty() {
+        return here;
+    }
+    match whole_token(here) {
+        Some((token, _)) => token,
+        None => here,
+    }
+}
+
+impl<'a> Context<'a> {
+    /// Cuts a line into the tokens in front of a column, counted from 1, and the token there.
+    pub fn new(alloc: Global, line: &'a [u8], column: usize) -> Result<Context<'a>, NoMemory> {
+        let split = column.saturating_sub(1).min(line.len());
+        let (before, behind) = line.split_at(split);
+        let mut front = Vec::new(alloc);
+        let mut rest = skip_blanks(before);
+        for _ in 0..before.len() {
+            if rest.is_empty() {
+                break;
+            }
+            let Some((token, others)) = whole_token(rest) else {
+                break;
+            };
+            front.push((split.saturating_sub(rest.len()), token))?;
+            rest = skip_blanks(others);
+        }
+        Ok(Context {
+            front,
+            token: token_of(behind),
+        })
+    }
+
+    /// The token that stands so many in front of the column; 1 is the last one.
+    pub fn before(&self, count: usize) -> &'a [u8] {
+        match self.front.len().checked_sub(count) {
+            Some(place) => self.at(place),
+            None => &[],
+        }
+    }
+
+    /// The token with this number from the line's beginning, from 0 on.
+    pub fn at(&self, place: usize) -> &'a [u8] {
+        match self.front.get(place) {
+            Some((_, token)) => *token,
+            None => &[],
+        }
+    }
+
+    /// Whether one of these words, parted by blanks, stands in front.
+    pub fn has_one(&self, words: &str) -> bool {
+        self.front.iter().any(|(_, token)| is_one(token, words))
+    }
+
+    /// The column of the first of these words, parted by blanks, that stands in front; else 1.
+    pub fn column_of(&self, words: &str) -> usize {
+        for word in words.split(' ') {
+            for (before, token) in &self.front {
+                if is_word(token, word) {
+                    return before.saturating_add(1);
+                }
+            }
+        }
+        1
+    }
+
+    /// Whether the line is a command: EXEC CICS stands behind a label.
+    pub fn is_command(&self) -> bool {
+        is_word(self.at(1), "EXEC") && is_word(self.at(2), "CICS")
+    }
+}

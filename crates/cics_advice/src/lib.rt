@@ -1,0 +1,13 @@
+//! What a faulty line of a script needs, told to a person: a message, the line, and a caret.
+//!
+//! `push_advice` puts three lines behind what was printed. The fault and its column are those of
+//! `cics_script::find_fault`; what is to be mended stands in tables, by what stands in front of the
+//! column (`tables`, `messages`). The words are tested, and no clause says them.
+#![tactic(auto)]
+
+mod context;
+mod messages;
+mod showing;
+mod tables;
+
+pub use messages::{Cause, push_advice};
