@@ -1,6 +1,6 @@
 -- A command that is applied where the store stands leaves what its definition says, and its images undo it: from what each
 -- call of a file or a queue promises.
-use Rattle.std.specs.Prelude.{◌≡◌, ◌+◌, ◌≤◌, IfNone, zero, suc, Bool, true, false, List, [], ◌∷◌, ◌++◌, length, option_map, if◌then◌else◌, refl, Option, Some, None, T, IfSome}
+use Rattle.std.specs.Prelude.{◌≡◌, ◌+◌, ◌≤◌, IfNone, zero, suc, Bool, true, false, List, [], ◌∷◌, ◌++◌, length, option_map, refl, Option, Some, None, T, IfSome}
 use Rattle.std.proofs.Common.{sym, ap, ◌∙◌, subst, arith, inl, inr}
 use Rattle.std.proofs.lemmas.Bool.{cases_Bool, and_parts, and_from, false≢true}
 use Rattle.cics_names.specs.Keyed.{Bytes, Map, value_at, with_value, is_rising}
@@ -22,8 +22,8 @@ use Rattle.cics_history.specs.MarkImages.{mark_images}
 use Rattle.cics_history.specs.Carried.{CarriesIfAny}
 use Rattle.std.proofs.lemmas.List.{append-nil}
 use Rattle.cics_history.specs.Store.{apply, only, counted_answer, found_condition, with_content}
-use Rattle.cics_history.specs.Cells.{content, Ts, effect, cell_of as cell_of_op}
-use Rattle.cics_history.specs.Undo.{images_by}
+use Rattle.cics_history.specs.Cells.{content, Ts, cell_of as cell_of_op}
+use Rattle.cics_history.specs.Undo.{changes, images_by}
 use Rattle.cics_history.specs.Records.{is_file_op, file_of, key_of as key_of_op}
 use Rattle.cics_history.specs.declared.ops.Answer.{Answer}
 use Rattle.cics_history.specs.declared.ops.Op.{Op}
@@ -41,11 +41,11 @@ use Rattle.cics_units.proofs.StoreExecuted.{all_of, IsAnyImage}
 use Rattle.cics_units.proofs.StoreQueueExecuted.{kept_with, ready_with, left_here, trans_keeps, trans_any_image}
 use Rattle.cics_units.proofs.TransChanges.{IsToldEnough, trans_no_file, told_unwritten, trans_stored, trans_answered, carried_after, marks_of_queue, plain_image}
 use Rattle.cics_units.proofs.QueuesHeld.{temp_held, trans_held}
-use Rattle.cics_units.proofs.MadeImages.{files_kept, ready_in_turn, images_by-one, change_of}
+use Rattle.cics_units.proofs.MadeImages.{files_kept, ready_in_turn, with_image as change_imaged, without_image}
 use Rattle.cics_units.proofs.FilesChanged.{AreFileImagesAfter, AreFilesChanged}
 use Rattle.cics_units.proofs.FileChanges.{read_answer, write_changed, write_answer, rewrite_changed, rewrite_answer, delete_changed, delete_answer, generic_answer}
 use Rattle.cics_units.proofs.DeletedUnder.{generic_changed}
-use Rattle.cics_history.proofs.Joining.{read_only, apply-content, touches-self}
+use Rattle.cics_history.proofs.Joining.{read_only}
 use Rattle.cics_units.specs.FilesImagesLaws as files
 
 -- ---- the answer of DELETE GENERIC
@@ -263,24 +263,18 @@ module _ (old : StoreValue) (op : Op) (keep own : Bool) (before : List AnyImage)
   shown_then : shown_store n ≡ (apply (shown_store old) op).store
   shown_then = ap (λ x. shown_store (with_temp_storage old x)) change.value ∙ temp_stored op keep old is change.rising
 
-  -- what the command changes, by whether it is answered NORMAL
-  changes_if : (b : Bool) → is_done op old.temp_storage ≡ b → images_by (shown_store old) op (content (shown_store old)) ≡ (if b then change_of old op (temp_single op is) ∷ [] else [])
-  changes_if b e = images_by-one (shown_store old) op (content (shown_store old)) (temp_single op is)
-      ∙ ap (λ x. if x then change_of old op (temp_single op is) ∷ [] else []) (temp_changes op old is change.rising ∙ e)
-
-  -- what the queue holds then
-  made_here : content (shown_store n) (cell_of_op op) ≡ (effect op (content (shown_store old) (cell_of_op op))).cell
-  made_here = ap (λ t. content t (cell_of_op op)) shown_then ∙ apply-content (shown_store old) op (cell_of_op op)
-      ∙ ap (λ b. if b then (effect op (content (shown_store old) (cell_of_op op))).cell else content (shown_store old) (cell_of_op op)) (touches-self op)
+  -- it changes its queue if it is answered NORMAL
+  changes_if : (b : Bool) → is_done op old.temp_storage ≡ b → changes op (content (shown_store old) (cell_of_op op)) ≡ b
+  changes_if b done = temp_changes op old is change.rising ∙ done
 
   -- the image stands for its change
-  stands : (i : TsImage) → IsTsImage old.temp_storage rows q i → IsImageOfChange (change_of old op (temp_single op is)) (TempStorage i)
-  stands i undoes = subst (λ c. IsImageOfChange (record { cell = cell_of_op op; before = content (shown_store old) (cell_of_op op); made = c }) (TempStorage i)) made_here
-      (subst (λ x. IsImageOfChange (record { cell = x; before = content (shown_store old) x; made = content (shown_store n) x }) (TempStorage i)) (sym (temp_cell_of op is)) (record {
-        cell = ap temp_cell undoes.named;
-        leads = subst (λ a. AnyLeads (TempStorage i) a (shown_records (content (shown_store old) (Ts q)))) (sym (shown_ts n (subst (λ x. T (is_rising x)) (sym change.value) (rows_rise op keep old.temp_storage change.rising)) q))
-            (subst (AnyLeads (TempStorage i) (any_content n (bytes_of (Ts q)))) (sym (shown_ts old change.rising q)) undoes.leads_back);
-      }))
+  stands : (i : TsImage) → IsTsImage old.temp_storage rows q i →
+      IsImageOfChange (record { cell = Ts q; before = content (shown_store old) (Ts q); made = content (shown_store n) (Ts q) }) (TempStorage i)
+  stands i undoes = record {
+    cell = ap temp_cell undoes.named;
+    leads = subst (λ a. AnyLeads (TempStorage i) a (shown_records (content (shown_store old) (Ts q)))) (sym (shown_ts n (subst (λ x. T (is_rising x)) (sym change.value) (rows_rise op keep old.temp_storage change.rising)) q))
+        (subst (AnyLeads (TempStorage i) (any_content n (bytes_of (Ts q)))) (sym (shown_ts old change.rising q)) undoes.leads_back);
+  }
 
   stand_if : (k done : Bool) (o : Option TsImage) → keep ≡ k → is_done op old.temp_storage ≡ done → image ≡ o → AreImagesMade old op k (with_image (option_map TempStorage o) [])
   stand_if false done o plain is_so given = ap (λ x. with_image (option_map TempStorage x) [])
@@ -290,7 +284,7 @@ module _ (old : StoreValue) (op : Op) (keep own : Bool) (before : List AnyImage)
       in_none : AreImagesOf (images_by (shown_store old) op (content (shown_store old))) [] (with_image (option_map TempStorage o) [])
       in_none = subst (λ x. AreImagesOf (images_by (shown_store old) op (content (shown_store old))) [] (with_image (option_map TempStorage x) []))
           (sym (rows_stay op keep old.temp_storage is is_so).1 ∙ sym change.given ∙ given)
-          (subst (λ l. AreImagesOf l [] []) (sym (changes_if false is_so)) (refl, refl))
+          (without_image old op (temp_single op is) (changes_if false is_so))
   stand_if true true o kept is_so given = rw (temp_no_trans op is) in_some
     where
       some : (i : TsImage) × (rows_image op true old.temp_storage ≡ Some i)
@@ -301,8 +295,8 @@ module _ (old : StoreValue) (op : Op) (keep own : Bool) (before : List AnyImage)
 
       in_some : AreImagesOf (images_by (shown_store old) op (content (shown_store old))) [] (with_image (option_map TempStorage o) [])
       in_some = subst (λ x. AreImagesOf (images_by (shown_store old) op (content (shown_store old))) [] (with_image (option_map TempStorage x) [])) (sym this ∙ given)
-          (subst (λ l. AreImagesOf l [] (TempStorage some.0 ∷ [])) (sym (changes_if true is_so))
-          (stands some.0 (subst (λ x. IfSome x (IsTsImage old.temp_storage rows q)) this change.undoable), (refl, refl)))
+          (change_imaged old op (temp_single op is) n shown_then (Ts q) (temp_cell_of op is) (changes_if true is_so) (TempStorage some.0)
+          (stands some.0 (subst (λ x. IfSome x (IsTsImage old.temp_storage rows q)) this change.undoable)) (λ c own. (own, (refl, refl))))
 
   ready_if : (o : Option TsImage) → image ≡ o → keep ≡ true → AreReady old before → AreReady n (with_image (option_map TempStorage o) before)
   ready_if None none kept ready = subst (λ x. AreReady (with_temp_storage old x) before) (sym (stays (is_done op old.temp_storage) refl)) ready

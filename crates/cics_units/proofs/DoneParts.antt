@@ -52,11 +52,6 @@ pub not_read : (op : Op) → ((f k : Bytes) → op ≡ ReadUpdate f k → ⊥) �
 not_read (ReadUpdate f k) other = absurd (other f k refl)
 not_read _ other = refl
 
--- and is given no record
-pub given_none : (s : StoreValue) (op : Op) → is_read op ≡ false → None ≡ read_given s op
-given_none s (ReadUpdate f k) other = absurd (true≢false other)
-given_none s _ other = refl
-
 -- what is recoverable goes on being held
 still_held : (u : ℕ) (f : Bytes) (o : Option Bytes) (t : Table) → table_given_back true u f o t ≡ t
 still_held u f None t = refl

@@ -6,6 +6,7 @@ use Rattle.cics_names.specs.Keyed.{Bytes, Map, value_at, has_key, with_value, wi
 use Rattle.cics_names.specs.declared.conditions.Condition.TheVariants.{Normal, Duprec, Notfnd}
 use Rattle.cics_images.specs.Cells.{is_other, is_unnamed}
 use Rattle.cics_images.specs.StoreCells.{with_files}
+use Rattle.cics_images.specs.declared.stores.StoreImage.TheVariants.{File}
 use Rattle.cics_ksds.specs.Files.{FileValue, key_of, written, rewritten, deleted, filled, emptied, dropped, write_condition, change_condition}
 use Rattle.cics_ksds.specs.Prefixes.{under}
 use Rattle.cics_ksds.specs.Undo.{ImageValue, written_image, rewritten_image, deleted_image}
@@ -21,7 +22,7 @@ use Rattle.cics_units.specs.FilesChanges.{IsFilesImage, held_among}
 use Rattle.cics_units.specs.StoreMatching.{StoreValue, shown_store}
 use Rattle.cics_units.specs.Parts.{is_recoverable_in, image_if}
 use Rattle.cics_history.proofs.Entries.{with_value-same}
-use Rattle.cics_units.proofs.MadeImages.{with_image, without_image}
+use Rattle.cics_units.proofs.MadeImages.{stands_for, with_image, without_image}
 use Rattle.cics_units.proofs.FilesChanged.{HasFileImages, AreFileImagesAfter, AreFilesChanged}
 use Rattle.cics_units.proofs.Opened.{with_value-each}
 use Rattle.cics_history.proofs.Stores.{value_at_each}
@@ -115,7 +116,8 @@ module _ (s : StoreValue) (n : Map FileValue) (op : Op) (one : is_generic op ≡
       IsKeyImage s.files n f k image rec changed → AreFileImagesAfter s n op (image_if f image) rec
   images_from false changed e none = ap (image_if f) none
   images_from true true e (i, is, undoes) = subst (λ o. HasFileImages s n op (image_if f o)) (sym is) (record {
-    made = with_image s op one n store f k on (ap (λ x. changes op (content (shown_store s) x)) on ∙ e) (record { name = f; image = i }) undoes;
+    made = with_image s op one (with_files s n) store (Key f k) on (ap (λ x. changes op (content (shown_store s) x)) on ∙ e) (File (record { name = f; image = i }))
+        (stands_for s n f k (record { name = f; image = i }) undoes) (λ c own. (own, (refl, refl)));
     in_turn = (s.files, subst (λ c. IsFilesImage s.files n c (record { name = f; image = i })) (sym undoes.named) undoes, refl);
   })
   images_from true false e same = subst (λ o. HasFileImages s n op (image_if f o)) (sym same.0) (record {

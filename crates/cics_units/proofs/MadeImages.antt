@@ -3,7 +3,7 @@ use Rattle.std.proofs.Common.{◌≡◌, Bool, true, false, List, [], ◌∷◌,
 use Rattle.std.specs.Prelude.{if◌then◌else◌}
 use Rattle.std.proofs.lemmas.Bool.{true≢false}
 use Rattle.cics_names.specs.Keyed.{Bytes, Map}
-use Rattle.cics_images.specs.Cells.{Cell, AreOf}
+use Rattle.cics_images.specs.Cells.{Cell}
 use Rattle.cics_images.specs.NamedLaws as named
 use Rattle.cics_images.specs.StoreCells.{file_cell, temp_cell, trans_cell, with_files}
 use Rattle.cics_images.specs.declared.stores.StoreImage.TheVariants.{File}
@@ -13,23 +13,19 @@ use Rattle.cics_tempstor.specs.UndoLaws as rows
 use Rattle.cics_transdata.specs.Undo.{KeepsEnds}
 use Rattle.cics_transdata.specs.UndoLaws as queue
 use Rattle.cics_history.specs.Store.{Store, apply}
-use Rattle.cics_history.specs.Cells.{Key, content, is_generic, cell_of as cell_of_op, effect}
+use Rattle.cics_history.specs.Cells.{Cell as OpCell, Key, content, is_generic, cell_of as cell_of_op, effect}
 use Rattle.cics_history.specs.Undo.{Image, Cells, changes, image_of, images_by}
 use Rattle.cics_history.specs.declared.ops.Op.{Op}
 use Rattle.cics_history.specs.declared.ops.Op.TheVariants.{Write, Rewrite, Delete, DeleteGeneric, ReadUpdate, TsWrite, TsRewrite, TsDelete, TdWrite, TdRead, TdDelete}
 use Rattle.cics_history.proofs.Joining.{apply-content, touches-self}
 use Rattle.cics_units.specs.FilesImages.{FilesImage, cell_of, cell_of_image, files_content, files_undone, FilesKeep}
 use Rattle.cics_units.specs.FilesChanges.{IsFilesImage}
-use Rattle.cics_units.specs.StoreMatching.{StoreValue, AnyImage, shown_store, shown_records, cell_of_any, AnyKeep, IsImageOfChange, AreImagesOf}
+use Rattle.cics_units.specs.StoreMatching.{StoreValue, AnyImage, shown_store, shown_records, AnyKeep, IsImageOfChange, AreImagesOf}
 use Rattle.cics_units.specs.Parts.{of_files}
 use Rattle.cics_units.proofs.StoreInPlace.{shown_key, AreReady, ready_where}
+use Rattle.cics_units.proofs.StoreExecuted.{all_of}
 
 -- ---- Images of files among those of the three
-
--- every image is of some cell
-all_of : (is : List AnyImage) → AreOf cell_of_any (λ c. true) is
-all_of [] = tt
-all_of (i ∷ is) = (refl, all_of is)
 
 -- where the files keep some cells and nothing else changes, the three keep those cells
 pub files_kept : (p : Cell → Bool) (s : StoreValue) (n : Map FileValue) → FilesKeep (λ c. p (file_cell c)) s.files n → AnyKeep p s (with_files s n)
@@ -68,7 +64,7 @@ stands_for s n f k i image = record {
 
 -- ---- The image of a command on one record
 
-pub images_by-one : (s : Store) (op : Op) (cells : Cells) → is_generic op ≡ false → images_by s op cells ≡ image_of op (cells (cell_of_op op))
+images_by-one : (s : Store) (op : Op) (cells : Cells) → is_generic op ≡ false → images_by s op cells ≡ image_of op (cells (cell_of_op op))
 images_by-one s (DeleteGeneric f p) cells one = absurd (true≢false one)
 images_by-one s (Write f k r) cells one = refl
 images_by-one s (Rewrite f k r) cells one = refl
@@ -85,25 +81,25 @@ module _ (s : StoreValue) (op : Op) (one : is_generic op ≡ false) where
   abbrev before : Cells
   before = content (shown_store s)
 
-  abbrev pub change_of : Image
+  abbrev change_of : Image
   change_of = record { cell = cell_of_op op; before = before (cell_of_op op); made = (effect op (before (cell_of_op op))).cell }
 
   images_if : (b : Bool) → changes op (before (cell_of_op op)) ≡ b → images_by (shown_store s) op before ≡ (if b then change_of ∷ [] else [])
   images_if b e = images_by-one (shown_store s) op before one ∙ ap (λ x. if x then change_of ∷ [] else []) e
 
-  -- what it changed has this image
-  pub with_image : (n : Map FileValue) → shown_store (with_files s n) ≡ (apply (shown_store s) op).store → (f k : Bytes) → cell_of_op op ≡ Key f k →
-      changes op (before (cell_of_op op)) ≡ true → (i : FilesImage) → IsFilesImage s.files n (cell_of f k) i →
-      AreImagesOf (images_by (shown_store s) op before) [] (of_files (i ∷ []))
-  with_image n store f k on changed i undoes = subst (λ l. AreImagesOf l [] (of_files (i ∷ []))) (sym (images_if true changed)) (own, (refl, refl))
+  -- what it changed has an image that stands for the change of its cell
+  pub with_image : (n : StoreValue) → shown_store n ≡ (apply (shown_store s) op).store → (x : OpCell) → cell_of_op op ≡ x → changes op (before (cell_of_op op)) ≡ true →
+      (i : AnyImage) → IsImageOfChange (record { cell = x; before = before x; made = content (shown_store n) x }) i →
+      ((c : Image) → IsImageOfChange c i → AreImagesOf (c ∷ []) [] (i ∷ [])) → AreImagesOf (images_by (shown_store s) op before) [] (i ∷ [])
+  with_image n store x on changed i stands alone = subst (λ l. AreImagesOf l [] (i ∷ [])) (sym (images_if true changed)) (alone change_of own)
     where
-      made_here : content (shown_store (with_files s n)) (cell_of_op op) ≡ (effect op (before (cell_of_op op))).cell
+      made_here : content (shown_store n) (cell_of_op op) ≡ (effect op (before (cell_of_op op))).cell
       made_here = ap (λ t. content t (cell_of_op op)) store ∙ apply-content (shown_store s) op (cell_of_op op)
           ∙ ap (λ b. if b then (effect op (before (cell_of_op op))).cell else before (cell_of_op op)) (touches-self op)
 
-      own : IsImageOfChange change_of (File i)
-      own = subst (λ c. IsImageOfChange (record { cell = cell_of_op op; before = before (cell_of_op op); made = c }) (File i)) made_here
-          (subst (λ x. IsImageOfChange (record { cell = x; before = before x; made = content (shown_store (with_files s n)) x }) (File i)) (sym on) (stands_for s n f k i undoes))
+      own : IsImageOfChange change_of i
+      own = subst (λ c. IsImageOfChange (record { cell = cell_of_op op; before = before (cell_of_op op); made = c }) i) made_here
+          (subst (λ x. IsImageOfChange (record { cell = x; before = before x; made = content (shown_store n) x }) i) (sym on) stands)
 
   -- where it changed nothing there is none
   pub without_image : changes op (before (cell_of_op op)) ≡ false → AreImagesOf (images_by (shown_store s) op before) [] []

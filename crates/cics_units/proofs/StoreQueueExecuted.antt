@@ -3,13 +3,13 @@ use Rattle.std.proofs.Common.{◌≡◌, ℕ, Bool, true, false, ◌&&◌, Optio
 use Rattle.std.specs.Prelude.{if◌then◌else◌, option_map, IfSome, IfNone}
 use Rattle.std.proofs.lemmas.Bool.{true≢false, cases_Bool}
 use Rattle.cics_names.specs.Keyed.{Bytes, value_at, with_value, is_same}
-use Rattle.cics_names.specs.KeyedLaws.{is_same-self, is_same-eq, value_at-with_value_same, value_at-with_value_other}
+use Rattle.cics_names.specs.KeyedLaws.{is_same-self, is_same-eq}
 use Rattle.cics_images.specs.Cells.{Kept}
 use Rattle.cics_images.specs.Cells as images
 use Rattle.cics_images.specs.NamedChanges as among
 use Rattle.cics_images.specs.NamedLaws as named
 use Rattle.cics_images.specs.NamedLaws.{same_or_other, split_cell}
-use Rattle.cics_images.specs.NamedValues.{cell_of as value_cell, named_content, named_cell, IsNamedReady, named_undone, KeepsIn, NamedKeep}
+use Rattle.cics_images.specs.NamedValues.{cell_of as value_cell, changed_where, named_content, named_cell, IsNamedReady, named_undone, KeepsIn, NamedKeep}
 use Rattle.cics_images.specs.StoreCells.{file_cell, temp_cell, trans_cell, with_trans_data}
 use Rattle.cics_images.specs.StoreChanges.{trans_data_image}
 use Rattle.cics_ksds.specs.Undo.{Leads as FileLeads}
@@ -47,15 +47,10 @@ module _ (m : StoreValue) (q : Bytes) (t new : TransState) (there : value_at q m
 
   -- what the queue keeps at the cells that pass, all queues do
   queues_keep : (p : images.Cell → Bool) → KeepsEnds (λ c. p (value_cell q c)) t new → NamedKeep KeepsEnds p m.trans_data (with_value q new m.trans_data)
-  queues_keep p kept r = elim (same_or_other r q) [
-    | inl same ↦
-        subst (λ x. KeepsIn KeepsEnds (λ c. p (value_cell x c)) (value_at x m.trans_data) (value_at x (with_value q new m.trans_data))) (sym same)
-        (subst (KeepsIn KeepsEnds (λ c. p (value_cell q c)) (value_at q m.trans_data)) (sym (value_at-with_value_same q new m.trans_data))
-        (subst (λ o. KeepsIn KeepsEnds (λ c. p (value_cell q c)) o (Some new)) (sym there) kept))
-    | inr apart ↦
-        subst (KeepsIn KeepsEnds (λ c. p (value_cell r c)) (value_at r m.trans_data)) (sym (value_at-with_value_other r q new m.trans_data apart))
-        (named.keeps_itself_in KeepsEnds queue.keeps_itself (λ c. p (value_cell r c)) (value_at r m.trans_data))
-  ]
+  queues_keep p kept = subst (λ o. NamedKeep KeepsEnds p m.trans_data (changed_where (λ _. new) q o m.trans_data)) there
+      (named.each_name (λ _. new) q m.trans_data (λ r. KeepsIn KeepsEnds (λ c. p (value_cell r c)))
+      (subst (λ o. KeepsIn KeepsEnds (λ c. p (value_cell q c)) o (option_map (λ _. new) o)) (sym there) kept)
+      (λ r apart. named.keeps_itself_in KeepsEnds queue.keeps_itself (λ c. p (value_cell r c)) (value_at r m.trans_data)))
 
   -- and so do the three
   pub trans_keeps : (p : images.Cell → Bool) → KeepsEnds (λ c. p (trans_cell (value_cell q c))) t new → AnyKeep p m changed_in

@@ -1,9 +1,11 @@
 -- Task control: the core of the units as the laws see it, and a command that is bound to it.
-use Rattle.std.specs.Prelude.{◌≡◌, ℕ, true}
-use Rattle.cics_units.specs.Applied.{IsBound}
+use Rattle.std.specs.Prelude.{◌≡◌, ◌<◌, ◌≤◌, ℕ, true, false}
+use Rattle.cics_units.specs.Applied.{IsBound, IsSeen}
 use Rattle.cics_units.specs.Awaiting.{is_writer}
-use Rattle.cics_units.specs.Parts.{CoreValue}
+use Rattle.cics_units.specs.Parts.{CoreValue, IsFitOp, most_images}
 use Rattle.cics_units.specs.QueueChanges.{is_trans, queue_of}
+use Rattle.cics_units.specs.StoreMatching.{StoreValue}
+use Rattle.cics_units.specs.TableInPlace.{is_read}
 use Rattle.cics_units.specs.Uses.{uses_if, listed}
 use Rattle.cics_units.specs.declared.units_core.BoundOp.{BoundOp}
 use Rattle.cics_units.specs.declared.units_core.UnitsCore.{UnitsCore}
@@ -18,3 +20,12 @@ pub record IsBoundFor (core : CoreValue) (unit : ℕ) (b : BoundOp) : Type 0 whe
   pub used : listed b.uses ≡ uses_if b.recoverable b.op.now
   -- a unit that holds the writing end of a queue may read what it wrote itself
   pub own : is_trans b.op.now ≡ true → b.own ≡ is_writer core.table unit (queue_of b.op.now)
+
+-- a command that isn't READ UPDATE can be applied: what it acts on is there and shows it enough, and there is room for its images
+pub record CanApply (s : StoreValue) (b : BoundOp) (room : ℕ) : Type 0 where
+  pub change : is_read b.op.now ≡ false
+  pub bound : IsBound s b.op.now b.recoverable
+  pub fit : IsFitOp s b.op.now
+  pub seen : IsSeen s b.op.now b.own
+  pub one : 0 < room
+  pub most : most_images s.files b.op.now ≤ room

@@ -24,7 +24,7 @@ impl Named<File> {
         ensures files { IfOk result (λ files. files ≡ refilled self.now) }
         ensures in_order { T (is_rising self.now) }
     {
-        let mut files = Named::new(self.allocator());
+        let mut files = Named::new(self.alloc);
         for (name, original) in &self.rows {
             files.insert(*name, original.copy()?)?;
         }

@@ -22,7 +22,7 @@ use std::marker::Model;
 #[derive(Drop)]
 pub(crate) struct Named<M: Undoable + Drop> {
     pub(crate) rows: BTreeMap<Name8, M>,
-    alloc: Global,
+    pub(crate) alloc: Global,
 }
 
 impl<M: Undoable + Drop> Model for Named<M> {
@@ -52,11 +52,6 @@ impl<M: Undoable + Drop> Named<M> {
         ensures { result ≡ has_key name.now self.now }
     {
         self.rows.contains_key(name)
-    }
-
-    /// The allocator that gives the values their places.
-    pub(crate) fn allocator(&self) -> Global {
-        self.alloc
     }
 
     /// The value of a name, or `None` where there is none. The names of all values rise.

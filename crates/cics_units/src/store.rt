@@ -5,18 +5,18 @@ ghost use Rattle.std.specs.Prelude.{IsSome, option_map};
 ghost use Rattle.cics_units.specs.RegionFiles.{IsThere};
 ghost use Rattle.cics_names.specs.Keyed.{value_at};
 ghost use Rattle.cics_images.specs.declared.stores.StoreImage.TheVariants.{TempStorage};
-ghost use Rattle.cics_history.specs.Records.{is_file_op, file_of};
+ghost use Rattle.cics_history.specs.Records.{is_file_op};
 ghost use Rattle.cics_history.specs.Store.{only as answer_of, numbered as answer_with};
 ghost use Rattle.cics_history.specs.Store.{with_content as answer_of_record, found_condition};
 ghost use Rattle.cics_units.specs.QueueChanges.{with_image, in_queue, is_temp};
 ghost use Rattle.cics_units.specs.Parts.{IsFitOp, image_if, with_stored, of_files};
-ghost use Rattle.cics_units.specs.Parts.{most_images};
 ghost use Rattle.cics_units.specs.Applied.{IsApplied, IsFileBound, IsQueueBound, IsBound};
-ghost use Rattle.cics_units.specs.Applied.{IsSeen, read_given, counted_as};
+ghost use Rattle.cics_units.specs.Applied.{counted_as};
+ghost use Rattle.cics_units.specs.Cores.{CanApply};
 
 use crate::files::FilesImage;
 use crate::queues::QueueImage;
-use crate::units_core::Store;
+use crate::units_core::{BoundOp, Store};
 use cics_history::{Answer, Op};
 use cics_images::{Images, StoreImage};
 use cics_ksds::FileImage;
@@ -161,24 +161,19 @@ pub(crate) fn bind(store: &Store, op: &Op, recoverable: bool) -> bool
 // Applies a command on a file where the file stands.
 fn apply_to_file(
     store: &mut Store,
-    op: &Op,
-    keep: bool,
-    given: Option<Record>,
+    bound: &BoundOp<'_>,
     images: &mut Images<Store>,
 ) -> Result<Answer, NoMemory>
-    requires on_file { is_file_op op.now ≡ true }
-    requires bound { IsFileBound store.old (file_of op.now) keep }
-    requires fit { IsFitOp store.old op.now }
-    requires given { given ≡ read_given store.old op.now }
-    requires one { 0 < images.old.room }
-    requires room { most_images store.old.files op.now ≤ images.old.room }
-    ensures applied { IfOk result (λ answer. (own : Bool) →
+    requires on_file { is_file_op bound.now.op.now ≡ true }
+    requires ready { CanApply store.old bound.now images.old.room }
+    ensures applied { IfOk result (λ answer.
         IsApplied store.old store.new images.old.newest_first images.new.newest_first
-        op.now keep own answer) }
+        bound.now.op.now bound.now.recoverable bound.now.own answer) }
     ensures err_store { OnErr result (store.new ≡ store.old) }
     ensures err_images { OnErr result (images.new ≡ images.old) }
 {
-    match op {
+    let keep = bound.recoverable;
+    match bound.op {
         Op::Write { file, from, .. } => {
             let from = from.copy()?;
             let changed = store.files.at_mut(file).write(from, keep)?;
@@ -202,37 +197,26 @@ fn apply_to_file(
             keep_files(images, *file, removed.images);
             Ok(counted(removed.number))
         }
-        _ => Ok(found(given)),
+        _ => unreachable!(),
     }
 }
 
-/// Executes an updating command where its file or queue stands, answers it, and adds what undoes it to the images
-/// of its unit: what the definition `apply` says of the store, and images that lead back.
-///
-/// `keep` says that what the command acts on is recoverable, and `own` that its unit may be given records that it
-/// wrote itself. `given` is the record that READ UPDATE gives. Room for the images has to be there. Where memory is
-/// refused nothing has changed.
+/// Applies a command that isn't READ UPDATE where its file or queue stands, and answers it as the definition
+/// `apply` does. What undoes it is added to the images of its unit. On `NoMemory` nothing has changed.
 pub(crate) fn apply(
     store: &mut Store,
-    op: &Op,
-    keep: bool,
-    own: bool,
-    given: Option<Record>,
+    bound: &BoundOp<'_>,
     images: &mut Images<Store>,
 ) -> Result<Answer, NoMemory>
-    requires bound { IsBound store.old op.now keep }
-    requires fit { IsFitOp store.old op.now }
-    requires seen { IsSeen store.old op.now own }
-    requires given { given ≡ read_given store.old op.now }
-    requires one { 0 < images.old.room }
-    requires room { most_images store.old.files op.now ≤ images.old.room }
+    requires { CanApply store.old bound.now images.old.room }
     ensures applied { IfOk result (λ answer.
         IsApplied store.old store.new images.old.newest_first images.new.newest_first
-        op.now keep own answer) }
+        bound.now.op.now bound.now.recoverable bound.now.own answer) }
     ensures err_store { OnErr result (store.new ≡ store.old) }
     ensures err_images { OnErr result (images.new ≡ images.old) }
 {
-    match op {
+    let keep = bound.recoverable;
+    match bound.op {
         Op::TsWrite { queue, from } => {
             let written = store.temp_storage.write(*queue, from.copy()?, keep)?;
             keep_temp(images, written.image);
@@ -256,7 +240,7 @@ pub(crate) fn apply(
             Ok(only(written.condition))
         }
         Op::TdRead { queue } => {
-            let read = store.trans_data.at_mut(queue).read(own)?;
+            let read = store.trans_data.at_mut(queue).read(bound.own)?;
             keep_trans(images, *queue, read.changed.image);
             Ok(with_content(read.changed.condition, read.content))
         }
@@ -265,6 +249,6 @@ pub(crate) fn apply(
             keep_trans(images, *queue, deleted.image);
             Ok(only(deleted.condition))
         }
-        _ => apply_to_file(store, op, keep, given, images),
+        _ => apply_to_file(store, bound, images),
     }
 }

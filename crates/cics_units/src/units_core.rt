@@ -390,14 +390,7 @@ impl UnitsCore {
         }
         let at = unit.number() as usize;
         let were_free = acquire(&mut self.locks, unit, bound)?;
-        match store::apply(
-            &mut self.store,
-            bound.op,
-            bound.recoverable,
-            bound.own,
-            None,
-            &mut self.rows[at],
-        ) {
+        match store::apply(&mut self.store, bound, &mut self.rows[at]) {
             Ok(answer) => match answer.condition {
                 Condition::Normal => {
                     self.end_covered(unit, bound.op, bound.recoverable);

@@ -20,8 +20,8 @@ returns-in_ok-written-in-TsWrite-clause-applied c =
     let w = c.in_ok-written-in-TsWrite in
     let e = w.ensures in
     rw c.in-TsWrite.is (subst (λ x. IsApplied old (record old { temp_storage = rows }) c.args.images.now.newest_first c.keep_temp.new.images.newest_first (TsWrite c.in-TsWrite.queue x)
-    c.args.keep c.args.own c.numbered.result) c.in_ok-copy-in-TsWrite.ensures
-    (temp_applied old (TsWrite c.in-TsWrite.queue c.in_ok-copy-in-TsWrite.field-0) c.args.keep c.args.own c.args.images.now.newest_first rows w.written.image refl
+    c.args.bound.now.recoverable c.args.bound.now.own c.numbered.result) c.in_ok-copy-in-TsWrite.ensures
+    (temp_applied old (TsWrite c.in-TsWrite.queue c.in_ok-copy-in-TsWrite.field-0) c.args.bound.now.recoverable c.args.bound.now.own c.args.images.now.newest_first rows w.written.image refl
     (record { rising = e.rising; value = e.value; given = e.image; undoable = e.undoable; others = e.others })
     c.numbered.result (c.numbered.ensures ∙ (λ i. numbered (e.condition i) (e.number i))) c.keep_temp.new.images.newest_first c.keep_temp.ensures))
 
@@ -35,8 +35,8 @@ returns-in_ok-from-in-TsRewrite-clause-applied c =
     let kept = c.keep_temp-in-TsRewrite in
     let answer = c.numbered-in-TsRewrite in
     rw w.is (subst (λ x. IsApplied old (record old { temp_storage = rows }) c.args.images.now.newest_first kept.new.images.newest_first (TsRewrite w.queue w.item x)
-    c.args.keep c.args.own answer.result) from.ensures
-    (temp_applied old (TsRewrite w.queue w.item from.from) c.args.keep c.args.own c.args.images.now.newest_first rows c.rewrite-written.result.image refl
+    c.args.bound.now.recoverable c.args.bound.now.own answer.result) from.ensures
+    (temp_applied old (TsRewrite w.queue w.item from.from) c.args.bound.now.recoverable c.args.bound.now.own c.args.images.now.newest_first rows c.rewrite-written.result.image refl
     (record { rising = e.rising; value = e.value; given = e.image; undoable = e.undoable; others = e.others })
     answer.result (answer.ensures ∙ (λ i. numbered (e.condition i) (e.number i))) kept.new.images.newest_first kept.ensures))
 
@@ -46,7 +46,7 @@ returns-in-TsDelete-clause-applied c =
     let rows = c.delete-deleted.new.self in
     let e = c.delete-deleted.ensures in
     let kept = c.keep_temp-in-TsDelete in
-    rw c.in-TsDelete.is (temp_applied old (TsDelete c.in-TsDelete.queue) c.args.keep c.args.own c.args.images.now.newest_first rows c.delete-deleted.result.image refl
+    rw c.in-TsDelete.is (temp_applied old (TsDelete c.in-TsDelete.queue) c.args.bound.now.recoverable c.args.bound.now.own c.args.images.now.newest_first rows c.delete-deleted.result.image refl
     (record { rising = e.rising; value = e.value; given = e.image; undoable = e.undoable; others = e.others })
     c.only.result (c.only.ensures ∙ ap only e.condition) kept.new.images.newest_first kept.ensures)
 
@@ -67,11 +67,11 @@ returns-in_ok-written-in-TdWrite-clause-applied c =
     let w = c.in_ok-written-in-TdWrite in
     let e = w.ensures in
     let kept = c.keep_trans in
-    let b = queue_here old q c.args.keep (subst (λ o. IsBound old o c.args.keep) c.in-TdWrite.is c.requires.bound) at.result.now at.ensures.value in
+    let b = queue_here old q c.args.bound.now.recoverable (subst (λ o. IsBound old o c.args.bound.now.recoverable) c.in-TdWrite.is c.requires.bound) at.result.now at.ensures.value in
     rw c.in-TdWrite.is (subst (λ r. IsApplied old (with_trans_data old (with_value q new old.trans_data)) c.args.images.now.newest_first kept.new.images.newest_first (TdWrite q r)
-    c.args.keep c.args.own c.only-in-TdWrite.result) from.ensures
-    (trans_applied old (TdWrite q from.from) c.args.keep c.args.own refl b at.ensures.in_order new w.written.image
-    (write_change b.queue new w.written.image q c.args.own e.without_image from.from e.value e.image e.undoable e.others) tt c.args.images.now.newest_first
+    c.args.bound.now.recoverable c.args.bound.now.own c.only-in-TdWrite.result) from.ensures
+    (trans_applied old (TdWrite q from.from) c.args.bound.now.recoverable c.args.bound.now.own refl b at.ensures.in_order new w.written.image
+    (write_change b.queue new w.written.image q c.args.bound.now.own e.without_image from.from e.value e.image e.undoable e.others) tt c.args.images.now.newest_first
     c.only-in-TdWrite.result (c.only-in-TdWrite.ensures ∙ ap only e.condition) kept.new.images.newest_first kept.ensures))
 
 pub returns-in_err-read-in-TdRead-clause-err_store : goal.returns-in_err-read-in-TdRead-clause-err_store
@@ -89,10 +89,10 @@ returns-in_ok-read-in-TdRead-clause-applied c =
     let new = c.read.new.self in
     let r = c.in_ok-read-in-TdRead in
     let e = r.ensures in
-    let b = queue_here old q c.args.keep (subst (λ o. IsBound old o c.args.keep) c.in-TdRead.is c.requires.bound) at.result.now at.ensures.value in
-    let seen = subst (λ o. IfSome o (λ t. is_logical t.kind ≡ true → IsSeenIn c.args.own (marks_of t))) at.ensures.value (subst (λ o. IsSeen old o c.args.own) c.in-TdRead.is c.requires.seen) in
-    rw c.in-TdRead.is (trans_applied old (TdRead q) c.args.keep c.args.own refl b at.ensures.in_order new r.read.changed.image
-    (read_change b.queue new r.read.changed.image q c.args.own e.without_image e.value e.image e.undoable e.fresh e.others) (read_told q c.args.own b.queue b.marked seen) c.args.images.now.newest_first
+    let b = queue_here old q c.args.bound.now.recoverable (subst (λ o. IsBound old o c.args.bound.now.recoverable) c.in-TdRead.is c.requires.bound) at.result.now at.ensures.value in
+    let seen = subst (λ o. IfSome o (λ t. is_logical t.kind ≡ true → IsSeenIn c.args.bound.now.own (marks_of t))) at.ensures.value (subst (λ o. IsSeen old o c.args.bound.now.own) c.in-TdRead.is c.requires.seen) in
+    rw c.in-TdRead.is (trans_applied old (TdRead q) c.args.bound.now.recoverable c.args.bound.now.own refl b at.ensures.in_order new r.read.changed.image
+    (read_change b.queue new r.read.changed.image q c.args.bound.now.own e.without_image e.value e.image e.undoable e.fresh e.others) (read_told q c.args.bound.now.own b.queue b.marked seen) c.args.images.now.newest_first
     c.with_content.result (c.with_content.ensures ∙ (λ i. record { condition = e.condition i; content = e.content i; number = None })) c.keep_trans-in-TdRead.new.images.newest_first c.keep_trans-in-TdRead.ensures)
 
 pub returns-in-TdDelete-clause-applied : goal.returns-in-TdDelete-clause-applied
@@ -102,7 +102,7 @@ returns-in-TdDelete-clause-applied c =
     let at = c.at_mut-in-TdDelete in
     let new = c.delete-deleted-in-TdDelete.new.self in
     let e = c.delete-deleted-in-TdDelete.ensures in
-    let b = queue_here old q c.args.keep (subst (λ o. IsBound old o c.args.keep) c.in-TdDelete.is c.requires.bound) at.result.now at.ensures.value in
-    rw c.in-TdDelete.is (trans_applied old (TdDelete q) c.args.keep c.args.own refl b at.ensures.in_order new c.delete-deleted-in-TdDelete.result.image
-    (delete_change b.queue new c.delete-deleted-in-TdDelete.result.image q c.args.own e.without_image e.value e.image e.undoable) tt c.args.images.now.newest_first
+    let b = queue_here old q c.args.bound.now.recoverable (subst (λ o. IsBound old o c.args.bound.now.recoverable) c.in-TdDelete.is c.requires.bound) at.result.now at.ensures.value in
+    rw c.in-TdDelete.is (trans_applied old (TdDelete q) c.args.bound.now.recoverable c.args.bound.now.own refl b at.ensures.in_order new c.delete-deleted-in-TdDelete.result.image
+    (delete_change b.queue new c.delete-deleted-in-TdDelete.result.image q c.args.bound.now.own e.without_image e.value e.image e.undoable) tt c.args.images.now.newest_first
     c.only-in-TdDelete.result (c.only-in-TdDelete.ensures ∙ ap only e.condition) c.keep_trans-in-TdDelete.new.images.newest_first c.keep_trans-in-TdDelete.ensures)

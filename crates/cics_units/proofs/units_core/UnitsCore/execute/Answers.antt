@@ -17,7 +17,7 @@ use Rattle.cics_units.specs.StoreMatching.{AnyImage}
 use Rattle.cics_units.specs.TableInPlace.{is_read}
 use Rattle.cics_units.specs.UnitImages.{kept_by, AreOthersKept}
 use Rattle.cics_units.specs.Uses.{uses_if, listed, taken_all}
-use Rattle.cics_units.proofs.DoneParts.{not_read, given_none, opened_none, changed_table, read_done}
+use Rattle.cics_units.proofs.DoneParts.{not_read, opened_none, changed_table, read_done}
 use Rattle.cics_units.proofs.RefusedCommands.{condition_normal, reads_refused}
 use Rattle.cics_units.proofs.UnitRows.{kept_at, room_at, kept_set, others_set, row_read}
 use Rattle.cics_units.proofs.units_core.UnitsCore.execute.Goals as goal
@@ -97,12 +97,12 @@ apply-requires c =
     let room = room_at c.make_room.new.rows.items c.args.unit row
     (row_read c.make_room.new.rows.items c.args.unit row c.number-at.result c.number-at.ensures c.in_ok-make_room.ensures.begun c.index_mut.ensures.value) in
     record {
+      change = not_read c.args.bound.now.op.now (λ f k is. c.in_default.not-ReadUpdate f k is);
       bound = c.requires.bound.bound;
       fit = c.requires.fit;
       seen = c.requires.seen;
-      given = given_none c.args.self.now.store c.args.bound.now.op.now (not_read c.args.bound.now.op.now (λ f k is. c.in_default.not-ReadUpdate f k is));
       one = omega (arith, c.at_least_one-most.ensures.some, c.in_ok-make_room.ensures.room, room);
-      room = omega (arith, c.most_images.ensures, c.at_least_one-most.ensures.all, c.in_ok-make_room.ensures.room, room);
+      most = omega (arith, c.most_images.ensures, c.at_least_one-most.ensures.all, c.in_ok-make_room.ensures.room, room);
     }
 
 module _ (c : In-Ok) where
