@@ -1,6 +1,7 @@
 //! A run between two reads.
 
-ghost use Rattle.std.specs.Prelude.{◌≡◌, true, false, [], ◌++◌, ◌+◌, ◌<◌, ◌≤◌, ◌^◌, length, if◌then◌else◌};
+ghost use Rattle.std.specs.Prelude.{◌≡◌, true, false, [], ◌++◌, ◌+◌, ◌<◌, ◌≤◌, ◌^◌, length};
+ghost use Rattle.std.specs.Prelude.{if◌then◌else◌};
 ghost use Rattle.std.specs.Prelude.{IfOk, OnOk, OnErr};
 ghost use Rattle.std.specs.List.{prefix_len, list_all};
 ghost use Rattle.std.specs.Io.BufRead.{strip_last};
@@ -231,9 +232,9 @@ impl Session {
         )
     }
 
-    /// Runs the last line where it lacks its LF, and where it was no fault, writes what is asked for
-    /// of the listing, the replay and the serial run. The status tells which of the two came. `Stop`
-    /// comes as it does from [`Session::feed`], and a front of the output has then been written.
+    /// Runs the last line if it lacks its LF, and if that is no fault, writes what is wanted of the
+    /// listing, the replay and the serial run. The status tells which of the two came. On `Stop` the
+    /// first part of the output is written.
     pub fn finish<K: Sink>(&mut self, wanted: Wanted, sink: &mut K) -> Result<Status, Stop>
         requires { self.old.number + 1 < 2 ^ 64 }
         ensures finishes { WhereverStands (K.contents sink.old) self.old (λ bytes before.
