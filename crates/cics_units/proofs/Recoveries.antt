@@ -1,19 +1,16 @@
 -- Each transient data queue that is defined stands there with its recovery, from the beginning on: whatever keeps some cells of
 -- the three keeps the recoveries, and so does the commit of the ends that a unit holds.
-use Rattle.std.specs.Prelude.{◌≡◌, ℕ, Bool, true, false, Option, Some, None, option_map, map, refl}
+use Rattle.std.specs.Prelude.{◌≡◌, Bool, Option, Some, None, option_map, refl}
 use Rattle.std.proofs.Common.{sym, ap, ◌∙◌}
 use Rattle.cics_names.specs.Keyed.{Bytes, value_at}
 use Rattle.cics_images.specs.Cells as images
-use Rattle.cics_images.specs.NamedValues.{cell_of as value_cell, KeepsIn, named_fixed}
+use Rattle.cics_images.specs.NamedValues.{cell_of as value_cell, KeepsIn}
 use Rattle.cics_images.specs.StoreCells.{trans_cell}
-use Rattle.cics_transdata.specs.Trans.{TransState, is_logical, holding}
+use Rattle.cics_transdata.specs.Trans.{TransState, is_logical}
 use Rattle.cics_transdata.specs.Undo.{KeepsEnds}
 use Rattle.cics_history.specs.Openings.{OpeningState, QueueOpening, queue_logical}
-use Rattle.cics_history.specs.Holding.{UnitsState}
 use Rattle.cics_units.specs.StoreMatching.{StoreValue, AnyKeep}
-use Rattle.cics_units.specs.StoreInPlace.{ends_committed, committed_at}
 use Rattle.cics_units.specs.QueueChanges.{HaveRecoveries}
-use Rattle.cics_units.proofs.Opened.{value_at-each}
 
 -- a queue that stands there is LOGICAL where the opening has it so
 pub logical_as_defined : (o : OpeningState) (m : StoreValue) (q : Bytes) (t : TransState) → HaveRecoveries o m → value_at q m.trans_data ≡ Some t →

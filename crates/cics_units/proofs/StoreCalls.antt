@@ -1,5 +1,5 @@
 -- READQ TS keeps files, temporary storage, transient data and the images in place.
-use Rattle.std.proofs.Common.{◌≡◌, ℕ, true, false, T, Option, Some, List, [], refl, ap, sym, ◌∙◌}
+use Rattle.std.proofs.Common.{◌≡◌, ℕ, true, false, T, Some, List, [], refl, ap, sym, ◌∙◌}
 use Rattle.cics_names.specs.Keyed.{Bytes, value_at, is_rising}
 use Rattle.cics_images.specs.Cells.{Kept}
 use Rattle.cics_images.specs.NamedLaws as named
@@ -13,11 +13,11 @@ use Rattle.cics_transdata.specs.UndoLaws as queue
 use Rattle.cics_history.specs.Openings.{queue_logical}
 use Rattle.cics_history.specs.History.{is_open}
 use Rattle.cics_history.specs.Holding.{UnitsState}
-use Rattle.cics_history.specs.Execution.{after_enqueue, after_dequeue, after_unlock, after_ts_reading}
+use Rattle.cics_history.specs.Execution.{after_ts_reading}
 use Rattle.cics_history.specs.Cells.{Cell, Key, Ts, Td, content}
-use Rattle.cics_history.proofs.Places.{enqueue-IsPlaceOf, dequeue-IsPlaceOf, unlock-IsPlaceOf, ts_reading-IsPlaceOf}
-use Rattle.cics_history.proofs.InPlace.{enqueue-AreMarksOf, dequeue-AreMarksOf, unlock-AreMarksOf, ts_reading-AreMarksOf}
-use Rattle.cics_history.proofs.SameHistory.{enqueue-same, ts_reading-same}
+use Rattle.cics_history.proofs.Places.{ts_reading-IsPlaceOf}
+use Rattle.cics_history.proofs.InPlace.{ts_reading-AreMarksOf}
+use Rattle.cics_history.proofs.SameHistory.{ts_reading-same}
 use Rattle.cics_units.specs.FilesImagesLaws as files
 use Rattle.cics_units.specs.UnitImages.{kept_by}
 use Rattle.cics_units.specs.StoreMatching.{StoreValue, AnyImage, shown_store, AnyKeep}

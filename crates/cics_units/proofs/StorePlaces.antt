@@ -1,26 +1,17 @@
 -- The NEXT places of the queues as they stand are those of the units, through each call.
-use Rattle.std.proofs.Common.{◌≡◌, ℕ, Bool, true, false, Option, None, List, [], ◌∷◌, refl, ap, sym, subst, ◌∙◌}
-use Rattle.std.specs.Prelude.{if◌then◌else◌, fold, filter}
+use Rattle.std.proofs.Common.{◌≡◌, ℕ, Bool, true, false, Option, None, refl, ap, sym, ◌∙◌}
+use Rattle.std.specs.Prelude.{if◌then◌else◌}
 use Rattle.cics_names.specs.Keyed.{Bytes, Map, has_key, with_value, without}
-use Rattle.cics_images.specs.Cells.{all_swept}
-use Rattle.cics_images.specs.declared.stores.StoreImage.TheVariants.{File, TempStorage, TransData}
-use Rattle.cics_tempstor.specs.declared.images.TsImage.{TsImage}
 use Rattle.cics_tempstor.specs.declared.queue_rows.Row.{Row}
-use Rattle.cics_tempstor.specs.Queues.{Queue, is_there, has_item, queue_at, queues_of, places_of, ts_swept, delete_condition, after_read_item}
+use Rattle.cics_tempstor.specs.Queues.{Queue, is_there, has_item, queue_at, queues_of, places_of, delete_condition, after_read_item}
 use Rattle.cics_tempstor.specs.Shown.{queue_at-queues_of}
-use Rattle.cics_tempstor.specs.Undo.{undone as rows_undone, name_of_image}
-use Rattle.cics_tempstor.specs.Places.{AreInOrder, committed, backed_out, places_there as places_of_those, has_key-queues_of, places_of-written, places_of-rewritten, places_of-deleted, places_of-read, without-absent_queue}
-use Rattle.cics_tempstor.specs.Places.{in_order_written, in_order_rewritten, in_order_deleted, in_order_read, in_order_committed, in_order_backed_out, places_of-there, places_of-committed, places_of-backed_out}
+use Rattle.cics_tempstor.specs.Places.{AreInOrder, has_key-queues_of, places_of-written, places_of-rewritten, places_of-deleted, places_of-read, without-absent_queue}
+use Rattle.cics_tempstor.specs.Places.{in_order_written, in_order_rewritten, in_order_deleted, in_order_read}
 use Rattle.cics_history.specs.Store.{Store, apply, ts_queue, is_normal}
 use Rattle.cics_history.specs.Holding.{UnitsState, store_of, awaited}
-use Rattle.cics_history.specs.Execution.{next_after, state_of, after_execution, after_end, after_enqueued, after_enqueue, enqueue, after_dequeue, after_unlock, after_ts_reading}
+use Rattle.cics_history.specs.Execution.{next_after, state_of, after_execution, after_ts_reading}
 use Rattle.cics_history.specs.declared.ops.Op.{Op}
 use Rattle.cics_history.specs.declared.ops.Op.TheVariants.{TsWrite, TsRewrite, TsDelete}
-use Rattle.cics_history.specs.declared.ops.Enqueued.{Enqueued}
-use Rattle.cics_history.specs.declared.ops.Enqueued.TheVariants.{Taken, MustWait, CountFull}
-use Rattle.cics_history.specs.declared.ops.UnitState.{UnitState}
-use Rattle.cics_history.specs.declared.ops.UnitState.TheVariants.{Committed, BackedOut}
-use Rattle.cics_units.specs.StoreMatching.{StoreValue, AnyImage, cell_of_any, any_undone, any_swept}
 use Rattle.cics_units.specs.QueueChanges.{rows_after}
 use Rattle.cics_units.specs.StorePlaces.{HavePlaces}
 

@@ -1,20 +1,19 @@
 -- What a command uses, and who in the table is in its way.
-use Rattle.std.proofs.Common.{◌≡◌, ℕ, Bool, true, false, ◌&&◌, ◌||◌, Option, Some, None, List, [], ◌∷◌, refl, ap, sym, ◌∙◌}
+use Rattle.std.proofs.Common.{◌≡◌, ℕ, Bool, true, false, ◌&&◌, Option, Some, None, List, [], ◌∷◌, refl, sym, ◌∙◌}
 use Rattle.std.specs.Prelude.{if◌then◌else◌}
 use Rattle.std.specs.List.{list_any}
-use Rattle.cics_names.specs.declared.conditions.Condition.{Condition}
 use Rattle.cics_enqueue.specs.Resources.{Table, is_user, holder_over}
 use Rattle.cics_enqueue.specs.declared.resources.Resource.{Resource}
 use Rattle.cics_enqueue.specs.declared.resources.Resource.TheVariants.{TdWrite as WritingEnd}
 use Rattle.cics_history.specs.Openings.{OpeningState, queue_logical}
-use Rattle.cics_history.specs.Store.{is_normal, is_recoverable}
-use Rattle.cics_history.specs.Holding.{UnitsState, UpdateRead, held_table, first_holder, first_some, committed_for, is_nothing, holder_among, uses_of, awaited, writer_awaited}
+use Rattle.cics_history.specs.Store.{is_recoverable}
+use Rattle.cics_history.specs.Holding.{UnitsState, held_table, first_holder, first_some, committed_for, is_nothing, holder_among, uses_of, awaited, writer_awaited}
 use Rattle.cics_history.specs.Isolation.{IsSound}
 use Rattle.cics_history.specs.Execution.{unit_or_next, IsOpenUnit}
 use Rattle.cics_history.specs.declared.ops.Op.{Op}
 use Rattle.cics_history.specs.declared.ops.Op.TheVariants.{Write, Rewrite, Delete, DeleteGeneric, ReadUpdate, TsWrite, TsRewrite, TsDelete, TdWrite, TdRead, TdDelete}
-use Rattle.cics_units.specs.TableInPlace.{is_read, IsTableOf, takes_of, table_executed}
-use Rattle.cics_units.specs.Uses.{uses_if, taken_all, AreFreeFor, holder_over_all}
+use Rattle.cics_units.specs.TableInPlace.{IsTableOf}
+use Rattle.cics_units.specs.Uses.{uses_if, AreFreeFor, holder_over_all}
 use Rattle.cics_units.proofs.HeldOver.{table_holder, table_free, holder_open}
 
 -- ---- What a command uses
