@@ -224,16 +224,12 @@ read_changed s f k = record {
     by false = refl
     by true = record { made = (refl, refl); in_turn = refl }
 
--- and so it is applied, with its answer
-pub read_applied_by : (s : StoreValue) (kept : List AnyImage) (f k : Bytes) (keep own : Bool) (answer : Answer) → IsFileBound s f keep →
-    answer ≡ (apply (shown_store s) (ReadUpdate f k)).answer → IsApplied s s kept kept (ReadUpdate f k) keep own answer
-read_applied_by s kept f k keep own answer b is =
-    files_applied s s (ReadUpdate f k) keep own answer kept kept s.files [] refl (read_changed s f k) (b.recoverable ∙ sym (ap is_recoverable_in b.there)) refl refl is
-
--- so it is where the record that it gives was looked up
+-- so it is applied, if it is answered with the record that was looked up
 pub read_applied : (s : StoreValue) (kept : List AnyImage) (f k : Bytes) (keep own : Bool) (given : Option Bytes) → IsFileBound s f keep →
     given ≡ read_given s (ReadUpdate f k) → IsApplied s s kept kept (ReadUpdate f k) keep own (with_content (found_condition given) given)
-read_applied s kept f k keep own given b is = read_applied_by s kept f k keep own (with_content (found_condition given) given) b
+read_applied s kept f k keep own given b is =
+    files_applied s s (ReadUpdate f k) keep own (with_content (found_condition given) given) kept kept s.files [] refl (read_changed s f k)
+    (b.recoverable ∙ sym (ap is_recoverable_in b.there)) refl refl
     (ap (λ o. with_content (found_condition o) o) (is ∙ ap (λ a. a.content) (read_answer s f b.file b.there k)) ∙ sym (read_answer s f b.file b.there k))
 
 -- a command on a file that is none of the other four is READ UPDATE

@@ -15,7 +15,6 @@ use Rattle.cics_history.specs.Cells.{Key, content, is_generic, cell_of as cell_o
 use Rattle.cics_history.specs.Undo.{changes}
 use Rattle.cics_history.specs.declared.ops.Op.{Op}
 use Rattle.cics_history.specs.declared.ops.Op.TheVariants.{Write, Rewrite, Delete, DeleteGeneric, ReadUpdate}
-use Rattle.cics_units.specs.RegionFiles.{IsThere}
 use Rattle.cics_units.specs.FilesImages.{cell_of, cell_of_image, files_hold, FilesKeep, KeepsIn, definitions_of}
 use Rattle.cics_units.proofs.HeldPlaces.{written_held, rewritten_held, deleted_held}
 use Rattle.cics_units.specs.FilesChanges.{IsFilesImage, held_among}
@@ -245,13 +244,3 @@ module _ (s : StoreValue) (name : Bytes) (f : FileValue) (there : value_at name 
             (λ q pass. deleted_held name f k q f.definition.recoverable image is (each_named k image undoes) pass)
             c unnamed (sym (ap (λ m. files_hold m c) files) ∙ has);
       }
-
--- ---- What is told of the file of a name where it is there
--- the file of a name is there, and what is said of it is said of the files
-pub of_file : {Q : Type 0} (m : Map FileValue) (name : Bytes) (P : FileValue → Type 0) → IsThere (value_at name m) → IfSome (value_at name m) P →
-    ((f : FileValue) → value_at name m ≡ Some f → P f → Q) → Q
-of_file {Q} m name P is told follows = by (value_at name m) refl is told
-  where
-    by : (o : Option FileValue) → value_at name m ≡ o → IsThere o → IfSome o P → Q
-    by None e is told = absurd is
-    by (Some f) e is told = follows f e told

@@ -1,5 +1,5 @@
 -- The laws of values by name, for files.
-use Rattle.std.specs.Prelude.{◌≡◌, Bool, true, false, Option, None, refl}
+use Rattle.std.specs.Prelude.{◌≡◌, Bool, true, false, None, refl}
 use Rattle.std.proofs.Common.{sym}
 use Rattle.std.specs.Bool.{Decides}
 use Rattle.std.specs.Str.{bytes_eq}
@@ -10,11 +10,7 @@ use Rattle.cics_images.specs.NamedLaws as named
 use Rattle.cics_ksds.specs.Files.{FileValue}
 use Rattle.cics_ksds.specs.Undo.{content_at, key_of_image, IsReadyImage, undone, KeepsKeys}
 use Rattle.cics_ksds.specs.UndoLaws as file
-use Rattle.cics_units.specs.FilesImages.{FilesImage, cell_of, cell_of_image, content_in, files_content, IsReadyFor, files_undone, KeepsIn, FilesKeep}
-
--- files keep what they have
-pub keeps_itself_in : (p : Cell → Bool) (o : Option FileValue) → KeepsIn p o o
-keeps_itself_in = named.keeps_itself_in KeepsKeys file.keeps_itself
+use Rattle.cics_units.specs.FilesImages.{FilesImage, cell_of, cell_of_image, content_in, files_content, IsReadyFor, files_undone, FilesKeep}
 
 -- images of cells that are kept stay ready
 pub keeps_ready : (p : Cell → Bool) (s t : Map FileValue) (i : FilesImage) → FilesKeep p s t → p (cell_of_image i) ≡ true → IsReadyFor s i → IsReadyFor t i
