@@ -1,0 +1,215 @@
+-- How lanes give their lines to a region: which may give, and the state after a line.
+use Rattle.std.specs.Prelude.{ℕ, zero, suc, ◌+◌, Bool, true, false, ◌&&◌, ◌||◌, not, ◌==◌, if◌then◌else◌, List, [], ◌∷◌, ◌++◌, map, length, Option, Some, None, is_none, is_some, Result, Ok, Err, slice_get, slice_set}
+use Rattle.std.specs.List.{fold}
+use Rattle.cics_names.specs.Keyed.{Bytes, is_same}
+use Rattle.cics_names.specs.declared.commands.Verb.{Verb}
+use Rattle.cics_names.specs.declared.commands.Verb.TheVariants.{Syncpoint, Rollback, Return, Abend}
+use Rattle.cics_history.specs.Openings.{OpeningState, nothing_defined, with_file, with_record, with_prefix, with_queue, with_td_record}
+use Rattle.cics_dispatch.specs.Machine.{Machine, beginning_region, task_at}
+use Rattle.cics_dispatch.specs.Steps.{attached, issued, issue_refusal}
+use Rattle.cics_dispatch.specs.Waking.{clock_set, woken, expired}
+use Rattle.cics_dispatch.specs.Shutdown.{unless_down, shut_down}
+use Rattle.cics_dispatch.specs.declared.outcomes.Outcome.{Outcome}
+use Rattle.cics_dispatch.specs.declared.outcomes.Outcome.TheVariants.{Waiting, Abended}
+use Rattle.cics_dispatch.specs.declared.outcomes.Woken.{Woken}
+use Rattle.cics_dispatch.specs.declared.outcomes.Expired.{Expired}
+use Rattle.cics_dispatch.specs.declared.outcomes.Refused.{Refused}
+use Rattle.cics_script.specs.Lines.{line}
+use Rattle.cics_script.specs.declared.lines.Line.{Line}
+use Rattle.cics_script.specs.declared.lines.Line.TheVariants.{DefineFile, DefineTsPrefix, DefineTd, LoadFile, LoadTd, Clock, Issue, Shutdown}
+use Rattle.cics_script.specs.declared.faults.LineFault.{LineFault}
+use Rattle.cics_lanes.specs.Orders.{Lanes, numbered_from}
+
+-- a line of a script: its number, and its bytes
+abbrev pub NumberedLine : Type 0
+NumberedLine = ℕ × Bytes
+
+-- a lane: the label of its task, or none for the clock's; its lines; how many of them are given; what its task was told, one
+-- outcome for each line that was answered; and whether the task is within a turn: its last line did not end its unit of work
+pub record Lane : Type 0 where
+  pub label : Option Bytes
+  pub lines : List NumberedLine
+  pub given : ℕ
+  pub told : List Outcome
+  pub is_in_turn : Bool
+
+-- a region's machine, the lanes that give to it, which task's lane gave last, and whether the order so far is serial: no task
+-- within a turn gave a line behind another task's
+pub record State : Type 0 where
+  pub machine : Machine
+  pub lanes : List Lane
+  pub last : Option ℕ
+  pub is_serial : Bool
+
+-- ---- What a task is told
+
+-- a lane is that of a label
+abbrev pub is_of : Lane → Bytes → Bool
+is_of lane label = is_labelled lane.label where
+  is_labelled : Option Bytes → Bool
+  is_labelled None = false
+  is_labelled (Some own) = is_same own label
+
+-- the task of a label is told an outcome
+abbrev pub with_told : List Lane → Bytes → Outcome → List Lane
+with_told [] label outcome = []
+with_told (lane ∷ lanes) label outcome =
+    if is_of lane label then record lane { told = lane.told ++ outcome ∷ [] } ∷ lanes else lane ∷ with_told lanes label outcome
+
+-- a task whose command waits is told nothing yet
+abbrev pub hearing : List Lane → Bytes → Outcome → List Lane
+hearing lanes label (Waiting holder) = lanes
+hearing lanes label outcome = with_told lanes label outcome
+
+-- ---- What a line does
+
+-- an event that is answered leaves its step's machine; one that is refused changes nothing
+abbrev pub left_by : {X : Type 0} → State → (X → List Lane) → Result X Refused → Machine → State
+left_by s lanes (Ok x) m = record s { machine = m; lanes = lanes x }
+left_by s lanes (Err e) m = s
+
+-- a command, the clock and the shutdown are events; no other line is one
+abbrev pub after_line : State → Result Line LineFault → State
+after_line s (Ok (Issue label command)) =
+    let step = unless_down s.machine (issued s.machine label command) in left_by s (hearing s.lanes label) step.outcome step.machine
+after_line s (Ok (Clock seconds)) =
+    let step = unless_down s.machine (clock_set s.machine seconds) in left_by s (λ _. s.lanes) step.outcome step.machine
+after_line s (Ok Shutdown) =
+    let step = unless_down s.machine (shut_down s.machine) in left_by s (λ _. s.lanes) step.outcome step.machine
+after_line s _ = s
+
+-- ---- What goes on by itself
+
+-- a task whose time is over is abended
+abbrev pub expiry_turn : State → Option Expired → Machine → Option State
+expiry_turn s None m = None
+expiry_turn s (Some e) m = Some (record s { machine = m; lanes = with_told s.lanes e.label (Abended e.code None) })
+
+-- a command that may go on comes before that
+abbrev pub waking_turn : State → Option Woken → Machine → Option State → Option State
+waking_turn s None m expiry = expiry
+waking_turn s (Some w) m expiry = Some (record s { machine = m; lanes = hearing s.lanes w.label w.outcome })
+
+-- one turn, if there is one to take
+unfoldable pub turn : State → Option State
+turn s = waking_turn s (woken s.machine).outcome (woken s.machine).machine (expiry_turn s (expired s.machine).outcome (expired s.machine).machine)
+
+-- the turns behind one, if there was one
+abbrev pub behind_turn : State → Option State → (State → State) → State
+behind_turn s None more = s
+behind_turn s (Some t) more = more t
+
+-- So many turns at most. A task waits for one command at most, so as many turns as lanes are enough.
+unfoldable pub settled : ℕ → State → State
+settled zero s = s
+settled (suc turns) s = behind_turn s (turn s) (settled turns)
+
+-- ---- Which lanes may give
+
+-- a task may give a line where it has not ended and doesn't wait; the clock always may
+abbrev pub is_ready : Machine → Option Bytes → Bool
+is_ready m None = true
+is_ready m (Some label) = is_none (issue_refusal m (task_at m.tasks label))
+
+-- a lane may give where it has a line left and is ready
+abbrev pub may_give : Machine → Lane → Bool
+may_give m lane = is_some (slice_get lane.lines lane.given) && is_ready m lane.label
+
+-- the lanes that may give, from a number on
+abbrev pub givers : State → ℕ → List ℕ
+givers s from = numbered_from (may_give s.machine) s.lanes from
+
+-- the verbs that end a unit of work
+abbrev pub is_end : Verb → Bool
+is_end Syncpoint = true
+is_end Rollback = true
+is_end Return = true
+is_end (Abend code) = true
+is_end _ = false
+
+-- a line that ends its task's turn
+abbrev pub ends_turn : Result Line LineFault → Bool
+ends_turn (Ok (Issue label command)) = is_end command.verb
+ends_turn _ = false
+
+-- the lane of a number gave last
+abbrev pub is_lane : Option ℕ → ℕ → Bool
+is_lane None l = false
+is_lane (Some k) l = k == l
+
+-- a lane with one line more given
+abbrev pub with_given : Lane → Result Line LineFault → Lane
+with_given lane says = record lane { given = lane.given + 1; is_in_turn = is_some lane.label && not (ends_turn says) }
+
+-- the state in which a lane's line counts as given, before it does anything
+abbrev pub counted : State → ℕ → Lane → Result Line LineFault → State
+counted s l lane says = record s {
+  lanes = slice_set s.lanes l (with_given lane says);
+  last = if is_some lane.label then Some l else s.last;
+  is_serial = s.is_serial && (not lane.is_in_turn || is_lane s.last l);
+}
+
+-- a lane gives a line, and the region settles
+abbrev pub given_line : State → ℕ → Lane → Option NumberedLine → State
+given_line s l lane None = s
+given_line s l lane (Some next) = settled (length s.lanes) (after_line (counted s l lane (line next.1)) (line next.1))
+
+-- the lane of a number gives its next line
+abbrev pub given_by : State → ℕ → Option Lane → State
+given_by s l None = s
+given_by s l (Some lane) = given_line s l lane (slice_get lane.lines lane.given)
+
+-- the state after a lane has given its next line
+unfoldable pub given : State → ℕ → State
+given s l = given_by s l (slice_get s.lanes l)
+
+-- the lanes of a script
+abbrev pub lanes : Lanes State
+lanes = record { givers = givers; given = given }
+
+-- ---- The start
+
+-- a task that is attached: its label, how many seconds its commands may wait, and its lines
+pub record TaskPlan : Type 0 where
+  pub label : Bytes
+  pub dtimout : ℕ
+  pub lines : List NumberedLine
+
+-- a script taken apart: the lines that define and load, the tasks in the order of attach, and the clock's lines
+pub record PlanValue : Type 0 where
+  pub definitions : List Bytes
+  pub tasks : List TaskPlan
+  pub clock : List NumberedLine
+
+-- what is defined, with a line more
+abbrev pub defined_by : OpeningState → Result Line LineFault → OpeningState
+defined_by o (Ok (DefineFile name d)) = with_file o name d
+defined_by o (Ok (DefineTsPrefix prefix)) = with_prefix o prefix
+defined_by o (Ok (DefineTd name recovery)) = with_queue o name recovery
+defined_by o (Ok (LoadFile name content)) = with_record o name content
+defined_by o (Ok (LoadTd name content)) = with_td_record o name content
+defined_by o _ = o
+
+-- what these lines define and load
+abbrev pub opened : List Bytes → OpeningState
+opened lines = fold (λ o bytes. defined_by o (line bytes)) nothing_defined lines
+
+-- a task is attached
+abbrev pub with_task : Machine → TaskPlan → Machine
+with_task m t = (unless_down m (attached m t.label t.dtimout)).machine
+
+-- the machine before the first order's first line: each task is attached
+abbrev pub initial_machine : PlanValue → Machine
+initial_machine p = fold with_task (beginning_region (opened p.definitions)) p.tasks
+
+-- the lane of a task, before its first line
+abbrev pub task_lane : TaskPlan → Lane
+task_lane t = record { label = Some t.label; lines = t.lines; given = 0; told = []; is_in_turn = false }
+
+-- the clock's lane
+abbrev pub clock_lane : List NumberedLine → Lane
+clock_lane lines = record { label = None; lines = lines; given = 0; told = []; is_in_turn = false }
+
+-- the state that each order starts from: a lane for each task in the order of attach, the clock's last
+unfoldable pub initial_state : PlanValue → State
+initial_state p = record { machine = initial_machine p; lanes = map task_lane p.tasks ++ clock_lane p.clock ∷ []; last = None; is_serial = true }
