@@ -126,10 +126,6 @@ abbrev pub OnEach : (UpdateRead → Type 0) → List UpdateRead → Type 0
 OnEach P [] = Unit {0}
 OnEach P (x ∷ xs) = P x × OnEach P xs
 
-pub OnEach-any : (P : UpdateRead → Type 0) → ((x : UpdateRead) → P x) → (xs : List UpdateRead) → OnEach P xs
-OnEach-any P h [] = tt
-OnEach-any P h (x ∷ xs) = (h x, OnEach-any P h xs)
-
 pub OnEach-map : (P Q : UpdateRead → Type 0) → ((x : UpdateRead) → P x → Q x) → (xs : List UpdateRead) → OnEach P xs → OnEach Q xs
 OnEach-map P Q h [] each = tt
 OnEach-map P Q h (x ∷ xs) each = (h x each.0, OnEach-map P Q h xs each.1)

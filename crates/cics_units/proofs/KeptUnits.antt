@@ -1,18 +1,18 @@
 -- Each call keeps the units: what their state says, what the files, the queues and the images hold, and what the table tells.
-use Rattle.std.proofs.Common.{◌≡◌, ℕ, ◌<◌, ◌≤◌, Bool, true, false, Option, Some, None, List, [], ◌∷◌, ◌++◌, length, length-append, zero, suc, refl, ap, sym, subst, ◌∙◌, arith}
-use Rattle.std.specs.Prelude.{◌&&◌, is_some, IsSome, map, option_map, IsTrue, fold}
+use Rattle.std.proofs.Common.{◌≡◌, ℕ, ◌<◌, ◌≤◌, Bool, true, false, Option, Some, None, List, [], ◌∷◌, length, length-append, zero, suc, refl, ap, sym, subst, ◌∙◌, arith}
+use Rattle.std.specs.Prelude.{is_some, IsSome, map, option_map, IsTrue, fold}
 use Rattle.std.proofs.lemmas.Bool.{false≢true, true≢false, and_parts}
 use Rattle.std.proofs.lemmas.List.{length-set}
 use Rattle.cics_names.specs.Keyed.{Bytes, Map, value_at, has_key, is_same, is_key_in}
 use Rattle.cics_names.specs.KeyedLaws.{is_same-eq}
-use Rattle.cics_images.specs.Cells.{is_other, AreReadyInTurn, LeadBack, images_of, is_unnamed, all_swept}
+use Rattle.cics_images.specs.Cells.{AreReadyInTurn, LeadBack, images_of, is_unnamed, all_swept}
 use Rattle.cics_images.specs.NamedValues.{split, of_value, of_split}
 use Rattle.cics_ksds.specs.Files.{FileValue, key_of as file_key_of, fits_file}
 use Rattle.cics_enqueue.specs.Resources.{Table, released}
 use Rattle.cics_tempstor.specs.Queues.{places_of}
 use Rattle.cics_tempstor.specs.Places.{AreInOrder}
 use Rattle.cics_transdata.specs.Trans.{TransState, is_logical, queue_of}
-use Rattle.cics_history.specs.Openings.{OpeningState, FileOpening, QueueOpening, is_key, file_recoverable, queue_logical, HasLawfulKeys, IsOpeningInOrder}
+use Rattle.cics_history.specs.Openings.{OpeningState, FileOpening, QueueOpening, file_recoverable, queue_logical, HasLawfulKeys, IsOpeningInOrder}
 use Rattle.cics_history.specs.Store.{apply, initial_store}
 use Rattle.cics_history.specs.History.{is_open, kept}
 use Rattle.cics_history.specs.Holding.{UnitsState, UpdateRead, EnqCount, store_of, awaited}
@@ -30,9 +30,8 @@ use Rattle.cics_history.specs.declared.ops.Answer.{Answer}
 use Rattle.cics_history.specs.declared.ops.UnitState.{UnitState}
 use Rattle.cics_history.specs.declared.ops.UnitState.TheVariants.{Open, Committed, BackedOut}
 use Rattle.cics_units.specs.RegionFiles.{IsThere, opened_files, file_of as file_of_opening}
-use Rattle.cics_units.specs.Listings.{recovery_in}
 use Rattle.cics_units.specs.FilesImages.{files_hold}
-use Rattle.cics_units.specs.StoreMatching.{StoreValue, UndoableValue, AnyImage, shown_store, cell_of_any, AnyLeads, any_content, IsAnyReady, any_undone, any_swept, any_holds, AnyKeep, AreImagesOf as KeptChanges}
+use Rattle.cics_units.specs.StoreMatching.{StoreValue, UndoableValue, shown_store, cell_of_any, AnyLeads, any_content, IsAnyReady, any_undone, any_swept, any_holds, AnyKeep, AreImagesOf as KeptChanges}
 use Rattle.cics_units.specs.StoreInPlace.{IsUnmarked, AreInPlace}
 use Rattle.cics_units.specs.StoreEnds.{any_fixed, ends_settled, IsEnded}
 use Rattle.cics_units.specs.UnitImages.{kept_by, AreOthersKept, AreHeldForImages}
@@ -83,16 +82,6 @@ opened_holds o (suc zero ∷ c) = refl
 opened_holds o (suc (suc zero) ∷ c) = refl
 opened_holds o (suc (suc (suc n)) ∷ c) = refl
 
--- where the second test fails, not both hold
-either_false : (a b : Bool) → b ≡ false → (a && b) ≡ false
-either_false true b none = none
-either_false false b none = refl
-
--- what a list names a longer one names
-named_still : (more is : List AnyImage) (c : List ℕ) → is_unnamed cell_of_any is c ≡ false → is_unnamed cell_of_any (more ++ is) c ≡ false
-named_still [] is c named = named
-named_still (i ∷ more) is c named = either_false (is_other (cell_of_any i) c) (is_unnamed cell_of_any (more ++ is) c) (named_still more is c named)
-
 module _ (s : UnitsState) (st : UndoableValue) (t : Table) (is : AreKept s st t) where
   -- ---- What the files are to the opening
   -- each file stands there as it was defined
@@ -116,14 +105,6 @@ module _ (s : UnitsState) (st : UndoableValue) (t : Table) (is : AreKept s st t)
       by None (Some y) e = absurd (none_some e)
       by (Some x) None e = absurd (none_some (sym e))
       by (Some x) (Some y) e = let d : x.definition ≡ y.definition = cc in ap (λ z. z.recoverable) d
-
-  -- a transient data queue has the recovery that its definition says
-  pub recovery_alike : (q : Bytes) (x : TransState) → value_at q st.store.trans_data ≡ Some x → x.kind ≡ recovery_in (value_at q s.opening.queues)
-  recovery_alike q x at = by (value_at q s.opening.queues) (sym (ap (option_map (λ t. t.kind)) at) ∙ is.defined.queues q)
-    where
-      by : (b : Option QueueOpening) → Some x.kind ≡ option_map (λ queue. queue.recovery) b → x.kind ≡ recovery_in b
-      by None e = absurd (none_some (sym e))
-      by (Some y) e = cc
 
   -- it is LOGICAL just where it is defined so
   pub logical_alike : (q : Bytes) → queue_logical s.opening q ≡ is_logical_in (value_at q st.store.trans_data)
@@ -180,14 +161,6 @@ module _ (s : UnitsState) (st : UndoableValue) (t : Table) (is : AreKept s st t)
   ready_fits u (TdWrite q d) ready = defined_queue q (and_parts (has_key q s.opening.queues) _ ready).0
   ready_fits u (TdRead q) ready = defined_queue q ready
   ready_fits u (TdDelete q) ready = defined_queue q ready
-
-  -- a file's key is lawful
-  pub lawful_there : (f : Bytes) (x : FileValue) → value_at f st.store.files ≡ Some x → is_key x.definition ≡ true
-  lawful_there f x at = by (value_at f s.opening.files) refl (sym (ap (option_map (λ y. y.definition)) at) ∙ same_definition f)
-    where
-      by : (b : Option FileOpening) → value_at f s.opening.files ≡ b → Some x.definition ≡ option_map (λ y. y.definition) b → is_key x.definition ≡ true
-      by None e d = absurd (none_some (sym d))
-      by (Some y) e d = let same : x.definition ≡ y.definition = cc in ap is_key same ∙ is.lawful_keys f y e
 
   -- ---- The store is the replay
   -- what the files and queues show is what the kept history gives

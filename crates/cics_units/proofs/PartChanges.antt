@@ -11,7 +11,7 @@ use Rattle.cics_history.specs.Execution.{is_read_of, read_at, covers}
 use Rattle.cics_ksds.specs.Prefixes.{has_prefix}
 use Rattle.cics_units.specs.OpenReads.{is_read_key, is_read_under}
 use Rattle.cics_history.specs.Records.{file_of}
-use Rattle.cics_units.specs.TableInPlace.{AreOnce, covered_read}
+use Rattle.cics_units.specs.TableInPlace.{AreOnce}
 use Rattle.cics_history.specs.declared.ops.Op.{Op}
 use Rattle.cics_history.specs.declared.ops.Op.TheVariants.{Write, Rewrite, Delete, DeleteGeneric, ReadUpdate, TsWrite, TsRewrite, TsDelete, TdWrite, TdRead, TdDelete}
 use Rattle.cics_history.proofs.Waiting.{any_more}
@@ -104,11 +104,3 @@ module _ (u : ℕ) (op : Op) where
       same_rest reads (OnEach-map (λ x. is_read_of u (file_of op) x ≡ true → (is_read_of u (file_of op) x && is_same x.key key) ≡ true)
       (λ x. is_read_of u (file_of op) x ≡ true → covers u op x ≡ true) (λ x h own. covered_all u op reads once some x (h own))
       reads (read_keys reads u (file_of op) key once (covered_at u op reads once some)))
-
--- the key of the read that a command covers is the one that its unit has read in the file
-pub covered_some : (u : ℕ) (op : Op) (reads : List UpdateRead) (k : Bytes) → covered_read u op reads ≡ Some k → read_at reads u (file_of op) ≡ Some k
-covered_some u op reads k = by (list_any (covers u op) reads)
-  where
-    by : (b : Bool) → (if b then read_at reads u (file_of op) else None) ≡ Some k → read_at reads u (file_of op) ≡ Some k
-    by true is = is
-    by false is = let wrong : None ≡ Some k = is in cc

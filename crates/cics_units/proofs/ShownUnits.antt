@@ -145,7 +145,21 @@ pub begun_shown : (o : OpeningState) (trace : List Entry) (outcomes : List UnitS
 begun_shown o trace outcomes commits p m parts no_entry no_unit no_commit kept = rw (parts, no_entry, no_unit, no_commit) (subst (λ next. AreKept (record (beginning o) { next = next })
     (record { store = m; images = [] }) []) kept.places kept)
 
--- ---- Calls of the parts
+-- ---- A command that is bound
+-- what is known of it once it is asked which unit is in its way
+pub record IsAsked (o : OpeningState) (trace : List Entry) (outcomes : List UnitState) (commits : List ℕ) (p : CoreValue) (u : Option ℕ) (b : BoundOp) (n : ℕ) (h : Option ℕ) : Type 0 where
+  pub acts : may_act (state_shown o trace outcomes commits p) u ≡ true
+  pub ready : is_ready_op (state_shown o trace outcomes commits p) u b.op.now ≡ true
+  pub acting : n ≡ unit_or_next u outcomes
+  -- it is as recoverable as the opening has it
+  pub recoverable : b.recoverable ≡ is_recoverable o b.op.now
+  pub stands : IsBound p.stores.store b.op.now (is_recoverable o b.op.now)
+  pub used : listed b.uses ≡ uses_if (is_recoverable o b.op.now) b.op.now
+  pub own : is_trans b.op.now ≡ true → b.own ≡ is_writer p.table (unit_or_next u outcomes) (queue_on b.op.now)
+  -- whom it has to wait for is the unit in its way
+  pub way : h ≡ unit_in_way p.table p.stores.store.trans_data (is_recoverable o b.op.now) u (unit_or_next u outcomes) b.op.now
+
+-- ---- Calls of the core
 module _ (o : OpeningState) (trace : List Entry) (outcomes : List UnitState) (commits : List ℕ) (p new : CoreValue)
     (is : AreKept (state_shown o trace outcomes commits p) p.stores p.table) where
   abbrev state_before : UnitsState
@@ -247,27 +261,26 @@ module _ (o : OpeningState) (trace : List Entry) (outcomes : List UnitState) (co
           ∙ ap (λ s. (apply (store_of s) op).answer) roomy_state)
           ∙ sym (ap (done_of state_before u op) free)
 
-  -- ---- A command that is bound to what stands
-  module _ (u : Option ℕ) (b : BoundOp) (n : ℕ) (acting : n ≡ unit_or_next u outcomes) (bound : IsBoundFor p n b)
-      (temp : is_temp b.op.now ≡ true → b.recoverable ≡ is_recoverable o b.op.now) where
-    -- it is as recoverable as the opening has it
-    pub recoverable_is : b.recoverable ≡ is_recoverable o b.op.now
-    recoverable_is = bound_as_opened state_before p.stores p.table is b.op.now b.recoverable bound.bound temp
+  -- ---- A command that is bound to what stands, and the unit that it has to wait for
+  module _ (u : Option ℕ) (op : Op) (b : BoundOp) (n : ℕ) (h : Option ℕ) (same : b.op.now ≡ op) (bound : IsBoundFor p n b) (acting : n ≡ unit_or_next u outcomes)
+      (acts : may_act state_before u ≡ true) (ready : is_ready_op state_before u op ≡ true) (temp : is_temp op ≡ true → b.recoverable ≡ is_recoverable o op)
+      (told : (n : ℕ) → IsBoundFor p n b → h ≡ unit_in_way p.table p.stores.store.trans_data b.recoverable u n b.op.now) where
+    as_opened : b.recoverable ≡ is_recoverable o b.op.now
+    as_opened = bound_as_opened state_before p.stores p.table is b.op.now b.recoverable bound.bound
+        (λ on_temp. temp (sym (ap is_temp same) ∙ on_temp) ∙ ap (is_recoverable o) (sym same))
 
-    pub bound_is : IsBound p.stores.store b.op.now (is_recoverable o b.op.now)
-    bound_is = subst (IsBound p.stores.store b.op.now) recoverable_is bound.bound
-
-    pub used_is : listed b.uses ≡ uses_if (is_recoverable o b.op.now) b.op.now
-    used_is = bound.used ∙ ap (λ r. uses_if r b.op.now) recoverable_is
-
-    pub own_is : is_trans b.op.now ≡ true → b.own ≡ is_writer p.table (unit_or_next u outcomes) (queue_on b.op.now)
-    own_is trans = bound.own trans ∙ ap (λ n. is_writer p.table n (queue_on b.op.now)) acting
-
-    -- whom it has to wait for is the unit in its way
-    pub blocker_is : (h : Option ℕ) → ((n : ℕ) → IsBoundFor p n b → h ≡ unit_in_way p.table p.stores.store.trans_data b.recoverable u n b.op.now) →
-        h ≡ unit_in_way p.table p.stores.store.trans_data (is_recoverable o b.op.now) u (unit_or_next u outcomes) b.op.now
-    blocker_is h told = told n bound ∙ ap (λ r. unit_in_way p.table p.stores.store.trans_data r u n b.op.now) recoverable_is
-        ∙ ap (λ n. unit_in_way p.table p.stores.store.trans_data (is_recoverable o b.op.now) u n b.op.now) acting
+    pub asked : IsAsked o trace outcomes commits p u b n h
+    asked = record {
+      acts = acts;
+      ready = subst (λ x. is_ready_op state_before u x ≡ true) (sym same) ready;
+      acting = acting;
+      recoverable = as_opened;
+      stands = subst (IsBound p.stores.store b.op.now) as_opened bound.bound;
+      used = bound.used ∙ ap (λ r. uses_if r b.op.now) as_opened;
+      own = λ trans. bound.own trans ∙ ap (λ n. is_writer p.table n (queue_on b.op.now)) acting;
+      way = told n bound ∙ ap (λ r. unit_in_way p.table p.stores.store.trans_data r u n b.op.now) as_opened
+          ∙ ap (λ n. unit_in_way p.table p.stores.store.trans_data (is_recoverable o b.op.now) u n b.op.now) acting;
+    }
 
 -- READ UPDATE is ready where the unit has no record of the file read for update
 pub none_open_of : (s : UnitsState) (u : Option ℕ) (op : Op) → ((v : ℕ) → list_any (λ r. r.unit == v) s.reads ≡ true → v < length s.outcomes) → is_ready_op s u op ≡ true → is_read op ≡ true → read_at s.reads (unit_or_next u s.outcomes) (file_of op) ≡ None

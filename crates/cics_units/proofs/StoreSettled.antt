@@ -1,9 +1,8 @@
 -- A commit settles the ends that the images of its unit are of, which come to all that the unit holds: an end that it holds
 -- without an image has no mark.
-use Rattle.std.proofs.Common.{arith, ◌≡◌, ◌≤◌, ℕ, zero, suc, Bool, true, false, ◌&&◌, ◌||◌, if◌then◌else◌, Option, Some, None, List, [], ◌∷◌, ◌++◌, reverse, length, length-drop, drop, refl, ap, sym, subst, ◌∙◌, inl, inr}
+use Rattle.std.proofs.Common.{arith, ◌≡◌, ◌≤◌, ℕ, zero, suc, Bool, true, false, ◌&&◌, ◌||◌, if◌then◌else◌, Option, Some, None, List, [], ◌∷◌, length, length-drop, drop, refl, ap, sym, subst, ◌∙◌, inl, inr}
 use Rattle.std.specs.Prelude.{fold, option_map, min}
 use Rattle.std.specs.List.{list_any}
-use Rattle.std.proofs.lemmas.List.{reverse-append}
 use Rattle.std.proofs.lemmas.Bool.{true≢false, false≢true, cases_Bool, and_parts, or_parts, false_from_ne_true}
 use Rattle.std.proofs.lemmas.Iterator.Adapters.{option_map_id}
 use Rattle.cics_names.specs.Keyed.{Bytes, value_at, is_same, is_rising}
@@ -184,37 +183,6 @@ module _ (m : StoreValue) (is : List AnyImage) where
   ends_held (suc (suc (suc n)) ∷ c) = refl
 
 -- ---- in which order the images come
--- the first of them, and the others
-first_end : (q : Bytes) (end : End) (i : AnyImage) (is : List AnyImage) → has_end q end (i ∷ is) ≡ (has_end q end (i ∷ []) || has_end q end is)
-first_end q end (File i) is = refl
-first_end q end (TempStorage i) is = refl
-first_end q end (TransData i) is = by (is_at_end end i.image && is_same i.name q)
-  where
-    by : (b : Bool) → (b || has_end q end is) ≡ ((b || false) || has_end q end is)
-    by true = refl
-    by false = refl
-
--- some of them and then others
-end_among : (q : Bytes) (end : End) (is js : List AnyImage) → has_end q end (is ++ js) ≡ (has_end q end is || has_end q end js)
-end_among q end [] js = refl
-end_among q end (i ∷ is) js = first_end q end i (is ++ js) ∙ ap (λ b. has_end q end (i ∷ []) || b) (end_among q end is js)
-    ∙ by (has_end q end (i ∷ [])) ∙ ap (λ b. b || has_end q end js) (sym (first_end q end i is))
-  where
-    by : (b : Bool) → (b || (has_end q end is || has_end q end js)) ≡ ((b || has_end q end is) || has_end q end js)
-    by true = refl
-    by false = refl
-
--- the oldest first they are of the same ends as the newest first
-pub end_reversed : (q : Bytes) (end : End) (is : List AnyImage) → has_end q end (reverse is) ≡ has_end q end is
-end_reversed q end [] = refl
-end_reversed q end (i ∷ is) = ap (has_end q end) (reverse-append (i ∷ []) is) ∙ end_among q end (reverse is) (i ∷ [])
-    ∙ ap (λ b. b || has_end q end (i ∷ [])) (end_reversed q end is) ∙ turned (has_end q end is) (has_end q end (i ∷ [])) ∙ sym (first_end q end i is)
-  where
-    turned : (a b : Bool) → (a || b) ≡ (b || a)
-    turned true true = refl
-    turned true false = refl
-    turned false true = refl
-    turned false false = refl
 
 -- ---- the ends that the unit holds
 -- the images that are kept are of the ends that the marks are of

@@ -73,15 +73,6 @@ abbrev pub table_given_back : Bool → ℕ → Bytes → Option Bytes → Table 
 table_given_back recoverable u f None t = t
 table_given_back recoverable u f (Some k) t = if recoverable then t else given_back t (record_of f k) u
 
--- what a command that is answered NORMAL takes: what it uses, where its file or queue is recoverable or a record is read for
--- update, else nothing
-abbrev pub takes_if : Bool → Op → List Resource
-takes_if recoverable op = if recoverable || is_read op then uses_if recoverable op else []
-
--- the same, by the opening
-abbrev pub takes_of : OpeningState → Op → List Resource
-takes_of o op = takes_if (is_recoverable o op) op
-
 -- a command that is answered NORMAL takes what it takes, where its file or queue is recoverable or the record is read for
 -- update; in another file it gives back the record of the update read that it covers
 abbrev pub table_changed : Bool → ℕ → Op → List UpdateRead → Table → Table

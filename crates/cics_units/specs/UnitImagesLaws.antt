@@ -1,5 +1,5 @@
 -- Recovery: what is held back for undoing belongs to an image that a unit keeps, through changes and the ends of units.
-use Rattle.std.specs.Prelude.{◌≡◌, ◌≢◌, ℕ, ◌==◌, Bool, true, false, not, ◌&&◌, List, ◌∷◌, unwrap_or, refl}
+use Rattle.std.specs.Prelude.{◌≡◌, ◌≢◌, ℕ, ◌==◌, Bool, true, false, not, ◌&&◌, List, unwrap_or, refl}
 use Rattle.std.proofs.Common.{sym, ap, ◌∙◌, subst, ◌⊎◌, inl, inr}
 use Rattle.std.proofs.lemmas.Bool.{eqb-true, eqb-false}
 use Rattle.std.specs.Bool.{Decides}
@@ -27,10 +27,6 @@ other_of true b h = h
 
 not_both : {P : Type 0} (b : Bool) → b ≡ true → b ≡ false → P
 not_both b yes_it no_it = let wrong : true ≡ false = sym yes_it ∙ no_it in cc
-
--- a cell is no other than itself
-not_other : (c d : Cell) → d ≡ c → is_other c d ≡ false
-not_other c d same = ap not ((bytes_eq-Decides d c).1 same)
 
 -- and only than itself
 is_one : (c d : Cell) → is_other c d ≡ false → d ≡ c
@@ -71,10 +67,3 @@ module _ {M I : Type 0} (holds_back : M → Cell → Bool) (cell : I → Cell) (
           | inr apart ↦ other_named c before.0 (eqb-false before.0 u apart) before.1
         ]
   ]
-
-  -- so it is with one image more, of a change that leaves what is held back at other cells
-  pub held_after_image : (image : I) → kept_by new u ≡ image ∷ kept_by old u → ((c : Cell) → is_other (cell image) c ≡ true → holds_back n c ≡ holds_back m c) →
-      AreHeldForImages holds_back cell m old → AreHeldForImages holds_back cell n new
-  held_after_image image newest same = held_after_change
-      (λ c unnamed holds. sym (same c (both (is_other (cell image) c) (is_unnamed cell (kept_by old u) c) (sym (ap (λ is. is_unnamed cell is c) newest) ∙ unnamed)).0) ∙ holds)
-      (λ c named. ap (λ is. is_unnamed cell is c) newest ∙ other_of (is_other (cell image) c) (is_unnamed cell (kept_by old u) c) named)

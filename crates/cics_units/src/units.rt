@@ -26,7 +26,7 @@ ghost use Rattle.cics_history.specs.declared.ops.UnitState.TheVariants.{Committe
 
 use crate::listings::Listing;
 use crate::opening::Opening;
-use crate::units_core::{Store, UnitsCore, settle_ends};
+use crate::units_core::{Store, UnitsCore, reserve_images, settle_ends};
 use cics_enqueue::{ResourceRef, TakeFault, UnitId};
 use cics_history::{Answer, Done, Enqueued, Entry, Op, UnitState};
 use cics_images::{Images, Stores, Undoable};
@@ -308,7 +308,8 @@ impl Units {
         let begins = unit;
         let acting = unit_or_next(unit, self.outcomes.as_slice());
         make_room(&mut self.outcomes, &mut self.commits)?;
-        match self.core.enq(acting, value) {
+        reserve_images(&mut self.core.rows, self.alloc, acting, 0)?;
+        match self.core.locks.enq(value, acting) {
             Ok(None) => {}
             Ok(Some(holder)) => return Ok(Enqueued::MustWait(holder)),
             Err(TakeFault::Full) => return Ok(Enqueued::CountFull),

@@ -2,12 +2,10 @@
 //! and the open update reads.
 
 ghost use Rattle.std.specs.Prelude.{◌≡◌, ◌<◌, ◌≤◌, ℕ, true, false, not, if◌then◌else◌};
-ghost use Rattle.std.specs.Prelude.{[], None, Some, length, filter, reverse, IfOk, IfNone};
-ghost use Rattle.std.specs.Prelude.{IfErr, IfSome, OnOk, OnErr, All};
+ghost use Rattle.std.specs.Prelude.{[], None, length, filter, reverse, IfOk, IfSome, OnOk, OnErr, All};
 ghost use Rattle.std.specs.List.{list_any};
 ghost use Rattle.std.specs.Option.{option_copied};
-ghost use Rattle.cics_names.specs.Keyed.{value_at};
-ghost use Rattle.cics_enqueue.specs.Resources.{is_full, is_user, holder_over};
+ghost use Rattle.cics_enqueue.specs.Resources.{is_user};
 ghost use Rattle.cics_history.specs.Cells.{Reading, Writing};
 ghost use Rattle.cics_history.specs.Execution.{covers, read_at, with_read, is_read_of};
 ghost use Rattle.cics_history.specs.Records.{file_of, key_of};
@@ -15,11 +13,10 @@ ghost use Rattle.cics_units.specs.Applied.{IsSeen};
 ghost use Rattle.cics_units.specs.Awaiting.{is_writer, unit_in_way};
 ghost use Rattle.cics_units.specs.Cores.{core_value, IsBoundFor};
 ghost use Rattle.cics_units.specs.Executed.{IsExecuted};
-ghost use Rattle.cics_units.specs.Parts.{IsFitOp, first_in, given_record, most_images};
-ghost use Rattle.cics_units.specs.Parts.{AreEnqueued, ArePartsKept};
+ghost use Rattle.cics_units.specs.Parts.{IsFitOp, given_record, most_images, ArePartsKept};
 ghost use Rattle.cics_units.specs.QueueChanges.{is_trans, is_temp, queue_of};
 ghost use Rattle.cics_units.specs.StoreEnds.{end_settled, ends_settled};
-ghost use Rattle.cics_units.specs.TableInPlace.{is_read, covered_read, value_of, AreOnce};
+ghost use Rattle.cics_units.specs.TableInPlace.{is_read, covered_read, AreOnce};
 ghost use Rattle.cics_units.specs.TableInPlace.{table_given_back};
 ghost use Rattle.cics_units.specs.UnitImages.{kept_by, room_of};
 ghost use Rattle.cics_units.specs.Uses.{listed, taken_all, AreFreeFor, let_go};
@@ -29,7 +26,7 @@ use crate::open_reads::OpenReads;
 use crate::queues::{QueueImage, Queues};
 use crate::store;
 use crate::uses::{Uses, WereFree, hold_all, holder_over_all, let_go_all, uses_of};
-use cics_enqueue::{Enqueues, ResourceRef, TakeFault, UnitId};
+use cics_enqueue::{Enqueues, ResourceRef, UnitId};
 use cics_history::{Answer, Op};
 use cics_images::{Images, StoreImage, Stores, Undoable};
 use cics_ksds::FileImage;
@@ -70,14 +67,6 @@ pub(crate) struct BoundOp<'a> {
     pub(crate) own: bool,
 }
 
-// A count, and 1 for none.
-fn at_least_one(count: usize) -> usize
-    ensures some { 0 < result }
-    ensures all { count ≤ result }
-{
-    if count == 0 { 1 } else { count }
-}
-
 // Commits the writing end of the queue that an image is of, where it is of that end.
 fn settle_writer(store: &mut Store, image: &AnyImage)
     ensures { store.new ≡ end_settled Writing store.old image.now }
@@ -114,16 +103,18 @@ pub(crate) fn settle_ends(store: &mut Store, images: &[AnyImage])
     }
 }
 
-// Returns how many images a command gives at most.
+// Returns for how many images a command needs room: as many as it gives at most, and at least one.
 fn most_images(store: &Store, op: &Op) -> usize
     requires fit { IsFitOp store.now op.now }
-    ensures { result ≡ most_images store.now.files op.now }
+    ensures some { 0 < result }
+    ensures all { most_images store.now.files op.now ≤ result }
 {
-    match op {
-        Op::DeleteGeneric { file, prefix } => {
-            store.files.at(file).count_prefix(prefix.bytes()) as usize
-        }
-        _ => 1,
+    let Op::DeleteGeneric { file, prefix } = op else {
+        return 1;
+    };
+    match store.files.at(file).count_prefix(prefix.bytes()) as usize {
+        0 => 1,
+        count => count,
     }
 }
 
@@ -137,9 +128,9 @@ fn copied(given: Option<&Record>) -> Result<Option<Record>, NoMemory>
     }
 }
 
-// Makes room for so many more images of a unit, which may be the next one, that has yet to begin. A
-// command that changes many cells makes room for all its images before its first change.
-fn make_room(
+/// Makes room for so many more images of a unit, which may be the next one, that has yet to begin. A
+/// command that changes many cells makes room for all its images before its first change.
+pub(crate) fn reserve_images(
     rows: &mut Vec<Images<Store>>,
     alloc: Global,
     unit: UnitId,
@@ -249,14 +240,6 @@ impl UnitsCore {
             .holder_over(&ResourceRef::writing_end(*name), again)
     }
 
-    // Returns the first record of a queue that a reader may be given: of what isn't committed only what
-    // it wrote itself.
-    fn first_for(&self, queue: &Name4, own: bool) -> Option<&Record>
-        ensures { option_copied result ≡ first_in (value_at queue.now self.now.store.trans_data) own }
-    {
-        self.store.trans_data.get(queue)?.first(own)
-    }
-
     /// Returns a copy of the record that a command would be answered with now: READ UPDATE's, and READQ
     /// TD's, which may be one that its unit wrote itself. Other commands are given none.
     #[inline(never)]
@@ -267,7 +250,7 @@ impl UnitsCore {
     {
         match bound.op {
             Op::ReadUpdate { file, key } => copied(self.store.files.at(file).read(key.bytes())),
-            Op::TdRead { queue } => copied(self.first_for(queue, bound.own)),
+            Op::TdRead { queue } => copied(self.store.trans_data.at(queue).first(bound.own)),
             _ => Ok(None),
         }
     }
@@ -378,8 +361,8 @@ impl UnitsCore {
             (core_value self.new) unit bound.now.op.now bound.now.recoverable answer) }
         ensures err { OnErr result (ArePartsKept (core_value self.old) (core_value self.new)) }
     {
-        let most = at_least_one(most_images(&self.store, bound.op));
-        make_room(&mut self.rows, self.alloc, unit, most)?;
+        let most = most_images(&self.store, bound.op);
+        reserve_images(&mut self.rows, self.alloc, unit, most)?;
         if let Op::ReadUpdate { file, key } = bound.op {
             let answer = store::found(copied(given)?);
             if given.is_none() {
@@ -406,31 +389,5 @@ impl UnitsCore {
                 Err(refused)
             }
         }
-    }
-
-    /// A unit, which may be the next one to begin, takes a value, once more where it holds it
-    /// already, or the other unit that holds it is answered. Full where the unit holds it 65,535
-    /// times, and NoMemory where memory is refused. What isn't taken leaves all as it was.
-    pub(crate) fn enq(&mut self, unit: UnitId, value: &[u8]) -> Result<Option<UnitId>, TakeFault>
-        requires begun { unit ≤ length self.old.rows.items }
-        requires most { length value.now ≤ 255 }
-        ensures holder { IfOk result (λ holder.
-            holder ≡ holder_over (value_of value.now) (Some unit) self.old.locks) }
-        ensures enqueued { IfOk result (λ holder. IfNone holder
-            (AreEnqueued (core_value self.old) (core_value self.new) unit value.now)) }
-        ensures waits { IfOk result (λ holder. IfSome holder
-            (λ _. ArePartsKept (core_value self.old) (core_value self.new))) }
-        ensures room { IfOk result (λ holder. IfNone holder
-            (is_full (value_of value.now) self.old.locks ≡ false)) }
-        ensures full { IfErr result
-            (λ fault. fault ≡ TakeFault.Full →
-            is_full (value_of value.now) self.old.locks ≡ true) }
-        ensures own { IfErr result
-            (λ fault. fault ≡ TakeFault.Full →
-            holder_over (value_of value.now) (Some unit) self.old.locks ≡ None) }
-        ensures err { OnErr result (ArePartsKept (core_value self.old) (core_value self.new)) }
-    {
-        make_room(&mut self.rows, self.alloc, unit, 0)?;
-        self.locks.enq(value, unit)
     }
 }

@@ -1,19 +1,15 @@
 use Rattle.std.proofs.Common.{◌≡◌, ◌∙◌, sym, ap, subst, true}
 use Rattle.cics_history.proofs.Ready.{ready_short}
-use Rattle.cics_history.specs.Events.{may_act}
 use Rattle.cics_history.specs.Execution.{unit_or_next, IsOpenUnit, IsOpenOrNone, is_ready_op}
 use Rattle.cics_history.specs.Headline.{IsHeadline}
 use Rattle.cics_history.specs.Holding.{UnitsState, awaited}
 use Rattle.cics_history.specs.Isolation.{IsSound}
-use Rattle.cics_history.specs.Store.{is_recoverable}
 use Rattle.cics_history.specs.declared.ops.Op.{Op}
 use Rattle.cics_units.specs.Cores.{core_value}
 use Rattle.cics_units.specs.KeptUnits.{state_shown}
 use Rattle.cics_units.specs.Parts.{CoreValue}
-use Rattle.cics_units.specs.QueueChanges.{is_temp}
-use Rattle.cics_units.specs.declared.units_core.BoundOp.{BoundOp}
 use Rattle.cics_units.proofs.KeptUnits.{kept_headline, ready_fits}
-use Rattle.cics_units.proofs.ShownUnits.{acts_of, if_open, in_way, awaited_is, waits_open, blocker_is}
+use Rattle.cics_units.proofs.ShownUnits.{acts_of, if_open, awaited_is, waits_open, IsAsked, asked}
 use Rattle.cics_units.proofs.units.Units.awaited.Goals as goal
 use Rattle.cics_units.proofs.units.Units.awaited.Goals.{After-blocker}
 
@@ -25,25 +21,18 @@ module _ (c : After-blocker) where
   abbrev before : UnitsState
   before = state_shown c.self.inside.opening c.self.inside.trace.items c.self.inside.outcomes.items c.self.inside.commits.items core
 
-  abbrev bound : BoundOp
-  bound = c.bind-bound.result
-
   -- the command that is bound
   abbrev op : Op
-  op = bound.op.now
+  op = c.bind-bound.result.op.now
 
-  acts : may_act before c.args.asking ≡ true
-  acts = acts_of before c.args.asking (subst (λ v. IsOpenOrNone v.state c.args.asking) (sym c.self.view_is) c.requires.is_open)
-
-  way : c.blocker.result ≡ in_way c.self.inside.opening c.self.inside.trace.items c.self.inside.outcomes.items c.self.inside.commits.items core core c.self.invariant.0 c.args.asking op acts
-  way =
+  known : IsAsked c.self.inside.opening c.self.inside.trace.items c.self.inside.outcomes.items c.self.inside.commits.items core c.args.asking c.bind-bound.result c.unit_or_next-acting.result c.blocker.result
+  known =
       let u = c.self.inside in
-      let acting : c.unit_or_next-acting.result ≡ unit_or_next c.args.asking u.outcomes.items = c.unit_or_next-acting.ensures ∙ ap (unit_or_next c.args.asking) c.as_slice.ensures.value in
-      blocker_is u.opening u.trace.items u.outcomes.items u.commits.items core core c.self.invariant.0 c.args.asking bound c.unit_or_next-acting.result acting c.bind-bound.ensures.bound
-      (λ on_temp.
-      let is : is_temp c.args.op.now ≡ true = sym (ap is_temp c.bind-bound.ensures.op) ∙ on_temp in
-      c.bind-bound.ensures.temp is ∙ c.is_prefixed.ensures is ∙ ap (is_recoverable u.opening) (sym c.bind-bound.ensures.op))
-      c.blocker.result c.blocker.ensures
+      asked u.opening u.trace.items u.outcomes.items u.commits.items core core c.self.invariant.0 c.args.asking c.args.op.now c.bind-bound.result c.unit_or_next-acting.result c.blocker.result c.bind-bound.ensures.op
+      c.bind-bound.ensures.bound (c.unit_or_next-acting.ensures ∙ ap (unit_or_next c.args.asking) c.as_slice.ensures.value)
+      (acts_of before c.args.asking (subst (λ v. IsOpenOrNone v.state c.args.asking) (sym c.self.view_is) c.requires.is_open))
+      (subst (λ v. is_ready_op v.state c.args.asking c.args.op.now ≡ true) (sym c.self.view_is) c.requires.ready)
+      (λ temp. c.bind-bound.ensures.temp temp ∙ c.is_prefixed.ensures temp) c.blocker.ensures
 
 pub bind-bound-requires : goal.bind-bound-requires
 bind-bound-requires c =
@@ -60,7 +49,7 @@ pub returns-clause-awaited : goal.returns-clause-awaited
 returns-clause-awaited c =
     let u = c.self.inside in
     let at = (goal.at.returns-clause-awaited c).After-blocker in
-    way at ∙ sym (awaited_is u.opening u.trace.items u.outcomes.items u.commits.items (core at) (core at) c.self.invariant.0 c.args.asking (op at) (acts at))
+    (known at).way ∙ sym (awaited_is u.opening u.trace.items u.outcomes.items u.commits.items (core at) (core at) c.self.invariant.0 c.args.asking (op at) (known at).acts)
     ∙ ap (awaited (before at) c.args.asking) c.bind-bound.ensures.op ∙ ap (λ v. awaited v.state c.args.asking c.args.op.now) c.self.view_is
 
 pub returns-clause-is_open : goal.returns-clause-is_open
@@ -68,7 +57,7 @@ returns-clause-is_open c =
     let u = c.self.inside in
     let at = (goal.at.returns-clause-is_open c).After-blocker in
     if_open c.blocker.result (λ h is. subst (λ v. IsOpenUnit v.state h) c.self.view_is
-    (waits_open u.opening u.trace.items u.outcomes.items u.commits.items (core at) (core at) c.self.invariant.0 c.args.asking (op at) (acts at) h (sym (way at) ∙ is)))
+    (waits_open u.opening u.trace.items u.outcomes.items u.commits.items (core at) (core at) c.self.invariant.0 c.args.asking (op at) (known at).acts h (sym (known at).way ∙ is)))
 
 pub returns-clause-sound : goal.returns-clause-sound
 returns-clause-sound c = subst (λ v. IsSound v.state) c.self.view_is c.self.invariant.0.sound

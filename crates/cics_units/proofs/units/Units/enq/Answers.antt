@@ -1,6 +1,6 @@
-use Rattle.std.specs.Prelude.{IfSome, IfNone}
-use Rattle.std.proofs.Common.{arith, ℕ, Option, ◌≡◌, ◌∙◌, sym, ap, subst, refl, true, Some, None, length}
-use Rattle.cics_enqueue.specs.Resources.{holder_over}
+use Rattle.std.specs.Prelude.{IfNone, if◌then◌else◌}
+use Rattle.std.proofs.Common.{arith, ℕ, Option, List, ◌≡◌, ◌∙◌, sym, ap, subst, refl, true, false, Some, None, is_some, length}
+use Rattle.cics_enqueue.specs.Resources.{Table, holder_over, is_full, taken}
 use Rattle.cics_history.specs.Holding.{UnitsState}
 use Rattle.cics_history.specs.Execution.{IsOpenUnit, IsOpenOrNone, unit_or_next, outcomes_with, enqueue, after_enqueued, after_enqueue}
 use Rattle.cics_history.specs.Events.{may_act}
@@ -8,7 +8,7 @@ use Rattle.cics_history.specs.Headline.{IsHeadline}
 use Rattle.cics_units.specs.Cores.{core_value}
 use Rattle.cics_units.specs.KeptUnits.{state_shown, AreKept}
 use Rattle.cics_units.specs.StoreMatching.{shown_store}
-use Rattle.cics_units.specs.Parts.{AreEnqueued, ArePartsKept}
+use Rattle.cics_units.specs.Parts.{CoreValue, AreRoomier, AreEnqueued, ArePartsKept}
 use Rattle.cics_units.specs.TableInPlace.{value_of}
 use Rattle.cics_history.specs.declared.ops.Enqueued.TheVariants.{Taken, MustWait, CountFull}
 use Rattle.cics_units.proofs.KeptUnits.{kept_headline}
@@ -16,46 +16,44 @@ use Rattle.cics_units.proofs.ShownUnits.{acts_of, refused_kept, with_len}
 use Rattle.cics_units.proofs.Enqueuing.{value_over, enqueue-waits, enqueue-takes, enqueue-full, enqueued_shown, enqueued_kept, refused_shown}
 use Rattle.cics_units.proofs.HeldOver.{holder_open}
 use Rattle.cics_units.proofs.units.Units.enq.Goals as goal
-use Rattle.cics_units.proofs.units.Units.enq.Goals.{In-Ok-Some, In-Ok-None, After-enq, In-Err-Full, After-begin}
+use Rattle.cics_units.proofs.units.Units.enq.Goals.{In-Ok-Some, In-Ok-None, After-reserve_images, In-Err-Full, After-begin}
 
--- ---- another unit holds the value
+-- ---- there is more room for images, and these locks
+module _ (c : After-reserve_images) where
+  abbrev core : CoreValue
+  core = core_value c.self.inside.core
 
-where_some : {P : Type 0} {o : Option ℕ} {n : ℕ} → o ≡ Some n → IfSome o (λ m. P) → P
-where_some {P} is held = subst (λ o. IfSome o (λ m. P)) is held
+  abbrev before : UnitsState
+  before = state_shown c.self.inside.opening c.self.inside.trace.items c.self.inside.outcomes.items c.self.inside.commits.items core
 
-where_none : {P : Type 0} {o : Option ℕ} → o ≡ None → IfNone o P → P
-where_none {P} is free = subst (λ o. IfNone o P) is free
+  -- the core with these locks
+  abbrev left : Table → CoreValue
+  left locks = record core { stores = record { store = core.stores.store; images = c.reserve_images.new.rows.items }; table = locks }
 
-held : (c : In-Ok-Some) → holder_over (value_of c.args.value.now) c.args.unit c.self.inside.core.locks ≡ Some c.in-Ok-Some.holder
-held c =
-    let u = c.self.inside in
-    sym (value_over (state_shown u.opening u.trace.items u.outcomes.items u.commits.items (core_value u.core)) (core_value u.core).stores u.core.locks c.self.invariant.0 c.args.unit c.args.value.now
-    c.unit_or_next-acting.result (c.unit_or_next-acting.ensures ∙ ap (unit_or_next c.args.unit) c.as_slice.ensures.value)) ∙ sym c.in-Ok-Some.ensures.holder ∙ c.in-Ok-Some.field-0-is
+  roomier : AreRoomier core.stores (left core.table).stores
+  roomier = record { store = refl; kept = c.reserve_images.ensures.kept; longer = c.reserve_images.ensures.longer }
 
-waits : (c : In-Ok-Some) → enqueue (state_shown c.self.inside.opening c.self.inside.trace.items c.self.inside.outcomes.items c.self.inside.commits.items (core_value c.self.inside.core)) c.args.unit c.args.value.now ≡ MustWait c.in-Ok-Some.holder
-waits c =
-    let u = c.self.inside in
-    enqueue-waits (state_shown u.opening u.trace.items u.outcomes.items u.commits.items (core_value u.core)) (core_value u.core).stores u.core.locks c.self.invariant.0 c.args.unit c.args.value.now c.in-Ok-Some.holder (held c)
+  same : (locks : Table) → locks ≡ core.table → ArePartsKept core (left locks)
+  same locks is = record { stores = roomier; table = is; reads = refl }
 
-pub returns-in-Ok-Some-clause-done : goal.returns-in-Ok-Some-clause-done
-returns-in-Ok-Some-clause-done c = sym (waits (goal.at.returns-in-Ok-Some-clause-done c).In-Ok-Some) ∙ ap (λ w. enqueue w.state c.args.unit c.args.value.now) c.self.view_is
+  abbrev after : Table → UnitsState
+  after locks = state_shown c.self.inside.opening c.self.inside.trace.items c.make_room.new.outcomes.items c.make_room.new.commits.items (left locks)
 
-pub returns-in-Ok-Some-clause-holder_open : goal.returns-in-Ok-Some-clause-holder_open
-returns-in-Ok-Some-clause-holder_open c =
-    let u = c.self.inside in
-    let s = state_shown u.opening u.trace.items u.outcomes.items u.commits.items (core_value u.core) in
-    subst (λ w. IsOpenUnit w.state c.in-Ok-Some.holder) c.self.view_is
-    (holder_open s u.core.locks c.self.invariant.0.sound c.self.invariant.0.table c.args.unit (value_of c.args.value.now) c.in-Ok-Some.holder (held (goal.at.returns-in-Ok-Some-clause-holder_open c).In-Ok-Some))
+  -- where nothing is taken all is kept
+  kept_same : (locks : Table) → locks ≡ core.table → AreKept (after locks) (left locks).stores locks
+  kept_same locks is =
+      let u = c.self.inside in
+      refused_kept u.opening u.trace.items u.outcomes.items u.commits.items core (left locks) c.self.invariant.0 (same locks is) u.trace.items c.make_room.new.outcomes.items c.make_room.new.commits.items refl
+      c.make_room.ensures.outcomes c.make_room.ensures.commits
 
-pub returns-in-Ok-Some-clause-state : goal.returns-in-Ok-Some-clause-state
-returns-in-Ok-Some-clause-state c =
-    let u = c.self.inside in
-    let s = state_shown u.opening u.trace.items u.outcomes.items u.commits.items (core_value u.core) in
-    refused_shown u.opening u.trace.items u.outcomes.items u.commits.items (core_value u.core) (core_value c.enq.new.self) c.self.invariant.0 (where_some c.in-Ok-Some.field-0-is c.in-Ok-Some.ensures.waits) c.make_room.new.outcomes.items c.make_room.new.commits.items c.make_room.ensures.outcomes c.make_room.ensures.commits
-    ∙ sym (ap (after_enqueued s c.args.unit c.args.value.now) (waits (goal.at.returns-in-Ok-Some-clause-state c).In-Ok-Some))
-    ∙ ap (λ w. after_enqueue w.state c.args.unit c.args.value.now) c.self.view_is
+  headline_same : (locks : Table) → locks ≡ core.table → IsHeadline (record { state = after locks; store = shown_store core.stores.store })
+  headline_same locks is = kept_headline (after locks) (left locks).stores locks (kept_same locks is)
 
--- ---- the value is not taken
+  -- who holds the value is asked for the unit that acts
+  over : holder_over (value_of c.args.value.now) (Some c.unit_or_next-acting.result) core.table ≡ holder_over (value_of c.args.value.now) c.args.unit core.table
+  over = value_over before core.stores core.table c.self.invariant.0 c.args.unit c.args.value.now c.unit_or_next-acting.result (c.unit_or_next-acting.ensures ∙ ap (unit_or_next c.args.unit) c.as_slice.ensures.value)
+
+-- ---- memory is refused
 pub returns-in_err-make_room-clause-headline : goal.returns-in_err-make_room-clause-headline
 returns-in_err-make_room-clause-headline c =
     let u = c.self.inside in
@@ -63,58 +61,103 @@ returns-in_err-make_room-clause-headline c =
     (λ i. state_shown u.opening u.trace.items (sym c.make_room.ensures.outcomes i) (sym c.make_room.ensures.commits i) (core_value u.core))
     (kept_headline (state_shown u.opening u.trace.items u.outcomes.items u.commits.items (core_value u.core)) (core_value u.core).stores u.core.locks c.self.invariant.0)
 
-full : (c : In-Err-Full) → enqueue (state_shown c.self.inside.opening c.self.inside.trace.items c.self.inside.outcomes.items c.self.inside.commits.items (core_value c.self.inside.core)) c.args.unit c.args.value.now ≡ CountFull
-full c =
+pub invariant_of-self-in_err-reserve_images : goal.invariant_of-self-in_err-reserve_images
+invariant_of-self-in_err-reserve_images c = (
+  kept_same (goal.at.invariant_of-self-in_err-reserve_images c).After-reserve_images c.self.inside.core.locks refl,
+  omega (arith, ap length c.make_room.ensures.outcomes, c.self.invariant.1, c.make_room.ensures.capacity),
+)
+
+pub returns-in_err-reserve_images-clause-headline : goal.returns-in_err-reserve_images-clause-headline
+returns-in_err-reserve_images-clause-headline c = headline_same (goal.at.returns-in_err-reserve_images-clause-headline c).After-reserve_images c.self.inside.core.locks refl
+
+pub returns-in-Err-NoMemory-clause-headline : goal.returns-in-Err-NoMemory-clause-headline
+returns-in-Err-NoMemory-clause-headline c = headline_same (goal.at.returns-in-Err-NoMemory-clause-headline c).After-reserve_images c.enq.new.self c.in-Err-NoMemory.ensures.err
+
+-- ---- another unit holds the value
+-- whom ENQ is asked for is the unit that acts
+abbrev IsOver : ℕ → Option ℕ → List ℕ → Table → Type 0
+IsOver acting unit v t = holder_over (value_of v) (Some acting) t ≡ holder_over (value_of v) unit t
+
+module _ (c : In-Ok-Some) (over : IsOver c.unit_or_next-acting.result c.args.unit c.args.value.now c.self.inside.core.locks) where
+  held : holder_over (value_of c.args.value.now) c.args.unit c.self.inside.core.locks ≡ Some c.in-Ok-Some.holder
+  held = sym over ∙ sym c.in-Ok-Some.ensures.holder ∙ c.in-Ok-Some.field-0-is
+
+  waits : enqueue (state_shown c.self.inside.opening c.self.inside.trace.items c.self.inside.outcomes.items c.self.inside.commits.items (core_value c.self.inside.core)) c.args.unit c.args.value.now ≡ MustWait c.in-Ok-Some.holder
+  waits =
+      let u = c.self.inside in
+      enqueue-waits (state_shown u.opening u.trace.items u.outcomes.items u.commits.items (core_value u.core)) (core_value u.core).stores u.core.locks c.self.invariant.0 c.args.unit c.args.value.now c.in-Ok-Some.holder held
+
+-- then nothing is taken
+untaken : (c : In-Ok-Some) → c.enq.new.self ≡ c.self.inside.core.locks
+untaken c = c.in-Ok-Some.ensures.taken
+    ∙ ap (λ o. if is_some o then c.self.inside.core.locks else taken c.self.inside.core.locks (value_of c.args.value.now) c.unit_or_next-acting.result) c.in-Ok-Some.field-0-is
+
+pub returns-in-Ok-Some-clause-done : goal.returns-in-Ok-Some-clause-done
+returns-in-Ok-Some-clause-done c =
+    let at = goal.at.returns-in-Ok-Some-clause-done c in
+    sym (waits at.In-Ok-Some (over at.After-reserve_images)) ∙ ap (λ w. enqueue w.state c.args.unit c.args.value.now) c.self.view_is
+
+pub returns-in-Ok-Some-clause-holder_open : goal.returns-in-Ok-Some-clause-holder_open
+returns-in-Ok-Some-clause-holder_open c =
+    let at = goal.at.returns-in-Ok-Some-clause-holder_open c in
+    subst (λ w. IsOpenUnit w.state c.in-Ok-Some.holder) c.self.view_is
+    (holder_open (before at.After-reserve_images) c.self.inside.core.locks c.self.invariant.0.sound c.self.invariant.0.table c.args.unit (value_of c.args.value.now) c.in-Ok-Some.holder
+    (held at.In-Ok-Some (over at.After-reserve_images)))
+
+pub returns-in-Ok-Some-clause-state : goal.returns-in-Ok-Some-clause-state
+returns-in-Ok-Some-clause-state c =
     let u = c.self.inside in
-    let none = sym (value_over (state_shown u.opening u.trace.items u.outcomes.items u.commits.items (core_value u.core)) (core_value u.core).stores u.core.locks c.self.invariant.0 c.args.unit c.args.value.now
-    c.unit_or_next-acting.result (c.unit_or_next-acting.ensures ∙ ap (unit_or_next c.args.unit) c.as_slice.ensures.value)) ∙ c.in-Err-Full.ensures.own c.in-Err-Full.field-0-is in
-    enqueue-full (state_shown u.opening u.trace.items u.outcomes.items u.commits.items (core_value u.core)) (core_value u.core).stores u.core.locks c.self.invariant.0 c.args.unit c.args.value.now none (c.in-Err-Full.ensures.full c.in-Err-Full.field-0-is)
+    let at = goal.at.returns-in-Ok-Some-clause-state c in
+    refused_shown u.opening u.trace.items u.outcomes.items u.commits.items (core_value u.core) (left at.After-reserve_images c.enq.new.self) c.self.invariant.0
+    (same at.After-reserve_images c.enq.new.self (untaken at.In-Ok-Some)) c.make_room.new.outcomes.items c.make_room.new.commits.items c.make_room.ensures.outcomes c.make_room.ensures.commits
+    ∙ sym (ap (after_enqueued (before at.After-reserve_images) c.args.unit c.args.value.now) (waits at.In-Ok-Some (over at.After-reserve_images)))
+    ∙ ap (λ w. after_enqueue w.state c.args.unit c.args.value.now) c.self.view_is
+
+pub returns-in-Ok-Some-clause-headline : goal.returns-in-Ok-Some-clause-headline
+returns-in-Ok-Some-clause-headline c =
+    let at = goal.at.returns-in-Ok-Some-clause-headline c in
+    headline_same at.After-reserve_images c.enq.new.self (untaken at.In-Ok-Some)
+
+-- ---- the unit holds it the most times
+full : (c : In-Err-Full) → IsOver c.unit_or_next-acting.result c.args.unit c.args.value.now c.self.inside.core.locks →
+    enqueue (state_shown c.self.inside.opening c.self.inside.trace.items c.self.inside.outcomes.items c.self.inside.commits.items (core_value c.self.inside.core)) c.args.unit c.args.value.now ≡ CountFull
+full c over =
+    let u = c.self.inside in
+    enqueue-full (state_shown u.opening u.trace.items u.outcomes.items u.commits.items (core_value u.core)) (core_value u.core).stores u.core.locks c.self.invariant.0 c.args.unit c.args.value.now
+    (sym over ∙ c.in-Err-Full.ensures.own c.in-Err-Full.field-0-is) (c.in-Err-Full.ensures.full c.in-Err-Full.field-0-is)
 
 pub returns-in-Err-Full-clause-done : goal.returns-in-Err-Full-clause-done
 returns-in-Err-Full-clause-done c =
     let at = goal.at.returns-in-Err-Full-clause-done c in
-    sym (full at.In-Err-Full) ∙ ap (λ w. enqueue w.state c.args.unit c.args.value.now) c.self.view_is
+    sym (full at.In-Err-Full (over at.After-reserve_images)) ∙ ap (λ w. enqueue w.state c.args.unit c.args.value.now) c.self.view_is
 
 pub returns-in-Err-Full-clause-state : goal.returns-in-Err-Full-clause-state
 returns-in-Err-Full-clause-state c =
     let u = c.self.inside in
-    let s = state_shown u.opening u.trace.items u.outcomes.items u.commits.items (core_value u.core) in
     let at = goal.at.returns-in-Err-Full-clause-state c in
-    refused_shown u.opening u.trace.items u.outcomes.items u.commits.items (core_value u.core) (core_value c.enq.new.self) c.self.invariant.0 c.in-Err-Full.ensures.err c.make_room.new.outcomes.items c.make_room.new.commits.items c.make_room.ensures.outcomes c.make_room.ensures.commits
-    ∙ sym (ap (after_enqueued s c.args.unit c.args.value.now) (full at.In-Err-Full))
+    refused_shown u.opening u.trace.items u.outcomes.items u.commits.items (core_value u.core) (left at.After-reserve_images c.enq.new.self) c.self.invariant.0
+    (same at.After-reserve_images c.enq.new.self c.in-Err-Full.ensures.err) c.make_room.new.outcomes.items c.make_room.new.commits.items c.make_room.ensures.outcomes c.make_room.ensures.commits
+    ∙ sym (ap (after_enqueued (before at.After-reserve_images) c.args.unit c.args.value.now) (full at.In-Err-Full (over at.After-reserve_images)))
     ∙ ap (λ w. after_enqueue w.state c.args.unit c.args.value.now) c.self.view_is
 
--- what the parts kept shows a headline
-refused : (c : After-enq) → ArePartsKept (core_value c.self.inside.core) (core_value c.enq.new.self) →
-    IsHeadline (record { state = state_shown c.self.inside.opening c.self.inside.trace.items c.make_room.new.outcomes.items c.make_room.new.commits.items (core_value c.enq.new.self); store = shown_store c.enq.new.self.store })
-refused c same =
-    let u = c.self.inside in
-    kept_headline _ (core_value c.enq.new.self).stores c.enq.new.self.locks
-    (refused_kept u.opening u.trace.items u.outcomes.items u.commits.items (core_value u.core) (core_value c.enq.new.self) c.self.invariant.0 same u.trace.items c.make_room.new.outcomes.items c.make_room.new.commits.items refl
-    c.make_room.ensures.outcomes c.make_room.ensures.commits)
-
-pub returns-in-Ok-Some-clause-headline : goal.returns-in-Ok-Some-clause-headline
-returns-in-Ok-Some-clause-headline c = refused (goal.at.returns-in-Ok-Some-clause-headline c).After-enq (where_some c.in-Ok-Some.field-0-is c.in-Ok-Some.ensures.waits)
-
 pub returns-in-Err-Full-clause-headline : goal.returns-in-Err-Full-clause-headline
-returns-in-Err-Full-clause-headline c = refused (goal.at.returns-in-Err-Full-clause-headline c).After-enq c.in-Err-Full.ensures.err
-
-pub returns-in-Err-NoMemory-clause-headline : goal.returns-in-Err-NoMemory-clause-headline
-returns-in-Err-NoMemory-clause-headline c = refused (goal.at.returns-in-Err-NoMemory-clause-headline c).After-enq c.in-Err-NoMemory.ensures.err
+returns-in-Err-Full-clause-headline c = headline_same (goal.at.returns-in-Err-Full-clause-headline c).After-reserve_images c.enq.new.self c.in-Err-Full.ensures.err
 
 -- ---- it is taken
-none : (c : In-Ok-None) → holder_over (value_of c.args.value.now) c.args.unit c.self.inside.core.locks ≡ None
-none c =
-    let u = c.self.inside in
-    sym (value_over (state_shown u.opening u.trace.items u.outcomes.items u.commits.items (core_value u.core)) (core_value u.core).stores u.core.locks c.self.invariant.0 c.args.unit c.args.value.now
-    c.unit_or_next-acting.result (c.unit_or_next-acting.ensures ∙ ap (unit_or_next c.args.unit) c.as_slice.ensures.value)) ∙ sym c.in-Ok-None.ensures.holder ∙ c.in-Ok-None.field-0-is
+none : (c : In-Ok-None) → IsOver c.unit_or_next-acting.result c.args.unit c.args.value.now c.self.inside.core.locks → holder_over (value_of c.args.value.now) c.args.unit c.self.inside.core.locks ≡ None
+none c over = sym over ∙ sym c.in-Ok-None.ensures.holder ∙ c.in-Ok-None.field-0-is
 
-module _ (c : After-begin) (none : holder_over (value_of c.args.value.now) c.args.unit c.self.inside.core.locks ≡ None) where
+module _ (c : After-begin) (roomier : AreRoomier (core_value c.self.inside.core).stores (record { store = c.self.inside.core.store; images = c.reserve_images.new.rows.items }))
+    (none : holder_over (value_of c.args.value.now) c.args.unit c.self.inside.core.locks ≡ None) where
   abbrev old : UnitsState
   old = state_shown c.self.inside.opening c.self.inside.trace.items c.self.inside.outcomes.items c.self.inside.commits.items (core_value c.self.inside.core)
 
+  -- the core with the value taken
+  abbrev new : CoreValue
+  new = record (core_value c.self.inside.core) { stores = record { store = c.self.inside.core.store; images = c.reserve_images.new.rows.items }; table = c.enq.new.self }
+
   abbrev now : UnitsState
-  now = state_shown c.self.inside.opening c.self.inside.trace.items c.begin.new.outcomes.items c.make_room.new.commits.items (core_value c.enq.new.self)
+  now = state_shown c.self.inside.opening c.self.inside.trace.items c.begin.new.outcomes.items c.make_room.new.commits.items new
 
   acts : may_act old c.args.unit ≡ true
   acts = acts_of old c.args.unit (subst (λ w. IsOpenOrNone w.state c.args.unit) (sym c.self.view_is) c.requires.is_open)
@@ -123,43 +166,55 @@ module _ (c : After-begin) (none : holder_over (value_of c.args.value.now) c.arg
   acting = c.unit_or_next-acting.ensures ∙ ap (unit_or_next c.args.unit) c.as_slice.ensures.value
 
   takes : enqueue old c.args.unit c.args.value.now ≡ Taken (unit_or_next c.args.unit c.self.inside.outcomes.items)
-  takes = enqueue-takes old (core_value c.self.inside.core).stores c.self.inside.core.locks c.self.invariant.0 c.args.unit c.args.value.now none (where_none c.in-Ok-None.field-0-is c.in-Ok-None.ensures.room)
+  takes = enqueue-takes old (core_value c.self.inside.core).stores c.self.inside.core.locks c.self.invariant.0 c.args.unit c.args.value.now none
+      (subst (λ o. IfNone o (is_full (value_of c.args.value.now) c.self.inside.core.locks ≡ false)) c.in-Ok-None.field-0-is c.in-Ok-None.ensures.room)
 
-  done : AreEnqueued (core_value c.self.inside.core) (core_value c.enq.new.self) (unit_or_next c.args.unit c.self.inside.outcomes.items) c.args.value.now
-  done = subst (λ n. AreEnqueued (core_value c.self.inside.core) (core_value c.enq.new.self) n c.args.value.now) acting (where_none c.in-Ok-None.field-0-is c.in-Ok-None.ensures.enqueued)
+  done : AreEnqueued (core_value c.self.inside.core) new (unit_or_next c.args.unit c.self.inside.outcomes.items) c.args.value.now
+  done = subst (λ n. AreEnqueued (core_value c.self.inside.core) new n c.args.value.now) acting (record {
+    stores = roomier;
+    begun = c.in_ok-reserve_images.ensures.begun;
+    table = c.in-Ok-None.ensures.taken
+        ∙ ap (λ o. if is_some o then c.self.inside.core.locks else taken c.self.inside.core.locks (value_of c.args.value.now) c.unit_or_next-acting.result) c.in-Ok-None.field-0-is;
+    reads = refl;
+  })
 
-  shown : now ≡ state_shown c.self.inside.opening c.self.inside.trace.items (outcomes_with c.args.unit c.self.inside.outcomes.items) c.self.inside.commits.items (core_value c.enq.new.self)
+  shown : now ≡ state_shown c.self.inside.opening c.self.inside.trace.items (outcomes_with c.args.unit c.self.inside.outcomes.items) c.self.inside.commits.items new
   shown =
       let outcomes : c.begin.new.outcomes.items ≡ outcomes_with c.args.unit c.self.inside.outcomes.items = c.begin.ensures ∙ ap (outcomes_with c.args.unit) c.make_room.ensures.outcomes in
-      λ i. state_shown c.self.inside.opening c.self.inside.trace.items (outcomes i) (c.make_room.ensures.commits i) (core_value c.enq.new.self)
+      λ i. state_shown c.self.inside.opening c.self.inside.trace.items (outcomes i) (c.make_room.ensures.commits i) new
 
   state : now ≡ after_enqueue old c.args.unit c.args.value.now
   state =
       let u = c.self.inside in
-      shown ∙ enqueued_shown u.opening u.trace.items u.outcomes.items u.commits.items (core_value u.core) (core_value c.enq.new.self) c.self.invariant.0 c.args.unit c.args.value.now acts takes done
+      shown ∙ enqueued_shown u.opening u.trace.items u.outcomes.items u.commits.items (core_value u.core) new c.self.invariant.0 c.args.unit c.args.value.now acts takes done
 
-  kept : AreKept now (core_value c.enq.new.self).stores c.enq.new.self.locks
+  kept : AreKept now new.stores new.table
   kept =
       let u = c.self.inside in
-      subst (λ s. AreKept s (core_value c.enq.new.self).stores c.enq.new.self.locks) (sym shown)
-      (enqueued_kept u.opening u.trace.items u.outcomes.items u.commits.items (core_value u.core) (core_value c.enq.new.self) c.self.invariant.0 c.args.unit c.args.value.now acts takes done)
+      subst (λ s. AreKept s new.stores new.table) (sym shown)
+      (enqueued_kept u.opening u.trace.items u.outcomes.items u.commits.items (core_value u.core) new c.self.invariant.0 c.args.unit c.args.value.now acts takes done)
 
 pub invariant_of-self-2 : goal.invariant_of-self-2
 invariant_of-self-2 c =
     let at = goal.at.invariant_of-self-2 c in
-    (kept at.After-begin (none at.In-Ok-None), omega (arith, with_len c.args.unit c.make_room.new.outcomes.items, ap length c.begin.ensures, c.in_ok-make_room.ensures.turns))
+    let room = at.After-reserve_images in
+    (kept at.After-begin (roomier room) (none at.In-Ok-None (over room)), omega (arith, with_len c.args.unit c.make_room.new.outcomes.items, ap length c.begin.ensures, c.in_ok-make_room.ensures.turns))
 
 pub returns-clause-done : goal.returns-clause-done
 returns-clause-done c =
     let at = goal.at.returns-clause-done c in
-    ap Taken (acting at.After-begin (none at.In-Ok-None)) ∙ sym (takes at.After-begin (none at.In-Ok-None)) ∙ ap (λ w. enqueue w.state c.args.unit c.args.value.now) c.self.view_is
+    let room = at.After-reserve_images in
+    let none = none at.In-Ok-None (over room) in
+    ap Taken (acting at.After-begin (roomier room) none) ∙ sym (takes at.After-begin (roomier room) none) ∙ ap (λ w. enqueue w.state c.args.unit c.args.value.now) c.self.view_is
 
 pub returns-clause-state : goal.returns-clause-state
 returns-clause-state c =
     let at = goal.at.returns-clause-state c in
-    state at.After-begin (none at.In-Ok-None) ∙ ap (λ w. after_enqueue w.state c.args.unit c.args.value.now) c.self.view_is
+    let room = at.After-reserve_images in
+    state at.After-begin (roomier room) (none at.In-Ok-None (over room)) ∙ ap (λ w. after_enqueue w.state c.args.unit c.args.value.now) c.self.view_is
 
 pub returns-clause-headline : goal.returns-clause-headline
 returns-clause-headline c =
     let at = goal.at.returns-clause-headline c in
-    kept_headline _ (core_value c.enq.new.self).stores c.enq.new.self.locks (kept at.After-begin (none at.In-Ok-None))
+    let room = at.After-reserve_images in
+    kept_headline _ (new at.After-begin (roomier room) (none at.In-Ok-None (over room))).stores c.enq.new.self (kept at.After-begin (roomier room) (none at.In-Ok-None (over room)))

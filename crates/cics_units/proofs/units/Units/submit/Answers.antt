@@ -1,41 +1,24 @@
-use Rattle.std.proofs.Common.{arith, ◌≡◌, ℕ, ◌∙◌, sym, ap, subst, true, Option, None, List, [], ◌∷◌, ◌++◌, length}
+use Rattle.std.proofs.Common.{arith, ◌≡◌, ◌∙◌, sym, ap, subst, true, None, [], ◌∷◌, ◌++◌, length}
 use Rattle.cics_history.specs.Execution.{execution, after_execution, unit_or_next, read_at, outcomes_with, IsOpenUnit, IsOpenOrNone, is_ready_op}
 use Rattle.cics_history.specs.Headline.{IsHeadline}
 use Rattle.cics_history.specs.Holding.{UnitsState}
 use Rattle.cics_history.proofs.Ready.{ready_short}
-use Rattle.cics_history.specs.Events.{may_act}
 use Rattle.cics_history.specs.Records.{file_of}
 use Rattle.cics_history.specs.Store.{is_recoverable}
 use Rattle.cics_history.specs.declared.ops.Op.{Op}
 use Rattle.cics_history.specs.declared.ops.Entry.{Entry}
-use Rattle.cics_history.specs.Openings.{OpeningState}
 use Rattle.cics_history.specs.declared.ops.Done.TheVariants.{Answered}
-use Rattle.cics_history.specs.declared.ops.UnitState.{UnitState}
 use Rattle.cics_units.specs.Cores.{core_value}
 use Rattle.cics_units.specs.KeptUnits.{state_shown, AreKept}
 use Rattle.cics_units.specs.StoreMatching.{shown_store}
-use Rattle.cics_units.specs.Uses.{uses_if, listed, AreFreeFor}
-use Rattle.cics_units.specs.Awaiting.{is_writer, unit_in_way}
-use Rattle.cics_units.specs.QueueChanges.{is_temp, is_trans, queue_of}
+use Rattle.cics_units.specs.Uses.{uses_if, AreFreeFor}
 use Rattle.cics_units.specs.Parts.{CoreValue}
 use Rattle.cics_units.specs.Executed.{IsExecuted}
-use Rattle.cics_units.specs.Applied.{IsBound}
-use Rattle.cics_units.specs.declared.units_core.BoundOp.{BoundOp}
 use Rattle.cics_units.proofs.AppliedKept.{given_own, seen_own}
 use Rattle.cics_units.proofs.KeptUnits.{kept_headline, ready_fits}
-use Rattle.cics_units.proofs.ShownUnits.{acts_of, none_open_of, refused_kept, with_len, in_way, waits, waits_unchanged, waits_open, free_way, seen_way, parts_state, parts_kept, record_given, answered, recoverable_is, bound_is, used_is, own_is, blocker_is}
+use Rattle.cics_units.proofs.ShownUnits.{acts_of, none_open_of, refused_kept, with_len, in_way, waits, waits_unchanged, waits_open, free_way, seen_way, parts_state, parts_kept, record_given, answered, IsAsked, asked as asked_of}
 use Rattle.cics_units.proofs.units.Units.submit.Goals as goal
 use Rattle.cics_units.proofs.units.Units.submit.Goals.{After-blocker, After-enter, In_err-answer}
-
--- what is known of a bound command once it is asked which unit is in its way
-record IsAsked (o : OpeningState) (trace : List Entry) (outcomes : List UnitState) (commits : List ℕ) (p : CoreValue) (unit : Option ℕ) (b : BoundOp) (actor : ℕ) (holder : Option ℕ) : Type 0 where
-  acts : may_act (state_shown o trace outcomes commits p) unit ≡ true
-  ready : is_ready_op (state_shown o trace outcomes commits p) unit b.op.now ≡ true
-  acting : actor ≡ unit_or_next unit outcomes
-  recoverable : b.recoverable ≡ is_recoverable o b.op.now
-  stands : IsBound p.stores.store b.op.now (is_recoverable o b.op.now)
-  own : is_trans b.op.now ≡ true → b.own ≡ is_writer p.table (unit_or_next unit outcomes) (queue_of b.op.now)
-  way : holder ≡ unit_in_way p.table p.stores.store.trans_data (is_recoverable o b.op.now) unit (unit_or_next unit outcomes) b.op.now
 
 -- ---- the command is bound, and it is known whom it has to wait for
 module _ (c : After-blocker) where
@@ -45,56 +28,18 @@ module _ (c : After-blocker) where
   abbrev before : UnitsState
   before = state_shown c.self.inside.opening c.self.inside.trace.items c.self.inside.outcomes.items c.self.inside.commits.items core
 
-  abbrev bound : BoundOp
-  bound = c.bind-bound.result
-
   -- the command that is bound
   abbrev op : Op
-  op = bound.op.now
+  op = c.bind-bound.result.op.now
 
-  acts : may_act before c.args.unit ≡ true
-  acts = acts_of before c.args.unit (subst (λ v. IsOpenOrNone v.state c.args.unit) (sym c.self.view_is) c.requires.is_open)
-
-  ready : is_ready_op before c.args.unit op ≡ true
-  ready = subst (λ o. is_ready_op before c.args.unit o ≡ true) (sym c.bind-bound.ensures.op)
+  known : IsAsked c.self.inside.opening c.self.inside.trace.items c.self.inside.outcomes.items c.self.inside.commits.items core c.args.unit c.bind-bound.result c.unit_or_next-acting.result c.blocker.result
+  known =
+      let u = c.self.inside in
+      asked_of u.opening u.trace.items u.outcomes.items u.commits.items core core c.self.invariant.0 c.args.unit c.args.op c.bind-bound.result c.unit_or_next-acting.result c.blocker.result c.bind-bound.ensures.op c.bind-bound.ensures.bound
+      (c.unit_or_next-acting.ensures ∙ ap (unit_or_next c.args.unit) c.as_slice.ensures.value)
+      (acts_of before c.args.unit (subst (λ v. IsOpenOrNone v.state c.args.unit) (sym c.self.view_is) c.requires.is_open))
       (subst (λ v. is_ready_op v.state c.args.unit c.args.op ≡ true) (sym c.self.view_is) c.requires.ready)
-
-  acting : c.unit_or_next-acting.result ≡ unit_or_next c.args.unit c.self.inside.outcomes.items
-  acting = c.unit_or_next-acting.ensures ∙ ap (unit_or_next c.args.unit) c.as_slice.ensures.value
-
-  temp : is_temp op ≡ true → bound.recoverable ≡ is_recoverable c.self.inside.opening op
-  temp on_temp =
-      let is : is_temp c.args.op ≡ true = sym (ap is_temp c.bind-bound.ensures.op) ∙ on_temp in
-      c.bind-bound.ensures.temp is ∙ c.is_prefixed.ensures is ∙ ap (is_recoverable c.self.inside.opening) (sym c.bind-bound.ensures.op)
-
-  recoverable : bound.recoverable ≡ is_recoverable c.self.inside.opening op
-  recoverable =
-      let u = c.self.inside in
-      recoverable_is u.opening u.trace.items u.outcomes.items u.commits.items core core c.self.invariant.0 c.args.unit bound c.unit_or_next-acting.result acting c.bind-bound.ensures.bound temp
-
-  stands : IsBound core.stores.store op (is_recoverable c.self.inside.opening op)
-  stands =
-      let u = c.self.inside in
-      bound_is u.opening u.trace.items u.outcomes.items u.commits.items core core c.self.invariant.0 c.args.unit bound c.unit_or_next-acting.result acting c.bind-bound.ensures.bound temp
-
-  used : listed bound.uses ≡ uses_if (is_recoverable c.self.inside.opening op) op
-  used =
-      let u = c.self.inside in
-      used_is u.opening u.trace.items u.outcomes.items u.commits.items core core c.self.invariant.0 c.args.unit bound c.unit_or_next-acting.result acting c.bind-bound.ensures.bound temp
-
-  own : is_trans op ≡ true → bound.own ≡ is_writer core.table (unit_or_next c.args.unit c.self.inside.outcomes.items) (queue_of op)
-  own =
-      let u = c.self.inside in
-      own_is u.opening u.trace.items u.outcomes.items u.commits.items core core c.self.invariant.0 c.args.unit bound c.unit_or_next-acting.result acting c.bind-bound.ensures.bound temp
-
-  -- the unit that it has to wait for is the one in its way
-  way : c.blocker.result ≡ in_way c.self.inside.opening c.self.inside.trace.items c.self.inside.outcomes.items c.self.inside.commits.items core core c.self.invariant.0 c.args.unit op acts
-  way =
-      let u = c.self.inside in
-      blocker_is u.opening u.trace.items u.outcomes.items u.commits.items core core c.self.invariant.0 c.args.unit bound c.unit_or_next-acting.result acting c.bind-bound.ensures.bound temp c.blocker.result c.blocker.ensures
-
-  asked : IsAsked c.self.inside.opening c.self.inside.trace.items c.self.inside.outcomes.items c.self.inside.commits.items core c.args.unit bound c.unit_or_next-acting.result c.blocker.result
-  asked = record { acts = acts; ready = ready; acting = acting; recoverable = recoverable; stands = stands; own = own; way = way }
+      (λ temp. c.bind-bound.ensures.temp temp ∙ c.is_prefixed.ensures temp) c.blocker.ensures
 
   headline : IsHeadline (record { state = before; store = shown_store core.stores.store })
   headline = kept_headline before core.stores core.table c.self.invariant.0
@@ -104,7 +49,7 @@ pub returns-in-Some-clause-done : goal.returns-in-Some-clause-done
 returns-in-Some-clause-done c =
     let u = c.self.inside in
     let at = (goal.at.returns-in-Some-clause-done c).After-blocker in
-    waits u.opening u.trace.items u.outcomes.items u.commits.items (core at) (core at) c.self.invariant.0 c.args.unit (op at) (acts at) c.in-Some.holder (sym (way at) ∙ c.in-Some.is)
+    waits u.opening u.trace.items u.outcomes.items u.commits.items (core at) (core at) c.self.invariant.0 c.args.unit (op at) (known at).acts c.in-Some.holder (sym (known at).way ∙ c.in-Some.is)
     ∙ ap (execution (before at) c.args.unit) c.bind-bound.ensures.op ∙ ap (λ v. execution v.state c.args.unit c.args.op) c.self.view_is
 
 pub returns-in-Some-clause-holder_open : goal.returns-in-Some-clause-holder_open
@@ -112,14 +57,14 @@ returns-in-Some-clause-holder_open c =
     let u = c.self.inside in
     let at = (goal.at.returns-in-Some-clause-holder_open c).After-blocker in
     subst (λ v. IsOpenUnit v.state c.in-Some.holder) c.self.view_is
-    (waits_open u.opening u.trace.items u.outcomes.items u.commits.items (core at) (core at) c.self.invariant.0 c.args.unit (op at) (acts at) c.in-Some.holder (sym (way at) ∙ c.in-Some.is))
+    (waits_open u.opening u.trace.items u.outcomes.items u.commits.items (core at) (core at) c.self.invariant.0 c.args.unit (op at) (known at).acts c.in-Some.holder (sym (known at).way ∙ c.in-Some.is))
 
 pub returns-in-Some-clause-state : goal.returns-in-Some-clause-state
 returns-in-Some-clause-state c =
     let u = c.self.inside in
     let at = (goal.at.returns-in-Some-clause-state c).After-blocker in
     subst (λ v. v.state ≡ after_execution v.state c.args.unit c.args.op) c.self.view_is
-    (waits_unchanged u.opening u.trace.items u.outcomes.items u.commits.items (core at) (core at) c.self.invariant.0 c.args.unit (op at) (acts at) c.in-Some.holder (sym (way at) ∙ c.in-Some.is)
+    (waits_unchanged u.opening u.trace.items u.outcomes.items u.commits.items (core at) (core at) c.self.invariant.0 c.args.unit (op at) (known at).acts c.in-Some.holder (sym (known at).way ∙ c.in-Some.is)
     ∙ ap (after_execution (before at) c.args.unit) c.bind-bound.ensures.op)
 
 pub returns-in-Some-clause-headline : goal.returns-in-Some-clause-headline
@@ -171,39 +116,39 @@ bind-bound-requires c =
 pub given_record-requires : goal.given_record-requires
 given_record-requires c =
     let at = (goal.at.given_record-requires c).After-blocker in
-    record { fit = ready_fits (before at) (core at).stores (core at).table c.self.invariant.0 c.args.unit (op at) (ready at) }
+    record { fit = ready_fits (before at) (core at).stores (core at).table c.self.invariant.0 c.args.unit (op at) (known at).ready }
 
 pub execute-requires-clause-fit : goal.execute-requires-clause-fit
 execute-requires-clause-fit c =
     let at = (goal.at.execute-requires-clause-fit c).After-blocker in
-    ready_fits (before at) (core at).stores (core at).table c.self.invariant.0 c.args.unit (op at) (ready at)
+    ready_fits (before at) (core at).stores (core at).table c.self.invariant.0 c.args.unit (op at) (known at).ready
 
 pub execute-requires-clause-seen : goal.execute-requires-clause-seen
 execute-requires-clause-seen c =
     let u = c.self.inside in
     let at = (goal.at.execute-requires-clause-seen c).After-blocker in
-    seen_own (op at) (bound at).own _ u.core.store (own at)
-    (seen_way u.opening u.trace.items u.outcomes.items u.commits.items (core at) (core at) c.self.invariant.0 c.args.unit (op at) (acts at) (sym (way at) ∙ c.in_default.is))
+    seen_own (op at) c.bind-bound.result.own _ u.core.store (known at).own
+    (seen_way u.opening u.trace.items u.outcomes.items u.commits.items (core at) (core at) c.self.invariant.0 c.args.unit (op at) (known at).acts (sym (known at).way ∙ c.in_default.is))
 
 pub execute-requires-clause-free : goal.execute-requires-clause-free
 execute-requires-clause-free c =
     let u = c.self.inside in
     let at = (goal.at.execute-requires-clause-free c).After-blocker in
-    subst (λ rs. AreFreeFor u.core.locks rs c.unit_or_next-acting.result) (sym (used at))
-    (subst (AreFreeFor u.core.locks (uses_if (is_recoverable u.opening (op at)) (op at))) (sym (acting at))
-    (free_way u.opening u.trace.items u.outcomes.items u.commits.items (core at) (core at) c.self.invariant.0 c.args.unit (op at) (acts at) (sym (way at) ∙ c.in_default.is)))
+    subst (λ rs. AreFreeFor u.core.locks rs c.unit_or_next-acting.result) (sym (known at).used)
+    (subst (AreFreeFor u.core.locks (uses_if (is_recoverable u.opening (op at)) (op at))) (sym (known at).acting)
+    (free_way u.opening u.trace.items u.outcomes.items u.commits.items (core at) (core at) c.self.invariant.0 c.args.unit (op at) (known at).acts (sym (known at).way ∙ c.in_default.is)))
 
 pub execute-requires-clause-none_open : goal.execute-requires-clause-none_open
 execute-requires-clause-none_open c = λ read.
     let at = (goal.at.execute-requires-clause-none_open c).After-blocker in
-    ap (λ n. read_at c.self.inside.core.reads n (file_of (op at))) (acting at) ∙ none_open_of (before at) c.args.unit (op at) c.self.invariant.0.sound.begun.readers (ready at) read
+    ap (λ n. read_at c.self.inside.core.reads n (file_of (op at))) (known at).acting ∙ none_open_of (before at) c.args.unit (op at) c.self.invariant.0.sound.begun.readers (known at).ready read
 
 pub execute-requires-clause-short : goal.execute-requires-clause-short
 execute-requires-clause-short c = c.self.invariant.0.table.keys
 
 -- ---- it is executed
 module _ (c : After-enter)
-    (known : IsAsked c.self.inside.opening c.self.inside.trace.items c.self.inside.outcomes.items c.self.inside.commits.items (core_value c.self.inside.core) c.args.unit c.bind-bound.result c.unit_or_next-acting.result c.blocker.result) where
+    (asked : IsAsked c.self.inside.opening c.self.inside.trace.items c.self.inside.outcomes.items c.self.inside.commits.items (core_value c.self.inside.core) c.args.unit c.bind-bound.result c.unit_or_next-acting.result c.blocker.result) where
   abbrev old : UnitsState
   old = state_shown c.self.inside.opening c.self.inside.trace.items c.self.inside.outcomes.items c.self.inside.commits.items (core_value c.self.inside.core)
 
@@ -216,26 +161,26 @@ module _ (c : After-enter)
   abbrev done_op : Op
   done_op = c.bind-bound.result.op.now
 
-  none : in_way c.self.inside.opening c.self.inside.trace.items c.self.inside.outcomes.items c.self.inside.commits.items (core_value c.self.inside.core) new c.self.invariant.0 c.args.unit done_op known.acts ≡ None
-  none = sym known.way ∙ c.in_default.is
+  none : in_way c.self.inside.opening c.self.inside.trace.items c.self.inside.outcomes.items c.self.inside.commits.items (core_value c.self.inside.core) new c.self.invariant.0 c.args.unit done_op asked.acts ≡ None
+  none = sym asked.way ∙ c.in_default.is
 
   done : IsExecuted (core_value c.self.inside.core) new (unit_or_next c.args.unit c.self.inside.outcomes.items) done_op (is_recoverable c.self.inside.opening done_op) c.in_ok-answer.answer
-  done = subst (λ r. IsExecuted (core_value c.self.inside.core) new (unit_or_next c.args.unit c.self.inside.outcomes.items) done_op r c.in_ok-answer.answer) known.recoverable
-      (subst (λ n. IsExecuted (core_value c.self.inside.core) new n done_op c.bind-bound.result.recoverable c.in_ok-answer.answer) known.acting c.in_ok-answer.ensures.executed)
+  done = subst (λ r. IsExecuted (core_value c.self.inside.core) new (unit_or_next c.args.unit c.self.inside.outcomes.items) done_op r c.in_ok-answer.answer) asked.recoverable
+      (subst (λ n. IsExecuted (core_value c.self.inside.core) new n done_op c.bind-bound.result.recoverable c.in_ok-answer.answer) asked.acting c.in_ok-answer.ensures.executed)
 
   -- the record of the answer is the one that was looked up
   given : c.in_ok-content.content ≡ c.in_ok-answer.answer.content
   given =
       let u = c.self.inside in
-      c.in_ok-content.ensures ∙ given_own done_op c.bind-bound.result.own _ u.core.store known.own
-      ∙ sym (record_given u.opening u.trace.items u.outcomes.items u.commits.items (core_value u.core) new c.self.invariant.0 c.args.unit done_op known.acts none known.ready c.in_ok-answer.answer known.stands done)
+      c.in_ok-content.ensures ∙ given_own done_op c.bind-bound.result.own _ u.core.store asked.own
+      ∙ sym (record_given u.opening u.trace.items u.outcomes.items u.commits.items (core_value u.core) new c.self.invariant.0 c.args.unit done_op asked.acts none asked.ready c.in_ok-answer.answer asked.stands done)
 
   abbrev entry : Entry
   entry = record { unit = unit_or_next c.args.unit c.self.inside.outcomes.items; op = done_op; answer = c.in_ok-answer.answer }
 
   trace : c.enter.new.trace.items ≡ c.self.inside.trace.items ++ entry ∷ []
   trace = c.enter.ensures.trace ∙ (λ i. c.reserve.ensures.items i ++ record {
-    unit = known.acting i;
+    unit = asked.acting i;
     op = sym c.bind-bound.ensures.op i;
     answer = record { condition = c.in_ok-answer.answer.condition; content = given i; number = c.in_ok-answer.answer.number };
   } ∷ [])
@@ -249,38 +194,38 @@ module _ (c : After-enter)
   told : Answered c.unit_or_next-acting.result c.in_ok-answer.answer ≡ execution old c.args.unit c.args.op
   told =
       let u = c.self.inside in
-      ap (λ n. Answered n c.in_ok-answer.answer) known.acting
-      ∙ answered u.opening u.trace.items u.outcomes.items u.commits.items (core_value u.core) new c.self.invariant.0 c.args.unit done_op known.acts none known.ready c.in_ok-answer.answer known.stands done
+      ap (λ n. Answered n c.in_ok-answer.answer) asked.acting
+      ∙ answered u.opening u.trace.items u.outcomes.items u.commits.items (core_value u.core) new c.self.invariant.0 c.args.unit done_op asked.acts none asked.ready c.in_ok-answer.answer asked.stands done
       ∙ ap (execution old c.args.unit) c.bind-bound.ensures.op
 
   state : now ≡ after_execution old c.args.unit c.args.op
   state =
       let u = c.self.inside in
-      shown ∙ parts_state u.opening u.trace.items u.outcomes.items u.commits.items (core_value u.core) new c.self.invariant.0 c.args.unit done_op known.acts none known.ready c.in_ok-answer.answer known.stands done
+      shown ∙ parts_state u.opening u.trace.items u.outcomes.items u.commits.items (core_value u.core) new c.self.invariant.0 c.args.unit done_op asked.acts none asked.ready c.in_ok-answer.answer asked.stands done
       ∙ ap (after_execution old c.args.unit) c.bind-bound.ensures.op
 
   kept : AreKept now new.stores new.table
   kept =
       let u = c.self.inside in
       subst (λ s. AreKept s new.stores new.table) (sym shown)
-      (parts_kept u.opening u.trace.items u.outcomes.items u.commits.items (core_value u.core) new c.self.invariant.0 c.args.unit done_op known.acts none known.ready c.in_ok-answer.answer known.stands done)
+      (parts_kept u.opening u.trace.items u.outcomes.items u.commits.items (core_value u.core) new c.self.invariant.0 c.args.unit done_op asked.acts none asked.ready c.in_ok-answer.answer asked.stands done)
 
 pub invariant_of-self-2 : goal.invariant_of-self-2
 invariant_of-self-2 c =
     let at = goal.at.invariant_of-self-2 c in
-    (kept at.After-enter (asked at.After-blocker), omega (arith, with_len c.args.unit c.make_room.new.outcomes.items, ap length c.enter.ensures.outcomes, c.in_ok-make_room.ensures.turns))
+    (kept at.After-enter (known at.After-blocker), omega (arith, with_len c.args.unit c.make_room.new.outcomes.items, ap length c.enter.ensures.outcomes, c.in_ok-make_room.ensures.turns))
 
 pub returns-clause-done : goal.returns-clause-done
 returns-clause-done c =
     let at = goal.at.returns-clause-done c in
-    told at.After-enter (asked at.After-blocker) ∙ ap (λ v. execution v.state c.args.unit c.args.op) c.self.view_is
+    told at.After-enter (known at.After-blocker) ∙ ap (λ v. execution v.state c.args.unit c.args.op) c.self.view_is
 
 pub returns-clause-state : goal.returns-clause-state
 returns-clause-state c =
     let at = goal.at.returns-clause-state c in
-    state at.After-enter (asked at.After-blocker) ∙ ap (λ v. after_execution v.state c.args.unit c.args.op) c.self.view_is
+    state at.After-enter (known at.After-blocker) ∙ ap (λ v. after_execution v.state c.args.unit c.args.op) c.self.view_is
 
 pub returns-clause-headline : goal.returns-clause-headline
 returns-clause-headline c =
     let at = goal.at.returns-clause-headline c in
-    kept_headline _ (core_value c.execute.new.self).stores c.execute.new.self.locks (kept at.After-enter (asked at.After-blocker))
+    kept_headline _ (core_value c.execute.new.self).stores c.execute.new.self.locks (kept at.After-enter (known at.After-blocker))

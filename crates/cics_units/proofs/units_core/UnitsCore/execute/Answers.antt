@@ -21,7 +21,7 @@ use Rattle.cics_units.proofs.DoneParts.{not_read, opened_none, changed_table, re
 use Rattle.cics_units.proofs.RefusedCommands.{condition_normal, reads_refused}
 use Rattle.cics_units.proofs.UnitRows.{kept_at, room_at, kept_set, others_set, row_read}
 use Rattle.cics_units.proofs.units_core.UnitsCore.execute.Goals as goal
-use Rattle.cics_units.proofs.units_core.UnitsCore.execute.Goals.{In_ok-make_room, In_ok-copied, In_ok-were_free, In-Ok}
+use Rattle.cics_units.proofs.units_core.UnitsCore.execute.Goals.{In_ok-reserve_images, In_ok-copied, In_ok-were_free, In-Ok}
 
 -- what is lent is there as what it points at is
 copied_some : (o : Option (Bor Bytes)) → is_some (option_copied o) ≡ is_some o
@@ -29,17 +29,17 @@ copied_some None = refl
 copied_some (Some x) = refl
 
 -- ---- there is room
-module _ (c : In_ok-make_room) where
+module _ (c : In_ok-reserve_images) where
   -- the core with the room that was made
   abbrev roomy : CoreValue
-  roomy = record (core_value c.args.self.now) { stores = record { store = c.args.self.now.store; images = c.make_room.new.rows.items } }
+  roomy = record (core_value c.args.self.now) { stores = record { store = c.args.self.now.store; images = c.reserve_images.new.rows.items } }
 
   executed : (new : CoreValue) (answer : Answer) → IsDone roomy new c.args.unit c.args.bound.now.op.now c.args.bound.now.recoverable c.args.bound.now.own answer →
       IsExecuted (core_value c.args.self.now) new c.args.unit c.args.bound.now.op.now c.args.bound.now.recoverable answer
   executed new answer done = record {
     roomy = roomy.stores;
-    room = record { store = refl; kept = c.in_ok-make_room.ensures.kept; longer = c.in_ok-make_room.ensures.longer };
-    begun = c.in_ok-make_room.ensures.begun;
+    room = record { store = refl; kept = c.in_ok-reserve_images.ensures.kept; longer = c.in_ok-reserve_images.ensures.longer };
+    begun = c.in_ok-reserve_images.ensures.begun;
     own = c.args.bound.now.own;
     own_is = c.requires.bound.own;
     done = done;
@@ -48,7 +48,7 @@ module _ (c : In_ok-make_room) where
 -- ---- READ UPDATE
 module _ (c : In_ok-copied) where
   abbrev old : CoreValue
-  old = record (core_value c.args.self.now) { stores = record { store = c.args.self.now.store; images = c.make_room.new.rows.items } }
+  old = record (core_value c.args.self.now) { stores = record { store = c.args.self.now.store; images = c.reserve_images.new.rows.items } }
 
   -- the core once the record is held and read for update, if it is there
   abbrev opened_if : Bool → CoreValue
@@ -77,7 +77,7 @@ pub returns-then-is_none-clause-executed : goal.returns-then-is_none-clause-exec
 returns-then-is_none-clause-executed c =
     let at = goal.at.returns-then-is_none-clause-executed c in
     let none : is_some c.args.given ≡ false = c.is_none.ensures ∙ ap not c.if-is_none.true in
-    executed at.In_ok-make_room (old at.In_ok-copied) c.found-answer.result
+    executed at.In_ok-reserve_images (old at.In_ok-copied) c.found-answer.result
     (subst (λ b. IsDone (old at.In_ok-copied) (opened_if at.In_ok-copied b) c.args.unit c.args.bound.now.op.now c.args.bound.now.recoverable c.args.bound.now.own c.found-answer.result) none
     (read at.In_ok-copied c.found-answer.result c.found-answer.ensures))
 
@@ -85,7 +85,7 @@ pub returns-in-ReadUpdate-clause-executed : goal.returns-in-ReadUpdate-clause-ex
 returns-in-ReadUpdate-clause-executed c =
     let at = goal.at.returns-in-ReadUpdate-clause-executed c in
     let some = c.is_none.ensures ∙ ap not c.if-is_none.false in
-    executed at.In_ok-make_room (core_value c.open_read.new.self) c.found-answer.result
+    executed at.In_ok-reserve_images (core_value c.open_read.new.self) c.found-answer.result
     (subst (λ n. IsDone (old at.In_ok-copied) n c.args.unit c.args.bound.now.op.now c.args.bound.now.recoverable c.args.bound.now.own c.found-answer.result) (sym (ap core_value c.in_ok-open_read.ensures.value))
     (subst (λ b. IsDone (old at.In_ok-copied) (opened_if at.In_ok-copied b) c.args.unit c.args.bound.now.op.now c.args.bound.now.recoverable c.args.bound.now.own c.found-answer.result) some
     (read at.In_ok-copied c.found-answer.result c.found-answer.ensures)))
@@ -94,23 +94,23 @@ returns-in-ReadUpdate-clause-executed c =
 pub apply-requires : goal.apply-requires
 apply-requires c =
     let row = c.index_mut.result.now in
-    let room = room_at c.make_room.new.rows.items c.args.unit row
-    (row_read c.make_room.new.rows.items c.args.unit row c.number-at.result c.number-at.ensures c.in_ok-make_room.ensures.begun c.index_mut.ensures.value) in
+    let room = room_at c.reserve_images.new.rows.items c.args.unit row
+    (row_read c.reserve_images.new.rows.items c.args.unit row c.number-at.result c.number-at.ensures c.in_ok-reserve_images.ensures.begun c.index_mut.ensures.value) in
     record {
       change = not_read c.args.bound.now.op.now (λ f k is. c.in_default.not-ReadUpdate f k is);
       bound = c.requires.bound.bound;
       fit = c.requires.fit;
       seen = c.requires.seen;
-      one = omega (arith, c.at_least_one-most.ensures.some, c.in_ok-make_room.ensures.room, room);
-      most = omega (arith, c.most_images.ensures, c.at_least_one-most.ensures.all, c.in_ok-make_room.ensures.room, room);
+      one = omega (arith, c.most_images-most.ensures.some, c.in_ok-reserve_images.ensures.room, room);
+      most = omega (arith, c.most_images-most.ensures.all, c.in_ok-reserve_images.ensures.room, room);
     }
 
 module _ (c : In-Ok) where
   abbrev before : List (Kept AnyImage)
-  before = c.make_room.new.rows.items
+  before = c.reserve_images.new.rows.items
 
   there : slice_get before c.args.unit ≡ Some c.index_mut.result.now
-  there = row_read before c.args.unit c.index_mut.result.now c.number-at.result c.number-at.ensures c.in_ok-make_room.ensures.begun c.index_mut.ensures.value
+  there = row_read before c.args.unit c.index_mut.result.now c.number-at.result c.number-at.ensures c.in_ok-reserve_images.ensures.begun c.index_mut.ensures.value
 
   change : is_read c.args.bound.now.op.now ≡ false
   change = not_read c.args.bound.now.op.now (λ f k is. c.in_default.not-ReadUpdate f k is)
@@ -126,7 +126,7 @@ module _ (c : In-Ok) where
       let keep = c.args.bound.now.recoverable in
       let own = c.args.bound.now.own in
       let now : kept_by after u ≡ c.apply.new.images.newest_first =
-      ap (λ n. kept_by (slice_set before n c.apply.new.images) u) c.number-at.ensures ∙ kept_set before u c.apply.new.images c.in_ok-make_room.ensures.begun in
+      ap (λ n. kept_by (slice_set before n c.apply.new.images) u) c.number-at.ensures ∙ kept_set before u c.apply.new.images c.in_ok-reserve_images.ensures.begun in
       subst (λ is. IsApplied c.args.self.now.store c.apply.new.store is (kept_by after u) op keep own c.in-Ok.answer) (sym (kept_at before u c.index_mut.result.now there))
       (subst (λ is. IsApplied c.args.self.now.store c.apply.new.store c.index_mut.result.now.newest_first is op keep own c.in-Ok.answer) (sym now) c.in-Ok.ensures.applied)
 
@@ -136,13 +136,13 @@ module _ (c : In-Ok) where
 pub returns-in-Normal : goal.returns-in-Normal
 returns-in-Normal c =
     let at = goal.at.returns-in-Normal c in
-    let old = roomy at.In_ok-make_room in
+    let old = roomy at.In_ok-reserve_images in
     let u = c.args.unit in
     let op = c.args.bound.now.op.now in
     let keep = c.args.bound.now.recoverable in
     let own = c.args.bound.now.own in
     record {
-      executed = executed at.In_ok-make_room (core_value c.end_covered.new.self) c.in-Ok.answer
+      executed = executed at.In_ok-reserve_images (core_value c.end_covered.new.self) c.in-Ok.answer
           (subst (λ n. IsDone old n u op keep own c.in-Ok.answer) (sym (ap core_value c.end_covered.ensures)) (record {
             applied = applied at.In-Ok;
             others = others at.In-Ok;
@@ -155,13 +155,13 @@ returns-in-Normal c =
 pub returns-in_default-condition : goal.returns-in_default-condition
 returns-in_default-condition c =
     let at = goal.at.returns-in_default-condition c in
-    let old = roomy at.In_ok-make_room in
+    let old = roomy at.In_ok-reserve_images in
     let u = c.args.unit in
     let op = c.args.bound.now.op.now in
     let answer = c.in-Ok.answer in
     let refused : is_normal answer.condition ≡ false = false_from_ne_true _ (λ normal. c.in_default-condition.not-Normal (condition_normal answer.condition normal)) in
     record {
-      executed = executed at.In_ok-make_room _ answer (record {
+      executed = executed at.In_ok-reserve_images _ answer (record {
         applied = applied at.In-Ok;
         others = others at.In-Ok;
         table = rw refused (c.let_go_all.ensures ∙ c.in_ok-were_free.ensures.undone);
