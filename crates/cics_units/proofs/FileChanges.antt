@@ -15,7 +15,7 @@ use Rattle.cics_history.specs.Cells.{Key, content, is_generic, cell_of as cell_o
 use Rattle.cics_history.specs.Undo.{changes}
 use Rattle.cics_history.specs.declared.ops.Op.{Op}
 use Rattle.cics_history.specs.declared.ops.Op.TheVariants.{Write, Rewrite, Delete, DeleteGeneric, ReadUpdate}
-use Rattle.cics_units.specs.FilesImages.{cell_of, cell_of_image, files_hold, FilesKeep, KeepsIn, definitions_of}
+use Rattle.cics_units.specs.FilesImages.{FilesImage, cell_of, cell_of_image, files_hold, FilesKeep, KeepsIn, definitions_of}
 use Rattle.cics_units.proofs.HeldPlaces.{written_held, rewritten_held, deleted_held}
 use Rattle.cics_units.specs.FilesChanges.{IsFilesImage, held_among}
 use Rattle.cics_units.specs.StoreMatching.{StoreValue, shown_store}
@@ -101,41 +101,36 @@ kept_definitions p m n kept = λ i q. by (λ key. p (cell_of q key)) (value_at q
     by p (Some f) None k = absurd k
     by p (Some f) (Some g) k = ap Some k.same_file
 
--- what a change of one key of a file gives: an image of it where the file is recoverable and the key changes, and none
--- where the file is not recoverable, or where nothing changes
-abbrev pub IsKeyImage : Map FileValue → Map FileValue → Bytes → Bytes → Option ImageValue → Bool → Bool → Type 0
-IsKeyImage m n f k image false changed = image ≡ None
-IsKeyImage m n f k image true true = (i : ImageValue) × (image ≡ Some i) × IsFilesImage m n (cell_of f k) (record { name = f; image = i })
-IsKeyImage m n f k image true false = (image ≡ None) × (m ≡ n)
+-- the image of a command on one record of a file that is there: one where it changes a record of a recoverable file, else none
+module _ (s : StoreValue) (name : Bytes) (f : FileValue) (there : value_at name s.files ≡ Some f) (n : Map FileValue) (op : Op) (one : is_generic op ≡ false) (k : Bytes)
+    (on : cell_of_op op ≡ Key name k) (store : shown_store (with_files s n) ≡ (apply (shown_store s) op).store) (image : Option ImageValue)
+    (undoes : IfSome image (λ i. IsFilesImage s.files n (cell_of name k) (record { name = name; image = i }))) where
+  -- whether it changes the record
+  abbrev changed : Bool
+  changed = changes op (Some (listed (value_at k f.records)))
 
--- it is the image of the command
-module _ (s : StoreValue) (n : Map FileValue) (op : Op) (one : is_generic op ≡ false) (f k : Bytes) (on : cell_of_op op ≡ Key f k)
-    (store : shown_store (with_files s n) ≡ (apply (shown_store s) op).store) (image : Option ImageValue) where
-  images_from : (rec changed : Bool) → changes op (content (shown_store s) (Key f k)) ≡ changed →
-      IsKeyImage s.files n f k image rec changed → AreFileImagesAfter s n op (image_if f image) rec
-  images_from false changed e none = ap (image_if f) none
-  images_from true true e (i, is, undoes) = subst (λ o. HasFileImages s n op (image_if f o)) (sym is) (record {
-    made = with_image s op one (with_files s n) store (Key f k) on (ap (λ x. changes op (content (shown_store s) x)) on ∙ e) (File (record { name = f; image = i }))
-        (stands_for s n f k (record { name = f; image = i }) undoes) (λ c own. (own, (refl, refl)));
-    in_turn = (s.files, subst (λ c. IsFilesImage s.files n c (record { name = f; image = i })) (sym undoes.named) undoes, refl);
-  })
-  images_from true false e same = subst (λ o. HasFileImages s n op (image_if f o)) (sym same.0) (record {
-    made = without_image s op one (ap (λ x. changes op (content (shown_store s) x)) on ∙ e);
-    in_turn = same.1;
-  })
+  changed_here : changes op (content (shown_store s) (cell_of_op op)) ≡ changed
+  changed_here = ap (λ x. changes op (content (shown_store s) x)) on ∙ ap (changes op) (cell_there s name f there k)
 
--- there is an image just where it is asked for
-module _ (m n : Map FileValue) (name key : Bytes) (image : Option ImageValue)
-    (undoes : IfSome image (λ i. IsFilesImage m n (cell_of name key) (record { name = name; image = i }))) where
-  some_image : (o : Option ImageValue) → image ≡ o → is_some o ≡ true → IsKeyImage m n name key image true true
-  some_image None is some = absurd (false≢true some)
-  some_image (Some i) is some = (i, is, subst (λ o. IfSome o (λ i. IsFilesImage m n (cell_of name key) (record { name = name; image = i }))) is undoes)
+  module _ (plain : f.definition.recoverable ≡ false → image ≡ None) (still : changed ≡ false → (image ≡ None) × (s.files ≡ n))
+      (asked : f.definition.recoverable ≡ true → changed ≡ true → is_some image ≡ true) where
+    image_by : (rec did : Bool) (o : Option ImageValue) → f.definition.recoverable ≡ rec → changed ≡ did → image ≡ o → AreFileImagesAfter s n op (image_if name o) rec
+    image_by false did o r c is = ap (image_if name) (sym is ∙ plain r)
+    image_by true false o r c is = subst (λ o. HasFileImages s n op (image_if name o)) (sym (still c).0 ∙ is) (record {
+      made = without_image s op one (changed_here ∙ c);
+      in_turn = (still c).1;
+    })
+    image_by true true None r c is = absurd (false≢true (ap is_some (sym is) ∙ asked r c))
+    image_by true true (Some i) r c is =
+        let this : FilesImage = record { name = name; image = i } in
+        let undone : IsFilesImage s.files n (cell_of name k) this = subst (λ o. IfSome o (λ i. IsFilesImage s.files n (cell_of name k) (record { name = name; image = i }))) is undoes in
+        record {
+          made = with_image s op one (with_files s n) store (Key name k) on (changed_here ∙ c) (File this) (stands_for s n name k this undone) (λ c own. (own, (refl, refl)));
+          in_turn = (s.files, subst (λ c. IsFilesImage s.files n c this) (sym undone.named) undone, refl);
+        }
 
-  pub image_after : (recoverable changed : Bool) → (recoverable ≡ false → image ≡ None) → (changed ≡ false → (image ≡ None) × (m ≡ n)) →
-      (recoverable ≡ true → changed ≡ true → is_some image ≡ true) → IsKeyImage m n name key image recoverable changed
-  image_after false changed plain still asked = plain refl
-  image_after true true plain still asked = some_image image refl (asked refl refl)
-  image_after true false plain still asked = still refl
+    pub image_given : AreFileImagesAfter s n op (image_if name image) (is_recoverable_in (value_at name s.files))
+    image_given = subst (AreFileImagesAfter s n op (image_if name image)) (sym (ap is_recoverable_in there)) (image_by f.definition.recoverable changed image refl refl refl)
 
 -- the images of WRITE, REWRITE and DELETE, by what the key has
 module _ (name : Bytes) (m : Map FileValue) (f : FileValue) (there : value_at name m ≡ Some f) (rising : T (is_rising m)) where
@@ -184,13 +179,6 @@ module _ (name : Bytes) (m : Map FileValue) (f : FileValue) (there : value_at na
 -- ---- A command on a file that is there has changed the files
 module _ (s : StoreValue) (name : Bytes) (f : FileValue) (there : value_at name s.files ≡ Some f) (rising : T (is_rising s.files))
     (n : Map FileValue) (image : Option ImageValue) where
-  -- what is said of the file is said of the files
-  image_of_change : (op : Op) (k : Bytes) → IsKeyImage s.files n name k image f.definition.recoverable (changes op (Some (listed (value_at k f.records)))) →
-      IsKeyImage s.files n name k image (is_recoverable_in (value_at name s.files)) (changes op (content (shown_store s) (Key name k)))
-  image_of_change op k after =
-      subst (λ b. IsKeyImage s.files n name k image b (changes op (content (shown_store s) (Key name k)))) (sym (ap is_recoverable_in there))
-      (subst (λ c. IsKeyImage s.files n name k image f.definition.recoverable (changes op c)) (sym (cell_there s name f there k)) after)
-
   pub write_changed : (r : Bytes) → n ≡ with_value name (written f r) s.files → image ≡ written_image f.definition.recoverable f r →
       IfSome image (λ i. IsFilesImage s.files n (cell_of name (key_of f.definition r)) (record { name = name; image = i })) →
       FilesKeep (is_other (cell_of name (key_of f.definition r))) s.files n → AreFilesChanged s n (Write name (key_of f.definition r) r) (image_if name image)
@@ -200,10 +188,10 @@ module _ (s : StoreValue) (name : Bytes) (f : FileValue) (there : value_at name 
       record {
         shown = shown;
         others = others;
-        images = images_from s n (Write name k r) refl name k refl shown image _ _ refl (image_of_change (Write name k r) k (image_after s.files n name k image undoes f.definition.recoverable (changes (Write name k r) (Some (listed (value_at k f.records))))
+        images = image_given s name f there n (Write name k r) refl k refl shown image undoes
             (λ plain. is ∙ ap (λ b. written_image b f r) plain ∙ write_plain name s.files f there rising r (value_at k f.records) refl)
             (λ still. let w = write_still name s.files f there rising f.definition.recoverable r (value_at k f.records) refl still in (is ∙ w.0, w.1 ∙ sym files))
-            (λ rec changed. ap is_some (is ∙ ap (λ b. written_image b f r) rec) ∙ write_asked name s.files f there rising r (value_at k f.records) refl changed)));
+            (λ rec changed. ap is_some (is ∙ ap (λ b. written_image b f r) rec) ∙ write_asked name s.files f there rising r (value_at k f.records) refl changed);
         held = λ c unnamed has. held_among name f (written f r) s.files there (λ c. true) (λ q pass. written_held f q r) c refl (sym (ap (λ m. files_hold m c) files) ∙ has);
       }
 
@@ -216,10 +204,10 @@ module _ (s : StoreValue) (name : Bytes) (f : FileValue) (there : value_at name 
       record {
         shown = shown;
         others = others;
-        images = images_from s n (Rewrite name k r) refl name k refl shown image _ _ refl (image_of_change (Rewrite name k r) k (image_after s.files n name k image undoes f.definition.recoverable (changes (Rewrite name k r) (Some (listed (value_at k f.records))))
+        images = image_given s name f there n (Rewrite name k r) refl k refl shown image undoes
             (λ plain. is ∙ ap (λ b. rewritten_image b f r) plain)
             (λ still. let w = rewrite_still name s.files f there rising f.definition.recoverable r (value_at k f.records) refl still in (is ∙ w.0, w.1 ∙ sym files))
-            (λ rec changed. ap is_some (is ∙ ap (λ b. rewritten_image b f r) rec) ∙ rewrite_asked name s.files f there rising r (value_at k f.records) refl changed)));
+            (λ rec changed. ap is_some (is ∙ ap (λ b. rewritten_image b f r) rec) ∙ rewrite_asked name s.files f there rising r (value_at k f.records) refl changed);
         held = λ c unnamed has. held_among name f (rewritten f r) s.files there (λ c. true) (λ q pass. rewritten_held f q r) c refl (sym (ap (λ m. files_hold m c) files) ∙ has);
       }
 
@@ -236,10 +224,10 @@ module _ (s : StoreValue) (name : Bytes) (f : FileValue) (there : value_at name 
       record {
         shown = shown;
         others = others;
-        images = images_from s n (Delete name k) refl name k refl shown image _ _ refl (image_of_change (Delete name k) k (image_after s.files n name k image undoes f.definition.recoverable (changes (Delete name k) (Some (listed (value_at k f.records))))
+        images = image_given s name f there n (Delete name k) refl k refl shown image undoes
             (λ plain. is ∙ ap (λ b. deleted_image b f k) plain)
             (λ still. let w = delete_still name s.files f there rising f.definition.recoverable k (value_at k f.records) refl still in (is ∙ w.0, w.1 ∙ sym files))
-            (λ rec changed. ap is_some (is ∙ ap (λ b. deleted_image b f k) rec) ∙ delete_asked name s.files f there rising k (value_at k f.records) refl changed)));
+            (λ rec changed. ap is_some (is ∙ ap (λ b. deleted_image b f k) rec) ∙ delete_asked name s.files f there rising k (value_at k f.records) refl changed);
         held = λ c unnamed has. held_among name f (deleted f.definition.recoverable f k) s.files there (is_unnamed cell_of_image (image_if name image))
             (λ q pass. deleted_held name f k q f.definition.recoverable image is (each_named k image undoes) pass)
             c unnamed (sym (ap (λ m. files_hold m c) files) ∙ has);

@@ -15,7 +15,7 @@ use cics_names::NoMemory;
 /// the logarithm of the number of files.
 pub(crate) type Files = Named<File>;
 
-/// The before image of one change of one file: the file's name, and what undoes the change of its record.
+/// The before image of one change of one file: its name, and what undoes the change of its record.
 pub(crate) type FilesImage = NamedImage<FileImage>;
 
 impl Named<File> {

@@ -15,10 +15,11 @@ use std::collections::BTreeMap;
 use std::collections::btree_map::Iter;
 use std::marker::Model;
 
-/// Values of one kind, each under its name, in the order of the names' bytes: the files of a region.
+/// Values of one kind, each under its name, in the order of the names: the files of a region.
 ///
-/// Contracts see them as a map from the names to the values, itself in that order. A look-up costs the logarithm of
-/// the number of values.
+/// Contracts see them as a map from the names to the values, itself in that order.
+///
+/// Cost of a look-up: O(log values).
 #[derive(Drop)]
 pub(crate) struct Named<M: Undoable + Drop> {
     pub(crate) rows: BTreeMap<Name8, M>,
@@ -62,7 +63,7 @@ impl<M: Undoable + Drop> Named<M> {
         self.rows.get(name)
     }
 
-    /// The value of a name that is there.
+    /// Returns the value of a name, which has to be there.
     pub(crate) fn at(&self, name: &Name8) -> &M
         requires { IsSome (value_at name.now self.now) }
         ensures value { value_at name.now self.now ≡ Some result.now }
@@ -71,7 +72,7 @@ impl<M: Undoable + Drop> Named<M> {
         self.get(name).unwrap()
     }
 
-    /// The value of a name that is there, to be changed. The other values stay.
+    /// Lends the value of a name, which has to be there, to be changed. The other values stay.
     pub(crate) fn at_mut(&mut self, name: &Name8) -> &mut M
         requires { IsSome (value_at name.now self.old) }
         ensures* writes_back { sem 𝓛 (Lends (the_row M.row M.Image.row M.Undoable) M.row self.entry
@@ -82,10 +83,9 @@ impl<M: Undoable + Drop> Named<M> {
         self.rows.get_mut(name).unwrap()
     }
 
-    /// Puts a value under a name, and answers the value that stood there.
+    /// Puts a value under a name, and returns the value that stood there.
     ///
-    /// Where memory is refused all values stay as they were, and the value that was handed in goes. Only a new name
-    /// takes memory.
+    /// Only a new name takes memory. On `NoMemory` nothing has changed, and `value` is gone.
     pub(crate) fn insert(&mut self, name: Name8, value: M) -> Result<Option<M>, NoMemory>
         ensures old { IfOk result (λ old. old ≡ value_at name self.old) }
         ensures values { OnOk result (self.new ≡ with_value name value self.old) }
@@ -105,7 +105,8 @@ impl<M: Undoable + Drop> Named<M> {
     }
 }
 
-/// A cell is a name with a cell of the value that has it, and an image a name with an image of that value.
+/// A cell is a name with a cell of the value that has it. An image is a name with an image of that
+/// value.
 impl<M: Undoable + Drop> Undoable for Named<M> {
     ghost use Rattle.std.specs.Prelude.{Option};
     ghost use Rattle.cics_names.specs.Keyed.{Bytes};

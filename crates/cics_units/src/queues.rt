@@ -42,7 +42,7 @@ impl Model for Queues {
     ghost invariant = { λ q. T (is_rising q.rows.entries) };
 }
 
-/// The before image of one change of one queue: the queue's name, and what undoes the change of its end.
+/// The before image of one change of one queue: its name, and what undoes the change of its end.
 #[derive(Drop)]
 pub(crate) struct QueueImage {
     /// The name of the queue.
@@ -87,7 +87,7 @@ impl Queues {
         self.rows.get(name)
     }
 
-    /// The queue of a name that is there.
+    /// Returns the queue of a name, which has to be there.
     pub(crate) fn at(&self, name: &Name4) -> &TransQueue
         requires { IsSome (value_at name.now self.now) }
         ensures value { value_at name.now self.now ≡ Some result.now }
@@ -96,7 +96,7 @@ impl Queues {
         self.get(name).unwrap()
     }
 
-    /// The queue of a name that is there, to be changed. The other queues stay.
+    /// Lends the queue of a name, which has to be there, to be changed. The other queues stay.
     pub(crate) fn at_mut(&mut self, name: &Name4) -> &mut TransQueue
         requires { IsSome (value_at name.now self.old) }
         ensures* writes_back { sem 𝓛 (Lends the_row queue_row self.entry
@@ -127,10 +127,9 @@ impl Queues {
         queue.commit_writer();
     }
 
-    /// Puts a queue under a name, and answers the queue that stood there.
+    /// Puts a queue under a name, and returns the queue that stood there.
     ///
-    /// Where memory is refused all queues stay as they were, and the one that was handed in goes. Only a
-    /// new name takes memory.
+    /// Only a new name takes memory. On `NoMemory` nothing has changed, and `queue` is gone.
     pub(crate) fn insert(
         &mut self,
         name: Name4,
@@ -165,8 +164,8 @@ impl Queues {
         Ok(queues)
     }
 
-    /// Queues of their own with the same names, recoveries, records and marks. It takes memory for each
-    /// record, and an `Err` comes only where memory is refused.
+    /// Returns queues with the same names, recoveries, records and marks. It takes memory for each
+    /// record.
     pub(crate) fn copy(&self) -> Result<Queues, NoMemory>
         ensures { IfOk result (λ queues. queues ≡ self.now) }
     {
@@ -174,7 +173,8 @@ impl Queues {
     }
 }
 
-/// A cell is a name with an end of the queue that has it, and an image a name with an image of that queue.
+/// A cell is a name with an end of the queue that has it. An image is a name with an image of that
+/// queue.
 impl Undoable for Queues {
     ghost use Rattle.std.specs.Prelude.{Option, false, refl};
     ghost use Rattle.cics_names.specs.Keyed.{Bytes};

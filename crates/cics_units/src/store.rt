@@ -1,4 +1,4 @@
-//! The store of files and queues: what an updating command makes of it where it stands, and what undoes that.
+//! The store of files and queues: what an updating command makes of it, and what undoes that.
 
 ghost use Rattle.std.specs.Prelude.{◌≡◌, ◌<◌, ◌≤◌, ◌++◌, Bool, true, [], length, IfOk, OnErr};
 ghost use Rattle.std.specs.Prelude.{IsSome, option_map};
@@ -24,7 +24,7 @@ use cics_names::{Condition, Items, Name4, Name8, NoMemory, Record};
 use cics_tempstor::TsImage;
 use cics_transdata::TdImage;
 
-// An answer of a condition alone.
+// Returns an answer of a condition alone.
 fn only(condition: Condition) -> Answer
     ensures { result ≡ answer_of condition }
 {
@@ -35,7 +35,7 @@ fn only(condition: Condition) -> Answer
     }
 }
 
-// An answer with a number: of an item, or of records.
+// Returns an answer with a number: of an item, or of records.
 fn numbered(condition: Condition, number: Option<u64>) -> Answer
     ensures { result ≡ answer_with condition number }
 {
@@ -67,7 +67,7 @@ fn keep_files(images: &mut Images<Store>, file: Name8, made: Items<FileImage>)
     }
 }
 
-// What DELETE GENERIC is answered: how many records it took away, and NOTFND where there was none.
+// Returns what DELETE GENERIC is answered: how many records it took away, or NOTFND for none.
 fn counted(number: u64) -> Answer
     ensures { result ≡ counted_as number }
 {
@@ -77,7 +77,7 @@ fn counted(number: u64) -> Answer
     }
 }
 
-// An answer with a record, if there is one.
+// Returns an answer with a record, if there is one.
 fn with_content(condition: Condition, content: Option<Record>) -> Answer
     ensures { result ≡ answer_of_record condition content }
 {
@@ -88,7 +88,7 @@ fn with_content(condition: Condition, content: Option<Record>) -> Answer
     }
 }
 
-/// What READ UPDATE is answered, once its record was looked up.
+/// Returns what READ UPDATE is answered, once its record was looked up.
 pub(crate) fn found(given: Option<Record>) -> Answer
     ensures { result ≡ answer_of_record (found_condition given) given }
 {
@@ -122,7 +122,7 @@ fn keep_trans(images: &mut Images<Store>, queue: Name4, image: Option<TdImage>)
     }
 }
 
-// The file of a command, whether it is recoverable.
+// Returns whether a file is recoverable, which has to be there.
 fn bind_file(store: &Store, file: &Name8) -> bool
     requires there { IsThere (value_at file.now store.now.files) }
     ensures { IsFileBound store.now file.now result }
@@ -130,7 +130,7 @@ fn bind_file(store: &Store, file: &Name8) -> bool
     store.files.at(file).definition().recoverable
 }
 
-// The transient data queue of a command, whether it is LOGICAL.
+// Returns whether a transient data queue is LOGICAL, which has to be there.
 fn bind_queue(store: &Store, queue: &Name4) -> bool
     requires there { IsSome (value_at queue.now store.now.trans_data) }
     ensures { IsQueueBound store.now queue.now result }
@@ -138,8 +138,8 @@ fn bind_queue(store: &Store, queue: &Name4) -> bool
     store.trans_data.at(queue).recovery().is_logical()
 }
 
-/// Where a command acts: the file or the transient data queue is there, and answers whether it is recoverable; so
-/// does `recoverable` of a command on temporary storage.
+/// Returns whether what a command acts on is recoverable: its file or its transient data queue,
+/// which has to be there. Of a command on temporary storage `recoverable` says so.
 pub(crate) fn bind(store: &Store, op: &Op, recoverable: bool) -> bool
     requires fit { IsFitOp store.now op.now }
     ensures bound { IsBound store.now op.now result }
@@ -201,8 +201,9 @@ fn apply_to_file(
     }
 }
 
-/// Applies a command that isn't READ UPDATE where its file or queue stands, and answers it as the definition
-/// `apply` does. What undoes it is added to the images of its unit. On `NoMemory` nothing has changed.
+/// Applies a command that isn't READ UPDATE where its file or queue stands, and answers it as the
+/// definition `apply` does. What undoes it is added to the images of its unit. On `NoMemory`
+/// nothing has changed.
 pub(crate) fn apply(
     store: &mut Store,
     bound: &BoundOp<'_>,
