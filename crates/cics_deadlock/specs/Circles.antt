@@ -1,5 +1,5 @@
 -- Circles in a graph of tasks, each of which waits for one other at most.
-use Rattle.std.specs.Prelude.{ℕ, zero, suc, ◌==◌, nat_lt, if◌then◌else◌, Option, Some, None, option_map, unwrap_or, slice_get, length, List, [], ◌∷◌, ◌++◌}
+use Rattle.std.specs.Prelude.{◌≡◌, ◌<◌, ℕ, zero, suc, ◌==◌, nat_lt, if◌then◌else◌, Option, Some, None, option_map, unwrap_or, slice_get, length, List, [], ◌∷◌, ◌++◌}
 use Rattle.std.specs.List.{list_any}
 
 -- a graph: at the number of each task the number of the one that it waits for, if it waits
@@ -44,3 +44,37 @@ circles g = circles_below g (length g)
 abbrev pub circle_with : List (List ℕ) → ℕ → Option (List ℕ)
 circle_with [] at = None
 circle_with (c ∷ cs) at = if list_any (λ k. k == at) c then Some c else circle_with cs at
+
+-- ---- What a circle is, without a walk
+
+-- a task waits for the first of these, each of them for the next, and the last for a given one
+abbrev pub WaitInTurn : (ℕ → Option ℕ) → ℕ → List ℕ → ℕ → Type 0
+WaitInTurn next at [] last = next at ≡ Some last
+WaitInTurn next at (k ∷ ks) last = (next at ≡ Some k) × WaitInTurn next k ks last
+
+-- each is above a number
+abbrev pub AreAbove : ℕ → List ℕ → Type 0
+AreAbove n [] = Unit {0}
+AreAbove n (k ∷ ks) = (n < k) × AreAbove n ks
+
+-- a number isn't among these
+abbrev pub IsNotAmong : ℕ → List ℕ → Type 0
+IsNotAmong n [] = Unit {0}
+IsNotAmong n (k ∷ ks) = (n ≡ k → ⊥) × IsNotAmong n ks
+
+-- none is there twice
+abbrev pub AreOnce : List ℕ → Type 0
+AreOnce [] = Unit {0}
+AreOnce (k ∷ ks) = IsNotAmong k ks × AreOnce ks
+
+-- a task and others wait for each other: it for the first of them, each of them for the next, the last for it; it has the least
+-- number of them all, and none is there twice
+pub record IsCircleFrom (next : ℕ → Option ℕ) (first : ℕ) (others : List ℕ) : Type 0 where
+  pub wait : WaitInTurn next first others first
+  pub least : AreAbove first others
+  pub once : AreOnce others
+
+-- these tasks are a circle, told from its first task on
+abbrev pub IsCircle : (ℕ → Option ℕ) → List ℕ → Type 0
+IsCircle next [] = ⊥
+IsCircle next (first ∷ others) = IsCircleFrom next first others
