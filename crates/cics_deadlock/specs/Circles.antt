@@ -10,14 +10,15 @@ Graph = List (Option ℕ)
 abbrev pub next_of : Graph → ℕ → Option ℕ
 next_of g at = unwrap_or (slice_get g at) None
 
--- the way of a task that waits for a next one: it ends where that is the first, goes on where its number is greater than the
--- first's, and else leads nowhere
+-- the way of a task that waits for a next one: it ends if that is the first, goes on if the number
+-- of that is greater than the first's, and else leads nowhere
 abbrev pub way_on : (ℕ → Option (List ℕ)) → ℕ → ℕ → Option ℕ → Option (List ℕ)
 way_on rest first at None = None
 way_on rest first at (Some next) =
-    if next == first then Some (at ∷ []) else if nat_lt first next then option_map (λ way. at ∷ way) (rest next) else None
+    if next == first then Some (at ∷ [])
+    else if nat_lt first next then option_map (λ way. at ∷ way) (rest next) else None
 
--- the tasks from one on, each waiting for the next and the last for the first, in so many steps at most
+-- the tasks from one on, each waiting for the next and the last for the first, in so many steps
 abbrev pub way_back : Graph → ℕ → ℕ → ℕ → Option (List ℕ)
 way_back g zero first at = None
 way_back g (suc n) first at = way_on (way_back g n first) first at (next_of g at)
@@ -67,8 +68,8 @@ abbrev pub AreOnce : List ℕ → Type 0
 AreOnce [] = Unit {0}
 AreOnce (k ∷ ks) = IsNotAmong k ks × AreOnce ks
 
--- a task and others wait for each other: it for the first of them, each of them for the next, the last for it; it has the least
--- number of them all, and none is there twice
+-- a task and others wait for each other: it for the first of them, each of them for the next, the
+-- last for it; it has the least number of them all, and none is there twice
 pub record IsCircleFrom (next : ℕ → Option ℕ) (first : ℕ) (others : List ℕ) : Type 0 where
   pub wait : WaitInTurn next first others first
   pub least : AreAbove first others

@@ -68,8 +68,8 @@ fn all_labels_of(
 
 /// Returns the deadlocks of a region, each once, in the order of their first tasks.
 ///
-/// A deadlock is the labels of tasks that wait for each other in a circle: each for the next one, the
-/// last for the first. It begins with the task that was attached first.
+/// A deadlock is the labels of tasks that wait for each other in a circle: each for the next one,
+/// the last for the first. It begins with the task that was attached first.
 ///
 /// Errors: `NoMemory`. Cost: O(w * w), w the number of waiting tasks, beside O(tasks).
 pub fn deadlocks(alloc: Global, region: &Region) -> Result<Items<Items<Name8>>, NoMemory>
@@ -82,8 +82,8 @@ pub fn deadlocks(alloc: Global, region: &Region) -> Result<Items<Items<Name8>>, 
     all_labels_of(alloc, region, all.as_slice())
 }
 
-/// Returns the deadlock that the task of a label is in, if it is in one. A task that waits for a task of
-/// a deadlock isn't in it.
+/// Returns the deadlock that the task of a label is in, if it is in one. A task that only waits for
+/// one of its tasks isn't in it.
 ///
 /// Errors: `NoMemory`. Cost: that of `deadlocks`.
 pub fn deadlock_of(
