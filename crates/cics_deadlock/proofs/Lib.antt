@@ -1,3 +1,5 @@
 mod Rows
 pub mod Ways
+pub mod Walked
+pub mod Told
 pub mod Sought

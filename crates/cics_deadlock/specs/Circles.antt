@@ -1,5 +1,5 @@
 -- Circles in a graph of tasks, each of which waits for one other at most.
-use Rattle.std.specs.Prelude.{ℕ, zero, suc, ◌==◌, nat_lt, if◌then◌else◌, Option, Some, None, option_map, unwrap_or, slice_get, length, List, [], ◌∷◌, ◌++◌}
+use Rattle.std.specs.Prelude.{◌≡◌, ◌<◌, ℕ, zero, suc, ◌==◌, nat_lt, if◌then◌else◌, Option, Some, None, option_map, unwrap_or, slice_get, length, List, [], ◌∷◌, ◌++◌}
 use Rattle.std.specs.List.{list_any}
 
 -- a graph: at the number of each task the number of the one that it waits for, if it waits
@@ -10,14 +10,15 @@ Graph = List (Option ℕ)
 abbrev pub next_of : Graph → ℕ → Option ℕ
 next_of g at = unwrap_or (slice_get g at) None
 
--- the way of a task that waits for a next one: it ends where that is the first, goes on where its number is greater than the
--- first's, and else leads nowhere
+-- the way of a task that waits for a next one: it ends if that is the first, goes on if the number
+-- of that is greater than the first's, and else leads nowhere
 abbrev pub way_on : (ℕ → Option (List ℕ)) → ℕ → ℕ → Option ℕ → Option (List ℕ)
 way_on rest first at None = None
 way_on rest first at (Some next) =
-    if next == first then Some (at ∷ []) else if nat_lt first next then option_map (λ way. at ∷ way) (rest next) else None
+    if next == first then Some (at ∷ [])
+    else if nat_lt first next then option_map (λ way. at ∷ way) (rest next) else None
 
--- the tasks from one on, each waiting for the next and the last for the first, in so many steps at most
+-- the tasks from one on, each waiting for the next and the last for the first, in so many steps
 abbrev pub way_back : Graph → ℕ → ℕ → ℕ → Option (List ℕ)
 way_back g zero first at = None
 way_back g (suc n) first at = way_on (way_back g n first) first at (next_of g at)
@@ -44,3 +45,37 @@ circles g = circles_below g (length g)
 abbrev pub circle_with : List (List ℕ) → ℕ → Option (List ℕ)
 circle_with [] at = None
 circle_with (c ∷ cs) at = if list_any (λ k. k == at) c then Some c else circle_with cs at
+
+-- ---- What a circle is, without a walk
+
+-- a task waits for the first of these, each of them for the next, and the last for a given one
+abbrev pub WaitInTurn : (ℕ → Option ℕ) → ℕ → List ℕ → ℕ → Type 0
+WaitInTurn next at [] last = next at ≡ Some last
+WaitInTurn next at (k ∷ ks) last = (next at ≡ Some k) × WaitInTurn next k ks last
+
+-- each is above a number
+abbrev pub AreAbove : ℕ → List ℕ → Type 0
+AreAbove n [] = Unit {0}
+AreAbove n (k ∷ ks) = (n < k) × AreAbove n ks
+
+-- a number isn't among these
+abbrev pub IsNotAmong : ℕ → List ℕ → Type 0
+IsNotAmong n [] = Unit {0}
+IsNotAmong n (k ∷ ks) = (n ≡ k → ⊥) × IsNotAmong n ks
+
+-- none is there twice
+abbrev pub AreOnce : List ℕ → Type 0
+AreOnce [] = Unit {0}
+AreOnce (k ∷ ks) = IsNotAmong k ks × AreOnce ks
+
+-- a task and others wait for each other: it for the first of them, each of them for the next, the
+-- last for it; it has the least number of them all, and none is there twice
+pub record IsCircleFrom (next : ℕ → Option ℕ) (first : ℕ) (others : List ℕ) : Type 0 where
+  pub wait : WaitInTurn next first others first
+  pub least : AreAbove first others
+  pub once : AreOnce others
+
+-- these tasks are a circle, told from its first task on
+abbrev pub IsCircle : (ℕ → Option ℕ) → List ℕ → Type 0
+IsCircle next [] = ⊥
+IsCircle next (first ∷ others) = IsCircleFrom next first others

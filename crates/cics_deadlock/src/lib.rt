@@ -1,6 +1,7 @@
 //! Deadlocks: tasks of a region that wait for each other in a circle.
 //!
-//! `specs/Circles` says what a circle of a graph is, `specs/Deadlocks` which graph a region's waits are.
+//! `specs/Circles` says what a circle of a graph is, `specs/Deadlocks` which graph a region's waits
+//! are.
 #![tactic(auto)]
 
 mod circles;

@@ -1,9 +1,9 @@
 //! The deadlocks of a region.
 
-ghost use Rattle.std.specs.Prelude.{◌≡◌, IfOk};
-ghost use Rattle.cics_deadlock.specs.Circles.{circles};
+ghost use Rattle.std.specs.Prelude.{◌≡◌, ℕ, List, map, All, Contains, IfOk};
+ghost use Rattle.cics_deadlock.specs.Circles.{circles, IsCircle};
 ghost use Rattle.cics_deadlock.specs.Deadlocks.{blocker_at, waits_of, labels_of, deadlocks};
-ghost use Rattle.cics_deadlock.specs.Deadlocks.{deadlock_of};
+ghost use Rattle.cics_deadlock.specs.Deadlocks.{deadlock_of, IsDeadlock};
 
 use crate::circles::circles;
 use cics_dispatch::Region;
@@ -51,25 +51,39 @@ fn labels_of(alloc: Global, region: &Region, numbers: &[usize]) -> Result<Items<
     Ok(labels)
 }
 
+// The labels of the tasks of circles.
+fn all_labels_of(
+    alloc: Global,
+    region: &Region,
+    circles: &[Items<usize>],
+) -> Result<Items<Items<Name8>>, NoMemory>
+    ensures { IfOk result (λ all. all ≡ map (labels_of region.now.machine) circles.now) }
+{
+    let mut all = Items::new(alloc);
+    for circle in circles {
+        all.push(labels_of(alloc, region, circle.as_slice())?)?;
+    }
+    Ok(all)
+}
+
 /// Returns the deadlocks of a region, each once, in the order of their first tasks.
 ///
-/// A deadlock is the labels of tasks that wait for each other in a circle: each for the next one, the
-/// last for the first. It begins with the task that was attached first.
+/// A deadlock is the labels of tasks that wait for each other in a circle: each for the next one,
+/// the last for the first. It begins with the task that was attached first.
 ///
 /// Errors: `NoMemory`. Cost: O(w * w), w the number of waiting tasks, beside O(tasks).
 pub fn deadlocks(alloc: Global, region: &Region) -> Result<Items<Items<Name8>>, NoMemory>
     ensures deadlocks { IfOk result (λ found. found ≡ deadlocks region.now.machine) }
+    ensures each { IfOk result (All (IsDeadlock region.now.machine)) }
+    ensures all { IfOk result (λ found. (c : List ℕ) → IsCircle (blocker_at region.now.machine) c
+        → Contains found (labels_of region.now.machine c)) }
 {
     let all = circles_of(alloc, region)?;
-    let mut found = Items::new(alloc);
-    for circle in all.as_slice() {
-        found.push(labels_of(alloc, region, circle.as_slice())?)?;
-    }
-    Ok(found)
+    all_labels_of(alloc, region, all.as_slice())
 }
 
-/// Returns the deadlock that the task of a label is in, if it is in one. A task that waits for a task of
-/// a deadlock isn't in it.
+/// Returns the deadlock that the task of a label is in, if it is in one. A task that only waits for
+/// one of its tasks isn't in it.
 ///
 /// Errors: `NoMemory`. Cost: that of `deadlocks`.
 pub fn deadlock_of(

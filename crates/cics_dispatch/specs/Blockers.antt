@@ -1,10 +1,15 @@
 -- Task control: the unit of a task, and the task for which a waiting command has to wait now.
 use Rattle.std.specs.Prelude.{ℕ, suc, if◌then◌else◌, Option, Some, None, option_map, slice_get, List, [], ◌∷◌}
 use Rattle.cics_names.specs.Keyed.{Bytes, is_same}
+use Rattle.cics_names.specs.declared.commands.Command.{Command}
 use Rattle.cics_dispatch.specs.Machine.{Machine, Task, Suspended, task_at, label_of}
 use Rattle.cics_dispatch.specs.Tasks.{had_by, own_unit}
 use Rattle.cics_dispatch.specs.Waits.{wait_of}
 use Rattle.cics_dispatch.specs.Waking.{awaited_by}
+
+-- the command of a label's task that waits, if one does
+abbrev pub waiting_command : Machine → Bytes → Option Command
+waiting_command m label = option_map (λ w. w.command) (wait_of m.waiting label)
 
 -- the open unit of the task of a label, if there is such a task and it has one
 abbrev pub unit_of : Machine → Bytes → Option ℕ

@@ -13,7 +13,9 @@ ghost use Rattle.cics_dispatch.specs.Shutdown.{IsRegionStep, shut_down};
 ghost use Rattle.cics_dispatch.specs.Answers.{IsStep, always, attach_may_want, may_want};
 ghost use Rattle.cics_dispatch.specs.Answers.{IsHeadlineRegion, region_listing, replayed_listing};
 ghost use Rattle.cics_dispatch.specs.Settled.{goes_on};
+ghost use Rattle.std.specs.Option.{option_copied};
 ghost use Rattle.cics_dispatch.specs.Blockers.{unit_of, blocker_of, label_at, number_of};
+ghost use Rattle.cics_dispatch.specs.Blockers.{waiting_command};
 ghost use Rattle.cics_dispatch.specs.declared.outcomes.Refused.TheVariants.{RegionDown};
 
 use crate::dispatcher::Dispatcher;
@@ -270,6 +272,15 @@ impl Region {
         ensures headline { IsHeadlineRegion self.now }
     {
         self.dispatcher.blocker(label)
+    }
+
+    /// Returns the command of a label's task that waits, which names what it asks for: a record, a prefix,
+    /// a queue or a value. `None` if no command of it waits.
+    pub fn waiting_command(&self, label: &Name8) -> Option<&Command>
+        ensures command { option_copied result ≡ waiting_command self.now.machine label.now }
+        ensures headline { IsHeadlineRegion self.now }
+    {
+        self.dispatcher.waiting_command(label)
     }
 
     /// Returns how many tasks were attached, those that have ended included.

@@ -2,14 +2,24 @@
 
 ghost use Rattle.std.specs.Prelude.{◌≡◌, IfSome, length};
 ghost use Rattle.cics_history.specs.Execution.{IsOpenUnit};
+ghost use Rattle.std.specs.Option.{option_copied};
 ghost use Rattle.cics_dispatch.specs.Blockers.{awaited_at, blocker_of, label_at, number_of};
+ghost use Rattle.cics_dispatch.specs.Blockers.{waiting_command};
 
 use crate::dispatcher::Dispatcher;
 use cics_enqueue::UnitId;
-use cics_names::Name8;
+use cics_names::{Command, Name8};
 
 impl Dispatcher {
-    // The unit for which the waiting command of a label's task has to wait now, if one waits and has to.
+    /// Returns the command of a label's task that waits, if one does.
+    pub(crate) fn waiting_command(&self, label: &Name8) -> Option<&Command>
+        ensures { option_copied result ≡ waiting_command self.now.machine label.now }
+    {
+        let wait = self.waits.get(label)?;
+        Some(wait.command())
+    }
+
+    // The unit for which the waiting command of a label's task has to wait now, if it has to.
     fn awaited_at(&self, label: &Name8) -> Option<UnitId>
         ensures unit { result ≡ awaited_at self.now.machine label.now }
         ensures is_open { IfSome result (IsOpenUnit self.now.machine.units) }
@@ -19,7 +29,7 @@ impl Dispatcher {
         self.awaited(at, wait)
     }
 
-    /// Returns the label of the task for which the waiting command of a label's task has to wait now.
+    /// Returns the label of the task for which the waiting command of a label's task has to wait.
     pub(crate) fn blocker(&self, label: &Name8) -> Option<Name8>
         ensures { result ≡ blocker_of self.now.machine label.now }
     {
