@@ -29,7 +29,7 @@ use crate::opening::Opening;
 use crate::units_core::{Store, UnitsCore, reserve_images, settle_ends};
 use cics_enqueue::{ResourceRef, TakeFault, UnitId};
 use cics_history::{Answer, Done, Enqueued, Entry, Op, UnitState};
-use cics_images::{Images, Stores, Undoable};
+use cics_images::{Images, Stores};
 use cics_ksds::File;
 use cics_names::{Name4, Name8, NoMemory};
 use cics_tempstor::{TempStore, TsRead};
@@ -51,18 +51,18 @@ pub enum Submitted {
 ///
 /// Contracts see the state of the units, which is what was opened, the executed commands in their
 /// order, the outcome of each unit, those that committed in the order in which they did, the open
-/// update reads, the counts of ENQ and the NEXT places, and beside it the store, which is read off the
-/// files and queues themselves. After every call `headline` holds.
+/// update reads, the counts of ENQ and the NEXT places, and beside it the store, which is read off
+/// the files and queues themselves. After every call `headline` holds.
 ///
-/// By it the store is what replaying the executed commands gives, without all that units which were backed
-/// out executed on recoverable files and queues, and each command of the replay has the answer that it
-/// was given.
+/// By it the store is what replaying the executed commands gives, without all that units which were
+/// backed out executed on recoverable files and queues, and each command of the replay has the
+/// answer that it was given.
 ///
 /// And the units take turns: what each unit that committed did to recoverable files and queues, one
-/// after the other in the order of their commits, gives what would stand there if the open units were
-/// backed out; with the open ones behind, in any order, it gives what stands there. Each command that
-/// was answered NORMAL there has in its unit's turn the answer that it was given. A command that was
-/// answered otherwise is in no turn, nor is one on something unrecoverable.
+/// after the other in the order of their commits, gives what would stand there if the open units
+/// were backed out; with the open ones behind, in any order, it gives what stands there. Each
+/// command that was answered NORMAL there has in its unit's turn the answer that it was given. A
+/// command that was answered otherwise is in no turn, nor is one on something unrecoverable.
 #[derive(Drop)]
 pub struct Units {
     opening: Opening,
@@ -139,8 +139,8 @@ fn enter(trace: &mut Vec<Entry>, outcomes: &mut Vec<UnitState>, unit: Option<Uni
     trace.push_reserved(entry);
 }
 
-// Reads the item of a number, or the one after the item that was read last. The number of an item that
-// is given becomes the NEXT place of its queue.
+// Reads the item of a number, or the one after the item that was read last. The number of an item
+// that is given becomes the NEXT place of its queue.
 fn read_ts(queues: &mut TempStore, queue: &Name8, item: Option<u64>) -> Result<TsRead, NoMemory>
     ensures answer { IfOk result (λ read. read
         ≡ read_item queues.old queue.now (number_asked queues.old queue.now item)) }
@@ -200,11 +200,11 @@ impl Units {
         })
     }
 
-    /// The unit that a command has to wait for, if any: another one that holds what it uses, else for
-    /// READQ TD the writer of the queue, where that has no record that the task may read. `asking` is
-    /// None for a task without a unit. What `submit` asks of the unit and the command has to hold, and
-    /// it takes no memory. The open units are kept apart (`sound`): so who has to wait for a writer has to, however
-    /// the others end.
+    /// The unit that a command has to wait for, if any: another one that holds what it uses, else
+    /// for READQ TD the writer of the queue, where that has no record that the task may read.
+    /// `asking` is None for a task without a unit. What `submit` asks of the unit and the command
+    /// has to hold, and it takes no memory. The open units are kept apart (`sound`): so who has to
+    /// wait for a writer has to, however the others end.
     pub fn awaited(&self, asking: Option<UnitId>, op: &Op) -> Option<UnitId>
         requires is_open { IsOpenOrNone self.now.state asking }
         requires ready { IsTrue (is_ready_op self.now.state asking op.now) }
@@ -220,10 +220,12 @@ impl Units {
         self.core.blocker(asking, &bound)
     }
 
-    /// Executes a command for a unit, or for the next one, which begins with it, or answers the unit to
-    /// wait for; then nothing changes. What `submit` asks of the unit and the command has to hold.
+    /// Executes a command for a unit, or for the next one, which begins with it, or answers the
+    /// unit to wait for; then nothing changes. What `submit` asks of the unit and the command has
+    /// to hold.
     ///
-    /// The command is copied for the trace, unless it has to wait. Where memory is refused nothing changes.
+    /// The command is copied for the trace, unless it has to wait. Where memory is refused nothing
+    /// changes.
     pub fn execute(&mut self, unit: Option<UnitId>, op: &Op) -> Result<Done, NoMemory>
         requires is_open { IsOpenOrNone self.old.state unit }
         requires ready { IsTrue (is_ready_op self.old.state unit op.now) }
@@ -243,15 +245,15 @@ impl Units {
         }
     }
 
-    /// Executes a command for a unit, or for the next one, which begins with it, as `execute` does; but
-    /// the command moves into the trace, and comes back where it has to wait.
+    /// Executes a command for a unit, or for the next one, which begins with it, as `execute` does;
+    /// but the command moves into the trace, and comes back where it has to wait.
     ///
-    /// An executed command is entered in the trace with its answer. The unit has to be open, the file
-    /// or the transient data queue defined, a record that is written to a file has to fit it under the
-    /// command's key, an item or a record of a queue has 1 to 32,767 bytes, REWRITE has to be of the
-    /// record that the unit has read for update, READ UPDATE needs that the unit has none open in the
-    /// file, and a key or a prefix has at most 255 bytes. Where memory is refused nothing changes, and
-    /// the command goes.
+    /// An executed command is entered in the trace with its answer. The unit has to be open, the
+    /// file or the transient data queue defined, a record that is written to a file has to fit it
+    /// under the command's key, an item or a record of a queue has 1 to 32,767 bytes, REWRITE has
+    /// to be of the record that the unit has read for update, READ UPDATE needs that the unit has
+    /// none open in the file, and a key or a prefix has at most 255 bytes. Where memory is refused
+    /// nothing changes, and the command goes.
     pub fn submit(&mut self, unit: Option<UnitId>, op: Op) -> Result<Submitted, NoMemory>
         requires is_open { IsOpenOrNone self.old.state unit }
         requires ready { IsTrue (is_ready_op self.old.state unit op) }
@@ -319,8 +321,8 @@ impl Units {
         Ok(Enqueued::Taken(acting))
     }
 
-    /// The unit, other than the one that asks, that holds a value: the one that ENQ has to wait for.
-    /// `asking` is None for a task without a unit, and a value has at most 255 bytes.
+    /// The unit, other than the one that asks, that holds a value: the one that ENQ has to wait
+    /// for. `asking` is None for a task without a unit, and a value has at most 255 bytes.
     pub fn value_holder(&self, asking: Option<UnitId>, value: &[u8]) -> Option<UnitId>
         requires most { length value.now ≤ 255 }
         ensures holder { result ≡ value_holder self.now.state asking value.now }
@@ -354,8 +356,8 @@ impl Units {
         Some(key.bytes())
     }
 
-    /// Ends a unit's update read of a file, if it has one: UNLOCK. The record of an unrecoverable file is
-    /// free then; in a recoverable one the unit holds it until it ends. It takes no memory.
+    /// Ends a unit's update read of a file, if it has one: UNLOCK. The record of an unrecoverable
+    /// file is free then; in a recoverable one the unit holds it until it ends. It takes no memory.
     pub fn unlock(&mut self, unit: UnitId, file: &Name8)
         requires is_open { IsOpenUnit self.old.state unit }
         ensures state { self.new.state ≡ after_unlock self.old.state unit file.now }
@@ -366,12 +368,12 @@ impl Units {
         self.core.end_read(unit, file, recoverable);
     }
 
-    /// READQ TS ITEM, and READQ TS NEXT where `item` is None: the item of a number, or the one after the
-    /// item that any task read last, the changes of open units included. QIDERR where there is no queue,
-    /// ITEMERR where it has no item of the number.
+    /// READQ TS ITEM, and READQ TS NEXT where `item` is None: the item of a number, or the one
+    /// after the item that any task read last, the changes of open units included. QIDERR where
+    /// there is no queue, ITEMERR where it has no item of the number.
     ///
-    /// The number of an item that is given becomes the NEXT place of its queue. No unit holds the queue
-    /// for a read. Where memory for a copy of the item is refused nothing changes.
+    /// The number of an item that is given becomes the NEXT place of its queue. No unit holds the
+    /// queue for a read. Where memory for a copy of the item is refused nothing changes.
     pub fn read_ts(&mut self, queue: &Name8, item: Option<u64>) -> Result<Answer, NoMemory>
         ensures answer { IfOk result (λ answer. answer
             ≡ ts_reading self.old.state queue.now (item_asked self.old.state queue.now item)) }
@@ -390,9 +392,9 @@ impl Units {
         })
     }
 
-    /// The NEXT place of a temporary storage queue: the number of the item that the last READQ TS gave, by
-    /// whichever task. It is 0 again after DELETEQ TS and once WRITEQ TS has made the queue anew, and of
-    /// an absent queue; a backout leaves it as it is.
+    /// The NEXT place of a temporary storage queue: the number of the item that the last READQ TS
+    /// gave, by whichever task. It is 0 again after DELETEQ TS and once WRITEQ TS has made the
+    /// queue anew, and of an absent queue; a backout leaves it as it is.
     pub fn next_place(&self, queue: &Name8) -> u16
         ensures { result ≡ place_at self.now.state queue.now }
     {
@@ -410,8 +412,8 @@ impl Units {
         }
     }
 
-    /// Commits a unit: what it did stays, it holds nothing more, and its turn comes behind those of the
-    /// units that committed before it. It takes no memory.
+    /// Commits a unit: what it did stays, it holds nothing more, and its turn comes behind those of
+    /// the units that committed before it. It takes no memory.
     pub fn commit(&mut self, unit: UnitId)
         requires is_open { IsOpenUnit self.old.state unit }
         ensures state { self.new.state ≡ after_end self.old.state unit Committed }
@@ -427,8 +429,8 @@ impl Units {
         self.commits.push_reserved(unit);
     }
 
-    /// Backs a unit out: each recoverable file and queue holds what it would hold if the unit had executed
-    /// nothing, the unit holds nothing more, and it has no turn. It takes no memory.
+    /// Backs a unit out: each recoverable file and queue holds what it would hold if the unit had
+    /// executed nothing, the unit holds nothing more, and it has no turn. It takes no memory.
     ///
     /// - `alone`: where a unit ran alone from some command on, each recoverable file and queue holds what the
     ///   kept commands before that one give.
@@ -499,8 +501,8 @@ impl Units {
         self.commits.as_slice()
     }
 
-    /// What stands in the files and queues, the changes of open units included, and no task. It takes
-    /// memory for a copy of each record.
+    /// What stands in the files and queues, the changes of open units included, and no task. It
+    /// takes memory for a copy of each record.
     ///
     /// - `replayed`: so it is what `plain_replay` gives of the opening, the trace and the outcomes.
     pub fn listing(&self) -> Result<Listing, NoMemory>

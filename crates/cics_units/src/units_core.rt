@@ -1,8 +1,9 @@
-//! All that units change where it stands: the files and queues, the images of each unit, who holds what,
-//! and the open update reads.
+//! All that units change where it stands: the files and queues, the images of each unit, who holds
+//! what, and the open update reads.
 
 ghost use Rattle.std.specs.Prelude.{◌≡◌, ◌<◌, ◌≤◌, ℕ, true, false, not, if◌then◌else◌};
-ghost use Rattle.std.specs.Prelude.{[], None, length, filter, reverse, IfOk, IfSome, OnOk, OnErr, All};
+ghost use Rattle.std.specs.Prelude.{[], None, length, filter, reverse, IfOk, IfSome, OnOk, OnErr};
+ghost use Rattle.std.specs.Prelude.{All};
 ghost use Rattle.std.specs.List.{list_any};
 ghost use Rattle.std.specs.Option.{option_copied};
 ghost use Rattle.cics_enqueue.specs.Resources.{is_user};
@@ -28,9 +29,8 @@ use crate::store;
 use crate::uses::{Uses, WereFree, hold_all, holder_over_all, let_go_all, uses_of};
 use cics_enqueue::{Enqueues, ResourceRef, UnitId};
 use cics_history::{Answer, Op};
-use cics_images::{Images, StoreImage, Stores, Undoable};
-use cics_ksds::FileImage;
-use cics_names::{Condition, Items, Name4, Name8, NoMemory, Record};
+use cics_images::{Images, StoreImage, Stores};
+use cics_names::{Condition, Name8, NoMemory, Record};
 use cics_tempstor::{TempStore, TsImage};
 use cics_transdata::TdImage;
 use std::alloc::Global;
@@ -89,9 +89,9 @@ fn settle_reader(store: &mut Store, image: &AnyImage)
     }
 }
 
-/// Commits the ends of the queues that a unit's images are of, the oldest image first in the list: the
-/// writing ends first, so that no record has both marks where a reading end is committed. What stands
-/// afterwards is the same in either order.
+/// Commits the ends of the queues that a unit's images are of, the oldest image first in the list:
+/// the writing ends first, so that no record has both marks where a reading end is committed. What
+/// stands afterwards is the same in either order.
 pub(crate) fn settle_ends(store: &mut Store, images: &[AnyImage])
     ensures { store.new ≡ ends_settled store.old (reverse images.now) }
 {
@@ -128,8 +128,8 @@ fn copied(given: Option<&Record>) -> Result<Option<Record>, NoMemory>
     }
 }
 
-/// Makes room for so many more images of a unit, which may be the next one, that has yet to begin. A
-/// command that changes many cells makes room for all its images before its first change.
+/// Makes room for so many more images of a unit, which may be the next one, that has yet to begin.
+/// A command that changes many cells makes room for all its images before its first change.
 pub(crate) fn reserve_images(
     rows: &mut Vec<Images<Store>>,
     alloc: Global,
@@ -182,7 +182,8 @@ impl UnitsCore {
         }
     }
 
-    // Returns whether a unit holds the writing end of the transient data queue that a command is on.
+    // Returns whether a unit holds the writing end of the transient data queue that a command is
+    // on.
     fn is_writer(&self, unit: UnitId, op: &Op) -> bool
         ensures { is_trans op.now ≡ true → result ≡ is_writer self.now.locks unit (queue_of op.now) }
     {
@@ -198,8 +199,8 @@ impl UnitsCore {
         }
     }
 
-    /// Looks up where a command of a unit acts, and what it uses. `recoverable` says whether a command
-    /// on temporary storage acts on something recoverable.
+    /// Looks up where a command of a unit acts, and what it uses. `recoverable` says whether a
+    /// command on temporary storage acts on something recoverable.
     pub(crate) fn bind<'a>(&self, unit: UnitId, op: &'a Op, recoverable: bool) -> BoundOp<'a>
         requires fit { IsFitOp self.now.store op.now }
         requires short { length (key_of op.now) ≤ 255 }
@@ -217,8 +218,8 @@ impl UnitsCore {
     }
 
     /// Returns the unit that a command has to wait for, if any: another than the one that asks that
-    /// holds what overlaps what the command uses, else for READQ TD the writer of a LOGICAL queue in
-    /// which there is no record that the acting unit may read.
+    /// holds what overlaps what the command uses, else for READQ TD the writer of a LOGICAL queue
+    /// in which there is no record that the acting unit may read.
     pub(crate) fn blocker(&self, asking: Option<UnitId>, bound: &BoundOp<'_>) -> Option<UnitId>
         ensures { (acting : ℕ) → IsBoundFor (core_value self.now) acting bound.now →
             result ≡ unit_in_way self.now.locks self.now.store.trans_data bound.now.recoverable
@@ -240,8 +241,8 @@ impl UnitsCore {
             .holder_over(&ResourceRef::writing_end(*name), again)
     }
 
-    /// Returns a copy of the record that a command would be answered with now: READ UPDATE's, and READQ
-    /// TD's, which may be one that its unit wrote itself. Other commands are given none.
+    /// Returns a copy of the record that a command would be answered with now: READ UPDATE's, and
+    /// READQ TD's, which may be one that its unit wrote itself. Other commands are given none.
     #[inline(never)]
     pub(crate) fn given_record(&self, bound: &BoundOp<'_>) -> Result<Option<Record>, NoMemory>
         requires fit { IsFitOp self.now.store bound.now.op.now }
@@ -268,8 +269,8 @@ impl UnitsCore {
         }
     }
 
-    /// Ends a unit's update read of a file, if it has one, and releases its record if the file isn't
-    /// recoverable.
+    /// Ends a unit's update read of a file, if it has one, and releases its record if the file
+    /// isn't recoverable.
     pub(crate) fn end_read(&mut self, unit: UnitId, file: &Name8, recoverable: bool)
         requires short { IfSome (read_at self.old.reads unit file.now) (λ key. length key ≤ 255) }
         ensures { self.new ≡ record self.old {
@@ -334,12 +335,13 @@ impl UnitsCore {
         }
     }
 
-    /// Executes a command of a unit that needn't wait, and may be the next one to begin, and answers it.
+    /// Executes a command of a unit that needn't wait, and may be the next one to begin, and
+    /// answers it.
     ///
-    /// Every command goes one way: room for its images, what it uses, `store::apply`, the update read
-    /// that it covers. If it isn't answered NORMAL, what it acquired is released. READ UPDATE changes
-    /// nothing, and is answered with `given`, which `given_record` looked up. What a command uses of
-    /// something that isn't recoverable it doesn't acquire.
+    /// Every command goes one way: room for its images, what it uses, `store::apply`, the update
+    /// read that it covers. If it isn't answered NORMAL, what it acquired is released. READ UPDATE
+    /// changes nothing, and is answered with `given`, which `given_record` looked up. What a
+    /// command uses of something that isn't recoverable it doesn't acquire.
     pub(crate) fn execute(
         &mut self,
         unit: UnitId,

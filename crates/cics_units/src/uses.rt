@@ -14,8 +14,8 @@ use cics_enqueue::{Enqueues, ResourceRef, UnitId};
 use cics_history::Op;
 use cics_names::{Name8, NoMemory};
 
-/// What a command uses: two resources at most, the reading end of a queue before its writing end. Their
-/// bytes lie in the command.
+/// What a command uses: two resources at most, the reading end of a queue before its writing end.
+/// Their bytes lie in the command.
 #[derive(Drop)]
 pub(crate) enum Uses<'a> {
     /// Nothing that is held.
@@ -97,9 +97,9 @@ fn let_go(enqueues: &mut Enqueues, resource: &ResourceRef<'_>, unit: UnitId, was
     }
 }
 
-/// Takes what a command uses for a unit, but for what the unit holds already, and tells what was free
-/// before. No other unit may hold what overlaps any of it. NoMemory where memory is refused: then
-/// nothing has changed.
+/// Takes what a command uses for a unit, but for what the unit holds already, and tells what was
+/// free before. No other unit may hold what overlaps any of it. NoMemory where memory is refused:
+/// then nothing has changed.
 pub(crate) fn hold_all(
     enqueues: &mut Enqueues,
     uses: &Uses<'_>,
@@ -134,8 +134,8 @@ pub(crate) fn hold_all(
     }
 }
 
-/// Gives back what a unit took of what a command uses, and leaves it what it held before. It takes no
-/// memory.
+/// Gives back what a unit took of what a command uses, and leaves it what it held before. It takes
+/// no memory.
 pub(crate) fn let_go_all(
     enqueues: &mut Enqueues,
     uses: &Uses<'_>,
