@@ -92,12 +92,10 @@ fn with_content(condition: Condition, content: Option<Record>) -> Answer
 pub(crate) fn found(given: Option<Record>) -> Answer
     ensures { result ≡ answer_of_record (found_condition given) given }
 {
-    let condition = if given.is_some() {
-        Condition::Normal
-    } else {
-        Condition::Notfnd
-    };
-    with_content(condition, given)
+    match given {
+        Some(record) => with_content(Condition::Normal, Some(record)),
+        None => only(Condition::Notfnd),
+    }
 }
 
 // Keeps the image of a change of a temporary storage queue as the newest, if the change has one.
