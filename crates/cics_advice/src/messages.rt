@@ -202,11 +202,11 @@ fn push_no_verb(out: &mut Vec<u8>, context: &Context<'_>) -> Result<(), NoMemory
 
 // A value that is wrong or missing, or its parentheses.
 fn push_bad_value(out: &mut Vec<u8>, context: &Context<'_>) -> Result<(), NoMemory> {
-    if is_word(context.at(0), "CLOCK") && context.front.len() == 1 {
-        return push_str(out, "CLOCK takes a number of seconds, as CLOCK 30");
-    }
     if is_broken(context.token) {
         return push_broken(out, context.token);
+    }
+    if is_word(context.at(0), "CLOCK") && context.front.len() == 1 {
+        return push_str(out, "CLOCK takes a number of seconds, as CLOCK 30");
     }
     if is_word(context.before(1), "(") {
         return push_value(out, context.before(2), context.token);
