@@ -1,25 +1,25 @@
 -- An order goes on from lane to lane, and branches off where another lane may give.
 use Rattle.std.proofs.Common.{◌≡◌, ◌<◌, ◌≤◌, ℕ, zero, suc, List, [], ◌∷◌, ◌++◌, map, length, refl, ap, sym, ◌∙◌, arith, take, Option, None, Some, length-append}
-use Rattle.cics_lanes.specs.Orders.{Order, Lanes, IsOrdered, after, led_by, led_by_any, orders, led_behind, orders_from, orders_behind, BranchesAt, Reaches, IsFollowed}
+use Rattle.cics_lanes.specs.Orders.{Order, Lanes, IsOrdered, after, led_by, led_by_any, orders, led_after, orders_from, orders_after, BranchesAt, Reaches, IsFollowed}
 use Rattle.cics_lanes.specs.declared.exploring.Branch.{Branch}
-use Rattle.std.proofs.lemmas.List.{take-append-le}
+use Rattle.std.proofs.lemmas.List.{take-append-le, length-map}
 use Rattle.std.proofs.Math.Seq.{take-append_seam}
 
 -- where no lane may give any more, an order is the first of those that begin with it
 pub from_end : {S : Type 0} (lanes : Lanes S) (n : ℕ) (s : S) (o : Order) → length o ≤ n → lanes.givers (after lanes s o) 0 ≡ [] →
-    orders_from lanes n s o ≡ o ∷ orders_behind lanes n s o
+    orders_from lanes n s o ≡ o ∷ orders_after lanes n s o
 from_end lanes zero s [] short none = refl
 from_end lanes (suc n) s [] short none = ap (led_by_any (λ l. orders lanes n (lanes.given s l))) none
 from_end lanes zero s (l ∷ o) short none = absurd (omega (arith, short))
-from_end lanes (suc n) s (l ∷ o) short none = ap (λ os. map (λ p. l ∷ p) os ++ led_behind lanes n s l) (from_end lanes n (lanes.given s l) o (omega (arith, short)) none)
+from_end lanes (suc n) s (l ∷ o) short none = ap (λ os. map (λ p. l ∷ p) os ++ led_after lanes n s l) (from_end lanes n (lanes.given s l) o (omega (arith, short)) none)
 
 -- an order of as many lines as there are is the first of those that begin with it
 pub from_full : {S : Type 0} (lanes : Lanes S) (n : ℕ) (s : S) (o : Order) → length o ≡ n →
-    orders_from lanes n s o ≡ o ∷ orders_behind lanes n s o
+    orders_from lanes n s o ≡ o ∷ orders_after lanes n s o
 from_full lanes zero s [] full = refl
 from_full lanes (suc n) s [] full = absurd (omega (arith, full))
 from_full lanes zero s (l ∷ o) full = absurd (omega (arith, full))
-from_full lanes (suc n) s (l ∷ o) full = ap (λ os. map (λ p. l ∷ p) os ++ led_behind lanes n s l) (from_full lanes n (lanes.given s l) o (omega (arith, full)))
+from_full lanes (suc n) s (l ∷ o) full = ap (λ os. map (λ p. l ∷ p) os ++ led_after lanes n s l) (from_full lanes n (lanes.given s l) o (omega (arith, full)))
 
 -- an order goes on with the first lane that may give
 pub from_giver : {S : Type 0} (lanes : Lanes S) (n : ℕ) (s : S) (o : Order) (l : ℕ) (ls : List ℕ) → IsOrdered lanes → length o < n →
@@ -27,27 +27,48 @@ pub from_giver : {S : Type 0} (lanes : Lanes S) (n : ℕ) (s : S) (o : Order) (l
 from_giver lanes zero s o l ls rise short is = absurd (omega (arith, short))
 from_giver lanes (suc n) s [] l ls rise short is =
     ap (led_by_any (λ l. orders lanes n (lanes.given s l))) is
-    ∙ ap (λ ls. map (λ p. l ∷ p) (orders lanes n (lanes.given s l)) ++ led_by (λ l. orders lanes n (lanes.given s l)) ls) (rise s 0 l ls is)
+    ∙ ap (λ ls. map (λ p. l ∷ p) (orders lanes n (lanes.given s l)) ++ led_by (λ l. orders lanes n (lanes.given s l)) ls) (rise s 0 l ls is).1
 from_giver lanes (suc n) s (k ∷ o) l ls rise short is =
-    ap (λ os. map (λ p. k ∷ p) os ++ led_behind lanes n s k) (from_giver lanes n (lanes.given s k) o l ls rise (omega (arith, short)) is)
+    ap (λ os. map (λ p. k ∷ p) os ++ led_after lanes n s k) (from_giver lanes n (lanes.given s k) o l ls rise (omega (arith, short)) is)
 
--- where no lane behind the last one may give, nothing branches off there
-pub behind_last : {S : Type 0} (lanes : Lanes S) (n : ℕ) (s : S) (o : Order) (l : ℕ) → length o < n →
-    lanes.givers (after lanes s o) (suc l) ≡ [] → orders_behind lanes n s (o ++ l ∷ []) ≡ orders_behind lanes n s o
-behind_last lanes zero s o l short none = absurd (omega (arith, short))
-behind_last lanes (suc n) s [] l short none = ap (led_by (λ l. orders lanes n (lanes.given s l))) none
-behind_last lanes (suc n) s (k ∷ o) l short none =
-    ap (λ os. map (λ p. k ∷ p) os ++ led_behind lanes n s k) (behind_last lanes n (lanes.given s k) o l (omega (arith, short)) none)
+-- where no lane after the last one may give, nothing branches off there
+pub after_last : {S : Type 0} (lanes : Lanes S) (n : ℕ) (s : S) (o : Order) (l : ℕ) → length o < n →
+    lanes.givers (after lanes s o) (suc l) ≡ [] → orders_after lanes n s (o ++ l ∷ []) ≡ orders_after lanes n s o
+after_last lanes zero s o l short none = absurd (omega (arith, short))
+after_last lanes (suc n) s [] l short none = ap (led_by (λ l. orders lanes n (lanes.given s l))) none
+after_last lanes (suc n) s (k ∷ o) l short none =
+    ap (λ os. map (λ p. k ∷ p) os ++ led_after lanes n s k) (after_last lanes n (lanes.given s k) o l (omega (arith, short)) none)
 
--- where one may give, the orders behind begin with it
-pub behind_giver : {S : Type 0} (lanes : Lanes S) (n : ℕ) (s : S) (o : Order) (l k : ℕ) (ks : List ℕ) → IsOrdered lanes → length o < n →
-    lanes.givers (after lanes s o) (suc l) ≡ k ∷ ks → orders_behind lanes n s (o ++ l ∷ []) ≡ orders_from lanes n s (o ++ k ∷ [])
-behind_giver lanes zero s o l k ks rise short is = absurd (omega (arith, short))
-behind_giver lanes (suc n) s [] l k ks rise short is =
+-- where one may give, the orders after that begin with it
+pub after_giver : {S : Type 0} (lanes : Lanes S) (n : ℕ) (s : S) (o : Order) (l k : ℕ) (ks : List ℕ) → IsOrdered lanes → length o < n →
+    lanes.givers (after lanes s o) (suc l) ≡ k ∷ ks → orders_after lanes n s (o ++ l ∷ []) ≡ orders_from lanes n s (o ++ k ∷ [])
+after_giver lanes zero s o l k ks rise short is = absurd (omega (arith, short))
+after_giver lanes (suc n) s [] l k ks rise short is =
     ap (led_by (λ l. orders lanes n (lanes.given s l))) is
-    ∙ ap (λ ls. map (λ p. k ∷ p) (orders lanes n (lanes.given s k)) ++ led_by (λ l. orders lanes n (lanes.given s l)) ls) (rise s (suc l) k ks is)
-behind_giver lanes (suc n) s (j ∷ o) l k ks rise short is =
-    ap (λ os. map (λ p. j ∷ p) os ++ led_behind lanes n s j) (behind_giver lanes n (lanes.given s j) o l k ks rise (omega (arith, short)) is)
+    ∙ ap (λ ls. map (λ p. k ∷ p) (orders lanes n (lanes.given s k)) ++ led_by (λ l. orders lanes n (lanes.given s l)) ls) (rise s (suc l) k ks is).1
+after_giver lanes (suc n) s (j ∷ o) l k ks rise short is =
+    ap (λ os. map (λ p. j ∷ p) os ++ led_after lanes n s j) (after_giver lanes n (lanes.given s j) o l k ks rise (omega (arith, short)) is)
+
+-- there is always an order
+pub some_order : {S : Type 0} (lanes : Lanes S) (n : ℕ) (s : S) → 0 < length (orders lanes n s)
+some_order lanes zero s = omega arith
+some_order {S} lanes (suc n) s = by (some_order lanes n) (lanes.givers s 0)
+  where
+    more : ℕ → List Order
+    more l = orders lanes n (lanes.given s l)
+
+    by : ((t : S) → 0 < length (orders lanes n t)) → (ls : List ℕ) → 0 < length (led_by_any (λ l. orders lanes n (lanes.given s l)) ls)
+    by some [] = omega arith
+    by some (l ∷ ls) =
+        omega (arith, length-append (map (λ o. l ∷ o) (more l)) (led_by (λ l. orders lanes n (lanes.given s l)) ls), length-map (more l) (λ o. l ∷ o), some (lanes.given s l))
+
+-- and one from any lanes on that are no more than the lines
+pub some_from : {S : Type 0} (lanes : Lanes S) (n : ℕ) (s : S) (o : Order) → length o ≤ n → 0 < length (orders_from lanes n s o)
+some_from lanes n s [] short = some_order lanes n s
+some_from lanes zero s (l ∷ o) short = absurd (omega (arith, short))
+some_from lanes (suc n) s (l ∷ o) short =
+    let rest = orders_from lanes n (lanes.given s l) o in
+    omega (arith, length-append (map (λ p. l ∷ p) rest) (led_after lanes n s l), length-map rest (λ p. l ∷ p), some_from lanes n (lanes.given s l) o (omega (arith, short)))
 
 -- the state after an order and a line more
 pub after-append : {S : Type 0} (lanes : Lanes S) (s : S) (o : Order) (l : ℕ) → after lanes s (o ++ l ∷ []) ≡ lanes.given (after lanes s o) l
@@ -56,13 +77,13 @@ after-append lanes s (k ∷ o) l = after-append lanes (lanes.given s k) o l
 
 -- ---- Branches
 
--- an order branches off where it did, if no lane behind the one that gives more may give
+-- an order branches off where it did, if no lane after the one that gives more may give
 pub branches_on : {S : Type 0} (lanes : Lanes S) (n : ℕ) (s : S) (o : Order) (l : ℕ) (b : Option Branch) → length o < n →
     lanes.givers (after lanes s o) (suc l) ≡ [] → BranchesAt lanes n s o b → BranchesAt lanes n s (o ++ l ∷ []) b
-branches_on lanes n s o l None short none at = behind_last lanes n s o l short none ∙ at
+branches_on lanes n s o l None short none at = after_last lanes n s o l short none ∙ at
 branches_on lanes n s o l (Some b) short none at = (
   omega (arith, at.0, length-append o (l ∷ [])),
-  behind_last lanes n s o l short none ∙ at.1 ∙ ap (λ p. orders_from lanes n s (p ++ b.lane ∷ [])) (sym (take-append-le b.depth o (l ∷ []) (omega (arith, at.0)))),
+  after_last lanes n s o l short none ∙ at.1 ∙ ap (λ p. orders_from lanes n s (p ++ b.lane ∷ [])) (sym (take-append-le b.depth o (l ∷ []) (omega (arith, at.0)))),
 )
 
 -- else it branches off there
@@ -71,7 +92,7 @@ pub branches_here : {S : Type 0} (lanes : Lanes S) (n : ℕ) (s : S) (o : Order)
 branches_here lanes n s o l k ks b rise short is depth lane =
     let whole : take b.depth (o ++ l ∷ []) ≡ o = ap (λ d. take d (o ++ l ∷ [])) depth ∙ take-append_seam o (l ∷ []) in (
       omega (arith, depth, length-append o (l ∷ [])),
-      behind_giver lanes n s o l k ks rise short is ∙ ap (λ j. orders_from lanes n s (o ++ j ∷ [])) (sym lane) ∙ ap (λ p. orders_from lanes n s (p ++ b.lane ∷ [])) (sym whole),
+      after_giver lanes n s o l k ks rise short is ∙ ap (λ j. orders_from lanes n s (o ++ j ∷ [])) (sym lane) ∙ ap (λ p. orders_from lanes n s (p ++ b.lane ∷ [])) (sym whole),
     )
 
 -- an order that is reached, a line further

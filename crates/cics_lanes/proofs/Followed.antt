@@ -1,7 +1,7 @@
 -- An order is followed and told.
 use Rattle.std.proofs.Common.{◌≡◌, ◌<◌, ℕ, ◌+◌, Bool, List, [], ◌∷◌, length, take, drop, refl, ap, sym, ◌∙◌, Option}
 use Rattle.std.proofs.lemmas.List.{map-append}
-use Rattle.cics_lanes.specs.Orders.{Order, Lanes, after, orders, orders_from, orders_behind, IsFollowed}
+use Rattle.cics_lanes.specs.Orders.{Order, Lanes, after, orders, orders_from, orders_after, IsFollowed}
 use Rattle.cics_lanes.specs.Endings.{Parts, Reported, run_to, report, told}
 use Rattle.cics_lanes.specs.Reports.{runs}
 use Rattle.cics_lanes.specs.declared.exploring.Branch.{Branch}
@@ -20,10 +20,10 @@ pub told_on : {S : Type 0} (lanes : Lanes S) (ending : S → Parts) (serial : S 
     es ≡ report (runs lanes ending serial s (take k (orders lanes n s))) → drop k (orders lanes n s) ≡ orders_from lanes n s begun →
     IsFollowed lanes n s begun now o b → next ≡ told es (run_to ending serial o now) →
     (next ≡ report (runs lanes ending serial s (take (k + 1) (orders lanes n s))))
-    × (drop (k + 1) (orders lanes n s) ≡ orders_behind lanes n s o) × (k < length (orders lanes n s))
+    × (drop (k + 1) (orders lanes n s) ≡ orders_after lanes n s o) × (k < length (orders lanes n s))
 told_on lanes ending serial n s k begun o now b es next so_far rest followed is =
     let all = orders lanes n s in
-    let on = front_on all k o (orders_behind lanes n s o) (rest ∙ followed.first) in
+    let on = front_on all k o (orders_after lanes n s o) (rest ∙ followed.first) in
     let front = runs lanes ending serial s (take k all) in
     let run : run_to ending serial o now ≡ run_to ending serial o (after lanes s o) = ap (run_to ending serial o) followed.state in (
       is ∙ ap (λ fs. told fs (run_to ending serial o now)) so_far ∙ ap (told (report front)) run

@@ -15,11 +15,11 @@ giver_past may xs i d short is = ap (numbered may i) (drop-cons xs i d short) �
 pub giver_none : {X : Type 0} (may : X → Bool) (xs : List X) (i : ℕ) → length xs ≤ i → numbered_from may xs i ≡ []
 giver_none may xs i long = ap (numbered may i) (drop_of_length-le xs long)
 
--- behind the first number stand those of the lanes behind it
-numbers_behind : {X : Type 0} (may : X → Bool) (ys : List X) (from l : ℕ) (ls : List ℕ) → numbered may from ys ≡ l ∷ ls →
+-- after the first number stand those of the lanes after it
+numbers_after : {X : Type 0} (may : X → Bool) (ys : List X) (from l : ℕ) (ls : List ℕ) → numbered may from ys ≡ l ∷ ls →
     (k : ℕ) × (l ≡ from + k) × (ls ≡ numbered may (suc l) (drop (suc k) ys))
-numbers_behind may [] from l ls is = absurd (grind (arith, is))
-numbers_behind {X} may (y ∷ ys) from l ls is = by (numbers_behind may ys (suc from) l ls) (may y) refl is
+numbers_after may [] from l ls is = absurd (grind (arith, is))
+numbers_after {X} may (y ∷ ys) from l ls is = by (numbers_after may ys (suc from) l ls) (may y) refl is
   where
     by : (numbered may (suc from) ys ≡ l ∷ ls → (k : ℕ) × (l ≡ suc from + k) × (ls ≡ numbered may (suc l) (drop (suc k) ys))) →
         (b : Bool) → may y ≡ b → numbered may from (y ∷ ys) ≡ l ∷ ls → (k : ℕ) × (l ≡ from + k) × (ls ≡ numbered may (suc l) (drop (suc k) (y ∷ ys)))
@@ -33,8 +33,8 @@ numbers_behind {X} may (y ∷ ys) from l ls is = by (numbers_behind may ys (suc 
         (suc tail.0, omega (arith, tail.1), tail.2)
 
 pub givers_ordered : {X : Type 0} (may : X → Bool) (xs : List X) (from l : ℕ) (ls : List ℕ) → numbered_from may xs from ≡ l ∷ ls →
-    ls ≡ numbered_from may xs (suc l)
+    (from ≤ l) × (ls ≡ numbered_from may xs (suc l))
 givers_ordered may xs from l ls is =
-    let found = numbers_behind may (drop from xs) from l ls is in
+    let found = numbers_after may (drop from xs) from l ls is in
     let place : from + suc found.0 ≡ suc l = omega (arith, found.1) in
-    found.2 ∙ ap (numbered may (suc l)) (drop-drop (suc found.0) from xs ∙ ap (λ n. drop n xs) place)
+    (omega (arith, found.1), found.2 ∙ ap (numbered may (suc l)) (drop-drop (suc found.0) from xs ∙ ap (λ n. drop n xs) place))

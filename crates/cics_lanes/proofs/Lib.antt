@@ -3,4 +3,5 @@ pub mod Followed
 pub mod Fronts
 pub mod Givers
 pub mod Parts
+mod Rows
 pub mod Telling

@@ -40,6 +40,6 @@ same_past ps qs i p q short same at_p at_q alike =
     same_step ps qs i p q short same ∙ ap (λ b. b && are_same (drop (suc i) ps) (drop (suc i) qs)) here
     ∙ (let next : suc i ≡ i + 1 = omega arith in ap (λ n. are_same (drop n ps) (drop n qs)) next)
 
--- behind the last part nothing differs
+-- after the last part nothing differs
 pub same_end : (ps qs : Parts) (i : ℕ) → length ps ≤ i → length ps ≡ length qs → are_same (drop i ps) (drop i qs) ≡ true
 same_end ps qs i long same = rw (drop_of_length-le ps long, drop_of_length-le qs {i = i} (omega (arith, long, same))) refl

@@ -221,9 +221,9 @@ told_report rs r =
 
 -- ---- The place of an ending
 
--- a place behind so many
-behind : ℕ → Option ℕ → Option ℕ
-behind i o = option_map (λ n. i + n) o
+-- a place after so many
+after : ℕ → Option ℕ → Option ℕ
+after i o = option_map (λ n. i + n) o
 
 pub place_step : (fs : List Reported) (ps : Parts) (i : ℕ) (f : Reported) → i < length fs → f ≡ get_or fs i f → are_same f.ending ps ≡ false →
     option_map (λ n. i + n) (place_of (drop i fs) ps) ≡ option_map (λ n. (i + 1) + n) (place_of (drop (i + 1) fs) ps)

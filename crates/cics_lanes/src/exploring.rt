@@ -21,7 +21,7 @@ pub(crate) struct Branch {
 #[derive(Drop)]
 pub struct Report {
     /// The endings, in the order of their first orders.
-    pub endings: Vec<Ending>,
+    pub endings: Items<Ending>,
     /// How many orders were followed.
     pub orders: u64,
     /// Whether these are all orders.
@@ -35,7 +35,7 @@ fn branch_at<W: Walk>(walk: &W, depth: usize, lane: usize, before: Option<Branch
         length o < n → BranchesAt W.lanes n s o before →
         BranchesAt W.lanes n s (o ++ lane ∷ []) result }
 {
-    match walk.giver_behind(lane) {
+    match walk.giver_after(lane) {
         Some(lane) => Some(Branch { depth, lane }),
         None => before,
     }
@@ -113,12 +113,12 @@ fn run_to<W: Walk>(alloc: Global, walk: &W, order: &[usize]) -> Result<Run, NoMe
 /// order that leads to it, and how many orders and serial orders do. They stand in the order of
 /// their first orders. Else they are the endings of the first orders, as many as were followed.
 ///
-/// Cost: for each order a walk from the start, and a look at each ending.
+/// Cost: O(orders * (lines + endings)).
 ///
 /// Errors: `NoMemory`.
 pub fn explore<W: Walk>(alloc: Global, walk: &mut W, limit: u64) -> Result<Report, NoMemory>
     ensures { IfOk result (λ report. IsReport W.lanes W.ending W.serial
-        (W.most (W.start walk.old)) (W.start walk.old) report) }
+        (W.most (W.start walk.old)) limit (W.start walk.old) report) }
 {
     walk.restart()?;
     let lines = walk.line_count();
@@ -129,7 +129,7 @@ pub fn explore<W: Walk>(alloc: Global, walk: &mut W, limit: u64) -> Result<Repor
         tell(&mut endings, run_to(alloc, walk, order.as_slice())?)?;
         let Some(branch) = branch else {
             return Ok(Report {
-                endings,
+                endings: Items::from_vec(endings),
                 orders: told + 1,
                 is_whole: true,
             });
@@ -138,7 +138,7 @@ pub fn explore<W: Walk>(alloc: Global, walk: &mut W, limit: u64) -> Result<Repor
         order.push(branch.lane)?;
     }
     Ok(Report {
-        endings,
+        endings: Items::from_vec(endings),
         orders: limit,
         is_whole: false,
     })

@@ -1,7 +1,7 @@
 //! What is walked along an order.
 
-ghost use Rattle.std.specs.Prelude.{◌≡◌, ℕ, suc, Bool, IfOk, OnOk};
-ghost use Rattle.cics_lanes.specs.Orders.{Lanes, IsFirst, IsOrdered};
+ghost use Rattle.std.specs.Prelude.{◌≡◌, ℕ, suc, Bool, [], All, IfOk, OnOk};
+ghost use Rattle.cics_lanes.specs.Orders.{Lanes, IsFirst, IsOrdered, after, orders};
 ghost use Rattle.cics_lanes.specs.Endings.{Parts};
 
 use cics_names::{Items, NoMemory, Record};
@@ -26,6 +26,10 @@ pub trait Walk {
     /// The lanes that may give stand in their order.
     ghost is_ordered: { IsOrdered lanes };
 
+    /// After at most so many lines no lane may give.
+    ghost most_ends: { (s : Self) → All (λ o. lanes.givers (after lanes (start s) o) 0 ≡ [])
+        (orders lanes (most (start s)) (start s)) };
+
     /// No line moves the start.
     ghost start_stays: { (s : Self) (l : ℕ) → start (lanes.given s l) ≡ start s };
 
@@ -44,8 +48,8 @@ pub trait Walk {
     fn first_giver(&self) -> Option<usize>
         ensures { IsFirst result (lanes.givers self.now 0) };
 
-    /// Returns the first lane behind another that may give.
-    fn giver_behind(&self, lane: usize) -> Option<usize>
+    /// Returns the first lane after another that may give.
+    fn giver_after(&self, lane: usize) -> Option<usize>
         ensures { IsFirst result (lanes.givers self.now (suc lane)) };
 
     /// Gives the next line of a lane.

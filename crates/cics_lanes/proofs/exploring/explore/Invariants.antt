@@ -15,5 +15,4 @@ invariant-loop-told g l =
       endings : l.endings.items ≡ report (runs w.lanes w.ending w.serial s (take l.told all));
       rest : drop l.told all ≡ orders_from w.lanes l.lines s l.order.items;
       short : length l.order.items ≤ l.lines;
-      within : l.told ≤ length all;
     }
