@@ -1,5 +1,5 @@
 -- Worked example: two lanes add one to a number, each by a line that reads it and a line that writes it.
-use Rattle.std.specs.Prelude.{◌≡◌, ℕ, suc, zero, Bool, true, not, ◌==◌, if◌then◌else◌, List, [], ◌∷◌, ◌++◌, Option, Some, None, refl}
+use Rattle.std.specs.Prelude.{◌≡◌, ℕ, suc, Bool, true, not, ◌==◌, if◌then◌else◌, [], ◌∷◌, ◌++◌, Option, Some, None, refl}
 use Rattle.std.specs.List.{count_by}
 use Rattle.cics_lanes.specs.Orders.{Order, Lanes, numbered_from, orders}
 use Rattle.cics_lanes.specs.Endings.{Parts, report}

@@ -1,8 +1,8 @@
 -- What a picture puts together is the text of a document.
-use Rattle.std.proofs.Common.{◌≡◌, ℕ, zero, suc, List, [], ◌∷◌, ◌++◌, refl, ap, sym, ◌∙◌, append_assoc, length, Option, Some, None}
+use Rattle.std.proofs.Common.{◌≡◌, ℕ, List, [], ◌++◌, refl, ap, sym, ◌∙◌}
 use Rattle.std.proofs.lemmas.List.{append-nil}
 use Rattle.cics_markup.specs.declared.names.Tag.{Tag}
-use Rattle.cics_markup.specs.Documents.{Attribute, Document, Empty, Element, element, joined, document_text, start_text, end_text}
+use Rattle.cics_markup.specs.Documents.{Attribute, Document, Empty, element, joined, document_text, start_text, end_text}
 use Rattle.cics_markup.proofs.Joined.{text_joined}
 
 -- the text of a document

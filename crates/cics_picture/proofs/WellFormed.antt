@@ -1,5 +1,5 @@
 -- Every picture is the text of a document.
-use Rattle.std.proofs.Common.{◌≡◌, ℕ, zero, suc, Bool, true, false, cond, ◌==◌, ◌+◌, ◌*◌, ◌/◌, List, [], ◌∷◌, ◌++◌, refl, ap, sym, ◌∙◌, append_assoc, length, map, Option, Some, None}
+use Rattle.std.proofs.Common.{◌≡◌, ℕ, zero, suc, Bool, true, false, cond, ◌==◌, ◌+◌, ◌*◌, ◌/◌, List, [], ◌∷◌, ◌++◌, ap, sym, ◌∙◌, append_assoc, length, map, Option, Some, None}
 use Rattle.std.specs.List.{fold}
 use Rattle.cics_markup.specs.declared.names.Tag.{Tag}
 use Rattle.cics_markup.specs.declared.names.Tag.TheVariants as tag
@@ -13,7 +13,7 @@ use Rattle.cics_picture.specs.declared.events.Kind.TheVariants as kind
 use Rattle.cics_picture.specs.Events.{first_word, behind_word, class_of, shape_of}
 use Rattle.cics_picture.specs.Lanes.{lane_of, tasks_behind, lane_x, row_y}
 use Rattle.cics_picture.specs.Elements.{class, words, number_words, shape, stroke, field, spoken, namespace, picture_start, moved_start, tip, head}
-use Rattle.cics_picture.specs.Drawings.{Drawn, nothing_drawn, arrow_to, beside, event_kind, lane_marks, line_words, row_texts, with_row, with_text, with_line, Printed, drawn}
+use Rattle.cics_picture.specs.Drawings.{Drawn, nothing_drawn, arrow_to, beside, event_kind, lane_marks, row_texts, with_row, with_text, with_line, Printed, drawn}
 use Rattle.cics_picture.specs.Sheets.{style_text, bands, lane_lines, headings, ground, moved_texts, sheet, width_of, height_of}
 use Rattle.cics_picture.specs.declared.style.TheConstants.{STYLE}
 use Rattle.cics_picture.proofs.Markup.{IsMarkup, nothing, itself, behind, within}

@@ -4,7 +4,7 @@ use Rattle.cics_markup.specs.declared.names.Tag.{Tag}
 use Rattle.cics_markup.specs.declared.names.Tag.TheVariants as tag
 use Rattle.cics_markup.specs.declared.names.Key.TheVariants as key
 use Rattle.cics_markup.specs.Characters.{shown}
-use Rattle.cics_markup.specs.Documents.{Attribute, attribute, number_of, numeral, moved_to, Document, Empty, element, said, document_text, start_text}
+use Rattle.cics_markup.specs.Documents.{Attribute, attribute, number_of, numeral, moved_to, Empty, element, said, document_text, start_text}
 use Rattle.cics_picture.specs.declared.events.Kind.{Kind}
 use Rattle.cics_picture.specs.Events.{class_of, shape_of}
 use Rattle.cics_picture.specs.Lanes.{lane_x}

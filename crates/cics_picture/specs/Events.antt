@@ -1,5 +1,5 @@
 -- What a line of the journal says: a label, and what its task was told, the first word of which says of what kind it is.
-use Rattle.std.specs.Prelude.{ℕ, Bool, not, ◌==◌, ◌+◌, if◌then◌else◌, List, [], take, drop}
+use Rattle.std.specs.Prelude.{ℕ, Bool, not, ◌==◌, ◌+◌, if◌then◌else◌, List, take, drop}
 use Rattle.std.specs.List.{prefix_len}
 use Rattle.std.specs.Str.{bytes_eq}
 use Rattle.cics_picture.specs.declared.events.Kind.{Kind}

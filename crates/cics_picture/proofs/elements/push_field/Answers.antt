@@ -1,9 +1,8 @@
-use Rattle.std.proofs.Common.{◌≡◌, ℕ, List, [], ◌∷◌, ◌++◌, ap, ◌∙◌, map}
+use Rattle.std.proofs.Common.{[], ◌∷◌, ◌++◌, ap, ◌∙◌}
 use Rattle.cics_markup.specs.declared.names.Tag.TheVariants as tag
 use Rattle.cics_markup.specs.declared.names.Key.TheVariants as key
 use Rattle.cics_markup.specs.Names.{tag_name}
-use Rattle.cics_markup.specs.Characters.{shown}
-use Rattle.cics_markup.specs.Documents.{attribute, attribute_text, number_of, numeral, moved_to, said, document_text, start_text, end_text}
+use Rattle.cics_markup.specs.Documents.{attribute_text, number_of, start_text, end_text}
 use Rattle.cics_picture.specs.Elements.{field, class}
 use Rattle.cics_picture.proofs.Chains.{four, started, hollow}
 use Rattle.cics_picture.proofs.elements.push_field.Goals as goal

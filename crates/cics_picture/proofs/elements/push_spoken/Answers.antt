@@ -1,10 +1,7 @@
-use Rattle.std.proofs.Common.{◌≡◌, ℕ, List, [], ◌∷◌, ◌++◌, ap, ◌∙◌, map, append_assoc}
-use Rattle.cics_markup.specs.declared.names.Tag.TheVariants as tag
-use Rattle.cics_markup.specs.declared.names.Key.TheVariants as key
+use Rattle.std.proofs.Common.{[], ◌++◌, ap, ◌∙◌, append_assoc}
 use Rattle.cics_markup.specs.Names.{tag_name}
-use Rattle.cics_markup.specs.Characters.{shown}
-use Rattle.cics_markup.specs.Documents.{attribute, attribute_text, number_of, numeral, moved_to, said, document_text, start_text, end_text}
-use Rattle.cics_picture.specs.Elements.{spoken, class}
+use Rattle.cics_markup.specs.Documents.{said, document_text, start_text, end_text}
+use Rattle.cics_picture.specs.Elements.{spoken}
 use Rattle.cics_picture.proofs.Chains.{filled}
 use Rattle.cics_picture.proofs.elements.push_spoken.Goals as goal
 use lib.Chars.{codes}
