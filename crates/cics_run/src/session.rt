@@ -141,12 +141,12 @@ impl Session {
         write_pending(&mut self.pending, sink)
     }
 
-    // Runs the line whose LF came.
+    // Runs the line whose LF came. A line with a fault is kept, to be told to a person.
     fn end_line<K: Sink>(&mut self, sink: &mut K) -> Result<bool, Stop>
         requires { self.old.number + 1 < 2 ^ 64 }
         ensures stage { IfOk result (λ _. self.new.stage ≡ (line_step self.old).stage) }
         ensures number { OnOk result (self.new.number ≡ self.old.number + 1) }
-        ensures line { OnOk result (self.new.line.items ≡ []) }
+        ensures line { IfOk result (λ fault. fault ≡ false → self.new.line.items ≡ []) }
         ensures fault { IfOk result (λ fault. fault ≡ (line_step self.old).is_fault) }
         ensures printed { OnOk result (Prints (K.contents sink.old)
             (K.contents sink.new) self.old.pending.items self.new.pending.items
@@ -159,9 +159,14 @@ impl Session {
     {
         self.number += 1;
         let line = without_cr(&self.line);
+        let size = line.len();
         let fault = run_one(&mut self.stage, self.number, line, &mut self.pending, sink)?;
+        if fault {
+            self.line.truncate(size);
+            return Ok(true);
+        }
         self.line.clear();
-        Ok(fault)
+        Ok(false)
     }
 
     // Runs the lines that more bytes complete, up to the first fault, and tells whether there was
