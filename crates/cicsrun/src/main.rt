@@ -28,8 +28,8 @@ fn main(rt: HostRuntime) -> ExitCode {
     }
 }
 
-// Runs the script on standard input. The process ends right behind it, so its memory isn't given
-// back piece by piece, which would take up to a tenth of the time.
+// Runs the script on standard input. The process ends right after the run. So its memory isn't
+// given back piece by piece, which would take up to a tenth of the time.
 fn run_to_the_end(rt: HostRuntime, wanted: Wanted) -> Result<Status, RunFault> {
     let mut session = Session::new(rt.alloc());
     let answer = run_over(&mut session, &mut rt.stdin(), &mut rt.stdout(), wanted);
