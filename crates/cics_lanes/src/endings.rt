@@ -1,6 +1,6 @@
 //! The endings that runs lead to.
 
-ghost use Rattle.std.specs.Prelude.{◌≡◌, ◌∷◌, IfOk, OnOk, OnErr, Some, None, IfSome, MatchOption, length};
+ghost use Rattle.std.specs.Prelude.{◌≡◌, OnOk};
 ghost use Rattle.cics_lanes.specs.Endings.{are_same, counted, first_run, place_of, told};
 
 use cics_names::{Items, NoMemory, Record};
@@ -127,7 +127,7 @@ fn find(endings: &[Ending], parts: &[Record]) -> Option<usize>
     None
 }
 
-/// Counts one run more at its ending, or adds the ending. `NoMemory` leaves the endings as they were.
+/// Counts one run more at its ending, or adds the ending.
 pub(crate) fn tell(endings: &mut Vec<Ending>, run: Run) -> Result<(), NoMemory>
     ensures { OnOk result (endings.new.items ≡ told endings.old.items run) }
 {

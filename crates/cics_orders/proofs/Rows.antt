@@ -20,9 +20,9 @@ abbrev deadlock : PlanValue
 deadlock = record {
   definitions = [];
   tasks =
-    record { label = t1; dtimout = 0; lines = (3, codes "T1 EXEC CICS ENQ RESOURCE('A') LENGTH(1)") ∷ (4, codes "T1 EXEC CICS ENQ RESOURCE('B') LENGTH(1)") ∷ [] }
-    ∷ record { label = t2; dtimout = 0; lines = (5, codes "T2 EXEC CICS ENQ RESOURCE('B') LENGTH(1)") ∷ (6, codes "T2 EXEC CICS ENQ RESOURCE('A') LENGTH(1)") ∷ [] }
-    ∷ [];
+      record { label = t1; dtimout = 0; lines = (3, codes "T1 EXEC CICS ENQ RESOURCE('A') LENGTH(1)") ∷ (4, codes "T1 EXEC CICS ENQ RESOURCE('B') LENGTH(1)") ∷ [] }
+      ∷ record { label = t2; dtimout = 0; lines = (5, codes "T2 EXEC CICS ENQ RESOURCE('B') LENGTH(1)") ∷ (6, codes "T2 EXEC CICS ENQ RESOURCE('A') LENGTH(1)") ∷ [] }
+      ∷ [];
   clock = [];
 }
 
@@ -45,15 +45,23 @@ between = 0 ∷ 1 ∷ 0 ∷ 0 ∷ 0 ∷ 1 ∷ 1 ∷ 1 ∷ []
 
 abbrev lost_update : PlanValue
 lost_update = record {
-  definitions = codes "DEFINE FILE('A') KEYLENGTH(1) RECOVERABLE" ∷ codes "LOAD FILE('A') FROM('K0')" ∷ [];
+  definitions = (1, codes "DEFINE FILE('A') KEYLENGTH(1) RECOVERABLE") ∷ (2, codes "LOAD FILE('A') FROM('K0')") ∷ [];
   tasks =
-    record { label = t1; dtimout = 0; lines =
-      (5, codes "T1 EXEC CICS READ FILE('A') RIDFLD('K')") ∷ (6, codes "T1 EXEC CICS READ FILE('A') RIDFLD('K') UPDATE")
-      ∷ (7, codes "T1 EXEC CICS REWRITE FILE('A') FROM('K1')") ∷ (8, codes "T1 EXEC CICS RETURN") ∷ [] }
-    ∷ record { label = t2; dtimout = 0; lines =
-      (9, codes "T2 EXEC CICS READ FILE('A') RIDFLD('K')") ∷ (10, codes "T2 EXEC CICS READ FILE('A') RIDFLD('K') UPDATE")
-      ∷ (11, codes "T2 EXEC CICS REWRITE FILE('A') FROM('K2')") ∷ (12, codes "T2 EXEC CICS RETURN") ∷ [] }
-    ∷ [];
+      record {
+        label = t1;
+        dtimout = 0;
+        lines =
+            (5, codes "T1 EXEC CICS READ FILE('A') RIDFLD('K')") ∷ (6, codes "T1 EXEC CICS READ FILE('A') RIDFLD('K') UPDATE")
+            ∷ (7, codes "T1 EXEC CICS REWRITE FILE('A') FROM('K1')") ∷ (8, codes "T1 EXEC CICS RETURN") ∷ [];
+      }
+      ∷ record {
+        label = t2;
+        dtimout = 0;
+        lines =
+            (9, codes "T2 EXEC CICS READ FILE('A') RIDFLD('K')") ∷ (10, codes "T2 EXEC CICS READ FILE('A') RIDFLD('K') UPDATE")
+            ∷ (11, codes "T2 EXEC CICS REWRITE FILE('A') FROM('K2')") ∷ (12, codes "T2 EXEC CICS RETURN") ∷ [];
+      }
+      ∷ [];
   clock = [];
 }
 

@@ -24,6 +24,18 @@ use Rattle.cics_lanes.specs.Orders.{Lanes, numbered_from}
 abbrev pub NumberedLine : Type 0
 NumberedLine = ℕ × Bytes
 
+-- a task that is attached: its label, how many seconds its commands may wait, and its lines
+pub record TaskPlan : Type 0 where
+  pub label : Bytes
+  pub dtimout : ℕ
+  pub lines : List NumberedLine
+
+-- a script taken apart: the lines that define and load, the tasks in the order of attach, and the clock's lines
+pub record PlanValue : Type 0 where
+  pub definitions : List NumberedLine
+  pub tasks : List TaskPlan
+  pub clock : List NumberedLine
+
 -- a lane: the label of its task, or none for the clock's; its lines; how many of them are given; what its task was told, one
 -- outcome for each line that was answered; and whether the task is within a turn: its last line did not end its unit of work
 pub record Lane : Type 0 where
@@ -33,9 +45,10 @@ pub record Lane : Type 0 where
   pub told : List Outcome
   pub is_in_turn : Bool
 
--- a region's machine, the lanes that give to it, which task's lane gave last, and whether the order so far is serial: no task
--- within a turn gave a line behind another task's
+-- a script's plan, the machine of its region, the lanes that give to it, which task's lane gave last, and whether the order so
+-- far is serial: no task within a turn gave a line behind another task's
 pub record State : Type 0 where
+  pub plan : PlanValue
   pub machine : Machine
   pub lanes : List Lane
   pub last : Option ℕ
@@ -169,18 +182,6 @@ lanes = record { givers = givers; given = given }
 
 -- ---- The start
 
--- a task that is attached: its label, how many seconds its commands may wait, and its lines
-pub record TaskPlan : Type 0 where
-  pub label : Bytes
-  pub dtimout : ℕ
-  pub lines : List NumberedLine
-
--- a script taken apart: the lines that define and load, the tasks in the order of attach, and the clock's lines
-pub record PlanValue : Type 0 where
-  pub definitions : List Bytes
-  pub tasks : List TaskPlan
-  pub clock : List NumberedLine
-
 -- what is defined, with a line more
 abbrev pub defined_by : OpeningState → Result Line LineFault → OpeningState
 defined_by o (Ok (DefineFile name d)) = with_file o name d
@@ -191,8 +192,8 @@ defined_by o (Ok (LoadTd name content)) = with_td_record o name content
 defined_by o _ = o
 
 -- what these lines define and load
-abbrev pub opened : List Bytes → OpeningState
-opened lines = fold (λ o bytes. defined_by o (line bytes)) nothing_defined lines
+abbrev pub opened : List NumberedLine → OpeningState
+opened lines = fold (λ o next. defined_by o (line next.1)) nothing_defined lines
 
 -- a task is attached
 abbrev pub with_task : Machine → TaskPlan → Machine
@@ -212,4 +213,8 @@ clock_lane lines = record { label = None; lines = lines; given = 0; told = []; i
 
 -- the state that each order starts from: a lane for each task in the order of attach, the clock's last
 unfoldable pub initial_state : PlanValue → State
-initial_state p = record { machine = initial_machine p; lanes = map task_lane p.tasks ++ clock_lane p.clock ∷ []; last = None; is_serial = true }
+initial_state p = record { plan = p; machine = initial_machine p; lanes = map task_lane p.tasks ++ clock_lane p.clock ∷ []; last = None; is_serial = true }
+
+-- how many lines an order may have at most
+abbrev pub line_count : PlanValue → ℕ
+line_count p = fold (λ n t. n + length t.lines) (length p.clock) p.tasks

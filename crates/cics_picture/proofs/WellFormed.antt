@@ -1,0 +1,139 @@
+-- Every picture is the text of a document.
+use Rattle.std.proofs.Common.{◌≡◌, ℕ, zero, suc, Bool, true, false, cond, ◌==◌, ◌+◌, ◌*◌, ◌/◌, List, [], ◌∷◌, ◌++◌, refl, ap, sym, ◌∙◌, append_assoc, length, map, Option, Some, None}
+use Rattle.std.specs.List.{fold}
+use Rattle.cics_markup.specs.declared.names.Tag.{Tag}
+use Rattle.cics_markup.specs.declared.names.Tag.TheVariants as tag
+use Rattle.cics_markup.specs.declared.names.Key.TheVariants as key
+use Rattle.cics_markup.specs.Characters.{shown}
+use Rattle.cics_markup.specs.Documents.{Document, Empty, attribute, number_of, numeral, moved_to, element, said, end_text}
+use Rattle.cics_markup.specs.Reading.{document_of}
+use Rattle.cics_markup.proofs.ReadBack.{read_back}
+use Rattle.cics_picture.specs.declared.events.Kind.{Kind}
+use Rattle.cics_picture.specs.declared.events.Kind.TheVariants as kind
+use Rattle.cics_picture.specs.Events.{first_word, behind_word, class_of, shape_of}
+use Rattle.cics_picture.specs.Lanes.{lane_of, tasks_behind, lane_x, row_y}
+use Rattle.cics_picture.specs.Elements.{class, words, number_words, shape, stroke, field, spoken, namespace, picture_start, moved_start, tip, head}
+use Rattle.cics_picture.specs.Drawings.{Drawn, nothing_drawn, arrow_to, beside, event_kind, lane_marks, line_words, row_texts, with_row, with_text, with_line, Printed, drawn}
+use Rattle.cics_picture.specs.Sheets.{style_text, bands, lane_lines, headings, ground, moved_texts, sheet, width_of, height_of}
+use Rattle.cics_picture.specs.declared.style.TheConstants.{STYLE}
+use Rattle.cics_picture.proofs.Markup.{IsMarkup, nothing, itself, behind, within}
+use lib.Chars.{codes}
+
+at-place : (name : List ℕ) (x y : ℕ) (bytes : List ℕ) → IsMarkup (words name x y bytes)
+unfolding words
+at-place name x y bytes = itself (element tag.Text (class name ∷ number_of key.X x ∷ number_of key.Y y ∷ []) (said bytes))
+
+number-there : (name : List ℕ) (x y n : ℕ) → IsMarkup (number_words name x y n)
+unfolding number_words
+number-there name x y n = itself (element tag.Text (class name ∷ number_of key.X x ∷ number_of key.Y y ∷ []) (numeral n))
+
+shape-there : (name path : List ℕ) (x y : ℕ) → IsMarkup (shape name path x y)
+unfolding shape
+shape-there name path x y = itself (element tag.Path (class name ∷ attribute key.D (map shown path) ∷ moved_to x y ∷ []) Empty)
+
+stroke-there : (name : List ℕ) (x1 y1 x2 y2 : ℕ) → IsMarkup (stroke name x1 y1 x2 y2)
+unfolding stroke
+stroke-there name x1 y1 x2 y2 = itself (element tag.Line (class name ∷ number_of key.X1 x1 ∷ number_of key.Y1 y1 ∷ number_of key.X2 x2 ∷ number_of key.Y2 y2 ∷ []) Empty)
+
+field-there : (name : List ℕ) (y width height : ℕ) → IsMarkup (field name y width height)
+unfolding field
+field-there name y width height = itself (element tag.Rect (class name ∷ number_of key.Y y ∷ number_of key.Width width ∷ number_of key.Height height ∷ []) Empty)
+
+alone : (name : Tag) (bytes : List ℕ) → IsMarkup (spoken name bytes)
+unfolding spoken
+alone name bytes = itself (element name [] (said bytes))
+
+-- of what was drawn, the marks and the rows are each the text of a document
+abbrev IsDrawn : Drawn → Type 0
+IsDrawn d = IsMarkup d.marks × IsMarkup d.texts
+
+arrow-to : (lane y : ℕ) (holder : Option ℕ) → IsMarkup (arrow_to lane holder y)
+arrow-to lane y None = nothing
+arrow-to lane y (Some holder) =
+    behind _ _ (stroke-there (codes "aw") (lane_x lane) y (tip lane holder) y) (shape-there (codes "fw") (head lane holder) (tip lane holder) y)
+
+at-side : (tasks : List (List ℕ)) (lane y : ℕ) (event : List ℕ) (k : Kind) → IsMarkup (beside tasks lane y event k)
+at-side tasks lane y event kind.Attached = at-place (codes "b m") (lane_x lane) 76 (first_word event)
+at-side tasks lane y event kind.Waiting = arrow-to lane y (lane_of tasks (behind_word (behind_word event)))
+at-side tasks lane y event kind.Normal = nothing
+at-side tasks lane y event kind.Woken = nothing
+at-side tasks lane y event kind.Ended = nothing
+at-side tasks lane y event kind.Abended = nothing
+at-side tasks lane y event kind.Refused = nothing
+at-side tasks lane y event kind.Condition = nothing
+
+in-lane : (tasks : List (List ℕ)) (y : ℕ) (event : List ℕ) (lane : Option ℕ) → IsMarkup (lane_marks tasks y event lane)
+in-lane tasks y event None = nothing
+in-lane tasks y event (Some lane) =
+    behind _ _ (at-side tasks lane y event (event_kind event)) (shape-there (class_of (event_kind event)) (shape_of (event_kind event)) (lane_x lane) y)
+
+either : (b : Bool) (x y : List ℕ) → IsMarkup x → IsMarkup y → IsMarkup (cond b x y)
+either true x y p q = p
+either false x y p q = q
+
+row : (y number : ℕ) (line event : List ℕ) → IsMarkup (row_texts y number line event)
+row y number line event =
+    behind _ _ (either (number == 0) _ _ nothing (behind _ _ (number-there (codes "d e") 44 y number) (at-place (codes "line") 78 y _)))
+    (at-place (class_of (event_kind event)) 744 y _)
+
+row-drawn : (d : Drawn) (number : ℕ) (line event : List ℕ) → IsDrawn d → IsDrawn (with_row d number line event)
+row-drawn d number line event p = (
+  behind _ _ p.0 (in-lane (tasks_behind d.tasks event) (row_y d.rows) event (lane_of (tasks_behind d.tasks event) (first_word event))),
+  behind _ _ p.1 (row (row_y d.rows + 4) number line event),
+)
+
+one-drawn : (b : Bool) (x y : Drawn) → IsDrawn x → IsDrawn y → IsDrawn (cond b x y)
+one-drawn true x y p q = p
+one-drawn false x y p q = q
+
+text-drawn : (text : List ℕ) (d : Drawn) (number : ℕ) (line event : List ℕ) → IsDrawn d → IsDrawn (with_text d number line event text)
+text-drawn [] d number line event p = p
+text-drawn (c ∷ text) d number line event p =
+    one-drawn (c == 10) _ _ (text-drawn text (with_row d number line event) 0 [] [] (row-drawn d number line event p)) (text-drawn text d number line (event ++ (c ∷ [])) p)
+
+lines-drawn : (lines : List Printed) (d : Drawn) → IsDrawn d → IsDrawn (fold with_line d lines)
+lines-drawn [] d p = p
+lines-drawn (line ∷ lines) d p = lines-drawn lines (with_line d line) (text-drawn line.text d line.number line.line [] p)
+
+lanes : (height n : ℕ) → IsMarkup (lane_lines height n)
+unfolding lane_lines
+lanes height zero = nothing
+lanes height (suc n) = behind _ _ (lanes height n) (stroke-there (codes "life") (lane_x n) 84 (lane_x n) height)
+
+shades : (width n : ℕ) → IsMarkup (bands width n)
+unfolding bands
+shades width zero = nothing
+shades width (suc n) = behind _ _ (shades width n) (field-there (codes "band") (87 + 44 * n) width 22)
+
+style : IsMarkup style_text
+unfolding style_text
+style = alone tag.Style STYLE.now
+
+columns : IsMarkup headings
+unfolding headings
+columns = behind _ _ (at-place (codes "d s") 78 76 _) (at-place (codes "d s") 744 76 _)
+
+under : (d : Drawn) (title : List ℕ) → IsMarkup (ground d title)
+under d title =
+    behind _ _ (alone tag.Title title) (behind _ _ style (behind _ _ (field-there (codes "paper") 0 (width_of d) (height_of d))
+    (behind _ _ (shades (width_of d) (d.rows / 2)) (behind _ _ (at-place (codes "h1") 16 30 title) (lanes (height_of d) (length d.tasks))))))
+
+moved : (d : Drawn) → IsMarkup d.texts → IsMarkup (moved_texts d)
+unfolding moved_start
+moved d p =
+    let q = within tag.G (moved_to (60 * length d.tasks) 0 ∷ []) (headings ++ d.texts) (behind _ _ columns p) in
+    (q.0, ap (λ t. moved_start (60 * length d.tasks) ++ t) (sym (append_assoc headings d.texts (end_text tag.G))) ∙ q.1)
+
+whole : (d : Drawn) (title : List ℕ) → IsDrawn d → IsMarkup (sheet d title)
+unfolding picture_start
+whole d title p =
+    let inside = behind _ _ (under d title) (behind _ _ p.0 (moved d p.1)) in
+    let q = within tag.Svg (namespace ∷ number_of key.Width (width_of d) ∷ number_of key.Height (height_of d) ∷ [])
+    (ground d title ++ (d.marks ++ moved_texts d)) inside in
+    let tail = append_assoc (ground d title) (d.marks ++ moved_texts d) (end_text tag.Svg) ∙ ap (λ t. ground d title ++ t) (append_assoc d.marks (moved_texts d) (end_text tag.Svg)) in
+    (q.0, ap (λ t. picture_start (width_of d) (height_of d) ++ t) (sym tail) ∙ q.1)
+
+pub sheet_read : (lines : List Printed) (title : List ℕ) → (d : Document) × (document_of (sheet (drawn lines) title) ≡ Some d)
+sheet_read lines title =
+    let p = whole (drawn lines) title (lines-drawn lines nothing_drawn (nothing, nothing)) in
+    (p.0, ap document_of p.1 ∙ read_back p.0)

@@ -1,0 +1,85 @@
+-- What the rows of a picture draw: one row for each event, in order.
+use Rattle.std.specs.Prelude.{ℕ, ◌==◌, ◌+◌, if◌then◌else◌, List, [], ◌∷◌, ◌++◌, Option, Some, None}
+use Rattle.std.specs.List.{fold}
+use Rattle.cics_picture.specs.declared.events.Kind.{Kind}
+use Rattle.cics_picture.specs.declared.events.Kind.TheVariants.{Attached, Waiting}
+use Rattle.cics_picture.specs.declared.drawing.Drawing.{Drawing}
+use Rattle.cics_picture.specs.Events.{first_word, behind_word, kind_of, class_of}
+use Rattle.cics_picture.specs.Lanes.{lane_of, tasks_behind, lane_x, row_y}
+use Rattle.cics_picture.specs.Elements.{words, number_words, mark, arrow, cut}
+use lib.Chars.{codes}
+
+-- the number of rows, the tasks that have lanes, and the texts of the marks in the lanes and of the rows
+pub record Drawn : Type 0 where
+  pub rows : ℕ
+  pub tasks : List (List ℕ)
+  pub marks : List ℕ
+  pub texts : List ℕ
+
+abbrev pub drawn_of : Drawing → Drawn
+drawn_of d = record { rows = d.rows; tasks = d.tasks; marks = d.marks.items; texts = d.texts.items }
+
+-- before the first row
+abbrev pub nothing_drawn : Drawn
+nothing_drawn = record { rows = 0; tasks = []; marks = []; texts = [] }
+
+-- an arrow to the task that is waited for, if it has a lane
+abbrev pub arrow_to : ℕ → Option ℕ → ℕ → List ℕ
+arrow_to lane None y = []
+arrow_to lane (Some holder) y = arrow lane holder y
+
+-- beside its mark an attached task has a heading, and a wait an arrow
+abbrev pub beside : List (List ℕ) → ℕ → ℕ → List ℕ → Kind → List ℕ
+beside tasks lane y event Attached = words (codes "b m") (lane_x lane) 76 (first_word event)
+beside tasks lane y event Waiting = arrow_to lane (lane_of tasks (behind_word (behind_word event))) y
+beside tasks lane y event kind = []
+
+-- the kind of an event
+abbrev pub event_kind : List ℕ → Kind
+event_kind event = kind_of (first_word (behind_word event))
+
+-- the marks of an event, in the lane of its task
+abbrev pub lane_marks : List (List ℕ) → ℕ → List ℕ → Option ℕ → List ℕ
+lane_marks tasks y event None = []
+lane_marks tasks y event (Some lane) = beside tasks lane y event (event_kind event) ++ mark (event_kind event) (lane_x lane) y
+
+abbrev pub row_marks : List (List ℕ) → ℕ → List ℕ → List ℕ
+row_marks tasks y event = lane_marks tasks y event (lane_of tasks (first_word event))
+
+-- The number and the text of a line of the script. An event without a line, whose number is 0, has neither.
+abbrev pub line_words : ℕ → ℕ → List ℕ → List ℕ
+line_words y number line = if number == 0 then [] else number_words (codes "d e") 44 y number ++ words (codes "line") 78 y (cut 90 line)
+
+-- the line and the event side by side
+abbrev pub row_texts : ℕ → ℕ → List ℕ → List ℕ → List ℕ
+row_texts y number line event = line_words y number line ++ words (class_of (event_kind event)) 744 y (cut 70 event)
+
+-- one row more; its words stand a little below its middle
+abbrev pub with_row : Drawn → ℕ → List ℕ → List ℕ → Drawn
+with_row d number line event =
+    record {
+      rows = d.rows + 1;
+      tasks = tasks_behind d.tasks event;
+      marks = d.marks ++ row_marks (tasks_behind d.tasks event) (row_y d.rows) event;
+      texts = d.texts ++ row_texts (row_y d.rows + 4) number line event;
+    }
+
+-- the rows of the events that a line printed, behind what has come of the next one; the first of them is the line's own
+abbrev pub with_text : Drawn → ℕ → List ℕ → List ℕ → List ℕ → Drawn
+with_text d number line event [] = d
+with_text d number line event (c ∷ text) =
+    if c == 10 then with_text (with_row d number line event) 0 [] [] text
+    else with_text d number line (event ++ (c ∷ [])) text
+
+-- a line of a script: its number, its text, and what it printed
+pub record Printed : Type 0 where
+  pub number : ℕ
+  pub line : List ℕ
+  pub text : List ℕ
+
+abbrev pub with_line : Drawn → Printed → Drawn
+with_line d p = with_text d p.number p.line [] p.text
+
+-- the rows of some lines, in order
+abbrev pub drawn : List Printed → Drawn
+drawn lines = fold with_line nothing_drawn lines

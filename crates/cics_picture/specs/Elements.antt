@@ -1,0 +1,74 @@
+-- The elements of a picture.
+use Rattle.std.specs.Prelude.{ℕ, ◌+◌, ◌-◌, nat_lt, nat_le, if◌then◌else◌, List, [], ◌∷◌, ◌++◌, map, length, take}
+use Rattle.cics_markup.specs.declared.names.Tag.{Tag}
+use Rattle.cics_markup.specs.declared.names.Tag.TheVariants as tag
+use Rattle.cics_markup.specs.declared.names.Key.TheVariants as key
+use Rattle.cics_markup.specs.Characters.{shown}
+use Rattle.cics_markup.specs.Documents.{Attribute, attribute, number_of, numeral, moved_to, Document, Empty, element, said, document_text, start_text}
+use Rattle.cics_picture.specs.declared.events.Kind.{Kind}
+use Rattle.cics_picture.specs.Events.{class_of, shape_of}
+use Rattle.cics_picture.specs.Lanes.{lane_x}
+use Rattle.cics_picture.specs.declared.style.TheConstants.{NAMESPACE}
+use lib.Chars.{codes}
+
+abbrev pub class : List ℕ → Attribute
+class name = attribute key.Class (map shown name)
+
+-- words at a place
+unfoldable pub words : List ℕ → ℕ → ℕ → List ℕ → List ℕ
+words name x y bytes = document_text (element tag.Text (class name ∷ number_of key.X x ∷ number_of key.Y y ∷ []) (said bytes))
+
+-- a number at a place
+unfoldable pub number_words : List ℕ → ℕ → ℕ → ℕ → List ℕ
+number_words name x y n = document_text (element tag.Text (class name ∷ number_of key.X x ∷ number_of key.Y y ∷ []) (numeral n))
+
+-- a shape round a place
+unfoldable pub shape : List ℕ → List ℕ → ℕ → ℕ → List ℕ
+shape name path x y = document_text (element tag.Path (class name ∷ attribute key.D (map shown path) ∷ moved_to x y ∷ []) Empty)
+
+-- a line from a place to another
+unfoldable pub stroke : List ℕ → ℕ → ℕ → ℕ → ℕ → List ℕ
+stroke name x1 y1 x2 y2 =
+    document_text (element tag.Line (class name ∷ number_of key.X1 x1 ∷ number_of key.Y1 y1 ∷ number_of key.X2 x2 ∷ number_of key.Y2 y2 ∷ []) Empty)
+
+-- a rectangle from the left edge on
+unfoldable pub field : List ℕ → ℕ → ℕ → ℕ → List ℕ
+field name y width height =
+    document_text (element tag.Rect (class name ∷ number_of key.Y y ∷ number_of key.Width width ∷ number_of key.Height height ∷ []) Empty)
+
+-- an element that has a text alone
+unfoldable pub spoken : Tag → List ℕ → List ℕ
+spoken name bytes = document_text (element name [] (said bytes))
+
+-- the namespace of the elements
+unfoldable pub namespace : Attribute
+namespace = attribute key.Xmlns (map shown NAMESPACE.now)
+
+-- the start of a picture of a size
+unfoldable pub picture_start : ℕ → ℕ → List ℕ
+picture_start width height =
+    start_text tag.Svg (namespace ∷ number_of key.Width width ∷ number_of key.Height height ∷ [])
+
+-- the start of elements that are moved to the right
+unfoldable pub moved_start : ℕ → List ℕ
+moved_start x = start_text tag.G (moved_to x 0 ∷ [])
+
+-- the mark of an event
+abbrev pub mark : Kind → ℕ → ℕ → List ℕ
+mark kind x y = shape (class_of kind) (shape_of kind) x y
+
+-- where the arrow to a lane ends: at the side of it that the arrow comes from
+abbrev pub tip : ℕ → ℕ → ℕ
+tip from to = if nat_lt from to then lane_x to - 10 else lane_x to + 10
+
+-- the head of an arrow to the right, or to the left
+abbrev pub head : ℕ → ℕ → List ℕ
+head from to = if nat_lt from to then codes "M0 0l-8 -4v8z" else codes "M0 0l8 -4v8z"
+
+-- the arrow of a wait, from a lane to another
+abbrev pub arrow : ℕ → ℕ → ℕ → List ℕ
+arrow from to y = stroke (codes "aw") (lane_x from) y (tip from to) y ++ shape (codes "fw") (head from to) (tip from to) y
+
+-- words cut to a number of bytes
+abbrev pub cut : ℕ → List ℕ → List ℕ
+cut most bytes = if nat_le (length bytes) most then bytes else take most bytes

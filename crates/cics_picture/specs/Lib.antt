@@ -1,0 +1,5 @@
+pub mod Events
+pub mod Lanes
+pub mod Elements
+pub mod Drawings
+pub mod Sheets

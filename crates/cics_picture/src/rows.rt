@@ -1,0 +1,179 @@
+//! The rows of a picture and the marks in its lanes.
+
+ghost use Rattle.std.specs.Prelude.{◌≡◌, ◌++◌, ◌<◌, ◌≤◌, ◌+◌, ◌^◌, [], length, IfSome, OnOk};
+ghost use Rattle.cics_picture.specs.Lanes.{most_lanes, row_y, lane_of};
+ghost use Rattle.cics_picture.specs.Drawings.{drawn_of, nothing_drawn, arrow_to, beside};
+ghost use Rattle.cics_picture.specs.Drawings.{event_kind};
+ghost use Rattle.cics_picture.specs.Events.{behind_word};
+ghost use Rattle.cics_picture.specs.Drawings.{row_marks, line_words, row_texts, with_row, with_text};
+
+use crate::drawing::Drawing;
+use crate::elements::{cut, push_arrow, push_mark, push_number_words, push_words};
+use crate::events::{Kind, behind_word, first_word, kind_of};
+use crate::lanes::{give_lane, lane_of, lane_x};
+use cics_names::{Items, NoMemory, Record};
+use std::alloc::Global;
+
+const LF: u8 = 10;
+
+// The middle of a row.
+fn row_y(row: u64) -> u64
+    requires { row ≤ 100000 }
+    ensures value { result ≡ row_y row }
+    ensures within { result ≤ 2200098 }
+{
+    98 + 22 * row
+}
+
+fn event_kind(event: &[u8]) -> Kind
+    ensures { result ≡ event_kind event.now }
+{
+    kind_of(first_word(behind_word(event)))
+}
+
+// Puts an arrow to the task that is waited for, if it has a lane.
+fn push_arrow_to(
+    out: &mut Vec<u8>,
+    lane: usize,
+    holder: Option<usize>,
+    y: u64,
+) -> Result<(), NoMemory>
+    requires lane { lane < most_lanes }
+    requires holder { IfSome holder (λ h. h < most_lanes) }
+    ensures { OnOk result (out.new.items ≡ out.old.items ++ arrow_to lane holder y) }
+{
+    match holder {
+        Some(holder) => push_arrow(out, lane, holder, y),
+        None => Ok(()),
+    }
+}
+
+// The lane of the task that an event waits for.
+fn holder_of(tasks: &[Record], event: &[u8]) -> Option<usize>
+    requires { length tasks.now ≤ most_lanes }
+    ensures value { result ≡ lane_of tasks.now (behind_word (behind_word event.now)) }
+    ensures within { IfSome result (λ h. h < most_lanes) }
+{
+    lane_of(tasks, behind_word(behind_word(event)))
+}
+
+// Puts what an event has beside its mark: an attached task its heading, a wait its arrow.
+fn push_beside(
+    out: &mut Vec<u8>,
+    tasks: &[Record],
+    place: (usize, u64),
+    event: &[u8],
+) -> Result<(), NoMemory>
+    requires few { length tasks.now ≤ most_lanes }
+    requires lane { place.0 < most_lanes }
+    ensures { OnOk result (out.new.items ≡ out.old.items
+        ++ beside tasks.now place.0 place.1 event.now (event_kind event.now)) }
+{
+    match event_kind(event) {
+        Kind::Attached => push_words(
+            out,
+            "b m".as_bytes(),
+            (lane_x(place.0), 76),
+            first_word(event),
+        ),
+        Kind::Waiting => push_arrow_to(out, place.0, holder_of(tasks, event), place.1),
+        _ => Ok(()),
+    }
+}
+
+// Puts the marks of an event in the lane of its task, if it has one.
+fn push_marks(out: &mut Vec<u8>, tasks: &[Record], y: u64, event: &[u8]) -> Result<(), NoMemory>
+    requires { length tasks.now ≤ most_lanes }
+    ensures { OnOk result (out.new.items ≡ out.old.items ++ row_marks tasks.now y event.now) }
+{
+    match lane_of(tasks, first_word(event)) {
+        Some(lane) => {
+            push_beside(out, tasks, (lane, y), event)?;
+            push_mark(out, event_kind(event), lane_x(lane), y)
+        }
+        None => Ok(()),
+    }
+}
+
+// Puts the number and the text of a line of the script, unless the number is 0.
+fn push_line_words(out: &mut Vec<u8>, y: u64, number: u64, line: &[u8]) -> Result<(), NoMemory>
+    ensures { OnOk result (out.new.items ≡ out.old.items ++ line_words y number line.now) }
+{
+    if number == 0 {
+        return Ok(());
+    }
+    push_number_words(out, "d e".as_bytes(), (44, y), number)?;
+    push_words(out, "line".as_bytes(), (78, y), cut(line, 90))
+}
+
+impl Drawing {
+    /// Returns a drawing without rows.
+    pub fn new(alloc: Global) -> Drawing
+        ensures { drawn_of result ≡ nothing_drawn }
+    {
+        Drawing {
+            rows: 0,
+            tasks: Items::new(alloc),
+            marks: Vec::new(alloc),
+            texts: Vec::new(alloc),
+        }
+    }
+
+    // Puts the texts of a row: the line and the event side by side.
+    fn push_texts(&mut self, number: u64, line: &[u8], event: &[u8]) -> Result<(), NoMemory>
+        requires { self.old.rows < 100000 }
+        ensures texts { OnOk result (self.new.texts.items ≡ self.old.texts.items
+            ++ row_texts (row_y self.old.rows + 4) number line.now event.now) }
+        ensures marks { self.new.marks ≡ self.old.marks }
+        ensures tasks { self.new.tasks ≡ self.old.tasks }
+        ensures rows { self.new.rows ≡ self.old.rows }
+    {
+        let y = row_y(self.rows) + 4;
+        push_line_words(&mut self.texts, y, number, line)?;
+        push_words(
+            &mut self.texts,
+            event_kind(event).class().as_bytes(),
+            (744, y),
+            cut(event, 70),
+        )
+    }
+
+    /// Draws the row of an event: a line of the journal without its LF. `number` and `line` are
+    /// those of the script's line, or 0 and nothing for an event that comes by itself.
+    pub fn push_row(&mut self, number: u64, line: &[u8], event: &[u8]) -> Result<(), NoMemory>
+        requires { self.old.rows < 100000 }
+        ensures { OnOk result (drawn_of self.new
+            ≡ with_row (drawn_of self.old) number line.now event.now) }
+    {
+        let y = row_y(self.rows);
+        let alloc = *self.texts.allocator();
+        give_lane(&mut self.tasks, alloc, event)?;
+        push_marks(&mut self.marks, self.tasks.as_slice(), y, event)?;
+        self.push_texts(number, line, event)?;
+        self.rows += 1;
+        Ok(())
+    }
+
+    /// Draws a row for each line of the journal in a text that a line of the script printed. The
+    /// first row has the line's number and its text.
+    pub fn push_line(&mut self, number: u64, line: &[u8], text: &[u8]) -> Result<(), NoMemory>
+        requires { self.old.rows + length text.now ≤ 100000 }
+        ensures { OnOk result (drawn_of self.new
+            ≡ with_text (drawn_of self.old) number line.now [] text.now) }
+    {
+        let mut event = Vec::new(*self.texts.allocator());
+        let mut number = number;
+        let mut line = line;
+        for byte in text {
+            if *byte == LF {
+                self.push_row(number, line, &event)?;
+                event.clear();
+                number = 0;
+                line = &[];
+            } else {
+                event.push(*byte)?;
+            }
+        }
+        Ok(())
+    }
+}
