@@ -47,8 +47,8 @@ abbrev pub journal : List ℕ → List ℕ
 journal bytes = (play (completed bytes)).journal
 
 -- a run with these options, and no serial run
-abbrev pub alone : Options → Wanted
-alone options = record { options = options; serial = false }
+abbrev pub without_serial : Options → Wanted
+without_serial options = record { options = options; serial = false }
 
 -- the listing stands behind the journal, unless it is left out, and behind that the replay and the serial run, where they are asked for
 abbrev pub ending : Wanted → Stage → List ℕ

@@ -3,7 +3,7 @@ use Rattle.std.specs.Prelude.{◌≡◌, ℕ, Bool, true, false, ◌+◌, List, 
 use Rattle.std.specs.Io.BufRead.{strip_last}
 use Rattle.std.specs.Io.KnownBytes.{Appends}
 use Rattle.cics_run.specs.Lines.{completed, unfinished, all_lines}
-use Rattle.cics_run.specs.Stages.{step, Step}
+use Rattle.cics_run.specs.Stages.{step, Step, first_stage}
 use Rattle.cics_run.specs.Running.{play, journal, output, is_faulty}
 use Rattle.cics_run.specs.Printing.{AppendsFront, Prints}
 use Rattle.cics_run.specs.declared.stage.Stage.{Stage}
@@ -15,6 +15,13 @@ use Rattle.cics_run.specs.declared.running.Wanted.{Wanted}
 use Rattle.cics_run.specs.declared.running.Status.{Status}
 use Rattle.cics_run.specs.declared.running.Status.TheVariants as status
 use Rattle.cics_run.specs.declared.session.Session.{Session}
+
+-- A session before its first byte.
+pub record IsNew (s : Session) : Type 0 where
+  pub stage : s.stage ≡ first_stage
+  pub number : s.number ≡ 0
+  pub line : s.line.items ≡ []
+  pub pending : s.pending.items ≡ []
 
 -- the step of the line whose LF comes next
 abbrev pub line_step : Session → Step

@@ -10,6 +10,7 @@ mod session;
 mod settling;
 pub mod stage;
 mod streams;
+mod told;
 mod unit_lines;
 mod writing;
 
@@ -17,3 +18,4 @@ pub use command_line::{Asked, arguments, exit_status};
 pub use running::{CHUNK, LIMIT, Options, RunFault, Status, Wanted, run, run_over};
 pub use session::Session;
 pub use streams::{Failed, Sink, Source};
+pub use told::told_of;

@@ -1,11 +1,10 @@
 //! The run of a script.
 
-ghost use Rattle.std.specs.Prelude.{◌≡◌, [], None};
-ghost use Rattle.cics_run.specs.Stages.{first_stage};
+ghost use Rattle.std.specs.Prelude.{◌≡◌, None};
 ghost use Rattle.cics_run.specs.Streams.{Rises, RisesAtMost};
-ghost use Rattle.cics_run.specs.Running.{RunsOver, alone, most_reads, failed_reads_of};
+ghost use Rattle.cics_run.specs.Running.{RunsOver, without_serial, most_reads, failed_reads_of};
 ghost use Rattle.cics_run.specs.Running.{failed_writes_of};
-ghost use Rattle.cics_run.specs.Standing.{ended, fault_of};
+ghost use Rattle.cics_run.specs.Standing.{IsNew, ended, fault_of};
 
 use crate::session::Session;
 use crate::streams::{Sink, Source};
@@ -23,7 +22,7 @@ pub const CHUNK: usize = 65_536;
 /// How a run ended that wrote all that it had to.
 #[derive(Clone, Copy, Debug, PartialEq, Eq)]
 pub enum Status {
-    /// Every line was run; the journal and what was asked for behind it are written.
+    /// Every line was run; the journal and what was asked for after it are written.
     Done,
     /// A line or a definition has a fault: the journal up to it is written, with the fault as its
     /// last line, and nothing behind it.
@@ -56,7 +55,7 @@ pub struct Options {
     pub no_list: bool,
 }
 
-/// What the program prints beside the journal.
+/// What the program prints: the options of a run, and the serial run.
 #[derive(Clone, Copy, Debug, PartialEq, Eq)]
 pub struct Wanted {
     pub options: Options,
@@ -74,8 +73,8 @@ pub fn run<R: Read, W: Write>(
     writer: &mut W,
     options: Options,
 ) -> Result<Status, RunFault>
-    ensures whole_run { RunsOver (alone options) (R.remaining reader.old) (R.remaining reader.new)
-        None (W.contents writer.old) (W.contents writer.new) result }
+    ensures whole_run { RunsOver (without_serial options) (R.remaining reader.old)
+        (R.remaining reader.new) None (W.contents writer.old) (W.contents writer.new) result }
 {
     let wanted = Wanted {
         options,
@@ -94,17 +93,14 @@ pub fn run<R: Read, W: Write>(
 /// It returns a read or a write fault only if that very call failed, and tries none again.
 ///
 /// The session is a new one, and is left to its owner, who drops it. A process that ends right
-/// behind the run may forget it.
+/// after the run may forget it.
 pub fn run_over<S: Source, K: Sink>(
     session: &mut Session,
     source: &mut S,
     sink: &mut K,
     wanted: Wanted,
 ) -> Result<Status, RunFault>
-    requires stage { session.old.stage ≡ first_stage }
-    requires number { session.old.number ≡ 0 }
-    requires line { session.old.line.items ≡ [] }
-    requires pending { session.old.pending.items ≡ [] }
+    requires new { IsNew session.old }
     ensures read_faults { Rises (S.failed source.old) (S.failed source.new)
         (failed_reads_of result) }
     ensures write_faults { Rises (K.failed sink.old) (K.failed sink.new)

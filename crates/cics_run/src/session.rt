@@ -6,14 +6,14 @@ ghost use Rattle.std.specs.Prelude.{IfOk, OnOk, OnErr};
 ghost use Rattle.std.specs.List.{prefix_len, list_all};
 ghost use Rattle.std.specs.Io.BufRead.{strip_last};
 ghost use Rattle.cics_run.specs.Lines.{is_in_line};
-ghost use Rattle.cics_run.specs.Stages.{step, first_stage, listing_at, replay_at, serial_at};
+ghost use Rattle.cics_run.specs.Stages.{step, listing_at, replay_at, serial_at};
 ghost use Rattle.cics_run.specs.declared.stage.Stage.TheVariants.{Running};
 ghost use Rattle.cics_run.specs.Printing.{AppendsFront, Prints, stopped_writes};
 ghost use Rattle.cics_run.specs.Streams.{Rises};
 ghost use Rattle.std.specs.Io.KnownBytes.{Appends};
 ghost use Rattle.cics_run.specs.Running.{ending};
-ghost use Rattle.cics_run.specs.Standing.{line_step, WhereverStands, Feeds, Writes, Closes};
-ghost use Rattle.cics_run.specs.Standing.{Finishes};
+ghost use Rattle.cics_run.specs.Standing.{IsNew, line_step, WhereverStands, Feeds, Writes};
+ghost use Rattle.cics_run.specs.Standing.{Closes, Finishes};
 
 use crate::listing::{push_listing, push_replay};
 use crate::running::{Status, Wanted};
@@ -118,10 +118,7 @@ fn run_one<K: Sink>(
 impl Session {
     /// Before the first byte.
     pub fn new(alloc: Global) -> Self
-        ensures stage { result.stage ≡ first_stage }
-        ensures number { result.number ≡ 0 }
-        ensures line { result.line.items ≡ [] }
-        ensures pending { result.pending.items ≡ [] }
+        ensures new { IsNew result }
     {
         Session {
             stage: Stage::new(alloc),
@@ -141,12 +138,12 @@ impl Session {
         write_pending(&mut self.pending, sink)
     }
 
-    // Runs the line whose LF came.
+    // Runs the line whose LF came. A line with a fault is kept, to be told to a person.
     fn end_line<K: Sink>(&mut self, sink: &mut K) -> Result<bool, Stop>
         requires { self.old.number + 1 < 2 ^ 64 }
         ensures stage { IfOk result (λ _. self.new.stage ≡ (line_step self.old).stage) }
         ensures number { OnOk result (self.new.number ≡ self.old.number + 1) }
-        ensures line { OnOk result (self.new.line.items ≡ []) }
+        ensures line { IfOk result (λ fault. fault ≡ false → self.new.line.items ≡ []) }
         ensures fault { IfOk result (λ fault. fault ≡ (line_step self.old).is_fault) }
         ensures printed { OnOk result (Prints (K.contents sink.old)
             (K.contents sink.new) self.old.pending.items self.new.pending.items
@@ -159,9 +156,14 @@ impl Session {
     {
         self.number += 1;
         let line = without_cr(&self.line);
+        let size = line.len();
         let fault = run_one(&mut self.stage, self.number, line, &mut self.pending, sink)?;
+        if fault {
+            self.line.truncate(size);
+            return Ok(true);
+        }
         self.line.clear();
-        Ok(fault)
+        Ok(false)
     }
 
     // Runs the lines that more bytes complete, up to the first fault, and tells whether there was
@@ -193,7 +195,7 @@ impl Session {
     /// Runs the lines that more bytes complete, up to the first fault, and tells whether there was
     /// one. All that they print is written, and the bytes of a line that isn't whole are kept.
     /// On `Stop` the first part of the text is written.
-    pub fn feed<K: Sink>(&mut self, chunk: &[u8], sink: &mut K) -> Result<bool, Stop>
+    pub(crate) fn feed<K: Sink>(&mut self, chunk: &[u8], sink: &mut K) -> Result<bool, Stop>
         requires { self.old.number + length chunk.now < 2 ^ 64 }
         ensures feeds { WhereverStands (K.contents sink.old) self.old (λ bytes before.
             Feeds (bytes ++ chunk.now) before (K.contents sink.new) self.new result) }
@@ -235,7 +237,7 @@ impl Session {
     /// Runs the last line if it lacks its LF, and if that is no fault, writes what is wanted of the
     /// listing, the replay and the serial run. The status tells which of the two came. On `Stop` the
     /// first part of the output is written.
-    pub fn finish<K: Sink>(&mut self, wanted: Wanted, sink: &mut K) -> Result<Status, Stop>
+    pub(crate) fn finish<K: Sink>(&mut self, wanted: Wanted, sink: &mut K) -> Result<Status, Stop>
         requires { self.old.number + 1 < 2 ^ 64 }
         ensures finishes { WhereverStands (K.contents sink.old) self.old (λ bytes before.
             Finishes wanted bytes before (K.contents sink.new) result) }

@@ -1,7 +1,9 @@
 //! Runs the script on standard input, and prints its journal and listing on standard output.
 #![tactic(auto)]
 
-use cics_run::{Asked, RunFault, Session, Status, Wanted, arguments, exit_status, run_over};
+use cics_run::{
+    Asked, RunFault, Session, Status, Wanted, arguments, exit_status, run_over, told_of,
+};
 use std::io::ErrorKind;
 use std::mem;
 use std::process::ExitCode;
@@ -26,13 +28,26 @@ fn main(rt: HostRuntime) -> ExitCode {
     }
 }
 
-// Runs the script on standard input. The process ends right behind it, so its memory isn't given
-// back piece by piece, which would take up to a tenth of the time.
+// Runs the script on standard input. The process ends right after the run. So its memory isn't
+// given back piece by piece, which would take up to a tenth of the time.
 fn run_to_the_end(rt: HostRuntime, wanted: Wanted) -> Result<Status, RunFault> {
     let mut session = Session::new(rt.alloc());
     let answer = run_over(&mut session, &mut rt.stdin(), &mut rt.stdout(), wanted);
+    if let Ok(Status::LineFault) = answer {
+        tell(rt, &mut session);
+    }
     mem::forget(session);
     answer
+}
+
+// Says on standard error what the faulty line needs, at which a run ended. Without memory it says
+// nothing: the journal has the fault.
+fn tell(rt: HostRuntime, session: &mut Session) {
+    if let Ok(text) = told_of(rt.alloc(), session) {
+        if let Ok(text) = std::str::from_utf8(&text) {
+            let _ = eprint!(rt; "{text}");
+        }
+    }
 }
 
 // What the command line asks for. A word that is no text asks for nothing that the program knows.

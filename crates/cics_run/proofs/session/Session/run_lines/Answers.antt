@@ -46,7 +46,7 @@ lines-preserved g c =
       λ bytes before at.
           let came = stands-bytes (bytes ++ done) c.split_at.result.0.now before (g.K.Sink.contents c.lines.sink) c.lines.self (record c.lines.self { line = c.extend_from_slice.new.self }) cut.in_line (stands bytes before at) refl refl c.in-Ok.ensures.items refl in
           rw (behind-line bytes done c.split_at.result.0.now (10 ∷ []))
-          (stands-line _ _ _ _ _ _ came c.in-Ok-false.ensures.stage number c.in-Ok-false.ensures.line c.in-Ok-false.ensures.printed (sym c.in-Ok-false.field-0-test ∙ c.in-Ok-false.ensures.fault)),
+          (stands-line _ _ _ _ _ _ came c.in-Ok-false.ensures.stage number (c.in-Ok-false.ensures.line c.in-Ok-false.field-0-test) c.in-Ok-false.ensures.printed (sym c.in-Ok-false.field-0-test ∙ c.in-Ok-false.ensures.fault)),
     )
 
 pub returns-in-Err-end_line-clause-feeds : goal.returns-in-Err-end_line-clause-feeds
