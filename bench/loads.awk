@@ -6,7 +6,7 @@
 # on every machine.
 #
 #   attach       N tasks are attached and return
-#   ascending    N records are written with rising keys, a SYNCPOINT behind every hundred
+#   ascending    N records are written with rising keys, a SYNCPOINT after every hundred
 #   descending   the same with falling keys
 #   scattered    the same with keys in no order
 #   updates      N updates of 10,000 records by 100 tasks in turn: READ UPDATE, REWRITE, SYNCPOINT
@@ -18,7 +18,7 @@
 #   values       N values are enqueued on, and dequeued
 #   one-record   N tasks wait for one record, and get it one after the other
 #   own-records  N tasks wait for a record each, which one unit holds
-#   own-values   N tasks wait for a value each, which one unit gives up one by one
+#   own-values   N tasks wait for a value each, which one unit releases one by one
 #   time-outs    N tasks wait for one record until each one's time is over, a second apart
 #   readers      N tasks read a transient data queue each before another task has committed what it
 #                wrote there

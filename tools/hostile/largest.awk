@@ -22,8 +22,8 @@
 #   short        16 MiB of commands with a literal of one byte each
 #   long         16 MiB of records that are loaded, each a literal of 32,767 bytes
 #   hexadecimal  16 MiB of items that are written, each a literal of 32,767 bytes in hexadecimal
-#   waits        N tasks that wait for one value, which its holder then gives up
-#   own-waits    N tasks that wait for a value each, all of which one task then gives up
+#   waits        N tasks that wait for one value, which its owner then releases
+#   own-waits    N tasks that wait for a value each, all of which one task then releases
 #   prefixes     N definitions of prefixes of temporary storage queues
 
 function say(line) {
@@ -35,7 +35,7 @@ function comes(line) {
     print line > output
 }
 
-# A command of task T1, and the line that comes of it.
+# A command of task T1, and the line that it prints.
 function tell(command, answer) {
     say("T1 EXEC CICS " command)
     comes("T1 " answer)

@@ -1,5 +1,5 @@
 /* Runs a command, and writes to the file REPORT how it ended: `exit` and its status, or `signal`
- * and its number; behind that the processor seconds that it took, and how many kilobytes of memory
+ * and its number; after that the processor seconds that it took, and how many kilobytes of memory
  * it had at most.
  *
  *   measure REPORT SECONDS COMMAND [ARGUMENT ..]

@@ -1,5 +1,5 @@
 /* Makes a program's reads of standard input and writes to standard output short, or fail. It is
- * preloaded (LD_PRELOAD), and goes by these variables, each a number:
+ * preloaded (LD_PRELOAD), and reads these variables, each a number:
  *
  *   STREAMS_READ_MOST    a read gives so many bytes at most
  *   STREAMS_READ_FAILS   the read of this number fails, the first being 1
@@ -26,7 +26,7 @@ ssize_t __write(int stream, const void *bytes, size_t size);
 
 static unsigned long reads, given, writes, taken;
 
-/* The number that a variable has, and 0 where it isn't set. */
+/* Returns the number that a variable has, and 0 if it isn't set. */
 static unsigned long number_of(const char *name)
 {
     const char *text = getenv(name);

@@ -5,7 +5,7 @@
  *
  * A program may say what becomes of its requests by one of a size that it asks for nowhere else:
  * 70,001 bytes, they are counted (as at the start); 70,002, they are granted, uncounted; 70,003, a
- * single one ends the program with status 70. 70,004 bytes are refused where a request was refused
+ * single one ends the program with status 70. 70,004 bytes are refused if a request was refused
  * since this was asked last. 70,006 bytes: they are counted, and the Nth from here on is refused,
  * N being 1 the first time after 70,005 bytes were asked for, and one more each time. So a program
  * refuses each request of a call in turn by itself.

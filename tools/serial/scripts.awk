@@ -21,7 +21,7 @@ function td_queue() { return substr("LLLPN", pick(5) + 1, 1) }
 
 function say(task, command) { print "T" task " EXEC CICS " command " RESP(0)" }
 
-# A record of a file: the key stands in front, but in file B behind two more bytes.
+# A record of a file: the key stands first, but in file B after two more bytes.
 function record(name, k) { return name == "B" ? "zz" k text() : k text() }
 
 function on_file(task,   name, k, chance) {
