@@ -35,6 +35,7 @@ use Rattle.cics_history.proofs.States.{one_at_each_end}
 use Rattle.cics_units.specs.FilesImagesLaws.{bytes_eq-turned}
 use Rattle.cics_units.specs.UnitImages.{kept_by}
 use Rattle.cics_units.specs.StoreMatching.{StoreValue, AnyImage, shown_store, bytes_of, bytes_of_end, AreImagesOf}
+use Rattle.cics_units.specs.Awaiting.{IsOwn}
 use Rattle.cics_units.specs.StoreInPlace.{AreInPlace, HasMarks, holds_end}
 use Rattle.cics_units.specs.Parts.{leaves_any}
 use Rattle.cics_units.specs.QueueChanges.{is_trans, is_temp, queue_of, is_left, leaves_end, trans_after}
@@ -204,7 +205,7 @@ module _ (s : UnitsState) (m n : StoreValue) (images after_images : List (Kept A
 
   -- on a transient data queue that stands there with its recovery, and shows its reader enough
   module _ (is : is_trans op ≡ true) (t : TransState) (there : value_at (queue_of op) m.trans_data ≡ Some t)
-      (kind : is_logical t.kind ≡ queue_logical s.opening (queue_of op)) (own_is : own ≡ holds_end s unit (queue_of op) Writing)
+      (kind : is_logical t.kind ≡ queue_logical s.opening (queue_of op)) (own_is : IsOwn op (holds_end s unit (queue_of op) Writing) own)
       (told : IsToldEnough op own (marks_of t)) where
     abbrev q : Bytes
     q = queue_of op
@@ -306,13 +307,13 @@ module _ (s : UnitsState) (m n : StoreValue) (images after_images : List (Kept A
         leaves_end op own end ≡ true
     left_to_others w other on end marks = elim (cases_Bool (leaves_end op own end)) [
       | inl left ↦ left
-      | inr changed ↦ elim (uses_or_own op own end changed) [
+      | inr changed ↦ elim (uses_or_own op own (holds_end s unit q Writing) end own_is changed) [
         | inl uses ↦ elim (free_end end uses w used_it.1) [
           | inl same ↦ absurd (other same)
           | inr shut ↦ absurd (true≢false (sym on ∙ shut))
         ]
         | inr holds ↦
-            let both = and_parts (queue_logical s.opening q) (used s.trace unit (Td q) Writing) (sym own_is ∙ holds.1) in
+            let both = and_parts (queue_logical s.opening q) (used s.trace unit (Td q) Writing) holds.1 in
             absurd (other (one_at_each_end s sound.one (Td q) both.0 Writing w unit on (open_unit s u op acts free)
             (subst (λ e. used s.trace w (Td q) e ≡ true) holds.0 used_it.1) both.1))
       ]

@@ -25,7 +25,7 @@ use Rattle.cics_units.specs.StoreInPlace.{AreInPlace}
 use Rattle.cics_units.specs.StorePlaces.{HavePlaces}
 use Rattle.cics_units.specs.KeptUnits.{AreKept}
 use Rattle.cics_units.specs.TableInPlace.{table_executed}
-use Rattle.cics_units.specs.Awaiting.{is_writer}
+use Rattle.cics_units.specs.Awaiting.{is_writer, IsOwn}
 use Rattle.cics_units.specs.QueueChanges.{is_trans, is_temp, queue_of, rows_after}
 use Rattle.cics_units.specs.Applied.{IsApplied, IsBound, IsFileBound, IsQueueBound, IsSeen, IsSeenIn, spares}
 use Rattle.cics_units.specs.Parts.{is_recoverable_in, given_record}
@@ -52,13 +52,13 @@ seen_told (TdDelete q) own m x is there marked seen = tt
 seen_told _ own m x is there marked seen = absurd (false≢true is)
 
 -- what is told of the table is told by whatever says the same
-pub seen_own : (op : Op) (own w : Bool) (m : StoreValue) → (is_trans op ≡ true → own ≡ w) → IsSeen m op w → IsSeen m op own
-seen_own (TdRead q) own w m same seen = subst (IsSeen m (TdRead q)) (sym (same refl)) seen
+pub seen_own : (op : Op) (own w : Bool) (m : StoreValue) → IsOwn op w own → IsSeen m op w → IsSeen m op own
+seen_own (TdRead q) own w m same seen = subst (IsSeen m (TdRead q)) (sym same) seen
 seen_own _ own w m same seen = tt
 
 -- and so is the record that a command is given
-pub given_own : (op : Op) (own w : Bool) (m : StoreValue) → (is_trans op ≡ true → own ≡ w) → given_record m own op ≡ given_record m w op
-given_own (TdRead q) own w m same = ap (λ b. given_record m b (TdRead q)) (same refl)
+pub given_own : (op : Op) (own w : Bool) (m : StoreValue) → IsOwn op w own → given_record m own op ≡ given_record m w op
+given_own (TdRead q) own w m same = ap (λ b. given_record m b (TdRead q)) same
 given_own (ReadUpdate f k) own w m same = refl
 given_own _ own w m same = refl
 
@@ -116,7 +116,7 @@ module _ (s : UnitsState) (st new : UndoableValue) (t : Table) (is : AreKept s s
   op_seen _ free = tt
 
   module _ (ready : is_ready_op s u op ≡ true) (room : unit < length st.images) (own : Bool) (given : Answer)
-      (own_is : is_trans op ≡ true → own ≡ is_writer t unit (queue_of op))
+      (own_is : IsOwn op (is_writer t unit (queue_of op)) own)
       (bound : IsBound st.store op (is_recoverable s.opening op))
       (done : IsApplied st.store new.store (kept_by st.images unit) (kept_by new.images unit) op (is_recoverable s.opening op) own given)
       (others : AreOthersKept st.images new.images unit) where
@@ -131,7 +131,7 @@ module _ (s : UnitsState) (st new : UndoableValue) (t : Table) (is : AreKept s s
       | inl trans ↦
           let b = queue_bound op st.store (is_recoverable s.opening op) trans bound in
           trans_applied_in_place s st.store new.store st.images new.images u op own given is.sound is.place is.canonical.records acts free done apart trans
-          b.queue b.there (logical_as_defined s.opening st.store (queue_of op) b.queue is.defined.queues b.there) (own_is trans ∙ end_by_table s t is.table unit (acting_open s u acts) (queue_of op) Writing)
+          b.queue b.there (logical_as_defined s.opening st.store (queue_of op) b.queue is.defined.queues b.there) (subst (λ w. IsOwn op w own) (end_by_table s t is.table unit (acting_open s u acts) (queue_of op) Writing) own_is)
           (seen_told op own st.store b.queue trans b.there b.marked seen)
       | inr other ↦
           plain_applied s st.store new.store st.images new.images u op own given is.sound is.place is.canonical.records acts free done apart other

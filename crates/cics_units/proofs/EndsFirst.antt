@@ -2,8 +2,7 @@
 use Rattle.std.proofs.Common.{◌≡◌, ℕ, zero, suc, true, List, [], ◌∷◌, refl, ap, sym, subst, ◌∙◌}
 use Rattle.std.specs.Prelude.{Option, Some, None, option_map}
 use Rattle.cics_names.specs.Keyed.{Bytes, value_at, is_rising}
-use Rattle.cics_images.specs.Cells.{Kept, is_unnamed, all_swept}
-use Rattle.cics_images.specs.Cells.{Cell as ImageCell}
+use Rattle.cics_images.specs.Cells.{Kept, is_unnamed, all_swept, Cell as ImageCell}
 use Rattle.cics_images.specs.NamedValues.{cell_of as value_cell, split, of_value, of_split, KeepsIn}
 use Rattle.cics_images.specs.NamedLaws.{keeps_itself_in}
 use Rattle.cics_images.specs.StoreCells.{file_cell, temp_cell, trans_cell}

@@ -55,11 +55,7 @@ module _ (v : Bytes) (u : ℕ) where
             ∙ rest other
             ∙ sym (ap (λ b. count_in (cond b (Some h) (held_at (value_of v) es))) other)
       ]
-  count_first (FileKey f k) h es own rest = rest refl
-  count_first (TsQueue q) h es own rest = rest refl
-  count_first (ReadingEnd q) h es own rest = rest refl
-  count_first (WritingEnd q) h es own rest = rest refl
-  count_first (FilePrefix f p) h es own rest = rest refl
+  count_first _ h es own rest = rest refl
 
   -- the count of a value that no other unit holds is the table's
   pub count_at-table : (t : Table) → ((g : Held) → held_at (value_of v) t ≡ Some g → g.unit ≡ u) →

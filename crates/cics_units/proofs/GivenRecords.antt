@@ -41,12 +41,7 @@ file_content s own (DeleteGeneric f p) file = by (value_at f (shown_store s).fil
     by : (o : Option (Map Bytes)) → (apply_delete_generic (shown_store s) f p o).answer.content ≡ None
     by None = refl
     by (Some records) = counted_none (under p records)
-file_content s own (TsWrite q d) file = absurd (false≢true file)
-file_content s own (TsRewrite q n d) file = absurd (false≢true file)
-file_content s own (TsDelete q) file = absurd (false≢true file)
-file_content s own (TdWrite q d) file = absurd (false≢true file)
-file_content s own (TdRead q) file = absurd (false≢true file)
-file_content s own (TdDelete q) file = absurd (false≢true file)
+file_content s own _ file = absurd (false≢true file)
 
 -- of those on transient data queues READQ TD alone
 pub trans_content : (s : StoreValue) (own : Bool) (op : Op) (before : TransState) → is_trans op ≡ true → value_at (queue_of op) s.trans_data ≡ Some before →
@@ -54,14 +49,7 @@ pub trans_content : (s : StoreValue) (own : Bool) (op : Op) (before : TransState
 trans_content s own (TdRead q) before trans there = sym (ap (λ o. first_in o own) there)
 trans_content s own (TdWrite q d) before trans there = refl
 trans_content s own (TdDelete q) before trans there = refl
-trans_content s own (TsWrite q d) before trans there = absurd (false≢true trans)
-trans_content s own (TsRewrite q n d) before trans there = absurd (false≢true trans)
-trans_content s own (TsDelete q) before trans there = absurd (false≢true trans)
-trans_content s own (Write f k r) before trans there = absurd (false≢true trans)
-trans_content s own (Rewrite f k r) before trans there = absurd (false≢true trans)
-trans_content s own (Delete f k) before trans there = absurd (false≢true trans)
-trans_content s own (DeleteGeneric f p) before trans there = absurd (false≢true trans)
-trans_content s own (ReadUpdate f k) before trans there = absurd (false≢true trans)
+trans_content s own _ before trans there = absurd (false≢true trans)
 
 -- and of those on temporary storage queues none
 pub temp_content : (s : StoreValue) (own : Bool) (op : Op) (rows : Map Row) → is_file_op op ≡ false → is_trans op ≡ false → (rows_answer op rows).content ≡ given_record s own op
@@ -71,8 +59,4 @@ temp_content s own (TsDelete q) rows file trans = refl
 temp_content s own (TdWrite q d) rows file trans = absurd (false≢true (sym trans))
 temp_content s own (TdRead q) rows file trans = absurd (false≢true (sym trans))
 temp_content s own (TdDelete q) rows file trans = absurd (false≢true (sym trans))
-temp_content s own (Write f k r) rows file trans = absurd (false≢true (sym file))
-temp_content s own (Rewrite f k r) rows file trans = absurd (false≢true (sym file))
-temp_content s own (Delete f k) rows file trans = absurd (false≢true (sym file))
-temp_content s own (DeleteGeneric f p) rows file trans = absurd (false≢true (sym file))
-temp_content s own (ReadUpdate f k) rows file trans = absurd (false≢true (sym file))
+temp_content s own _ rows file trans = absurd (false≢true (sym file))

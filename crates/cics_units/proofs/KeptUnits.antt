@@ -155,12 +155,10 @@ module _ (s : UnitsState) (st : UndoableValue) (t : Table) (is : AreKept s st t)
   ready_fits u (Delete f k) ready = defined_there f (and_parts (has_key f s.opening.files) _ ready).0
   ready_fits u (DeleteGeneric f p) ready = defined_there f (and_parts (has_key f s.opening.files) _ ready).0
   ready_fits u (ReadUpdate f k) ready = defined_there f (and_parts (has_key f s.opening.files) _ (and_parts _ _ ready).0).0
-  ready_fits u (TsWrite q d) ready = tt
-  ready_fits u (TsRewrite q n d) ready = tt
-  ready_fits u (TsDelete q) ready = tt
   ready_fits u (TdWrite q d) ready = defined_queue q (and_parts (has_key q s.opening.queues) _ ready).0
   ready_fits u (TdRead q) ready = defined_queue q ready
   ready_fits u (TdDelete q) ready = defined_queue q ready
+  ready_fits u _ ready = tt
 
   -- ---- The store is the replay
   -- what the files and queues show is what the kept history gives

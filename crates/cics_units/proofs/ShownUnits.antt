@@ -1,13 +1,10 @@
 -- What the units show after each call is what the call makes of their state.
-use Rattle.std.proofs.Common.{◌≡◌, ℕ, ◌+◌, length-append, ◌<◌, ◌≤◌, Bool, true, false, not, Option, Some, None, List, [], ◌∷◌, ◌++◌, length, refl, ap, sym, subst, ◌∙◌, arith}
-use Rattle.std.specs.Prelude.{if◌then◌else◌, IfSome, filter, slice_set, ◌==◌, All}
+use Rattle.std.proofs.Common.{◌≡◌, ℕ, ◌+◌, length-append, ◌<◌, ◌≤◌, Bool, true, false, not, Option, Some, None, List, [], ◌∷◌, ◌++◌, length, refl, ap, sym, subst, ◌∙◌, arith, inl, inr, eqb}
+use Rattle.std.specs.Prelude.{if◌then◌else◌, IfSome, filter, slice_set, ◌==◌, All, is_some}
 use Rattle.std.proofs.lemmas.List.Elements.{All-head, All-tail}
-use Rattle.cics_names.specs.Keyed.{is_same}
+use Rattle.cics_names.specs.Keyed.{is_same, Bytes, Map}
 use Rattle.std.specs.List.{list_any}
-use Rattle.std.specs.Prelude.{is_some}
-use Rattle.std.proofs.Common.{inl, inr, eqb}
 use Rattle.std.proofs.lemmas.Bool.{cases_Bool, and_parts, or_left, or_right, false≢true, and_from, lt-ltb}
-use Rattle.cics_names.specs.Keyed.{Bytes, Map}
 use Rattle.cics_tempstor.specs.Queues.{places_of}
 use Rattle.cics_enqueue.specs.Resources.{Table, released}
 use Rattle.cics_history.specs.Openings.{OpeningState}
@@ -21,8 +18,8 @@ use Rattle.cics_history.specs.Records.{file_of}
 use Rattle.cics_units.specs.Uses.{uses_if, listed, AreFreeFor}
 use Rattle.cics_units.specs.Cores.{IsBoundFor}
 use Rattle.cics_units.specs.declared.units_core.BoundOp.{BoundOp}
-use Rattle.cics_units.specs.Awaiting.{is_writer, unit_in_way}
-use Rattle.cics_units.specs.QueueChanges.{is_trans, is_temp, queue_of as queue_on}
+use Rattle.cics_units.specs.Awaiting.{is_writer, IsOwn, unit_in_way}
+use Rattle.cics_units.specs.QueueChanges.{is_temp, queue_of as queue_on}
 use Rattle.cics_units.specs.Applied.{IsApplied, IsBound, IsSeen}
 use Rattle.cics_units.specs.Executed.{IsExecuted}
 use Rattle.cics_units.specs.UnitImages.{kept_by, AreOthersKept}
@@ -92,7 +89,7 @@ module _ (o : OpeningState) (trace : List Entry) (outcomes : List UnitState) (co
   -- ---- A command
   module _ (u : Option ℕ) (op : Op) (acts : may_act before u ≡ true) (free : awaited before u op ≡ None) (ready : is_ready_op before u op ≡ true)
       (room : unit_or_next u outcomes < length p.stores.images) (answer : Answer) (bound : IsBound p.stores.store op (is_recoverable o op)) (own : Bool)
-      (own_is : is_trans op ≡ true → own ≡ is_writer p.table (unit_or_next u outcomes) (queue_on op))
+      (own_is : IsOwn op (is_writer p.table (unit_or_next u outcomes) (queue_on op)) own)
       (applied : IsApplied p.stores.store new.stores.store (kept_by p.stores.images (unit_or_next u outcomes)) (kept_by new.stores.images (unit_or_next u outcomes)) op (is_recoverable o op) own answer)
       (others : AreOthersKept p.stores.images new.stores.images (unit_or_next u outcomes))
       (table : new.table ≡ table_executed o (unit_or_next u outcomes) op answer.condition p.reads p.table)
@@ -155,7 +152,7 @@ pub record IsAsked (o : OpeningState) (trace : List Entry) (outcomes : List Unit
   pub recoverable : b.recoverable ≡ is_recoverable o b.op.now
   pub stands : IsBound p.stores.store b.op.now (is_recoverable o b.op.now)
   pub used : listed b.uses ≡ uses_if (is_recoverable o b.op.now) b.op.now
-  pub own : is_trans b.op.now ≡ true → b.own ≡ is_writer p.table (unit_or_next u outcomes) (queue_on b.op.now)
+  pub own : IsOwn b.op.now (is_writer p.table (unit_or_next u outcomes) (queue_on b.op.now)) b.own
   -- whom it has to wait for is the unit in its way
   pub way : h ≡ unit_in_way p.table p.stores.store.trans_data (is_recoverable o b.op.now) u (unit_or_next u outcomes) b.op.now
 
@@ -277,7 +274,7 @@ module _ (o : OpeningState) (trace : List Entry) (outcomes : List UnitState) (co
       recoverable = as_opened;
       stands = subst (IsBound p.stores.store b.op.now) as_opened bound.bound;
       used = bound.used ∙ ap (λ r. uses_if r b.op.now) as_opened;
-      own = λ trans. bound.own trans ∙ ap (λ n. is_writer p.table n (queue_on b.op.now)) acting;
+      own = subst (λ n. IsOwn b.op.now (is_writer p.table n (queue_on b.op.now)) b.own) acting bound.own;
       way = told n bound ∙ ap (λ r. unit_in_way p.table p.stores.store.trans_data r u n b.op.now) as_opened
           ∙ ap (λ n. unit_in_way p.table p.stores.store.trans_data (is_recoverable o b.op.now) u n b.op.now) acting;
     }
@@ -303,16 +300,7 @@ none_open_of s u (ReadUpdate f k) known ready read = by u (and_parts _ _ ready).
         nothing : (b : Option Bytes) → not (is_some b) ≡ true → b ≡ None
         nothing None t = refl
         nothing (Some k) t = absurd (false≢true t)
-none_open_of s u (DeleteGeneric f p) known ready read = absurd (false≢true read)
-none_open_of s u (Write f k r) known ready read = absurd (false≢true read)
-none_open_of s u (Rewrite f k r) known ready read = absurd (false≢true read)
-none_open_of s u (Delete f k) known ready read = absurd (false≢true read)
-none_open_of s u (TsWrite q d) known ready read = absurd (false≢true read)
-none_open_of s u (TsRewrite q n d) known ready read = absurd (false≢true read)
-none_open_of s u (TsDelete q) known ready read = absurd (false≢true read)
-none_open_of s u (TdWrite q d) known ready read = absurd (false≢true read)
-none_open_of s u (TdRead q) known ready read = absurd (false≢true read)
-none_open_of s u (TdDelete q) known ready read = absurd (false≢true read)
+none_open_of s u _ known ready read = absurd (false≢true read)
 
 -- what follows of whatever is there
 pub if_open : {P : ℕ → Type 0} (o : Option ℕ) → ((h : ℕ) → o ≡ Some h → P h) → IfSome o P

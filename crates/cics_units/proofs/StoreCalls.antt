@@ -35,10 +35,9 @@ module _ (s : UnitsState) (m : StoreValue) (images : List (Kept AnyImage)) (plac
 
     -- each cell holds what it held
     same_cells : (x : Cell) → content (shown_store m) x ≡ content (shown_store n) x
-    same_cells (Key f k) = refl
     same_cells (Ts q) =
         ap Some (queue_at-queues_of q m.temp_storage rising_before ∙ sym (kept.queues q refl) ∙ sym (queue_at-queues_of q new rising_after))
-    same_cells (Td q) = refl
+    same_cells _ = refl
 
     -- and nothing that an undo needs is gone
     all_kept : AnyKeep (λ c. true) m n

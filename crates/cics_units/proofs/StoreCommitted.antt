@@ -4,8 +4,7 @@ use Rattle.std.proofs.Common.{◌≡◌, ◌≢◌, ◌≤◌, ℕ, Bool, true, 
 use Rattle.std.specs.Prelude.{option_map, unwrap_or}
 use Rattle.std.proofs.lemmas.Bool.{true≢false, and_parts}
 use Rattle.cics_names.specs.Keyed.{Bytes, value_at, is_rising}
-use Rattle.cics_images.specs.Cells.{Kept, is_unnamed, all_swept}
-use Rattle.cics_images.specs.Cells.{Cell as ImageCell}
+use Rattle.cics_images.specs.Cells.{Kept, is_unnamed, all_swept, Cell as ImageCell}
 use Rattle.cics_images.specs.NamedValues.{cell_of as value_cell, KeepsIn}
 use Rattle.cics_images.specs.NamedLaws.{split_cell}
 use Rattle.cics_images.specs.StoreCells.{file_cell, temp_cell, trans_cell}

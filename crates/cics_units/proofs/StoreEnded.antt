@@ -1,10 +1,9 @@
 -- What the end of a unit leaves of files, temporary storage and transient data: for a backout and for a commit the one
 -- record of all that it keeps, from what is told of undoing the unit's images, or of giving them up.
 use Rattle.std.proofs.Common.{◌≡◌, ◌≢◌, ℕ, true, List, [], refl, ap, sym, subst, ◌∙◌}
-use Rattle.std.specs.Prelude.{fold, filter, option_map}
+use Rattle.std.specs.Prelude.{fold, filter, option_map, unwrap_or}
 use Rattle.cics_names.specs.Keyed.{value_at, has_key}
-use Rattle.cics_images.specs.Cells.{Kept, is_unnamed, LeadBack, images_of, all_swept}
-use Rattle.cics_images.specs.Cells.{Cell as ImageCell}
+use Rattle.cics_images.specs.Cells.{Kept, is_unnamed, LeadBack, images_of, all_swept, Cell as ImageCell}
 use Rattle.cics_tempstor.specs.Queues.{queues_of, places_of}
 use Rattle.cics_tempstor.specs.Places.{AreInOrder, places_there, in_order_committed, in_order_backed_out, places_of-committed, places_of-there, places_of-backed_out}
 use Rattle.cics_history.specs.Openings.{IsOpeningInOrder}
@@ -20,7 +19,6 @@ use Rattle.cics_history.specs.declared.ops.UnitState.{UnitState}
 use Rattle.cics_history.specs.declared.ops.UnitState.TheVariants.{Committed, BackedOut}
 use Rattle.cics_history.proofs.Stores.{same_store, replay-canonical, initial-canonical}
 use Rattle.cics_units.specs.UnitImages.{kept_none, kept_by, AreOthersKept, AreHeldForImages}
-use Rattle.std.specs.Prelude.{unwrap_or}
 use Rattle.cics_units.specs.FilesImages.{definitions_of}
 use Rattle.cics_units.specs.StoreMatching.{StoreValue, AnyImage, shown_store, bytes_of, cell_of_any, AnyLeads, any_content, any_undone, any_swept, AnyKeep, any_holds}
 use Rattle.cics_units.specs.StoreInPlace.{AreInPlace}

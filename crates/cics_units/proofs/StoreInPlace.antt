@@ -293,10 +293,9 @@ shows_history s m images place x = elim (cases_Bool (is_plain s.opening x)) [
     is_so false e = absurd (true≢false e)
 
     logical : (x : Cell) → is_plain s.opening x ≡ false → content (shown_store m) x ≡ content (store_of s) x
-    logical (Key f k) e = absurd (true≢false e)
-    logical (Ts q) e = absurd (true≢false e)
     logical (Td q) e =
         let l = is_so (queue_logical s.opening q) e in
         let queue = place.queues q l in
         shown_td m q ∙ ap (option_map queue_of) queue.1 ∙ ap Some (queue_of-shown queue.0)
         ∙ ap (λ k. Some (shown_marks k)) (sym queue.2.marks) ∙ sym (shows_of s place.marks place.ends q l)
+    logical _ e = absurd (true≢false e)

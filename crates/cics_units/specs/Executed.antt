@@ -1,13 +1,13 @@
 -- Recovery and task control: what an executed command makes of the store, the table of enqueues and the open update reads.
-use Rattle.std.specs.Prelude.{◌≡◌, ℕ, ◌<◌, Bool, true, if◌then◌else◌, length}
+use Rattle.std.specs.Prelude.{◌≡◌, ℕ, ◌<◌, Bool, if◌then◌else◌, length}
 use Rattle.cics_history.specs.Store.{is_normal}
 use Rattle.cics_history.specs.Execution.{reads_after}
 use Rattle.cics_history.specs.declared.ops.Answer.{Answer}
 use Rattle.cics_history.specs.declared.ops.Op.{Op}
 use Rattle.cics_units.specs.Applied.{IsApplied}
-use Rattle.cics_units.specs.Awaiting.{is_writer}
+use Rattle.cics_units.specs.Awaiting.{is_writer, IsOwn}
 use Rattle.cics_units.specs.Parts.{CoreValue, AreRoomier}
-use Rattle.cics_units.specs.QueueChanges.{is_trans, queue_of}
+use Rattle.cics_units.specs.QueueChanges.{queue_of}
 use Rattle.cics_units.specs.StoreMatching.{UndoableValue}
 use Rattle.cics_units.specs.TableInPlace.{table_changed}
 use Rattle.cics_units.specs.UnitImages.{kept_by, AreOthersKept}
@@ -26,5 +26,5 @@ pub record IsExecuted (old new : CoreValue) (unit : ℕ) (op : Op) (recoverable 
   pub begun : unit < length roomy.images
   -- a unit that holds the writing end of a queue may read what it wrote itself
   pub own : Bool
-  pub own_is : is_trans op ≡ true → own ≡ is_writer old.table unit (queue_of op)
+  pub own_is : IsOwn op (is_writer old.table unit (queue_of op)) own
   pub done : IsDone (record { stores = roomy; table = old.table; reads = old.reads }) new unit op recoverable own answer

@@ -1,7 +1,6 @@
-use Rattle.std.proofs.Common.{◌≡◌, ◌∙◌, false, Bool, Option, Some, None, List, sym, ap, subst, refl, arith, is_some, not, filter}
+use Rattle.std.proofs.Common.{◌≡◌, ◌∙◌, false, Bool, Option, Some, None, List, sym, ap, subst, refl, arith, is_some, not, filter, Bor}
 use Rattle.std.specs.Prelude.{if◌then◌else◌, slice_get, slice_set}
 use Rattle.std.specs.Option.{option_copied}
-use Rattle.std.proofs.Common.{Bor}
 use Rattle.std.proofs.lemmas.Bool.{false_from_ne_true}
 use Rattle.cics_names.specs.Keyed.{Bytes}
 use Rattle.cics_images.specs.Cells.{Kept}
