@@ -8,9 +8,9 @@ use Rattle.cics_units.specs.Applied.{IsApplied}
 use Rattle.cics_units.specs.Awaiting.{is_writer, IsOwn}
 use Rattle.cics_units.specs.Parts.{CoreValue, AreRoomier}
 use Rattle.cics_units.specs.QueueChanges.{queue_of}
-use Rattle.cics_units.specs.StoreMatching.{UndoableValue}
+use Rattle.cics_units.specs.StoreMatching.{StoreWithImages}
 use Rattle.cics_units.specs.TableInPlace.{table_changed}
-use Rattle.cics_units.specs.UnitImages.{kept_by, AreOthersKept}
+use Rattle.cics_units.specs.ImageRows.{kept_by, AreOthersKept}
 
 -- a command is applied for a unit, which goes on holding what it uses, or gives back what it covers, where it is answered NORMAL
 pub record IsDone (old new : CoreValue) (unit : ℕ) (op : Op) (recoverable own : Bool) (answer : Answer) : Type 0 where
@@ -21,7 +21,7 @@ pub record IsDone (old new : CoreValue) (unit : ℕ) (op : Op) (recoverable own 
 
 -- so it is once there is room for its images
 pub record IsExecuted (old new : CoreValue) (unit : ℕ) (op : Op) (recoverable : Bool) (answer : Answer) : Type 0 where
-  pub roomy : UndoableValue
+  pub roomy : StoreWithImages
   pub room : AreRoomier old.stores roomy
   pub begun : unit < length roomy.images
   -- a unit that holds the writing end of a queue may read what it wrote itself

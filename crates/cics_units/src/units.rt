@@ -19,7 +19,7 @@ ghost use Rattle.cics_history.specs.Isolation.{IsSound};
 ghost use Rattle.cics_units.specs.Listings.{listing_of, replayed_listing};
 ghost use Rattle.cics_units.specs.Submitting.{as_done, IsBackIfItWaits};
 ghost use Rattle.cics_units.specs.StorePlaces.{number_asked};
-ghost use Rattle.cics_units.specs.UnitImages.{kept_by, AreOthersKept};
+ghost use Rattle.cics_units.specs.ImageRows.{kept_by, AreOthersKept};
 ghost use Rattle.cics_tempstor.specs.Queues.{read_item, after_read_item};
 ghost use Rattle.cics_tempstor.specs.Undo.{KeepsQueues};
 ghost use Rattle.cics_history.specs.declared.ops.UnitState.TheVariants.{Committed, BackedOut};
@@ -62,7 +62,7 @@ pub enum Submitted {
 ///   out; with the open units behind, in any order, what stands there. Each of these commands has
 ///   in its unit's turn the answer that it was given.
 ///
-/// The invariant that carries this is `AreKept`: it ties the store, the images and the locks to the
+/// The invariant that carries this is `AreValid`: it ties the store, the images and the locks to the
 /// history, so that undoing the images of any open unit leaves what the others did.
 #[derive(Drop)]
 pub struct Units {
@@ -78,7 +78,7 @@ impl Model for Units {
     ghost use Rattle.cics_history.specs.Execution.{UnitsValue};
     ghost use Rattle.cics_units.specs.StoreMatching.{shown_store};
     ghost use Rattle.cics_units.specs.Cores.{core_value};
-    ghost use Rattle.cics_units.specs.KeptUnits.{state_shown, AreKept};
+    ghost use Rattle.cics_units.specs.KeptUnits.{state_shown, AreValid};
     ghost use Rattle.std.specs.Prelude.{◌≤◌, length, vec_capacity};
 
     ghost Value = { UnitsValue };
@@ -90,7 +90,7 @@ impl Model for Units {
     } };
 
     ghost invariant = { λ u.
-        AreKept (state_shown u.opening u.trace.items u.outcomes.items u.commits.items
+        AreValid (state_shown u.opening u.trace.items u.outcomes.items u.commits.items
         (core_value u.core)) (core_value u.core).stores u.core.locks
         × (length u.outcomes.items ≤ vec_capacity u.commits) };
 }

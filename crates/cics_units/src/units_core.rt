@@ -13,11 +13,11 @@ ghost use Rattle.cics_units.specs.Applied.{IsSeen};
 ghost use Rattle.cics_units.specs.Awaiting.{is_writer, IsOwn, unit_in_way};
 ghost use Rattle.cics_units.specs.Cores.{core_value, IsBoundFor};
 ghost use Rattle.cics_units.specs.Executed.{IsExecuted};
-ghost use Rattle.cics_units.specs.Parts.{IsFitOp, given_record, most_images, ArePartsKept};
+ghost use Rattle.cics_units.specs.Parts.{IsFitOp, given_record, most_images, IsCoreAsBefore};
 ghost use Rattle.cics_units.specs.QueueChanges.{is_temp, queue_of};
 ghost use Rattle.cics_units.specs.StoreEnds.{end_settled, ends_settled};
 ghost use Rattle.cics_units.specs.TableInPlace.{is_read, covered_read, AreOnce, table_given_back};
-ghost use Rattle.cics_units.specs.UnitImages.{kept_by, room_of};
+ghost use Rattle.cics_units.specs.ImageRows.{kept_by, room_of};
 ghost use Rattle.cics_units.specs.Uses.{listed, taken_all, AreFreeFor, let_go};
 
 use crate::files::{Files, FilesImage};
@@ -360,7 +360,7 @@ impl UnitsCore {
             read_at self.old.reads unit (file_of bound.now.op.now) ≡ None }
         ensures executed { IfOk result (λ answer. IsExecuted (core_value self.old)
             (core_value self.new) unit bound.now.op.now bound.now.recoverable answer) }
-        ensures err { OnErr result (ArePartsKept (core_value self.old) (core_value self.new)) }
+        ensures err { OnErr result (IsCoreAsBefore (core_value self.old) (core_value self.new)) }
     {
         let most = most_images(&self.store, bound.op);
         reserve_images(&mut self.rows, self.alloc, unit, most)?;

@@ -6,9 +6,9 @@ use Rattle.cics_history.specs.Execution.{IsOpenUnit, IsOpenOrNone, unit_or_next,
 use Rattle.cics_history.specs.Events.{may_act}
 use Rattle.cics_history.specs.Headline.{IsHeadline}
 use Rattle.cics_units.specs.Cores.{core_value}
-use Rattle.cics_units.specs.KeptUnits.{state_shown, AreKept}
+use Rattle.cics_units.specs.KeptUnits.{state_shown, AreValid}
 use Rattle.cics_units.specs.StoreMatching.{shown_store}
-use Rattle.cics_units.specs.Parts.{CoreValue, AreRoomier, AreEnqueued, ArePartsKept}
+use Rattle.cics_units.specs.Parts.{CoreValue, AreRoomier, AreEnqueued, IsCoreAsBefore}
 use Rattle.cics_units.specs.TableInPlace.{value_of}
 use Rattle.cics_history.specs.declared.ops.Enqueued.TheVariants.{Taken, MustWait, CountFull}
 use Rattle.cics_units.proofs.KeptUnits.{kept_headline}
@@ -33,14 +33,14 @@ module _ (c : After-reserve_images) where
   roomier : AreRoomier core.stores (left core.table).stores
   roomier = record { store = refl; kept = c.reserve_images.ensures.kept; longer = c.reserve_images.ensures.longer }
 
-  same : (locks : Table) → locks ≡ core.table → ArePartsKept core (left locks)
+  same : (locks : Table) → locks ≡ core.table → IsCoreAsBefore core (left locks)
   same locks is = record { stores = roomier; table = is; reads = refl }
 
   abbrev after : Table → UnitsState
   after locks = state_shown c.self.inside.opening c.self.inside.trace.items c.reserve_unit.new.outcomes.items c.reserve_unit.new.commits.items (left locks)
 
   -- where nothing is taken all is kept
-  kept_same : (locks : Table) → locks ≡ core.table → AreKept (after locks) (left locks).stores locks
+  kept_same : (locks : Table) → locks ≡ core.table → AreValid (after locks) (left locks).stores locks
   kept_same locks is =
       let u = c.self.inside in
       refused_kept u.opening u.trace.items u.outcomes.items u.commits.items core (left locks) c.self.invariant.0 (same locks is) u.trace.items c.reserve_unit.new.outcomes.items c.reserve_unit.new.commits.items refl
@@ -188,10 +188,10 @@ module _ (c : After-begin) (roomier : AreRoomier (core_value c.self.inside.core)
       let u = c.self.inside in
       shown ∙ enqueued_shown u.opening u.trace.items u.outcomes.items u.commits.items (core_value u.core) new c.self.invariant.0 c.args.unit c.args.value.now acts takes done
 
-  kept : AreKept now new.stores new.table
+  kept : AreValid now new.stores new.table
   kept =
       let u = c.self.inside in
-      subst (λ s. AreKept s new.stores new.table) (sym shown)
+      subst (λ s. AreValid s new.stores new.table) (sym shown)
       (enqueued_kept u.opening u.trace.items u.outcomes.items u.commits.items (core_value u.core) new c.self.invariant.0 c.args.unit c.args.value.now acts takes done)
 
 pub invariant_of-self-2 : goal.invariant_of-self-2

@@ -9,7 +9,7 @@ use Rattle.cics_history.specs.declared.ops.Op.{Op}
 use Rattle.cics_history.specs.declared.ops.Entry.{Entry}
 use Rattle.cics_history.specs.declared.ops.Done.TheVariants.{Answered}
 use Rattle.cics_units.specs.Cores.{core_value}
-use Rattle.cics_units.specs.KeptUnits.{state_shown, AreKept}
+use Rattle.cics_units.specs.KeptUnits.{state_shown, AreValid}
 use Rattle.cics_units.specs.StoreMatching.{shown_store}
 use Rattle.cics_units.specs.Uses.{uses_if, AreFreeFor}
 use Rattle.cics_units.specs.Parts.{CoreValue}
@@ -87,7 +87,7 @@ returns-in_err-reserve_unit-clause-headline c =
     (λ i. state_shown u.opening (sym c.reserve.ensures.items i) (sym c.reserve_unit.ensures.outcomes i) (sym c.reserve_unit.ensures.commits i) (core_value u.core))
     (headline (goal.at.returns-in_err-reserve_unit-clause-headline c).After-blocker)
 
-refused : (c : In_err-answer) → AreKept (state_shown c.self.inside.opening c.reserve.new.self.items c.reserve_unit.new.outcomes.items c.reserve_unit.new.commits.items (core_value c.execute.new.self)) (core_value c.execute.new.self).stores c.execute.new.self.locks
+refused : (c : In_err-answer) → AreValid (state_shown c.self.inside.opening c.reserve.new.self.items c.reserve_unit.new.outcomes.items c.reserve_unit.new.commits.items (core_value c.execute.new.self)) (core_value c.execute.new.self).stores c.execute.new.self.locks
 refused c =
     let u = c.self.inside in
     refused_kept u.opening u.trace.items u.outcomes.items u.commits.items (core_value u.core) (core_value c.execute.new.self) c.self.invariant.0 c.in_err-answer.ensures.err c.reserve.new.self.items c.reserve_unit.new.outcomes.items
@@ -204,10 +204,10 @@ module _ (c : After-enter)
       shown ∙ parts_state u.opening u.trace.items u.outcomes.items u.commits.items (core_value u.core) new c.self.invariant.0 c.args.unit done_op asked.acts none asked.ready c.in_ok-answer.answer asked.stands done
       ∙ ap (after_execution old c.args.unit) c.bind-bound.ensures.op
 
-  kept : AreKept now new.stores new.table
+  kept : AreValid now new.stores new.table
   kept =
       let u = c.self.inside in
-      subst (λ s. AreKept s new.stores new.table) (sym shown)
+      subst (λ s. AreValid s new.stores new.table) (sym shown)
       (parts_kept u.opening u.trace.items u.outcomes.items u.commits.items (core_value u.core) new c.self.invariant.0 c.args.unit done_op asked.acts none asked.ready c.in_ok-answer.answer asked.stands done)
 
 pub invariant_of-self-2 : goal.invariant_of-self-2

@@ -15,7 +15,7 @@ use Rattle.cics_history.specs.declared.ops.Op.TheVariants.{Write, Rewrite, Delet
 use Rattle.cics_units.specs.Applied.{IsFileBound, read_given}
 use Rattle.cics_units.specs.Executed.{IsDone}
 use Rattle.cics_units.specs.Parts.{CoreValue}
-use Rattle.cics_units.specs.UnitImages.{kept_by}
+use Rattle.cics_units.specs.ImageRows.{kept_by}
 use Rattle.cics_units.specs.TableInPlace.{is_read, covered_read, table_given_back, table_changed}
 use Rattle.cics_units.specs.Uses.{uses_if, taken_all}
 use Rattle.cics_units.proofs.Applied.{read_applied}
