@@ -7,16 +7,16 @@ use Rattle.cics_names.specs.Keyed.{Bytes, Map, value_at, with_value, is_rising}
 use Rattle.cics_images.specs.Cells.{Cell, Kept, is_other, is_unnamed}
 use Rattle.cics_images.specs.declared.stores.StoreImage.TheVariants.{File, TempStorage}
 use Rattle.cics_ksds.specs.Prefixes.{prefix_images, under, without_prefix}
-use Rattle.cics_ksds.specs.Undo.{ImageValue, KeepsKeys, IsFileImage, written_image, rewritten_image, deleted_image}
+use Rattle.cics_ksds.specs.Undo.{ImageValue, KeepsKeys, IsFileImage, written_image, rewritten_image, deleted_image, Leads as FileLeads}
 use Rattle.cics_images.specs.StoreCells.{file_cell, temp_cell, with_files, with_temp_storage, with_trans_data}
 use Rattle.cics_ksds.specs.Files.{FileValue, IsContent, key_of, written, rewritten, deleted, write_condition, change_condition}
 use Rattle.cics_tempstor.specs.declared.queue_rows.Row.{Row}
 use Rattle.cics_tempstor.specs.declared.images.TsImage.{TsImage}
-use Rattle.cics_tempstor.specs.Undo.{IsTsImage}
+use Rattle.cics_tempstor.specs.Undo.{IsTsImage, content_at as queue_content, name_of_image, Leads as QueueLeads, IsReadyImage as IsQueueReady, undone as rows_undone, KeepsQueues}
 use Rattle.cics_transdata.specs.Trans.{TransState, IsMarked, is_logical}
 use Rattle.cics_transdata.specs.declared.images.TdImage.{TdImage}
-use Rattle.cics_transdata.specs.Undo.{KeepsEnds, IsTransImage}
-use Rattle.cics_images.specs.NamedValues.{changed_where}
+use Rattle.cics_transdata.specs.Undo.{KeepsEnds, IsTransImage, end_of as end_of_image, content_at as end_content, Leads as EndLeads, IsReadyImage as IsEndReady, undone as queue_undone}
+use Rattle.cics_images.specs.NamedValues.{changed_where, named_content, named_cell, IsNamedReady, named_undone, NamedKeep}
 use Rattle.cics_history.specs.Marks.{marks_of}
 use Rattle.cics_history.specs.MarkImages.{mark_images}
 use Rattle.cics_history.specs.Carried.{CarriesIfAny}
@@ -28,7 +28,7 @@ use Rattle.cics_history.specs.Records.{is_file_op, file_of, key_of as key_of_op}
 use Rattle.cics_history.specs.declared.ops.Answer.{Answer}
 use Rattle.cics_history.specs.declared.ops.Op.{Op}
 use Rattle.cics_history.specs.declared.ops.Op.TheVariants.{Write, Rewrite, Delete, DeleteGeneric, ReadUpdate, TdWrite, TdRead, TdDelete}
-use Rattle.cics_units.specs.FilesImages.{FilesImage, cell_of, cell_of_image}
+use Rattle.cics_units.specs.FilesImages.{FilesImage, cell_of, cell_of_image, files_content, IsReadyFor, files_undone, FilesKeep}
 use Rattle.cics_units.specs.StoreMatching.{StoreValue, AnyImage, AnyLeads, end_cell, bytes_of_end, shown_store, shown_records, bytes_of, any_content, any_undone, cell_of_any, any_holds, AnyKeep, IsImageOfChange, AreImagesOf}
 use Rattle.cics_units.specs.Parts.{is_recoverable_in, leaves, leaves_any, of_files, with_stored, image_if}
 use Rattle.cics_units.specs.FilesChanges.{IsFilesImage, others_kept, image_among as file_image_among}
@@ -36,7 +36,6 @@ use Rattle.cics_units.specs.QueueChanges.{is_trans, is_temp, queue_of, end_of, i
 use Rattle.cics_units.specs.Applied.{IsSeenIn, spares, AreImagesMade, IsApplied, IsFileBound, IsQueueBound, marks_in, marks_if, read_given, counted_as}
 use Rattle.cics_units.proofs.StoreInPlace.{AreReady, ready_where, shown_ts}
 use Rattle.cics_units.proofs.TempChanges.{temp_cell_of, temp_single, temp_no_file, temp_no_trans, is_done, rows_rise, rows_stay, rows_plain, rows_imaged, temp_stored, temp_answered, temp_changes}
-use Rattle.cics_units.proofs.StoreTempExecuted.{temp_any_image, temp_keeps}
 use Rattle.cics_units.proofs.StoreExecuted.{all_of, IsAnyImage}
 use Rattle.cics_units.proofs.StoreQueueExecuted.{kept_with, ready_with, left_here, trans_keeps, trans_any_image}
 use Rattle.cics_units.proofs.TransChanges.{IsToldEnough, trans_no_file, told_unwritten, trans_stored, trans_answered, carried_after, marks_of_queue, plain_image}
@@ -47,6 +46,30 @@ use Rattle.cics_units.proofs.FileChanges.{read_answer, write_changed, write_answ
 use Rattle.cics_units.proofs.DeletedUnder.{generic_changed}
 use Rattle.cics_history.proofs.Joining.{read_only}
 use Rattle.cics_units.specs.FilesImagesLaws as files
+use Rattle.cics_images.specs.Cells as images
+use Rattle.cics_images.specs.NamedLaws as named
+use Rattle.cics_images.specs.StoreChanges.{temp_storage_image}
+use Rattle.cics_images.specs.StoreLaws.{temp_storage_keeps}
+use Rattle.cics_tempstor.specs.UndoLaws as rows
+use Rattle.cics_transdata.specs.UndoLaws as queue
+
+-- ---- Temporary storage
+-- an image of the change of a temporary storage queue is one of the three
+pub temp_any_image : (m : StoreValue) (new : Map Row) (q : images.Cell) (i : TsImage) → IsTsImage m.temp_storage new q i →
+    IsAnyImage m (with_temp_storage m new) (temp_cell q) (TempStorage i)
+temp_any_image m new q i is = temp_storage_image files_content queue_content (λ s c. named_content end_content s c)
+    cell_of_image name_of_image (λ i. named_cell end_of_image i)
+    (λ i. FileLeads i.image) QueueLeads (λ i. EndLeads i.image)
+    IsReadyFor IsQueueReady (λ s i. IsNamedReady IsEndReady s i)
+    files_undone rows_undone (λ s i. named_undone queue_undone s i)
+    FilesKeep KeepsQueues (λ p s n. NamedKeep KeepsEnds p s n)
+    files.keeps_itself rows.keeps_itself (named.keeps_itself KeepsEnds queue.keeps_itself) m new q i is
+
+-- and what the change leaves of temporary storage is left of the three
+pub temp_keeps : (m : StoreValue) (new : Map Row) (q : images.Cell) → KeepsQueues (images.is_other q) m.temp_storage new →
+    AnyKeep (images.is_other (temp_cell q)) m (with_temp_storage m new)
+temp_keeps m new q kept = temp_storage_keeps FilesKeep KeepsQueues (λ p s n. NamedKeep KeepsEnds p s n)
+    files.keeps_itself rows.keeps_itself (named.keeps_itself KeepsEnds queue.keeps_itself) q m new kept
 
 -- ---- the answer of DELETE GENERIC
 pub counted_is : {X : Type 0} (xs : List X) → counted_answer xs ≡ counted_as (length xs)

@@ -3,7 +3,7 @@
 use Rattle.std.proofs.Common.{◌≡◌, ◌≢◌, ℕ, Bool, true, false, ◌&&◌, not, Option, Some, None, List, [], ◌++◌, refl, ap, sym, subst, ◌∙◌, eqb, inl, inr, ◌⊎◌}
 use Rattle.std.specs.Prelude.{if◌then◌else◌}
 use Rattle.std.specs.List.{list_any}
-use Rattle.std.proofs.lemmas.Bool.{true≢false, false≢true, cases_Bool, and_parts, and_left, eq-eqb, eqb-true, false_from_ne_true, true_from_ne_false}
+use Rattle.std.proofs.lemmas.Bool.{true≢false, false≢true, cases_Bool, and_parts, and_left, eq-eqb, eqb-true, false_from_ne_true, true_from_ne_false, eqb-false}
 use Rattle.cics_names.specs.Keyed.{Bytes, value_at, with_value, is_same}
 use Rattle.cics_names.specs.KeyedLaws.{is_same-eq, value_at-with_value_same, value_at-with_value_other}
 use Rattle.cics_images.specs.Cells.{Kept}
@@ -16,7 +16,7 @@ use Rattle.cics_history.specs.Openings.{queue_logical}
 use Rattle.cics_history.specs.Store.{is_recoverable}
 use Rattle.cics_history.specs.History.{outcome_of, is_open}
 use Rattle.cics_history.specs.Holding.{UnitsState, awaited}
-use Rattle.cics_history.specs.Execution.{unit_or_next, after_execution}
+use Rattle.cics_history.specs.Execution.{unit_or_next, after_execution, outcomes_with, state_of}
 use Rattle.cics_history.specs.Records.{is_file_op}
 use Rattle.cics_history.specs.declared.ops.Answer.{Answer}
 use Rattle.cics_history.specs.declared.ops.Op.{Op}
@@ -31,10 +31,11 @@ use Rattle.cics_history.specs.Ends.{Marks, marks_executed}
 use Rattle.cics_history.proofs.Joining.{same_cell-true, same_cell-refl, apply-content, touches-named, touches-recovers}
 use Rattle.cics_history.proofs.Places.{execution-IsPlaceOf, image_of-AreImages}
 use Rattle.cics_history.proofs.PrefixImages.{images_by-AreImages}
-use Rattle.cics_history.proofs.States.{one_at_each_end}
+use Rattle.cics_history.proofs.States.{one_at_each_end, acting_open}
 use Rattle.cics_units.specs.FilesImagesLaws.{bytes_eq-turned}
-use Rattle.cics_units.specs.UnitImages.{kept_by}
+use Rattle.cics_units.specs.ImageRows.{kept_by}
 use Rattle.cics_units.specs.StoreMatching.{StoreValue, AnyImage, shown_store, bytes_of, bytes_of_end, AreImagesOf}
+use Rattle.cics_units.specs.Awaiting.{IsOwn}
 use Rattle.cics_units.specs.StoreInPlace.{AreInPlace, HasMarks, holds_end}
 use Rattle.cics_units.specs.Parts.{leaves_any}
 use Rattle.cics_units.specs.QueueChanges.{is_trans, is_temp, queue_of, is_left, leaves_end, trans_after}
@@ -42,11 +43,81 @@ use Rattle.cics_units.specs.Applied.{IsApplied, spares, marks_in, marks_if, AreI
 use Rattle.cics_units.proofs.StoreMatched.{is_of_end, each_passes, plain_apart}
 use Rattle.cics_units.proofs.StoreInPlace.{AreReady, ready_where, place_by, marked_used}
 use Rattle.cics_units.proofs.StoreExecuted.{no_mark, kept_joined}
-use Rattle.cics_units.proofs.StoreExecution.{open_unit, may_run, opening_stays, executed_by}
 use Rattle.cics_units.proofs.StoreQueueExecuted.{left_plain, left_marked, uses_or_own, no_more}
 use Rattle.cics_units.proofs.TransChanges.{IsToldEnough, kind_after, fits_after, marks_after, trans_cell_of, trans_single, trans_no_file, trans_recoverable}
 use Rattle.cics_units.proofs.TempChanges.{temp_cell_of, temp_single, temp_no_file, temp_uses}
 use Rattle.cics_units.proofs.FileCommands.{key_op, writes_op, no_queue_op, same_from, acted_on}
+use Rattle.cics_history.proofs.Executes.{MayRun}
+use Rattle.cics_history.proofs.Outcomes.{outcome_of-with}
+use Rattle.cics_history.proofs.Waiting.{MayRun_from}
+use Rattle.cics_history.proofs.InPlace.{execution-AreMarksOf}
+
+-- ---- What is the same whatever a command acts on
+module _ (s : UnitsState) (u : Option ℕ) (op : Op) (acts : may_act s u ≡ true) (free : awaited s u op ≡ None) where
+  -- the unit that executes it is open
+  pub open_unit : is_open (outcome_of s.outcomes (unit_or_next u s.outcomes)) ≡ true
+  open_unit = acting_open s u acts
+
+  -- and need not wait
+  pub may_run : IsSound s → MayRun s.opening s.trace (outcome_of s.outcomes) (unit_or_next u s.outcomes) op
+  may_run sound = MayRun_from s sound.known u op free open_unit
+
+  -- the opening stays
+  pub opening_stays : (after_execution s u op).opening ≡ s.opening
+  opening_stays = ap (λ h. (state_of s u op h).opening) free
+
+  -- the outcomes after it
+  outcomes_then : (after_execution s u op).outcomes ≡ outcomes_with u s.outcomes
+  outcomes_then = ap (λ h. (state_of s u op h).outcomes) free
+
+  module _ (m n : StoreValue) (images after_images : List (Kept AnyImage)) (sound : IsSound s) (place : AreInPlace s m images)
+      (apart : (w : ℕ) → w ≢ unit_or_next u s.outcomes → kept_by after_images w ≡ kept_by images w) where
+    -- the unit that executes it
+    abbrev acting : ℕ
+    acting = unit_or_next u s.outcomes
+
+    -- the marks from then on
+    abbrev marks_next : Marks
+    marks_next = marks_executed s place.marks u op
+
+    -- a unit that is over is another one, and keeps none
+    over_then : (w : ℕ) → is_open (outcome_of (outcomes_with u s.outcomes) w) ≡ false → (w ≢ acting) × (kept_by images w ≡ [])
+    over_then w shut =
+        let before_it : is_open (outcome_of s.outcomes w) ≡ false = ap is_open (sym (outcome_of-with u s.outcomes w)) ∙ shut in
+        ((λ same. true≢false (sym open_unit ∙ (ap (λ x. is_open (outcome_of s.outcomes x)) (sym same) ∙ before_it))), place.over w before_it)
+
+    -- what holds of the unit and of every other holds of each
+    each_unit : (P : ℕ → Type 0) → P acting → ((w : ℕ) → w ≢ acting → P w) → (w : ℕ) → P w
+    each_unit P own others w = elim (cases_Bool (eqb w acting)) [ inl t ↦ subst P (sym (eqb-true w acting t)) own | inr t ↦ others w (eqb-false w acting t) ]
+
+    -- another unit's images of marks stay
+    marks_stay : (w : ℕ) → w ≢ acting → marks_next.images w ≡ place.marks.images w
+    marks_stay w other =
+        ap (λ b. if b && is_recoverable s.opening op then mark_images op place.marks.queues ++ place.marks.images w else place.marks.images w)
+        (false_from_ne_true (eqb w acting) (λ t. other (eqb-true w acting t)))
+
+    -- all is in place after the command
+    pub executed_by : (changes : ℕ → List Image) → ((w : ℕ) → w ≢ acting → changes w ≡ place.changes w) →
+        IsPlaceOf (after_execution s u op) (record { cells = content (shown_store n); images = changes }) →
+        ((q : Bytes) → queue_logical s.opening q ≡ true → (t : TransState) × (value_at q n.trans_data ≡ Some t) × HasMarks (marks_next.queues q) t) →
+        ((w : ℕ) → w ≢ acting → is_open (outcome_of s.outcomes w) ≡ true → AreReady n (kept_by images w)) →
+        AreImagesOf (changes acting) (marks_next.images acting) (kept_by after_images acting) → AreReady n (kept_by after_images acting) →
+        AreInPlace (after_execution s u op) n after_images
+    executed_by changes same there queues others kept ready = record {
+      changes = changes;
+      marks = marks_next;
+      place = there;
+      ends = execution-AreMarksOf s place.marks u op sound place.ends acts free;
+      queues = λ q l. queues q (subst (λ o. queue_logical o q ≡ true) opening_stays l);
+      kept = each_unit (λ w. AreImagesOf (changes w) (marks_next.images w) (kept_by after_images w)) kept
+          (λ w other. rw (same w other, marks_stay w other, apart w other) (place.kept w));
+      ready = each_unit (λ w. AreReady n (kept_by after_images w)) ready
+          (λ w other. subst (AreReady n) (sym (apart w other)) (elim (cases_Bool (is_open (outcome_of s.outcomes w))) [
+            | inl on ↦ others w other on
+            | inr shut ↦ subst (AreReady n) (sym (place.over w shut)) tt
+          ]));
+      over = λ w shut. let h = over_then w (ap (λ l. is_open (outcome_of l w)) (sym outcomes_then) ∙ shut) in apart w h.0 ∙ h.1;
+    }
 
 -- the same either way
 either_way : {X : Type 0} (b : Bool) (x : X) → (if b then x else x) ≡ x
@@ -204,7 +275,7 @@ module _ (s : UnitsState) (m n : StoreValue) (images after_images : List (Kept A
 
   -- on a transient data queue that stands there with its recovery, and shows its reader enough
   module _ (is : is_trans op ≡ true) (t : TransState) (there : value_at (queue_of op) m.trans_data ≡ Some t)
-      (kind : is_logical t.kind ≡ queue_logical s.opening (queue_of op)) (own_is : own ≡ holds_end s unit (queue_of op) Writing)
+      (kind : is_logical t.kind ≡ queue_logical s.opening (queue_of op)) (own_is : IsOwn op (holds_end s unit (queue_of op) Writing) own)
       (told : IsToldEnough op own (marks_of t)) where
     abbrev q : Bytes
     q = queue_of op
@@ -306,13 +377,13 @@ module _ (s : UnitsState) (m n : StoreValue) (images after_images : List (Kept A
         leaves_end op own end ≡ true
     left_to_others w other on end marks = elim (cases_Bool (leaves_end op own end)) [
       | inl left ↦ left
-      | inr changed ↦ elim (uses_or_own op own end changed) [
+      | inr changed ↦ elim (uses_or_own op own (holds_end s unit q Writing) end own_is changed) [
         | inl uses ↦ elim (free_end end uses w used_it.1) [
           | inl same ↦ absurd (other same)
           | inr shut ↦ absurd (true≢false (sym on ∙ shut))
         ]
         | inr holds ↦
-            let both = and_parts (queue_logical s.opening q) (used s.trace unit (Td q) Writing) (sym own_is ∙ holds.1) in
+            let both = and_parts (queue_logical s.opening q) (used s.trace unit (Td q) Writing) holds.1 in
             absurd (other (one_at_each_end s sound.one (Td q) both.0 Writing w unit on (open_unit s u op acts free)
             (subst (λ e. used s.trace w (Td q) e ≡ true) holds.0 used_it.1) both.1))
       ]

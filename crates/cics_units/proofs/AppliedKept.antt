@@ -2,13 +2,13 @@
 use Rattle.std.proofs.Common.{◌≡◌, ◌≢◌, ℕ, Bool, true, false, ◌&&◌, Option, Some, None, List, [], ◌∷◌, ◌++◌, length, refl, ap, sym, subst, ◌∙◌, inl, inr, ◌<◌}
 use Rattle.std.specs.Prelude.{unwrap_or, IfSome}
 use Rattle.std.proofs.lemmas.Bool.{false≢true, cases_Bool}
-use Rattle.cics_names.specs.Keyed.{value_at}
+use Rattle.cics_names.specs.Keyed.{value_at, Bytes, Map}
 use Rattle.cics_images.specs.Cells.{is_other, is_unnamed}
 use Rattle.cics_images.specs.StoreCells.{file_cell}
 use Rattle.cics_enqueue.specs.Resources.{Table}
 use Rattle.cics_transdata.specs.Trans.{TransState, IsMarked, is_logical}
 use Rattle.cics_history.specs.Openings.{queue_logical}
-use Rattle.cics_history.specs.Store.{Store, apply, is_recoverable}
+use Rattle.cics_history.specs.Store.{Store, apply, is_recoverable, apply_write, apply_rewrite, apply_delete, apply_delete_generic, counted_answer}
 use Rattle.cics_history.specs.Holding.{UnitsState, awaited, store_of}
 use Rattle.cics_history.specs.Execution.{unit_or_next, after_execution, entered, is_ready_op}
 use Rattle.cics_history.specs.Isolation.{used}
@@ -17,20 +17,19 @@ use Rattle.cics_history.specs.Events.{may_act}
 use Rattle.cics_history.specs.Marks.{marks_of}
 use Rattle.cics_history.specs.declared.ops.Answer.{Answer}
 use Rattle.cics_history.specs.declared.ops.Op.{Op}
-use Rattle.cics_history.specs.declared.ops.Op.TheVariants.{ReadUpdate, TdWrite, TdRead, TdDelete}
+use Rattle.cics_history.specs.declared.ops.Op.TheVariants.{ReadUpdate, TdWrite, TdRead, TdDelete, Write, Rewrite, Delete, DeleteGeneric, TsWrite, TsRewrite, TsDelete}
 use Rattle.cics_history.proofs.States.{acting_open}
-use Rattle.cics_units.specs.UnitImages.{kept_none, kept_by, AreOthersKept}
-use Rattle.cics_units.specs.StoreMatching.{StoreValue, UndoableValue, AnyImage, cell_of_any}
+use Rattle.cics_units.specs.ImageRows.{kept_none, kept_by, AreOthersKept}
+use Rattle.cics_units.specs.StoreMatching.{StoreValue, StoreWithImages, AnyImage, cell_of_any, shown_store}
 use Rattle.cics_units.specs.StoreInPlace.{AreInPlace}
 use Rattle.cics_units.specs.StorePlaces.{HavePlaces}
-use Rattle.cics_units.specs.KeptUnits.{AreKept}
+use Rattle.cics_units.specs.KeptUnits.{AreValid}
 use Rattle.cics_units.specs.TableInPlace.{table_executed}
-use Rattle.cics_units.specs.Awaiting.{is_writer}
-use Rattle.cics_units.specs.QueueChanges.{is_trans, is_temp, queue_of, rows_after}
+use Rattle.cics_units.specs.Awaiting.{is_writer, IsOwn}
+use Rattle.cics_units.specs.QueueChanges.{is_trans, is_temp, queue_of, rows_after, trans_answer, rows_answer}
 use Rattle.cics_units.specs.Applied.{IsApplied, IsBound, IsFileBound, IsQueueBound, IsSeen, IsSeenIn, spares}
-use Rattle.cics_units.specs.Parts.{is_recoverable_in, given_record}
-use Rattle.cics_history.specs.Records.{file_of}
-use Rattle.cics_units.proofs.GivenRecords.{file_content, trans_content, temp_content}
+use Rattle.cics_units.specs.Parts.{is_recoverable_in, given_record, first_in}
+use Rattle.cics_history.specs.Records.{file_of, is_file_op}
 use Rattle.cics_units.proofs.HeldSums.{recoverable_op}
 use Rattle.cics_units.proofs.TempChanges.{temp_no_file, temp_answered}
 use Rattle.cics_units.proofs.AppliedInPlace.{plain_applied, trans_applied_in_place, no_trans_of}
@@ -42,6 +41,57 @@ use Rattle.cics_units.proofs.StorePlaces.{executed_places}
 use Rattle.cics_units.proofs.StoreQueueExecuted.{told_by_use}
 use Rattle.cics_units.proofs.TransChanges.{IsToldEnough, trans_answered, trans_recoverable}
 use Rattle.cics_units.proofs.Applied.{read_told}
+use Rattle.cics_ksds.specs.Prefixes.{under}
+use Rattle.cics_tempstor.specs.declared.queue_rows.Row.{Row}
+
+-- ---- The record of an answer is the one that was looked up before
+-- the count of what lies under a prefix is no record
+counted_none : {X : Type 0} (xs : List X) → (counted_answer xs).content ≡ None
+counted_none [] = refl
+counted_none (x ∷ xs) = refl
+
+-- of the commands on files READ UPDATE alone gives a record
+pub file_content : (s : StoreValue) (own : Bool) (op : Op) → is_file_op op ≡ true → (apply (shown_store s) op).answer.content ≡ given_record s own op
+file_content s own (ReadUpdate f k) file = refl
+file_content s own (Write f k r) file = by (value_at f (shown_store s).files)
+  where
+    by : (o : Option (Map Bytes)) → (apply_write (shown_store s) f k r o).answer.content ≡ None
+    by None = refl
+    by (Some records) = refl
+file_content s own (Rewrite f k r) file = by (value_at f (shown_store s).files)
+  where
+    by : (o : Option (Map Bytes)) → (apply_rewrite (shown_store s) f k r o).answer.content ≡ None
+    by None = refl
+    by (Some records) = refl
+file_content s own (Delete f k) file = by (value_at f (shown_store s).files)
+  where
+    by : (o : Option (Map Bytes)) → (apply_delete (shown_store s) f k o).answer.content ≡ None
+    by None = refl
+    by (Some records) = refl
+file_content s own (DeleteGeneric f p) file = by (value_at f (shown_store s).files)
+  where
+    by : (o : Option (Map Bytes)) → (apply_delete_generic (shown_store s) f p o).answer.content ≡ None
+    by None = refl
+    by (Some records) = counted_none (under p records)
+file_content s own _ file = absurd (false≢true file)
+
+-- of those on transient data queues READQ TD alone
+pub trans_content : (s : StoreValue) (own : Bool) (op : Op) (before : TransState) → is_trans op ≡ true → value_at (queue_of op) s.trans_data ≡ Some before →
+    (trans_answer op own before).content ≡ given_record s own op
+trans_content s own (TdRead q) before trans there = sym (ap (λ o. first_in o own) there)
+trans_content s own (TdWrite q d) before trans there = refl
+trans_content s own (TdDelete q) before trans there = refl
+trans_content s own _ before trans there = absurd (false≢true trans)
+
+-- and of those on temporary storage queues none
+pub temp_content : (s : StoreValue) (own : Bool) (op : Op) (rows : Map Row) → is_file_op op ≡ false → is_trans op ≡ false → (rows_answer op rows).content ≡ given_record s own op
+temp_content s own (TsWrite q d) rows file trans = refl
+temp_content s own (TsRewrite q n d) rows file trans = refl
+temp_content s own (TsDelete q) rows file trans = refl
+temp_content s own (TdWrite q d) rows file trans = absurd (false≢true (sym trans))
+temp_content s own (TdRead q) rows file trans = absurd (false≢true (sym trans))
+temp_content s own (TdDelete q) rows file trans = absurd (false≢true (sym trans))
+temp_content s own _ rows file trans = absurd (false≢true (sym file))
 
 -- what a command sees is what it is told
 seen_told : (op : Op) (own : Bool) (m : StoreValue) (x : TransState) → is_trans op ≡ true → value_at (queue_of op) m.trans_data ≡ Some x → IsMarked x → IsSeen m op own →
@@ -52,13 +102,13 @@ seen_told (TdDelete q) own m x is there marked seen = tt
 seen_told _ own m x is there marked seen = absurd (false≢true is)
 
 -- what is told of the table is told by whatever says the same
-pub seen_own : (op : Op) (own w : Bool) (m : StoreValue) → (is_trans op ≡ true → own ≡ w) → IsSeen m op w → IsSeen m op own
-seen_own (TdRead q) own w m same seen = subst (IsSeen m (TdRead q)) (sym (same refl)) seen
+pub seen_own : (op : Op) (own w : Bool) (m : StoreValue) → IsOwn op w own → IsSeen m op w → IsSeen m op own
+seen_own (TdRead q) own w m same seen = subst (IsSeen m (TdRead q)) (sym same) seen
 seen_own _ own w m same seen = tt
 
 -- and so is the record that a command is given
-pub given_own : (op : Op) (own w : Bool) (m : StoreValue) → (is_trans op ≡ true → own ≡ w) → given_record m own op ≡ given_record m w op
-given_own (TdRead q) own w m same = ap (λ b. given_record m b (TdRead q)) (same refl)
+pub given_own : (op : Op) (own w : Bool) (m : StoreValue) → IsOwn op w own → given_record m own op ≡ given_record m w op
+given_own (TdRead q) own w m same = ap (λ b. given_record m b (TdRead q)) same
 given_own (ReadUpdate f k) own w m same = refl
 given_own _ own w m same = refl
 
@@ -70,7 +120,7 @@ queue_bound (TdDelete q) m keep is bound = bound
 queue_bound _ m keep is bound = absurd (false≢true is)
 
 -- what a command is bound to is as recoverable as the opening has it
-pub bound_as_opened : (s : UnitsState) (st : UndoableValue) (t : Table) → AreKept s st t → (op : Op) (keep : Bool) → IsBound st.store op keep →
+pub bound_as_opened : (s : UnitsState) (st : StoreWithImages) (t : Table) → AreValid s st t → (op : Op) (keep : Bool) → IsBound st.store op keep →
     (is_temp op ≡ true → keep ≡ is_recoverable s.opening op) → keep ≡ is_recoverable s.opening op
 bound_as_opened s st t is op keep bound temp = elim (cases_Bool (is_trans op)) [
   | inl trans ↦
@@ -93,7 +143,7 @@ more_named (i ∷ is) before c named = either (is_other (cell_of_any i) c) (more
     either true h = h
     either false h = refl
 
-module _ (s : UnitsState) (st new : UndoableValue) (t : Table) (is : AreKept s st t) (u : Option ℕ) (op : Op) (acts : may_act s u ≡ true)
+module _ (s : UnitsState) (st new : StoreWithImages) (t : Table) (is : AreValid s st t) (u : Option ℕ) (op : Op) (acts : may_act s u ≡ true)
     (free : awaited s u op ≡ None) where
   abbrev unit : ℕ
   unit = unit_or_next u s.outcomes
@@ -116,7 +166,7 @@ module _ (s : UnitsState) (st new : UndoableValue) (t : Table) (is : AreKept s s
   op_seen _ free = tt
 
   module _ (ready : is_ready_op s u op ≡ true) (room : unit < length st.images) (own : Bool) (given : Answer)
-      (own_is : is_trans op ≡ true → own ≡ is_writer t unit (queue_of op))
+      (own_is : IsOwn op (is_writer t unit (queue_of op)) own)
       (bound : IsBound st.store op (is_recoverable s.opening op))
       (done : IsApplied st.store new.store (kept_by st.images unit) (kept_by new.images unit) op (is_recoverable s.opening op) own given)
       (others : AreOthersKept st.images new.images unit) where
@@ -131,14 +181,14 @@ module _ (s : UnitsState) (st new : UndoableValue) (t : Table) (is : AreKept s s
       | inl trans ↦
           let b = queue_bound op st.store (is_recoverable s.opening op) trans bound in
           trans_applied_in_place s st.store new.store st.images new.images u op own given is.sound is.place is.canonical.records acts free done apart trans
-          b.queue b.there (logical_as_defined s.opening st.store (queue_of op) b.queue is.defined.queues b.there) (own_is trans ∙ end_by_table s t is.table unit (acting_open s u acts) (queue_of op) Writing)
+          b.queue b.there (logical_as_defined s.opening st.store (queue_of op) b.queue is.defined.queues b.there) (subst (λ w. IsOwn op w own) (end_by_table s t is.table unit (acting_open s u acts) (queue_of op) Writing) own_is)
           (seen_told op own st.store b.queue trans b.there b.marked seen)
       | inr other ↦
           plain_applied s st.store new.store st.images new.images u op own given is.sound is.place is.canonical.records acts free done apart other
     ]
 
     -- so it keeps all
-    pub kept_applied : AreKept (entered s u op (apply (store_of s) op).answer) new (table_executed s.opening unit op (apply (store_of s) op).answer.condition s.reads t)
+    pub kept_applied : AreValid (entered s u op (apply (store_of s) op).answer) new (table_executed s.opening unit op (apply (store_of s) op).answer.condition s.reads t)
     kept_applied = kept_left s st new t is u op acts free ready room place_then done.shown (record {
       files = λ f. ap (λ d. d f) (kept_definitions (λ c. spares op own (file_cell c)) st.store.files new.store.files done.others.files) ∙ is.defined.files f;
       queues = kept_recoveries (spares op own) s.opening st.store new.store done.others is.defined.queues;

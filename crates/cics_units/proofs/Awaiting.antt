@@ -93,16 +93,7 @@ module _ (s : UnitsState) (t : Table) (i : IsSound s) (k : IsTableOf s t) (u : O
             | true ↦ λ l. read_awaits q l
             | false ↦ λ plain. read_free q plain (sym (alike q) ∙ plain)
           ] refl
-      writer_awaits (Write f k r) = refl
-      writer_awaits (Rewrite f k r) = refl
-      writer_awaits (Delete f k) = refl
-      writer_awaits (DeleteGeneric f p) = refl
-      writer_awaits (ReadUpdate f k) = refl
-      writer_awaits (TsWrite q d) = refl
-      writer_awaits (TsRewrite q n d) = refl
-      writer_awaits (TsDelete q) = refl
-      writer_awaits (TdWrite q d) = refl
-      writer_awaits (TdDelete q) = refl
+      writer_awaits _ = refl
 
       -- the unit that a command must wait for is the one in its way, by the table and the queues as they stand
       pub awaited-in_place : (op : Op) →

@@ -2,8 +2,7 @@
 use Rattle.std.proofs.Common.{◌≡◌, ℕ, zero, suc, true, List, [], ◌∷◌, refl, ap, sym, subst, ◌∙◌}
 use Rattle.std.specs.Prelude.{Option, Some, None, option_map}
 use Rattle.cics_names.specs.Keyed.{Bytes, value_at, is_rising}
-use Rattle.cics_images.specs.Cells.{Kept, is_unnamed, all_swept}
-use Rattle.cics_images.specs.Cells.{Cell as ImageCell}
+use Rattle.cics_images.specs.Cells.{Kept, is_unnamed, all_swept, Cell as ImageCell}
 use Rattle.cics_images.specs.NamedValues.{cell_of as value_cell, split, of_value, of_split, KeepsIn}
 use Rattle.cics_images.specs.NamedLaws.{keeps_itself_in}
 use Rattle.cics_images.specs.StoreCells.{file_cell, temp_cell, trans_cell}
@@ -21,7 +20,7 @@ use Rattle.cics_history.specs.Isolation.{IsSound}
 use Rattle.cics_history.specs.declared.ops.UnitState.TheVariants.{Committed}
 use Rattle.cics_history.proofs.Maps.{same_map}
 use Rattle.cics_units.specs.FilesImages.{FilesKeep, cell_of_image, files_swept, definitions_of}
-use Rattle.cics_units.specs.UnitImages.{kept_by, AreOthersKept, AreHeldForImages}
+use Rattle.cics_units.specs.ImageRows.{kept_by, AreOthersKept, AreHeldForImages}
 use Rattle.cics_units.specs.StoreMatching.{StoreValue, AnyImage, shown_store, cell_of_any, any_content, any_swept, AnyKeep, any_holds}
 use Rattle.cics_units.specs.StoreInPlace.{AreInPlace, reader_ended, writer_ended}
 use Rattle.cics_units.specs.StoreEnds.{file_images, ts_images, any_fixed, ends_settled, has_end, IsEnded}

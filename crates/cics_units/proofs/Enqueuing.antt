@@ -22,10 +22,10 @@ use Rattle.cics_history.proofs.SerialRuns.{enqueue-IsInOrder, dequeue-IsInOrder}
 use Rattle.cics_history.specs.Cells.{content}
 use Rattle.cics_history.specs.Undo.{IsUndoable}
 use Rattle.cics_history.specs.Ends.{AreMarked}
-use Rattle.cics_units.specs.StoreMatching.{StoreValue, UndoableValue, shown_store}
+use Rattle.cics_units.specs.StoreMatching.{StoreValue, StoreWithImages, shown_store}
 use Rattle.cics_units.specs.TableInPlace.{value_of, counted_before, counts_in}
-use Rattle.cics_units.specs.Parts.{CoreValue, AreRoomier, AreEnqueued, ArePartsKept}
-use Rattle.cics_units.specs.KeptUnits.{state_shown, AreKept}
+use Rattle.cics_units.specs.Parts.{CoreValue, AreRoomier, AreEnqueued, IsCoreAsBefore}
+use Rattle.cics_units.specs.KeptUnits.{state_shown, AreValid}
 use Rattle.cics_history.specs.declared.ops.Entry.{Entry}
 use Rattle.cics_history.specs.declared.ops.UnitState.{UnitState}
 use Rattle.cics_history.specs.declared.ops.UnitState.TheVariants.{Open}
@@ -55,11 +55,7 @@ module _ (v : Bytes) (u : ℕ) where
             ∙ rest other
             ∙ sym (ap (λ b. count_in (cond b (Some h) (held_at (value_of v) es))) other)
       ]
-  count_first (FileKey f k) h es own rest = rest refl
-  count_first (TsQueue q) h es own rest = rest refl
-  count_first (ReadingEnd q) h es own rest = rest refl
-  count_first (WritingEnd q) h es own rest = rest refl
-  count_first (FilePrefix f p) h es own rest = rest refl
+  count_first _ h es own rest = rest refl
 
   -- the count of a value that no other unit holds is the table's
   pub count_at-table : (t : Table) → ((g : Held) → held_at (value_of v) t ≡ Some g → g.unit ≡ u) →
@@ -70,7 +66,7 @@ module _ (v : Bytes) (u : ℕ) where
 
 -- ---- What ENQ answers
 
-module _ (s : UnitsState) (st : UndoableValue) (t : Table) (is : AreKept s st t) (u : Option ℕ) (v : Bytes) where
+module _ (s : UnitsState) (st : StoreWithImages) (t : Table) (is : AreValid s st t) (u : Option ℕ) (v : Bytes) where
   abbrev pub taker : ℕ
   taker = unit_or_next u s.outcomes
 
@@ -105,10 +101,10 @@ module _ (s : UnitsState) (st : UndoableValue) (t : Table) (is : AreKept s st t)
 
 -- ---- What ENQ and DEQ leave
 
-module _ (s : UnitsState) (st new : UndoableValue) (t : Table) (is : AreKept s st t) (u : Option ℕ) (v : Bytes) (acts : may_act s u ≡ true)
+module _ (s : UnitsState) (st new : StoreWithImages) (t : Table) (is : AreValid s st t) (u : Option ℕ) (v : Bytes) (acts : may_act s u ≡ true)
     (takes : enqueue s u v ≡ Taken (unit_or_next u s.outcomes)) (room : AreRoomier st new) (begun : unit_or_next u s.outcomes < length new.images) where
   -- ENQ changes neither the store nor what holds of it
-  pub kept_enqueued : AreKept (after_enqueued s u v (Taken (unit_or_next u s.outcomes))) new (taken t (value_of v) (unit_or_next u s.outcomes))
+  pub kept_enqueued : AreValid (after_enqueued s u v (Taken (unit_or_next u s.outcomes))) new (taken t (value_of v) (unit_or_next u s.outcomes))
   kept_enqueued =
       let roomier = kept_roomier s st t is new room.store room.kept room.longer in
       record {
@@ -144,21 +140,21 @@ module _ (s : UnitsState) (st new : UndoableValue) (t : Table) (is : AreKept s s
       begun_by (Some w) begun = omega (arith, is.begun, room.longer)
 
 -- nor does DEQ
-pub kept_dequeued : (s : UnitsState) (st : UndoableValue) (t : Table) → AreKept s st t → (u : ℕ) (v : Bytes) → AreKept (after_dequeue s u v) st (given_back t (value_of v) u)
+pub kept_dequeued : (s : UnitsState) (st : StoreWithImages) (t : Table) → AreValid s st t → (u : ℕ) (v : Bytes) → AreValid (after_dequeue s u v) st (given_back t (value_of v) u)
 kept_dequeued s st t is u v = kept_with s st t (given_back t (value_of v) u) is s.reads (after_dequeue s u v).counts
     (dequeue-IsSound s u v is.sound) (dequeue-IsInOrder s is.order u v) (table_dequeued_of s t u v is.table)
 
 -- ---- What the units show
 
 module _ (o : OpeningState) (trace : List Entry) (outcomes : List UnitState) (commits : List ℕ) (p new : CoreValue)
-    (is : AreKept (state_shown o trace outcomes commits p) p.stores p.table) where
+    (is : AreValid (state_shown o trace outcomes commits p) p.stores p.table) where
   abbrev before : UnitsState
   before = state_shown o trace outcomes commits p
 
   -- ENQ that takes its value
   module _ (u : Option ℕ) (v : Bytes) (acts : may_act before u ≡ true) (takes : enqueue before u v ≡ Taken (unit_or_next u outcomes))
       (done : AreEnqueued p new (unit_or_next u outcomes) v) where
-    kept_then : AreKept (after_enqueued before u v (Taken (unit_or_next u outcomes))) new.stores (taken p.table (value_of v) (unit_or_next u outcomes))
+    kept_then : AreValid (after_enqueued before u v (Taken (unit_or_next u outcomes))) new.stores (taken p.table (value_of v) (unit_or_next u outcomes))
     kept_then = kept_enqueued before p.stores new.stores p.table is u v acts takes done.stores done.begun
 
     enqueued_state : state_shown o trace (outcomes_with u outcomes) commits new ≡ after_enqueued before u v (Taken (unit_or_next u outcomes))
@@ -172,12 +168,12 @@ module _ (o : OpeningState) (trace : List Entry) (outcomes : List UnitState) (co
     pub enqueued_shown : state_shown o trace (outcomes_with u outcomes) commits new ≡ after_enqueue before u v
     enqueued_shown = enqueued_state ∙ ap (after_enqueued before u v) (sym takes)
 
-    pub enqueued_kept : AreKept (state_shown o trace (outcomes_with u outcomes) commits new) new.stores new.table
-    enqueued_kept = subst (λ s. AreKept s new.stores new.table) (sym enqueued_state)
-        (subst (AreKept (after_enqueued before u v (Taken (unit_or_next u outcomes))) new.stores) (sym done.table) kept_then)
+    pub enqueued_kept : AreValid (state_shown o trace (outcomes_with u outcomes) commits new) new.stores new.table
+    enqueued_kept = subst (λ s. AreValid s new.stores new.table) (sym enqueued_state)
+        (subst (AreValid (after_enqueued before u v (Taken (unit_or_next u outcomes))) new.stores) (sym done.table) kept_then)
 
   -- a refused call shows what was there
-  pub refused_shown : ArePartsKept p new → (outs : List UnitState) (turns : List ℕ) → outs ≡ outcomes → turns ≡ commits → state_shown o trace outs turns new ≡ before
+  pub refused_shown : IsCoreAsBefore p new → (outs : List UnitState) (turns : List ℕ) → outs ≡ outcomes → turns ≡ commits → state_shown o trace outs turns new ≡ before
   refused_shown same outs turns outs_same turns_same = λ i. record before {
     outcomes = outs_same i;
     commits = turns_same i;
@@ -197,6 +193,6 @@ module _ (o : OpeningState) (trace : List Entry) (outcomes : List UnitState) (co
     pub dequeued_shown : state_shown o trace outcomes commits new ≡ after_dequeue before u v
     dequeued_shown = ap (state_shown o trace outcomes commits) done ∙ after_state
 
-    pub dequeued_kept : AreKept (state_shown o trace outcomes commits new) new.stores new.table
-    dequeued_kept = subst (λ n. AreKept (state_shown o trace outcomes commits n) n.stores n.table) (sym done)
-        (subst (λ s. AreKept s p.stores (given_back p.table (value_of v) u)) (sym after_state) (kept_dequeued before p.stores p.table is u v))
+    pub dequeued_kept : AreValid (state_shown o trace outcomes commits new) new.stores new.table
+    dequeued_kept = subst (λ n. AreValid (state_shown o trace outcomes commits n) n.stores n.table) (sym done)
+        (subst (λ s. AreValid s p.stores (given_back p.table (value_of v) u)) (sym after_state) (kept_dequeued before p.stores p.table is u v))

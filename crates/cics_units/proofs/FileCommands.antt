@@ -22,40 +22,19 @@ key_op (Rewrite f k r) file = refl
 key_op (Delete f k) file = refl
 key_op (DeleteGeneric f p) file = refl
 key_op (ReadUpdate f k) file = refl
-key_op (TsWrite q d) file = absurd (false≢true file)
-key_op (TsRewrite q n d) file = absurd (false≢true file)
-key_op (TsDelete q) file = absurd (false≢true file)
-key_op (TdWrite q d) file = absurd (false≢true file)
-key_op (TdRead q) file = absurd (false≢true file)
-key_op (TdDelete q) file = absurd (false≢true file)
+key_op _ file = absurd (false≢true file)
 
 -- it uses the writing end of its cells
 pub writes_op : (op : Op) → is_file_op op ≡ true → uses op Writing ≡ true
-writes_op (Write f k r) file = refl
-writes_op (Rewrite f k r) file = refl
-writes_op (Delete f k) file = refl
-writes_op (DeleteGeneric f p) file = refl
-writes_op (ReadUpdate f k) file = refl
-writes_op (TsWrite q d) file = refl
-writes_op (TsRewrite q n d) file = refl
-writes_op (TsDelete q) file = refl
-writes_op (TdWrite q d) file = refl
 writes_op (TdRead q) file = absurd (false≢true file)
-writes_op (TdDelete q) file = refl
+writes_op _ file = refl
 
 -- it acts on no transient data queue
 pub no_queue_op : (op : Op) → is_file_op op ≡ true → (q : Bytes) → touches op (Td q) ≡ false
-no_queue_op (Write f k r) file q = refl
-no_queue_op (Rewrite f k r) file q = refl
-no_queue_op (Delete f k) file q = refl
-no_queue_op (DeleteGeneric f p) file q = refl
-no_queue_op (ReadUpdate f k) file q = refl
-no_queue_op (TsWrite r d) file q = refl
-no_queue_op (TsRewrite r n d) file q = refl
-no_queue_op (TsDelete r) file q = refl
 no_queue_op (TdWrite r d) file q = absurd (false≢true file)
 no_queue_op (TdRead r) file q = absurd (false≢true file)
 no_queue_op (TdDelete r) file q = absurd (false≢true file)
+no_queue_op _ file q = refl
 
 -- what is so where its denial isn't
 denied : (b : Bool) → not b ≡ false → b ≡ true
@@ -77,15 +56,9 @@ touched_from (Rewrite f k r) file g l h = one_touched f g k l h
 touched_from (Delete f k) file g l h = one_touched f g k l h
 touched_from (ReadUpdate f k) file g l h = one_touched f g k l h
 touched_from (DeleteGeneric f p) file g l h = ap (is_below_prefix f p) (sym (split_cell g l)) ∙ denied _ h
-touched_from (TsWrite q d) file g l h = absurd (false≢true file)
-touched_from (TsRewrite q n d) file g l h = absurd (false≢true file)
-touched_from (TsDelete q) file g l h = absurd (false≢true file)
-touched_from (TdWrite q d) file g l h = absurd (false≢true file)
-touched_from (TdRead q) file g l h = absurd (false≢true file)
-touched_from (TdDelete q) file g l h = absurd (false≢true file)
+touched_from _ file g l h = absurd (false≢true file)
 
 -- so it is of any cell of the store: a command on a file leaves each queue
 pub acted_on : (op : Op) → is_file_op op ≡ true → (x : Cell) → leaves_any op (bytes_of x) ≡ false → touches op x ≡ true
 acted_on op file (Key g l) h = touched_from op file g l h
-acted_on op file (Ts q) h = absurd (true≢false h)
-acted_on op file (Td q) h = absurd (true≢false h)
+acted_on op file _ h = absurd (true≢false h)

@@ -252,12 +252,7 @@ covers-key v (Delete f k) x = refl
 covers-key v (DeleteGeneric f p) x = refl
 covers-key v (Write f k r) x = sym (and-false (is_read_of v f x))
 covers-key v (ReadUpdate f k) x = sym (and-false (is_read_of v f x))
-covers-key v (TsWrite q d) x = sym (and-false (is_read_of v [] x))
-covers-key v (TsRewrite q n d) x = sym (and-false (is_read_of v [] x))
-covers-key v (TsDelete q) x = sym (and-false (is_read_of v [] x))
-covers-key v (TdWrite q d) x = sym (and-false (is_read_of v [] x))
-covers-key v (TdRead q) x = sym (and-false (is_read_of v [] x))
-covers-key v (TdDelete q) x = sym (and-false (is_read_of v [] x))
+covers-key v _ x = sym (and-false (is_read_of v [] x))
 
 -- what it covers is its unit's read of its file
 pub covers-own : (v : ℕ) (op : Op) (x : UpdateRead) → covers v op x ≡ true → is_read_of v (file_of op) x ≡ true
@@ -268,14 +263,7 @@ covers-recoverable : (o : OpeningState) (v : ℕ) (op : Op) (x : UpdateRead) →
 covers-recoverable o v (Rewrite f k r) x h = refl
 covers-recoverable o v (Delete f k) x h = refl
 covers-recoverable o v (DeleteGeneric f p) x h = refl
-covers-recoverable o v (Write f k r) x h = absurd (false≢true h)
-covers-recoverable o v (ReadUpdate f k) x h = absurd (false≢true h)
-covers-recoverable o v (TsWrite q d) x h = absurd (false≢true h)
-covers-recoverable o v (TsRewrite q n d) x h = absurd (false≢true h)
-covers-recoverable o v (TsDelete q) x h = absurd (false≢true h)
-covers-recoverable o v (TdWrite q d) x h = absurd (false≢true h)
-covers-recoverable o v (TdRead q) x h = absurd (false≢true h)
-covers-recoverable o v (TdDelete q) x h = absurd (false≢true h)
+covers-recoverable o v _ x h = absurd (false≢true h)
 
 -- the same where it covers any
 pub covering-recoverable : (o : OpeningState) (v : ℕ) (op : Op) (xs : List UpdateRead) → list_any (covers v op) xs ≡ true →
@@ -382,16 +370,7 @@ module _ (o : OpeningState) (n : ℕ) (r : Resource) (v : ℕ) where
       (and_from _ _ (and_from _ _ (eq-eqb v v refl) (is_same-self f)) (is_same-self k))
       ∙ ap (λ b. (v == n) && b) (sym (or-false (is_one r (record_of f k))))) i
       || any_kept (by_read o n r) (covers v (ReadUpdate f k)) xs (λ x c. absurd (false≢true c)) i)
-  any_opened-read (DeleteGeneric f p) reads local xs = absurd (false≢true reads)
-  any_opened-read (Write f k d) reads local xs = absurd (false≢true reads)
-  any_opened-read (Rewrite f k d) reads local xs = absurd (false≢true reads)
-  any_opened-read (Delete f k) reads local xs = absurd (false≢true reads)
-  any_opened-read (TsWrite q d) reads local xs = absurd (false≢true reads)
-  any_opened-read (TsRewrite q m d) reads local xs = absurd (false≢true reads)
-  any_opened-read (TsDelete q) reads local xs = absurd (false≢true reads)
-  any_opened-read (TdWrite q d) reads local xs = absurd (false≢true reads)
-  any_opened-read (TdRead q) reads local xs = absurd (false≢true reads)
-  any_opened-read (TdDelete q) reads local xs = absurd (false≢true reads)
+  any_opened-read _ reads local xs = absurd (false≢true reads)
 
   -- the other commands open none
   pub any_opened-none : (op : Op) → is_read op ≡ false → (xs : List UpdateRead) →

@@ -123,12 +123,7 @@ recoverable_op o (Rewrite f k r) file = refl
 recoverable_op o (Delete f k) file = refl
 recoverable_op o (DeleteGeneric f p) file = refl
 recoverable_op o (ReadUpdate f k) file = refl
-recoverable_op o (TsWrite q d) file = absurd (false≢true file)
-recoverable_op o (TsRewrite q n d) file = absurd (false≢true file)
-recoverable_op o (TsDelete q) file = absurd (false≢true file)
-recoverable_op o (TdWrite q d) file = absurd (false≢true file)
-recoverable_op o (TdRead q) file = absurd (false≢true file)
-recoverable_op o (TdDelete q) file = absurd (false≢true file)
+recoverable_op o _ file = absurd (false≢true file)
 
 module _ (s : UnitsState) (u : Option ℕ) (op : Op) (a : Answer) (n : ℕ) (p : Resource → Bool) where
   -- the entry of the command

@@ -31,17 +31,17 @@ use Rattle.cics_history.specs.declared.ops.UnitState.{UnitState}
 use Rattle.cics_history.specs.declared.ops.UnitState.TheVariants.{Open, Committed, BackedOut}
 use Rattle.cics_units.specs.RegionFiles.{IsThere, opened_files, file_of as file_of_opening}
 use Rattle.cics_units.specs.FilesImages.{files_hold}
-use Rattle.cics_units.specs.StoreMatching.{StoreValue, UndoableValue, shown_store, cell_of_any, AnyLeads, any_content, IsAnyReady, any_undone, any_swept, any_holds, AnyKeep, AreImagesOf as KeptChanges}
+use Rattle.cics_units.specs.StoreMatching.{StoreValue, StoreWithImages, shown_store, cell_of_any, AnyLeads, any_content, IsAnyReady, any_undone, any_swept, any_holds, AnyKeep, AreImagesOf as KeptChanges}
 use Rattle.cics_units.specs.StoreInPlace.{IsUnmarked, AreInPlace}
 use Rattle.cics_units.specs.StoreEnds.{any_fixed, ends_settled, IsEnded}
-use Rattle.cics_units.specs.UnitImages.{kept_by, AreOthersKept, AreHeldForImages}
-use Rattle.cics_units.specs.UnitImagesLaws.{held_after_change}
+use Rattle.cics_units.specs.ImageRows.{kept_by, AreOthersKept, AreHeldForImages}
+use Rattle.cics_units.specs.ImageRowsLaws.{held_after_change}
 use Rattle.cics_units.specs.TableInPlace.{IsTableOf, table_executed, table_unlocked}
 use Rattle.cics_units.specs.Parts.{is_recoverable_in, IsRecordOf, IsFitOp}
 use Rattle.cics_units.specs.StorePlaces.{HavePlaces}
 use Rattle.cics_units.specs.Awaiting.{is_logical_in}
 use Rattle.cics_units.specs.RegionQueues.{opened_queue, opened_queues}
-use Rattle.cics_units.specs.KeptUnits.{AreKept, AreAsDefined, opened_store}
+use Rattle.cics_units.specs.KeptUnits.{AreValid, AreAsDefined, opened_store}
 use Rattle.cics_history.proofs.Stores.{same_store, apply-canonical, replay-canonical, initial-canonical, value_at_each}
 use Rattle.cics_history.proofs.States.{beginning-IsSound, execution-IsSound, unlock-IsSound, end-IsSound, agrees_of}
 use Rattle.cics_history.proofs.SerialRuns.{beginning-IsInOrder, execution-IsInOrder, commit-IsInOrder, backout-IsInOrder, unlock-IsInOrder, turns_of}
@@ -56,7 +56,7 @@ none_some e = cc
 
 -- ---- What is held back
 -- with more room the units keep the same images of the same store
-pub roomier_held : (st new : UndoableValue) → AreHeldForImages any_holds cell_of_any st.store st.images → new.store ≡ st.store →
+pub roomier_held : (st new : StoreWithImages) → AreHeldForImages any_holds cell_of_any st.store st.images → new.store ≡ st.store →
     ((w : ℕ) → kept_by new.images w ≡ kept_by st.images w) → AreHeldForImages any_holds cell_of_any new.store new.images
 roomier_held st new held store same c has =
     let before = held c (sym (ap (λ m. any_holds m c) store) ∙ has) in
@@ -82,7 +82,7 @@ opened_holds o (suc zero ∷ c) = refl
 opened_holds o (suc (suc zero) ∷ c) = refl
 opened_holds o (suc (suc (suc n)) ∷ c) = refl
 
-module _ (s : UnitsState) (st : UndoableValue) (t : Table) (is : AreKept s st t) where
+module _ (s : UnitsState) (st : StoreWithImages) (t : Table) (is : AreValid s st t) where
   -- ---- What the files are to the opening
   -- each file stands there as it was defined
   same_definition : (f : Bytes) → option_map (λ x. x.definition) (value_at f st.store.files) ≡ option_map (λ file. file.definition) (value_at f s.opening.files)
@@ -155,12 +155,10 @@ module _ (s : UnitsState) (st : UndoableValue) (t : Table) (is : AreKept s st t)
   ready_fits u (Delete f k) ready = defined_there f (and_parts (has_key f s.opening.files) _ ready).0
   ready_fits u (DeleteGeneric f p) ready = defined_there f (and_parts (has_key f s.opening.files) _ ready).0
   ready_fits u (ReadUpdate f k) ready = defined_there f (and_parts (has_key f s.opening.files) _ (and_parts _ _ ready).0).0
-  ready_fits u (TsWrite q d) ready = tt
-  ready_fits u (TsRewrite q n d) ready = tt
-  ready_fits u (TsDelete q) ready = tt
   ready_fits u (TdWrite q d) ready = defined_queue q (and_parts (has_key q s.opening.queues) _ ready).0
   ready_fits u (TdRead q) ready = defined_queue q ready
   ready_fits u (TdDelete q) ready = defined_queue q ready
+  ready_fits u _ ready = tt
 
   -- ---- The store is the replay
   -- what the files and queues show is what the kept history gives
@@ -180,7 +178,7 @@ module _ (s : UnitsState) (st : UndoableValue) (t : Table) (is : AreKept s st t)
 
   -- ---- Room for more images
   -- images in longer lists that keep the same
-  pub kept_roomier : (new : UndoableValue) → new.store ≡ st.store → ((w : ℕ) → kept_by new.images w ≡ kept_by st.images w) → length st.images ≤ length new.images → AreKept s new t
+  pub kept_roomier : (new : StoreWithImages) → new.store ≡ st.store → ((w : ℕ) → kept_by new.images w ≡ kept_by st.images w) → length st.images ≤ length new.images → AreValid s new t
   kept_roomier new store same longer = record {
     in_order = is.in_order;
     lawful_keys = is.lawful_keys;
@@ -247,7 +245,7 @@ module _ (o : OpeningState) (in_order : IsOpeningInOrder o) (lawful_keys : HasLa
       of_queue (Some y) = refl
 
   -- so the opened store is kept at the beginning
-  opened_kept : AreKept (beginning o) (record { store = opened_store o; images = [] }) []
+  opened_kept : AreValid (beginning o) (record { store = opened_store o; images = [] }) []
   opened_kept = record {
     in_order = in_order;
     lawful_keys = lawful_keys;
@@ -264,12 +262,12 @@ module _ (o : OpeningState) (in_order : IsOpeningInOrder o) (lawful_keys : HasLa
   }
 
   -- a region that begins with what its opening gives keeps it
-  pub kept_begins : (m : StoreValue) → m ≡ opened_store o → AreKept (beginning o) (record { store = m; images = [] }) []
-  kept_begins m opened = subst (λ x. AreKept (beginning o) (record { store = x; images = [] }) []) (sym opened) opened_kept
+  pub kept_begins : (m : StoreValue) → m ≡ opened_store o → AreValid (beginning o) (record { store = m; images = [] }) []
+  kept_begins m opened = subst (λ x. AreValid (beginning o) (record { store = x; images = [] }) []) (sym opened) opened_kept
 
 -- ---- A command
 
-module _ (s : UnitsState) (st new : UndoableValue) (t : Table) (is : AreKept s st t) (u : Option ℕ) (op : Op) (acts : may_act s u ≡ true)
+module _ (s : UnitsState) (st new : StoreWithImages) (t : Table) (is : AreValid s st t) (u : Option ℕ) (op : Op) (acts : may_act s u ≡ true)
     (free : awaited s u op ≡ None) where
   -- what the command answers
   abbrev answer : Answer
@@ -286,7 +284,7 @@ module _ (s : UnitsState) (st new : UndoableValue) (t : Table) (is : AreKept s s
         ((c : List ℕ) → is_unnamed cell_of_any (kept_by new.images (unit_or_next u s.outcomes)) c ≡ true → any_holds new.store c ≡ true → any_holds st.store c ≡ true) →
         ((c : List ℕ) → is_unnamed cell_of_any (kept_by st.images (unit_or_next u s.outcomes)) c ≡ false →
         is_unnamed cell_of_any (kept_by new.images (unit_or_next u s.outcomes)) c ≡ false) →
-        AreKept (entered s u op answer) new (table_executed s.opening (unit_or_next u s.outcomes) op answer.condition s.reads t)
+        AreValid (entered s u op answer) new (table_executed s.opening (unit_or_next u s.outcomes) op answer.condition s.reads t)
     kept_left place shown defined places apart held more = record {
       in_order = is.in_order;
       lawful_keys = is.lawful_keys;
@@ -307,12 +305,12 @@ module _ (s : UnitsState) (st new : UndoableValue) (t : Table) (is : AreKept s s
         begun_by (Some v) room = omega (arith, is.begun, apart.count)
 
 -- ---- Other update reads and counts
-module _ (s : UnitsState) (st : UndoableValue) (t left : Table) (is : AreKept s st t) (reads : List UpdateRead) (counts : List EnqCount) where
+module _ (s : UnitsState) (st : StoreWithImages) (t left : Table) (is : AreValid s st t) (reads : List UpdateRead) (counts : List EnqCount) where
   abbrev changed : UnitsState
   changed = record s { reads = reads; counts = counts }
 
   -- the units keep all with other reads and counts that leave them apart and in order, and that the table has
-  pub kept_with : IsSound changed → IsInOrder changed → IsTableOf changed left → AreKept changed st left
+  pub kept_with : IsSound changed → IsInOrder changed → IsTableOf changed left → AreValid changed st left
   kept_with sound order table = record {
     in_order = is.in_order;
     lawful_keys = is.lawful_keys;
@@ -338,15 +336,15 @@ module _ (s : UnitsState) (st : UndoableValue) (t left : Table) (is : AreKept s 
   }
 
 -- UNLOCK changes neither the store nor what holds of it
-pub kept_unlocked : (s : UnitsState) (st : UndoableValue) (t : Table) → AreKept s st t → (u : ℕ) (f : Bytes) → is_live s u ≡ true →
-    AreKept (after_unlock s u f) st (table_unlocked s.opening u f (read_at s.reads u f) t)
+pub kept_unlocked : (s : UnitsState) (st : StoreWithImages) (t : Table) → AreValid s st t → (u : ℕ) (f : Bytes) → is_live s u ≡ true →
+    AreValid (after_unlock s u f) st (table_unlocked s.opening u f (read_at s.reads u f) t)
 kept_unlocked s st t is u f live = kept_with s st t (table_unlocked s.opening u f (read_at s.reads u f) t) is (after_unlock s u f).reads s.counts
     (unlock-IsSound s u f is.sound) (unlock-IsInOrder s is.order u f) (table_unlocked_of s t u f is.sound is.table live)
 
 -- ---- The end of a unit
 -- what the end of a unit leaves is kept
-pub kept_ended : (s : UnitsState) (st new : UndoableValue) (t : Table) → AreKept s st t → (u : ℕ) → is_live s u ≡ true → (outcome : UnitState) → is_open outcome ≡ false →
-    AreOthersKept st.images new.images u → IsEnded s st.store new.store st.images new.images u outcome → AreKept (after_end s u outcome) new (released t u)
+pub kept_ended : (s : UnitsState) (st new : StoreWithImages) (t : Table) → AreValid s st t → (u : ℕ) → is_live s u ≡ true → (outcome : UnitState) → is_open outcome ≡ false →
+    AreOthersKept st.images new.images u → IsEnded s st.store new.store st.images new.images u outcome → AreValid (after_end s u outcome) new (released t u)
 kept_ended s st new t is u live outcome shut others end = record {
   in_order = is.in_order;
   lawful_keys = is.lawful_keys;
@@ -370,14 +368,14 @@ kept_ended s st new t is u live outcome shut others end = record {
     in_order BackedOut shut = backout-IsInOrder s u live is.order
     in_order Open shut = absurd (true≢false shut)
 
-module _ (s : UnitsState) (st new : UndoableValue) (t : Table) (is : AreKept s st t) (u : ℕ) (live : is_live s u ≡ true)
+module _ (s : UnitsState) (st new : StoreWithImages) (t : Table) (is : AreValid s st t) (u : ℕ) (live : is_live s u ≡ true)
     (gone : kept_by new.images u ≡ []) (others : AreOthersKept st.images new.images u) where
   -- BACKOUT: the unit's images are undone, the newest first, and then their cells are swept
   pub kept_backed_out : ((c : List ℕ) → LeadBack AnyLeads (images_of cell_of_any c (kept_by st.images u)) (any_content st.store c) (any_content new.store c)) →
       AnyKeep (is_unnamed cell_of_any (kept_by st.images u)) st.store new.store → any_fixed new.store ≡ any_fixed st.store →
       (AreHeldForImages any_holds cell_of_any st.store st.images → AreHeldForImages any_holds cell_of_any new.store new.images) →
       new.store ≡ all_swept any_swept cell_of_any (fold any_undone st.store (kept_by st.images u)) (kept_by st.images u) →
-      AreKept (after_end s u BackedOut) new (released t u)
+      AreValid (after_end s u BackedOut) new (released t u)
   kept_backed_out led keeps fixed held whole = kept_ended s st new t is u live BackedOut refl others
       (backed_out_ended s st.store new.store st.images new.images u is.in_order is.sound live is.place is.canonical is.rows gone others led keeps fixed held whole)
 
@@ -391,7 +389,7 @@ module _ (s : UnitsState) (st new : UndoableValue) (t : Table) (is : AreKept s s
       (held : AreHeldForImages any_holds cell_of_any settled st.images → AreHeldForImages any_holds cell_of_any new.store new.images)
       (whole : new.store ≡ all_swept any_swept cell_of_any settled (kept_by st.images u)) where
     -- so all is kept without the unit
-    pub kept_committed : AreKept (after_end s u Committed) new (released t u)
+    pub kept_committed : AreValid (after_end s u Committed) new (released t u)
     kept_committed = kept_ended s st new t is u live Committed refl others
         (ends_first_ended s st.store settled new.store st.images new.images u is.in_order is.sound live is.place is.canonical is.rows refl gone others contents keeps fixed held whole)
 

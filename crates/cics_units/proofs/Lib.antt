@@ -25,7 +25,6 @@ pub mod Plain
 pub mod PlainOpening
 pub mod PlainTrace
 pub mod TableValues
-pub mod GivenRecords
 mod KeptUnits
 mod ShownUnits
 mod Enqueuing
@@ -34,19 +33,14 @@ mod StoreExamples
 pub mod StoreQueues
 pub mod StoreInPlace
 pub mod Awaiting
-pub mod StoreCommitted
-pub mod StoreBackedOut
 pub mod StoreExecuted
-pub mod StoreExecution
 pub mod TransChanges
 pub mod StoreQueueExecuted
 pub mod TempChanges
-pub mod StoreTempExecuted
 pub mod Recoveries
 pub mod QueueClauses
 pub mod StorePlaces
 pub mod QueuesHeld
-pub mod StoreCalls
 mod TsReadings
 pub mod FileCommands
 pub mod StoreEnds
@@ -54,7 +48,7 @@ pub mod StoreSettled
 pub mod StoreEnded
 pub mod EndsFirst
 pub mod Applied
-pub mod DoneParts
+pub mod DoneCommands
 pub mod AppliedInPlace
 mod AppliedKept
 mod EndExamples

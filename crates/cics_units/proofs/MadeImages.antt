@@ -66,16 +66,7 @@ stands_for s n f k i image = record {
 
 images_by-one : (s : Store) (op : Op) (cells : Cells) → is_generic op ≡ false → images_by s op cells ≡ image_of op (cells (cell_of_op op))
 images_by-one s (DeleteGeneric f p) cells one = absurd (true≢false one)
-images_by-one s (Write f k r) cells one = refl
-images_by-one s (Rewrite f k r) cells one = refl
-images_by-one s (Delete f k) cells one = refl
-images_by-one s (ReadUpdate f k) cells one = refl
-images_by-one s (TsWrite q d) cells one = refl
-images_by-one s (TsRewrite q n d) cells one = refl
-images_by-one s (TsDelete q) cells one = refl
-images_by-one s (TdWrite q d) cells one = refl
-images_by-one s (TdRead q) cells one = refl
-images_by-one s (TdDelete q) cells one = refl
+images_by-one s _ cells one = refl
 
 module _ (s : StoreValue) (op : Op) (one : is_generic op ≡ false) where
   abbrev before : Cells

@@ -33,11 +33,11 @@ use Rattle.cics_history.specs.Serial.{NoneIsOpen}
 use Rattle.cics_history.proofs.Joining.{same_cell-refl}
 use Rattle.cics_history.proofs.Waiting.{used_known}
 use Rattle.cics_history.specs.declared.ops.UnitState.TheVariants.{Open}
-use Rattle.cics_units.specs.StoreMatching.{AnyImage, UndoableValue, cell_of_any, any_holds}
+use Rattle.cics_units.specs.StoreMatching.{AnyImage, StoreWithImages, cell_of_any, any_holds}
 use Rattle.cics_units.specs.StoreMatching as matching
 use Rattle.cics_units.specs.StoreInPlace.{HasMarks}
-use Rattle.cics_units.specs.UnitImages.{kept_by}
-use Rattle.cics_units.specs.KeptUnits.{AreKept}
+use Rattle.cics_units.specs.ImageRows.{kept_by}
+use Rattle.cics_units.specs.KeptUnits.{AreValid}
 use Rattle.cics_units.specs.HeldBack.{HoldsNothingBack}
 use Rattle.cics_units.proofs.KeptUnits.{logical_alike}
 
@@ -69,7 +69,7 @@ none_kept (File i ∷ l) kept = absurd kept
 none_kept (TempStorage i ∷ l) kept = absurd kept
 none_kept (TransData i ∷ l) kept = absurd kept
 
-module _ (s : UnitsState) (st : UndoableValue) (t : Table) (is : AreKept s st t) where
+module _ (s : UnitsState) (st : StoreWithImages) (t : Table) (is : AreValid s st t) where
   -- ---- For whom something is held back
   -- a unit that hasn't begun keeps no image
   module _ (u : ℕ) (after : length s.outcomes ≤ u) where

@@ -66,17 +66,10 @@ ends_none (r ∷ rs) = ap (λ l. r ∷ l) (ends_none rs)
 module _ (u : ℕ) where
   covers-false : (op : Op) → ((f k r : Bytes) → op ≡ Rewrite f k r → ⊥) → ((f k : Bytes) → op ≡ Delete f k → ⊥) →
       ((f p : Bytes) → op ≡ DeleteGeneric f p → ⊥) → (r : UpdateRead) → covers u op r ≡ false
-  covers-false (Write f k x) no_rewrite no_delete no_generic r = refl
   covers-false (Rewrite f k x) no_rewrite no_delete no_generic r = absurd (no_rewrite f k x refl)
   covers-false (Delete f k) no_rewrite no_delete no_generic r = absurd (no_delete f k refl)
   covers-false (DeleteGeneric f p) no_rewrite no_delete no_generic r = absurd (no_generic f p refl)
-  covers-false (ReadUpdate f k) no_rewrite no_delete no_generic r = refl
-  covers-false (TsWrite q d) no_rewrite no_delete no_generic r = refl
-  covers-false (TsRewrite q n d) no_rewrite no_delete no_generic r = refl
-  covers-false (TsDelete q) no_rewrite no_delete no_generic r = refl
-  covers-false (TdWrite q d) no_rewrite no_delete no_generic r = refl
-  covers-false (TdRead q) no_rewrite no_delete no_generic r = refl
-  covers-false (TdDelete q) no_rewrite no_delete no_generic r = refl
+  covers-false _ no_rewrite no_delete no_generic r = refl
 
   pub uncovered_any : (op : Op) (reads : List UpdateRead) → ((f k r : Bytes) → op ≡ Rewrite f k r → ⊥) → ((f k : Bytes) → op ≡ Delete f k → ⊥) →
       ((f p : Bytes) → op ≡ DeleteGeneric f p → ⊥) → list_any (covers u op) reads ≡ false

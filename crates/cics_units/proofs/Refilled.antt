@@ -12,8 +12,7 @@ use Rattle.cics_units.specs.RegionFiles.{refilled}
 
 turned : (o : Ordering) → T (is_lt o) → ordering_reverse o ≡ Greater
 turned Less t = refl
-turned Equal t = absurd t
-turned Greater t = absurd t
+turned _ t = absurd t
 
 both : (a b : Bool) → T (a && b) → T a × T b
 both true b t = (tt, t)

@@ -1,13 +1,10 @@
 -- What the units show after each call is what the call makes of their state.
-use Rattle.std.proofs.Common.{◌≡◌, ℕ, ◌+◌, length-append, ◌<◌, ◌≤◌, Bool, true, false, not, Option, Some, None, List, [], ◌∷◌, ◌++◌, length, refl, ap, sym, subst, ◌∙◌, arith}
-use Rattle.std.specs.Prelude.{if◌then◌else◌, IfSome, filter, slice_set, ◌==◌, All}
+use Rattle.std.proofs.Common.{◌≡◌, ℕ, ◌+◌, length-append, ◌<◌, ◌≤◌, Bool, true, false, not, Option, Some, None, List, [], ◌∷◌, ◌++◌, length, refl, ap, sym, subst, ◌∙◌, arith, inl, inr, eqb}
+use Rattle.std.specs.Prelude.{if◌then◌else◌, IfSome, filter, slice_set, ◌==◌, All, is_some}
 use Rattle.std.proofs.lemmas.List.Elements.{All-head, All-tail}
-use Rattle.cics_names.specs.Keyed.{is_same}
+use Rattle.cics_names.specs.Keyed.{is_same, Bytes, Map}
 use Rattle.std.specs.List.{list_any}
-use Rattle.std.specs.Prelude.{is_some}
-use Rattle.std.proofs.Common.{inl, inr, eqb}
 use Rattle.std.proofs.lemmas.Bool.{cases_Bool, and_parts, or_left, or_right, false≢true, and_from, lt-ltb}
-use Rattle.cics_names.specs.Keyed.{Bytes, Map}
 use Rattle.cics_tempstor.specs.Queues.{places_of}
 use Rattle.cics_enqueue.specs.Resources.{Table, released}
 use Rattle.cics_history.specs.Openings.{OpeningState}
@@ -21,14 +18,14 @@ use Rattle.cics_history.specs.Records.{file_of}
 use Rattle.cics_units.specs.Uses.{uses_if, listed, AreFreeFor}
 use Rattle.cics_units.specs.Cores.{IsBoundFor}
 use Rattle.cics_units.specs.declared.units_core.BoundOp.{BoundOp}
-use Rattle.cics_units.specs.Awaiting.{is_writer, unit_in_way}
-use Rattle.cics_units.specs.QueueChanges.{is_trans, is_temp, queue_of as queue_on}
+use Rattle.cics_units.specs.Awaiting.{is_writer, IsOwn, unit_in_way}
+use Rattle.cics_units.specs.QueueChanges.{is_temp, queue_of as queue_on}
 use Rattle.cics_units.specs.Applied.{IsApplied, IsBound, IsSeen}
 use Rattle.cics_units.specs.Executed.{IsExecuted}
-use Rattle.cics_units.specs.UnitImages.{kept_by, AreOthersKept}
+use Rattle.cics_units.specs.ImageRows.{kept_by, AreOthersKept}
 use Rattle.cics_units.specs.TableInPlace.{is_read, counts_in, table_changed, table_executed, table_unlocked}
-use Rattle.cics_units.specs.Parts.{CoreValue, ArePartsKept, given_record}
-use Rattle.cics_units.specs.KeptUnits.{state_shown, AreKept}
+use Rattle.cics_units.specs.Parts.{CoreValue, IsCoreAsBefore, given_record}
+use Rattle.cics_units.specs.KeptUnits.{state_shown, AreValid}
 use Rattle.cics_history.specs.declared.ops.Op.{Op}
 use Rattle.cics_history.specs.declared.ops.Op.TheVariants.{Write, Rewrite, Delete, DeleteGeneric, ReadUpdate, TsWrite, TsRewrite, TsDelete, TdWrite, TdRead, TdDelete}
 use Rattle.cics_history.specs.declared.ops.Answer.{Answer}
@@ -51,7 +48,7 @@ acts_of s None opened = refl
 acts_of s (Some u) opened = live_of s u opened
 
 module _ (o : OpeningState) (trace : List Entry) (outcomes : List UnitState) (commits : List ℕ) (p new : CoreValue)
-    (is : AreKept (state_shown o trace outcomes commits p) p.stores p.table) where
+    (is : AreValid (state_shown o trace outcomes commits p) p.stores p.table) where
   abbrev before : UnitsState
   before = state_shown o trace outcomes commits p
 
@@ -61,7 +58,7 @@ module _ (o : OpeningState) (trace : List Entry) (outcomes : List UnitState) (co
     abbrev unlocked : CoreValue
     unlocked = record p { table = table_unlocked o u f (read_at p.reads u f) p.table; reads = filter (λ r. not (is_read_of u f r)) p.reads }
 
-    unlocked_then : AreKept (after_unlock before u f) p.stores unlocked.table
+    unlocked_then : AreValid (after_unlock before u f) p.stores unlocked.table
     unlocked_then = kept_unlocked before p.stores p.table is u f live
 
     state_then : state_shown o trace outcomes commits unlocked ≡ after_unlock before u f
@@ -70,13 +67,13 @@ module _ (o : OpeningState) (trace : List Entry) (outcomes : List UnitState) (co
     pub unlocked_state : state_shown o trace outcomes commits new ≡ after_unlock before u f
     unlocked_state = ap (state_shown o trace outcomes commits) done ∙ state_then
 
-    pub unlocked_kept : AreKept (state_shown o trace outcomes commits new) new.stores new.table
-    unlocked_kept = subst (λ n. AreKept (state_shown o trace outcomes commits n) n.stores n.table) (sym done)
-        (subst (λ s. AreKept s p.stores unlocked.table) (sym state_then) unlocked_then)
+    pub unlocked_kept : AreValid (state_shown o trace outcomes commits new) new.stores new.table
+    unlocked_kept = subst (λ n. AreValid (state_shown o trace outcomes commits n) n.stores n.table) (sym done)
+        (subst (λ s. AreValid s p.stores unlocked.table) (sym state_then) unlocked_then)
 
   -- ---- The end of a unit
   module _ (u : ℕ) (live : is_live before u ≡ true) (outcome : UnitState) (table : new.table ≡ released p.table u)
-      (reads : new.reads ≡ filter (λ r. not (r.unit == u)) p.reads) (kept : AreKept (after_end before u outcome) new.stores (released p.table u)) where
+      (reads : new.reads ≡ filter (λ r. not (r.unit == u)) p.reads) (kept : AreValid (after_end before u outcome) new.stores (released p.table u)) where
     pub ended_state : state_shown o trace (slice_set outcomes u outcome) (commits_with outcome u commits) new ≡ after_end before u outcome
     ended_state = λ i. record before {
       outcomes = slice_set outcomes u outcome;
@@ -86,13 +83,13 @@ module _ (o : OpeningState) (trace : List Entry) (outcomes : List UnitState) (co
       next = sym kept.places i;
     }
 
-    pub ended_kept : AreKept (state_shown o trace (slice_set outcomes u outcome) (commits_with outcome u commits) new) new.stores new.table
-    ended_kept = subst (λ s. AreKept s new.stores new.table) (sym ended_state) (subst (AreKept (after_end before u outcome) new.stores) (sym table) kept)
+    pub ended_kept : AreValid (state_shown o trace (slice_set outcomes u outcome) (commits_with outcome u commits) new) new.stores new.table
+    ended_kept = subst (λ s. AreValid s new.stores new.table) (sym ended_state) (subst (AreValid (after_end before u outcome) new.stores) (sym table) kept)
 
   -- ---- A command
   module _ (u : Option ℕ) (op : Op) (acts : may_act before u ≡ true) (free : awaited before u op ≡ None) (ready : is_ready_op before u op ≡ true)
       (room : unit_or_next u outcomes < length p.stores.images) (answer : Answer) (bound : IsBound p.stores.store op (is_recoverable o op)) (own : Bool)
-      (own_is : is_trans op ≡ true → own ≡ is_writer p.table (unit_or_next u outcomes) (queue_on op))
+      (own_is : IsOwn op (is_writer p.table (unit_or_next u outcomes) (queue_on op)) own)
       (applied : IsApplied p.stores.store new.stores.store (kept_by p.stores.images (unit_or_next u outcomes)) (kept_by new.stores.images (unit_or_next u outcomes)) op (is_recoverable o op) own answer)
       (others : AreOthersKept p.stores.images new.stores.images (unit_or_next u outcomes))
       (table : new.table ≡ table_executed o (unit_or_next u outcomes) op answer.condition p.reads p.table)
@@ -103,8 +100,8 @@ module _ (o : OpeningState) (trace : List Entry) (outcomes : List UnitState) (co
     abbrev entry : Entry
     entry = record { unit = unit_or_next u outcomes; op = op; answer = answer }
 
-    kept_then : AreKept (entered before u op answer) new.stores (table_executed o (unit_or_next u outcomes) op answer.condition p.reads p.table)
-    kept_then = subst (λ a. AreKept (entered before u op a) new.stores (table_executed o (unit_or_next u outcomes) op a.condition p.reads p.table)) (sym told)
+    kept_then : AreValid (entered before u op answer) new.stores (table_executed o (unit_or_next u outcomes) op answer.condition p.reads p.table)
+    kept_then = subst (λ a. AreValid (entered before u op a) new.stores (table_executed o (unit_or_next u outcomes) op a.condition p.reads p.table)) (sym told)
         (kept_applied before p.stores new.stores p.table is u op acts free ready room own answer own_is bound applied others)
 
     entered_state : state_shown o (trace ++ entry ∷ []) (outcomes_with u outcomes) commits new ≡ entered before u op answer
@@ -120,8 +117,8 @@ module _ (o : OpeningState) (trace : List Entry) (outcomes : List UnitState) (co
     pub executed_state : state_shown o (trace ++ entry ∷ []) (outcomes_with u outcomes) commits new ≡ after_execution before u op
     executed_state = entered_state ∙ ap (entered before u op) told ∙ sym (is_entered before p.stores new.stores p.table is u op acts free)
 
-    pub executed_shown : AreKept (state_shown o (trace ++ entry ∷ []) (outcomes_with u outcomes) commits new) new.stores new.table
-    executed_shown = subst (λ s. AreKept s new.stores new.table) (sym entered_state) (subst (AreKept (entered before u op answer) new.stores) (sym table) kept_then)
+    pub executed_shown : AreValid (state_shown o (trace ++ entry ∷ []) (outcomes_with u outcomes) commits new) new.stores new.table
+    executed_shown = subst (λ s. AreValid s new.stores new.table) (sym entered_state) (subst (AreValid (entered before u op answer) new.stores) (sym table) kept_then)
 
 -- a unit that begins is one more
 pub with_len : (u : Option ℕ) (outs : List UnitState) → length (outcomes_with u outs) ≤ length outs + 1
@@ -141,8 +138,8 @@ read_short (r ∷ rs) u f short =
 -- what has just begun shows the beginning
 pub begun_shown : (o : OpeningState) (trace : List Entry) (outcomes : List UnitState) (commits : List ℕ) (p : CoreValue) (m : StoreValue) →
     p ≡ record { stores = record { store = m; images = [] }; table = []; reads = [] } → trace ≡ [] → outcomes ≡ [] → commits ≡ [] →
-    AreKept (beginning o) (record { store = m; images = [] }) [] → AreKept (state_shown o trace outcomes commits p) p.stores p.table
-begun_shown o trace outcomes commits p m parts no_entry no_unit no_commit kept = rw (parts, no_entry, no_unit, no_commit) (subst (λ next. AreKept (record (beginning o) { next = next })
+    AreValid (beginning o) (record { store = m; images = [] }) [] → AreValid (state_shown o trace outcomes commits p) p.stores p.table
+begun_shown o trace outcomes commits p m parts no_entry no_unit no_commit kept = rw (parts, no_entry, no_unit, no_commit) (subst (λ next. AreValid (record (beginning o) { next = next })
     (record { store = m; images = [] }) []) kept.places kept)
 
 -- ---- A command that is bound
@@ -155,13 +152,13 @@ pub record IsAsked (o : OpeningState) (trace : List Entry) (outcomes : List Unit
   pub recoverable : b.recoverable ≡ is_recoverable o b.op.now
   pub stands : IsBound p.stores.store b.op.now (is_recoverable o b.op.now)
   pub used : listed b.uses ≡ uses_if (is_recoverable o b.op.now) b.op.now
-  pub own : is_trans b.op.now ≡ true → b.own ≡ is_writer p.table (unit_or_next u outcomes) (queue_on b.op.now)
+  pub own : IsOwn b.op.now (is_writer p.table (unit_or_next u outcomes) (queue_on b.op.now)) b.own
   -- whom it has to wait for is the unit in its way
   pub way : h ≡ unit_in_way p.table p.stores.store.trans_data (is_recoverable o b.op.now) u (unit_or_next u outcomes) b.op.now
 
 -- ---- Calls of the core
 module _ (o : OpeningState) (trace : List Entry) (outcomes : List UnitState) (commits : List ℕ) (p new : CoreValue)
-    (is : AreKept (state_shown o trace outcomes commits p) p.stores p.table) where
+    (is : AreValid (state_shown o trace outcomes commits p) p.stores p.table) where
   abbrev state_before : UnitsState
   state_before = state_shown o trace outcomes commits p
 
@@ -170,12 +167,12 @@ module _ (o : OpeningState) (trace : List Entry) (outcomes : List UnitState) (co
   shows entries outs turns reads t next = record { opening = o; trace = entries; outcomes = outs; commits = turns; reads = reads; counts = counts_in t; next = next }
 
   -- after a refused call all is as it was, but for more room
-  pub refused_kept : ArePartsKept p new → (entries : List Entry) (outs : List UnitState) (turns : List ℕ) → entries ≡ trace → outs ≡ outcomes → turns ≡ commits →
-      AreKept (state_shown o entries outs turns new) new.stores new.table
+  pub refused_kept : IsCoreAsBefore p new → (entries : List Entry) (outs : List UnitState) (turns : List ℕ) → entries ≡ trace → outs ≡ outcomes → turns ≡ commits →
+      AreValid (state_shown o entries outs turns new) new.stores new.table
   refused_kept same entries outs turns entries_same outs_same turns_same =
-      subst (λ t. AreKept (shows entries outs turns new.reads t (places_of new.stores.store.temp_storage)) new.stores t) (sym same.table)
-      (subst (λ r. AreKept (shows entries outs turns r p.table (places_of new.stores.store.temp_storage)) new.stores p.table) (sym same.reads)
-      (subst (λ (m : StoreValue). AreKept (shows entries outs turns p.reads p.table (places_of m.temp_storage)) new.stores p.table) (sym same.stores.store)
+      subst (λ t. AreValid (shows entries outs turns new.reads t (places_of new.stores.store.temp_storage)) new.stores t) (sym same.table)
+      (subst (λ r. AreValid (shows entries outs turns r p.table (places_of new.stores.store.temp_storage)) new.stores p.table) (sym same.reads)
+      (subst (λ (m : StoreValue). AreValid (shows entries outs turns p.reads p.table (places_of m.temp_storage)) new.stores p.table) (sym same.stores.store)
       (rw (entries_same, outs_same, turns_same) (kept_roomier state_before p.stores p.table is new.stores same.stores.store same.stores.kept same.stores.longer))))
 
   module _ (u : Option ℕ) (op : Op) (acts : may_act state_before u ≡ true) where
@@ -218,8 +215,8 @@ module _ (o : OpeningState) (trace : List Entry) (outcomes : List UnitState) (co
       roomy_state : state_shown o trace outcomes commits roomy_parts ≡ state_before
       roomy_state = λ i. record state_before { next = ap (λ (m : StoreValue). places_of m.temp_storage) done.room.store i }
 
-      roomy_kept : AreKept (state_shown o trace outcomes commits roomy_parts) done.roomy p.table
-      roomy_kept = subst (λ s. AreKept s done.roomy p.table) (sym roomy_state) (kept_roomier state_before p.stores p.table is done.roomy done.room.store done.room.kept done.room.longer)
+      roomy_kept : AreValid (state_shown o trace outcomes commits roomy_parts) done.roomy p.table
+      roomy_kept = subst (λ s. AreValid s done.roomy p.table) (sym roomy_state) (kept_roomier state_before p.stores p.table is done.roomy done.room.store done.room.kept done.room.longer)
 
       -- so the command may go on where the room is
       roomy_acts : may_act (state_shown o trace outcomes commits roomy_parts) u ≡ true
@@ -252,7 +249,7 @@ module _ (o : OpeningState) (trace : List Entry) (outcomes : List UnitState) (co
       parts_state = executed_state o trace outcomes commits roomy_parts new roomy_kept u op roomy_acts roomy_free roomy_ready done.begun answer bound_then done.own done.own_is done.done.applied done.done.others table_is done.done.reads
           ∙ ap (λ s. after_execution s u op) roomy_state
 
-      pub parts_kept : AreKept (state_shown o (trace ++ record { unit = unit_or_next u outcomes; op = op; answer = answer } ∷ []) (outcomes_with u outcomes) commits new) new.stores new.table
+      pub parts_kept : AreValid (state_shown o (trace ++ record { unit = unit_or_next u outcomes; op = op; answer = answer } ∷ []) (outcomes_with u outcomes) commits new) new.stores new.table
       parts_kept = executed_shown o trace outcomes commits roomy_parts new roomy_kept u op roomy_acts roomy_free roomy_ready done.begun answer bound_then done.own done.own_is done.done.applied done.done.others table_is done.done.reads
 
       pub answered : Answered (unit_or_next u outcomes) answer ≡ execution state_before u op
@@ -277,7 +274,7 @@ module _ (o : OpeningState) (trace : List Entry) (outcomes : List UnitState) (co
       recoverable = as_opened;
       stands = subst (IsBound p.stores.store b.op.now) as_opened bound.bound;
       used = bound.used ∙ ap (λ r. uses_if r b.op.now) as_opened;
-      own = λ trans. bound.own trans ∙ ap (λ n. is_writer p.table n (queue_on b.op.now)) acting;
+      own = subst (λ n. IsOwn b.op.now (is_writer p.table n (queue_on b.op.now)) b.own) acting bound.own;
       way = told n bound ∙ ap (λ r. unit_in_way p.table p.stores.store.trans_data r u n b.op.now) as_opened
           ∙ ap (λ n. unit_in_way p.table p.stores.store.trans_data (is_recoverable o b.op.now) u n b.op.now) acting;
     }
@@ -303,16 +300,7 @@ none_open_of s u (ReadUpdate f k) known ready read = by u (and_parts _ _ ready).
         nothing : (b : Option Bytes) → not (is_some b) ≡ true → b ≡ None
         nothing None t = refl
         nothing (Some k) t = absurd (false≢true t)
-none_open_of s u (DeleteGeneric f p) known ready read = absurd (false≢true read)
-none_open_of s u (Write f k r) known ready read = absurd (false≢true read)
-none_open_of s u (Rewrite f k r) known ready read = absurd (false≢true read)
-none_open_of s u (Delete f k) known ready read = absurd (false≢true read)
-none_open_of s u (TsWrite q d) known ready read = absurd (false≢true read)
-none_open_of s u (TsRewrite q n d) known ready read = absurd (false≢true read)
-none_open_of s u (TsDelete q) known ready read = absurd (false≢true read)
-none_open_of s u (TdWrite q d) known ready read = absurd (false≢true read)
-none_open_of s u (TdRead q) known ready read = absurd (false≢true read)
-none_open_of s u (TdDelete q) known ready read = absurd (false≢true read)
+none_open_of s u _ known ready read = absurd (false≢true read)
 
 -- what follows of whatever is there
 pub if_open : {P : ℕ → Type 0} (o : Option ℕ) → ((h : ℕ) → o ≡ Some h → P h) → IfSome o P

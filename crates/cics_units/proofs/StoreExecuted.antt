@@ -16,17 +16,10 @@ use Rattle.cics_units.specs.StoreMatching.{StoreValue, AnyImage, cell_of_any, An
 
 -- a command that acts on no transient data queue marks nothing
 pub no_mark : (op : Op) → ((q : Bytes) → touches op (Td q) ≡ false) → (queues : Queues) → mark_images op queues ≡ []
-no_mark (Write f k r) none queues = refl
-no_mark (Rewrite f k r) none queues = refl
-no_mark (Delete f k) none queues = refl
-no_mark (DeleteGeneric f p) none queues = refl
-no_mark (ReadUpdate f k) none queues = refl
-no_mark (TsWrite q d) none queues = refl
-no_mark (TsRewrite q n d) none queues = refl
-no_mark (TsDelete q) none queues = refl
 no_mark (TdWrite q d) none queues = absurd (true≢false (sym (same_cell-refl (Td q)) ∙ none q))
 no_mark (TdRead q) none queues = absurd (true≢false (sym (same_cell-refl (Td q)) ∙ none q))
 no_mark (TdDelete q) none queues = absurd (true≢false (sym (same_cell-refl (Td q)) ∙ none q))
+no_mark _ none queues = refl
 
 -- every image is of some cell
 pub all_of : (is : List AnyImage) → AreOf cell_of_any (λ c. true) is

@@ -46,7 +46,7 @@ use Rattle.cics_history.proofs.MarkedParts.{queue_of-shown}
 use Rattle.cics_units.specs.FilesImages.{cell_of_image, content_in, IsReadyFor, files_undone, FilesKeep, definitions_of}
 use Rattle.cics_units.specs.FilesImagesLaws as files
 use Rattle.cics_units.specs.FilesImagesLaws.{content_of_cell}
-use Rattle.cics_units.specs.UnitImages.{kept_by}
+use Rattle.cics_units.specs.ImageRows.{kept_by}
 use Rattle.cics_units.specs.StoreMatching.{StoreValue, AnyImage, shown_store, shown_records, end_cell, bytes_of, cell_of_any, any_content, IsAnyReady, any_undone, AnyKeep, AreImagesOf}
 use Rattle.cics_units.specs.StoreInPlace.{HasMarks, IsUnmarked, AreInPlace, holds_end, is_free_end, is_free_split, is_free}
 use Rattle.cics_units.proofs.StoreMatched.{is_of_end, each_passes, unnamed_kept, unmarked_kept}
@@ -293,10 +293,9 @@ shows_history s m images place x = elim (cases_Bool (is_plain s.opening x)) [
     is_so false e = absurd (true≢false e)
 
     logical : (x : Cell) → is_plain s.opening x ≡ false → content (shown_store m) x ≡ content (store_of s) x
-    logical (Key f k) e = absurd (true≢false e)
-    logical (Ts q) e = absurd (true≢false e)
     logical (Td q) e =
         let l = is_so (queue_logical s.opening q) e in
         let queue = place.queues q l in
         shown_td m q ∙ ap (option_map queue_of) queue.1 ∙ ap Some (queue_of-shown queue.0)
         ∙ ap (λ k. Some (shown_marks k)) (sym queue.2.marks) ∙ sym (shows_of s place.marks place.ends q l)
+    logical _ e = absurd (true≢false e)

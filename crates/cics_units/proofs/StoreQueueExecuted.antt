@@ -34,6 +34,7 @@ use Rattle.cics_units.specs.FilesImages.{cell_of_image, files_content, IsReadyFo
 use Rattle.cics_units.specs.FilesImagesLaws as files
 use Rattle.cics_units.specs.StoreMatching.{StoreValue, AnyImage, end_cell, bytes_of, bytes_of_end, any_undone, AnyKeep, AreImagesOf}
 use Rattle.cics_units.specs.StoreInPlace.{AreInPlace}
+use Rattle.cics_units.specs.Awaiting.{IsOwn}
 use Rattle.cics_units.specs.QueueChanges.{queue_of, leaves_end, is_left_end, is_left_split, is_left, with_image, in_queue}
 use Rattle.cics_units.proofs.StoreInPlace.{AreReady, ready_where}
 use Rattle.cics_units.proofs.StoreExecuted.{IsAnyImage, all_of}
@@ -91,13 +92,13 @@ ready_with m n q end (Some i) is ready undoes kept =
 
 -- ---- the ends that a command leaves
 -- a command that changes an end uses it, or the unit holds it
-pub uses_or_own : (op : Op) (own : Bool) (end : End) → leaves_end op own end ≡ false → (uses op end ≡ true) ⊎ ((end ≡ Writing) × (own ≡ true))
-uses_or_own (TdWrite q d) own Reading changed = absurd (true≢false changed)
-uses_or_own (TdRead q) true Writing changed = inr (refl, refl)
-uses_or_own (TdRead q) false Writing changed = absurd (true≢false changed)
-uses_or_own (TdWrite q d) own Writing changed = inl refl
-uses_or_own (TdRead q) own Reading changed = inl refl
-uses_or_own op own end changed = inl refl
+pub uses_or_own : (op : Op) (own writer : Bool) (end : End) → IsOwn op writer own → leaves_end op own end ≡ false → (uses op end ≡ true) ⊎ ((end ≡ Writing) × (writer ≡ true))
+uses_or_own (TdWrite q d) own writer Reading is changed = absurd (true≢false changed)
+uses_or_own (TdRead q) true writer Writing is changed = inr (refl, sym is)
+uses_or_own (TdRead q) false writer Writing is changed = absurd (true≢false changed)
+uses_or_own (TdWrite q d) own writer Writing is changed = inl refl
+uses_or_own (TdRead q) own writer Reading is changed = inl refl
+uses_or_own op own writer end is changed = inl refl
 
 -- an end that is left passes
 left_end : (op : Op) (own : Bool) (end : End) → is_left_end op own (end_cell end) ≡ leaves_end op own end
@@ -111,13 +112,12 @@ left_here op own c =
 
 -- no key, no temporary storage queue and no queue as a whole is an end
 pub left_plain : (op : Op) (own : Bool) (x : Cell) → is_left op own (bytes_of x) ≡ true
-left_plain op own (Key f k) = refl
-left_plain op own (Ts r) = refl
 left_plain op own (Td r) = ap (is_left_split op own) (split_cell r []) ∙ by (is_same r (queue_of op))
   where
     by : (b : Bool) → (if b then true else true) ≡ true
     by true = refl
     by false = refl
+left_plain op own _ = refl
 
 -- an end of another queue passes, and one of the queue which the command leaves
 pub left_marked : (op : Op) (own : Bool) (r : Bytes) (end : End) → (r ≡ queue_of op → leaves_end op own end ≡ true) → is_left op own (bytes_of_end r end) ≡ true

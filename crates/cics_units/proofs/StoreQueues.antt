@@ -28,8 +28,7 @@ use Rattle.cics_units.specs.StoreInPlace.{HasMarks, writer_ended, reader_ended, 
 -- to sweep the cell of an image leaves each queue
 swept_queue : (s : StoreValue) (i : AnyImage) (q : Bytes) → value_at q (any_swept s (cell_of_any i)).trans_data ≡ value_at q s.trans_data
 swept_queue s (File i) q = refl
-swept_queue s (TempStorage i) q = refl
-swept_queue s (TransData i) q = refl
+swept_queue s _ q = refl
 
 -- and so does sweeping the cells of all
 pub all_swept_queue : (s : StoreValue) (is : List AnyImage) (q : Bytes) → value_at q

@@ -29,7 +29,7 @@ use Rattle.cics_history.specs.Ends.{is_of_reading, is_of_writing, LeadsTaken, Le
 use Rattle.cics_history.specs.Carried.{Carries}
 use Rattle.cics_history.proofs.Maps.{same_map}
 use Rattle.cics_history.proofs.Waiting.{any_more}
-use Rattle.cics_units.specs.UnitImages.{kept_by}
+use Rattle.cics_units.specs.ImageRows.{kept_by}
 use Rattle.cics_units.specs.StoreMatching.{StoreValue, AnyImage, QueuesImage, shown_store, cell_of_any, any_swept, AreImagesOf, any_holds}
 use Rattle.cics_units.specs.StoreInPlace.{HasMarks, AreInPlace, writer_ended, reader_ended, committed_at}
 use Rattle.cics_units.specs.StoreEnds.{kind_at, end_committed, is_at_end, end_settled, writers_settled, ends_settled, has_end}

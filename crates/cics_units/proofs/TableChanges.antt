@@ -21,12 +21,8 @@ use Rattle.cics_units.specs.TableInPlace.{record_of, is_holder, counted_before, 
 
 -- what is no value is not counted
 uncounted_is : (q : Resource) → is_user q ≡ false → (h : Held) (cs : List EnqCount) → counted_before q h cs ≡ cs
-uncounted_is (FileKey f k) plain h cs = refl
-uncounted_is (TsQueue q) plain h cs = refl
-uncounted_is (ReadingEnd q) plain h cs = refl
-uncounted_is (WritingEnd q) plain h cs = refl
-uncounted_is (FilePrefix f p) plain h cs = refl
 uncounted_is (User v) plain h cs = absurd (true≢false plain)
+uncounted_is _ plain h cs = refl
 
 counts_in-put : (q : Resource) → is_user q ≡ false → (h : Held) (t : Table) → counts_in (map_by.put resource_cmp q h t) ≡ counts_in t
 counts_in-put q plain h [] = uncounted_is q plain h []

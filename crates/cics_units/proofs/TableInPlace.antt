@@ -30,8 +30,7 @@ use Rattle.cics_history.specs.declared.ops.UnitState.TheVariants.{Open}
 use Rattle.cics_history.proofs.Waiting.{any_more}
 use Rattle.cics_history.proofs.States.{acting_open}
 use Rattle.cics_history.proofs.Outcomes.{outcome_of-set}
-use Rattle.cics_units.proofs.HeldReads.{any_kept, filter_none, none_read, read_keys, by_read, by_read-is, by_read-recoverable, any_ended, covering-recoverable, covered_key}
-use Rattle.cics_units.proofs.HeldReads.{covered_at, covered_is, covered_all, AreOnce-opened, All-opened, AreOnce-dropped, any_opened-recoverable, any_opened-read, any_opened-none}
+use Rattle.cics_units.proofs.HeldReads.{any_kept, filter_none, none_read, read_keys, by_read, by_read-is, by_read-recoverable, any_ended, covering-recoverable, covered_key, covered_at, covered_is, covered_all, AreOnce-opened, All-opened, AreOnce-dropped, any_opened-recoverable, any_opened-read, any_opened-none}
 use Rattle.cics_units.proofs.TableChanges.{table_same, table_taken, table_given, table_released}
 use Rattle.cics_units.proofs.UsesInTable.{uses_alike, uses_plain, uses_free}
 use Rattle.cics_units.proofs.HeldSums.{in_entries, in_reads, in_counts, held_sum, entries_apart, counts_apart, entered_sum, by_entry-none, by_entry-held}

@@ -73,11 +73,7 @@ module _ (v : Bytes) (u n : ℕ) where
             ap (λ l. count_of_value w.items h ∷ l) (rest (ap is_eq more))
             ∙ sym (λ i. pick (and_right (h.unit == u) (is_same w.items v) (is_same-turned w.items v ∙ ap is_eq more) i) (is_lt (more i)))
       ] refl
-  taken_first (FileKey f k) h es below own count rest = rest refl
-  taken_first (TsQueue q) h es below own count rest = rest refl
-  taken_first (ReadingEnd q) h es below own count rest = rest refl
-  taken_first (WritingEnd q) h es below own count rest = rest refl
-  taken_first (FilePrefix f p) h es below own count rest = rest refl
+  taken_first _ h es below own count rest = rest refl
 
   counts_in-written : (t : Table) → T (is_in_order t) →
       ((g : Held) → held_at (value_of v) t ≡ Some g → g.unit ≡ u) →
@@ -111,11 +107,7 @@ module _ (v : Bytes) (u : ℕ) where
   uncounted_skips (User w) g cs other =
       sym (ap (λ a. if a then (if nat_lt 1 g.count then record { value = w.items; unit = u; count = g.count - 1 } ∷ cs else cs) else count_of_value w.items g ∷ uncounted cs u v)
       (and_right (g.unit == u) (is_same w.items v) (is_same-turned w.items v ∙ other)))
-  uncounted_skips (FileKey f k) g cs other = refl
-  uncounted_skips (TsQueue q) g cs other = refl
-  uncounted_skips (ReadingEnd q) g cs other = refl
-  uncounted_skips (WritingEnd q) g cs other = refl
-  uncounted_skips (FilePrefix f p) g cs other = refl
+  uncounted_skips _ g cs other = refl
 
   -- the value's own count
   uncounted_hit : (h : Held) (cs : List EnqCount) → uncounted (count_of_value v h ∷ cs) u v

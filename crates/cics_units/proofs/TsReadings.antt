@@ -1,5 +1,5 @@
 -- READQ TS keeps the units: a NEXT place changes, and nothing else.
-use Rattle.std.proofs.Common.{◌≡◌, ℕ, ◌+◌, ◌≤◌, Bool, true, false, T, Option, Some, None, List, length, refl, ap, sym, subst, ◌∙◌}
+use Rattle.std.proofs.Common.{◌≡◌, ℕ, ◌+◌, ◌≤◌, Bool, true, false, T, Option, Some, None, List, length, refl, ap, sym, subst, ◌∙◌, []}
 use Rattle.std.specs.Prelude.{if◌then◌else◌, unwrap_or}
 use Rattle.std.specs.Option.{option_and_then}
 use Rattle.cics_names.specs.Keyed.{Bytes, Map, value_at, with_value, is_rising}
@@ -11,26 +11,75 @@ use Rattle.cics_tempstor.specs.declared.queue_rows.Row.{Row}
 use Rattle.cics_tempstor.specs.Queues.{is_there, has_item, queue_at, queues_of, empty_row, places_of, row_answer, read_item, after_read_item}
 use Rattle.cics_tempstor.specs.Shown.{queue_shown, queues_of-shown, rising-queues_of, rising_read, value_at-shown, queue_at-queues_of, next_place-places_of}
 use Rattle.cics_tempstor.specs.Undo.{KeepsQueues}
-use Rattle.cics_history.specs.Openings.{OpeningState, HasLawfulKeys, IsOpeningInOrder}
+use Rattle.cics_history.specs.Openings.{OpeningState, HasLawfulKeys, IsOpeningInOrder, queue_logical}
 use Rattle.cics_history.specs.Store.{Store, ts_queue}
 use Rattle.cics_history.specs.Holding.{UnitsState, store_of}
 use Rattle.cics_history.specs.Execution.{place_at, item_asked, ts_reading, after_ts_reading}
-use Rattle.cics_history.specs.Cells.{IsCanonical}
+use Rattle.cics_history.specs.Cells.{IsCanonical, Cell, Key, Ts, Td, content}
 use Rattle.cics_history.specs.declared.ops.Answer.{Answer}
 use Rattle.cics_history.specs.declared.ops.Entry.{Entry}
 use Rattle.cics_history.specs.declared.ops.UnitState.{UnitState}
 use Rattle.cics_history.proofs.SameHistory.{ts_reading-same}
 use Rattle.cics_history.proofs.States.{ts_reading-IsSound}
 use Rattle.cics_history.proofs.SerialRuns.{ts_reading-IsInOrder}
-use Rattle.cics_units.specs.StoreMatching.{UndoableValue, shown_store}
+use Rattle.cics_units.specs.StoreMatching.{StoreWithImages, shown_store, StoreValue, AnyImage, AnyKeep}
 use Rattle.cics_units.specs.StorePlaces.{HavePlaces, number_asked}
 use Rattle.cics_units.specs.TableInPlace.{IsTableOf}
 use Rattle.cics_units.specs.Parts.{CoreValue}
-use Rattle.cics_units.specs.KeptUnits.{state_shown, AreKept, AreAsDefined}
-use Rattle.cics_units.proofs.StoreCalls.{read_in_place}
+use Rattle.cics_units.specs.KeptUnits.{state_shown, AreValid, AreAsDefined}
 use Rattle.cics_units.proofs.StorePlaces.{read_places}
 use Rattle.cics_units.proofs.QueuesHeld.{read_held}
 use Rattle.cics_units.proofs.KeptUnits.{store_is}
+use Rattle.cics_images.specs.Cells.{Kept}
+use Rattle.cics_images.specs.NamedLaws as named
+use Rattle.cics_transdata.specs.Trans.{TransState}
+use Rattle.cics_transdata.specs.Undo.{KeepsEnds}
+use Rattle.cics_transdata.specs.UndoLaws as queue
+use Rattle.cics_history.specs.History.{is_open}
+use Rattle.cics_history.proofs.Places.{ts_reading-IsPlaceOf}
+use Rattle.cics_history.proofs.InPlace.{ts_reading-AreMarksOf}
+use Rattle.cics_units.specs.FilesImagesLaws as files
+use Rattle.cics_units.specs.ImageRows.{kept_by}
+use Rattle.cics_units.specs.StoreInPlace.{HasMarks, AreInPlace}
+use Rattle.cics_units.proofs.StoreInPlace.{ready_where, place_by}
+use Rattle.cics_units.proofs.StoreExecuted.{all_of}
+
+module _ (s : UnitsState) (m : StoreValue) (images : List (Kept AnyImage)) (place : AreInPlace s m images) where
+  -- READQ TS changes a NEXT place alone
+  module _ (new : List (Bytes × Row)) (kept : KeepsQueues (λ q. true) m.temp_storage new)
+      (rising_before : T (is_rising m.temp_storage)) (rising_after : T (is_rising new)) where
+    -- the three after it
+    abbrev n : StoreValue
+    n = with_temp_storage m new
+
+    -- each cell holds what it held
+    same_cells : (x : Cell) → content (shown_store m) x ≡ content (shown_store n) x
+    same_cells (Ts q) =
+        ap Some (queue_at-queues_of q m.temp_storage rising_before ∙ sym (kept.queues q refl) ∙ sym (queue_at-queues_of q new rising_after))
+    same_cells _ = refl
+
+    -- and nothing that an undo needs is gone
+    all_kept : AnyKeep (λ c. true) m n
+    all_kept = record {
+      files = files.keeps_itself (λ c. true) m.files;
+      temp_storage = kept;
+      trans_data = named.keeps_itself KeepsEnds queue.keeps_itself (λ c. true) m.trans_data;
+    }
+
+    pub read_in_place : (q : Bytes) (item : ℕ) → AreInPlace (after_ts_reading s q item) n images
+    read_in_place q item = record {
+      changes = place.changes;
+      marks = place.marks;
+      place = place_by (after_ts_reading s q item) (content (shown_store m)) (content (shown_store n)) place.changes (λ x plain. same_cells x)
+          (ts_reading-IsPlaceOf s (record { cells = content (shown_store m); images = place.changes }) q item place.place);
+      ends = ts_reading-AreMarksOf s place.marks q item place.ends;
+      queues = ts_reading-same
+          (λ o es out. (q : Bytes) → queue_logical o q ≡ true → (t : TransState) × (value_at q n.trans_data ≡ Some t) × HasMarks (place.marks.queues q) t) s
+          place.queues q item;
+      kept = place.kept;
+      ready = λ w. ready_where (λ c. true) m n (kept_by images w) all_kept (all_of (kept_by images w)) (place.ready w);
+      over = ts_reading-same (λ o es out. (w : ℕ) → is_open (out w) ≡ false → kept_by images w ≡ []) s place.over q item;
+    }
 
 -- rows with the same queues show the same queues
 queues_same : (rows new : Map Row) → T (is_rising rows) → T (is_rising new) → KeepsQueues (λ q. true) rows new → queues_of new ≡ queues_of rows
@@ -52,7 +101,7 @@ next_alone : (s : UnitsState) (b : Bool) (next later : Map ℕ) → next ≡ (if
 next_alone s true next later same = λ i. record s { next = same i }
 next_alone s false next later same = λ i. record s { next = same i }
 
-module _ (s : UnitsState) (st : UndoableValue) (t : Table) (is : AreKept s st t) where
+module _ (s : UnitsState) (st : StoreWithImages) (t : Table) (is : AreValid s st t) where
   -- the NEXT place that the rows tell is that of the units
   pub place_told : (q : Bytes) → place_at s q ≡ unwrap_or (value_at q (places_of st.store.temp_storage)) 0
   place_told q = ap (λ m. unwrap_or (value_at q m) 0) is.places
@@ -78,7 +127,7 @@ module _ (s : UnitsState) (st : UndoableValue) (t : Table) (is : AreKept s st t)
     abbrev new : Map Row
     new = after_read_item st.store.temp_storage q n
 
-    abbrev after : UndoableValue
+    abbrev after : StoreWithImages
     after = record st { store = with_temp_storage st.store new }
 
     rising_after : T (is_rising new)
@@ -111,7 +160,7 @@ module _ (s : UnitsState) (st : UndoableValue) (t : Table) (is : AreKept s st t)
     places_then = read_places s st.store.temp_storage (record { in_order = is.rows; places = sym is.places }) q n (ap (λ (m : Store). m.ts) (sym (store_is s st t is)))
 
     -- READQ TS keeps all
-    pub kept_read : AreKept (after_ts_reading s q n) after t
+    pub kept_read : AreValid (after_ts_reading s q n) after t
     kept_read = record {
       in_order = ts_reading-same (λ o es out. IsOpeningInOrder o) s is.in_order q n;
       lawful_keys = ts_reading-same (λ o es out. HasLawfulKeys o) s is.lawful_keys q n;
@@ -127,7 +176,7 @@ module _ (s : UnitsState) (st : UndoableValue) (t : Table) (is : AreKept s st t)
       begun = read_begun;
     }
 
-module _ (o : OpeningState) (trace : List Entry) (outcomes : List UnitState) (commits : List ℕ) (p : CoreValue) (is : AreKept (state_shown o trace outcomes commits p) p.stores p.table)
+module _ (o : OpeningState) (trace : List Entry) (outcomes : List UnitState) (commits : List ℕ) (p : CoreValue) (is : AreValid (state_shown o trace outcomes commits p) p.stores p.table)
     (q : Bytes) (n : ℕ) (rows : Map Row) (value : rows ≡ after_read_item p.stores.store.temp_storage q n) (keeps : KeepsQueues (λ q. true) p.stores.store.temp_storage rows) where
   abbrev before : UnitsState
   before = state_shown o trace outcomes commits p
@@ -145,9 +194,9 @@ module _ (o : OpeningState) (trace : List Entry) (outcomes : List UnitState) (co
       ∙ next_alone before (has_item (ts_queue (store_of before) q) n) (places_of (after_read_item p.stores.store.temp_storage q n)) (with_value q n before.next)
       (places_then before p.stores p.table is q n kept).places
 
-  pub read_kept : AreKept (state_shown o trace outcomes commits (with_rows rows)) (with_rows rows).stores p.table
-  read_kept = subst (λ s. AreKept s (with_rows rows).stores p.table) (sym read_state)
-      (subst (λ r. AreKept (after_ts_reading before q n) (with_rows r).stores p.table) (sym value) (kept_read before p.stores p.table is q n kept))
+  pub read_kept : AreValid (state_shown o trace outcomes commits (with_rows rows)) (with_rows rows).stores p.table
+  read_kept = subst (λ s. AreValid s (with_rows rows).stores p.table) (sym read_state)
+      (subst (λ r. AreValid (after_ts_reading before q n) (with_rows r).stores p.table) (sym value) (kept_read before p.stores p.table is q n kept))
 
   -- and the store that was there
   pub read_store : shown_store (with_rows rows).stores.store ≡ shown_store p.stores.store

@@ -18,8 +18,7 @@ both false b h = absurd h
 
 reversed : (o : Ordering) → is_lt o ≡ true → ordering_reverse o ≡ Greater
 reversed Less e = refl
-reversed Equal e = cc
-reversed Greater e = cc
+reversed _ e = cc
 
 -- one more entry is looked at
 pub place_at : (f : Bytes) (es : Map Bytes) (i : ℕ) (e : Bytes × Bytes) → i < length es → e ≡ slice_index_or es i e → (b : Bool) → b ≡ is_below e.0 f →
@@ -108,8 +107,7 @@ module _ (f : Bytes) (es now : Map Bytes) (view : es ≡ now) (rising : T (is_ri
 first : (f k : Bytes) (x : Bytes × Bytes) (es : Map Bytes) (o : Ordering) → is_lt (ordering_reverse o) ≡ false → is_eq o ≡ false →
     (f, k) ∷ x ∷ es ≡ by_order o ((f, k) ∷ x ∷ es) ((x.0, k) ∷ es) (x ∷ with_value f k es)
 first f k x es Less past other = refl
-first f k x es Equal past other = cc
-first f k x es Greater past other = cc
+first f k x es _ past other = cc
 
 not_chosen : {X : Type 0} (b : Bool) (x : X) (o : Option X) → cond b (Some x) o ≡ None → (b ≡ false) × (o ≡ None)
 not_chosen true x o e = let wrong : Some x ≡ None = e in cc

@@ -4,7 +4,7 @@ use Rattle.std.proofs.Common.{ap, sym, ◌∙◌, subst, get_or}
 use Rattle.std.proofs.lemmas.List.{length-set, get_or-set_same}
 use Rattle.std.proofs.lemmas.Option.{slice_get-get_or, slice_get_read}
 use Rattle.cics_images.specs.Cells.{Kept}
-use Rattle.cics_units.specs.UnitImages.{kept_none, kept_by, room_of, AreOthersKept}
+use Rattle.cics_units.specs.ImageRows.{kept_none, kept_by, room_of, AreOthersKept}
 
 -- a write to one row leaves the others
 get_other : {A : Type 0} (xs : List A) (u w : ℕ) (x : A) → w ≢ u → slice_get (slice_set xs u x) w ≡ slice_get xs w

@@ -65,11 +65,7 @@ module _ (o : OpeningState) (n : ℕ) (r : Resource) (key : (f k : Bytes) → is
 -- what isn't a value isn't one
 pub not_value : (r : Resource) (v : Bytes) → is_user r ≡ false → is_one r (value_of v) ≡ false
 not_value (User w) v other = absurd (true≢false other)
-not_value (FileKey f k) v other = refl
-not_value (TsQueue q) v other = refl
-not_value (ReadingEnd q) v other = refl
-not_value (WritingEnd q) v other = refl
-not_value (FilePrefix f p) v other = refl
+not_value _ v other = refl
 
 pub in_counts-other : (o : OpeningState) (n : ℕ) (r : Resource) → is_user r ≡ false → (cs : List EnqCount) → in_counts o n (is_one r) cs ≡ false
 in_counts-other o n r other [] = refl

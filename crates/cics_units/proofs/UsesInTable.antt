@@ -21,16 +21,7 @@ use Rattle.cics_units.proofs.HeldOver.{table_holder, table_free, holder_open}
 -- what it uses by whether its file or queue is recoverable is what it uses by the opening
 pub uses_alike : (o : OpeningState) (op : Op) → uses_if (is_recoverable o op) op ≡ uses_of o op
 uses_alike o (Write f k r) = refl
-uses_alike o (Rewrite f k r) = refl
-uses_alike o (Delete f k) = refl
-uses_alike o (DeleteGeneric f p) = refl
-uses_alike o (ReadUpdate f k) = refl
-uses_alike o (TsWrite q d) = refl
-uses_alike o (TsRewrite q n d) = refl
-uses_alike o (TsDelete q) = refl
-uses_alike o (TdWrite q d) = refl
-uses_alike o (TdRead q) = refl
-uses_alike o (TdDelete q) = refl
+uses_alike o _ = refl
 
 -- no command uses a value
 pub uses_plain : (recoverable : Bool) (op : Op) → list_any is_user (uses_if recoverable op) ≡ false
@@ -39,18 +30,13 @@ uses_plain b (Rewrite f k r) = refl
 uses_plain b (Delete f k) = refl
 uses_plain b (DeleteGeneric f p) = refl
 uses_plain b (ReadUpdate f k) = refl
-uses_plain true (TsWrite q d) = refl
 uses_plain false (TsWrite q d) = refl
-uses_plain true (TsRewrite q n d) = refl
 uses_plain false (TsRewrite q n d) = refl
-uses_plain true (TsDelete q) = refl
 uses_plain false (TsDelete q) = refl
-uses_plain true (TdWrite q d) = refl
 uses_plain false (TdWrite q d) = refl
-uses_plain true (TdRead q) = refl
 uses_plain false (TdRead q) = refl
-uses_plain true (TdDelete q) = refl
 uses_plain false (TdDelete q) = refl
+uses_plain true _ = refl
 
 -- ---- Who is in its way
 
@@ -110,16 +96,7 @@ module _ (s : UnitsState) (t : Table) (i : IsSound s) (k : IsTableOf s t) where
             | true ↦ λ writes. holder_open s t i k u (WritingEnd q) h (sym (table_holder s t i k u (WritingEnd q)) ∙ writes)
             | false ↦ λ none. absurd (none_some none)
           ] found
-      writer_open (Write f k r) none = absurd (none_some none)
-      writer_open (Rewrite f k r) none = absurd (none_some none)
-      writer_open (Delete f k) none = absurd (none_some none)
-      writer_open (DeleteGeneric f p) none = absurd (none_some none)
-      writer_open (ReadUpdate f k) none = absurd (none_some none)
-      writer_open (TsWrite q d) none = absurd (none_some none)
-      writer_open (TsRewrite q n d) none = absurd (none_some none)
-      writer_open (TsDelete q) none = absurd (none_some none)
-      writer_open (TdWrite q d) none = absurd (none_some none)
-      writer_open (TdDelete q) none = absurd (none_some none)
+      writer_open _ none = absurd (none_some none)
 
   -- where it awaits none, all that it uses is free for the unit that acts
   pub uses_free : (u : Option ℕ) (op : Op) → awaited s u op ≡ None → AreFreeFor t (uses_of s.opening op) (unit_or_next u s.outcomes)

@@ -24,24 +24,24 @@ use Rattle.cics_units.specs.StoreMatching.{StoreValue, AnyImage, shown_store, Is
 
 -- ---- where a command acts
 -- the file of a name is there, and is recoverable or not; the names of the files rise
-pub record IsFileBound (s : StoreValue) (name : Bytes) (keep : Bool) : Type 0 where
+pub record IsFileBound (s : StoreValue) (name : Bytes) (recovers : Bool) : Type 0 where
   pub file : FileValue
   pub there : value_at name s.files ≡ Some file
-  pub recoverable : keep ≡ file.definition.recoverable
+  pub recoverable : recovers ≡ file.definition.recoverable
   pub rising : T (is_rising s.files)
   pub content : IsContent file.definition file.records
 
 -- the transient data queue of a name is there, and is LOGICAL or not
-pub record IsQueueBound (s : StoreValue) (name : Bytes) (keep : Bool) : Type 0 where
+pub record IsQueueBound (s : StoreValue) (name : Bytes) (recovers : Bool) : Type 0 where
   pub queue : TransState
   pub there : value_at name s.trans_data ≡ Some queue
-  pub logical : keep ≡ is_logical queue.kind
+  pub logical : recovers ≡ is_logical queue.kind
   pub marked : IsMarked queue
 
--- a command's file or transient data queue is there; `keep` says that what it acts on is recoverable
+-- a command's file or transient data queue is there; `recovers` says that what it acts on is recoverable
 abbrev pub IsBound : StoreValue → Op → Bool → Type 0
-IsBound s op keep = MatchBool (is_file_op op) (IsFileBound s (file_of op) keep)
-    (MatchBool (is_trans op) (IsQueueBound s (queue_of op) keep) (Unit {0}))
+IsBound s op recovers = MatchBool (is_file_op op) (IsFileBound s (file_of op) recovers)
+    (MatchBool (is_trans op) (IsQueueBound s (queue_of op) recovers) (Unit {0}))
 
 -- ---- what a reader sees
 -- a queue shows a reader a record where it has one; `own` says that he may read what he wrote himself
@@ -92,24 +92,24 @@ marks_made s op = if is_trans op then mark_images op (marks_in s) else []
 
 -- the images that a command gives stand for its changes, where it acts on something recoverable; else it gives none
 abbrev pub AreImagesMade : StoreValue → Op → Bool → List AnyImage → Type 0
-AreImagesMade s op keep is = MatchBool keep (AreImagesOf (changes_of s op) (marks_made s op) is) (is ≡ [])
+AreImagesMade s op recovers is = MatchBool recovers (AreImagesOf (changes_of s op) (marks_made s op) is) (is ≡ [])
 
 -- a command has been applied, with this answer: the store and the answer are those of its definition, its images are the
 -- newest, and undo it in their turn; what it leaves stays as it was
-pub record IsApplied (old new : StoreValue) (before after : List AnyImage) (op : Op) (keep own : Bool) (answer : Answer) : Type 0 where
+pub record IsApplied (old new : StoreValue) (before after : List AnyImage) (op : Op) (recovers own : Bool) (answer : Answer) : Type 0 where
   pub answered : answer ≡ (apply (shown_store old) op).answer
   pub shown : shown_store new ≡ (apply (shown_store old) op).store
   -- its images, the newest first, stand for what it changed
   pub made : List AnyImage
   pub newest : after ≡ made ++ before
-  pub stand : AreImagesMade old op keep made
+  pub stand : AreImagesMade old op recovers made
   -- where the images before it could be undone in their turn, all of them can now; without images of its own that is so where
   -- those before it are of what it leaves
-  pub ready : keep ≡ true → AreReadyInTurn IsAnyReady any_undone old before → AreReadyInTurn IsAnyReady any_undone new after
+  pub ready : recovers ≡ true → AreReadyInTurn IsAnyReady any_undone old before → AreReadyInTurn IsAnyReady any_undone new after
   -- what it doesn't act on stays, with what an undo there needs
   pub others : AnyKeep (spares op own) old new
   -- nothing more is held back but for its images
   pub held : IsHeldAsBefore old new after
   -- the rows of temporary storage with their NEXT places, and the marks of queues
-  pub rows : new.temp_storage ≡ rows_after op keep old.temp_storage
+  pub rows : new.temp_storage ≡ rows_after op recovers old.temp_storage
   pub queues : new.trans_data ≡ queues_after op own old.trans_data

@@ -1,5 +1,5 @@
 -- Recovery and task control: whom a command must wait for, as the table of enqueues and the queues themselves tell.
-use Rattle.std.specs.Prelude.{ℕ, Bool, false, ◌&&◌, if◌then◌else◌, Option, Some, None, is_none}
+use Rattle.std.specs.Prelude.{◌≡◌, ℕ, Bool, false, ◌&&◌, if◌then◌else◌, Option, Some, None, is_none}
 use Rattle.cics_names.specs.Keyed.{Bytes, Map, value_at}
 use Rattle.cics_enqueue.specs.Resources.{Table, holder_of, holder_over}
 use Rattle.cics_enqueue.specs.declared.resources.Resource.TheVariants.{TdWrite as WritingEnd}
@@ -13,6 +13,11 @@ use Rattle.cics_units.specs.TableInPlace.{is_holder}
 -- a unit holds the writing end of a queue: it reads past the records that it wrote itself
 abbrev pub is_writer : Table → ℕ → Bytes → Bool
 is_writer t u q = is_holder u (holder_of (WritingEnd q) t)
+
+-- `own` says of READQ TD what `writer` says, that the unit holds the writing end; nobody asks it of another command
+abbrev pub IsOwn : Op → Bool → Bool → Type 0
+IsOwn (TdRead q) writer own = own ≡ writer
+IsOwn _ writer own = Unit {0}
 
 -- a queue as it stands is LOGICAL, if it is there
 abbrev pub is_logical_in : Option TransState → Bool

@@ -1,9 +1,9 @@
 -- Task control: the core of the units as the laws see it, and a command that is bound to it.
-use Rattle.std.specs.Prelude.{◌≡◌, ◌<◌, ◌≤◌, ℕ, true, false}
+use Rattle.std.specs.Prelude.{◌≡◌, ◌<◌, ◌≤◌, ℕ, false}
 use Rattle.cics_units.specs.Applied.{IsBound, IsSeen}
-use Rattle.cics_units.specs.Awaiting.{is_writer}
+use Rattle.cics_units.specs.Awaiting.{is_writer, IsOwn}
 use Rattle.cics_units.specs.Parts.{CoreValue, IsFitOp, most_images}
-use Rattle.cics_units.specs.QueueChanges.{is_trans, queue_of}
+use Rattle.cics_units.specs.QueueChanges.{queue_of}
 use Rattle.cics_units.specs.StoreMatching.{StoreValue}
 use Rattle.cics_units.specs.TableInPlace.{is_read}
 use Rattle.cics_units.specs.Uses.{uses_if, listed}
@@ -19,7 +19,7 @@ pub record IsBoundFor (core : CoreValue) (unit : ℕ) (b : BoundOp) : Type 0 whe
   pub bound : IsBound core.stores.store b.op.now b.recoverable
   pub used : listed b.uses ≡ uses_if b.recoverable b.op.now
   -- a unit that holds the writing end of a queue may read what it wrote itself
-  pub own : is_trans b.op.now ≡ true → b.own ≡ is_writer core.table unit (queue_of b.op.now)
+  pub own : IsOwn b.op.now (is_writer core.table unit (queue_of b.op.now)) b.own
 
 -- a command that isn't READ UPDATE can be applied: what it acts on is there and shows it enough, and there is room for its images
 pub record CanApply (s : StoreValue) (b : BoundOp) (room : ℕ) : Type 0 where

@@ -1,16 +1,16 @@
 -- Recovery and task control: what an executed command makes of the store, the table of enqueues and the open update reads.
-use Rattle.std.specs.Prelude.{◌≡◌, ℕ, ◌<◌, Bool, true, if◌then◌else◌, length}
+use Rattle.std.specs.Prelude.{◌≡◌, ℕ, ◌<◌, Bool, if◌then◌else◌, length}
 use Rattle.cics_history.specs.Store.{is_normal}
 use Rattle.cics_history.specs.Execution.{reads_after}
 use Rattle.cics_history.specs.declared.ops.Answer.{Answer}
 use Rattle.cics_history.specs.declared.ops.Op.{Op}
 use Rattle.cics_units.specs.Applied.{IsApplied}
-use Rattle.cics_units.specs.Awaiting.{is_writer}
+use Rattle.cics_units.specs.Awaiting.{is_writer, IsOwn}
 use Rattle.cics_units.specs.Parts.{CoreValue, AreRoomier}
-use Rattle.cics_units.specs.QueueChanges.{is_trans, queue_of}
-use Rattle.cics_units.specs.StoreMatching.{UndoableValue}
+use Rattle.cics_units.specs.QueueChanges.{queue_of}
+use Rattle.cics_units.specs.StoreMatching.{StoreWithImages}
 use Rattle.cics_units.specs.TableInPlace.{table_changed}
-use Rattle.cics_units.specs.UnitImages.{kept_by, AreOthersKept}
+use Rattle.cics_units.specs.ImageRows.{kept_by, AreOthersKept}
 
 -- a command is applied for a unit, which goes on holding what it uses, or gives back what it covers, where it is answered NORMAL
 pub record IsDone (old new : CoreValue) (unit : ℕ) (op : Op) (recoverable own : Bool) (answer : Answer) : Type 0 where
@@ -21,10 +21,10 @@ pub record IsDone (old new : CoreValue) (unit : ℕ) (op : Op) (recoverable own 
 
 -- so it is once there is room for its images
 pub record IsExecuted (old new : CoreValue) (unit : ℕ) (op : Op) (recoverable : Bool) (answer : Answer) : Type 0 where
-  pub roomy : UndoableValue
+  pub roomy : StoreWithImages
   pub room : AreRoomier old.stores roomy
   pub begun : unit < length roomy.images
   -- a unit that holds the writing end of a queue may read what it wrote itself
   pub own : Bool
-  pub own_is : is_trans op ≡ true → own ≡ is_writer old.table unit (queue_of op)
+  pub own_is : IsOwn op (is_writer old.table unit (queue_of op)) own
   pub done : IsDone (record { stores = roomy; table = old.table; reads = old.reads }) new unit op recoverable own answer

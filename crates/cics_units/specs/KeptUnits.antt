@@ -12,9 +12,9 @@ use Rattle.cics_history.specs.Serial.{IsInOrder}
 use Rattle.cics_units.specs.RegionFiles.{opened_files}
 use Rattle.cics_units.specs.RegionQueues.{opened_queues}
 use Rattle.cics_units.specs.FilesImages.{definitions_of}
-use Rattle.cics_units.specs.UnitImages.{AreHeldForImages}
+use Rattle.cics_units.specs.ImageRows.{AreHeldForImages}
 use Rattle.cics_units.specs.StoreInPlace.{AreInPlace}
-use Rattle.cics_units.specs.StoreMatching.{StoreValue, UndoableValue, shown_store, any_holds, cell_of_any}
+use Rattle.cics_units.specs.StoreMatching.{StoreValue, StoreWithImages, shown_store, any_holds, cell_of_any}
 use Rattle.cics_units.specs.TableInPlace.{counts_in, IsTableOf}
 use Rattle.cics_units.specs.Parts.{CoreValue}
 use Rattle.cics_history.specs.declared.ops.Entry.{Entry}
@@ -44,7 +44,7 @@ pub record AreAsDefined (o : OpeningState) (store : StoreValue) : Type 0 where
 
 -- the opening is in order; the open units are kept apart, and those that committed in their order; the files and queues are those of the opening and hold, with the
 -- images of the open units, what the history gives; and the table has what the units hold
-pub record AreKept (s : UnitsState) (stores : UndoableValue) (t : Table) : Type 0 where
+pub record AreValid (s : UnitsState) (stores : StoreWithImages) (t : Table) : Type 0 where
   pub in_order : IsOpeningInOrder s.opening
   pub lawful_keys : HasLawfulKeys s.opening
   pub sound : IsSound s

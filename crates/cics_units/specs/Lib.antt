@@ -5,8 +5,8 @@ pub mod RegionQueues
 pub mod FilesImages
 pub mod FilesImagesLaws
 pub mod FilesChanges
-pub mod UnitImages
-pub mod UnitImagesLaws
+pub mod ImageRows
+pub mod ImageRowsLaws
 pub mod Uses
 pub mod TableInPlace
 pub mod Awaiting

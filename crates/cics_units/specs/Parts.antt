@@ -15,8 +15,8 @@ use Rattle.cics_history.specs.Store.{apply}
 use Rattle.cics_history.specs.Holding.{UpdateRead}
 use Rattle.cics_units.specs.RegionFiles.{IsThere, key_in}
 use Rattle.cics_units.specs.FilesImages.{cell_of}
-use Rattle.cics_units.specs.StoreMatching.{StoreValue, AnyImage, UndoableValue, shown_store, cell_of_any, any_holds}
-use Rattle.cics_units.specs.UnitImages.{kept_by}
+use Rattle.cics_units.specs.StoreMatching.{StoreValue, AnyImage, StoreWithImages, shown_store, cell_of_any, any_holds}
+use Rattle.cics_units.specs.ImageRows.{kept_by}
 use Rattle.cics_history.specs.Records.{file_of, key_of}
 use Rattle.cics_units.specs.TableInPlace.{value_of}
 use Rattle.cics_history.specs.declared.ops.Op.{Op}
@@ -25,12 +25,12 @@ use Rattle.cics_units.specs.FilesImages.{FilesImage}
 
 -- the store and the images, who holds what, and the open update reads
 pub record CoreValue : Type 0 where
-  pub stores : UndoableValue
+  pub stores : StoreWithImages
   pub table : Table
   pub reads : List UpdateRead
 
 -- the store with room for more images: it holds what it held, and each unit keeps what it kept
-pub record AreRoomier (old new : UndoableValue) : Type 0 where
+pub record AreRoomier (old new : StoreWithImages) : Type 0 where
   pub store : new.store ≡ old.store
   pub kept : (w : ℕ) → kept_by new.images w ≡ kept_by old.images w
   pub longer : length old.images ≤ length new.images
@@ -130,7 +130,7 @@ pub record AreEnqueued (old new : CoreValue) (unit : ℕ) (value : Bytes) : Type
   pub reads : new.reads ≡ old.reads
 
 -- a refused call leaves the store, the table and the reads, and may leave more room
-pub record ArePartsKept (old new : CoreValue) : Type 0 where
+pub record IsCoreAsBefore (old new : CoreValue) : Type 0 where
   pub stores : AreRoomier old.stores new.stores
   pub table : new.table ≡ old.table
   pub reads : new.reads ≡ old.reads

@@ -106,20 +106,20 @@ pub record IsTransChange (op : Op) (own : Bool) (old new : TransState) (image : 
   pub others : KeepsEnds (is_left_end op own) old new
   pub without_image : IfNone image (KeepsEnds (λ _. true) old new)
 
--- ---- temporary storage: `keep` says that the queue is recoverable, and so a change gives an image
+-- ---- temporary storage: `recovers` says that the queue is recoverable, and so a change gives an image
 -- the rows after a command
 abbrev pub rows_after : Op → Bool → Map Row → Map Row
-rows_after (TsWrite q d) keep rows = ts_written rows q d
-rows_after (TsRewrite q n d) keep rows = ts_rewritten rows q n d
-rows_after (TsDelete q) keep rows = ts_deleted keep rows q
-rows_after _ keep rows = rows
+rows_after (TsWrite q d) recovers rows = ts_written rows q d
+rows_after (TsRewrite q n d) recovers rows = ts_rewritten rows q n d
+rows_after (TsDelete q) recovers rows = ts_deleted recovers rows q
+rows_after _ recovers rows = rows
 
 -- the image that the command gives
 abbrev pub rows_image : Op → Bool → Map Row → Option TsImage
-rows_image (TsWrite q d) keep rows = ts.written_image keep q (queue_at q rows)
-rows_image (TsRewrite q n d) keep rows = ts.rewritten_image keep q (queue_at q rows) n
-rows_image (TsDelete q) keep rows = ts.deleted_image keep q (queue_at q rows)
-rows_image _ keep rows = None
+rows_image (TsWrite q d) recovers rows = ts.written_image recovers q (queue_at q rows)
+rows_image (TsRewrite q n d) recovers rows = ts.rewritten_image recovers q (queue_at q rows) n
+rows_image (TsDelete q) recovers rows = ts.deleted_image recovers q (queue_at q rows)
+rows_image _ recovers rows = None
 
 -- what it answers
 abbrev pub rows_answer : Op → Map Row → Answer
@@ -130,10 +130,10 @@ rows_answer _ rows = only Normal
 
 -- a command has changed temporary storage and given an image: the rows are what the command leaves, the image undoes the
 -- change, and every other queue is as it was
-pub record IsTempChange (op : Op) (keep : Bool) (old new : Map Row) (image : Option TsImage) : Type 0 where
+pub record IsTempChange (op : Op) (recovers : Bool) (old new : Map Row) (image : Option TsImage) : Type 0 where
   pub rising : T (is_rising old)
-  pub value : new ≡ rows_after op keep old
-  pub given : image ≡ rows_image op keep old
+  pub value : new ≡ rows_after op recovers old
+  pub given : image ≡ rows_image op recovers old
   pub undoable : IfSome image (IsTsImage old new (queue_of op))
   pub others : KeepsQueues (is_other (queue_of op)) old new
 

@@ -18,7 +18,7 @@ use Rattle.cics_history.specs.Isolation.{used}
 use Rattle.cics_history.specs.Undo.{Image, IsPlaceOf}
 use Rattle.cics_history.specs.Marks.{MarkedQueue, marks_of}
 use Rattle.cics_history.specs.Ends.{Marks, AreMarksOf}
-use Rattle.cics_units.specs.UnitImages.{kept_by}
+use Rattle.cics_units.specs.ImageRows.{kept_by}
 use Rattle.cics_units.specs.StoreMatching.{StoreValue, AnyImage, shown_store, IsAnyReady, any_undone, AreImagesOf}
 
 -- a queue as it stands is LOGICAL, has no more marks than records, and has these marks

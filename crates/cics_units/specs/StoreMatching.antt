@@ -40,7 +40,7 @@ abbrev pub AnyImage : Type 0
 AnyImage = StoreImage FilesImage TsImage QueuesImage
 
 -- the files and queues as they stand, and the images of each unit by its number
-pub record UndoableValue : Type 0 where
+pub record StoreWithImages : Type 0 where
   pub store : StoreValue
   pub images : List (Kept AnyImage)
 

@@ -1,8 +1,7 @@
 //! What a region opens with.
 
-ghost use Rattle.std.specs.Prelude.{◌≡◌, true, OnOk, OnErr, IfOk, map};
+ghost use Rattle.std.specs.Prelude.{◌≡◌, true, OnOk, OnErr, IfOk, map, IsSome};
 ghost use Rattle.cics_units.specs.QueueChanges.{is_temp};
-ghost use Rattle.std.specs.Prelude.{IsSome};
 ghost use Rattle.cics_names.specs.Keyed.{value_at};
 ghost use Rattle.cics_images.specs.NamedValues.{changed_at};
 ghost use Rattle.cics_history.specs.Openings.{is_record_size, is_key};
@@ -386,6 +385,7 @@ impl Opening {
     }
 
     /// Whether a command acts on a temporary storage queue that is recoverable.
+    #[inline(always)]
     pub(crate) fn is_prefixed(&self, op: &Op) -> bool
         ensures { is_temp op.now ≡ true → result ≡ is_recoverable self.now op.now }
     {

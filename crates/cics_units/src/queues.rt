@@ -179,15 +179,13 @@ impl Undoable for Queues {
     ghost use Rattle.std.specs.Prelude.{Option, false, refl};
     ghost use Rattle.cics_names.specs.Keyed.{Bytes};
     ghost use Rattle.cics_images.specs.NamedValues.{named_content, named_cell, IsNamedReady};
-    ghost use Rattle.cics_images.specs.NamedValues.{named_undone};
+    ghost use Rattle.cics_images.specs.NamedValues.{named_undone, NamedKeep, named_fixed};
     ghost use Rattle.cics_images.specs.Cells.{is_other};
-    ghost use Rattle.cics_images.specs.NamedValues.{NamedKeep, named_fixed};
     ghost use Rattle.cics_images.specs.NamedLaws as laws;
     ghost use Rattle.cics_transdata.specs.declared.queues.Recovery.{Recovery};
     ghost use Rattle.cics_transdata.specs.Undo.{content_at as end_content, end_of};
-    ghost use Rattle.cics_transdata.specs.Undo.{Leads as EndLeads};
-    ghost use Rattle.cics_transdata.specs.Undo.{IsReadyImage as IsEndReady, undone as queue_undone};
-    ghost use Rattle.cics_transdata.specs.Undo.{KeepsEnds};
+    ghost use Rattle.cics_transdata.specs.Undo.{Leads as EndLeads, IsReadyImage as IsEndReady};
+    ghost use Rattle.cics_transdata.specs.Undo.{undone as queue_undone, KeepsEnds};
     ghost use Rattle.cics_transdata.specs.UndoLaws as ends;
 
     type Image = QueueImage;

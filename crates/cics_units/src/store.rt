@@ -46,8 +46,8 @@ fn numbered(condition: Condition, number: Option<u64>) -> Answer
     }
 }
 
-// Keeps the image of a change of a file as the newest, if the change has one.
-fn keep_file(images: &mut Images<Store>, file: Name8, image: Option<FileImage>)
+// Adds the image of a change of a file as the newest, if the change has one.
+fn add_file_image(images: &mut Images<Store>, file: Name8, image: Option<FileImage>)
     requires room { 0 < images.old.room }
     ensures { images.new.newest_first ≡ of_files (image_if file image) ++ images.old.newest_first }
 {
@@ -56,8 +56,8 @@ fn keep_file(images: &mut Images<Store>, file: Name8, image: Option<FileImage>)
     }
 }
 
-// Keeps the images of changes of a file, the last one as the newest.
-fn keep_files(images: &mut Images<Store>, file: Name8, made: Items<FileImage>)
+// Adds the images of changes of a file, the last one as the newest.
+fn add_file_images(images: &mut Images<Store>, file: Name8, made: Items<FileImage>)
     requires room { length made ≤ images.old.room }
     ensures { images.new.newest_first
         ≡ of_files (with_stored file made []) ++ images.old.newest_first }
@@ -98,8 +98,8 @@ pub(crate) fn found(given: Option<Record>) -> Answer
     }
 }
 
-// Keeps the image of a change of a temporary storage queue as the newest, if the change has one.
-fn keep_temp(images: &mut Images<Store>, image: Option<TsImage>)
+// Adds the image of a change of a temporary storage queue as the newest, if the change has one.
+fn add_temp_image(images: &mut Images<Store>, image: Option<TsImage>)
     requires room { 0 < images.old.room }
     ensures { images.new.newest_first
         ≡ with_image (option_map TempStorage image) images.old.newest_first }
@@ -109,8 +109,8 @@ fn keep_temp(images: &mut Images<Store>, image: Option<TsImage>)
     }
 }
 
-// Keeps the image of a change of a transient data queue as the newest, if the change has one.
-fn keep_trans(images: &mut Images<Store>, queue: Name4, image: Option<TdImage>)
+// Adds the image of a change of a transient data queue as the newest, if the change has one.
+fn add_trans_image(images: &mut Images<Store>, queue: Name4, image: Option<TdImage>)
     requires room { 0 < images.old.room }
     ensures { images.new.newest_first
         ≡ with_image (option_map (in_queue queue) image) images.old.newest_first }
@@ -170,29 +170,29 @@ fn apply_to_file(
     ensures err_store { OnErr result (store.new ≡ store.old) }
     ensures err_images { OnErr result (images.new ≡ images.old) }
 {
-    let keep = bound.recoverable;
+    let recoverable = bound.recoverable;
     match bound.op {
         Op::Write { file, from, .. } => {
             let from = from.copy()?;
-            let changed = store.files.at_mut(file).write(from, keep)?;
-            keep_file(images, *file, changed.image);
+            let changed = store.files.at_mut(file).write(from, recoverable)?;
+            add_file_image(images, *file, changed.image);
             Ok(only(changed.condition))
         }
         Op::Rewrite { file, from, .. } => {
             let from = from.copy()?;
-            let changed = store.files.at_mut(file).rewrite(from, keep);
-            keep_file(images, *file, changed.image);
+            let changed = store.files.at_mut(file).rewrite(from, recoverable);
+            add_file_image(images, *file, changed.image);
             Ok(only(changed.condition))
         }
         Op::Delete { file, key } => {
-            let changed = store.files.at_mut(file).delete(key.bytes(), keep)?;
-            keep_file(images, *file, changed.image);
+            let changed = store.files.at_mut(file).delete(key.bytes(), recoverable)?;
+            add_file_image(images, *file, changed.image);
             Ok(only(changed.condition))
         }
         Op::DeleteGeneric { file, prefix } => {
             let lent = store.files.at_mut(file);
-            let removed = lent.delete_prefix(prefix.bytes(), keep)?;
-            keep_files(images, *file, removed.images);
+            let removed = lent.delete_prefix(prefix.bytes(), recoverable)?;
+            add_file_images(images, *file, removed.images);
             Ok(counted(removed.number))
         }
         _ => unreachable!(),
@@ -214,38 +214,38 @@ pub(crate) fn apply(
     ensures err_store { OnErr result (store.new ≡ store.old) }
     ensures err_images { OnErr result (images.new ≡ images.old) }
 {
-    let keep = bound.recoverable;
+    let recoverable = bound.recoverable;
     match bound.op {
         Op::TsWrite { queue, from } => {
-            let written = store.temp_storage.write(*queue, from.copy()?, keep)?;
-            keep_temp(images, written.image);
+            let written = store.temp_storage.write(*queue, from.copy()?, recoverable)?;
+            add_temp_image(images, written.image);
             Ok(numbered(written.condition, written.number))
         }
         Op::TsRewrite { queue, item, from } => {
             let from = from.copy()?;
-            let written = store.temp_storage.rewrite(queue, *item, from, keep);
-            keep_temp(images, written.image);
+            let written = store.temp_storage.rewrite(queue, *item, from, recoverable);
+            add_temp_image(images, written.image);
             Ok(numbered(written.condition, written.number))
         }
         Op::TsDelete { queue } => {
-            let deleted = store.temp_storage.delete(queue, keep);
-            keep_temp(images, deleted.image);
+            let deleted = store.temp_storage.delete(queue, recoverable);
+            add_temp_image(images, deleted.image);
             Ok(only(deleted.condition))
         }
         Op::TdWrite { queue, from } => {
             let from = from.copy()?;
             let written = store.trans_data.at_mut(queue).write(from)?;
-            keep_trans(images, *queue, written.image);
+            add_trans_image(images, *queue, written.image);
             Ok(only(written.condition))
         }
         Op::TdRead { queue } => {
             let read = store.trans_data.at_mut(queue).read(bound.own)?;
-            keep_trans(images, *queue, read.changed.image);
+            add_trans_image(images, *queue, read.changed.image);
             Ok(with_content(read.changed.condition, read.content))
         }
         Op::TdDelete { queue } => {
             let deleted = store.trans_data.at_mut(queue).delete();
-            keep_trans(images, *queue, deleted.image);
+            add_trans_image(images, *queue, deleted.image);
             Ok(only(deleted.condition))
         }
         _ => apply_to_file(store, bound, images),

@@ -19,7 +19,7 @@ ghost use Rattle.cics_history.specs.Isolation.{IsSound};
 ghost use Rattle.cics_units.specs.Listings.{listing_of, replayed_listing};
 ghost use Rattle.cics_units.specs.Submitting.{as_done, IsBackIfItWaits};
 ghost use Rattle.cics_units.specs.StorePlaces.{number_asked};
-ghost use Rattle.cics_units.specs.UnitImages.{kept_by, AreOthersKept};
+ghost use Rattle.cics_units.specs.ImageRows.{kept_by, AreOthersKept};
 ghost use Rattle.cics_tempstor.specs.Queues.{read_item, after_read_item};
 ghost use Rattle.cics_tempstor.specs.Undo.{KeepsQueues};
 ghost use Rattle.cics_history.specs.declared.ops.UnitState.TheVariants.{Committed, BackedOut};
@@ -38,31 +38,32 @@ use std::alloc::Global;
 use std::marker::Model;
 use std::mem;
 
-/// What came of a command that was handed over.
+/// Result of `submit`.
 #[derive(Drop)]
 pub enum Submitted {
-    /// It was executed by this unit, which may have begun with it, and is answered so.
+    /// The unit that executed the command, which may have begun with it, and the answer.
     Answered(UnitId, Answer),
-    /// It wasn't executed, as it has to wait for this other unit, and comes back.
+    /// Another unit that blocks the command, and the command, which wasn't executed.
     MustWait(UnitId, Op),
 }
 
 /// The units of work of a region, with its files and queues.
 ///
-/// Contracts see the state of the units, which is what was opened, the executed commands in their
-/// order, the outcome of each unit, those that committed in the order in which they did, the open
-/// update reads, the counts of ENQ and the NEXT places, and beside it the store, which is read off
-/// the files and queues themselves. After every call `headline` holds.
+/// Contracts see two fields. `state` is the history: the opening, the trace of executed commands,
+/// the outcome of each unit, the commits in their order, the open update reads, the counts of ENQ
+/// and the NEXT places. `store` is read off the files and queues themselves.
 ///
-/// By it the store is what replaying the executed commands gives, without all that units which were
-/// backed out executed on recoverable files and queues, and each command of the replay has the
-/// answer that it was given.
+/// After every call `headline` holds, which says two things of them:
 ///
-/// And the units take turns: what each unit that committed did to recoverable files and queues, one
-/// after the other in the order of their commits, gives what would stand there if the open units
-/// were backed out; with the open ones behind, in any order, it gives what stands there. Each
-/// command that was answered NORMAL there has in its unit's turn the answer that it was given. A
-/// command that was answered otherwise is in no turn, nor is one on something unrecoverable.
+/// - The store equals a replay of the trace that leaves out what backed-out units did to
+///   recoverable files and queues. In it each command has the answer that it was given.
+/// - Committed units are serializable in commit order. Their NORMAL commands on recoverable files
+///   and queues, run unit after unit, give what would stand there if the open units were backed
+///   out; with the open units behind, in any order, what stands there. Each of these commands has
+///   in its unit's turn the answer that it was given.
+///
+/// The invariant that carries this is `AreValid`: it ties the store, the images and the locks to the
+/// history, so that undoing the images of any open unit leaves what the others did.
 #[derive(Drop)]
 pub struct Units {
     opening: Opening,
@@ -77,7 +78,7 @@ impl Model for Units {
     ghost use Rattle.cics_history.specs.Execution.{UnitsValue};
     ghost use Rattle.cics_units.specs.StoreMatching.{shown_store};
     ghost use Rattle.cics_units.specs.Cores.{core_value};
-    ghost use Rattle.cics_units.specs.KeptUnits.{state_shown, AreKept};
+    ghost use Rattle.cics_units.specs.KeptUnits.{state_shown, AreValid};
     ghost use Rattle.std.specs.Prelude.{◌≤◌, length, vec_capacity};
 
     ghost Value = { UnitsValue };
@@ -89,7 +90,7 @@ impl Model for Units {
     } };
 
     ghost invariant = { λ u.
-        AreKept (state_shown u.opening u.trace.items u.outcomes.items u.commits.items
+        AreValid (state_shown u.opening u.trace.items u.outcomes.items u.commits.items
         (core_value u.core)) (core_value u.core).stores u.core.locks
         × (length u.outcomes.items ≤ vec_capacity u.commits) };
 }
@@ -105,7 +106,7 @@ fn unit_or_next(unit: Option<UnitId>, outcomes: &[UnitState]) -> UnitId
 }
 
 // Makes room for one unit more, and for the commits of it and of all that have begun.
-fn make_room(outcomes: &mut Vec<UnitState>, commits: &mut Vec<UnitId>) -> Result<(), NoMemory>
+fn reserve_unit(outcomes: &mut Vec<UnitState>, commits: &mut Vec<UnitId>) -> Result<(), NoMemory>
     ensures outcomes { outcomes.new.items ≡ outcomes.old.items }
     ensures commits { commits.new.items ≡ commits.old.items }
     ensures capacity { vec_capacity commits.old ≤ vec_capacity commits.new }
@@ -113,8 +114,10 @@ fn make_room(outcomes: &mut Vec<UnitState>, commits: &mut Vec<UnitId>) -> Result
     ensures turns { OnOk result (length outcomes.new.items + 1 ≤ vec_capacity commits.new) }
 {
     outcomes.reserve(1)?;
-    let turns = outcomes.len() + 1;
-    commits.reserve(turns.saturating_sub(commits.len()))?;
+    let begun = outcomes.len();
+    if commits.capacity() <= begun {
+        commits.reserve((begun + 1).saturating_sub(commits.len()))?;
+    }
     Ok(())
 }
 
@@ -129,6 +132,7 @@ fn begin(outcomes: &mut Vec<UnitState>, unit: Option<UnitId>)
 }
 
 // Enters an executed command, and the unit that began with it where there was none.
+#[inline(always)]
 fn enter(trace: &mut Vec<Entry>, outcomes: &mut Vec<UnitState>, unit: Option<UnitId>, entry: Entry)
     requires trace_room { vec_len trace.old < vec_capacity trace.old }
     requires outcomes_room { vec_len outcomes.old < vec_capacity outcomes.old }
@@ -220,12 +224,7 @@ impl Units {
         self.core.blocker(asking, &bound)
     }
 
-    /// Executes a command for a unit, or for the next one, which begins with it, or answers the
-    /// unit to wait for; then nothing changes. What `submit` asks of the unit and the command has
-    /// to hold.
-    ///
-    /// The command is copied for the trace, unless it has to wait. Where memory is refused nothing
-    /// changes.
+    /// Executes a copy of a command, as `submit` does. What `submit` asks has to hold.
     pub fn execute(&mut self, unit: Option<UnitId>, op: &Op) -> Result<Done, NoMemory>
         requires is_open { IsOpenOrNone self.old.state unit }
         requires ready { IsTrue (is_ready_op self.old.state unit op.now) }
@@ -235,25 +234,22 @@ impl Units {
         ensures headline { IsHeadline self.new }
         ensures err { OnErr result (self.new ≡ self.old) }
     {
-        let asking = unit;
-        if let Some(holder) = self.awaited(asking, op) {
-            return Ok(Done::MustWait(holder));
-        }
+        // The invariant is known once a field is used.
+        let _ = &self.opening;
         match self.submit(unit, op.copy()?)? {
             Submitted::Answered(unit, answer) => Ok(Done::Answered(unit, answer)),
             Submitted::MustWait(holder, _) => Ok(Done::MustWait(holder)),
         }
     }
 
-    /// Executes a command for a unit, or for the next one, which begins with it, as `execute` does;
-    /// but the command moves into the trace, and comes back where it has to wait.
+    /// Executes a command for a unit, or for the next one, which begins with it. If another unit
+    /// blocks the command, returns that unit and the command, and changes nothing.
     ///
-    /// An executed command is entered in the trace with its answer. The unit has to be open, the
-    /// file or the transient data queue defined, a record that is written to a file has to fit it
-    /// under the command's key, an item or a record of a queue has 1 to 32,767 bytes, REWRITE has
-    /// to be of the record that the unit has read for update, READ UPDATE needs that the unit has
-    /// none open in the file, and a key or a prefix has at most 255 bytes. Where memory is refused
-    /// nothing changes, and the command goes.
+    /// An executed command moves into the trace, with its answer. It has to be ready: its unit is
+    /// open, and its file or transient data queue is defined. A record for a file fits the file
+    /// under the command's key, one for a queue has 1 to 32,767 bytes, and a key or a prefix at
+    /// most 255. REWRITE is of the record that the unit has read for update, and READ UPDATE finds
+    /// none open in its file. On `NoMemory` nothing changes, and the command is gone.
     pub fn submit(&mut self, unit: Option<UnitId>, op: Op) -> Result<Submitted, NoMemory>
         requires is_open { IsOpenOrNone self.old.state unit }
         requires ready { IsTrue (is_ready_op self.old.state unit op) }
@@ -275,7 +271,7 @@ impl Units {
         }
         let content = self.core.given_record(&bound)?;
         self.trace.reserve(1)?;
-        make_room(&mut self.outcomes, &mut self.commits)?;
+        reserve_unit(&mut self.outcomes, &mut self.commits)?;
         let answer = self.core.execute(acting, &bound, content.as_ref())?;
         let entry = Entry {
             unit: acting,
@@ -309,7 +305,7 @@ impl Units {
         // A copy for each call that the unit is handed to.
         let begins = unit;
         let acting = unit_or_next(unit, self.outcomes.as_slice());
-        make_room(&mut self.outcomes, &mut self.commits)?;
+        reserve_unit(&mut self.outcomes, &mut self.commits)?;
         reserve_images(&mut self.core.rows, self.alloc, acting, 0)?;
         match self.core.locks.enq(value, acting) {
             Ok(None) => {}

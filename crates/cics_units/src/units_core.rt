@@ -1,9 +1,8 @@
 //! All that units change where it stands: the files and queues, the images of each unit, who holds
 //! what, and the open update reads.
 
-ghost use Rattle.std.specs.Prelude.{◌≡◌, ◌<◌, ◌≤◌, ℕ, true, false, not, if◌then◌else◌};
-ghost use Rattle.std.specs.Prelude.{[], None, length, filter, reverse, IfOk, IfSome, OnOk, OnErr};
-ghost use Rattle.std.specs.Prelude.{All};
+ghost use Rattle.std.specs.Prelude.{◌≡◌, ◌<◌, ◌≤◌, ℕ, true, false, not, if◌then◌else◌, [], None};
+ghost use Rattle.std.specs.Prelude.{length, filter, reverse, IfOk, IfSome, OnOk, OnErr, All};
 ghost use Rattle.std.specs.List.{list_any};
 ghost use Rattle.std.specs.Option.{option_copied};
 ghost use Rattle.cics_enqueue.specs.Resources.{is_user};
@@ -11,15 +10,14 @@ ghost use Rattle.cics_history.specs.Cells.{Reading, Writing};
 ghost use Rattle.cics_history.specs.Execution.{covers, read_at, with_read, is_read_of};
 ghost use Rattle.cics_history.specs.Records.{file_of, key_of};
 ghost use Rattle.cics_units.specs.Applied.{IsSeen};
-ghost use Rattle.cics_units.specs.Awaiting.{is_writer, unit_in_way};
+ghost use Rattle.cics_units.specs.Awaiting.{is_writer, IsOwn, unit_in_way};
 ghost use Rattle.cics_units.specs.Cores.{core_value, IsBoundFor};
 ghost use Rattle.cics_units.specs.Executed.{IsExecuted};
-ghost use Rattle.cics_units.specs.Parts.{IsFitOp, given_record, most_images, ArePartsKept};
-ghost use Rattle.cics_units.specs.QueueChanges.{is_trans, is_temp, queue_of};
+ghost use Rattle.cics_units.specs.Parts.{IsFitOp, given_record, most_images, IsCoreAsBefore};
+ghost use Rattle.cics_units.specs.QueueChanges.{is_temp, queue_of};
 ghost use Rattle.cics_units.specs.StoreEnds.{end_settled, ends_settled};
-ghost use Rattle.cics_units.specs.TableInPlace.{is_read, covered_read, AreOnce};
-ghost use Rattle.cics_units.specs.TableInPlace.{table_given_back};
-ghost use Rattle.cics_units.specs.UnitImages.{kept_by, room_of};
+ghost use Rattle.cics_units.specs.TableInPlace.{is_read, covered_read, AreOnce, table_given_back};
+ghost use Rattle.cics_units.specs.ImageRows.{kept_by, room_of};
 ghost use Rattle.cics_units.specs.Uses.{listed, taken_all, AreFreeFor, let_go};
 
 use crate::files::{Files, FilesImage};
@@ -182,16 +180,13 @@ impl UnitsCore {
         }
     }
 
-    // Returns whether a unit holds the writing end of the transient data queue that a command is
-    // on.
-    fn is_writer(&self, unit: UnitId, op: &Op) -> bool
-        ensures { is_trans op.now ≡ true → result ≡ is_writer self.now.locks unit (queue_of op.now) }
+    // Returns for READQ TD whether a unit holds the writing end of the queue, and so may read what
+    // it wrote itself.
+    fn reads_own(&self, unit: UnitId, op: &Op) -> bool
+        ensures { IsOwn op.now (is_writer self.now.locks unit (queue_of op.now)) result }
     {
-        let queue = match op {
-            Op::TdWrite { queue, .. } => queue,
-            Op::TdRead { queue } => queue,
-            Op::TdDelete { queue } => queue,
-            _ => return false,
+        let Op::TdRead { queue } = op else {
+            return false;
         };
         match self.locks.holder_of(&ResourceRef::writing_end(*queue)) {
             Some(holder) => holder == unit,
@@ -201,6 +196,7 @@ impl UnitsCore {
 
     /// Looks up where a command of a unit acts, and what it uses. `recoverable` says whether a
     /// command on temporary storage acts on something recoverable.
+    #[inline(always)]
     pub(crate) fn bind<'a>(&self, unit: UnitId, op: &'a Op, recoverable: bool) -> BoundOp<'a>
         requires fit { IsFitOp self.now.store op.now }
         requires short { length (key_of op.now) ≤ 255 }
@@ -213,13 +209,14 @@ impl UnitsCore {
             op,
             recoverable,
             uses: uses_of(op, recoverable),
-            own: self.is_writer(unit, op),
+            own: self.reads_own(unit, op),
         }
     }
 
     /// Returns the unit that a command has to wait for, if any: another than the one that asks that
     /// holds what overlaps what the command uses, else for READQ TD the writer of a LOGICAL queue
     /// in which there is no record that the acting unit may read.
+    #[inline(always)]
     pub(crate) fn blocker(&self, asking: Option<UnitId>, bound: &BoundOp<'_>) -> Option<UnitId>
         ensures { (acting : ℕ) → IsBoundFor (core_value self.now) acting bound.now →
             result ≡ unit_in_way self.now.locks self.now.store.trans_data bound.now.recoverable
@@ -243,7 +240,7 @@ impl UnitsCore {
 
     /// Returns a copy of the record that a command would be answered with now: READ UPDATE's, and
     /// READQ TD's, which may be one that its unit wrote itself. Other commands are given none.
-    #[inline(never)]
+    #[inline(always)]
     pub(crate) fn given_record(&self, bound: &BoundOp<'_>) -> Result<Option<Record>, NoMemory>
         requires fit { IsFitOp self.now.store bound.now.op.now }
         ensures { IfOk result (λ given. given
@@ -257,6 +254,7 @@ impl UnitsCore {
     }
 
     // Returns whether a command covers an update read of its unit.
+    #[inline(always)]
     fn covers(&self, unit: UnitId, op: &Op) -> bool
         requires once { AreOnce self.now.reads }
         ensures { result ≡ list_any (covers unit op.now) self.now.reads }
@@ -288,8 +286,8 @@ impl UnitsCore {
         }
     }
 
-    // Ends the update read that a command covers, if it covers one, and releases its record if the
-    // file isn't recoverable.
+    // Ends the update read that a command covers, if any, as `end_read` does.
+    #[inline(always)]
     fn end_covered(&mut self, unit: UnitId, op: &Op, recoverable: bool)
         requires short { All (λ r. length r.key ≤ 255) self.old.reads }
         requires once { AreOnce self.old.reads }
@@ -335,13 +333,14 @@ impl UnitsCore {
         }
     }
 
-    /// Executes a command of a unit that needn't wait, and may be the next one to begin, and
-    /// answers it.
+    /// Executes a command that nothing blocks, and answers it. Its unit may be the next to begin.
     ///
-    /// Every command goes one way: room for its images, what it uses, `store::apply`, the update
-    /// read that it covers. If it isn't answered NORMAL, what it acquired is released. READ UPDATE
-    /// changes nothing, and is answered with `given`, which `given_record` looked up. What a
-    /// command uses of something that isn't recoverable it doesn't acquire.
+    /// The steps are the same for every command. Make room for its images, acquire what it uses,
+    /// apply it to the store, and end the update read that it covers. If it is refused or isn't
+    /// answered NORMAL, what it acquired is released.
+    ///
+    /// READ UPDATE changes nothing in the store: it acquires the record `given`, and opens the
+    /// read. A command on something unrecoverable acquires nothing else.
     pub(crate) fn execute(
         &mut self,
         unit: UnitId,
@@ -361,7 +360,7 @@ impl UnitsCore {
             read_at self.old.reads unit (file_of bound.now.op.now) ≡ None }
         ensures executed { IfOk result (λ answer. IsExecuted (core_value self.old)
             (core_value self.new) unit bound.now.op.now bound.now.recoverable answer) }
-        ensures err { OnErr result (ArePartsKept (core_value self.old) (core_value self.new)) }
+        ensures err { OnErr result (IsCoreAsBefore (core_value self.old) (core_value self.new)) }
     {
         let most = most_images(&self.store, bound.op);
         reserve_images(&mut self.rows, self.alloc, unit, most)?;

@@ -3,8 +3,7 @@
 ghost use Rattle.std.specs.Prelude.{◌≡◌, ◌≤◌, ◌∷◌, [], false, length, IfOk, OnOk, OnErr};
 ghost use Rattle.std.specs.List.{list_any};
 ghost use Rattle.cics_enqueue.specs.Resources.{is_user, bytes_of};
-ghost use Rattle.cics_enqueue.specs.declared.resources.Resource.TheVariants.{FileKey};
-ghost use Rattle.cics_enqueue.specs.declared.resources.Resource.TheVariants.{TsQueue};
+ghost use Rattle.cics_enqueue.specs.declared.resources.Resource.TheVariants.{FileKey, TsQueue};
 ghost use Rattle.cics_enqueue.specs.declared.resources.Resource.TheVariants.{TdRead, TdWrite};
 ghost use Rattle.cics_history.specs.Records.{key_of};
 ghost use Rattle.cics_units.specs.Uses.{uses_if, listed, taken_all, AreFreeFor, holder_over_all};
@@ -45,21 +44,6 @@ impl WereFree {
     }
 }
 
-// The record of a file.
-fn record(file: Name8, key: &[u8]) -> Uses<'_>
-    requires most { length key.now ≤ 255 }
-    ensures { listed result ≡ FileKey file (bytes_of key.now) ∷ [] }
-{
-    Uses::One(ResourceRef::record(file, key))
-}
-
-// The name of a temporary storage queue that is recoverable.
-fn ts_queue<'a>(queue: Name8) -> Uses<'a>
-    ensures { listed result ≡ TsQueue queue ∷ [] }
-{
-    Uses::One(ResourceRef::ts_queue(queue))
-}
-
 /// What a command uses, by whether its file or queue is recoverable: the record of a file, there or
 /// not, or all under a prefix; of a recoverable temporary storage queue the name, and of a LOGICAL
 /// queue the reading end for a read, the writing end for a write, both for a delete.
@@ -68,17 +52,17 @@ pub(crate) fn uses_of(op: &Op, recoverable: bool) -> Uses<'_>
     ensures { listed result ≡ uses_if recoverable op.now }
 {
     match op {
-        Op::Write { file, key, .. } => record(*file, key.bytes()),
-        Op::Rewrite { file, key, .. } => record(*file, key.bytes()),
-        Op::Delete { file, key } => record(*file, key.bytes()),
+        Op::Write { file, key, .. } => Uses::One(ResourceRef::record(*file, key.bytes())),
+        Op::Rewrite { file, key, .. } => Uses::One(ResourceRef::record(*file, key.bytes())),
+        Op::Delete { file, key } => Uses::One(ResourceRef::record(*file, key.bytes())),
         Op::DeleteGeneric { file, prefix } => {
             Uses::One(ResourceRef::prefix(*file, prefix.bytes()))
         }
-        Op::ReadUpdate { file, key } => record(*file, key.bytes()),
+        Op::ReadUpdate { file, key } => Uses::One(ResourceRef::record(*file, key.bytes())),
         _ if !recoverable => Uses::Nothing,
-        Op::TsWrite { queue, .. } => ts_queue(*queue),
-        Op::TsRewrite { queue, .. } => ts_queue(*queue),
-        Op::TsDelete { queue } => ts_queue(*queue),
+        Op::TsWrite { queue, .. } => Uses::One(ResourceRef::ts_queue(*queue)),
+        Op::TsRewrite { queue, .. } => Uses::One(ResourceRef::ts_queue(*queue)),
+        Op::TsDelete { queue } => Uses::One(ResourceRef::ts_queue(*queue)),
         Op::TdWrite { queue, .. } => Uses::One(ResourceRef::writing_end(*queue)),
         Op::TdRead { queue } => Uses::One(ResourceRef::reading_end(*queue)),
         Op::TdDelete { queue } => Uses::Two(

@@ -19,11 +19,11 @@ returns-in_ok-written-in-TsWrite-clause-applied c =
     let rows = c.write.new.self in
     let w = c.in_ok-written-in-TsWrite in
     let e = w.ensures in
-    rw c.in-TsWrite.is (subst (λ x. IsApplied old (record old { temp_storage = rows }) c.args.images.now.newest_first c.keep_temp.new.images.newest_first (TsWrite c.in-TsWrite.queue x)
+    rw c.in-TsWrite.is (subst (λ x. IsApplied old (record old { temp_storage = rows }) c.args.images.now.newest_first c.add_temp_image.new.images.newest_first (TsWrite c.in-TsWrite.queue x)
     c.args.bound.now.recoverable c.args.bound.now.own c.numbered.result) c.in_ok-copy-in-TsWrite.ensures
     (temp_applied old (TsWrite c.in-TsWrite.queue c.in_ok-copy-in-TsWrite.field-0) c.args.bound.now.recoverable c.args.bound.now.own c.args.images.now.newest_first rows w.written.image refl
     (record { rising = e.rising; value = e.value; given = e.image; undoable = e.undoable; others = e.others })
-    c.numbered.result (c.numbered.ensures ∙ (λ i. numbered (e.condition i) (e.number i))) c.keep_temp.new.images.newest_first c.keep_temp.ensures))
+    c.numbered.result (c.numbered.ensures ∙ (λ i. numbered (e.condition i) (e.number i))) c.add_temp_image.new.images.newest_first c.add_temp_image.ensures))
 
 pub returns-in_ok-from-in-TsRewrite-clause-applied : goal.returns-in_ok-from-in-TsRewrite-clause-applied
 returns-in_ok-from-in-TsRewrite-clause-applied c =
@@ -32,7 +32,7 @@ returns-in_ok-from-in-TsRewrite-clause-applied c =
     let e = c.rewrite-written.ensures in
     let w = c.in-TsRewrite in
     let from = c.in_ok-from-in-TsRewrite in
-    let kept = c.keep_temp-in-TsRewrite in
+    let kept = c.add_temp_image-in-TsRewrite in
     let answer = c.numbered-in-TsRewrite in
     rw w.is (subst (λ x. IsApplied old (record old { temp_storage = rows }) c.args.images.now.newest_first kept.new.images.newest_first (TsRewrite w.queue w.item x)
     c.args.bound.now.recoverable c.args.bound.now.own answer.result) from.ensures
@@ -45,7 +45,7 @@ returns-in-TsDelete-clause-applied c =
     let old = c.args.store.now in
     let rows = c.delete-deleted.new.self in
     let e = c.delete-deleted.ensures in
-    let kept = c.keep_temp-in-TsDelete in
+    let kept = c.add_temp_image-in-TsDelete in
     rw c.in-TsDelete.is (temp_applied old (TsDelete c.in-TsDelete.queue) c.args.bound.now.recoverable c.args.bound.now.own c.args.images.now.newest_first rows c.delete-deleted.result.image refl
     (record { rising = e.rising; value = e.value; given = e.image; undoable = e.undoable; others = e.others })
     c.only.result (c.only.ensures ∙ ap only e.condition) kept.new.images.newest_first kept.ensures)
@@ -66,7 +66,7 @@ returns-in_ok-written-in-TdWrite-clause-applied c =
     let from = c.in_ok-from-in-TdWrite in
     let w = c.in_ok-written-in-TdWrite in
     let e = w.ensures in
-    let kept = c.keep_trans in
+    let kept = c.add_trans_image in
     let b = queue_here old q c.args.bound.now.recoverable (subst (λ o. IsBound old o c.args.bound.now.recoverable) c.in-TdWrite.is c.requires.bound) at.result.now at.ensures.value in
     rw c.in-TdWrite.is (subst (λ r. IsApplied old (with_trans_data old (with_value q new old.trans_data)) c.args.images.now.newest_first kept.new.images.newest_first (TdWrite q r)
     c.args.bound.now.recoverable c.args.bound.now.own c.only-in-TdWrite.result) from.ensures
@@ -93,7 +93,7 @@ returns-in_ok-read-in-TdRead-clause-applied c =
     let seen = subst (λ o. IfSome o (λ t. is_logical t.kind ≡ true → IsSeenIn c.args.bound.now.own (marks_of t))) at.ensures.value (subst (λ o. IsSeen old o c.args.bound.now.own) c.in-TdRead.is c.requires.seen) in
     rw c.in-TdRead.is (trans_applied old (TdRead q) c.args.bound.now.recoverable c.args.bound.now.own refl b at.ensures.in_order new r.read.changed.image
     (read_change b.queue new r.read.changed.image q c.args.bound.now.own e.without_image e.value e.image e.undoable e.fresh e.others) (read_told q c.args.bound.now.own b.queue b.marked seen) c.args.images.now.newest_first
-    c.with_content.result (c.with_content.ensures ∙ (λ i. record { condition = e.condition i; content = e.content i; number = None })) c.keep_trans-in-TdRead.new.images.newest_first c.keep_trans-in-TdRead.ensures)
+    c.with_content.result (c.with_content.ensures ∙ (λ i. record { condition = e.condition i; content = e.content i; number = None })) c.add_trans_image-in-TdRead.new.images.newest_first c.add_trans_image-in-TdRead.ensures)
 
 pub returns-in-TdDelete-clause-applied : goal.returns-in-TdDelete-clause-applied
 returns-in-TdDelete-clause-applied c =
@@ -105,4 +105,4 @@ returns-in-TdDelete-clause-applied c =
     let b = queue_here old q c.args.bound.now.recoverable (subst (λ o. IsBound old o c.args.bound.now.recoverable) c.in-TdDelete.is c.requires.bound) at.result.now at.ensures.value in
     rw c.in-TdDelete.is (trans_applied old (TdDelete q) c.args.bound.now.recoverable c.args.bound.now.own refl b at.ensures.in_order new c.delete-deleted-in-TdDelete.result.image
     (delete_change b.queue new c.delete-deleted-in-TdDelete.result.image q c.args.bound.now.own e.without_image e.value e.image e.undoable) tt c.args.images.now.newest_first
-    c.only-in-TdDelete.result (c.only-in-TdDelete.ensures ∙ ap only e.condition) c.keep_trans-in-TdDelete.new.images.newest_first c.keep_trans-in-TdDelete.ensures)
+    c.only-in-TdDelete.result (c.only-in-TdDelete.ensures ∙ ap only e.condition) c.add_trans_image-in-TdDelete.new.images.newest_first c.add_trans_image-in-TdDelete.ensures)

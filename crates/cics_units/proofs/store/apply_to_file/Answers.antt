@@ -30,10 +30,10 @@ returns-in_ok-changed-in-Write-clause-applied c =
     let from = c.in_ok-from-in-Write in
     let fit = subst (λ o. IsRecordOf o w.key w.from) there (subst (IsFitOp old) w.is c.requires.ready.fit) in
     let b = bound_here old w.file c.args.bound.now.recoverable (subst (λ o. IsBound old o c.args.bound.now.recoverable) w.is c.requires.ready.bound) f there in
-    rw w.is (subst (λ r. IsApplied old (with_files old (with_value w.file c.write.new.self old.files)) c.args.images.now.newest_first c.keep_file.new.images.newest_first (Write w.file w.key r)
+    rw w.is (subst (λ r. IsApplied old (with_files old (with_value w.file c.write.new.self old.files)) c.args.images.now.newest_first c.add_file_image.new.images.newest_first (Write w.file w.key r)
     c.args.bound.now.recoverable c.args.bound.now.own c.only.result) from.ensures
     (write_applied old w.file c.args.bound.now.recoverable c.args.bound.now.own b c.write.new.self c.in_ok-changed-in-Write.changed.image c.only.result
-    c.args.images.now.newest_first c.keep_file.new.images.newest_first c.keep_file.ensures w.key from.from
+    c.args.images.now.newest_first c.add_file_image.new.images.newest_first c.add_file_image.ensures w.key from.from
     (ap (key_of f.definition) from.ensures ∙ fit.1) e.value e.image e.undoable e.others (c.only.ensures ∙ ap only e.condition)))
 
 pub returns-in_ok-from-in-Rewrite-clause-applied : goal.returns-in_ok-from-in-Rewrite-clause-applied
@@ -44,7 +44,7 @@ returns-in_ok-from-in-Rewrite-clause-applied c =
     let there = c.at_mut-in-Rewrite.ensures.value in
     let e = c.rewrite-changed.ensures in
     let from = c.in_ok-from-in-Rewrite in
-    let kept = c.keep_file-in-Rewrite in
+    let kept = c.add_file_image-in-Rewrite in
     let fit = subst (λ o. IsRecordOf o w.key w.from) there (subst (IsFitOp old) w.is c.requires.ready.fit) in
     let b = bound_here old w.file c.args.bound.now.recoverable (subst (λ o. IsBound old o c.args.bound.now.recoverable) w.is c.requires.ready.bound) f there in
     rw w.is (subst (λ r. IsApplied old (with_files old (with_value w.file c.rewrite-changed.new.self old.files)) c.args.images.now.newest_first kept.new.images.newest_first (Rewrite w.file w.key r)
@@ -65,7 +65,7 @@ returns-in_ok-changed-in-Delete-clause-applied c =
     let old = c.args.store.now in
     let w = c.in-Delete in
     let e = c.in_ok-changed-in-Delete.ensures in
-    let kept = c.keep_file-in-Delete in
+    let kept = c.add_file_image-in-Delete in
     let b = bound_here old w.file c.args.bound.now.recoverable (subst (λ o. IsBound old o c.args.bound.now.recoverable) w.is c.requires.ready.bound) c.at_mut-in-Delete.result.now c.at_mut-in-Delete.ensures.value in
     rw w.is (subst (λ k. IsApplied old (with_files old (with_value w.file c.delete.new.self old.files)) c.args.images.now.newest_first kept.new.images.newest_first (Delete w.file k)
     c.args.bound.now.recoverable c.args.bound.now.own c.only-in-Delete.result) c.bytes.ensures
@@ -87,10 +87,10 @@ returns-in_ok-removed-in-DeleteGeneric-clause-applied c =
     let e = c.in_ok-removed-in-DeleteGeneric.ensures in
     let at = c.at_mut-lent in
     let b = bound_here old w.file c.args.bound.now.recoverable (subst (λ o. IsBound old o c.args.bound.now.recoverable) w.is c.requires.ready.bound) at.result.now at.ensures.value in
-    rw w.is (subst (λ p. IsApplied old (with_files old (with_value w.file c.delete_prefix.new.self old.files)) c.args.images.now.newest_first c.keep_files.new.images.newest_first (DeleteGeneric w.file p)
+    rw w.is (subst (λ p. IsApplied old (with_files old (with_value w.file c.delete_prefix.new.self old.files)) c.args.images.now.newest_first c.add_file_images.new.images.newest_first (DeleteGeneric w.file p)
     c.args.bound.now.recoverable c.args.bound.now.own c.counted.result) c.bytes-in-DeleteGeneric.ensures
     (generic_applied old w.file c.args.bound.now.recoverable c.args.bound.now.own b c.delete_prefix.new.self c.in_ok-removed-in-DeleteGeneric.removed.images c.counted.result
-    c.args.images.now.newest_first c.keep_files.new.images.newest_first c.keep_files.ensures c.bytes-in-DeleteGeneric.result.now e.value e.images (c.counted.ensures ∙ ap counted_as e.number)))
+    c.args.images.now.newest_first c.add_file_images.new.images.newest_first c.add_file_images.ensures c.bytes-in-DeleteGeneric.result.now e.value e.images (c.counted.ensures ∙ ap counted_as e.number)))
 
 pub unreachable-requires : goal.unreachable-requires
 unreachable-requires c =

@@ -11,10 +11,10 @@ use Rattle.cics_history.specs.declared.ops.UnitState.TheVariants.{BackedOut}
 use Rattle.cics_images.specs.Cells.{AreReadyInTurn, LeadBack, images_of, is_unnamed, all_swept}
 use Rattle.cics_units.specs.Parts.{CoreValue}
 use Rattle.cics_units.specs.StoreMatching.{shown_store, cell_of_any, any_content, AnyLeads, IsAnyReady, any_undone, any_swept, any_holds, AnyKeep}
-use Rattle.cics_units.specs.UnitImages.{kept_by}
-use Rattle.cics_units.specs.UnitImagesLaws.{held_after_end}
+use Rattle.cics_units.specs.ImageRows.{kept_by}
+use Rattle.cics_units.specs.ImageRowsLaws.{held_after_end}
 use Rattle.cics_units.specs.Cores.{core_value}
-use Rattle.cics_units.specs.KeptUnits.{state_shown, AreKept}
+use Rattle.cics_units.specs.KeptUnits.{state_shown, AreValid}
 use Rattle.cics_units.proofs.KeptUnits.{store_is, kept_headline, kept_backed_out}
 use Rattle.cics_units.proofs.ShownUnits.{live_of, ended_state, ended_kept}
 use Rattle.cics_units.proofs.units.Units.back_out.Goals as goal
@@ -42,7 +42,7 @@ module _ (c : After-end) where
   images : c.take_images-images.result.newest_first ≡ kept_by core.stores.images c.args.unit
   images = c.take_images-images.ensures.images
 
-  ended : AreKept (after_end before c.args.unit BackedOut) left.stores (released core.table c.args.unit)
+  ended : AreValid (after_end before c.args.unit BackedOut) left.stores (released core.table c.args.unit)
   ended =
       let old = core.stores.store in
       let new = left.stores.store in
@@ -57,7 +57,7 @@ module _ (c : After-end) where
   abbrev after : UnitsState
   after = state_shown c.self.inside.opening c.self.inside.trace.items (slice_set c.self.inside.outcomes.items c.args.unit BackedOut) c.self.inside.commits.items left
 
-  kept : AreKept after left.stores left.table
+  kept : AreValid after left.stores left.table
   kept =
       let u = c.self.inside in
       ended_kept u.opening u.trace.items u.outcomes.items u.commits.items core left c.self.invariant.0 c.args.unit live BackedOut c.release_all.ensures c.end.ensures ended

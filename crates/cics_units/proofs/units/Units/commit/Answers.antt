@@ -10,12 +10,12 @@ use Rattle.cics_history.proofs.Committing.{room_for_one}
 use Rattle.cics_history.specs.declared.ops.UnitState.TheVariants.{Committed}
 use Rattle.cics_units.specs.Cores.{core_value}
 use Rattle.cics_images.specs.Cells.{is_unnamed, all_swept}
-use Rattle.cics_units.specs.KeptUnits.{state_shown, AreKept}
+use Rattle.cics_units.specs.KeptUnits.{state_shown, AreValid}
 use Rattle.cics_units.specs.Parts.{CoreValue}
 use Rattle.cics_units.specs.StoreEnds.{any_fixed, ends_settled}
 use Rattle.cics_units.specs.StoreMatching.{StoreValue, AnyImage, cell_of_any, any_content, any_swept, any_holds, AnyKeep}
-use Rattle.cics_units.specs.UnitImages.{kept_by, AreHeldForImages}
-use Rattle.cics_units.specs.UnitImagesLaws.{held_after_end}
+use Rattle.cics_units.specs.ImageRows.{kept_by, AreHeldForImages}
+use Rattle.cics_units.specs.ImageRowsLaws.{held_after_end}
 use Rattle.cics_units.proofs.KeptUnits.{kept_headline, kept_committed, committed_store}
 use Rattle.cics_units.proofs.ShownUnits.{live_of, ended_state, ended_kept}
 use Rattle.cics_units.proofs.units.Units.commit.Goals as goal
@@ -67,14 +67,14 @@ module _ (c : After-end) where
   whole : left.stores.store ≡ all_swept any_swept cell_of_any (ends_settled core.stores.store (kept_by core.stores.images c.args.unit)) (kept_by core.stores.images c.args.unit)
   whole = given_up (λ s is. left.stores.store ≡ all_swept any_swept cell_of_any s is) c.forget.ensures.whole
 
-  ended : AreKept (after_end before c.args.unit Committed) left.stores (released core.table c.args.unit)
+  ended : AreValid (after_end before c.args.unit Committed) left.stores (released core.table c.args.unit)
   ended = kept_committed before core.stores left.stores core.table c.self.invariant.0 c.args.unit live
       c.take_images-images.ensures.none c.take_images-images.ensures.others contents cells fixed held whole
 
   abbrev after : UnitsState
   after = state_shown c.self.inside.opening c.self.inside.trace.items (slice_set c.self.inside.outcomes.items c.args.unit Committed) (c.self.inside.commits.items ++ c.args.unit ∷ []) left
 
-  kept : AreKept after left.stores left.table
+  kept : AreValid after left.stores left.table
   kept =
       let u = c.self.inside in
       ended_kept u.opening u.trace.items u.outcomes.items u.commits.items core left c.self.invariant.0 c.args.unit live Committed c.release_all.ensures c.end.ensures ended

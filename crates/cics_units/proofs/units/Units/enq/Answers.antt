@@ -6,9 +6,9 @@ use Rattle.cics_history.specs.Execution.{IsOpenUnit, IsOpenOrNone, unit_or_next,
 use Rattle.cics_history.specs.Events.{may_act}
 use Rattle.cics_history.specs.Headline.{IsHeadline}
 use Rattle.cics_units.specs.Cores.{core_value}
-use Rattle.cics_units.specs.KeptUnits.{state_shown, AreKept}
+use Rattle.cics_units.specs.KeptUnits.{state_shown, AreValid}
 use Rattle.cics_units.specs.StoreMatching.{shown_store}
-use Rattle.cics_units.specs.Parts.{CoreValue, AreRoomier, AreEnqueued, ArePartsKept}
+use Rattle.cics_units.specs.Parts.{CoreValue, AreRoomier, AreEnqueued, IsCoreAsBefore}
 use Rattle.cics_units.specs.TableInPlace.{value_of}
 use Rattle.cics_history.specs.declared.ops.Enqueued.TheVariants.{Taken, MustWait, CountFull}
 use Rattle.cics_units.proofs.KeptUnits.{kept_headline}
@@ -33,18 +33,18 @@ module _ (c : After-reserve_images) where
   roomier : AreRoomier core.stores (left core.table).stores
   roomier = record { store = refl; kept = c.reserve_images.ensures.kept; longer = c.reserve_images.ensures.longer }
 
-  same : (locks : Table) → locks ≡ core.table → ArePartsKept core (left locks)
+  same : (locks : Table) → locks ≡ core.table → IsCoreAsBefore core (left locks)
   same locks is = record { stores = roomier; table = is; reads = refl }
 
   abbrev after : Table → UnitsState
-  after locks = state_shown c.self.inside.opening c.self.inside.trace.items c.make_room.new.outcomes.items c.make_room.new.commits.items (left locks)
+  after locks = state_shown c.self.inside.opening c.self.inside.trace.items c.reserve_unit.new.outcomes.items c.reserve_unit.new.commits.items (left locks)
 
   -- where nothing is taken all is kept
-  kept_same : (locks : Table) → locks ≡ core.table → AreKept (after locks) (left locks).stores locks
+  kept_same : (locks : Table) → locks ≡ core.table → AreValid (after locks) (left locks).stores locks
   kept_same locks is =
       let u = c.self.inside in
-      refused_kept u.opening u.trace.items u.outcomes.items u.commits.items core (left locks) c.self.invariant.0 (same locks is) u.trace.items c.make_room.new.outcomes.items c.make_room.new.commits.items refl
-      c.make_room.ensures.outcomes c.make_room.ensures.commits
+      refused_kept u.opening u.trace.items u.outcomes.items u.commits.items core (left locks) c.self.invariant.0 (same locks is) u.trace.items c.reserve_unit.new.outcomes.items c.reserve_unit.new.commits.items refl
+      c.reserve_unit.ensures.outcomes c.reserve_unit.ensures.commits
 
   headline_same : (locks : Table) → locks ≡ core.table → IsHeadline (record { state = after locks; store = shown_store core.stores.store })
   headline_same locks is = kept_headline (after locks) (left locks).stores locks (kept_same locks is)
@@ -54,17 +54,17 @@ module _ (c : After-reserve_images) where
   over = value_over before core.stores core.table c.self.invariant.0 c.args.unit c.args.value.now c.unit_or_next-acting.result (c.unit_or_next-acting.ensures ∙ ap (unit_or_next c.args.unit) c.as_slice.ensures.value)
 
 -- ---- memory is refused
-pub returns-in_err-make_room-clause-headline : goal.returns-in_err-make_room-clause-headline
-returns-in_err-make_room-clause-headline c =
+pub returns-in_err-reserve_unit-clause-headline : goal.returns-in_err-reserve_unit-clause-headline
+returns-in_err-reserve_unit-clause-headline c =
     let u = c.self.inside in
     subst (λ s. IsHeadline (record { state = s; store = shown_store u.core.store }))
-    (λ i. state_shown u.opening u.trace.items (sym c.make_room.ensures.outcomes i) (sym c.make_room.ensures.commits i) (core_value u.core))
+    (λ i. state_shown u.opening u.trace.items (sym c.reserve_unit.ensures.outcomes i) (sym c.reserve_unit.ensures.commits i) (core_value u.core))
     (kept_headline (state_shown u.opening u.trace.items u.outcomes.items u.commits.items (core_value u.core)) (core_value u.core).stores u.core.locks c.self.invariant.0)
 
 pub invariant_of-self-in_err-reserve_images : goal.invariant_of-self-in_err-reserve_images
 invariant_of-self-in_err-reserve_images c = (
   kept_same (goal.at.invariant_of-self-in_err-reserve_images c).After-reserve_images c.self.inside.core.locks refl,
-  omega (arith, ap length c.make_room.ensures.outcomes, c.self.invariant.1, c.make_room.ensures.capacity),
+  omega (arith, ap length c.reserve_unit.ensures.outcomes, c.self.invariant.1, c.reserve_unit.ensures.capacity),
 )
 
 pub returns-in_err-reserve_images-clause-headline : goal.returns-in_err-reserve_images-clause-headline
@@ -109,7 +109,7 @@ returns-in-Ok-Some-clause-state c =
     let u = c.self.inside in
     let at = goal.at.returns-in-Ok-Some-clause-state c in
     refused_shown u.opening u.trace.items u.outcomes.items u.commits.items (core_value u.core) (left at.After-reserve_images c.enq.new.self) c.self.invariant.0
-    (same at.After-reserve_images c.enq.new.self (untaken at.In-Ok-Some)) c.make_room.new.outcomes.items c.make_room.new.commits.items c.make_room.ensures.outcomes c.make_room.ensures.commits
+    (same at.After-reserve_images c.enq.new.self (untaken at.In-Ok-Some)) c.reserve_unit.new.outcomes.items c.reserve_unit.new.commits.items c.reserve_unit.ensures.outcomes c.reserve_unit.ensures.commits
     ∙ sym (ap (after_enqueued (before at.After-reserve_images) c.args.unit c.args.value.now) (waits at.In-Ok-Some (over at.After-reserve_images)))
     ∙ ap (λ w. after_enqueue w.state c.args.unit c.args.value.now) c.self.view_is
 
@@ -136,7 +136,7 @@ returns-in-Err-Full-clause-state c =
     let u = c.self.inside in
     let at = goal.at.returns-in-Err-Full-clause-state c in
     refused_shown u.opening u.trace.items u.outcomes.items u.commits.items (core_value u.core) (left at.After-reserve_images c.enq.new.self) c.self.invariant.0
-    (same at.After-reserve_images c.enq.new.self c.in-Err-Full.ensures.err) c.make_room.new.outcomes.items c.make_room.new.commits.items c.make_room.ensures.outcomes c.make_room.ensures.commits
+    (same at.After-reserve_images c.enq.new.self c.in-Err-Full.ensures.err) c.reserve_unit.new.outcomes.items c.reserve_unit.new.commits.items c.reserve_unit.ensures.outcomes c.reserve_unit.ensures.commits
     ∙ sym (ap (after_enqueued (before at.After-reserve_images) c.args.unit c.args.value.now) (full at.In-Err-Full (over at.After-reserve_images)))
     ∙ ap (λ w. after_enqueue w.state c.args.unit c.args.value.now) c.self.view_is
 
@@ -157,7 +157,7 @@ module _ (c : After-begin) (roomier : AreRoomier (core_value c.self.inside.core)
   new = record (core_value c.self.inside.core) { stores = record { store = c.self.inside.core.store; images = c.reserve_images.new.rows.items }; table = c.enq.new.self }
 
   abbrev now : UnitsState
-  now = state_shown c.self.inside.opening c.self.inside.trace.items c.begin.new.outcomes.items c.make_room.new.commits.items new
+  now = state_shown c.self.inside.opening c.self.inside.trace.items c.begin.new.outcomes.items c.reserve_unit.new.commits.items new
 
   acts : may_act old c.args.unit ≡ true
   acts = acts_of old c.args.unit (subst (λ w. IsOpenOrNone w.state c.args.unit) (sym c.self.view_is) c.requires.is_open)
@@ -180,25 +180,25 @@ module _ (c : After-begin) (roomier : AreRoomier (core_value c.self.inside.core)
 
   shown : now ≡ state_shown c.self.inside.opening c.self.inside.trace.items (outcomes_with c.args.unit c.self.inside.outcomes.items) c.self.inside.commits.items new
   shown =
-      let outcomes : c.begin.new.outcomes.items ≡ outcomes_with c.args.unit c.self.inside.outcomes.items = c.begin.ensures ∙ ap (outcomes_with c.args.unit) c.make_room.ensures.outcomes in
-      λ i. state_shown c.self.inside.opening c.self.inside.trace.items (outcomes i) (c.make_room.ensures.commits i) new
+      let outcomes : c.begin.new.outcomes.items ≡ outcomes_with c.args.unit c.self.inside.outcomes.items = c.begin.ensures ∙ ap (outcomes_with c.args.unit) c.reserve_unit.ensures.outcomes in
+      λ i. state_shown c.self.inside.opening c.self.inside.trace.items (outcomes i) (c.reserve_unit.ensures.commits i) new
 
   state : now ≡ after_enqueue old c.args.unit c.args.value.now
   state =
       let u = c.self.inside in
       shown ∙ enqueued_shown u.opening u.trace.items u.outcomes.items u.commits.items (core_value u.core) new c.self.invariant.0 c.args.unit c.args.value.now acts takes done
 
-  kept : AreKept now new.stores new.table
+  kept : AreValid now new.stores new.table
   kept =
       let u = c.self.inside in
-      subst (λ s. AreKept s new.stores new.table) (sym shown)
+      subst (λ s. AreValid s new.stores new.table) (sym shown)
       (enqueued_kept u.opening u.trace.items u.outcomes.items u.commits.items (core_value u.core) new c.self.invariant.0 c.args.unit c.args.value.now acts takes done)
 
 pub invariant_of-self-2 : goal.invariant_of-self-2
 invariant_of-self-2 c =
     let at = goal.at.invariant_of-self-2 c in
     let room = at.After-reserve_images in
-    (kept at.After-begin (roomier room) (none at.In-Ok-None (over room)), omega (arith, with_len c.args.unit c.make_room.new.outcomes.items, ap length c.begin.ensures, c.in_ok-make_room.ensures.turns))
+    (kept at.After-begin (roomier room) (none at.In-Ok-None (over room)), omega (arith, with_len c.args.unit c.reserve_unit.new.outcomes.items, ap length c.begin.ensures, c.in_ok-reserve_unit.ensures.turns))
 
 pub returns-clause-done : goal.returns-clause-done
 returns-clause-done c =

@@ -5,7 +5,7 @@ use Rattle.cics_history.specs.Headline.{IsHeadline}
 use Rattle.cics_history.specs.Holding.{UnitsState}
 use Rattle.cics_images.specs.StoreCells.{with_temp_storage}
 use Rattle.cics_units.specs.Cores.{core_value}
-use Rattle.cics_units.specs.KeptUnits.{state_shown, AreKept}
+use Rattle.cics_units.specs.KeptUnits.{state_shown, AreValid}
 use Rattle.cics_units.specs.Parts.{CoreValue}
 use Rattle.cics_units.specs.StoreMatching.{shown_store}
 use Rattle.cics_units.specs.StorePlaces.{number_asked}
@@ -39,7 +39,7 @@ module _ (c : In_ok-read) where
   abbrev after : UnitsState
   after = state_shown c.self.inside.opening c.self.inside.trace.items c.self.inside.outcomes.items c.self.inside.commits.items left
 
-  kept : AreKept after left.stores left.table
+  kept : AreValid after left.stores left.table
   kept =
       let u = c.self.inside in
       read_kept u.opening u.trace.items u.outcomes.items u.commits.items (core_value u.core) c.self.invariant.0 c.args.queue.now number c.read_ts.new.queues c.in_ok-read.ensures.value c.in_ok-read.ensures.kept

@@ -9,7 +9,7 @@ use Rattle.cics_history.specs.declared.ops.Op.{Op}
 use Rattle.cics_history.specs.declared.ops.Entry.{Entry}
 use Rattle.cics_history.specs.declared.ops.Done.TheVariants.{Answered}
 use Rattle.cics_units.specs.Cores.{core_value}
-use Rattle.cics_units.specs.KeptUnits.{state_shown, AreKept}
+use Rattle.cics_units.specs.KeptUnits.{state_shown, AreValid}
 use Rattle.cics_units.specs.StoreMatching.{shown_store}
 use Rattle.cics_units.specs.Uses.{uses_if, AreFreeFor}
 use Rattle.cics_units.specs.Parts.{CoreValue}
@@ -80,23 +80,23 @@ returns-in_err-reserve-clause-headline c =
     subst (λ entries. IsHeadline (record { state = state_shown u.opening entries u.outcomes.items u.commits.items (core_value u.core); store = shown_store u.core.store })) (sym c.reserve.ensures.items)
     (headline (goal.at.returns-in_err-reserve-clause-headline c).After-blocker)
 
-pub returns-in_err-make_room-clause-headline : goal.returns-in_err-make_room-clause-headline
-returns-in_err-make_room-clause-headline c =
+pub returns-in_err-reserve_unit-clause-headline : goal.returns-in_err-reserve_unit-clause-headline
+returns-in_err-reserve_unit-clause-headline c =
     let u = c.self.inside in
     subst (λ s. IsHeadline (record { state = s; store = shown_store u.core.store }))
-    (λ i. state_shown u.opening (sym c.reserve.ensures.items i) (sym c.make_room.ensures.outcomes i) (sym c.make_room.ensures.commits i) (core_value u.core))
-    (headline (goal.at.returns-in_err-make_room-clause-headline c).After-blocker)
+    (λ i. state_shown u.opening (sym c.reserve.ensures.items i) (sym c.reserve_unit.ensures.outcomes i) (sym c.reserve_unit.ensures.commits i) (core_value u.core))
+    (headline (goal.at.returns-in_err-reserve_unit-clause-headline c).After-blocker)
 
-refused : (c : In_err-answer) → AreKept (state_shown c.self.inside.opening c.reserve.new.self.items c.make_room.new.outcomes.items c.make_room.new.commits.items (core_value c.execute.new.self)) (core_value c.execute.new.self).stores c.execute.new.self.locks
+refused : (c : In_err-answer) → AreValid (state_shown c.self.inside.opening c.reserve.new.self.items c.reserve_unit.new.outcomes.items c.reserve_unit.new.commits.items (core_value c.execute.new.self)) (core_value c.execute.new.self).stores c.execute.new.self.locks
 refused c =
     let u = c.self.inside in
-    refused_kept u.opening u.trace.items u.outcomes.items u.commits.items (core_value u.core) (core_value c.execute.new.self) c.self.invariant.0 c.in_err-answer.ensures.err c.reserve.new.self.items c.make_room.new.outcomes.items
-    c.make_room.new.commits.items c.reserve.ensures.items c.make_room.ensures.outcomes c.make_room.ensures.commits
+    refused_kept u.opening u.trace.items u.outcomes.items u.commits.items (core_value u.core) (core_value c.execute.new.self) c.self.invariant.0 c.in_err-answer.ensures.err c.reserve.new.self.items c.reserve_unit.new.outcomes.items
+    c.reserve_unit.new.commits.items c.reserve.ensures.items c.reserve_unit.ensures.outcomes c.reserve_unit.ensures.commits
 
 pub invariant_of-self-in_err-answer : goal.invariant_of-self-in_err-answer
 invariant_of-self-in_err-answer c = (
   refused (goal.at.invariant_of-self-in_err-answer c).In_err-answer,
-  omega (arith, ap length c.make_room.ensures.outcomes, c.self.invariant.1, c.make_room.ensures.capacity),
+  omega (arith, ap length c.reserve_unit.ensures.outcomes, c.self.invariant.1, c.reserve_unit.ensures.capacity),
 )
 
 pub returns-in_err-answer-clause-headline : goal.returns-in_err-answer-clause-headline
@@ -156,7 +156,7 @@ module _ (c : After-enter)
   new = core_value c.execute.new.self
 
   abbrev now : UnitsState
-  now = state_shown c.self.inside.opening c.enter.new.trace.items c.enter.new.outcomes.items c.make_room.new.commits.items new
+  now = state_shown c.self.inside.opening c.enter.new.trace.items c.enter.new.outcomes.items c.reserve_unit.new.commits.items new
 
   abbrev done_op : Op
   done_op = c.bind-bound.result.op.now
@@ -186,10 +186,10 @@ module _ (c : After-enter)
   } ∷ [])
 
   outcomes : c.enter.new.outcomes.items ≡ outcomes_with c.args.unit c.self.inside.outcomes.items
-  outcomes = c.enter.ensures.outcomes ∙ ap (outcomes_with c.args.unit) c.make_room.ensures.outcomes
+  outcomes = c.enter.ensures.outcomes ∙ ap (outcomes_with c.args.unit) c.reserve_unit.ensures.outcomes
 
   shown : now ≡ state_shown c.self.inside.opening (c.self.inside.trace.items ++ entry ∷ []) (outcomes_with c.args.unit c.self.inside.outcomes.items) c.self.inside.commits.items new
-  shown = λ i. state_shown c.self.inside.opening (trace i) (outcomes i) (c.make_room.ensures.commits i) new
+  shown = λ i. state_shown c.self.inside.opening (trace i) (outcomes i) (c.reserve_unit.ensures.commits i) new
 
   told : Answered c.unit_or_next-acting.result c.in_ok-answer.answer ≡ execution old c.args.unit c.args.op
   told =
@@ -204,16 +204,16 @@ module _ (c : After-enter)
       shown ∙ parts_state u.opening u.trace.items u.outcomes.items u.commits.items (core_value u.core) new c.self.invariant.0 c.args.unit done_op asked.acts none asked.ready c.in_ok-answer.answer asked.stands done
       ∙ ap (after_execution old c.args.unit) c.bind-bound.ensures.op
 
-  kept : AreKept now new.stores new.table
+  kept : AreValid now new.stores new.table
   kept =
       let u = c.self.inside in
-      subst (λ s. AreKept s new.stores new.table) (sym shown)
+      subst (λ s. AreValid s new.stores new.table) (sym shown)
       (parts_kept u.opening u.trace.items u.outcomes.items u.commits.items (core_value u.core) new c.self.invariant.0 c.args.unit done_op asked.acts none asked.ready c.in_ok-answer.answer asked.stands done)
 
 pub invariant_of-self-2 : goal.invariant_of-self-2
 invariant_of-self-2 c =
     let at = goal.at.invariant_of-self-2 c in
-    (kept at.After-enter (known at.After-blocker), omega (arith, with_len c.args.unit c.make_room.new.outcomes.items, ap length c.enter.ensures.outcomes, c.in_ok-make_room.ensures.turns))
+    (kept at.After-enter (known at.After-blocker), omega (arith, with_len c.args.unit c.reserve_unit.new.outcomes.items, ap length c.enter.ensures.outcomes, c.in_ok-reserve_unit.ensures.turns))
 
 pub returns-clause-done : goal.returns-clause-done
 returns-clause-done c =

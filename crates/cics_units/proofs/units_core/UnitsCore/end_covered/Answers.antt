@@ -5,7 +5,7 @@ use Rattle.std.proofs.lemmas.Bool.{true≢false}
 use Rattle.cics_history.specs.Execution.{covers, read_at, is_read_of}
 use Rattle.cics_history.specs.Records.{file_of}
 use Rattle.cics_units.specs.TableInPlace.{table_given_back}
-use Rattle.cics_units.proofs.DoneParts.{queue_uncovered}
+use Rattle.cics_units.proofs.DoneCommands.{queue_uncovered}
 use Rattle.cics_units.proofs.HeldReads.{filter_none}
 use Rattle.cics_units.proofs.PartChanges.{covered_rest}
 use Rattle.cics_units.proofs.ShownUnits.{read_short}

@@ -1,7 +1,6 @@
-use Rattle.std.proofs.Common.{◌≡◌, ◌∙◌, false, Bool, Option, Some, None, List, sym, ap, subst, refl, arith, is_some, not, filter}
+use Rattle.std.proofs.Common.{◌≡◌, ◌∙◌, false, Bool, Option, Some, None, List, sym, ap, subst, refl, arith, is_some, not, filter, Bor}
 use Rattle.std.specs.Prelude.{if◌then◌else◌, slice_get, slice_set}
 use Rattle.std.specs.Option.{option_copied}
-use Rattle.std.proofs.Common.{Bor}
 use Rattle.std.proofs.lemmas.Bool.{false_from_ne_true}
 use Rattle.cics_names.specs.Keyed.{Bytes}
 use Rattle.cics_images.specs.Cells.{Kept}
@@ -15,9 +14,9 @@ use Rattle.cics_units.specs.Executed.{IsDone, IsExecuted}
 use Rattle.cics_units.specs.Parts.{CoreValue, given_record}
 use Rattle.cics_units.specs.StoreMatching.{AnyImage}
 use Rattle.cics_units.specs.TableInPlace.{is_read}
-use Rattle.cics_units.specs.UnitImages.{kept_by, AreOthersKept}
+use Rattle.cics_units.specs.ImageRows.{kept_by, AreOthersKept}
 use Rattle.cics_units.specs.Uses.{uses_if, listed, taken_all}
-use Rattle.cics_units.proofs.DoneParts.{not_read, opened_none, changed_table, read_done}
+use Rattle.cics_units.proofs.DoneCommands.{not_read, opened_none, changed_table, read_done}
 use Rattle.cics_units.proofs.RefusedCommands.{condition_normal, reads_refused}
 use Rattle.cics_units.proofs.UnitRows.{kept_at, room_at, kept_set, others_set, row_read}
 use Rattle.cics_units.proofs.units_core.UnitsCore.execute.Goals as goal

@@ -15,7 +15,7 @@ use Rattle.cics_history.specs.declared.ops.Op.TheVariants.{Write, Rewrite, Delet
 use Rattle.cics_units.specs.Applied.{IsFileBound, read_given}
 use Rattle.cics_units.specs.Executed.{IsDone}
 use Rattle.cics_units.specs.Parts.{CoreValue}
-use Rattle.cics_units.specs.UnitImages.{kept_by}
+use Rattle.cics_units.specs.ImageRows.{kept_by}
 use Rattle.cics_units.specs.TableInPlace.{is_read, covered_read, table_given_back, table_changed}
 use Rattle.cics_units.specs.Uses.{uses_if, taken_all}
 use Rattle.cics_units.proofs.Applied.{read_applied}
@@ -34,17 +34,8 @@ queue_uncovered u _ reads queue = absurd (true≢false queue)
 
 -- a command that isn't READ UPDATE opens none
 pub opened_none : (u : ℕ) (op : Op) (reads : List UpdateRead) → is_read op ≡ false → opened u op reads ≡ reads
-opened_none u (Write f k r) reads other = refl
-opened_none u (Rewrite f k r) reads other = refl
-opened_none u (Delete f k) reads other = refl
-opened_none u (DeleteGeneric f p) reads other = refl
-opened_none u (TsWrite q d) reads other = refl
-opened_none u (TsRewrite q n d) reads other = refl
-opened_none u (TsDelete q) reads other = refl
-opened_none u (TdWrite q d) reads other = refl
-opened_none u (TdRead q) reads other = refl
-opened_none u (TdDelete q) reads other = refl
 opened_none u (ReadUpdate f k) reads other = absurd (true≢false other)
+opened_none u _ reads other = refl
 
 -- a command that matches no READ UPDATE is none
 pub not_read : (op : Op) → ((f k : Bytes) → op ≡ ReadUpdate f k → ⊥) → is_read op ≡ false

@@ -1,6 +1,6 @@
 use Rattle.std.proofs.Common.{subst}
 use Rattle.cics_units.proofs.Applied.{AreStoredOn, stored_on}
-use Rattle.cics_units.proofs.store.keep_files.Goals as goal
+use Rattle.cics_units.proofs.store.add_file_images.Goals as goal
 
 pub loop-image-preserved : goal.loop-image-preserved
 loop-image-preserved c =

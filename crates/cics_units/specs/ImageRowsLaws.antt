@@ -6,7 +6,7 @@ use Rattle.std.specs.Bool.{Decides}
 use Rattle.std.specs.Str.{bytes_eq}
 use Rattle.std.proofs.lemmas.Slice.Eq.{bytes_eq-Decides}
 use Rattle.cics_images.specs.Cells.{Cell, Kept, is_other, is_unnamed}
-use Rattle.cics_units.specs.UnitImages.{kept_none, kept_by, AreOthersKept, AreHeldForImages}
+use Rattle.cics_units.specs.ImageRows.{kept_none, kept_by, AreOthersKept, AreHeldForImages}
 
 -- ---- tests
 cases : (b : Bool) → (b ≡ true) ⊎ (b ≡ false)
