@@ -2,7 +2,8 @@
 
 ghost use Rattle.std.specs.Prelude.{◌≡◌, ◌++◌, ◌<◌, OnOk};
 ghost use Rattle.cics_picture.specs.Lanes.{most_lanes};
-ghost use Rattle.cics_picture.specs.Elements.{words, number_words, shape, stroke, field, spoken};
+ghost use Rattle.cics_picture.specs.Elements.{words_start, words, number_words, shape, stroke};
+ghost use Rattle.cics_picture.specs.Elements.{field, spoken};
 ghost use Rattle.cics_markup.specs.Documents.{attribute_text};
 ghost use Rattle.cics_picture.specs.Elements.{namespace, picture_start, moved_start, mark, tip, head};
 ghost use Rattle.cics_picture.specs.Elements.{arrow, cut};
@@ -16,7 +17,21 @@ use cics_markup::{
 };
 use cics_names::NoMemory;
 
+// Puts the start of a text at a place.
+fn push_words_start(out: &mut Vec<u8>, class: &[u8], place: (u64, u64)) -> Result<(), NoMemory>
+    ensures { OnOk result (out.new.items
+        ≡ out.old.items ++ words_start class.now place.0 place.1) }
+{
+    push_start(out, Tag::Text)?;
+    push_attribute(out, Key::Class, class)?;
+    push_number_attribute(out, Key::X, place.0)?;
+    push_number_attribute(out, Key::Y, place.1)?;
+    push_inside(out)?;
+    Ok(())
+}
+
 /// Puts words at a place.
+#[tactic(auto, using(crate::proofs::Chains::filled), unfolding(crate::specs::Elements::words))]
 pub fn push_words(
     out: &mut Vec<u8>,
     class: &[u8],
@@ -26,17 +41,14 @@ pub fn push_words(
     ensures { OnOk result (out.new.items
         ≡ out.old.items ++ words class.now place.0 place.1 bytes.now) }
 {
-    push_start(out, Tag::Text)?;
-    push_attribute(out, Key::Class, class)?;
-    push_number_attribute(out, Key::X, place.0)?;
-    push_number_attribute(out, Key::Y, place.1)?;
-    push_inside(out)?;
+    push_words_start(out, class, place)?;
     push_text(out, bytes)?;
     push_end(out, Tag::Text)?;
     Ok(())
 }
 
 /// Puts a number at a place.
+#[tactic(auto, using(crate::proofs::Chains::filled), unfolding(crate::specs::Elements::number_words))]
 pub fn push_number_words(
     out: &mut Vec<u8>,
     class: &[u8],
@@ -46,11 +58,7 @@ pub fn push_number_words(
     ensures { OnOk result (out.new.items
         ≡ out.old.items ++ number_words class.now place.0 place.1 number) }
 {
-    push_start(out, Tag::Text)?;
-    push_attribute(out, Key::Class, class)?;
-    push_number_attribute(out, Key::X, place.0)?;
-    push_number_attribute(out, Key::Y, place.1)?;
-    push_inside(out)?;
+    push_words_start(out, class, place)?;
     push_number(out, number)?;
     push_end(out, Tag::Text)?;
     Ok(())

@@ -2,14 +2,13 @@ use Rattle.std.proofs.Common.{[], ◌∷◌, ◌++◌, ap, ◌∙◌}
 use Rattle.cics_markup.specs.declared.names.Tag.TheVariants as tag
 use Rattle.cics_markup.specs.declared.names.Key.TheVariants as key
 use Rattle.cics_markup.specs.Names.{tag_name}
-use Rattle.cics_markup.specs.Documents.{attribute_text, number_of, said, document_text, start_text, end_text}
-use Rattle.cics_picture.specs.Elements.{words, class}
-use Rattle.cics_picture.proofs.Chains.{three, started, filled}
-use Rattle.cics_picture.proofs.elements.push_words.Goals as goal
+use Rattle.cics_markup.specs.Documents.{attribute_text, number_of}
+use Rattle.cics_picture.specs.Elements.{class}
+use Rattle.cics_picture.proofs.Chains.{three, started}
+use Rattle.cics_picture.proofs.elements.push_words_start.Goals as goal
 use lib.Chars.{codes}
 
 pub returns : goal.returns
-unfolding words
 returns c =
     let o = c.args.out.now.items in
     let n = codes "<" ++ tag_name tag.Text in
@@ -21,6 +20,4 @@ returns c =
     let e2 = c.in_ok-push_number_attribute.ensures ∙ ap (λ t. t ++ a1) e1 in
     let e3 = c.in_ok-push_number_attribute-2.ensures ∙ ap (λ t. t ++ a2) e2 in
     let front = e3 ∙ three (o ++ n) a0 a1 a2 in
-    let start = c.in_ok-push_inside.ensures ∙ ap (λ t. t ++ codes ">") front ∙ started o n (a0 ++ (a1 ++ (a2 ++ ([])))) (codes ">") in
-    let s = start_text tag.Text (class c.args.class.now ∷ number_of key.X c.args.place.0 ∷ number_of key.Y c.args.place.1 ∷ []) in
-    c.in_ok-push_end.ensures ∙ ap (λ t. t ++ end_text tag.Text) (c.in_ok-push_text.ensures ∙ ap (λ t. t ++ document_text (said c.args.bytes.now)) start) ∙ filled o s (document_text (said c.args.bytes.now)) (end_text tag.Text)
+    c.in_ok-push_inside.ensures ∙ ap (λ t. t ++ codes ">") front ∙ started o n (a0 ++ (a1 ++ (a2 ++ ([])))) (codes ">")
