@@ -1,7 +1,10 @@
 //! What stands in front of the token at which a line can't be read on.
 
 use cics_names::NoMemory;
-use cics_script::{skip_blanks, whole_token};
+use cics_script::{
+    Form, Start, command_named, define_object, load_object, queue_command, skip_blanks, start_of,
+    whole_token,
+};
 use std::alloc::Global;
 
 /// The tokens in front of a column, each with how many bytes stand before it, and the token there:
@@ -93,5 +96,19 @@ impl<'a> Context<'a> {
     /// Whether the line is a command: EXEC CICS stands behind a label.
     pub fn is_command(&self) -> bool {
         is_word(self.at(1), "EXEC") && is_word(self.at(2), "CICS")
+    }
+    /// What kind of line it is, as far as that stands in front: by the words of the grammar.
+    pub fn form(&self) -> Option<Form> {
+        if self.is_command() {
+            let verb = command_named(self.at(3))?;
+            return Some(Form::Command(queue_command(verb, self.at(4)).unwrap_or(verb)));
+        }
+        match start_of(self.at(0))? {
+            Start::Define => Some(Form::Define(define_object(self.at(1))?)),
+            Start::Load => Some(Form::Load(load_object(self.at(1))?)),
+            Start::Attach => Some(Form::Attach),
+            Start::Clock => Some(Form::Clock),
+            Start::Shutdown => Some(Form::Shutdown),
+        }
     }
 }

@@ -1,47 +1,12 @@
-//! What lines need and take, and what isn't modelled: the rows of which messages are made.
+//! What lines need, and what isn't modelled: the rows of which messages are made.
 
-/// What an option takes in its parentheses.
-#[derive(Clone, Copy, Debug, PartialEq, Eq)]
-pub enum Takes {
-    LongName,
-    ShortName,
-    Text,
-    Number,
-    Area,
-}
-
-/// What each option takes. QUEUE takes a long name or a short one.
-pub static TAKES: [(&str, Takes); 22] = [
-    ("FILE", Takes::LongName),
-    ("DATASET", Takes::LongName),
-    ("TSPREFIX", Takes::LongName),
-    ("QUEUE", Takes::LongName),
-    ("TDQUEUE", Takes::ShortName),
-    ("TRANSID", Takes::ShortName),
-    ("ABCODE", Takes::ShortName),
-    ("RIDFLD", Takes::Text),
-    ("FROM", Takes::Text),
-    ("RESOURCE", Takes::Text),
-    ("KEYLENGTH", Takes::Number),
-    ("KEYOFFSET", Takes::Number),
-    ("RECORDSIZE", Takes::Number),
-    ("DTIMOUT", Takes::Number),
-    ("LENGTH", Takes::Number),
-    ("ITEM", Takes::Number),
-    ("CLOCK", Takes::Number),
-    ("INTO", Takes::Area),
-    ("NUMREC", Takes::Area),
-    ("RESP", Takes::Area),
-    ("RESP2", Takes::Area),
-    ("SET", Takes::Area),
-];
-
-/// What a line that begins with a word, or a command of this verb, can't do without: the words of
-/// which one has to stand there, and how the first is written. The first row that is not met counts.
-pub static NEEDS: [(&str, &str, &str); 31] = [
-    ("FILE", "KEYLENGTH", "KEYLENGTH(6)"),
+/// What a line that defines or begins with one of some words, or a command of one of some verbs,
+/// can't do without: the words of which one has to stand there, and how the first is written. The
+/// first row that is not met counts.
+pub static NEEDS: [(&str, &str, &str); 14] = [
+    ("FILE DATASET", "KEYLENGTH", "KEYLENGTH(6)"),
     (
-        "FILE",
+        "FILE DATASET",
         "RECOVERABLE UNRECOVERABLE",
         "RECOVERABLE or UNRECOVERABLE",
     ),
@@ -52,100 +17,54 @@ pub static NEEDS: [(&str, &str, &str); 31] = [
     ),
     ("LOAD", "FROM", "FROM('0001 100')"),
     ("ATTACH", "TRANSID", "TRANSID('MOVE')"),
-    ("READ", "FILE DATASET", "FILE('ACCT')"),
-    ("READ", "RIDFLD", "RIDFLD('0001')"),
-    ("WRITE", "FILE DATASET", "FILE('ACCT')"),
-    ("WRITE", "RIDFLD", "RIDFLD('0001')"),
-    ("WRITE", "FROM", "FROM('0001 100')"),
-    ("REWRITE", "FILE DATASET", "FILE('ACCT')"),
-    ("REWRITE", "FROM", "FROM('0001 100')"),
-    ("DELETE", "FILE DATASET", "FILE('ACCT')"),
+    (
+        "READ WRITE REWRITE DELETE UNLOCK STARTBR RESETBR READNEXT READPREV ENDBR",
+        "FILE DATASET",
+        "FILE('ACCT')",
+    ),
+    ("READ WRITE STARTBR RESETBR", "RIDFLD", "RIDFLD('0001')"),
+    ("WRITE REWRITE", "FROM", "FROM('0001 100')"),
     (
         "DELETE",
         "RIDFLD",
         "RIDFLD('0001') beside KEYLENGTH, GENERIC and NUMREC",
     ),
-    ("UNLOCK", "FILE DATASET", "FILE('ACCT')"),
-    ("STARTBR", "FILE DATASET", "FILE('ACCT')"),
-    ("STARTBR", "RIDFLD", "RIDFLD('0001')"),
-    ("RESETBR", "FILE DATASET", "FILE('ACCT')"),
-    ("RESETBR", "RIDFLD", "RIDFLD('0001')"),
-    ("READNEXT", "FILE DATASET", "FILE('ACCT')"),
-    ("READPREV", "FILE DATASET", "FILE('ACCT')"),
-    ("ENDBR", "FILE DATASET", "FILE('ACCT')"),
-    ("WRITEQ", "QUEUE", "QUEUE('PAD')"),
+    ("WRITEQ READQ DELETEQ", "QUEUE", "QUEUE('PAD')"),
     ("WRITEQ", "FROM", "FROM('a line')"),
     ("WRITEQ", "ITEM", "ITEM(1) beside REWRITE"),
-    ("READQ", "QUEUE", "QUEUE('PAD')"),
-    ("DELETEQ", "QUEUE", "QUEUE('PAD')"),
-    ("ENQ", "RESOURCE", "RESOURCE('PRINTER')"),
-    ("ENQ", "LENGTH", "LENGTH(7)"),
-    ("DEQ", "RESOURCE", "RESOURCE('PRINTER')"),
-    ("DEQ", "LENGTH", "LENGTH(7)"),
+    ("ENQ DEQ", "RESOURCE", "RESOURCE('PRINTER')"),
+    ("ENQ DEQ", "LENGTH", "LENGTH(7)"),
 ];
 
-/// Options that one line can't have both.
-pub static EXCLUSIONS: [(&str, &str); 9] = [
-    ("RECOVERABLE", "UNRECOVERABLE"),
-    ("LOGICAL", "PHYSICAL NONE"),
-    ("PHYSICAL", "LOGICAL NONE"),
-    ("NONE", "LOGICAL PHYSICAL"),
-    ("EQUAL", "GTEQ"),
-    ("UPDATE", "GTEQ GENERIC"),
-    ("GTEQ", "EQUAL UPDATE"),
-    ("ITEM", "NEXT"),
-    ("MAIN", "AUXILIARY"),
-];
-
-/// Commands of CICS that aren't modelled, and what serves in their place.
-pub static NOT_MODELLED: [(&str, &str); 26] = [
+/// Commands of CICS that aren't modelled, parted by blanks, and what is said behind their verb.
+pub static NOT_MODELLED: [(&str, &str); 8] = [
     (
-        "HANDLE",
-        "HANDLE CONDITION isn't modelled (docs/RULES.md): use RESP or NOHANDLE",
+        "HANDLE IGNORE",
+        " CONDITION isn't modelled (docs/RULES.md): use RESP or NOHANDLE",
     ),
     (
-        "IGNORE",
-        "IGNORE CONDITION isn't modelled (docs/RULES.md): use RESP or NOHANDLE",
-    ),
-    (
-        "LINK",
-        "LINK isn't modelled (docs/RULES.md): write the commands of the program",
-    ),
-    (
-        "XCTL",
-        "XCTL isn't modelled (docs/RULES.md): write the commands of the program",
+        "LINK XCTL",
+        " isn't modelled (docs/RULES.md): write the commands of the program",
     ),
     (
         "START",
-        "START isn't modelled (docs/RULES.md): begin a task by ATTACH",
+        " isn't modelled (docs/RULES.md): begin a task by ATTACH",
     ),
-    ("RETRIEVE", "RETRIEVE isn't modelled (docs/RULES.md)"),
-    ("CANCEL", "CANCEL isn't modelled (docs/RULES.md)"),
     (
         "DELAY",
-        "DELAY isn't modelled (docs/RULES.md): move the clock by CLOCK",
+        " isn't modelled (docs/RULES.md): move the clock by CLOCK",
     ),
-    ("WAIT", "WAIT isn't modelled (docs/RULES.md)"),
-    ("POST", "POST isn't modelled (docs/RULES.md)"),
     (
         "SUSPEND",
-        "SUSPEND isn't modelled (docs/RULES.md): the order of the lines is the schedule",
+        " isn't modelled (docs/RULES.md): the order of the lines is the schedule",
     ),
-    ("ASKTIME", "ASKTIME isn't modelled (docs/RULES.md)"),
-    ("FORMATTIME", "FORMATTIME isn't modelled (docs/RULES.md)"),
-    ("SEND", "SEND isn't modelled (docs/RULES.md)"),
-    ("RECEIVE", "RECEIVE isn't modelled (docs/RULES.md)"),
-    ("CONVERSE", "CONVERSE isn't modelled (docs/RULES.md)"),
-    ("GETMAIN", "GETMAIN isn't modelled (docs/RULES.md)"),
-    ("FREEMAIN", "FREEMAIN isn't modelled (docs/RULES.md)"),
-    ("ASSIGN", "ASSIGN isn't modelled (docs/RULES.md)"),
-    ("ADDRESS", "ADDRESS isn't modelled (docs/RULES.md)"),
-    ("LOAD", "LOAD of a program isn't modelled (docs/RULES.md)"),
-    ("RELEASE", "RELEASE isn't modelled (docs/RULES.md)"),
-    ("JOURNAL", "JOURNAL isn't modelled (docs/RULES.md)"),
-    ("DUMP", "DUMP isn't modelled (docs/RULES.md)"),
-    ("PUSH", "PUSH HANDLE isn't modelled (docs/RULES.md)"),
-    ("POP", "POP HANDLE isn't modelled (docs/RULES.md)"),
+    ("LOAD", " of a program isn't modelled (docs/RULES.md)"),
+    ("PUSH POP", " HANDLE isn't modelled (docs/RULES.md)"),
+    (
+        "RETRIEVE CANCEL WAIT POST ASKTIME FORMATTIME SEND RECEIVE CONVERSE GETMAIN FREEMAIN \
+        ASSIGN ADDRESS RELEASE JOURNAL DUMP",
+        " isn't modelled (docs/RULES.md)",
+    ),
 ];
 
 /// Signs that begin no token, and what to do about them.

@@ -26,4 +26,8 @@ pub use lines::{Line, read_line};
 pub use spelling::commands_in_any_order;
 pub use texts::{push_bare, push_name, push_number, push_str, push_text};
 pub use tokens::{skip_blanks, whole_token};
+pub use words::{
+    Form, Kind, OptionWord, Start, command_named, define_object, is_excluded, kind_of, load_object,
+    option_named, queue_command, start_of,
+};
 pub use writing::write_out;
