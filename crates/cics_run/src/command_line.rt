@@ -64,9 +64,10 @@ pub enum Asked {
 /// Reads the words of a command line, of which the first is the program's name.
 ///
 /// The options are `--no-list`, which leaves out the listing, `--replay`, which asks for the replay
-/// behind it, `--serial`, which asks for the serial run behind both, and `--help` (or `-h`). An
-/// option that is given twice is bad, and so is every other word but a `--`, behind which no option
-/// may stand. It is refused for want of memory alone.
+/// behind it, `--serial`, which asks for the serial run behind both, `--with-script`, which asks
+/// for each line of the script in front of what it led to, and `--help` (or `-h`). An option that is
+/// given twice is bad, so is `--serial` beside `--with-script`, and so is every other word but a
+/// `--`, behind which no option may stand. It is refused for want of memory alone.
 pub fn arguments(alloc: Global, words: Vec<String>) -> Result<Asked, NoMemory> {
     match wanted(alloc, &words) {
         Ok(wanted) => Ok(Asked::Run(wanted)),
@@ -91,12 +92,18 @@ fn wanted(alloc: Global, words: &[String]) -> Result<Wanted, Error> {
         .long("serial")
         .action(ArgAction::SetTrue)
         .help("Print the serial run behind the listing and the replay");
+    let with_script = Arg::new(alloc, "with-script")
+        .long("with-script")
+        .action(ArgAction::SetTrue)
+        .conflicts_with("serial")?
+        .help("Print each line of the script in front of what it led to");
     let command = Command::new(alloc, "cicsrun")
         .about(ABOUT)
         .after_help(MORE)
         .arg(no_list)?
         .arg(replay)?
-        .arg(serial)?;
+        .arg(serial)?
+        .arg(with_script)?;
     let matches = command.try_get_matches_from(words)?;
     let options = Options {
         replay: matches.get_flag("replay"),
@@ -105,6 +112,7 @@ fn wanted(alloc: Global, words: &[String]) -> Result<Wanted, Error> {
     Ok(Wanted {
         options,
         serial: matches.get_flag("serial"),
+        with_script: matches.get_flag("with-script"),
     })
 }
 
