@@ -15,6 +15,7 @@ ghost use Rattle.cics_run.specs.Running.{ending};
 ghost use Rattle.cics_run.specs.Standing.{IsNew, line_step, WhereverStands, Feeds, Writes};
 ghost use Rattle.cics_run.specs.Standing.{Closes, Finishes};
 
+use crate::hints::Hints;
 use crate::listing::{push_listing, push_replay};
 use crate::running::{Status, Wanted};
 use crate::serial::push_serial;
@@ -30,13 +31,14 @@ const LF: u8 = 10;
 const CR: u8 = 13;
 
 /// What the lines so far have led to, how many there were, the bytes of the next line that have
-/// come, and the text that is printed and not yet written.
+/// come, the text that is printed and not yet written, and hints for a person.
 #[derive(Drop)]
 pub struct Session {
     pub stage: Stage,
     pub number: u64,
     pub line: Vec<u8>,
     pub pending: Vec<u8>,
+    pub hints: Hints,
 }
 
 // A line without the CR right before its LF.
@@ -94,6 +96,7 @@ fn run_one<K: Sink>(
     number: u64,
     line: &[u8],
     pending: &mut Vec<u8>,
+    hints: &mut Hints,
     sink: &mut K,
 ) -> Result<bool, Stop>
     ensures stage { IfOk result (λ _. stage.new ≡ (step number stage.old line.now).stage) }
@@ -107,10 +110,12 @@ fn run_one<K: Sink>(
         (pending.old.items ++ (step number stage.old line.now).text)) }
     ensures failed { Rises (K.failed sink.old) (K.failed sink.new) (stopped_writes result) }
 {
+    let before = pending.len();
     let is_fault = match stage.run_line(number, line, pending) {
         Ok(is_fault) => is_fault,
         Err(_) => return Err(Stop::NoMemory),
     };
+    hints.look(stage, line, pending, before);
     write_printed(pending, sink, is_fault)?;
     Ok(is_fault)
 }
@@ -125,6 +130,7 @@ impl Session {
             number: 0,
             line: Vec::new(alloc),
             pending: Vec::new(alloc),
+            hints: Hints::new(alloc),
         }
     }
 
@@ -157,7 +163,14 @@ impl Session {
         self.number += 1;
         let line = without_cr(&self.line);
         let size = line.len();
-        let fault = run_one(&mut self.stage, self.number, line, &mut self.pending, sink)?;
+        let fault = run_one(
+            &mut self.stage,
+            self.number,
+            line,
+            &mut self.pending,
+            &mut self.hints,
+            sink,
+        )?;
         if fault {
             self.line.truncate(size);
             return Ok(true);
@@ -230,6 +243,7 @@ impl Session {
             self.number,
             &self.line,
             &mut self.pending,
+            &mut self.hints,
             sink,
         )
     }
