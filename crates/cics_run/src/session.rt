@@ -17,6 +17,7 @@ ghost use Rattle.cics_run.specs.Standing.{IsNew, Ran, ended_line, next_text, Whe
 ghost use Rattle.cics_run.specs.Standing.{Feeds, Writes, Closes, Finishes};
 ghost use Rattle.cics_run.specs.declared.running.Wanted.{Wanted};
 
+use crate::hints::Hints;
 use crate::journal::push_script_line;
 use crate::listing::{push_listing, push_replay};
 use crate::running::{Status, Wanted};
@@ -34,7 +35,7 @@ const CR: u8 = 13;
 
 /// What the lines so far have led to, how many there were, the bytes of the next line that have
 /// come, the text that is printed and not yet written, the fault of the last line, which is kept
-/// then, and whether each line is printed in front of what it leads to.
+/// then, whether each line is printed in front of what it leads to, and hints for a person.
 #[derive(Drop)]
 pub struct Session {
     pub stage: Stage,
@@ -43,6 +44,7 @@ pub struct Session {
     pub pending: Vec<u8>,
     pub fault: Option<Fault>,
     pub with_script: bool,
+    pub hints: Hints,
 }
 
 // Drops the CR right before a line's LF.
@@ -114,6 +116,7 @@ impl Session {
             pending: Vec::new(alloc),
             fault: None,
             with_script: false,
+            hints: Hints::new(alloc),
         }
     }
 
@@ -145,9 +148,12 @@ impl Session {
     {
         self.number += 1;
         push_wanted_line(self.with_script, &self.line, &mut self.pending)?;
+        let before = self.pending.len();
         self.fault = self
             .stage
             .run_line(self.number, &self.line, &mut self.pending)?;
+        self.hints
+            .look(&self.stage, &self.line, &self.pending, before);
         let is_fault = self.fault.is_some();
         write_printed(&mut self.pending, sink, is_fault)?;
         Ok(is_fault)
