@@ -28,12 +28,17 @@ the units of work that committed did to recoverable files and queues, one unit
 after the other in the order of the commits; behind them the units that are open.
 It leaves recoverable files and queues as the run has left them.
 
+The picture has a row for each line of the journal and a lane for each of the
+first sixteen tasks, with a mark for each event and an arrow from each wait to
+the task that is waited for. It is written when the whole script is run.
+
 Exit status:
   0  the whole script was run, or this help was printed
   1  a line of the script is at fault: the journal ends with that line's fault
   2  the arguments are wrong
   3  there is no memory
-  4  a read or a write failed, or the script has more than 16,777,216 bytes
+  4  a read or a write failed, the script has more than 16,777,216 bytes, or a
+     picture would have more than 100,000 events
 
 Example, from the root of the repository. T2 waits for the record until T1 has
 taken its delete back by a rollback:
@@ -51,12 +56,14 @@ END";
 /// What a command line asks for.
 ///
 /// - `Run`: a run of a script.
+/// - `Picture`: the picture of a run.
 /// - `Help`: the help, which is to go to standard output.
 /// - `Bad`: nothing that the program knows. The text says what is wrong, and is to go to standard
 ///   error.
 #[derive(Drop)]
 pub enum Asked {
     Run(Wanted),
+    Picture,
     Help(String),
     Bad(String),
 }
@@ -64,12 +71,13 @@ pub enum Asked {
 /// Reads the words of a command line, of which the first is the program's name.
 ///
 /// The options are `--no-list`, which leaves out the listing, `--replay`, which asks for the replay
-/// behind it, `--serial`, which asks for the serial run behind both, and `--help` (or `-h`). An
-/// option that is given twice is bad, and so is every other word but a `--`, behind which no option
-/// may stand. It is refused for want of memory alone.
+/// behind it, `--serial`, which asks for the serial run behind both, `--picture`, which asks for a
+/// picture in place of all that, and `--help` (or `-h`). An option that is given twice is bad, one
+/// beside `--picture` too, and so is every other word but a `--`, behind which no option may stand.
+/// It is refused for want of memory alone.
 pub fn arguments(alloc: Global, words: Vec<String>) -> Result<Asked, NoMemory> {
-    match wanted(alloc, &words) {
-        Ok(wanted) => Ok(Asked::Run(wanted)),
+    match read_words(alloc, &words) {
+        Ok(asked) => Ok(asked),
         Err(error) => match error.kind() {
             ErrorKind::DisplayHelp => Ok(Asked::Help(error.to_string(alloc)?)),
             ErrorKind::OutOfMemory => Err(NoMemory),
@@ -78,7 +86,7 @@ pub fn arguments(alloc: Global, words: Vec<String>) -> Result<Asked, NoMemory> {
     }
 }
 
-fn wanted(alloc: Global, words: &[String]) -> Result<Wanted, Error> {
+fn read_words(alloc: Global, words: &[String]) -> Result<Asked, Error> {
     let no_list = Arg::new(alloc, "no-list")
         .long("no-list")
         .action(ArgAction::SetTrue)
@@ -91,21 +99,32 @@ fn wanted(alloc: Global, words: &[String]) -> Result<Wanted, Error> {
         .long("serial")
         .action(ArgAction::SetTrue)
         .help("Print the serial run behind the listing and the replay");
+    let picture = Arg::new(alloc, "picture")
+        .long("picture")
+        .action(ArgAction::SetTrue)
+        .conflicts_with("no-list")?
+        .conflicts_with("replay")?
+        .conflicts_with("serial")?
+        .help("Print a picture of the run (SVG) in place of all that");
     let command = Command::new(alloc, "cicsrun")
         .about(ABOUT)
         .after_help(MORE)
         .arg(no_list)?
         .arg(replay)?
-        .arg(serial)?;
+        .arg(serial)?
+        .arg(picture)?;
     let matches = command.try_get_matches_from(words)?;
+    if matches.get_flag("picture") {
+        return Ok(Asked::Picture);
+    }
     let options = Options {
         replay: matches.get_flag("replay"),
         no_list: matches.get_flag("no-list"),
     };
-    Ok(Wanted {
+    Ok(Asked::Run(Wanted {
         options,
         serial: matches.get_flag("serial"),
-    })
+    }))
 }
 
 /// The exit status that tells the answer of a run: 0 done, 1 a fault of a line or a definition, 3

@@ -16,6 +16,7 @@ mod writing;
 
 pub use command_line::{Asked, arguments, exit_status};
 pub use running::{CHUNK, LIMIT, Options, RunFault, Status, Wanted, run, run_over};
-pub use session::Session;
+pub use session::{Session, line_len, without_cr};
 pub use streams::{Failed, Sink, Source};
 pub use told::told_of;
+pub use writing::{Stop, write_pending};

@@ -39,8 +39,8 @@ pub struct Session {
     pub pending: Vec<u8>,
 }
 
-// A line without the CR right before its LF.
-fn without_cr(line: &[u8]) -> &[u8]
+/// Returns a line without the CR right before its LF.
+pub fn without_cr(line: &[u8]) -> &[u8]
     ensures { result.now ≡ strip_last 13 line.now }
 {
     if !line.is_empty() && line[line.len() - 1] == CR {
@@ -69,8 +69,8 @@ fn short_line_len(bytes: &[u8]) -> usize
     bytes.iter().take_while(|byte| **byte != LF).count()
 }
 
-// How many bytes stand before the first LF, or before the end where there is none.
-fn line_len(bytes: &[u8]) -> usize
+/// Returns how many bytes stand before the first LF, or before the end if there is none.
+pub fn line_len(bytes: &[u8]) -> usize
     ensures value { result ≡ prefix_len is_in_line bytes.now }
     ensures within { result ≤ length bytes.now }
 {
