@@ -1,6 +1,8 @@
-//! Runs the script on standard input, and prints its journal and listing on standard output.
+//! Runs the script on standard input, and prints its journal and listing, or a picture of it, on
+//! standard output.
 #![tactic(auto)]
 
+use cics_draw::{NoPicture, run_picture};
 use cics_run::{
     Asked, RunFault, Session, Status, Wanted, arguments, exit_status, run_over, told_of,
 };
@@ -10,11 +12,21 @@ use std::process::ExitCode;
 
 const BAD_ARGUMENTS: u8 = 2;
 
+const TOO_MANY_EVENTS: u8 = 4;
+
 fn main(rt: HostRuntime) -> ExitCode {
     match asked(rt) {
         Ok(Asked::Run(wanted)) => match run_to_the_end(rt, wanted) {
             Ok(status) => ExitCode::from(exit_status(&Ok(status))),
             Err(fault) => stopped(rt, fault),
+        },
+        Ok(Asked::Picture) => match draw_to_the_end(rt) {
+            Ok(status) => ExitCode::from(exit_status(&Ok(status))),
+            Err(NoPicture::Stopped(fault)) => stopped(rt, fault),
+            Err(NoPicture::TooManyEvents) => {
+                let _ = eprintln!(rt; "cicsrun: {}", NoPicture::TooManyEvents);
+                ExitCode::from(TOO_MANY_EVENTS)
+            }
         },
         Ok(Asked::Help(text)) => match print!(rt; "{text}") {
             Ok(()) => ExitCode::SUCCESS,
@@ -33,6 +45,17 @@ fn main(rt: HostRuntime) -> ExitCode {
 fn run_to_the_end(rt: HostRuntime, wanted: Wanted) -> Result<Status, RunFault> {
     let mut session = Session::new(rt.alloc());
     let answer = run_over(&mut session, &mut rt.stdin(), &mut rt.stdout(), wanted);
+    if let Ok(Status::LineFault) = answer {
+        tell(rt, &mut session);
+    }
+    mem::forget(session);
+    answer
+}
+
+// Draws the script on standard input. The process ends right after it, as after a run.
+fn draw_to_the_end(rt: HostRuntime) -> Result<Status, NoPicture> {
+    let mut session = Session::new(rt.alloc());
+    let answer = run_picture(&mut session, &mut rt.stdin(), &mut rt.stdout());
     if let Ok(Status::LineFault) = answer {
         tell(rt, &mut session);
     }
