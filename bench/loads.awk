@@ -2,10 +2,11 @@
 #
 #   awk -v load=NAME -v count=N -f loads.awk
 #
-# NAME is one of the names below, each with what N counts. The same NAME and N give the same script on every machine.
+# NAME is one of the names below, each with what N counts. The same NAME and N give the same script
+# on every machine.
 #
 #   attach       N tasks are attached and return
-#   ascending    N records are written with rising keys, a SYNCPOINT behind every hundred
+#   ascending    N records are written with rising keys, a SYNCPOINT after every hundred
 #   descending   the same with falling keys
 #   scattered    the same with keys in no order
 #   updates      N updates of 10,000 records by 100 tasks in turn: READ UPDATE, REWRITE, SYNCPOINT
@@ -17,9 +18,10 @@
 #   values       N values are enqueued on, and dequeued
 #   one-record   N tasks wait for one record, and get it one after the other
 #   own-records  N tasks wait for a record each, which one unit holds
-#   own-values   N tasks wait for a value each, which one unit gives up one by one
+#   own-values   N tasks wait for a value each, which one unit releases one by one
 #   time-outs    N tasks wait for one record until each one's time is over, a second apart
-#   readers      N tasks read a transient data queue each before another task has committed what it wrote there
+#   readers      N tasks read a transient data queue each before another task has committed what it
+#                wrote there
 
 # The next of a row of numbers from 0 to limit - 1 in no order.
 function scattered(limit) {
@@ -70,7 +72,8 @@ function update_all(number, label) {
     for (number = 1; number <= count; number++) {
         label = "T" (number % 100 + 1)
         read_for_update(label, scattered(10000) + 1)
-        say(label, "REWRITE FILE('ACCT') FROM('" key(seed % 10000 + 1) " AMOUNT " number % 1000 "') RESP(R)")
+        say(label, "REWRITE FILE('ACCT') FROM('" key(seed % 10000 + 1) " AMOUNT " number % 1000 \
+            "') RESP(R)")
         say(label, "SYNCPOINT")
     }
 }
@@ -89,10 +92,12 @@ function browse_all(number) {
 
 function delete_generic(number) {
     attach("T1")
-    for (number = 1; number <= 3 * count; number++) write("T1", 10 * int((number - 1) / 3) + number % 3)
+    for (number = 1; number <= 3 * count; number++)
+        write("T1", 10 * int((number - 1) / 3) + number % 3)
     say("T1", "SYNCPOINT")
     for (number = 0; number < count; number++) {
-        say("T1", "DELETE FILE('ACCT') RIDFLD('" substr(key(10 * number), 1, 6) "') KEYLENGTH(6) GENERIC NUMREC(N)")
+        say("T1", "DELETE FILE('ACCT') RIDFLD('" substr(key(10 * number), 1, 6) \
+            "') KEYLENGTH(6) GENERIC NUMREC(N)")
         if (number % 100 == 99) say("T1", "SYNCPOINT")
     }
 }
@@ -103,7 +108,8 @@ function use_storage(number, queue) {
         say("T1", "WRITEQ TS QUEUE('Q" number % 100 "') FROM('ITEM " number "')")
         if (number % 100 == 99) say("T1", "SYNCPOINT")
     }
-    for (number = 0; number < count; number++) say("T1", "READQ TS QUEUE('Q" number % 100 "') INTO(ITEM) NEXT")
+    for (number = 0; number < count; number++)
+        say("T1", "READQ TS QUEUE('Q" number % 100 "') INTO(ITEM) NEXT")
 }
 
 function use_data(number) {
@@ -167,8 +173,10 @@ function wait_too_long(number) {
 
 function wait_to_read(number) {
     attach_all(0)
-    for (number = 1; number <= count; number++) say("HOLDER", "WRITEQ TD QUEUE('" sprintf("%04d", number) "') FROM('RECORD')")
-    for (number = 1; number <= count; number++) say("T" number, "READQ TD QUEUE('" sprintf("%04d", number) "') INTO(RECORD)")
+    for (number = 1; number <= count; number++)
+        say("HOLDER", "WRITEQ TD QUEUE('" sprintf("%04d", number) "') FROM('RECORD')")
+    for (number = 1; number <= count; number++)
+        say("T" number, "READQ TD QUEUE('" sprintf("%04d", number) "') INTO(RECORD)")
     say("HOLDER", "RETURN")
 }
 
@@ -190,7 +198,8 @@ BEGIN {
     print "DEFINE FILE('ACCT') KEYLENGTH(7) RECOVERABLE"
     print "DEFINE TSPREFIX('Q')"
     if (load == "readers") {
-        for (number = 1; number <= count; number++) print "DEFINE TDQUEUE('" sprintf("%04d", number) "') LOGICAL"
+        for (number = 1; number <= count; number++)
+            print "DEFINE TDQUEUE('" sprintf("%04d", number) "') LOGICAL"
     } else {
         print "DEFINE TDQUEUE('WORK') LOGICAL"
     }

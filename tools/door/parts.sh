@@ -25,7 +25,7 @@ answer_help() {
     esac
 }
 
-# Prints the crates that the program stands on, each behind those that it stands on itself, and
+# Prints the crates that the program stands on, each after those that it stands on itself, and
 # the program last.
 crates() {
     awk -F: '

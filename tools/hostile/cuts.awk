@@ -2,9 +2,9 @@
 #
 #   awk -v room=DIRECTORY -v ending=LF|CRLF -f cuts.awk first-path.cuts
 #
-# For each number of bytes N from 0 on it writes the script's first N bytes to the file cut.N, what a run of them writes
-# to output.N, the journal of the lines that they complete to journal.N, and to standard output N and the exit status.
-# A CR that no LF follows is no text.
+# For each number of bytes N from 0 on it writes the script's first N bytes to the file cut.N, what
+# a run of them writes to output.N, the journal of the lines that they complete to journal.N, and
+# to standard output N and the exit status. A CR that no LF follows is no text.
 
 BEGIN {
     FS = "|"

@@ -1,14 +1,19 @@
-# Writes one of the largest scripts, or one of the largest things that a script may have, and what a run of it writes.
+# Writes one of the largest scripts, or one of the largest things that a script may have, and what
+# a run of it writes.
 #
 #   awk -v load=NAME -v script=FILE -v output=FILE [-v count=N] -f largest.awk
 #
 # NAME is one of these. Those of 16 MiB are filled up with blank lines to 16,777,216 bytes.
 #
-#   records      records of 32,767 bytes, in characters, hexadecimal and quotes, loaded, written, replaced and read
-#   keys         keys of 255 bytes, one of them at the end of a record of 32,767, written, read, browsed and deleted
-#   enqueues     one value is enqueued 65,535 times, and once more, and given back as often while a task waits for it
+#   records      records of 32,767 bytes, in characters, hexadecimal and quotes, loaded, written,
+#                replaced and read
+#   keys         keys of 255 bytes, one of them at the end of a record of 32,767, written, read,
+#                browsed and deleted
+#   enqueues     one value is enqueued 65,535 times, and once more, and dequeued as often while a
+#                task waits for it
 #   items        a queue of 32,767 items, and one more
-#   lines        lines of 70,000 bytes: blanks between two tokens, a comment, a number, literals; and one of 70,001
+#   lines        lines of 70,000 bytes: blanks between two tokens, a comment, a number, literals;
+#                and one of 70,001
 #   files        16 MiB of definitions of files
 #   queues       16 MiB of definitions of transient data queues
 #   loads        16 MiB of records that are loaded into one file, in no order
@@ -17,8 +22,8 @@
 #   short        16 MiB of commands with a literal of one byte each
 #   long         16 MiB of records that are loaded, each a literal of 32,767 bytes
 #   hexadecimal  16 MiB of items that are written, each a literal of 32,767 bytes in hexadecimal
-#   waits        N tasks that wait for one value, which its holder then gives up
-#   own-waits    N tasks that wait for a value each, all of which one task then gives up
+#   waits        N tasks that wait for one value, which its owner then releases
+#   own-waits    N tasks that wait for a value each, all of which one task then releases
 #   prefixes     N definitions of prefixes of temporary storage queues
 
 function say(line) {
@@ -30,7 +35,7 @@ function comes(line) {
     print line > output
 }
 
-# A command of task T1, and the line that comes of it.
+# A command of task T1, and the line that it prints.
 function tell(command, answer) {
     say("T1 EXEC CICS " command)
     comes("T1 " answer)
@@ -170,7 +175,8 @@ function lines(front) {
     comes("LINE 7 FAULT 1 TooLong")
 }
 
-# Says the lines of a load of 16 MiB, the line of each number from 0 on as far as there is room: how many they are.
+# Says the lines of a load of 16 MiB, the line of each number from 0 on as far as there is room:
+# how many they are.
 function say_all(number) {
     for (number = 0; has_room(line_of(number)); number++) say(line_of(number))
     fill()
@@ -196,10 +202,12 @@ function come_all(count, line) {
 function files(count, number) {
     count = say_all()
     comes("LISTING")
-    for (number = 0; number < count; number++) comes("FILE 'F" digits(number) "' UNRECOVERABLE RECORDS 0")
+    for (number = 0; number < count; number++)
+        comes("FILE 'F" digits(number) "' UNRECOVERABLE RECORDS 0")
 }
 
-# The name of four characters that has this number, in the order of names, in which letters stand before digits.
+# The name of four characters that has this number, in the order of names, in which letters stand
+# before digits.
 function name_of(number, name, at) {
     for (at = 1; at <= 4; at++) {
         name = substr("ABCDEFGHIJKLMNOPQRSTUVWXYZ0123456789", number % 36 + 1, 1) name
@@ -287,7 +295,8 @@ function waits(held, number) {
     comes("T0 ENDED")
     for (number = 1; number <= held; number++) comes("T" number " WOKEN NORMAL 0")
     comes("LISTING")
-    for (number = 1; number <= count; number++) comes("TASK T" number " " (number <= held ? "OPEN" : "WAITING"))
+    for (number = 1; number <= count; number++)
+        comes("TASK T" number " " (number <= held ? "OPEN" : "WAITING"))
 }
 
 function prefixes(number) {

@@ -1,11 +1,12 @@
-/* Runs a command, and writes to the file REPORT how it ended: `exit` and its status, or `signal` and its number; behind
- * that the processor seconds that it took, and how many kilobytes of memory it had at most.
+/* Runs a command, and writes to the file REPORT how it ended: `exit` and its status, or `signal`
+ * and its number; after that the processor seconds that it took, and how many kilobytes of memory
+ * it had at most.
  *
  *   measure REPORT SECONDS COMMAND [ARGUMENT ..]
  *
- * A command that takes longer than SECONDS is ended by a signal (SIGALRM). The library that MEASURE_PRELOAD names is
- * loaded before it. A write to a closed pipe is a signal to it, as it is at a terminal, whatever this process was
- * started with.
+ * A command that takes longer than SECONDS is ended by a signal (SIGALRM). The library that
+ * MEASURE_PRELOAD names is loaded before it. A write to a closed pipe is a signal to it, as it is
+ * at a terminal, whatever this process was started with.
  */
 #include <signal.h>
 #include <stdio.h>
@@ -49,6 +50,7 @@ int main(int count, char **words)
         fprintf(report, "exit %d", WEXITSTATUS(status));
     else
         fprintf(report, "signal %d", WTERMSIG(status));
-    fprintf(report, " %.2f %ld\n", seconds(usage.ru_utime) + seconds(usage.ru_stime), usage.ru_maxrss);
+    fprintf(report, " %.2f %ld\n", seconds(usage.ru_utime) + seconds(usage.ru_stime),
+            usage.ru_maxrss);
     return fclose(report) != 0;
 }

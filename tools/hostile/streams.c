@@ -1,15 +1,17 @@
-/* Makes a program's reads of standard input and writes to standard output short, or fail. It is preloaded (LD_PRELOAD),
- * and goes by these variables, each a number:
+/* Makes a program's reads of standard input and writes to standard output short, or fail. It is
+ * preloaded (LD_PRELOAD), and reads these variables, each a number:
  *
  *   STREAMS_READ_MOST    a read gives so many bytes at most
  *   STREAMS_READ_FAILS   the read of this number fails, the first being 1
  *   STREAMS_WRITE_MOST   a write takes so many bytes at most
  *   STREAMS_WRITE_FAILS  the write of this number fails
- *   STREAMS_WRITE_ROOM   so many bytes are taken in all, and then a write fails, as where no space is left
- *   STREAMS_WRITE_NONE   where this is set, a write that finds no room takes no byte instead of failing
+ *   STREAMS_WRITE_ROOM   so many bytes are taken in all, and then a write fails, as if no space
+ *                        is left
+ *   STREAMS_WRITE_NONE   if this is set, a write that finds no room takes no byte instead of
+ *                        failing
  *
- * As the program ends, it writes to the file that STREAMS_REPORT names how many reads there were, how many bytes they
- * gave, how many writes there were, and how many bytes they took.
+ * As the program ends, it writes to the file that STREAMS_REPORT names how many reads there were,
+ * how many bytes they gave, how many writes there were, and how many bytes they took.
  */
 #include <errno.h>
 #include <fcntl.h>
@@ -24,7 +26,7 @@ ssize_t __write(int stream, const void *bytes, size_t size);
 
 static unsigned long reads, given, writes, taken;
 
-/* The number that a variable has, and 0 where it isn't set. */
+/* Returns the number that a variable has, and 0 if it isn't set. */
 static unsigned long number_of(const char *name)
 {
     const char *text = getenv(name);

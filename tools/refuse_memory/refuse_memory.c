@@ -1,12 +1,14 @@
-/* Refuses a program memory. It is preloaded (LD_PRELOAD) and counts the program's requests for memory.
- * With REFUSE_AT=N it refuses the Nth, and with REFUSE_ALL set each one from the Nth on. As the program
- * ends it writes how many requests it counted, and how many of these it refused, to the file REFUSE_REPORT.
+/* Refuses a program memory. It is preloaded (LD_PRELOAD) and counts the program's requests for
+ * memory. With REFUSE_AT=N it refuses the Nth, and with REFUSE_ALL set each one from the Nth on.
+ * As the program ends it writes how many requests it counted, and how many of these it refused, to
+ * the file REFUSE_REPORT.
  *
- * A program may say what becomes of its requests by one of a size that it asks for nowhere else: 70,001
- * bytes, they are counted (as at the start); 70,002, they are granted, uncounted; 70,003, a single one ends
- * the program with status 70. 70,004 bytes are refused where a request was refused since this was asked last.
- * 70,006 bytes: they are counted, and the Nth from here on is refused, N being 1 the first time after 70,005
- * bytes were asked for, and one more each time. So a program refuses each request of a call in turn by itself.
+ * A program may say what becomes of its requests by one of a size that it asks for nowhere else:
+ * 70,001 bytes, they are counted (as at the start); 70,002, they are granted, uncounted; 70,003, a
+ * single one ends the program with status 70. 70,004 bytes are refused if a request was refused
+ * since this was asked last. 70,006 bytes: they are counted, and the Nth from here on is refused,
+ * N being 1 the first time after 70,005 bytes were asked for, and one more each time. So a program
+ * refuses each request of a call in turn by itself.
  */
 #include <errno.h>
 #include <fcntl.h>

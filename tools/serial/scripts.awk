@@ -1,9 +1,11 @@
-# Makes a script of interleaved tasks, by chance: run it with -v seed=N. The same seed makes the same script.
+# Makes a script of interleaved tasks, by chance: run it with -v seed=N. The same seed makes the
+# same script.
 #
-# Two recoverable files and one that isn't, temporary storage queues with a recoverable prefix and without, a LOGICAL, a PHYSICAL and an
-# unrecovered transient data queue. From three to eight tasks, half of them with a time limit, issue every kind of updating command
-# on a few keys and queues, so that they wait for each other, are answered each way and time out. Units commit, are backed out,
-# abend, and some stay open.
+# Two recoverable files and one that isn't, temporary storage queues with a recoverable prefix and
+# without, a LOGICAL, a PHYSICAL and an unrecovered transient data queue. From three to eight
+# tasks, half of them with a time limit, issue every kind of updating command on a few keys and
+# queues, so that they wait for each other, are answered each way and time out. Units commit, are
+# backed out, abend, and some stay open.
 
 function pick(n) { return int(rand() * n) }
 
@@ -19,7 +21,7 @@ function td_queue() { return substr("LLLPN", pick(5) + 1, 1) }
 
 function say(task, command) { print "T" task " EXEC CICS " command " RESP(0)" }
 
-# A record of a file: the key stands in front, but in file B behind two more bytes.
+# A record of a file: the key stands first, but in file B after two more bytes.
 function record(name, k) { return name == "B" ? "zz" k text() : k text() }
 
 function on_file(task,   name, k, chance) {
@@ -32,7 +34,8 @@ function on_file(task,   name, k, chance) {
     } else if (chance < 6 && (task, name) in read_key) {
         k = read_key[task, name]
         delete read_key[task, name]
-        say(task, pick(3) ? "REWRITE FILE('" name "') FROM('" record(name, k) "')" : "DELETE FILE('" name "')")
+        say(task, pick(3) ? "REWRITE FILE('" name "') FROM('" record(name, k) "')" : \
+            "DELETE FILE('" name "')")
     } else if (chance < 8)
         say(task, "WRITE FILE('" name "') RIDFLD('" k "') FROM('" record(name, k) "')")
     else if (chance < 9)
@@ -46,9 +49,11 @@ function on_queue(task,   chance) {
     if (chance < 2)
         say(task, "WRITEQ TS QUEUE('" ts_queue() "') FROM('" text() "')")
     else if (chance < 3)
-        say(task, "WRITEQ TS QUEUE('" ts_queue() "') FROM('" text() "') ITEM(" 1 + pick(3) ") REWRITE")
+        say(task, "WRITEQ TS QUEUE('" ts_queue() "') FROM('" text() "') ITEM(" 1 + pick(3) \
+            ") REWRITE")
     else if (chance < 4)
-        say(task, pick(2) ? "DELETEQ TS QUEUE('" ts_queue() "')" : "READQ TS QUEUE('" ts_queue() "') NEXT")
+        say(task, pick(2) ? "DELETEQ TS QUEUE('" ts_queue() "')" : \
+            "READQ TS QUEUE('" ts_queue() "') NEXT")
     else if (chance < 6)
         say(task, "WRITEQ TD QUEUE('" td_queue() "') FROM('" text() "')")
     else if (chance < 7 || pick(3))
