@@ -31,12 +31,17 @@ the units of work that committed did to recoverable files and queues, one unit
 after the other in the order of the commits; behind them the units that are open.
 It leaves recoverable files and queues as the run has left them.
 
+The picture has a row for each line of the journal and a lane for each of the
+first sixteen tasks, with a mark for each event and an arrow from each wait to
+the task that is waited for. It is written when the whole script is run.
+
 Exit status:
   0  the whole script was run, or the help or the version was printed
   1  a line of the script is at fault: the journal ends with that line's fault
   2  the arguments are wrong
   3  there is no memory
-  4  a read or a write failed, or the script has more than 16,777,216 bytes
+  4  a read or a write failed, the script has more than 16,777,216 bytes, or a
+     picture would have more than 100,000 events
   5  with --strict: the whole script was run, and an event was refused, a task was
      abended by a condition or a time-out, or a task still waits at the end
 
@@ -46,6 +51,7 @@ Each option, from the root of the repository:
   bin/cicsrun --replay < examples/rollback.cics
   bin/cicsrun --serial < examples/turns.cics
   bin/cicsrun --strict < examples/deadlock.cics
+  bin/cicsrun --picture < examples/deadlock.cics > deadlock.svg
 The language of a script: docs/LANGUAGE.md.
 
 Example, from the root of the repository. T2 waits for the record until T1 has
@@ -65,6 +71,7 @@ END";
 ///
 /// - `Run`: a run of a script.
 /// - `Strict`: a run that ends with a status of its own if something is amiss (`strict_status`).
+/// - `Picture`: the picture of a run.
 /// - `Help`: the help or the version, which is to go to standard output.
 /// - `Bad`: nothing that the program knows. The text says what is wrong, and is to go to standard
 ///   error.
@@ -72,6 +79,7 @@ END";
 pub enum Asked {
     Run(Wanted),
     Strict(Wanted),
+    Picture,
     Help(String),
     Bad(String),
 }
@@ -80,9 +88,10 @@ pub enum Asked {
 ///
 /// The options are `--no-list`, which leaves out the listing, `--replay`, which asks for the replay
 /// after it, `--serial`, which asks for the serial run after both, `--with-script`, which asks for
-/// each line of the script in front of what it led to, `--strict`, `--version` (or `-V`) and
-/// `--help` (or `-h`). An option that is given twice is bad, so is `--serial` beside
-/// `--with-script`, and so is every other word but a `--`, after which no option may stand. It is
+/// each line of the script in front of what it led to, `--strict`, `--picture`, which asks for a
+/// picture in place of all that, `--version` (or `-V`) and `--help` (or `-h`). An option that is
+/// given twice is bad, so is `--serial` beside `--with-script`, so is another one beside
+/// `--picture`, and so is every other word but a `--`, after which no option may stand. It is
 /// refused for want of memory alone.
 pub fn arguments(alloc: Global, words: Vec<String>) -> Result<Asked, NoMemory> {
     match asked_run(alloc, &words) {
@@ -137,6 +146,15 @@ fn asked_run(alloc: Global, words: &[String]) -> Result<Asked, Error> {
         .long("strict")
         .action(ArgAction::SetTrue)
         .help("End with status 5 if something is amiss");
+    let picture = Arg::new(alloc, "picture")
+        .long("picture")
+        .action(ArgAction::SetTrue)
+        .conflicts_with("no-list")?
+        .conflicts_with("replay")?
+        .conflicts_with("serial")?
+        .conflicts_with("with-script")?
+        .conflicts_with("strict")?
+        .help("Print a picture of the run (SVG) in place of all that");
     let command = Command::new(alloc, "cicsrun")
         .version(VERSION)
         .about(ABOUT)
@@ -145,8 +163,12 @@ fn asked_run(alloc: Global, words: &[String]) -> Result<Asked, Error> {
         .arg(replay)?
         .arg(serial)?
         .arg(with_script)?
-        .arg(strict)?;
+        .arg(strict)?
+        .arg(picture)?;
     let matches = command.try_get_matches_from(words)?;
+    if matches.get_flag("picture") {
+        return Ok(Asked::Picture);
+    }
     let options = Options {
         replay: matches.get_flag("replay"),
         no_list: matches.get_flag("no-list"),

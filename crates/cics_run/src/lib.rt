@@ -24,3 +24,4 @@ pub use session::Session;
 pub use streams::{Failed, Sink, Source};
 pub use strict::{Watched, is_left_waiting};
 pub use told::told_of;
+pub use writing::{Stop, write_pending};

@@ -1,6 +1,8 @@
-//! Runs the script on standard input, and prints its journal and listing on standard output.
+//! Runs the script on standard input, and prints its journal and listing, or a picture of it, on
+//! standard output.
 #![tactic(auto)]
 
+use cics_draw::{NoPicture, run_picture};
 use cics_run::{
     Asked, RunFault, Session, Status, Wanted, Watched, arguments, exit_status, is_left_waiting,
     run_over, strict_status, told_at_end, told_of,
@@ -11,10 +13,20 @@ use std::process::ExitCode;
 
 const BAD_ARGUMENTS: u8 = 2;
 
+const TOO_MANY_EVENTS: u8 = 4;
+
 fn main(rt: HostRuntime) -> ExitCode {
     match asked(rt) {
         Ok(Asked::Run(wanted)) => ended(rt, run_to_the_end(rt, wanted)),
         Ok(Asked::Strict(wanted)) => ended(rt, run_strictly(rt, wanted)),
+        Ok(Asked::Picture) => match draw_to_the_end(rt) {
+            Err(NoPicture::TooManyEvents) => {
+                let _ = eprintln!(rt; "cicsrun: {}", NoPicture::TooManyEvents);
+                ExitCode::from(TOO_MANY_EVENTS)
+            }
+            Err(NoPicture::Stopped(fault)) => stopped(rt, fault),
+            Ok(status) => ExitCode::from(exit_status(&Ok(status))),
+        },
         Ok(Asked::Help(text)) => match print!(rt; "{text}") {
             Ok(()) => ExitCode::SUCCESS,
             Err(_) => stopped(rt, RunFault::WriteFault),
@@ -32,7 +44,9 @@ fn main(rt: HostRuntime) -> ExitCode {
 fn run_to_the_end(rt: HostRuntime, wanted: Wanted) -> Result<u8, RunFault> {
     let mut session = Session::new(rt.alloc());
     let answer = run_over(&mut session, &mut rt.stdin(), &mut rt.stdout(), wanted);
-    tell(rt, &mut session, &answer);
+    if let Ok(status) = answer {
+        tell(rt, &mut session, status);
+    }
     mem::forget(session);
     Ok(exit_status(&Ok(answer?)))
 }
@@ -42,19 +56,31 @@ fn run_strictly(rt: HostRuntime, wanted: Wanted) -> Result<u8, RunFault> {
     let mut session = Session::new(rt.alloc());
     let mut journal = Watched::new(rt.stdout());
     let answer = run_over(&mut session, &mut rt.stdin(), &mut journal, wanted);
-    tell(rt, &mut session, &answer);
+    if let Ok(status) = answer {
+        tell(rt, &mut session, status);
+    }
     let is_amiss = journal.is_amiss() || is_left_waiting(&session);
     mem::forget(session);
     Ok(strict_status(&Ok(answer?), is_amiss))
 }
 
+// Draws the script on standard input. The process ends right after it, as after a run.
+fn draw_to_the_end(rt: HostRuntime) -> Result<Status, NoPicture> {
+    let mut session = Session::new(rt.alloc());
+    let answer = run_picture(&mut session, &mut rt.stdin(), &mut rt.stdout());
+    if let Ok(status) = answer {
+        tell(rt, &mut session, status);
+    }
+    mem::forget(session);
+    answer
+}
+
 // Says on standard error what a run leaves a person to know: what its faulty line needs, or which
 // deadlocks it ended in. Without memory it says nothing: the journal and the listing have it.
-fn tell(rt: HostRuntime, session: &mut Session, answer: &Result<Status, RunFault>) {
-    let told = match answer {
-        Ok(Status::LineFault) => told_of(rt.alloc(), session),
-        Ok(Status::Done) => told_at_end(rt.alloc(), session),
-        Err(_) => return,
+fn tell(rt: HostRuntime, session: &mut Session, status: Status) {
+    let told = match status {
+        Status::LineFault => told_of(rt.alloc(), session),
+        Status::Done => told_at_end(rt.alloc(), session),
     };
     if let Ok(text) = told {
         if let Ok(text) = std::str::from_utf8(&text) {
