@@ -5,7 +5,8 @@ ghost use Rattle.std.specs.Prelude.{◌≡◌, ◌++◌, take, OnOk};
 ghost use Rattle.std.specs.List.{flat_map};
 ghost use Rattle.cics_run.specs.Deadlocked.{keys_text, queue_text, value_text, resource_text};
 ghost use Rattle.cics_run.specs.Deadlocked.{wait_text, next_wait_text, deadlock_line};
-ghost use Rattle.cics_run.specs.Deadlocked.{deadlock_lines};
+ghost use Rattle.cics_run.specs.Deadlocked.{deadlock_lines, blocker_text, awaited_text};
+ghost use Rattle.cics_dispatch.specs.Blockers.{blocker_of, waiting_command};
 
 use crate::session::Session;
 use crate::stage::Stage;
@@ -89,6 +90,30 @@ fn push_resource(out: &mut Vec<u8>, verb: &Verb) -> Result<(), NoMemory>
     }
 }
 
+// The task that another one waits for.
+fn push_blocker(out: &mut Vec<u8>, region: &Region, label: &Name8) -> Result<(), NoMemory>
+    ensures { OnOk result (out.new.items
+        ≡ out.old.items ++ blocker_text (blocker_of region.now.machine label.now)) }
+{
+    match region.blocker(label) {
+        Some(blocker) => push_bare(out, &blocker.bytes()),
+        None => Ok(()),
+    }
+}
+
+// What a task waits for, in parentheses.
+fn push_awaited(out: &mut Vec<u8>, region: &Region, label: &Name8) -> Result<(), NoMemory>
+    ensures { OnOk result (out.new.items
+        ≡ out.old.items ++ awaited_text (waiting_command region.now.machine label.now)) }
+{
+    let Some(command) = region.waiting_command(label) else {
+        return Ok(());
+    };
+    push_str(out, " (")?;
+    push_resource(out, &command.verb)?;
+    push_str(out, ")")
+}
+
 // A task, the one that it waits for, and what for.
 fn push_wait(out: &mut Vec<u8>, region: &Region, label: &Name8) -> Result<(), NoMemory>
     ensures { OnOk result (out.new.items
@@ -96,15 +121,8 @@ fn push_wait(out: &mut Vec<u8>, region: &Region, label: &Name8) -> Result<(), No
 {
     push_bare(out, &label.bytes())?;
     push_str(out, " waits for ")?;
-    if let Some(blocker) = region.blocker(label) {
-        push_bare(out, &blocker.bytes())?;
-    }
-    if let Some(command) = region.waiting_command(label) {
-        push_str(out, " (")?;
-        push_resource(out, &command.verb)?;
-        push_str(out, ")")?;
-    }
-    Ok(())
+    push_blocker(out, region, label)?;
+    push_awaited(out, region, label)
 }
 
 // A line on tasks that wait for each other: each for the next one, the last for the first.
