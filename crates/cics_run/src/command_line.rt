@@ -124,48 +124,41 @@ fn with_tip(alloc: Global, text: &str) -> Result<String, NoMemory> {
     }
 }
 
+// An option that is given or not, and what the help says of it.
+fn flag<'a>(alloc: Global, name: &'a str, help: &'a str) -> Arg<'a> {
+    Arg::new(alloc, name)
+        .long(name)
+        .action(ArgAction::SetTrue)
+        .help(help)
+}
+
+// The command line, with its options in the order of the help. A picture stands alone.
+fn command(alloc: Global) -> Result<Command<'static>, Error> {
+    let no_list = flag(alloc, "no-list", "Leave out the listing");
+    let replay = flag(alloc, "replay", "Print the replay behind the listing");
+    let serial = "Print the serial run behind the listing and the replay";
+    let serial = flag(alloc, "serial", serial);
+    let with_script = "Print each line of the script in front of what it led to";
+    let with_script = flag(alloc, "with-script", with_script).conflicts_with("serial")?;
+    let strict = flag(alloc, "strict", "End with status 5 if something is amiss");
+    let picture = "Print a picture of the run (SVG) in place of all that";
+    let picture = flag(alloc, "picture", picture).exclusive(true);
+    Ok(
+        Command::new(alloc, "cicsrun")
+            .version(VERSION)
+            .about(ABOUT)
+            .after_help(MORE)
+            .arg(no_list)?
+            .arg(replay)?
+            .arg(serial)?
+            .arg(with_script)?
+            .arg(strict)?
+            .arg(picture)?,
+    )
+}
+
 fn asked_run(alloc: Global, words: &[String]) -> Result<Asked, Error> {
-    let no_list = Arg::new(alloc, "no-list")
-        .long("no-list")
-        .action(ArgAction::SetTrue)
-        .help("Leave out the listing");
-    let replay = Arg::new(alloc, "replay")
-        .long("replay")
-        .action(ArgAction::SetTrue)
-        .help("Print the replay behind the listing");
-    let serial = Arg::new(alloc, "serial")
-        .long("serial")
-        .action(ArgAction::SetTrue)
-        .help("Print the serial run behind the listing and the replay");
-    let with_script = Arg::new(alloc, "with-script")
-        .long("with-script")
-        .action(ArgAction::SetTrue)
-        .conflicts_with("serial")?
-        .help("Print each line of the script in front of what it led to");
-    let strict = Arg::new(alloc, "strict")
-        .long("strict")
-        .action(ArgAction::SetTrue)
-        .help("End with status 5 if something is amiss");
-    let picture = Arg::new(alloc, "picture")
-        .long("picture")
-        .action(ArgAction::SetTrue)
-        .conflicts_with("no-list")?
-        .conflicts_with("replay")?
-        .conflicts_with("serial")?
-        .conflicts_with("with-script")?
-        .conflicts_with("strict")?
-        .help("Print a picture of the run (SVG) in place of all that");
-    let command = Command::new(alloc, "cicsrun")
-        .version(VERSION)
-        .about(ABOUT)
-        .after_help(MORE)
-        .arg(no_list)?
-        .arg(replay)?
-        .arg(serial)?
-        .arg(with_script)?
-        .arg(strict)?
-        .arg(picture)?;
-    let matches = command.try_get_matches_from(words)?;
+    let matches = command(alloc)?.try_get_matches_from(words)?;
     if matches.get_flag("picture") {
         return Ok(Asked::Picture);
     }
