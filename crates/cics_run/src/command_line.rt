@@ -133,7 +133,7 @@ fn flag<'a>(alloc: Global, name: &'a str, help: &'a str) -> Arg<'a> {
 }
 
 // The command line, with its options in the order of the help. A picture stands alone.
-fn command(alloc: Global) -> Result<Command<'static>, Error> {
+fn command<'a>(alloc: Global) -> Result<Command<'a>, Error> {
     let no_list = flag(alloc, "no-list", "Leave out the listing");
     let replay = flag(alloc, "replay", "Print the replay behind the listing");
     let serial = "Print the serial run behind the listing and the replay";
