@@ -13,8 +13,8 @@ use Rattle.cics_picture.specs.declared.events.Kind.TheVariants as kind
 use Rattle.cics_picture.specs.Events.{first_word, behind_word, class_of, shape_of}
 use Rattle.cics_picture.specs.Lanes.{lane_of, tasks_behind, lane_x, row_y}
 use Rattle.cics_picture.specs.Elements.{class, words, number_words, shape, stroke, field, spoken, namespace, picture_start, moved_start, tip, head}
-use Rattle.cics_picture.specs.Drawings.{Drawn, nothing_drawn, arrow_to, beside, event_kind, lane_marks, row_texts, with_row, with_text, with_line, Printed, drawn}
-use Rattle.cics_picture.specs.Sheets.{style_text, bands, lane_lines, headings, ground, moved_texts, sheet, width_of, height_of}
+use Rattle.cics_picture.specs.Drawings.{Drawn, nothing_drawn, arrow_to, beside, event_kind, lane_marks, row_number, row_texts, Row, with_row, rows_from, Printed, all_rows, drawn}
+use Rattle.cics_picture.specs.Sheets.{style_text, bands, lane_lines, headings, legend_item, answers_legend, ways_legend, heading, ground, moved_texts, sheet, width_of, height_of}
 use Rattle.cics_picture.specs.declared.style.TheConstants.{STYLE}
 use Rattle.cics_picture.proofs.Markup.{IsMarkup, nothing, itself, behind, within}
 use lib.Chars.{codes}
@@ -71,29 +71,21 @@ either : (b : Bool) (x y : List ℕ) → IsMarkup x → IsMarkup y → IsMarkup 
 either true x y p q = p
 either false x y p q = q
 
-row : (y number : ℕ) (line event : List ℕ) → IsMarkup (row_texts y number line event)
-row y number line event =
-    behind _ _ (either (number == 0) _ _ nothing (behind _ _ (number-there (codes "d e") 44 y number) (at-place (codes "line") 78 y _)))
-    (at-place (class_of (event_kind event)) 744 y _)
+number-drawn : (y number : ℕ) → IsMarkup (row_number y number)
+number-drawn y number = either (number == 0) _ _ nothing (number-there (codes "d e") 52 y number)
 
-row-drawn : (d : Drawn) (number : ℕ) (line event : List ℕ) → IsDrawn d → IsDrawn (with_row d number line event)
-row-drawn d number line event p = (
-  behind _ _ p.0 (in-lane (tasks_behind d.tasks event) (row_y d.rows) event (lane_of (tasks_behind d.tasks event) (first_word event))),
-  behind _ _ p.1 (row (row_y d.rows + 4) number line event),
+row : (y : ℕ) (line event : List ℕ) → IsMarkup (row_texts y line event)
+row y line event = behind _ _ (at-place (codes "line") 78 y _) (at-place (class_of (event_kind event)) 744 y _)
+
+row-drawn : (d : Drawn) (r : Row) → IsDrawn d → IsDrawn (with_row d r)
+row-drawn d r p = (
+  behind _ _ p.0 (behind _ _ (number-drawn (row_y d.rows + 4) r.number) (in-lane (tasks_behind d.tasks r.event) (row_y d.rows) r.event (lane_of (tasks_behind d.tasks r.event) (first_word r.event)))),
+  behind _ _ p.1 (row (row_y d.rows + 4) r.line r.event),
 )
 
-one-drawn : (b : Bool) (x y : Drawn) → IsDrawn x → IsDrawn y → IsDrawn (cond b x y)
-one-drawn true x y p q = p
-one-drawn false x y p q = q
-
-text-drawn : (text : List ℕ) (d : Drawn) (number : ℕ) (line event : List ℕ) → IsDrawn d → IsDrawn (with_text d number line event text)
-text-drawn [] d number line event p = p
-text-drawn (c ∷ text) d number line event p =
-    one-drawn (c == 10) _ _ (text-drawn text (with_row d number line event) 0 [] [] (row-drawn d number line event p)) (text-drawn text d number line (event ++ (c ∷ [])) p)
-
-lines-drawn : (lines : List Printed) (d : Drawn) → IsDrawn d → IsDrawn (fold with_line d lines)
-lines-drawn [] d p = p
-lines-drawn (line ∷ lines) d p = lines-drawn lines (with_line d line) (text-drawn line.text d line.number line.line [] p)
+rows-drawn : (rows : List Row) (d : Drawn) → IsDrawn d → IsDrawn (fold with_row d rows)
+rows-drawn [] d p = p
+rows-drawn (r ∷ rows) d p = rows-drawn rows (with_row d r) (row-drawn d r p)
 
 lanes : (height n : ℕ) → IsMarkup (lane_lines height n)
 unfolding lane_lines
@@ -113,10 +105,26 @@ columns : IsMarkup headings
 unfolding headings
 columns = behind _ _ (at-place (codes "d s") 78 76 _) (at-place (codes "d s") 744 76 _)
 
+meaning : (x : ℕ) (k : Kind) (text : List ℕ) → IsMarkup (legend_item x k text)
+unfolding legend_item
+meaning x k text = behind _ _ (shape-there (class_of k) (shape_of k) x 52) (at-place (codes "d s") (x + 14) 56 text)
+
+answers : IsMarkup answers_legend
+unfolding answers_legend
+answers = behind _ _ (meaning 24 kind.Attached _) (behind _ _ (meaning 124 kind.Normal _) (behind _ _ (meaning 224 kind.Condition _) (meaning 384 kind.Refused _)))
+
+ways : IsMarkup ways_legend
+unfolding ways_legend
+ways = behind _ _ (meaning 484 kind.Waiting _) (behind _ _ (meaning 564 kind.Woken _) (behind _ _ (meaning 664 kind.Ended _) (meaning 754 kind.Abended _)))
+
+head-there : (title : List ℕ) → IsMarkup (heading title)
+unfolding heading
+head-there title = behind _ _ (at-place (codes "h1") 16 30 title) (behind _ _ answers ways)
+
 under : (d : Drawn) (title : List ℕ) → IsMarkup (ground d title)
 under d title =
     behind _ _ (alone tag.Title title) (behind _ _ style (behind _ _ (field-there (codes "paper") 0 (width_of d) (height_of d))
-    (behind _ _ (shades (width_of d) (d.rows / 2)) (behind _ _ (at-place (codes "h1") 16 30 title) (lanes (height_of d) (length d.tasks))))))
+    (behind _ _ (shades (width_of d) (d.rows / 2)) (behind _ _ (head-there title) (lanes (height_of d) (length d.tasks))))))
 
 moved : (d : Drawn) → IsMarkup d.texts → IsMarkup (moved_texts d)
 unfolding moved_start
@@ -135,5 +143,5 @@ whole d title p =
 
 pub sheet_read : (lines : List Printed) (title : List ℕ) → (d : Document) × (document_of (sheet (drawn lines) title) ≡ Some d)
 sheet_read lines title =
-    let p = whole (drawn lines) title (lines-drawn lines nothing_drawn (nothing, nothing)) in
+    let p = whole (drawn lines) title (rows-drawn (all_rows lines) nothing_drawn (nothing, nothing)) in
     (p.0, ap document_of p.1 ∙ read_back p.0)

@@ -11,6 +11,7 @@ use Rattle.cics_picture.specs.Lanes.{lane_x}
 use Rattle.cics_picture.specs.declared.style.TheConstants.{NAMESPACE}
 use lib.Chars.{codes}
 
+-- the attribute that gives an element its look
 abbrev pub class : List ℕ → Attribute
 class name = attribute key.Class (map shown name)
 

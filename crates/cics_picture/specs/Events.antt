@@ -6,6 +6,7 @@ use Rattle.cics_picture.specs.declared.events.Kind.{Kind}
 use Rattle.cics_picture.specs.declared.events.Kind.TheVariants as kind
 use lib.Chars.{codes}
 
+-- whether a byte stands in a word
 abbrev pub is_in_word : ℕ → Bool
 is_in_word c = not (c == 32)
 

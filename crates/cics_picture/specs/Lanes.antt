@@ -9,6 +9,11 @@ use Rattle.cics_picture.specs.Events.{first_word, behind_word, kind_of}
 abbrev pub most_lanes : ℕ
 most_lanes = 16
 
+-- how many rows a picture has at most
+abbrev pub most_rows : ℕ
+most_rows = 100000
+
+-- the lane of the task with a label, from a lane on
 abbrev pub lane_from : ℕ → List (List ℕ) → List ℕ → Option ℕ
 lane_from lane [] label = None
 lane_from lane (task ∷ tasks) label = if bytes_eq task label then Some lane else lane_from (lane + 1) tasks label

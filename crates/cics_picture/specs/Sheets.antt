@@ -2,19 +2,23 @@
 use Rattle.std.specs.Prelude.{ℕ, zero, suc, ◌+◌, ◌*◌, ◌/◌, List, [], ◌++◌, length}
 use Rattle.cics_markup.specs.declared.names.Tag.TheVariants as tag
 use Rattle.cics_markup.specs.Documents.{end_text}
+use Rattle.cics_picture.specs.declared.events.Kind.{Kind}
+use Rattle.cics_picture.specs.declared.events.Kind.TheVariants as kind
 use Rattle.cics_picture.specs.Lanes.{lane_x, row_y}
-use Rattle.cics_picture.specs.Elements.{words, stroke, field, spoken, picture_start, moved_start}
+use Rattle.cics_picture.specs.Elements.{words, mark, stroke, field, spoken, picture_start, moved_start}
 use Rattle.cics_picture.specs.Drawings.{Drawn}
 use Rattle.cics_picture.specs.declared.style.TheConstants.{STYLE}
 use lib.Chars.{codes}
 
--- how wide and how high a picture is
+-- how wide a picture is
 abbrev pub width_of : Drawn → ℕ
 width_of d = 1280 + 60 * length d.tasks
 
+-- how high it is
 abbrev pub height_of : Drawn → ℕ
 height_of d = row_y d.rows
 
+-- the element that has the style
 unfoldable pub style_text : List ℕ
 style_text = spoken tag.Style STYLE.now
 
@@ -30,16 +34,40 @@ lane_lines height (suc lanes) = lane_lines height lanes ++ stroke (codes "life")
 
 -- the headings of the columns of texts
 unfoldable pub headings : List ℕ
-headings = words (codes "d s") 78 76 (codes "line of the script") ++ words (codes "d s") 744 76 (codes "line of the journal")
+headings = words (codes "d s") 78 76 (codes "script") ++ words (codes "d s") 744 76 (codes "journal")
 
--- what stands under the rows: title, style, paper, shades, and the lines of the lanes
+-- what a mark means
+unfoldable pub legend_item : ℕ → Kind → List ℕ → List ℕ
+legend_item x kind text = mark kind x 52 ++ words (codes "d s") (x + 14) 56 text
+
+-- what the marks of answers mean
+unfoldable pub answers_legend : List ℕ
+answers_legend =
+    legend_item 24 kind.Attached (codes "attached")
+    ++ (legend_item 124 kind.Normal (codes "answered")
+    ++ (legend_item 224 kind.Condition (codes "another condition")
+    ++ legend_item 384 kind.Refused (codes "refused")))
+
+-- what the other marks mean
+unfoldable pub ways_legend : List ℕ
+ways_legend =
+    legend_item 484 kind.Waiting (codes "waits")
+    ++ (legend_item 564 kind.Woken (codes "goes on")
+    ++ (legend_item 664 kind.Ended (codes "ended")
+    ++ legend_item 754 kind.Abended (codes "abended")))
+
+-- the title, and the legend below it
+unfoldable pub heading : List ℕ → List ℕ
+heading title = words (codes "h1") 16 30 title ++ (answers_legend ++ ways_legend)
+
+-- what stands under the rows: title, style, paper, shades, heading, and the lines of the lanes
 abbrev pub ground : Drawn → List ℕ → List ℕ
 ground d title =
     spoken tag.Title title
     ++ (style_text
     ++ (field (codes "paper") 0 (width_of d) (height_of d)
     ++ (bands (width_of d) (d.rows / 2)
-    ++ (words (codes "h1") 16 30 title
+    ++ (heading title
     ++ lane_lines (height_of d) (length d.tasks)))))
 
 -- the texts of the rows stand to the right of the lanes

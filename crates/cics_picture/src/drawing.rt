@@ -1,15 +1,15 @@
 //! What was drawn so far.
 
 ghost use Rattle.std.specs.Prelude.{◌≤◌, length};
-ghost use Rattle.cics_picture.specs.Lanes.{most_lanes};
+ghost use Rattle.cics_picture.specs.Lanes.{most_lanes, most_rows};
 
 use cics_names::{Items, Record};
 
 /// How many rows a picture has at most.
 pub const LIMIT: u64 = 100_000;
 
-/// The rows so far: how many there are, the tasks that have lanes, the text of the marks in the
-/// lanes, and the text of the rows.
+/// The rows so far: how many there are, the tasks that have lanes, the text of what stands in the
+/// lanes and to the left of them, and the text of what stands to the right.
 #[derive(Drop)]
 pub struct Drawing {
     pub rows: u64,
@@ -17,4 +17,14 @@ pub struct Drawing {
     pub marks: Vec<u8>,
     pub texts: Vec<u8>,
     ghost few: { length tasks ≤ most_lanes },
+    ghost within: { rows ≤ most_rows },
+}
+
+/// Why a picture isn't drawn.
+#[derive(Clone, Copy, Debug, PartialEq, Eq)]
+pub enum Undrawn {
+    /// A request for memory was refused.
+    NoMemory,
+    /// It would have more than `LIMIT` rows.
+    TooManyRows,
 }

@@ -13,5 +13,5 @@ mod rows;
 mod sheet;
 mod style;
 
-pub use drawing::{Drawing, LIMIT};
+pub use drawing::{Drawing, LIMIT, Undrawn};
 pub use sheet::{push_sheet, sheets_are_documents};

@@ -1,13 +1,17 @@
 //! The rows of a picture and the marks in its lanes.
 
-ghost use Rattle.std.specs.Prelude.{◌≡◌, ◌++◌, ◌<◌, ◌≤◌, ◌+◌, ◌^◌, [], length, IfSome, OnOk};
-ghost use Rattle.cics_picture.specs.Lanes.{most_lanes, row_y, lane_of};
+ghost use Rattle.std.specs.Prelude.{◌≡◌, ◌++◌, ◌<◌, ◌≤◌, ◌+◌, [], length, IfSome, OnOk};
+ghost use Rattle.std.specs.Prelude.{IfErr};
+ghost use Rattle.std.specs.List.{fold};
+ghost use Rattle.cics_picture.specs.Lanes.{most_lanes, most_rows, row_y, lane_of};
 ghost use Rattle.cics_picture.specs.Drawings.{drawn_of, nothing_drawn, arrow_to, beside};
 ghost use Rattle.cics_picture.specs.Drawings.{event_kind};
 ghost use Rattle.cics_picture.specs.Events.{behind_word};
-ghost use Rattle.cics_picture.specs.Drawings.{row_marks, line_words, row_texts, with_row, with_text};
+ghost use Rattle.cics_picture.specs.Drawings.{row_marks, row_number, row_texts, with_row};
+ghost use Rattle.cics_picture.specs.Drawings.{row, rows_from};
+ghost use Rattle.cics_picture.specs.declared.drawing.Undrawn.TheVariants.{TooManyRows};
 
-use crate::drawing::Drawing;
+use crate::drawing::{Drawing, LIMIT, Undrawn};
 use crate::elements::{cut, push_arrow, push_mark, push_number_words, push_words};
 use crate::events::{Kind, behind_word, first_word, kind_of};
 use crate::lanes::{give_lane, lane_of, lane_x};
@@ -95,15 +99,27 @@ fn push_marks(out: &mut Vec<u8>, tasks: &[Record], y: u64, event: &[u8]) -> Resu
     }
 }
 
-// Puts the number and the text of a line of the script, unless the number is 0.
-fn push_line_words(out: &mut Vec<u8>, y: u64, number: u64, line: &[u8]) -> Result<(), NoMemory>
-    ensures { OnOk result (out.new.items ≡ out.old.items ++ line_words y number line.now) }
+// Puts the number of a line of the script, unless it is 0.
+fn push_row_number(out: &mut Vec<u8>, y: u64, number: u64) -> Result<(), NoMemory>
+    ensures { OnOk result (out.new.items ≡ out.old.items ++ row_number y number) }
 {
     if number == 0 {
         return Ok(());
     }
-    push_number_words(out, "d e".as_bytes(), (44, y), number)?;
-    push_words(out, "line".as_bytes(), (78, y), cut(line, 90))
+    push_number_words(out, "d e".as_bytes(), (52, y), number)
+}
+
+// Puts the line and the event of a row side by side.
+fn push_texts(out: &mut Vec<u8>, y: u64, line: &[u8], event: &[u8]) -> Result<(), NoMemory>
+    ensures { OnOk result (out.new.items ≡ out.old.items ++ row_texts y line.now event.now) }
+{
+    push_words(out, "line".as_bytes(), (78, y), cut(line, 90))?;
+    push_words(
+        out,
+        event_kind(event).class().as_bytes(),
+        (744, y),
+        cut(event, 70),
+    )
 }
 
 impl Drawing {
@@ -119,59 +135,54 @@ impl Drawing {
         }
     }
 
-    // Puts the texts of a row: the line and the event side by side.
-    fn push_texts(&mut self, number: u64, line: &[u8], event: &[u8]) -> Result<(), NoMemory>
-        requires { self.old.rows < 100000 }
-        ensures texts { OnOk result (self.new.texts.items ≡ self.old.texts.items
-            ++ row_texts (row_y self.old.rows + 4) number line.now event.now) }
-        ensures marks { self.new.marks ≡ self.old.marks }
-        ensures tasks { self.new.tasks ≡ self.old.tasks }
-        ensures rows { self.new.rows ≡ self.old.rows }
-    {
-        let y = row_y(self.rows) + 4;
-        push_line_words(&mut self.texts, y, number, line)?;
-        push_words(
-            &mut self.texts,
-            event_kind(event).class().as_bytes(),
-            (744, y),
-            cut(event, 70),
-        )
-    }
-
-    /// Draws the row of an event: a line of the journal without its LF. `number` and `line` are
-    /// those of the script's line, or 0 and nothing for an event that comes by itself.
-    pub fn push_row(&mut self, number: u64, line: &[u8], event: &[u8]) -> Result<(), NoMemory>
+    // Draws the row of an event: a line of the journal without its LF. `number` and `line` are
+    // those of the script's line, or 0 and nothing for an event that comes by itself.
+    fn push_row(&mut self, number: u64, line: &[u8], event: &[u8]) -> Result<(), NoMemory>
         requires { self.old.rows < 100000 }
         ensures { OnOk result (drawn_of self.new
-            ≡ with_row (drawn_of self.old) number line.now event.now) }
+            ≡ with_row (drawn_of self.old) (row number line.now event.now)) }
     {
         let y = row_y(self.rows);
         let alloc = *self.texts.allocator();
         give_lane(&mut self.tasks, alloc, event)?;
+        push_row_number(&mut self.marks, y + 4, number)?;
         push_marks(&mut self.marks, self.tasks.as_slice(), y, event)?;
-        self.push_texts(number, line, event)?;
+        push_texts(&mut self.texts, y + 4, line, event)?;
         self.rows += 1;
         Ok(())
     }
 
     /// Draws a row for each line of the journal in a text that a line of the script printed. The
     /// first row has the line's number and its text.
-    pub fn push_line(&mut self, number: u64, line: &[u8], text: &[u8]) -> Result<(), NoMemory>
-        requires { self.old.rows + length text.now ≤ 100000 }
-        ensures { OnOk result (drawn_of self.new
-            ≡ with_text (drawn_of self.old) number line.now [] text.now) }
+    ///
+    /// Errors: `TooManyRows` if that is more rows than a picture may have; `NoMemory`. A picture
+    /// that was refused a row is of no use.
+    pub fn push_line(&mut self, number: u64, line: &[u8], text: &[u8]) -> Result<(), Undrawn>
+        ensures drawn { OnOk result (drawn_of self.new
+            ≡ fold with_row (drawn_of self.old) (rows_from number line.now [] text.now)) }
+        ensures too_many { IfErr result (λ e. e ≡ TooManyRows
+            → most_rows < self.old.rows + length (rows_from number line.now [] text.now)) }
     {
         let mut event = Vec::new(*self.texts.allocator());
         let mut number = number;
         let mut line = line;
         for byte in text {
             if *byte == LF {
-                self.push_row(number, line, &event)?;
+                if self.rows == LIMIT {
+                    return Err(Undrawn::TooManyRows);
+                }
+                match self.push_row(number, line, &event) {
+                    Ok(()) => {}
+                    Err(_) => return Err(Undrawn::NoMemory),
+                }
                 event.clear();
                 number = 0;
                 line = &[];
             } else {
-                event.push(*byte)?;
+                match event.push(*byte) {
+                    Ok(()) => {}
+                    Err(_) => return Err(Undrawn::NoMemory),
+                }
             }
         }
         Ok(())

@@ -5,13 +5,16 @@ ghost use Rattle.cics_markup.specs.Documents.{Document};
 ghost use Rattle.cics_markup.specs.Reading.{document_of};
 ghost use Rattle.cics_picture.specs.Lanes.{most_lanes};
 ghost use Rattle.cics_picture.specs.Drawings.{drawn_of, Printed, drawn};
-ghost use Rattle.cics_picture.specs.Sheets.{style_text, bands, lane_lines, headings, ground};
+ghost use Rattle.cics_picture.specs.Sheets.{style_text, bands, lane_lines, headings, ground, heading};
+ghost use Rattle.cics_picture.specs.Sheets.{legend_item, answers_legend, ways_legend};
 ghost use Rattle.cics_picture.specs.Sheets.{width_of, height_of, moved_texts, sheet};
 
 use crate::drawing::Drawing;
 use crate::elements::{
-    push_field, push_moved_start, push_picture_start, push_spoken, push_stroke, push_words,
+    push_field, push_mark, push_moved_start, push_picture_start, push_spoken, push_stroke,
+    push_words,
 };
+use crate::events::Kind;
 use crate::lanes::lane_x;
 use crate::style::STYLE;
 use cics_markup::{Tag, push_end};
@@ -63,18 +66,50 @@ fn push_lane_lines(out: &mut Vec<u8>, height: u64, lanes: usize) -> Result<(), N
 fn push_headings(out: &mut Vec<u8>) -> Result<(), NoMemory>
     ensures { OnOk result (out.new.items ≡ out.old.items ++ headings) }
 {
-    push_words(
-        out,
-        "d s".as_bytes(),
-        (78, 76),
-        "line of the script".as_bytes(),
-    )?;
-    push_words(
-        out,
-        "d s".as_bytes(),
-        (744, 76),
-        "line of the journal".as_bytes(),
-    )
+    push_words(out, "d s".as_bytes(), (78, 76), "script".as_bytes())?;
+    push_words(out, "d s".as_bytes(), (744, 76), "journal".as_bytes())
+}
+
+// Puts what a mark means.
+#[tactic(auto, unfolding(crate::specs::Sheets::legend_item))]
+fn push_legend_item(out: &mut Vec<u8>, x: u64, kind: Kind, text: &str) -> Result<(), NoMemory>
+    requires { x < 1000 }
+    ensures { OnOk result (out.new.items ≡ out.old.items ++ legend_item x kind text.now) }
+{
+    push_mark(out, kind, x, 52)?;
+    push_words(out, "d s".as_bytes(), (x + 14, 56), text.as_bytes())
+}
+
+// Puts what the marks of answers mean.
+#[tactic(auto, unfolding(crate::specs::Sheets::answers_legend))]
+fn push_answers_legend(out: &mut Vec<u8>) -> Result<(), NoMemory>
+    ensures { OnOk result (out.new.items ≡ out.old.items ++ answers_legend) }
+{
+    push_legend_item(out, 24, Kind::Attached, "attached")?;
+    push_legend_item(out, 124, Kind::Normal, "answered")?;
+    push_legend_item(out, 224, Kind::Condition, "another condition")?;
+    push_legend_item(out, 384, Kind::Refused, "refused")
+}
+
+// Puts what the other marks mean.
+#[tactic(auto, unfolding(crate::specs::Sheets::ways_legend))]
+fn push_ways_legend(out: &mut Vec<u8>) -> Result<(), NoMemory>
+    ensures { OnOk result (out.new.items ≡ out.old.items ++ ways_legend) }
+{
+    push_legend_item(out, 484, Kind::Waiting, "waits")?;
+    push_legend_item(out, 564, Kind::Woken, "goes on")?;
+    push_legend_item(out, 664, Kind::Ended, "ended")?;
+    push_legend_item(out, 754, Kind::Abended, "abended")
+}
+
+// Puts the title, and the legend below it.
+#[tactic(auto, unfolding(crate::specs::Sheets::heading))]
+fn push_heading(out: &mut Vec<u8>, title: &[u8]) -> Result<(), NoMemory>
+    ensures { OnOk result (out.new.items ≡ out.old.items ++ heading title.now) }
+{
+    push_words(out, "h1".as_bytes(), (16, 30), title)?;
+    push_answers_legend(out)?;
+    push_ways_legend(out)
 }
 
 // How wide a picture is.
@@ -86,7 +121,6 @@ fn width_of(drawing: &Drawing) -> u64
 
 // How high a picture is.
 fn height_of(drawing: &Drawing) -> u64
-    requires { drawing.now.rows ≤ 100000 }
     ensures { result ≡ height_of (drawn_of drawing.now) }
 {
     98 + 22 * drawing.rows
@@ -94,7 +128,6 @@ fn height_of(drawing: &Drawing) -> u64
 
 // Puts what stands under the rows.
 fn push_ground(out: &mut Vec<u8>, drawing: &Drawing, title: &[u8]) -> Result<(), NoMemory>
-    requires { drawing.now.rows ≤ 100000 }
     ensures { OnOk result (out.new.items
         ≡ out.old.items ++ ground (drawn_of drawing.now) title.now) }
 {
@@ -107,7 +140,7 @@ fn push_ground(out: &mut Vec<u8>, drawing: &Drawing, title: &[u8]) -> Result<(),
         (width_of(drawing), height_of(drawing)),
     )?;
     push_bands(out, width_of(drawing), drawing.rows / 2)?;
-    push_words(out, "h1".as_bytes(), (16, 30), title)?;
+    push_heading(out, title)?;
     push_lane_lines(out, height_of(drawing), drawing.tasks.len())
 }
 
@@ -123,7 +156,6 @@ fn push_moved_texts(out: &mut Vec<u8>, drawing: &Drawing) -> Result<(), NoMemory
 
 /// Puts the whole picture of what was drawn, with a title.
 pub fn push_sheet(out: &mut Vec<u8>, drawing: &Drawing, title: &[u8]) -> Result<(), NoMemory>
-    requires { drawing.now.rows ≤ 100000 }
     ensures { OnOk result (out.new.items
         ≡ out.old.items ++ sheet (drawn_of drawing.now) title.now) }
 {
