@@ -1,5 +1,5 @@
 -- The lines that are left: each line that is given leaves one fewer, and nothing else takes or adds any.
-use Rattle.std.proofs.Common.{◌≡◌, ◌<◌, ◌≤◌, ℕ, zero, suc, ◌+◌, ◌-◌, Bool, true, false, cond, ◌&&◌, List, [], ◌∷◌, ◌++◌, map, length, drop, Option, None, Some, Result, Ok, Err, refl, ap, sym, ◌∙◌, arith, subst}
+use Rattle.std.proofs.Common.{◌≡◌, ◌<◌, ◌≤◌, ℕ, zero, suc, ◌+◌, ◌-◌, Bool, true, false, ◌&&◌, List, [], ◌∷◌, ◌++◌, map, length, drop, Option, None, Some, Result, Ok, Err, refl, ap, sym, ◌∙◌, arith, subst}
 use Rattle.std.specs.Prelude.{All, is_some, slice_get, slice_set, if◌then◌else◌}
 use Rattle.std.specs.List.{fold}
 use Rattle.cics_names.specs.Keyed.{Bytes}
@@ -18,7 +18,7 @@ use Rattle.cics_script.specs.declared.lines.Line.TheVariants as says
 use Rattle.cics_script.specs.declared.faults.LineFault.{LineFault}
 use Rattle.cics_lanes.specs.Orders.{Order, after, orders, led_by, led_by_any, numbered, IsOrdered}
 use Rattle.cics_lanes.proofs.Givers.{givers_ordered}
-use Rattle.cics_orders.specs.Giving.{NumberedLine, State, is_of, told_more, with_told, hearing, shut, left_by, after_line, expiry_turn, expiry, waking_turn, turn, behind_turn, settled, may_give, is_ready, givers, with_given, counted, ends_turn, given_line, given_by, given, lanes, task_lane, fresh_lane, initial_lanes, initial_state, line_count}
+use Rattle.cics_orders.specs.Giving.{NumberedLine, State, is_of, told_more, with_told, hearing, shut, left_by, after_line, expiry_turn, waking_turn, turn, behind_turn, settled, may_give, is_ready, givers, with_given, counted, ends_turn, given_line, given_by, given, lanes, task_lane, fresh_lane, initial_lanes, initial_state, line_count}
 use Rattle.cics_orders.specs.declared.plans.Plan.{Plan}
 use Rattle.cics_orders.specs.declared.plans.TaskPlan.{TaskPlan}
 use Rattle.cics_orders.specs.declared.lanes.Lane.{Lane}
