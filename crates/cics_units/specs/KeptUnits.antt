@@ -20,7 +20,8 @@ use Rattle.cics_units.specs.Parts.{CoreValue}
 use Rattle.cics_history.specs.declared.ops.Entry.{Entry}
 use Rattle.cics_history.specs.declared.ops.UnitState.{UnitState}
 
--- the state of the units, as their parts show it; only a queue that is there has a NEXT cursor other than 0
+-- the state of the units, as their parts show it; only a queue that is there has a NEXT cursor
+-- other than 0
 abbrev pub state_shown : OpeningState → List Entry → List UnitState → List ℕ → CoreValue → UnitsState
 state_shown opening trace outcomes commits parts = record {
   opening = opening;
@@ -42,8 +43,9 @@ pub record AreAsDefined (o : OpeningState) (store : StoreValue) : Type 0 where
   pub files : (f : Bytes) → definitions_of store.files f ≡ option_map (λ file. file.definition) (value_at f o.files)
   pub queues : (q : Bytes) → option_map (λ t. t.kind) (value_at q store.trans_data) ≡ option_map (λ queue. queue.recovery) (value_at q o.queues)
 
--- the invariant of `Units`: it ties files and queues in place, images and the table of enqueues to the history.
--- Waiting rests on `table`, a backout on `place`, the headline on `sound`, `order`, `canonical` and `place`
+-- the invariant of `Units`: it ties files and queues in place, images and the table of enqueues to
+-- the history. Waiting rests on `table` and a backout on `place`. The headline rests on `sound`,
+-- `order`, `canonical` and `place`
 pub record AreValid (s : UnitsState) (stores : StoreWithImages) (t : Table) : Type 0 where
   pub in_order : IsOpeningInOrder s.opening
   pub lawful_keys : HasLawfulKeys s.opening
@@ -51,7 +53,8 @@ pub record AreValid (s : UnitsState) (stores : StoreWithImages) (t : Table) : Ty
   pub sound : IsSound s
   pub order : IsInOrder s
   pub canonical : IsCanonical (shown_store stores.store)
-  -- files and queues hold what the history gives; an open unit's images lead back to what it gives without that unit
+  -- files and queues hold what the history gives; an open unit's images lead back to what it gives
+  -- without that unit
   pub place : AreInPlace s stores.store stores.images
   pub defined : AreAsDefined s.opening stores.store
   -- the rows of temporary storage are in order, and have the NEXT cursors
