@@ -26,20 +26,21 @@ use cics_names::{Command, Name4, Name8, NoMemory};
 use cics_units::{Listing, Opening, Units};
 use std::marker::Model;
 
-/// The tasks of a region, their waiting commands, and the files, queues and units of work that they share.
+/// The tasks of a region, their waiting commands, and the files, queues and units that they share.
 ///
-/// Each call is one step of the region's machine: its answer and the state that it leaves are those of
-/// the step. After each call the files and queues hold what replaying the executed commands gives, those
-/// left out by which a unit that was backed out acted on a recoverable file or queue, and each command of
-/// the replay has the answer that it was executed with; LENGTH may have cut what its task was told.
+/// Each call is one step of the region's machine: it returns what the step does, and leaves its
+/// state. After each call, files and queues equal a replay of the surviving entries. Those are the
+/// executed commands without those of backed-out units on recoverable files and queues. Each has in
+/// the replay the answer that it was executed with. LENGTH may have cut what its task was told.
 ///
-/// And units of work take turns: what those that committed did to recoverable files and queues, one unit
-/// after the other in the order of their commits, gives what would stand there if the open units were
-/// backed out, each of these commands that was answered NORMAL with the answer that it was executed with.
+/// Committed units are serializable in commit order. What they did to recoverable files and queues,
+/// unit after unit, gives what would stand there if the open units were backed out. Each of these
+/// commands that was answered NORMAL has in this order the answer that it was executed with.
 ///
-/// The region remembers for which unit each waiting command has to wait. So `wake` looks only at those that began to
-/// wait, or whose unit may have given something up, since the last look; of commands that use one and the same record,
-/// prefix, queue name, end of a queue or value, and nothing else, it looks no further than the first that must wait.
+/// The region remembers the blocker of each waiting command. So `wake` looks only at commands that
+/// began to wait since the last look, or whose blocker may have released something since. Commands
+/// that use the same record, prefix, queue name, end of a queue or value, and nothing else, are a
+/// wait group. Of a group `wake` looks no further than the first that must wait.
 #[derive(Drop)]
 pub struct Region {
     dispatcher: Dispatcher,
@@ -64,8 +65,8 @@ impl Model for Region {
         × IsRemembered r.dispatcher.machine r.notes r.is_settled r.is_in_time };
 }
 
-// The unit of a command's task, if there is one, where the command may have given something up that the unit held: it is one
-// that does, or it has ended its task.
+// Returns the unit of a command's task, if it has one, and the command may have released something.
+// It may if its verb does, or if it has ended its task.
 fn giving_up(keeps: bool, outcome: &Outcome, unit: Option<UnitId>) -> Option<UnitId>
     ensures { result ≡ (if keeps && goes_on outcome.now then None else unit) }
 {
@@ -76,7 +77,8 @@ fn giving_up(keeps: bool, outcome: &Outcome, unit: Option<UnitId>) -> Option<Uni
     }
 }
 
-// Whether what was settled stays settled after a command: it gave up nothing that another waits for, and doesn't wait.
+// Returns whether what was settled stays settled after a command: it released nothing that another
+// waits for, and doesn't wait.
 fn stays_settled(is_settled: bool, was_blocker: bool, waits: bool) -> bool
     ensures { result ≡ is_settled && (not was_blocker && not waits) }
 {
@@ -84,8 +86,8 @@ fn stays_settled(is_settled: bool, was_blocker: bool, waits: bool) -> bool
 }
 
 impl Region {
-    /// The region of an opening, without a task, its clock at 0. It takes memory for a copy of the files
-    /// and queues; where that is refused the opening comes back.
+    /// Returns the region of an opening, without a task, its clock at 0. It copies the files and
+    /// queues. If memory is refused, returns the opening.
     pub fn new(opening: Opening) -> Result<Region, Opening>
         ensures machine { IfOk result (λ region. region.machine ≡ beginning_region opening) }
         ensures headline { IfOk result IsHeadlineRegion }
@@ -101,7 +103,7 @@ impl Region {
         })
     }
 
-    // Refuses what a region that is shut down does no more.
+    // Returns the error `RegionDown` if the region is shut down.
     fn refuse_if_down(&self) -> Result<(), Refused>
         ensures up { OnOk result (self.now.machine.is_down ≡ false) }
         ensures down { IfErr result (λ refused. (refused ≡ RegionDown)
@@ -113,11 +115,11 @@ impl Region {
         Ok(())
     }
 
-    /// Begins the task of a label: ATTACH. `dtimout` is the seconds that a command of it may wait, 0
-    /// for no limit; the transaction makes no difference.
+    /// Begins the task of a label: ATTACH. `dtimout` is the seconds that a command of it may wait,
+    /// 0 for no limit. The transaction makes no difference.
     ///
-    /// It is refused where the region is shut down (`RegionDown`), where a task has or had the label
-    /// (`DuplicateLabel`), and else for want of memory (`NoMemory`). A refusal changes nothing.
+    /// Errors, in this order, which change nothing: `RegionDown` if the region is shut down,
+    /// `DuplicateLabel` if a task has or had the label, and `NoMemory`.
     pub fn attach(&mut self, label: Name8, transaction: Name4, dtimout: u64) -> Result<(), Refused>
         ensures step { IsRegionStep (attach_may_want self.old.machine label) self.old
             (attached self.old.machine label dtimout) result self.new }
@@ -127,8 +129,10 @@ impl Region {
         self.dispatcher.attach(label, transaction, dtimout)
     }
 
-    /// Sets the clock to so many seconds. It is refused where the region is shut down (`RegionDown`), and
-    /// where the clock would go back (`ClockBack`). A refusal changes nothing. Takes no memory.
+    /// Sets the clock to so many seconds. Takes no memory.
+    ///
+    /// Errors, which change nothing: `RegionDown` if the region is shut down, `ClockBack` if the
+    /// clock would go back.
     pub fn set_clock(&mut self, now: u64) -> Result<(), Refused>
         ensures step { IsRegionStep false self.old
             (clock_set self.old.machine now) result self.new }
@@ -141,18 +145,23 @@ impl Region {
 
     /// Executes a command of the task of a label: it is answered, or it waits, or its task ends.
     ///
-    /// It is refused where the region is shut down (`RegionDown`), where no task has the label (`NoTask`),
-    /// where the task has ended (`TaskEnded`), where a command of it waits (`TaskWaiting`), in this
-    /// order; and once its checks have passed, for want of memory (`NoMemory`), but for UNLOCK, RESETBR,
-    /// ENDBR, DEQ, SYNCPOINT, ROLLBACK, RETURN and ABEND, which take none. A refusal changes nothing. A
-    /// condition that neither RESP nor NOHANDLE handles abends the task with the condition's default
-    /// code (chapter on the exceptional conditions).
+    /// A condition that neither RESP nor NOHANDLE handles abends the task with the condition's
+    /// default code (chapter on the exceptional conditions).
+    ///
+    /// Errors, in this order, which change nothing:
+    ///
+    /// - `RegionDown`: the region is shut down.
+    /// - `NoTask`: no task has the label.
+    /// - `TaskEnded`: the task has ended.
+    /// - `TaskWaiting`: a command of it waits.
+    /// - `NoMemory`, once its checks have passed. UNLOCK, RESETBR, ENDBR, DEQ, SYNCPOINT, ROLLBACK,
+    ///   RETURN and ABEND take no memory.
     pub fn issue(&mut self, label: Name8, command: Command) -> Result<Outcome, Refused>
         ensures step { IsRegionStep (may_want self.old.machine label command) self.old
             (issued self.old.machine label command) result self.new }
         ensures headline { IsHeadlineRegion self.new }
     {
-        // First of all: after a shutdown a label is told nothing else, not even that it has no task.
+        // First of all: after a shutdown a label is told nothing else, not even `NoTask`.
         self.refuse_if_down()?;
         let Some(at) = self.dispatcher.find(&label) else {
             return Err(Refused::NoTask);
@@ -166,8 +175,8 @@ impl Region {
         Ok(outcome)
     }
 
-    /// Whether it is known that nothing goes on by itself: no waiting command may go on, and no task has
-    /// waited too long. `false` says nothing; then `wake` and `expire` tell. It looks at no wait.
+    /// Returns true only if `wake` and `expire` would return `None`: no waiting command may resume,
+    /// and no task has waited too long. May be conservatively false. It looks at no wait.
     pub fn is_at_rest(&self) -> bool
         ensures rest { OnTrue result (IsAtRest self.now.machine) }
         ensures headline { IsHeadlineRegion self.now }
@@ -175,13 +184,15 @@ impl Region {
         self.is_settled && self.is_in_time
     }
 
-    /// Lets the first waiting command go on that needn't wait any more, and answers its task's label
-    /// with what came of it; `None` where each has to wait.
+    /// Resumes the earliest waiting command that no longer has to wait, and returns the label of
+    /// its task and its outcome. Returns `None` if each has to wait.
     ///
-    /// The order is that in which the waits began. The command goes on from the look at what other
-    /// units hold, and doesn't wait again. It is refused for want of memory alone (`NoMemory`), and
-    /// changes nothing then: the command waits as it did. Where it answered `None`, and since then no command began to
-    /// wait and no unit that one waits for may have given up anything, it looks at no wait.
+    /// The order is that in which the waits began. The command resumes at the look at what other
+    /// units hold, and doesn't wait again. The only error is `NoMemory`: nothing changes, and the
+    /// command waits as it did.
+    ///
+    /// Cost: it looks at no wait if it last returned `None`, and nothing has changed that since. A
+    /// command that began to wait does, and so does a blocker that may have released something.
     pub fn wake(&mut self) -> Result<Option<Woken>, Refused>
         ensures step { IsStep true self.old (always (woken self.old.machine)) result self.new }
         ensures first { IfOk result (λ woken.
@@ -203,15 +214,16 @@ impl Region {
         Ok(Some(woken))
     }
 
-    /// Abends the first task that has waited too long, by the code AKCS, and answers its label; `None`
-    /// where no task has.
+    /// Abends the first task that has waited too long, by the code AKCS, and returns its label.
+    /// Returns `None` if no task has. Takes no memory.
     ///
     /// The order is that in which the waits began. A task has waited too long once the clock is its
-    /// `dtimout` past the begin of its wait; a `dtimout` of 0 is no limit. Its unit of work is backed
-    /// out, its wait ends, and so does the task. Takes no memory. Where it answered `None`, and since
-    /// then nobody asked to set the clock, it looks at no wait; else it finds the task in the logarithm
-    /// of the waits. Only where a command began to wait since the last `wake`, and no task of the others
-    /// has waited too long, it looks at all waits.
+    /// `dtimout` past the begin of its wait; a `dtimout` of 0 is no limit. Its unit of work is
+    /// backed out, its wait ends, and so does the task.
+    ///
+    /// Cost: O(log waits). It looks at no wait if it last returned `None` and nobody has asked to
+    /// set the clock since. It looks at all waits only if a command began to wait since the last
+    /// `wake`, and no other task has waited too long.
     pub fn expire(&mut self) -> Option<Expired>
         ensures outcome { result ≡ (expired self.old.machine).outcome }
         ensures machine { self.new.machine ≡ (expired self.old.machine).machine }
@@ -233,13 +245,15 @@ impl Region {
         Some(expired)
     }
 
-    /// Shuts the region down, and answers how many units of work were backed out: SHUTDOWN IMMEDIATE.
+    /// Shuts the region down, and returns how many units were backed out: SHUTDOWN IMMEDIATE.
     ///
-    /// No command waits any more; then each task ends as by an abend, in the order of attach, and its open
-    /// unit of work is backed out. From then on `attach`, `issue`, `set_clock` and `shutdown` are refused,
-    /// `wake` and `expire` find nothing, and the region can be read as before; with no unit open, each
-    /// recoverable file and queue holds what the committed units' commands give. It is refused where the
-    /// region is shut down already (`RegionDown`), and changes nothing then. Takes no memory.
+    /// No command waits any more. Then each task ends as by an abend, in the order of attach, and
+    /// its open unit of work is backed out. From then on `attach`, `issue`, `set_clock` and
+    /// `shutdown` return `RegionDown`, and `wake` and `expire` return `None`. The region can be
+    /// read as before. No unit is open, so each recoverable file and queue holds what the committed
+    /// units' commands give. Takes no memory.
+    ///
+    /// Errors, which change nothing: `RegionDown` if the region is shut down already.
     pub fn shutdown(&mut self) -> Result<u64, Refused>
         ensures step { IsRegionStep false self.old
             (shut_down self.old.machine) result self.new }
@@ -254,8 +268,8 @@ impl Region {
         Ok(count)
     }
 
-    /// Returns the open unit of work of the task of a label. `None` if no task has the label, or the task
-    /// has no unit.
+    /// Returns the open unit of work of the task of a label. `None` if no task has the label, or
+    /// the task has no unit.
     pub fn unit(&self, label: &Name8) -> Option<UnitId>
         ensures unit { result ≡ unit_of self.now.machine label.now }
         ensures headline { IsHeadlineRegion self.now }
@@ -263,10 +277,10 @@ impl Region {
         self.dispatcher.unit_of(label)
     }
 
-    /// Returns the label of the task for which the waiting command of a label's task has to wait now.
-    /// `None` if no task has the label, no command of it waits, or the one that waits may go on.
+    /// Returns the label of the task whose unit blocks the waiting command of a label's task now.
+    /// `None` if no task has the label, no command of it waits, or the one that waits may resume.
     ///
-    /// It looks at what units hold as `wake` would, and not at what was found before.
+    /// It looks at what units hold as `wake` would, and not at what is remembered.
     pub fn blocker(&self, label: &Name8) -> Option<Name8>
         ensures blocker { result ≡ blocker_of self.now.machine label.now }
         ensures headline { IsHeadlineRegion self.now }
@@ -274,8 +288,8 @@ impl Region {
         self.dispatcher.blocker(label)
     }
 
-    /// Returns the command of a label's task that waits, which names what it asks for: a record, a prefix,
-    /// a queue or a value. `None` if no command of it waits.
+    /// Returns the command of a label's task that waits. It names what it asks for: a record, a
+    /// prefix, a queue or a value. `None` if no command of it waits.
     pub fn waiting_command(&self, label: &Name8) -> Option<&Command>
         ensures command { option_copied result ≡ waiting_command self.now.machine label.now }
         ensures headline { IsHeadlineRegion self.now }
@@ -291,8 +305,8 @@ impl Region {
         self.dispatcher.task_count()
     }
 
-    /// Returns the label of the task of a number. Numbers count from 0 in the order of attach, and a task
-    /// keeps its number.
+    /// Returns the label of the task of a number. Numbers count from 0 in the order of attach, and
+    /// a task keeps its number.
     pub fn label_at(&self, number: usize) -> Option<Name8>
         ensures label { result ≡ label_at self.now.machine.tasks number }
         ensures headline { IsHeadlineRegion self.now }
@@ -308,8 +322,8 @@ impl Region {
         self.dispatcher.number(label)
     }
 
-    /// The units of work of the region, with the files and queues that they share, their history and its
-    /// outcomes.
+    /// Returns the units of work of the region, with the files and queues that they share, their
+    /// history and its outcomes.
     pub fn units(&self) -> &Units
         ensures units { result.now
             ≡ record { state = self.now.machine.units; store = self.now.store } }
@@ -318,13 +332,12 @@ impl Region {
         self.dispatcher.units()
     }
 
-    /// What stands in the files and queues, the changes of open units included, and what each task that
-    /// hasn't ended does, in the order in which the tasks were attached. This is what a user is shown of
-    /// the region.
+    /// Returns what stands in the files and queues, the changes of open units included. It also
+    /// returns what each task that hasn't ended does, in the order of attach. This is what a user
+    /// is shown of the region.
     ///
-    /// It is refused only for want of memory, which it takes for a copy of each record and for the
-    /// tasks (`NoMemory`). It changes nothing. Each task costs one look-up of its wait, however many
-    /// commands wait.
+    /// It changes nothing. It copies each record and the tasks, and `NoMemory` is its only error.
+    /// Each task costs one look-up of its wait, however many commands wait.
     pub fn listing(&self) -> Result<Listing, NoMemory>
         ensures listing { IfOk result (λ listing. listing ≡ region_listing self.now) }
         ensures replayed { IfOk result (λ listing.
@@ -334,14 +347,13 @@ impl Region {
         self.dispatcher.listing()
     }
 
-    /// What stands in the files and queues after the history of the region is applied anew, command by
-    /// command, to what was loaded; a command on a recoverable file or queue whose unit was backed out is
-    /// left out. It has no tasks. It goes by no before image, so the files and queues of `listing` can be
-    /// held against it.
+    /// Returns the listing that a replay of the surviving entries gives: they are applied anew, one
+    /// by one, to what was loaded. It has no tasks. Uses no before images: an independent check of
+    /// the files and queues of `listing`.
     ///
-    /// It is refused only for want of memory, which it takes for a copy of each record (`NoMemory`).
-    /// It changes nothing. It takes time in proportion to the records that were loaded and the
-    /// commands that were executed, each with the logarithm of the records in its file.
+    /// It changes nothing. It copies each record, and `NoMemory` is its only error.
+    ///
+    /// Cost: O(log n) for each record loaded and each command executed, for n records in its file.
     pub fn replayed(&self) -> Result<Listing, NoMemory>
         ensures replayed { IfOk result (λ listing. listing ≡ replayed_listing self.now) }
         ensures headline { IsHeadlineRegion self.now }

@@ -1,5 +1,5 @@
 -- Worked rows.
-use Rattle.std.proofs.Common.{◌≡◌, ℕ, List, [], ◌∷◌, ◌++◌, map, refl, Option, Some, None, true, false, length, slice_get}
+use Rattle.std.proofs.Common.{◌≡◌, ℕ, List, [], ◌∷◌, map, refl, Option, Some, None, false, length, slice_get}
 use lib.Chars.{codes}
 use Rattle.cics_names.specs.Ebcdic.{code_of}
 use Rattle.cics_names.specs.Keyed.{Bytes}
@@ -7,7 +7,9 @@ use Rattle.cics_dispatch.specs.Machine.{records_in}
 use Rattle.cics_dispatch.specs.declared.outcomes.Outcome.{Outcome}
 use Rattle.cics_dispatch.specs.declared.outcomes.Outcome.TheVariants.{Replied}
 use Rattle.cics_lanes.specs.Orders.{Order, orders, after}
-use Rattle.cics_orders.specs.Giving.{Lane, PlanValue, lanes, initial_state, given, turn, settled}
+use Rattle.cics_orders.specs.Giving.{lanes, initial_state, given, turn, settled}
+use Rattle.cics_orders.specs.declared.plans.Plan.{Plan}
+use Rattle.cics_orders.specs.declared.lanes.Lane.{Lane}
 
 abbrev t1 : Bytes
 t1 = 0xE3 ∷ 0xF1 ∷ 0x40 ∷ 0x40 ∷ 0x40 ∷ 0x40 ∷ 0x40 ∷ 0x40 ∷ []
@@ -16,12 +18,12 @@ abbrev t2 : Bytes
 t2 = 0xE3 ∷ 0xF2 ∷ 0x40 ∷ 0x40 ∷ 0x40 ∷ 0x40 ∷ 0x40 ∷ 0x40 ∷ []
 
 -- two tasks enqueue upon two values, each in the other's order
-abbrev deadlock : PlanValue
+abbrev deadlock : Plan
 deadlock = record {
   definitions = [];
   tasks =
-      record { label = t1; dtimout = 0; lines = (3, codes "T1 EXEC CICS ENQ RESOURCE('A') LENGTH(1)") ∷ (4, codes "T1 EXEC CICS ENQ RESOURCE('B') LENGTH(1)") ∷ [] }
-      ∷ record { label = t2; dtimout = 0; lines = (5, codes "T2 EXEC CICS ENQ RESOURCE('B') LENGTH(1)") ∷ (6, codes "T2 EXEC CICS ENQ RESOURCE('A') LENGTH(1)") ∷ [] }
+      record { label = t1; transaction = []; dtimout = 0; attach = (1, []); lines = (3, codes "T1 EXEC CICS ENQ RESOURCE('A') LENGTH(1)") ∷ (4, codes "T1 EXEC CICS ENQ RESOURCE('B') LENGTH(1)") ∷ [] }
+      ∷ record { label = t2; transaction = []; dtimout = 0; attach = (2, []); lines = (5, codes "T2 EXEC CICS ENQ RESOURCE('B') LENGTH(1)") ∷ (6, codes "T2 EXEC CICS ENQ RESOURCE('A') LENGTH(1)") ∷ [] }
       ∷ [];
   clock = [];
 }
@@ -43,20 +45,24 @@ a_file = 0xC1 ∷ 0x40 ∷ 0x40 ∷ 0x40 ∷ 0x40 ∷ 0x40 ∷ 0x40 ∷ 0x40 ∷
 abbrev between : Order
 between = 0 ∷ 1 ∷ 0 ∷ 0 ∷ 0 ∷ 1 ∷ 1 ∷ 1 ∷ []
 
-abbrev lost_update : PlanValue
+abbrev lost_update : Plan
 lost_update = record {
   definitions = (1, codes "DEFINE FILE('A') KEYLENGTH(1) RECOVERABLE") ∷ (2, codes "LOAD FILE('A') FROM('K0')") ∷ [];
   tasks =
       record {
         label = t1;
+        transaction = [];
         dtimout = 0;
+        attach = (3, []);
         lines =
             (5, codes "T1 EXEC CICS READ FILE('A') RIDFLD('K')") ∷ (6, codes "T1 EXEC CICS READ FILE('A') RIDFLD('K') UPDATE")
             ∷ (7, codes "T1 EXEC CICS REWRITE FILE('A') FROM('K1')") ∷ (8, codes "T1 EXEC CICS RETURN") ∷ [];
       }
       ∷ record {
         label = t2;
+        transaction = [];
         dtimout = 0;
+        attach = (4, []);
         lines =
             (9, codes "T2 EXEC CICS READ FILE('A') RIDFLD('K')") ∷ (10, codes "T2 EXEC CICS READ FILE('A') RIDFLD('K') UPDATE")
             ∷ (11, codes "T2 EXEC CICS REWRITE FILE('A') FROM('K2')") ∷ (12, codes "T2 EXEC CICS RETURN") ∷ [];

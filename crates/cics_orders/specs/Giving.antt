@@ -1,54 +1,39 @@
 -- How lanes give their lines to a region: which may give, and the state after a line.
-use Rattle.std.specs.Prelude.{ℕ, zero, suc, ◌+◌, Bool, true, false, ◌&&◌, ◌||◌, not, ◌==◌, if◌then◌else◌, List, [], ◌∷◌, ◌++◌, map, length, Option, Some, None, is_none, is_some, Result, Ok, Err, slice_get, slice_set}
+use Rattle.std.specs.Prelude.{◌≡◌, ◌<◌, ℕ, zero, suc, ◌+◌, Bool, true, false, ◌&&◌, ◌||◌, not, ◌==◌, if◌then◌else◌, List, [], ◌∷◌, ◌++◌, map, length, Option, Some, None, option_map, option_and_then, is_none, is_some, Result, Ok, Err, slice_get, slice_set}
 use Rattle.std.specs.List.{fold}
 use Rattle.cics_names.specs.Keyed.{Bytes, is_same}
 use Rattle.cics_names.specs.declared.commands.Verb.{Verb}
 use Rattle.cics_names.specs.declared.commands.Verb.TheVariants.{Syncpoint, Rollback, Return, Abend}
 use Rattle.cics_history.specs.Openings.{OpeningState, nothing_defined, with_file, with_record, with_prefix, with_queue, with_td_record}
-use Rattle.cics_dispatch.specs.Machine.{Machine, beginning_region, task_at}
-use Rattle.cics_dispatch.specs.Steps.{attached, issued, issue_refusal}
+use Rattle.cics_dispatch.specs.Machine.{Machine, beginning_region}
+use Rattle.cics_dispatch.specs.Steps.{attached, issued}
+use Rattle.cics_dispatch.specs.Blockers.{waiting_command}
 use Rattle.cics_dispatch.specs.Waking.{clock_set, woken, expired}
 use Rattle.cics_dispatch.specs.Shutdown.{unless_down, shut_down}
 use Rattle.cics_dispatch.specs.declared.outcomes.Outcome.{Outcome}
-use Rattle.cics_dispatch.specs.declared.outcomes.Outcome.TheVariants.{Waiting, Abended}
+use Rattle.cics_dispatch.specs.declared.outcomes.Outcome.TheVariants.{Replied, Waiting, Abended}
 use Rattle.cics_dispatch.specs.declared.outcomes.Woken.{Woken}
 use Rattle.cics_dispatch.specs.declared.outcomes.Expired.{Expired}
 use Rattle.cics_dispatch.specs.declared.outcomes.Refused.{Refused}
+use Rattle.cics_dispatch.specs.declared.outcomes.Refused.TheVariants.{NoMemory}
 use Rattle.cics_script.specs.Lines.{line}
 use Rattle.cics_script.specs.declared.lines.Line.{Line}
 use Rattle.cics_script.specs.declared.lines.Line.TheVariants.{DefineFile, DefineTsPrefix, DefineTd, LoadFile, LoadTd, Clock, Issue, Shutdown}
 use Rattle.cics_script.specs.declared.faults.LineFault.{LineFault}
 use Rattle.cics_lanes.specs.Orders.{Lanes, numbered_from}
+use Rattle.cics_orders.specs.Firsts.{with_first}
+use Rattle.cics_orders.specs.declared.plans.Plan.{Plan}
+use Rattle.cics_orders.specs.declared.plans.TaskPlan.{TaskPlan}
+use Rattle.cics_orders.specs.declared.lanes.Lane.{Lane}
 
 -- a line of a script: its number, and its bytes
 abbrev pub NumberedLine : Type 0
 NumberedLine = ℕ × Bytes
 
--- a task that is attached: its label, how many seconds its commands may wait, and its lines
-pub record TaskPlan : Type 0 where
-  pub label : Bytes
-  pub dtimout : ℕ
-  pub lines : List NumberedLine
-
--- a script taken apart: the lines that define and load, the tasks in the order of attach, and the clock's lines
-pub record PlanValue : Type 0 where
-  pub definitions : List NumberedLine
-  pub tasks : List TaskPlan
-  pub clock : List NumberedLine
-
--- a lane: the label of its task, or none for the clock's; its lines; how many of them are given; what its task was told, one
--- outcome for each line that was answered; and whether the task is within a turn: its last line did not end its unit of work
-pub record Lane : Type 0 where
-  pub label : Option Bytes
-  pub lines : List NumberedLine
-  pub given : ℕ
-  pub told : List Outcome
-  pub is_in_turn : Bool
-
 -- a script's plan, the machine of its region, the lanes that give to it, which task's lane gave last, and whether the order so
 -- far is serial: no task within a turn gave a line behind another task's
 pub record State : Type 0 where
-  pub plan : PlanValue
+  pub plan : Plan
   pub machine : Machine
   pub lanes : List Lane
   pub last : Option ℕ
@@ -63,18 +48,35 @@ is_of lane label = is_labelled lane.label where
   is_labelled None = false
   is_labelled (Some own) = is_same own label
 
+-- an outcome that ends its task
+abbrev pub is_last : Outcome → Bool
+is_last (Replied reply) = false
+is_last (Waiting holder) = false
+is_last _ = true
+
+-- a lane whose task is told an outcome
+abbrev pub told_more : Lane → Outcome → Lane
+told_more lane outcome = record lane { told = lane.told ++ outcome ∷ []; has_ended = is_last outcome }
+
 -- the task of a label is told an outcome
 abbrev pub with_told : List Lane → Bytes → Outcome → List Lane
-with_told [] label outcome = []
-with_told (lane ∷ lanes) label outcome =
-    if is_of lane label then record lane { told = lane.told ++ outcome ∷ [] } ∷ lanes else lane ∷ with_told lanes label outcome
+with_told lanes label outcome = with_first (λ lane. is_of lane label) (λ lane. told_more lane outcome) lanes
 
 -- a task whose command waits is told nothing yet
 abbrev pub hearing : List Lane → Bytes → Outcome → List Lane
 hearing lanes label (Waiting holder) = lanes
 hearing lanes label outcome = with_told lanes label outcome
 
+-- a task that the shutdown ends
+abbrev pub shut : Lane → Lane
+shut lane = record lane { has_ended = true }
+
 -- ---- What a line does
+
+-- an event that was not refused for want of memory
+abbrev pub IsAnswered : {X : Type 0} → Result X Refused → Type 0
+IsAnswered (Err NoMemory) = ⊥
+IsAnswered _ = Unit {0}
 
 -- an event that is answered leaves its step's machine; one that is refused changes nothing
 abbrev pub left_by : {X : Type 0} → State → (X → List Lane) → Result X Refused → Machine → State
@@ -88,7 +90,7 @@ after_line s (Ok (Issue label command)) =
 after_line s (Ok (Clock seconds)) =
     let step = unless_down s.machine (clock_set s.machine seconds) in left_by s (λ _. s.lanes) step.outcome step.machine
 after_line s (Ok Shutdown) =
-    let step = unless_down s.machine (shut_down s.machine) in left_by s (λ _. s.lanes) step.outcome step.machine
+    let step = unless_down s.machine (shut_down s.machine) in left_by s (λ _. map shut s.lanes) step.outcome step.machine
 after_line s _ = s
 
 -- ---- What goes on by itself
@@ -103,9 +105,18 @@ abbrev pub waking_turn : State → Option Woken → Machine → Option State →
 waking_turn s None m expiry = expiry
 waking_turn s (Some w) m expiry = Some (record s { machine = m; lanes = hearing s.lanes w.label w.outcome })
 
+-- a task whose time is over, if there is one
+abbrev pub expiry : State → Option State
+expiry s = expiry_turn s (expired s.machine).outcome (expired s.machine).machine
+
 -- one turn, if there is one to take
 unfoldable pub turn : State → Option State
-turn s = waking_turn s (woken s.machine).outcome (woken s.machine).machine (expiry_turn s (expired s.machine).outcome (expired s.machine).machine)
+turn s = waking_turn s (woken s.machine).outcome (woken s.machine).machine (expiry s)
+
+-- a turn was taken, or there was none to take
+abbrev pub Takes : Option State → State → State → Bool → Type 0
+Takes t s new true = t ≡ Some new
+Takes t s new false = (t ≡ None) × (new ≡ s)
 
 -- the turns behind one, if there was one
 abbrev pub behind_turn : State → Option State → (State → State) → State
@@ -119,14 +130,14 @@ settled (suc turns) s = behind_turn s (turn s) (settled turns)
 
 -- ---- Which lanes may give
 
--- a task may give a line where it has not ended and doesn't wait; the clock always may
-abbrev pub is_ready : Machine → Option Bytes → Bool
-is_ready m None = true
-is_ready m (Some label) = is_none (issue_refusal m (task_at m.tasks label))
+-- a task may give a line if it has not ended and no command of it waits; the clock always may
+abbrev pub is_ready : Machine → Bool → Option Bytes → Bool
+is_ready m has_ended None = true
+is_ready m has_ended (Some label) = not has_ended && is_none (waiting_command m label)
 
--- a lane may give where it has a line left and is ready
+-- a lane may give if it has a line left and is ready
 abbrev pub may_give : Machine → Lane → Bool
-may_give m lane = is_some (slice_get lane.lines lane.given) && is_ready m lane.label
+may_give m lane = is_some (slice_get lane.lines lane.given) && is_ready m lane.has_ended lane.label
 
 -- the lanes that may give, from a number on
 abbrev pub givers : State → ℕ → List ℕ
@@ -150,22 +161,30 @@ abbrev pub is_lane : Option ℕ → ℕ → Bool
 is_lane None l = false
 is_lane (Some k) l = k == l
 
--- a lane with one line more given
-abbrev pub with_given : Lane → Result Line LineFault → Lane
-with_given lane says = record lane { given = lane.given + 1; is_in_turn = is_some lane.label && not (ends_turn says) }
+-- a lane with one line more given, which may end the task's turn
+abbrev pub with_given : Lane → Bool → Lane
+with_given lane ends = record lane { given = lane.given + 1; is_in_turn = is_some lane.label && not ends }
 
--- the state in which a lane's line counts as given, before it does anything
-abbrev pub counted : State → ℕ → Lane → Result Line LineFault → State
-counted s l lane says = record s {
-  lanes = slice_set s.lanes l (with_given lane says);
+-- the state in which a lane's line counts as given, before it does anything; it may end the task's turn
+abbrev pub counted : State → ℕ → Lane → Bool → State
+counted s l lane ends = record s {
+  lanes = slice_set s.lanes l (with_given lane ends);
   last = if is_some lane.label then Some l else s.last;
   is_serial = s.is_serial && (not lane.is_in_turn || is_lane s.last l);
 }
 
+-- the lane of a number is there and has a line left
+abbrev pub IsGivable : List Lane → ℕ → Type 0
+IsGivable lanes l = (lane : Lane) × (slice_get lanes l ≡ Some lane) × (lane.given < length lane.lines)
+
+-- what the next line of a lane says, if it has one left
+abbrev pub next_says : List Lane → ℕ → Option (Result Line LineFault)
+next_says lanes l = option_map (λ next. line next.1) (option_and_then (λ lane. slice_get lane.lines lane.given) (slice_get lanes l))
+
 -- a lane gives a line, and the region settles
 abbrev pub given_line : State → ℕ → Lane → Option NumberedLine → State
 given_line s l lane None = s
-given_line s l lane (Some next) = settled (length s.lanes) (after_line (counted s l lane (line next.1)) (line next.1))
+given_line s l lane (Some next) = settled (length s.lanes) (after_line (counted s l lane (ends_turn (line next.1))) (line next.1))
 
 -- the lane of a number gives its next line
 abbrev pub given_by : State → ℕ → Option Lane → State
@@ -195,26 +214,35 @@ defined_by o _ = o
 abbrev pub opened : List NumberedLine → OpeningState
 opened lines = fold (λ o next. defined_by o (line next.1)) nothing_defined lines
 
+-- an event that is refused changes nothing
+abbrev pub unless_refused : {X : Type 0} → Machine → Result X Refused → Machine → Machine
+unless_refused m (Ok x) next = next
+unless_refused m (Err e) next = m
+
 -- a task is attached
 abbrev pub with_task : Machine → TaskPlan → Machine
-with_task m t = (unless_down m (attached m t.label t.dtimout)).machine
+with_task m t = let step = unless_down m (attached m t.label t.dtimout) in unless_refused m step.outcome step.machine
 
 -- the machine before the first order's first line: each task is attached
-abbrev pub initial_machine : PlanValue → Machine
+abbrev pub initial_machine : Plan → Machine
 initial_machine p = fold with_task (beginning_region (opened p.definitions)) p.tasks
 
--- the lane of a task, before its first line
+-- a lane before its first line
+abbrev pub fresh_lane : Option Bytes → List NumberedLine → Lane
+fresh_lane label lines = record { label = label; lines = lines; given = 0; told = []; has_ended = false; is_in_turn = false }
+
+-- the lane of a task
 abbrev pub task_lane : TaskPlan → Lane
-task_lane t = record { label = Some t.label; lines = t.lines; given = 0; told = []; is_in_turn = false }
+task_lane t = fresh_lane (Some t.label) t.lines
 
--- the clock's lane
-abbrev pub clock_lane : List NumberedLine → Lane
-clock_lane lines = record { label = None; lines = lines; given = 0; told = []; is_in_turn = false }
+-- a lane for each task in the order of attach, the clock's last
+abbrev pub initial_lanes : Plan → List Lane
+initial_lanes p = map task_lane p.tasks ++ fresh_lane None p.clock ∷ []
 
--- the state that each order starts from: a lane for each task in the order of attach, the clock's last
-unfoldable pub initial_state : PlanValue → State
-initial_state p = record { plan = p; machine = initial_machine p; lanes = map task_lane p.tasks ++ clock_lane p.clock ∷ []; last = None; is_serial = true }
+-- the state that each order starts from
+unfoldable pub initial_state : Plan → State
+initial_state p = record { plan = p; machine = initial_machine p; lanes = initial_lanes p; last = None; is_serial = true }
 
 -- how many lines an order may have at most
-abbrev pub line_count : PlanValue → ℕ
+abbrev pub line_count : Plan → ℕ
 line_count p = fold (λ n t. n + length t.lines) (length p.clock) p.tasks

@@ -94,8 +94,8 @@ marks_made s op = if is_trans op then mark_images op (marks_in s) else []
 abbrev pub AreImagesMade : StoreValue → Op → Bool → List AnyImage → Type 0
 AreImagesMade s op recovers is = MatchBool recovers (AreImagesOf (changes_of s op) (marks_made s op) is) (is ≡ [])
 
--- a command has been applied, with this answer: the store and the answer are those of its definition, its images are the
--- newest, and undo it in their turn; what it leaves stays as it was
+-- a command has been applied, with this answer. The store and the answer are those of `apply`. Its
+-- images are the unit's newest, and undo it. Where it doesn't act, all stays as it was
 pub record IsApplied (old new : StoreValue) (before after : List AnyImage) (op : Op) (recovers own : Bool) (answer : Answer) : Type 0 where
   pub answered : answer ≡ (apply (shown_store old) op).answer
   pub shown : shown_store new ≡ (apply (shown_store old) op).store
@@ -103,13 +103,14 @@ pub record IsApplied (old new : StoreValue) (before after : List AnyImage) (op :
   pub made : List AnyImage
   pub newest : after ≡ made ++ before
   pub stand : AreImagesMade old op recovers made
-  -- where the images before it could be undone in their turn, all of them can now; without images of its own that is so where
-  -- those before it are of what it leaves
+  -- if the unit's earlier images could be undone, newest first, all of them can now. A command on
+  -- something unrecoverable has no images: then it follows from `others`, if the earlier ones are
+  -- of what the command leaves
   pub ready : recovers ≡ true → AreReadyInTurn IsAnyReady any_undone old before → AreReadyInTurn IsAnyReady any_undone new after
   -- what it doesn't act on stays, with what an undo there needs
   pub others : AnyKeep (spares op own) old new
-  -- nothing more is held back but for its images
+  -- no empty slot, empty row or mark is new, but at the cells of the unit's images
   pub held : IsHeldAsBefore old new after
-  -- the rows of temporary storage with their NEXT places, and the marks of queues
+  -- the rows of temporary storage with their NEXT cursors, and the marks of queues
   pub rows : new.temp_storage ≡ rows_after op recovers old.temp_storage
   pub queues : new.trans_data ≡ queues_after op own old.trans_data

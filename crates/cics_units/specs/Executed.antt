@@ -12,14 +12,15 @@ use Rattle.cics_units.specs.StoreMatching.{StoreWithImages}
 use Rattle.cics_units.specs.TableInPlace.{table_changed}
 use Rattle.cics_units.specs.ImageRows.{kept_by, AreOthersKept}
 
--- a command is applied for a unit, which goes on holding what it uses, or gives back what it covers, where it is answered NORMAL
+-- a command is applied for a unit. The table changes only if it is answered NORMAL: the unit
+-- acquires what stays held, and releases what the command covers
 pub record IsDone (old new : CoreValue) (unit : ℕ) (op : Op) (recoverable own : Bool) (answer : Answer) : Type 0 where
   pub applied : IsApplied old.stores.store new.stores.store (kept_by old.stores.images unit) (kept_by new.stores.images unit) op recoverable own answer
   pub others : AreOthersKept old.stores.images new.stores.images unit
   pub table : new.table ≡ (if is_normal answer.condition then table_changed recoverable unit op old.reads old.table else old.table)
   pub reads : new.reads ≡ reads_after unit op answer.condition old.reads
 
--- so it is once there is room for its images
+-- a command is executed: `old` gets room for its images (`roomy`), and then it is done (`IsDone`)
 pub record IsExecuted (old new : CoreValue) (unit : ℕ) (op : Op) (recoverable : Bool) (answer : Answer) : Type 0 where
   pub roomy : StoreWithImages
   pub room : AreRoomier old.stores roomy

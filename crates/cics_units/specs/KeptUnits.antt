@@ -20,7 +20,8 @@ use Rattle.cics_units.specs.Parts.{CoreValue}
 use Rattle.cics_history.specs.declared.ops.Entry.{Entry}
 use Rattle.cics_history.specs.declared.ops.UnitState.{UnitState}
 
--- the state of the units, as their parts show it: a NEXT place that isn't 0 is that of a queue that is there
+-- the state of the units, as their parts show it; only a queue that is there has a NEXT cursor
+-- other than 0
 abbrev pub state_shown : OpeningState → List Entry → List UnitState → List ℕ → CoreValue → UnitsState
 state_shown opening trace outcomes commits parts = record {
   opening = opening;
@@ -42,21 +43,26 @@ pub record AreAsDefined (o : OpeningState) (store : StoreValue) : Type 0 where
   pub files : (f : Bytes) → definitions_of store.files f ≡ option_map (λ file. file.definition) (value_at f o.files)
   pub queues : (q : Bytes) → option_map (λ t. t.kind) (value_at q store.trans_data) ≡ option_map (λ queue. queue.recovery) (value_at q o.queues)
 
--- the opening is in order; the open units are kept apart, and those that committed in their order; the files and queues are those of the opening and hold, with the
--- images of the open units, what the history gives; and the table has what the units hold
+-- the invariant of `Units`: it ties files and queues in place, images and the table of enqueues to
+-- the history. Waiting rests on `table` and a backout on `place`. The headline rests on `sound`,
+-- `order`, `canonical` and `place`
 pub record AreValid (s : UnitsState) (stores : StoreWithImages) (t : Table) : Type 0 where
   pub in_order : IsOpeningInOrder s.opening
   pub lawful_keys : HasLawfulKeys s.opening
+  -- open units are isolated, and each resource has one owner; committed units are in commit order
   pub sound : IsSound s
   pub order : IsInOrder s
   pub canonical : IsCanonical (shown_store stores.store)
+  -- files and queues hold what the history gives; an open unit's images lead back to what it gives
+  -- without that unit
   pub place : AreInPlace s stores.store stores.images
   pub defined : AreAsDefined s.opening stores.store
-  -- the rows of temporary storage are in order, and have the NEXT places
+  -- the rows of temporary storage are in order, and have the NEXT cursors
   pub rows : AreInOrder stores.store.temp_storage
   pub places : s.next ≡ places_of stores.store.temp_storage
+  -- the table has what the history says that the units hold, and nothing else
   pub table : IsTableOf s t
-  -- whatever is held back belongs to an image that an open unit keeps
+  -- an empty slot, an empty row and a mark belong to an image of an open unit
   pub held : AreHeldForImages any_holds cell_of_any stores.store stores.images
   -- each unit has a list of images
   pub begun : length s.outcomes ≤ length stores.images

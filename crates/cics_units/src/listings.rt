@@ -91,9 +91,9 @@ fn listed_td(
 }
 
 impl Listing {
-    /// What stands in the files and queues of a region, the changes of open units included, and no task.
-    /// `opening` says what of it is recoverable. `alloc` gives the memory for the copies of all records;
-    /// an `Err` comes only where it is refused.
+    /// Returns what stands in a region's files and queues, the changes of open units included,
+    /// and no task. `opening` says what of it is recoverable. `alloc` gives the memory for copies
+    /// of all records. The only error is `NoMemory`.
     pub(crate) fn of_store(
         alloc: Global,
         opening: &Opening,

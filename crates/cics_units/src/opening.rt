@@ -28,8 +28,8 @@ pub enum DefineFault {
     Duplicate,
     /// The key is not 1 to 255 bytes long, or it ends behind the record size.
     BadKey,
-    /// The record size is not 1 to 32,767 bytes, a record doesn't fit its file, or one of a transient
-    /// data queue doesn't have 1 to 32,767 bytes.
+    /// The record size, or the length of a transient data queue's record, is not 1 to 32,767 bytes.
+    /// Or a record doesn't fit its file.
     BadLength,
     /// Nothing of the name is defined that could be loaded.
     NotThere,
@@ -63,14 +63,14 @@ impl From<NoMemory> for DefineFault {
     }
 }
 
-/// Whether a file may have records of so many bytes at the most, and a transient data queue one of so many.
+/// Returns whether so many bytes are lawful, as a file's record size or for a record of a queue.
 fn is_record_size(size: u64) -> bool
     ensures { result ≡ is_record_size size }
 {
     1 <= size && size <= 32_767
 }
 
-/// Whether the key of a definition has a lawful length and ends within the record.
+/// Returns whether the key of a definition has a lawful length and ends within the record.
 fn is_key(definition: FileDef) -> bool
     ensures { result ≡ is_key definition }
 {
@@ -92,8 +92,8 @@ fn write_loaded(files: &mut Files, name: &Name8, content: Record) -> Result<(), 
     Ok(())
 }
 
-/// Adds a record that is loaded to the queue of a name, as the last one: it has no mark, and no unit of
-/// work ever undoes it.
+/// Adds a record that is loaded to the queue of a name, as the last one. It has no mark, and no
+/// unit ever undoes it.
 fn add_loaded(queues: &mut Queues, name: &Name4, content: Record) -> Result<(), NoMemory>
     requires { IsSome (value_at name.now queues.old) }
     ensures queues { OnOk result (queues.new
@@ -138,9 +138,9 @@ fn listed_queues(
 
 /// The definitions that a region opens with, and the records that were loaded into them.
 ///
-/// Contracts see the files by name, each with its definition and its records by key, the prefixes of the
-/// recoverable temporary storage queues in the order in which they were defined, and the transient data
-/// queues by name, each with its recovery and its records.
+/// Contracts see the files by name, each with its definition and its records by key. They see the
+/// prefixes of recoverable temporary storage queues in the order in which they were defined. And
+/// they see the transient data queues by name, each with its recovery and its records.
 #[derive(Drop)]
 pub struct Opening {
     files: Files,
@@ -176,7 +176,7 @@ impl Opening {
     ghost use Rattle.cics_units.specs.Listings.{recovery_in, defined_files, defined_queues};
     ghost use Rattle.std.specs.Prelude.{IfOk};
 
-    /// An opening that defines nothing. `alloc` gives the memory for all that is defined and loaded.
+    /// Returns an opening that defines nothing. `alloc` gives the memory for all that follows.
     pub fn new(alloc: Global) -> Opening
         ensures { result ≡ nothing_defined }
     {
@@ -190,9 +190,9 @@ impl Opening {
 
     /// Defines a file, without a record.
     ///
-    /// It is refused, and nothing changes, by the first of these that stands: a file of the name is
-    /// defined already (`Duplicate`), the record size isn't 1 to 32,767 (`BadLength`), the key isn't
-    /// 1 to 255 bytes long or ends behind the record (`BadKey`), memory is refused (`NoMemory`).
+    /// Errors, in this order, which change nothing. `Duplicate`: a file of the name is defined.
+    /// `BadLength`: the record size isn't 1 to 32,767. `BadKey`: the key isn't 1 to 255 bytes long,
+    /// or ends behind the record. `NoMemory`.
     pub fn define_file(&mut self, name: Name8, definition: FileDef) -> Result<(), DefineFault>
         ensures fault { AnswersFault result (file_fault self.old name definition) }
         ensures ok { OnOk result (self.new ≡ with_file self.old name definition) }
@@ -213,9 +213,9 @@ impl Opening {
 
     /// Loads a record into a file, under the key that lies in it.
     ///
-    /// It is refused, and nothing changes, by the first of these that stands: no file of the name is
-    /// defined (`NotThere`), the record ends before its key does or is longer than the record size
-    /// (`BadLength`), the file has the key already (`Duplicate`), memory is refused (`NoMemory`).
+    /// Errors, in this order, which change nothing. `NotThere`: no file of the name is defined.
+    /// `BadLength`: the record ends before its key does, or is longer than the record size.
+    /// `Duplicate`: the file has the key already. `NoMemory`.
     pub fn load_file(&mut self, name: Name8, content: Record) -> Result<(), DefineFault>
         ensures fault { AnswersFault result (load_fault (value_at name self.old.files) content) }
         ensures ok { OnOk result (self.new ≡ with_record self.old name content) }
@@ -235,11 +235,11 @@ impl Opening {
         Ok(())
     }
 
-    /// Defines a prefix: the temporary storage queues whose names begin with it, the blanks that fill it
-    /// up apart, are recoverable.
+    /// Defines a prefix: temporary storage queues whose names begin with it are recoverable. The
+    /// blanks that fill it up don't count.
     ///
-    /// It is refused, and nothing changes, where the prefix is defined already (`Duplicate`), and else
-    /// where memory is refused (`NoMemory`).
+    /// Errors, in this order, which change nothing. `Duplicate`: the prefix is defined already.
+    /// `NoMemory`.
     pub fn define_ts_prefix(&mut self, prefix: Name8) -> Result<(), DefineFault>
         ensures fault { AnswersFault result (fault_if (is_key_in prefix self.old.prefixes)) }
         ensures ok { OnOk result (self.new ≡ with_prefix self.old prefix) }
@@ -254,8 +254,8 @@ impl Opening {
 
     /// Defines a transient data queue, without a record.
     ///
-    /// It is refused, and nothing changes, where a queue of the name is defined already (`Duplicate`),
-    /// and else where memory is refused (`NoMemory`).
+    /// Errors, in this order, which change nothing. `Duplicate`: a queue of the name is defined.
+    /// `NoMemory`.
     pub fn define_td(&mut self, name: Name4, recovery: Recovery) -> Result<(), DefineFault>
         ensures fault { AnswersFault result (fault_if (has_key name self.old.queues)) }
         ensures ok { OnOk result (self.new ≡ with_queue self.old name recovery) }
@@ -271,9 +271,8 @@ impl Opening {
 
     /// Loads a record into a transient data queue, as the last one.
     ///
-    /// It is refused, and nothing changes, by the first of these that stands: no queue of the name is
-    /// defined (`NotThere`), the record isn't 1 to 32,767 bytes long (`BadLength`), memory is refused
-    /// (`NoMemory`).
+    /// Errors, in this order, which change nothing. `NotThere`: no queue of the name is defined.
+    /// `BadLength`: the record isn't 1 to 32,767 bytes long. `NoMemory`.
     pub fn load_td(&mut self, name: Name4, content: Record) -> Result<(), DefineFault>
         ensures fault { AnswersFault result (load_td_fault
             (value_at name self.old.queues) content) }
@@ -290,12 +289,12 @@ impl Opening {
         Ok(())
     }
 
-    /// The allocator that gives the memory for all that is defined and loaded.
+    /// Returns the allocator that gives the memory for all that is defined and loaded.
     pub fn allocator(&self) -> Global {
         self.alloc
     }
 
-    /// The files that are defined, with what was loaded into each.
+    /// Returns the files that are defined, with what was loaded into each.
     ///
     /// Their names rise, and so do the keys of each; each key is one that a definition may have.
     pub(crate) fn files(&self) -> &Files
@@ -306,39 +305,37 @@ impl Opening {
         &self.files
     }
 
-    /// The prefixes that are defined, in the order of their definitions.
+    /// Returns the prefixes that are defined, in the order of their definitions.
     pub fn prefixes(&self) -> &[Name8]
         ensures { result.now ≡ self.now.prefixes }
     {
         self.prefixes.as_slice()
     }
 
-    /// The transient data queues that are defined, with what was loaded into each; no record is marked.
+    /// Returns the defined transient data queues, with what was loaded. No record is marked.
     pub(crate) fn queues(&self) -> &Queues
         ensures { result.now ≡ opened_queues self.now.queues }
     {
         &self.queues
     }
 
-    /// The files that are defined, in the order of their names, each with its definition and with copies
-    /// of the records that were loaded, in the order of their keys. An `Err` comes only where memory is
-    /// refused.
+    /// Returns the defined files in the order of their names. Each has its definition and copies of
+    /// its loaded records, in the order of their keys. The only error is `NoMemory`.
     pub fn defined_files(&self) -> Result<Items<(Name8, FileDef, Items<Record>)>, NoMemory>
         ensures { IfOk result (λ files. files ≡ defined_files self.now) }
     {
         listed_files(self.alloc, self.files())
     }
 
-    /// The transient data queues that are defined, in the order of their names, each with its recovery
-    /// and with copies of the records that were loaded, the first first. An `Err` comes only where memory
-    /// is refused.
+    /// Returns the defined transient data queues in the order of their names. Each has its recovery
+    /// and copies of its loaded records, first to last. The only error is `NoMemory`.
     pub fn defined_queues(&self) -> Result<Items<(Name4, Recovery, Items<Record>)>, NoMemory>
         ensures { IfOk result (λ queues. queues ≡ defined_queues self.now) }
     {
         listed_queues(self.alloc, self.queues())
     }
 
-    /// Whether a file is defined as recoverable.
+    /// Returns whether a file is defined as recoverable.
     pub(crate) fn is_recoverable_file(&self, name: &Name8) -> bool
         ensures { result ≡ file_recoverable self.now name.now }
     {
@@ -348,14 +345,14 @@ impl Opening {
         }
     }
 
-    /// Whether a temporary storage queue is recoverable: its name begins with a prefix that is defined.
+    /// Returns whether a temporary storage queue is recoverable: its name begins with a prefix.
     pub(crate) fn is_recoverable_ts(&self, name: &Name8) -> bool
         ensures { result ≡ has_prefix_in self.now.prefixes name.now }
     {
         has_prefix_in(self.prefixes.as_slice(), name)
     }
 
-    /// Whether a transient data queue is defined as LOGICAL: it is recoverable.
+    /// Returns whether a transient data queue is defined as LOGICAL: it is recoverable.
     pub(crate) fn is_logical_td(&self, name: &Name4) -> bool
         ensures { result ≡ queue_logical self.now name.now }
     {
@@ -365,7 +362,7 @@ impl Opening {
         }
     }
 
-    /// Whether a command acts on a recoverable file or queue.
+    /// Returns whether a command acts on a recoverable file or queue.
     pub fn is_recoverable(&self, op: &Op) -> bool
         ensures { result ≡ is_recoverable self.now op.now }
     {
@@ -384,7 +381,7 @@ impl Opening {
         }
     }
 
-    /// Whether a command acts on a temporary storage queue that is recoverable.
+    /// Returns whether a command acts on a recoverable temporary storage queue, by its prefix.
     #[inline(always)]
     pub(crate) fn is_prefixed(&self, op: &Op) -> bool
         ensures { is_temp op.now ≡ true → result ≡ is_recoverable self.now op.now }
@@ -397,8 +394,8 @@ impl Opening {
         }
     }
 
-    /// The recovery of a transient data queue, and `Recovery::Unrecovered` where none of the name is
-    /// defined.
+    /// Returns the recovery of a transient data queue, or `Recovery::Unrecovered` if no such queue
+    /// is defined.
     pub(crate) fn td_recovery(&self, name: &Name4) -> Recovery
         ensures { result ≡ recovery_in (value_at name.now self.now.queues) }
     {

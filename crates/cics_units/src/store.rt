@@ -1,4 +1,4 @@
-//! The store of files and queues: what an updating command makes of it, and what undoes that.
+//! The store of files and queues: applies updating commands in place, and adds what undoes them.
 
 ghost use Rattle.std.specs.Prelude.{◌≡◌, ◌<◌, ◌≤◌, ◌++◌, Bool, true, [], length, IfOk, OnErr};
 ghost use Rattle.std.specs.Prelude.{IsSome, option_map};
@@ -67,7 +67,7 @@ fn add_file_images(images: &mut Images<Store>, file: Name8, made: Items<FileImag
     }
 }
 
-// Returns what DELETE GENERIC is answered: how many records it took away, or NOTFND for none.
+// Returns what DELETE GENERIC is answered: how many records it deleted, or NOTFND for none.
 fn counted(number: u64) -> Answer
     ensures { result ≡ counted_as number }
 {
@@ -88,7 +88,7 @@ fn with_content(condition: Condition, content: Option<Record>) -> Answer
     }
 }
 
-/// Returns what READ UPDATE is answered, once its record was looked up.
+/// Returns what READ UPDATE is answered: its record, or NOTFND for none.
 pub(crate) fn found(given: Option<Record>) -> Answer
     ensures { result ≡ answer_of_record (found_condition given) given }
 {
@@ -120,7 +120,7 @@ fn add_trans_image(images: &mut Images<Store>, queue: Name4, image: Option<TdIma
     }
 }
 
-// Returns whether a file is recoverable, which has to be there.
+// Returns whether a file is recoverable. The file has to be there.
 fn bind_file(store: &Store, file: &Name8) -> bool
     requires there { IsThere (value_at file.now store.now.files) }
     ensures { IsFileBound store.now file.now result }
@@ -128,7 +128,7 @@ fn bind_file(store: &Store, file: &Name8) -> bool
     store.files.at(file).definition().recoverable
 }
 
-// Returns whether a transient data queue is LOGICAL, which has to be there.
+// Returns whether a transient data queue is LOGICAL. The queue has to be there.
 fn bind_queue(store: &Store, queue: &Name4) -> bool
     requires there { IsSome (value_at queue.now store.now.trans_data) }
     ensures { IsQueueBound store.now queue.now result }
@@ -136,8 +136,8 @@ fn bind_queue(store: &Store, queue: &Name4) -> bool
     store.trans_data.at(queue).recovery().is_logical()
 }
 
-/// Returns whether what a command acts on is recoverable: its file or its transient data queue,
-/// which has to be there. Of a command on temporary storage `recoverable` says so.
+/// Returns whether a command acts on something recoverable. Its file or transient data queue has to
+/// be there. For a command on temporary storage it returns `recoverable`.
 pub(crate) fn bind(store: &Store, op: &Op, recoverable: bool) -> bool
     requires fit { IsFitOp store.now op.now }
     ensures bound { IsBound store.now op.now result }
@@ -156,7 +156,7 @@ pub(crate) fn bind(store: &Store, op: &Op, recoverable: bool) -> bool
     }
 }
 
-// Applies a command on a file where the file stands.
+// Applies a command on a file in place, but for READ UPDATE, as `apply` does.
 fn apply_to_file(
     store: &mut Store,
     bound: &BoundOp<'_>,
@@ -199,9 +199,9 @@ fn apply_to_file(
     }
 }
 
-/// Applies a command that isn't READ UPDATE where its file or queue stands, and answers it as the
-/// definition `apply` does. What undoes it is added to the images of its unit. On `NoMemory`
-/// nothing has changed.
+/// Applies a command other than READ UPDATE in place, and answers it as definition `apply` does.
+/// Adds to its unit's images what undoes it, if it acts on something recoverable. On `NoMemory`
+/// nothing has changed: after the change no memory is asked for, since images have their room.
 pub(crate) fn apply(
     store: &mut Store,
     bound: &BoundOp<'_>,

@@ -1,4 +1,4 @@
-//! Units of work: their commands, what they hold, and their ends.
+//! Units of work: their commands, what they acquire, and their ends.
 
 ghost use Rattle.std.specs.Prelude.{◌≡◌, ◌<◌, ◌≤◌, ◌+◌, ◌++◌, ◌∷◌, [], true, length, vec_len};
 ghost use Rattle.std.specs.Prelude.{vec_capacity, IsTrue, Option, Some, None, option_map, IfOk};
@@ -41,29 +41,29 @@ use std::mem;
 /// Result of `submit`.
 #[derive(Drop)]
 pub enum Submitted {
-    /// The unit that executed the command, which may have begun with it, and the answer.
+    /// The unit that executed the command, a new one if none was given, and the answer.
     Answered(UnitId, Answer),
-    /// Another unit that blocks the command, and the command, which wasn't executed.
+    /// The blocker, another open unit, and the command, which wasn't executed.
     MustWait(UnitId, Op),
 }
 
 /// The units of work of a region, with its files and queues.
 ///
-/// Contracts see two fields. `state` is the history: the opening, the trace of executed commands,
-/// the outcome of each unit, the commits in their order, the open update reads, the counts of ENQ
-/// and the NEXT places. `store` is read off the files and queues themselves.
+/// Contracts see two fields. `state` has the opening, the trace of executed commands, the outcomes
+/// of units and the commit order. It also has the open update reads, the counts of ENQ and the
+/// NEXT cursors. `store` is read off the files and queues themselves.
 ///
 /// After every call `headline` holds, which says two things of them:
 ///
-/// - The store equals a replay of the trace that leaves out what backed-out units did to
-///   recoverable files and queues. In it each command has the answer that it was given.
-/// - Committed units are serializable in commit order. Their NORMAL commands on recoverable files
-///   and queues, run unit after unit, give what would stand there if the open units were backed
-///   out; with the open units behind, in any order, what stands there. Each of these commands has
-///   in its unit's turn the answer that it was given.
+/// - The store equals a replay of the surviving entries: the trace without what backed-out units
+///   did to recoverable files and queues. Each entry has in the replay the answer that it has here.
+/// - Committed units are serializable in commit order. Run so, their NORMAL commands on recoverable
+///   files and queues give what would stand if the open units were backed out. With the open units
+///   after them, in any order, they give what stands. Each of them has the same answer.
 ///
-/// The invariant that carries this is `AreValid`: it ties the store, the images and the locks to the
-/// history, so that undoing the images of any open unit leaves what the others did.
+/// The invariant behind it is `AreValid`: it ties store, images, locks and reads to the history. By
+/// its `place`, undoing an open unit's images leaves what the others did. By its `table`, the locks
+/// are what the history says is held, so a command waits exactly if it has to.
 #[derive(Drop)]
 pub struct Units {
     opening: Opening,
@@ -95,7 +95,7 @@ impl Model for Units {
         × (length u.outcomes.items ≤ vec_capacity u.commits) };
 }
 
-// The unit that acts: the one that is handed in, or the next one to begin.
+// Returns the unit that acts: the given one, or the next to begin.
 fn unit_or_next(unit: Option<UnitId>, outcomes: &[UnitState]) -> UnitId
     ensures { result ≡ unit_or_next unit outcomes.now }
 {
@@ -105,7 +105,7 @@ fn unit_or_next(unit: Option<UnitId>, outcomes: &[UnitState]) -> UnitId
     }
 }
 
-// Makes room for one unit more, and for the commits of it and of all that have begun.
+// Makes room for one more unit, and for the commits of it and of all that have begun.
 fn reserve_unit(outcomes: &mut Vec<UnitState>, commits: &mut Vec<UnitId>) -> Result<(), NoMemory>
     ensures outcomes { outcomes.new.items ≡ outcomes.old.items }
     ensures commits { commits.new.items ≡ commits.old.items }
@@ -121,7 +121,7 @@ fn reserve_unit(outcomes: &mut Vec<UnitState>, commits: &mut Vec<UnitId>) -> Res
     Ok(())
 }
 
-// A task without a unit begins one.
+// Begins a unit for a task that has none.
 fn begin(outcomes: &mut Vec<UnitState>, unit: Option<UnitId>)
     requires room { vec_len outcomes.old < vec_capacity outcomes.old }
     ensures { outcomes.new.items ≡ outcomes_with unit outcomes.old.items }
@@ -131,7 +131,7 @@ fn begin(outcomes: &mut Vec<UnitState>, unit: Option<UnitId>)
     }
 }
 
-// Enters an executed command, and the unit that began with it where there was none.
+// Adds an executed command to the trace, and the unit that began with it, if one did.
 #[inline(always)]
 fn enter(trace: &mut Vec<Entry>, outcomes: &mut Vec<UnitState>, unit: Option<UnitId>, entry: Entry)
     requires trace_room { vec_len trace.old < vec_capacity trace.old }
@@ -143,8 +143,8 @@ fn enter(trace: &mut Vec<Entry>, outcomes: &mut Vec<UnitState>, unit: Option<Uni
     trace.push_reserved(entry);
 }
 
-// Reads the item of a number, or the one after the item that was read last. The number of an item
-// that is given becomes the NEXT place of its queue.
+// Reads the item of a number, or if that is None the item after the queue's cursor. The number of
+// the item that was read becomes the cursor.
 fn read_ts(queues: &mut TempStore, queue: &Name8, item: Option<u64>) -> Result<TsRead, NoMemory>
     ensures answer { IfOk result (λ read. read
         ≡ read_item queues.old queue.now (number_asked queues.old queue.now item)) }
@@ -159,7 +159,7 @@ fn read_ts(queues: &mut TempStore, queue: &Name8, item: Option<u64>) -> Result<T
     }
 }
 
-// Takes the images of a unit, which keeps none from then on.
+// Takes the images of a unit out of its row, and leaves the row empty.
 fn take_images(rows: &mut Vec<Images<Store>>, alloc: Global, unit: UnitId) -> Images<Store>
     requires begun { unit < length rows.old.items }
     ensures images { result.newest_first ≡ kept_by rows.old.items unit }
@@ -171,11 +171,10 @@ fn take_images(rows: &mut Vec<Images<Store>>, alloc: Global, unit: UnitId) -> Im
 }
 
 impl Units {
-    /// Starts with what an opening holds: no command is executed, and no unit has begun. It takes
-    /// memory for a copy of the files and queues; where that is refused the opening comes back.
+    /// Starts with a copy of an opening's files and queues: no command is executed, and no unit has
+    /// begun. If memory is refused, returns the opening.
     ///
-    /// - `in_order`: the names in an opening rise, and so do the keys of each file, as what is said of
-    ///   whole runs asks.
+    /// - `in_order`: the opening's names rise, and so do the keys of each file. Laws suppose it.
     pub fn start(opening: Opening) -> Result<Units, Opening>
         ensures state { IfOk result (λ units. units.state ≡ beginning opening) }
         ensures in_order { IfOk result (λ units. IsOpeningInOrder units.state.opening) }
@@ -204,11 +203,11 @@ impl Units {
         })
     }
 
-    /// The unit that a command has to wait for, if any: another one that holds what it uses, else
-    /// for READQ TD the writer of the queue, where that has no record that the task may read.
-    /// `asking` is None for a task without a unit. What `submit` asks of the unit and the command
-    /// has to hold, and it takes no memory. The open units are kept apart (`sound`): so who has to
-    /// wait for a writer has to, however the others end.
+    /// Returns the blocker of a command, if any: another unit that holds what conflicts with it.
+    /// For READQ TD it is else the queue's writer, if there is no record that the task may read.
+    /// `asking` is None for a task without a unit. Requires what `submit` does of unit and command.
+    /// Takes no memory. By `sound` the open units are isolated: a command that has to wait for a
+    /// writer has to, however the others end.
     pub fn awaited(&self, asking: Option<UnitId>, op: &Op) -> Option<UnitId>
         requires is_open { IsOpenOrNone self.now.state asking }
         requires ready { IsTrue (is_ready_op self.now.state asking op.now) }
@@ -224,7 +223,7 @@ impl Units {
         self.core.blocker(asking, &bound)
     }
 
-    /// Executes a copy of a command, as `submit` does. What `submit` asks has to hold.
+    /// Executes a copy of a command, as `submit` does, and requires what `submit` does.
     pub fn execute(&mut self, unit: Option<UnitId>, op: &Op) -> Result<Done, NoMemory>
         requires is_open { IsOpenOrNone self.old.state unit }
         requires ready { IsTrue (is_ready_op self.old.state unit op.now) }
@@ -243,13 +242,14 @@ impl Units {
     }
 
     /// Executes a command for a unit, or for the next one, which begins with it. If another unit
-    /// blocks the command, returns that unit and the command, and changes nothing.
+    /// blocks the command, returns that unit and the command, and changes nothing. Nothing waits
+    /// here: the region keeps the command, and submits a copy once `awaited` finds no blocker.
     ///
-    /// An executed command moves into the trace, with its answer. It has to be ready: its unit is
-    /// open, and its file or transient data queue is defined. A record for a file fits the file
-    /// under the command's key, one for a queue has 1 to 32,767 bytes, and a key or a prefix at
-    /// most 255. REWRITE is of the record that the unit has read for update, and READ UPDATE finds
-    /// none open in its file. On `NoMemory` nothing changes, and the command is gone.
+    /// An executed command moves into the trace, with its answer. The command has to be ready. Its
+    /// unit is open, and its file or transient data queue is defined. A record for a file fits the
+    /// file under the command's key. One for a queue has 1 to 32,767 bytes, and a key or a prefix
+    /// at most 255. REWRITE is of the record that the unit has read for update, and READ UPDATE
+    /// finds none open in its file. On `NoMemory` nothing changes, and the command is gone.
     pub fn submit(&mut self, unit: Option<UnitId>, op: Op) -> Result<Submitted, NoMemory>
         requires is_open { IsOpenOrNone self.old.state unit }
         requires ready { IsTrue (is_ready_op self.old.state unit op) }
@@ -286,12 +286,12 @@ impl Units {
         Ok(Submitted::Answered(acting, answer))
     }
 
-    /// Enqueues on a value for a unit, or for the next one, which begins with it: ENQ.
+    /// Enqueues on a value for a unit, or for the next one, which begins with it: ENQ. The unit has
+    /// to be open, and a value has at most 255 bytes. Unless it returns Taken, nothing changes.
     ///
-    /// Taken has the unit, which holds the value from then on, once more where it held it already.
-    /// MustWait has the other unit that holds the value, and CountFull says that the unit holds it
-    /// 65,535 times: then nothing changes, and neither where memory is refused. The unit has to be
-    /// open, and a value has at most 255 bytes.
+    /// - Taken: the unit, which holds the value from now on, once more if it held it already.
+    /// - MustWait: the value's owner, another unit.
+    /// - CountFull: the unit holds the value 65,535 times already.
     pub fn enq(&mut self, unit: Option<UnitId>, value: &[u8]) -> Result<Enqueued, NoMemory>
         requires is_open { IsOpenOrNone self.old.state unit }
         requires most { length value.now ≤ 255 }
@@ -317,8 +317,8 @@ impl Units {
         Ok(Enqueued::Taken(acting))
     }
 
-    /// The unit, other than the one that asks, that holds a value: the one that ENQ has to wait
-    /// for. `asking` is None for a task without a unit, and a value has at most 255 bytes.
+    /// Returns the owner of a value, if it is a unit other than `asking`: the blocker of an ENQ.
+    /// `asking` is None for a task without a unit, and a value has at most 255 bytes.
     pub fn value_holder(&self, asking: Option<UnitId>, value: &[u8]) -> Option<UnitId>
         requires most { length value.now ≤ 255 }
         ensures holder { result ≡ value_holder self.now.state asking value.now }
@@ -329,9 +329,9 @@ impl Units {
             .holder_over(&ResourceRef::value(value), asking)
     }
 
-    /// Dequeues from a value for a unit: DEQ. With as many as it enqueued the value is free.
+    /// Dequeues from a value for a unit: DEQ. After as many as it enqueued the value is free.
     ///
-    /// A value that the unit doesn't hold stays as it is, another unit's too. It takes no memory.
+    /// A value that the unit doesn't hold stays as it is, another unit's too. Takes no memory.
     /// The unit has to be open, and a value has at most 255 bytes.
     pub fn deq(&mut self, unit: UnitId, value: &[u8])
         requires is_open { IsOpenUnit self.old.state unit }
@@ -343,7 +343,7 @@ impl Units {
         self.core.locks.let_go(&ResourceRef::value(value), unit);
     }
 
-    /// The key of the record that a unit has read for update in a file, if it has.
+    /// Returns the key of the record that a unit has read for update in a file, if any.
     pub fn open_read(&self, unit: UnitId, file: &Name8) -> Option<&[u8]>
         ensures key { option_copied result ≡ read_at self.now.state.reads unit file.now }
         ensures most { IfSome result (λ key. length key.now ≤ 255) }
@@ -352,8 +352,8 @@ impl Units {
         Some(key.bytes())
     }
 
-    /// Ends a unit's update read of a file, if it has one: UNLOCK. The record of an unrecoverable
-    /// file is free then; in a recoverable one the unit holds it until it ends. It takes no memory.
+    /// Ends a unit's update read of a file, if it has one: UNLOCK. In an unrecoverable file this
+    /// releases the record. In a recoverable one the unit holds it until it ends. Takes no memory.
     pub fn unlock(&mut self, unit: UnitId, file: &Name8)
         requires is_open { IsOpenUnit self.old.state unit }
         ensures state { self.new.state ≡ after_unlock self.old.state unit file.now }
@@ -364,12 +364,12 @@ impl Units {
         self.core.end_read(unit, file, recoverable);
     }
 
-    /// READQ TS ITEM, and READQ TS NEXT where `item` is None: the item of a number, or the one
-    /// after the item that any task read last, the changes of open units included. QIDERR where
-    /// there is no queue, ITEMERR where it has no item of the number.
+    /// Reads the item of a number, or if `item` is None the one after the queue's cursor: READQ TS
+    /// ITEM and NEXT. It sees the changes of open units. It is answered QIDERR if there is no
+    /// queue, and ITEMERR if the queue has no such item.
     ///
-    /// The number of an item that is given becomes the NEXT place of its queue. No unit holds the
-    /// queue for a read. Where memory for a copy of the item is refused nothing changes.
+    /// The number of the item that was read becomes the cursor. No unit acquires the queue for a
+    /// read. The item is copied, and on `NoMemory` nothing changes.
     pub fn read_ts(&mut self, queue: &Name8, item: Option<u64>) -> Result<Answer, NoMemory>
         ensures answer { IfOk result (λ answer. answer
             ≡ ts_reading self.old.state queue.now (item_asked self.old.state queue.now item)) }
@@ -388,16 +388,16 @@ impl Units {
         })
     }
 
-    /// The NEXT place of a temporary storage queue: the number of the item that the last READQ TS
-    /// gave, by whichever task. It is 0 again after DELETEQ TS and once WRITEQ TS has made the
-    /// queue anew, and of an absent queue; a backout leaves it as it is.
+    /// Returns the cursor (NEXT) of a temporary storage queue: the number of the item that READQ TS
+    /// read last, for whichever task. It is 0 for an absent queue, again after DELETEQ TS, and once
+    /// WRITEQ TS has made the queue anew. A backout leaves it as it is.
     pub fn next_place(&self, queue: &Name8) -> u16
         ensures { result ≡ place_at self.now.state queue.now }
     {
         self.core.store.temp_storage.next_place(queue)
     }
 
-    /// The recovery of a transient data queue; None where no queue of the name is defined.
+    /// Returns the recovery of a transient data queue, or None if no such queue is defined.
     pub fn td_recovery(&self, queue: &Name4) -> Option<Recovery>
         ensures { result
             ≡ option_map (λ q. q.recovery) (value_at queue.now self.now.state.opening.queues) }
@@ -408,8 +408,8 @@ impl Units {
         }
     }
 
-    /// Commits a unit: what it did stays, it holds nothing more, and its turn comes behind those of
-    /// the units that committed before it. It takes no memory.
+    /// Commits a unit: what it did stays, and it releases all that it holds. In commit order it
+    /// comes after the units that committed before it. Takes no memory.
     pub fn commit(&mut self, unit: UnitId)
         requires is_open { IsOpenUnit self.old.state unit }
         ensures state { self.new.state ≡ after_end self.old.state unit Committed }
@@ -425,11 +425,11 @@ impl Units {
         self.commits.push_reserved(unit);
     }
 
-    /// Backs a unit out: each recoverable file and queue holds what it would hold if the unit had
-    /// executed nothing, the unit holds nothing more, and it has no turn. It takes no memory.
+    /// Backs a unit out: undoes its images, newest first, and releases all that it holds. Each
+    /// recoverable file and queue is left as if the unit had executed nothing. Takes no memory.
     ///
-    /// - `alone`: where a unit ran alone from some command on, each recoverable file and queue holds what the
-    ///   kept commands before that one give.
+    /// - `alone`: if the unit ran alone from some command on, each recoverable file and queue holds
+    ///   what the surviving entries before that command give.
     pub fn back_out(&mut self, unit: UnitId)
         requires is_open { IsOpenUnit self.old.state unit }
         ensures state { self.new.state ≡ after_end self.old.state unit BackedOut }
@@ -443,8 +443,8 @@ impl Units {
         self.outcomes[unit.number() as usize] = UnitState::BackedOut;
     }
 
-    /// The file of a name as it stands, the changes of open units included; None where no file of
-    /// the name is defined.
+    /// Returns the file of a name as it stands, the changes of open units included, or None if no
+    /// such file is defined.
     pub fn file(&self, name: &Name8) -> Option<&File>
         ensures records { value_at name.now self.now.store.files
             ≡ option_map (λ f. f.records) (option_copied result) }
@@ -456,14 +456,14 @@ impl Units {
         self.core.store.files.get(name)
     }
 
-    /// What the units started with.
+    /// Returns what the units started with.
     pub fn opening(&self) -> &Opening
         ensures { result.now ≡ self.now.state.opening }
     {
         &self.opening
     }
 
-    /// The executed commands with their units and answers, in the order of their execution.
+    /// Returns the executed commands with their units and answers, in order of execution.
     pub fn trace(&self) -> &[Entry]
         ensures trace { result.now ≡ self.now.state.trace }
         ensures headline { IsHeadline self.now }
@@ -471,7 +471,7 @@ impl Units {
         self.trace.as_slice()
     }
 
-    /// Whether a unit that has begun has ended, and how.
+    /// Returns whether a unit that has begun has ended, and how.
     pub fn outcome(&self, unit: UnitId) -> UnitState
         requires begun { unit < length self.now.state.outcomes }
         ensures { result ≡ outcome_of self.now.state.outcomes unit }
@@ -479,17 +479,17 @@ impl Units {
         self.outcomes[unit.number() as usize]
     }
 
-    /// The outcome of each unit that has begun, in the order in which they began.
+    /// Returns the outcome of each unit that has begun, in the order in which they began.
     pub fn outcomes(&self) -> &[UnitState]
         ensures { result.now ≡ self.now.state.outcomes }
     {
         self.outcomes.as_slice()
     }
 
-    /// The units that committed, in the order in which they did.
+    /// Returns the units that committed, in commit order.
     ///
-    /// - `headline`: what they did in this order is what would stand in recoverable files and queues if
-    ///   the open units were backed out.
+    /// - `headline`: run in this order, what they did gives what would stand in recoverable files
+    ///   and queues if the open units were backed out.
     pub fn commits(&self) -> &[UnitId]
         ensures commits { result.now ≡ self.now.state.commits }
         ensures headline { IsHeadline self.now }
@@ -497,10 +497,10 @@ impl Units {
         self.commits.as_slice()
     }
 
-    /// What stands in the files and queues, the changes of open units included, and no task. It
-    /// takes memory for a copy of each record.
+    /// Returns what stands in the files and queues, the changes of open units included, and no
+    /// task. It takes memory for a copy of each record.
     ///
-    /// - `replayed`: so it is what `plain_replay` gives of the opening, the trace and the outcomes.
+    /// - `replayed`: this is what `plain_replay` gives of the opening, the trace and the outcomes.
     pub fn listing(&self) -> Result<Listing, NoMemory>
         ensures listing { IfOk result (λ listing. listing
             ≡ listing_of self.now.state.opening self.now.store) }

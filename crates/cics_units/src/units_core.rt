@@ -1,5 +1,5 @@
-//! All that units change where it stands: the files and queues, the images of each unit, who holds
-//! what, and the open update reads.
+//! What units change in place: the files and queues, the images of each unit, the locks, and the
+//! open update reads.
 
 ghost use Rattle.std.specs.Prelude.{◌≡◌, ◌<◌, ◌≤◌, ℕ, true, false, not, if◌then◌else◌, [], None};
 ghost use Rattle.std.specs.Prelude.{length, filter, reverse, IfOk, IfSome, OnOk, OnErr, All};
@@ -39,15 +39,15 @@ pub(crate) type Store = Stores<Files, TempStore, Queues>;
 /// An image of a change of any of them.
 type AnyImage = StoreImage<FilesImage, TsImage, QueueImage>;
 
-/// The core of the units of work: the files and queues as they stand, the images of each unit, what
-/// units hold, and the open update reads.
+/// The core of the units of work: files and queues in place, the images of each unit, the locks,
+/// and the open update reads.
 ///
-/// It has no invariant of its own. `Units` reaches its fields, and says what holds between them.
+/// It has no invariant of its own. `Units` reaches its fields, and ties them by `AreValid`.
 #[derive(Drop)]
 pub(crate) struct UnitsCore {
     pub(crate) store: Store,
     /// The images of each unit that has begun or is about to, by its number. A unit that has ended
-    /// keeps none.
+    /// has none.
     pub(crate) rows: Vec<Images<Store>>,
     pub(crate) locks: Enqueues,
     pub(crate) reads: OpenReads,
@@ -58,14 +58,14 @@ pub(crate) struct UnitsCore {
 #[derive(Drop)]
 pub(crate) struct BoundOp<'a> {
     pub(crate) op: &'a Op,
-    /// What the command acts on is recoverable.
+    /// Whether what the command acts on is recoverable.
     pub(crate) recoverable: bool,
     pub(crate) uses: Uses<'a>,
-    /// The unit holds the writing end of the queue, and so may read what it wrote itself.
+    /// For READQ TD, whether the unit owns the writing end, and so may read what it wrote itself.
     pub(crate) own: bool,
 }
 
-// Commits the writing end of the queue that an image is of, where it is of that end.
+// Commits the writing end of an image's queue, if the image is of that end.
 fn settle_writer(store: &mut Store, image: &AnyImage)
     ensures { store.new ≡ end_settled Writing store.old image.now }
 {
@@ -76,7 +76,7 @@ fn settle_writer(store: &mut Store, image: &AnyImage)
     }
 }
 
-// Commits the reading end of the queue that an image is of, where it is of that end.
+// Commits the reading end of an image's queue, if the image is of that end.
 fn settle_reader(store: &mut Store, image: &AnyImage)
     ensures { store.new ≡ end_settled Reading store.old image.now }
 {
@@ -87,9 +87,9 @@ fn settle_reader(store: &mut Store, image: &AnyImage)
     }
 }
 
-/// Commits the ends of the queues that a unit's images are of, the oldest image first in the list:
-/// the writing ends first, so that no record has both marks where a reading end is committed. What
-/// stands afterwards is the same in either order.
+/// Commits the ends of queues that a unit's images are of. The list has the oldest image first. The
+/// writing ends go first: so no record is marked as written and as read when a reading end is
+/// committed. What stands afterwards is the same in either order.
 pub(crate) fn settle_ends(store: &mut Store, images: &[AnyImage])
     ensures { store.new ≡ ends_settled store.old (reverse images.now) }
 {
@@ -101,7 +101,7 @@ pub(crate) fn settle_ends(store: &mut Store, images: &[AnyImage])
     }
 }
 
-// Returns for how many images a command needs room: as many as it gives at most, and at least one.
+// Returns how many images a command needs room for: as many as it may give, and at least one.
 fn most_images(store: &Store, op: &Op) -> usize
     requires fit { IsFitOp store.now op.now }
     ensures some { 0 < result }
@@ -126,7 +126,7 @@ fn copied(given: Option<&Record>) -> Result<Option<Record>, NoMemory>
     }
 }
 
-/// Makes room for so many more images of a unit, which may be the next one, that has yet to begin.
+/// Makes room for `count` more images of a unit, which may be the next to begin.
 /// A command that changes many cells makes room for all its images before its first change.
 pub(crate) fn reserve_images(
     rows: &mut Vec<Images<Store>>,
@@ -147,7 +147,7 @@ pub(crate) fn reserve_images(
     Ok(rows[at].make_room(count)?)
 }
 
-// Acquires what a command goes on holding: what it uses of something recoverable. Returns what was
+// Acquires what a command uses if it acts on something recoverable, else nothing. Returns what was
 // free before.
 fn acquire(locks: &mut Enqueues, unit: UnitId, bound: &BoundOp<'_>) -> Result<WereFree, NoMemory>
     requires plain { list_any is_user (listed bound.now.uses) ≡ false }
@@ -194,8 +194,8 @@ impl UnitsCore {
         }
     }
 
-    /// Looks up where a command of a unit acts, and what it uses. `recoverable` says whether a
-    /// command on temporary storage acts on something recoverable.
+    /// Looks up what a command of a unit uses, and whether it acts on something recoverable. Of a
+    /// command on temporary storage `recoverable` says so; for others it doesn't count.
     #[inline(always)]
     pub(crate) fn bind<'a>(&self, unit: UnitId, op: &'a Op, recoverable: bool) -> BoundOp<'a>
         requires fit { IsFitOp self.now.store op.now }
@@ -213,9 +213,9 @@ impl UnitsCore {
         }
     }
 
-    /// Returns the unit that a command has to wait for, if any: another than the one that asks that
-    /// holds what overlaps what the command uses, else for READQ TD the writer of a LOGICAL queue
-    /// in which there is no record that the acting unit may read.
+    /// Returns the blocker of a command, if any: a unit other than `asking` that holds what
+    /// conflicts with what the command uses. For READQ TD it is else the writer of a LOGICAL queue,
+    /// if there is no record in it that the acting unit may read.
     #[inline(always)]
     pub(crate) fn blocker(&self, asking: Option<UnitId>, bound: &BoundOp<'_>) -> Option<UnitId>
         ensures { (acting : ℕ) → IsBoundFor (core_value self.now) acting bound.now →
@@ -238,8 +238,8 @@ impl UnitsCore {
             .holder_over(&ResourceRef::writing_end(*name), again)
     }
 
-    /// Returns a copy of the record that a command would be answered with now: READ UPDATE's, and
-    /// READQ TD's, which may be one that its unit wrote itself. Other commands are given none.
+    /// Returns a copy, for the trace, of the record with which READ UPDATE or READQ TD would be
+    /// answered now. READQ TD's may be one that the unit wrote itself. Other commands have None.
     #[inline(always)]
     pub(crate) fn given_record(&self, bound: &BoundOp<'_>) -> Result<Option<Record>, NoMemory>
         requires fit { IsFitOp self.now.store bound.now.op.now }
@@ -305,7 +305,7 @@ impl UnitsCore {
         }
     }
 
-    // READ UPDATE: the unit acquires the record, and has it read for update.
+    // Acquires the record and opens the unit's update read of it, or on `NoMemory` does neither.
     fn open_read(
         &mut self,
         unit: UnitId,
@@ -335,12 +335,12 @@ impl UnitsCore {
 
     /// Executes a command that nothing blocks, and answers it. Its unit may be the next to begin.
     ///
-    /// The steps are the same for every command. Make room for its images, acquire what it uses,
-    /// apply it to the store, and end the update read that it covers. If it is refused or isn't
-    /// answered NORMAL, what it acquired is released.
+    /// READ UPDATE leaves the store: if there is a record (`given`), it acquires that and opens the
+    /// read. Every other command takes the same steps. Make room for its images. Acquire what it
+    /// uses if that is recoverable. Apply it to the store, and end the update read that it covers.
     ///
-    /// READ UPDATE changes nothing in the store: it acquires the record `given`, and opens the
-    /// read. A command on something unrecoverable acquires nothing else.
+    /// If the answer isn't NORMAL, it releases what it acquired. So it does on `NoMemory`, which
+    /// leaves nothing behind but room for images (`IsCoreAsBefore`).
     pub(crate) fn execute(
         &mut self,
         unit: UnitId,

@@ -1,4 +1,4 @@
-//! What a command uses, and how its unit takes it: all of it, or nothing where memory is refused.
+//! What a command uses, and how its unit acquires it: all of it, or nothing on `NoMemory`.
 
 ghost use Rattle.std.specs.Prelude.{◌≡◌, ◌≤◌, ◌∷◌, [], false, length, IfOk, OnOk, OnErr};
 ghost use Rattle.std.specs.List.{list_any};
@@ -17,7 +17,7 @@ use cics_names::{Name8, NoMemory};
 /// Their bytes lie in the command.
 #[derive(Drop)]
 pub(crate) enum Uses<'a> {
-    /// Nothing that is held.
+    /// No resource.
     Nothing,
     /// One resource.
     One(ResourceRef<'a>),
@@ -25,7 +25,7 @@ pub(crate) enum Uses<'a> {
     Two(ResourceRef<'a>, ResourceRef<'a>),
 }
 
-/// Which of two resources were free before a unit took them; what it holds already it doesn't take.
+/// Which of two resources were free before a unit acquired them. It held the others already.
 #[derive(Clone, Copy)]
 pub(crate) struct WereFree {
     first: bool,
@@ -44,9 +44,9 @@ impl WereFree {
     }
 }
 
-/// What a command uses, by whether its file or queue is recoverable: the record of a file, there or
-/// not, or all under a prefix; of a recoverable temporary storage queue the name, and of a LOGICAL
-/// queue the reading end for a read, the writing end for a write, both for a delete.
+/// Returns what a command uses. In any file it is the record, there or not, or all under a prefix.
+/// In a recoverable temporary storage queue it is the name. In a LOGICAL queue it is the reading
+/// end for a read, the writing end for a write, both for a delete. In other queues it is nothing.
 pub(crate) fn uses_of(op: &Op, recoverable: bool) -> Uses<'_>
     requires most { length (key_of op.now) ≤ 255 }
     ensures { listed result ≡ uses_if recoverable op.now }
@@ -72,7 +72,7 @@ pub(crate) fn uses_of(op: &Op, recoverable: bool) -> Uses<'_>
     }
 }
 
-// Gives a resource back that was free before its unit took it.
+// Releases a resource if it was free before its unit acquired it.
 fn let_go(enqueues: &mut Enqueues, resource: &ResourceRef<'_>, unit: UnitId, was_free: bool)
     ensures { enqueues.new ≡ given_back_if was_free enqueues.old resource.now unit }
 {
@@ -81,9 +81,9 @@ fn let_go(enqueues: &mut Enqueues, resource: &ResourceRef<'_>, unit: UnitId, was
     }
 }
 
-/// Takes what a command uses for a unit, but for what the unit holds already, and tells what was
-/// free before. No other unit may hold what overlaps any of it. NoMemory where memory is refused:
-/// then nothing has changed.
+/// Acquires for a unit what a command uses, but for what the unit holds already, and returns what
+/// was free before. No other unit may hold what conflicts with any of it. On `NoMemory` nothing has
+/// changed: the first resource is released if the second is refused.
 pub(crate) fn hold_all(
     enqueues: &mut Enqueues,
     uses: &Uses<'_>,
@@ -118,8 +118,7 @@ pub(crate) fn hold_all(
     }
 }
 
-/// Gives back what a unit took of what a command uses, and leaves it what it held before. It takes
-/// no memory.
+/// Releases what a unit acquired for a command, and leaves it what it held before. Takes no memory.
 pub(crate) fn let_go_all(
     enqueues: &mut Enqueues,
     uses: &Uses<'_>,
@@ -138,8 +137,8 @@ pub(crate) fn let_go_all(
     }
 }
 
-/// The unit, other than the one that asks, that holds the least of what overlaps the first of the
-/// resources that is in its way, or None where all of them are free for the one that asks.
+/// Returns the blocker at the first resource that isn't free for `asking`: the other owner of the
+/// smallest conflicting resource. Returns None if all are free.
 pub(crate) fn holder_over_all(
     enqueues: &Enqueues,
     uses: &Uses<'_>,

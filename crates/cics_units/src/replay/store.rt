@@ -22,8 +22,8 @@ use std::marker::Model;
 /// The most items that a temporary storage queue can have.
 const MOST_ITEMS: usize = 32_767;
 
-/// The files that are defined, the temporary storage queues that are there, and the transient data queues
-/// that are defined.
+/// The files that are defined, the temporary storage queues that are there, and the transient data
+/// queues that are defined.
 #[derive(Drop)]
 pub(crate) struct PlainStore {
     files: BTreeMap<Name8, PlainRecords>,
@@ -96,8 +96,8 @@ impl PlainStore {
         Ok(())
     }
 
-    /// The files and transient data queues with the records that were loaded, and no temporary storage
-    /// queue.
+    /// Returns the files and transient data queues with the records that were loaded, and no
+    /// temporary storage queue.
     pub(crate) fn loaded(alloc: Global, opening: &Opening) -> Result<PlainStore, NoMemory>
         ensures { IfOk result (λ store. store ≡ initial_store opening.now) }
     {

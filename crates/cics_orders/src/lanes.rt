@@ -1,0 +1,157 @@
+//! Lanes, and what their tasks are told.
+
+ghost use Rattle.std.specs.Prelude.{◌≡◌, ◌<◌, IfOk, OnOk, length, map};
+ghost use Rattle.cics_names.specs.Keyed.{is_same};
+ghost use Rattle.cics_orders.specs.Giving.{fresh_lane, initial_lanes, is_of, is_last};
+ghost use Rattle.cics_orders.specs.Firsts.{first_place};
+ghost use Rattle.cics_orders.specs.Giving.{told_more, with_told, hearing, with_given, shut};
+
+use crate::plans::Plan;
+use cics_dispatch::Outcome;
+use cics_names::{Items, Name8, NoMemory, Record};
+use std::alloc::Global;
+
+/// The lines of a task or of the clock, and how far they are given.
+#[derive(Drop)]
+pub struct Lane {
+    /// The label of its task, or none if it is the clock's.
+    pub label: Option<Name8>,
+    /// Its lines, each with its number.
+    pub lines: Items<(u64, Record)>,
+    /// How many of its lines are given.
+    pub given: usize,
+    /// What its task was told, for each line that was answered.
+    pub told: Items<Outcome>,
+    /// Whether its task has ended.
+    pub has_ended: bool,
+    /// Whether its task is within a turn: its last line didn't end its unit of work.
+    pub is_in_turn: bool,
+}
+
+// Whether two labels are the same.
+fn is_same(own: &Name8, label: &Name8) -> bool
+    ensures { result ≡ is_same own.now label.now }
+{
+    *own == *label
+}
+
+// Whether a task has ended that is told this.
+fn is_last(outcome: &Outcome) -> bool
+    ensures { result ≡ is_last outcome.now }
+{
+    match outcome {
+        Outcome::Replied(_) | Outcome::Waiting(_) => false,
+        Outcome::Abended(_, _) | Outcome::Ended => true,
+    }
+}
+
+// Copies lines.
+fn copied(alloc: Global, lines: &[(u64, Record)]) -> Result<Items<(u64, Record)>, NoMemory>
+    ensures { IfOk result (λ copies. copies ≡ lines.now) }
+{
+    let mut copies = Items::new(alloc);
+    for (number, line) in lines {
+        copies.push((*number, line.copy()?))?;
+    }
+    Ok(copies)
+}
+
+impl Lane {
+    // A lane of which no line is given.
+    fn new(alloc: Global, label: Option<Name8>, lines: &[(u64, Record)]) -> Result<Lane, NoMemory>
+        ensures { IfOk result (λ lane. lane ≡ fresh_lane label lines.now) }
+    {
+        Ok(Lane {
+            label,
+            lines: copied(alloc, lines)?,
+            given: 0,
+            told: Items::new(alloc),
+            has_ended: false,
+            is_in_turn: false,
+        })
+    }
+
+    // Whether it is the lane of the task of a label.
+    fn is_of(&self, label: &Name8) -> bool
+        ensures { result ≡ is_of self.now label.now }
+    {
+        match self.label {
+            Some(own) => is_same(&own, label),
+            None => false,
+        }
+    }
+
+    /// Counts one line more as given, which may end its task's turn.
+    pub(crate) fn give(&mut self, ends_turn: bool)
+        requires { self.old.given < length self.old.lines }
+        ensures { self.new ≡ with_given self.old ends_turn }
+    {
+        let _left = self.lines.len();
+        self.given += 1;
+        self.is_in_turn = self.label.is_some() && !ends_turn;
+    }
+
+    // Tells its task an outcome.
+    fn tell(&mut self, outcome: Outcome) -> Result<(), NoMemory>
+        ensures { OnOk result (self.new ≡ told_more self.old outcome) }
+    {
+        self.has_ended = is_last(&outcome);
+        self.told.push(outcome)
+    }
+}
+
+/// The lanes of a script before the first line.
+pub(crate) fn initial_lanes(alloc: Global, plan: &Plan) -> Result<Vec<Lane>, NoMemory>
+    ensures { IfOk result (λ lanes. lanes.items ≡ initial_lanes plan.now) }
+{
+    let mut lanes = Vec::new(alloc);
+    for task in plan.tasks.as_slice() {
+        lanes.push(Lane::new(alloc, Some(task.label), task.lines.as_slice())?)?;
+    }
+    lanes.push(Lane::new(alloc, None, plan.clock.as_slice())?)?;
+    Ok(lanes)
+}
+
+// The place of the lane of a label.
+fn place_of(lanes: &[Lane], label: &Name8) -> Option<usize>
+    ensures { result ≡ first_place (λ lane. is_of lane label.now) lanes.now }
+{
+    for i in 0..lanes.len() {
+        if lanes[i].is_of(label) {
+            return Some(i);
+        }
+    }
+    None
+}
+
+/// Tells the task of a label an outcome.
+pub(crate) fn tell(lanes: &mut Vec<Lane>, label: &Name8, outcome: Outcome) -> Result<(), NoMemory>
+    ensures { OnOk result (lanes.new.items ≡ with_told lanes.old.items label.now outcome) }
+{
+    match place_of(lanes.as_slice(), label) {
+        Some(at) => {
+            lanes[at].tell(outcome)?;
+            Ok(())
+        }
+        None => Ok(()),
+    }
+}
+
+/// Tells the task of a label an outcome, unless its command waits.
+pub(crate) fn hear(lanes: &mut Vec<Lane>, label: &Name8, outcome: Outcome) -> Result<(), NoMemory>
+    ensures { OnOk result (lanes.new.items ≡ hearing lanes.old.items label.now outcome) }
+{
+    match outcome {
+        Outcome::Waiting(_) => Ok(()),
+        told => tell(lanes, label, told),
+    }
+}
+
+/// Ends each task: the region is shut down.
+pub(crate) fn shut_all(lanes: &mut Vec<Lane>)
+    ensures { lanes.new.items ≡ map shut lanes.old.items }
+{
+    for i in 0..lanes.len() {
+        lanes[i].has_ended = true;
+    }
+}
