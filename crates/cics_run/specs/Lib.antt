@@ -10,4 +10,3 @@ pub mod Running
 pub mod Statuses
 pub mod Printing
 pub mod Standing
-pub mod Deadlocked

@@ -1,13 +1,6 @@
 //! What is told to a person at the end of a run: the deadlocks in which it leaves its tasks, and
 //! hints.
 
-ghost use Rattle.std.specs.Prelude.{◌≡◌, ◌++◌, take, OnOk};
-ghost use Rattle.std.specs.List.{flat_map};
-ghost use Rattle.cics_run.specs.Deadlocked.{keys_text, queue_text, value_text, resource_text};
-ghost use Rattle.cics_run.specs.Deadlocked.{wait_text, next_wait_text, deadlock_line};
-ghost use Rattle.cics_run.specs.Deadlocked.{deadlock_lines, blocker_text, awaited_text};
-ghost use Rattle.cics_dispatch.specs.Blockers.{blocker_of, waiting_command};
-
 use crate::session::Session;
 use crate::stage::Stage;
 use crate::strict::waiting_count;
@@ -22,27 +15,20 @@ use std::alloc::Global;
 const MOST_WAITING: usize = 10_000;
 
 // A record of a file, or the records whose keys have a prefix.
-fn push_keys(out: &mut Vec<u8>, what: &str, key: &Record, file: &Name8) -> Result<(), NoMemory>
-    ensures { OnOk result (out.new.items
-        ≡ out.old.items ++ keys_text what.now key.now file.now) }
-{
+fn push_keys(out: &mut Vec<u8>, what: &str, key: &Record, file: &Name8) -> Result<(), NoMemory> {
     push_str(out, what)?;
     push_text(out, key.bytes())?;
     push_str(out, " of ")?;
     push_bare(out, &file.bytes())
 }
 
-fn push_queue(out: &mut Vec<u8>, name: &[u8]) -> Result<(), NoMemory>
-    ensures { OnOk result (out.new.items ≡ out.old.items ++ queue_text name.now) }
-{
+fn push_queue(out: &mut Vec<u8>, name: &[u8]) -> Result<(), NoMemory> {
     push_str(out, "queue ")?;
     push_name(out, name)
 }
 
 // The value of an ENQ: the first bytes of its resource.
-fn value_of(resource: &[u8], length: u64) -> &[u8]
-    ensures { result.now ≡ take length resource.now }
-{
+fn value_of(resource: &[u8], length: u64) -> &[u8] {
     if length < resource.len() as u64 {
         &resource[..length as usize]
     } else {
@@ -50,18 +36,13 @@ fn value_of(resource: &[u8], length: u64) -> &[u8]
     }
 }
 
-fn push_value(out: &mut Vec<u8>, resource: &Record, length: u64) -> Result<(), NoMemory>
-    ensures { OnOk result (out.new.items
-        ≡ out.old.items ++ value_text resource.now length) }
-{
+fn push_value(out: &mut Vec<u8>, resource: &Record, length: u64) -> Result<(), NoMemory> {
     push_str(out, "value ")?;
     push_text(out, value_of(resource.bytes(), length))
 }
 
 // What a command waits for: a record, a prefix, a queue or a value.
-fn push_resource(out: &mut Vec<u8>, verb: &Verb) -> Result<(), NoMemory>
-    ensures { OnOk result (out.new.items ≡ out.old.items ++ resource_text verb.now) }
-{
+fn push_resource(out: &mut Vec<u8>, verb: &Verb) -> Result<(), NoMemory> {
     match verb {
         Verb::Read { file, ridfld, .. } | Verb::Write { file, ridfld, .. } => {
             push_keys(out, "record ", ridfld, file)
@@ -91,10 +72,7 @@ fn push_resource(out: &mut Vec<u8>, verb: &Verb) -> Result<(), NoMemory>
 }
 
 // The task that another one waits for.
-fn push_blocker(out: &mut Vec<u8>, region: &Region, label: &Name8) -> Result<(), NoMemory>
-    ensures { OnOk result (out.new.items
-        ≡ out.old.items ++ blocker_text (blocker_of region.now.machine label.now)) }
-{
+fn push_blocker(out: &mut Vec<u8>, region: &Region, label: &Name8) -> Result<(), NoMemory> {
     match region.blocker(label) {
         Some(blocker) => push_bare(out, &blocker.bytes()),
         None => Ok(()),
@@ -102,10 +80,7 @@ fn push_blocker(out: &mut Vec<u8>, region: &Region, label: &Name8) -> Result<(),
 }
 
 // What a task waits for, in parentheses.
-fn push_awaited(out: &mut Vec<u8>, region: &Region, label: &Name8) -> Result<(), NoMemory>
-    ensures { OnOk result (out.new.items
-        ≡ out.old.items ++ awaited_text (waiting_command region.now.machine label.now)) }
-{
+fn push_awaited(out: &mut Vec<u8>, region: &Region, label: &Name8) -> Result<(), NoMemory> {
     let Some(command) = region.waiting_command(label) else {
         return Ok(());
     };
@@ -115,10 +90,7 @@ fn push_awaited(out: &mut Vec<u8>, region: &Region, label: &Name8) -> Result<(),
 }
 
 // A task, the one that it waits for, and what for.
-fn push_wait(out: &mut Vec<u8>, region: &Region, label: &Name8) -> Result<(), NoMemory>
-    ensures { OnOk result (out.new.items
-        ≡ out.old.items ++ wait_text region.now.machine label.now) }
-{
+fn push_wait(out: &mut Vec<u8>, region: &Region, label: &Name8) -> Result<(), NoMemory> {
     push_bare(out, &label.bytes())?;
     push_str(out, " waits for ")?;
     push_blocker(out, region, label)?;
@@ -126,10 +98,7 @@ fn push_wait(out: &mut Vec<u8>, region: &Region, label: &Name8) -> Result<(), No
 }
 
 // A line on tasks that wait for each other: each for the next one, the last for the first.
-fn push_deadlock(out: &mut Vec<u8>, region: &Region, labels: &[Name8]) -> Result<(), NoMemory>
-    ensures { OnOk result (out.new.items
-        ≡ out.old.items ++ deadlock_line region.now.machine labels.now) }
-{
+fn push_deadlock(out: &mut Vec<u8>, region: &Region, labels: &[Name8]) -> Result<(), NoMemory> {
     let Some((first, others)) = labels.split_first() else {
         return Ok(());
     };
@@ -146,10 +115,7 @@ fn push_deadlock(out: &mut Vec<u8>, region: &Region, labels: &[Name8]) -> Result
 /// task waits for which, and for what.
 ///
 /// Errors: `NoMemory`. Cost: that of `deadlocks`.
-pub fn push_deadlocks(out: &mut Vec<u8>, region: &Region) -> Result<(), NoMemory>
-    ensures lines { OnOk result (out.new.items
-        ≡ out.old.items ++ deadlock_lines region.now.machine) }
-{
+pub fn push_deadlocks(out: &mut Vec<u8>, region: &Region) -> Result<(), NoMemory> {
     let found = deadlocks(*out.allocator(), region)?;
     for labels in found.as_slice() {
         push_deadlock(out, region, labels.as_slice())?;
