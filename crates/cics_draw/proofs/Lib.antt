@@ -1,3 +1,2 @@
 pub mod Cutting
 pub mod Playing
-pub mod Journals

@@ -1,29 +1,21 @@
 //! The lines of a script, run and drawn.
 
-ghost use Rattle.std.specs.Prelude.{◌≡◌, ◌++◌, ◌<◌, ◌≤◌, ◌+◌, ◌^◌, List, ℕ, true, [], IfOk};
+ghost use Rattle.std.specs.Prelude.{◌≡◌, ◌++◌, ◌<◌, ◌+◌, ◌^◌, IfOk};
 ghost use Rattle.std.specs.Prelude.{IfErr, OnOk, length, is_some};
 ghost use Rattle.std.specs.List.{fold};
 ghost use Rattle.cics_run.specs.Standing.{IsNew};
 ghost use Rattle.cics_run.specs.Stages.{step};
-ghost use Rattle.cics_run.specs.Running.{play, is_faulty};
-ghost use Rattle.cics_run.specs.Lines.{all_lines};
+ghost use Rattle.cics_run.specs.Running.{is_faulty};
 ghost use Rattle.cics_picture.specs.Lanes.{most_rows};
-ghost use Rattle.cics_picture.specs.Drawings.{drawn_of, nothing_drawn, with_row, all_rows};
-ghost use Rattle.cics_picture.specs.Drawings.{rows_of, events_of};
+ghost use Rattle.cics_picture.specs.Drawings.{drawn_of, nothing_drawn, with_row, rows_of};
 ghost use Rattle.cics_picture.specs.declared.drawing.Undrawn.TheVariants.{TooManyRows};
-ghost use Rattle.cics_draw.specs.Pictures.{printed, printed_lines, drawing_of, picture_of};
+ghost use Rattle.cics_draw.specs.Pictures.{printed, drawing_of, picture_of};
 
 use crate::lines::next_line;
 use crate::titles::title_of;
 use cics_names::NoMemory;
 use cics_picture::{Drawing, Undrawn, push_sheet};
 use cics_run::Session;
-
-/// The rows of a picture show what the run prints: their events, each with its LF, are the journal.
-pub fn rows_are_the_journal()
-    ensures { (script : List ℕ)
-        → events_of (all_rows (printed_lines script)) ≡ (play (all_lines script)).journal }
-{}
 
 // Runs a line and tells whether it is a fault. What it prints is pending then, and a line with a
 // fault is kept, to be told to a person.
