@@ -41,13 +41,13 @@ class_of kind.Abended = codes "ma"
 class_of kind.Refused = codes "mc"
 class_of kind.Condition = codes "mc"
 
--- the shape of a kind, as a path round its place: a ring, a dot, an hourglass, a dot, a foot, a cross in a ring, a barred ring, a
--- triangle
+-- the shape of a kind, as a path round its place: a ring, a dot, an hourglass, an arrowhead, a foot, a cross in a ring, a barred
+-- ring, a triangle
 abbrev pub shape_of : Kind → List ℕ
 shape_of kind.Attached = codes "M-6 0a6 6 0 1 0 12 0a6 6 0 1 0 -12 0z"
 shape_of kind.Normal = codes "M-5 0a5 5 0 1 0 10 0a5 5 0 1 0 -10 0z"
 shape_of kind.Waiting = codes "M-5 -6h10l-10 12h10z"
-shape_of kind.Woken = codes "M-5 0a5 5 0 1 0 10 0a5 5 0 1 0 -10 0z"
+shape_of kind.Woken = codes "M-4 -6l10 6l-10 6z"
 shape_of kind.Ended = codes "M-9 0h18"
 shape_of kind.Abended = codes "M-8 0a8 8 0 1 0 16 0a8 8 0 1 0 -16 0zM-3 -3l6 6m0 -6l-6 6"
 shape_of kind.Refused = codes "M-5 0a5 5 0 1 0 10 0a5 5 0 1 0 -10 0zM-3 3l6 -6"

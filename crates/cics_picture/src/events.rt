@@ -43,7 +43,7 @@ impl Kind {
             Kind::Attached => "M-6 0a6 6 0 1 0 12 0a6 6 0 1 0 -12 0z",
             Kind::Normal => "M-5 0a5 5 0 1 0 10 0a5 5 0 1 0 -10 0z",
             Kind::Waiting => "M-5 -6h10l-10 12h10z",
-            Kind::Woken => "M-5 0a5 5 0 1 0 10 0a5 5 0 1 0 -10 0z",
+            Kind::Woken => "M-4 -6l10 6l-10 6z",
             Kind::Ended => "M-9 0h18",
             Kind::Abended => "M-8 0a8 8 0 1 0 16 0a8 8 0 1 0 -16 0zM-3 -3l6 6m0 -6l-6 6",
             Kind::Refused => "M-5 0a5 5 0 1 0 10 0a5 5 0 1 0 -10 0zM-3 3l6 -6",

@@ -2,122 +2,117 @@
 use Rattle.std.proofs.Common.{◌≡◌, ℕ, Bool, true, false, ◌+◌, cond, List, [], ◌∷◌, ◌++◌, length, refl, ap, sym, ◌∙◌, subst, append-nil, Option, ◌<◌, arith}
 use Rattle.std.proofs.lemmas.List.Sums.{fold-append}
 use Rattle.std.proofs.lemmas.List.{nil_from_length}
-use Rattle.std.specs.Prelude.{Result, Ok, Err, IfOk, OnOk, OnErr}
+use Rattle.std.proofs.lemmas.Bool.{true≢false}
+use Rattle.std.specs.Prelude.{Result, Ok, Err, IfOk, OnOk, OnErr, is_some}
 use Rattle.std.specs.Io.KnownBytes.{Appends}
 use Rattle.cics_run.specs.Lines.{completed, unfinished, last_line, all_lines}
-use Rattle.cics_run.specs.Stages.{step, Step}
 use Rattle.cics_run.specs.Printing.{AppendsFront, Prints}
-use Rattle.cics_run.specs.Running.{Played, next, play, start, stepped, journal, whole, ending, output, is_faulty}
-use Rattle.cics_run.specs.Standing.{Stands, IsClosed, Closes}
+use Rattle.cics_run.specs.Running.{Played, has_fault, next, play, start, stepped, journal_of, journal, whole, ending, output, is_faulty}
+use Rattle.cics_run.specs.Standing.{next_step, next_text, Ran, Stands, Keeps, IsClosed, Closes}
 use Rattle.cics_run.specs.declared.stage.Stage.{Stage}
 use Rattle.cics_run.specs.declared.running.Wanted.{Wanted}
 use Rattle.cics_run.specs.declared.session.Session.{Session}
 use Rattle.cics_run.proofs.Printing.{prints-prints, prints-all, prints-front, prints-written, front-longer}
-use Rattle.cics_run.proofs.Playing.{next-going, whole-front}
+use Rattle.cics_run.proofs.Playing.{next-going, journal-stepped, whole-front}
 
 -- no line is left
-pub closed-empty : (bytes : List ℕ) (before now : Option (List ℕ)) (s : Session) → Stands bytes before now s → length s.line.items ≡ 0 → IsClosed bytes before now s.pending.items s.stage false
-closed-empty bytes before now s at empty =
+pub closed-empty : (wanted : Wanted) (bytes : List ℕ) (before now : Option (List ℕ)) (s : Session) → Stands wanted bytes before now s → length s.line.items ≡ 0 → IsClosed wanted bytes before now s false
+closed-empty wanted bytes before now s at empty =
     let none : unfinished bytes ≡ [] = nil_from_length _ (ap length (sym at.line) ∙ empty) in
-    let same : play (all_lines bytes) ≡ play (completed bytes) = ap (λ l. play (completed bytes ++ last_line l)) none ∙ ap play (append-nil (completed bytes)) in (
-      ap (λ p. p.has_fault) same ∙ at.going,
-      ap (λ p. p.stage) same ∙ sym at.stage,
-      subst (λ j. Prints before now [] s.pending.items j) (sym (ap (λ p. p.journal) same)) at.printed,
-    )
+    let same : play (all_lines bytes) ≡ play (completed bytes) = ap (λ l. play (completed bytes ++ last_line l)) none ∙ ap play (append-nil (completed bytes)) in
+    record {
+      fault = ap has_fault same ∙ at.going;
+      stage = ap (λ p. p.stage) same ∙ sym at.stage;
+      printed = subst (Prints before now [] s.pending.items) (sym (ap (journal_of wanted) same)) at.printed;
+      kept = λ never. absurd (true≢false (sym never));
+    }
 
 last_line-some : (l : List ℕ) → 0 < length l → last_line l ≡ l ∷ []
 last_line-some [] some = absurd (omega arith)
 last_line-some (c ∷ l) some = refl
 
--- the step of a last line that lacks its LF
-last_step : Session → Step
-last_step s = step (s.number + 1) s.stage s.line.items
+-- a session with a last line that lacks its LF
+module _ (wanted : Wanted) (bytes : List ℕ) (before old : Option (List ℕ)) (s : Session) (at : Stands wanted bytes before old s) (some : 0 < length s.line.items) where
+  play-last : play (all_lines bytes) ≡ stepped (play (completed bytes)) s.line.items (next_step s s.line.items)
+  play-last =
+      let here : last_line (unfinished bytes) ≡ s.line.items ∷ [] = rw (← at.line) (last_line-some s.line.items some) in
+      ap (λ l. play (completed bytes ++ l)) here ∙ fold-append next start (completed bytes) (s.line.items ∷ [])
+      ∙ next-going (play (completed bytes)) s.line.items at.going
+      ∙ rw (at.number, at.stage) refl
 
-pub play-last : (bytes : List ℕ) (before now : Option (List ℕ)) (s : Session) → Stands bytes before now s → 0 < length s.line.items
-    → play (all_lines bytes) ≡ stepped ((play (completed bytes)).number + 1) (journal bytes) (step (s.number + 1) s.stage s.line.items)
-play-last bytes before now s at some =
-    let here : last_line (unfinished bytes) ≡ s.line.items ∷ [] = rw (← at.line) (last_line-some s.line.items some) in
-    ap (λ l. play (completed bytes ++ l)) here ∙ fold-append next start (completed bytes) (s.line.items ∷ [])
-    ∙ next-going (play (completed bytes)) s.line.items at.going
-    ∙ rw (at.number, at.stage) refl
+  journal-last : journal_of wanted (play (all_lines bytes)) ≡ journal wanted bytes ++ next_text s s.line.items
+  journal-last = ap (journal_of wanted) play-last ∙ rw at.shows (journal-stepped wanted (play (completed bytes)) s.line.items (next_step s s.line.items))
 
-closed-last : (bytes : List ℕ) (before old now : Option (List ℕ)) (s : Session) (pending : List ℕ) (stage : Stage) (fault : Bool) → Stands bytes before old s → 0 < length s.line.items
-    → stage ≡ (step (s.number + 1) s.stage s.line.items).stage
-    → fault ≡ (step (s.number + 1) s.stage s.line.items).is_fault
-    → Prints old now s.pending.items pending (step (s.number + 1) s.stage s.line.items).text
-    → IsClosed bytes before now pending stage fault
-closed-last bytes before old now s pending stage fault at some same is_fault text =
-    let after = play-last bytes before old s at some in (
-      ap (λ p. p.has_fault) after ∙ sym is_fault,
-      ap (λ p. p.stage) after ∙ sym same,
-      subst (λ j. Prints before now [] pending j) (sym (ap (λ p. p.journal) after)) (prints-prints before old now [] s.pending.items pending (journal bytes) _ at.printed text),
-    )
+  pub closed-last : (now : Option (List ℕ)) (t : Session) (fault : Bool) → Ran s s.line.items t → t.line.items ≡ s.line.items → fault ≡ is_some t.fault
+      → Prints old now s.pending.items t.pending.items (next_text s s.line.items)
+      → IsClosed wanted bytes before now t fault
+  closed-last now t fault ran line is_fault text =
+      record {
+        fault = ap has_fault play-last ∙ sym (is_fault ∙ ap is_some ran.fault);
+        stage = ap (λ p. p.stage) play-last ∙ sym ran.stage;
+        printed = subst (Prints before now [] t.pending.items) (sym journal-last)
+            (prints-prints before old now [] s.pending.items t.pending.items (journal wanted bytes) (next_text s s.line.items) at.printed text);
+        kept = λ _. record {
+          line = line ∙ sym (ap (λ p. p.line) play-last);
+          number = ran.number ∙ ap (λ n. n + 1) at.number ∙ sym (ap (λ p. p.number) play-last);
+          fault = ran.fault ∙ sym (ap (λ p. p.fault) play-last);
+        };
+      }
 
-pub front-last : (bytes : List ℕ) (before old now : Option (List ℕ)) (s : Session) → Stands bytes before old s → 0 < length s.line.items
-    → AppendsFront old now (s.pending.items ++ (step (s.number + 1) s.stage s.line.items).text)
-    → AppendsFront before now (play (all_lines bytes)).journal
-front-last bytes before old now s at some front =
-    let after = play-last bytes before old s at some in
-    subst (λ j. AppendsFront before now j) (sym (ap (λ p. p.journal) after)) (prints-front before old now [] s.pending.items (journal bytes) _ at.printed front)
+  front-last : (now : Option (List ℕ)) → AppendsFront old now (s.pending.items ++ next_text s s.line.items) → AppendsFront before now (journal_of wanted (play (all_lines bytes)))
+  front-last now front =
+      subst (AppendsFront before now) (sym journal-last)
+      (prints-front before old now [] s.pending.items (journal wanted bytes) (next_text s s.line.items) at.printed front)
 
--- what running the last line gave
-module _ {E : Type 0} (bytes : List ℕ) (before old now : Option (List ℕ)) (s : Session) (at : Stands bytes before old s) (some : 0 < length s.line.items) where
-  closes-at : (pending : List ℕ) (stage : Stage) (result : Result Bool E)
-      → IfOk result (λ _. stage ≡ (step (s.number + 1) s.stage s.line.items).stage)
-      → IfOk result (λ fault. fault ≡ (step (s.number + 1) s.stage s.line.items).is_fault)
-      → OnOk result (Prints old now s.pending.items pending (step (s.number + 1) s.stage s.line.items).text)
-      → OnErr result (AppendsFront old now (s.pending.items ++ (step (s.number + 1) s.stage s.line.items).text))
-      → Closes bytes before now pending stage result
-  closes-at pending stage (Ok fault) same is_fault text front = closed-last bytes before old now s pending stage fault at some same is_fault text
-  closes-at pending stage (Err e) same is_fault text front = front-last bytes before old now s at some front
-
-  pub closes-run : (line pending : List ℕ) (stage : Stage) (result : Result Bool E) → line ≡ s.line.items
-      → IfOk result (λ _. stage ≡ (step (s.number + 1) s.stage line).stage)
-      → IfOk result (λ fault. fault ≡ (step (s.number + 1) s.stage line).is_fault)
-      → OnOk result (Prints old now s.pending.items pending (step (s.number + 1) s.stage line).text)
-      → OnErr result (AppendsFront old now (s.pending.items ++ (step (s.number + 1) s.stage line).text))
-      → Closes bytes before now pending stage result
-  closes-run line pending stage result e same is_fault text front =
-      closes-at pending stage result (subst (λ l. IfOk result (λ _. stage ≡ (step (s.number + 1) s.stage l).stage)) e same)
-      (subst (λ l. IfOk result (λ fault. fault ≡ (step (s.number + 1) s.stage l).is_fault)) e is_fault)
-      (subst (λ l. OnOk result (Prints old now s.pending.items pending (step (s.number + 1) s.stage l).text)) e text)
-      (subst (λ l. OnErr result (AppendsFront old now (s.pending.items ++ (step (s.number + 1) s.stage l).text))) e front)
+  -- what running it gave
+  pub closes-at : {E : Type 0} (now : Option (List ℕ)) (t : Session) (result : Result Bool E)
+      → OnOk result (Ran s s.line.items t)
+      → OnOk result (t.line.items ≡ s.line.items)
+      → IfOk result (λ fault. fault ≡ is_some t.fault)
+      → OnOk result (Prints old now s.pending.items t.pending.items (next_text s s.line.items))
+      → OnErr result (AppendsFront old now (s.pending.items ++ next_text s s.line.items))
+      → Closes wanted bytes before now t result
+  closes-at now t (Ok fault) ran line is_fault text front = closed-last now t fault ran line is_fault text
+  closes-at now t (Err e) ran line is_fault text front = front-last now front
 
 -- a front of the journal is a front of the output
-pub front-output : (wanted : Wanted) (bytes : List ℕ) (before now : Option (List ℕ)) → AppendsFront before now (play (all_lines bytes)).journal → AppendsFront before now (output wanted bytes)
-front-output wanted bytes before now front = front-longer before now (play (all_lines bytes)).journal (output wanted bytes) (whole-front wanted (play (all_lines bytes))) front
+pub front-output : (wanted : Wanted) (bytes : List ℕ) (before now : Option (List ℕ)) → AppendsFront before now (journal_of wanted (play (all_lines bytes))) → AppendsFront before now (output wanted bytes)
+front-output wanted bytes before now front = front-longer before now (journal_of wanted (play (all_lines bytes))) (output wanted bytes) (whole-front wanted (play (all_lines bytes))) front
 
-whole-fault : (wanted : Wanted) (p : Played) → p.has_fault ≡ true → whole wanted p ≡ p.journal
-whole-fault wanted p fault = subst (λ b. cond b p.journal (p.journal ++ ending wanted p.stage) ≡ p.journal) (sym fault) refl
+whole-fault : (wanted : Wanted) (p : Played) → has_fault p ≡ true → whole wanted p ≡ journal_of wanted p
+whole-fault wanted p fault = let j = journal_of wanted p in subst (λ b. cond b j (j ++ ending wanted p.stage) ≡ j) (sym fault) refl
 
-whole-going : (wanted : Wanted) (p : Played) → p.has_fault ≡ false → whole wanted p ≡ p.journal ++ ending wanted p.stage
-whole-going wanted p going = subst (λ b. cond b p.journal (p.journal ++ ending wanted p.stage) ≡ p.journal ++ ending wanted p.stage) (sym going) refl
+whole-going : (wanted : Wanted) (p : Played) → has_fault p ≡ false → whole wanted p ≡ journal_of wanted p ++ ending wanted p.stage
+whole-going wanted p going = let j = journal_of wanted p in subst (λ b. cond b j (j ++ ending wanted p.stage) ≡ j ++ ending wanted p.stage) (sym going) refl
 
 -- the last line was a fault, and nothing is pending
-pub fault-written : (wanted : Wanted) (bytes : List ℕ) (before now : Option (List ℕ)) (pending : List ℕ) (stage : Stage) → IsClosed bytes before now pending stage true → pending ≡ []
-    → Appends before now (output wanted bytes) × (is_faulty bytes ≡ true)
-fault-written wanted bytes before now pending stage (fault, same, printed) none =
-    let p = play (all_lines bytes) in (
-      subst (Appends before now) (sym (whole-fault wanted p fault)) (prints-all before now [] p.journal (subst (λ x. Prints before now [] x p.journal) none printed)),
-      fault,
+pub fault-written : (wanted : Wanted) (bytes : List ℕ) (before now : Option (List ℕ)) (s : Session) → IsClosed wanted bytes before now s true → s.pending.items ≡ []
+    → Appends before now (output wanted bytes) × (is_faulty bytes ≡ true) × Keeps s (play (all_lines bytes))
+fault-written wanted bytes before now s closed none =
+    let p = play (all_lines bytes) in
+    let j = journal_of wanted p in (
+      subst (Appends before now) (sym (whole-fault wanted p closed.fault)) (prints-all before now [] j (subst (λ x. Prints before now [] x j) none closed.printed)),
+      closed.fault,
+      closed.kept refl,
     )
 
 -- the text of a whole run: the journal, and behind it the listing
-output-going : (wanted : Wanted) (bytes : List ℕ) (stage : Stage) → (play (all_lines bytes)).has_fault ≡ false → (play (all_lines bytes)).stage ≡ stage
-    → output wanted bytes ≡ (play (all_lines bytes)).journal ++ ending wanted stage
-output-going wanted bytes stage going same = whole-going wanted (play (all_lines bytes)) going ∙ ap (λ s. (play (all_lines bytes)).journal ++ ending wanted s) same
+output-going : (wanted : Wanted) (bytes : List ℕ) (stage : Stage) → has_fault (play (all_lines bytes)) ≡ false → (play (all_lines bytes)).stage ≡ stage
+    → output wanted bytes ≡ journal_of wanted (play (all_lines bytes)) ++ ending wanted stage
+output-going wanted bytes stage going same =
+    whole-going wanted (play (all_lines bytes)) going ∙ ap (λ s. journal_of wanted (play (all_lines bytes)) ++ ending wanted s) same
 
-pub end-written : (wanted : Wanted) (bytes : List ℕ) (before old now : Option (List ℕ)) (pending : List ℕ) (stage : Stage) → IsClosed bytes before old pending stage false
-    → Appends old now (pending ++ ending wanted stage) → Appends before now (output wanted bytes) × (is_faulty bytes ≡ false)
-end-written wanted bytes before old now pending stage (going, same, printed) took =
-    let j = (play (all_lines bytes)).journal in
-    let all = prints-prints before old now [] pending [] j (ending wanted stage) printed (prints-written old now pending (ending wanted stage) took) in (
-      subst (Appends before now) (sym (output-going wanted bytes stage going same)) (prints-all before now [] (j ++ ending wanted stage) all),
-      going,
+pub end-written : (wanted : Wanted) (bytes : List ℕ) (before old now : Option (List ℕ)) (s : Session) → IsClosed wanted bytes before old s false
+    → Appends old now (s.pending.items ++ ending wanted s.stage) → Appends before now (output wanted bytes) × (is_faulty bytes ≡ false)
+end-written wanted bytes before old now s closed took =
+    let j = journal_of wanted (play (all_lines bytes)) in
+    let all = prints-prints before old now [] s.pending.items [] j (ending wanted s.stage) closed.printed (prints-written old now s.pending.items (ending wanted s.stage) took) in (
+      subst (Appends before now) (sym (output-going wanted bytes s.stage closed.fault closed.stage)) (prints-all before now [] (j ++ ending wanted s.stage) all),
+      closed.fault,
     )
 
-pub end-front : (wanted : Wanted) (bytes : List ℕ) (before old now : Option (List ℕ)) (pending : List ℕ) (stage : Stage) → IsClosed bytes before old pending stage false
-    → AppendsFront old now (pending ++ ending wanted stage) → AppendsFront before now (output wanted bytes)
-end-front wanted bytes before old now pending stage (going, same, printed) front =
-    subst (AppendsFront before now) (sym (output-going wanted bytes stage going same))
-    (prints-front before old now [] pending (play (all_lines bytes)).journal (ending wanted stage) printed front)
+pub end-front : (wanted : Wanted) (bytes : List ℕ) (before old now : Option (List ℕ)) (s : Session) → IsClosed wanted bytes before old s false
+    → AppendsFront old now (s.pending.items ++ ending wanted s.stage) → AppendsFront before now (output wanted bytes)
+end-front wanted bytes before old now s closed front =
+    subst (AppendsFront before now) (sym (output-going wanted bytes s.stage closed.fault closed.stage))
+    (prints-front before old now [] s.pending.items (journal_of wanted (play (all_lines bytes))) (ending wanted s.stage) closed.printed front)

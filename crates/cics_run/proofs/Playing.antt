@@ -4,11 +4,12 @@ use Rattle.std.proofs.lemmas.List.Sums.{fold-append}
 use Rattle.std.proofs.lemmas.Bool.{cases_Bool, eqb-true, and_parts}
 use Rattle.std.proofs.lemmas.List.{map-append}
 use Rattle.std.specs.List.{fold, list_all}
-use Rattle.std.specs.Prelude.{not}
+use Rattle.std.specs.Prelude.{not, if◌then◌else◌}
 use Rattle.std.specs.Io.BufRead.{strip_last}
 use Rattle.cics_run.specs.Lines.{Pieces, pieces, with_first, completed, unfinished, last_line, all_lines, is_in_line}
-use Rattle.cics_run.specs.Stages.{step}
-use Rattle.cics_run.specs.Running.{Played, next, stepped, play, start, journal, output, whole, ending, is_faulty}
+use Rattle.cics_run.specs.Journal.{script_line}
+use Rattle.cics_run.specs.Stages.{step, Step}
+use Rattle.cics_run.specs.Running.{Played, has_fault, next, stepped, play, start, journal_of, journal, output, whole, ending, is_faulty}
 use Rattle.cics_run.specs.Printing.{IsFront}
 use Rattle.cics_run.specs.declared.running.Wanted.{Wanted}
 
@@ -75,26 +76,34 @@ front-whole text = ([], sym (append-nil text))
 pub front-trans : (a b c : List ℕ) → IsFront a b → IsFront b c → IsFront a c
 front-trans a b c (m, e) (n, f) = (m ++ n, f ∙ ap (λ x. x ++ n) e ∙ append_assoc a m n)
 
+-- what a line adds to the journal
+pub journal-stepped : (wanted : Wanted) (p : Played) (line : List ℕ) (s : Step)
+    → journal_of wanted (stepped p line s) ≡ journal_of wanted p ++ ((if wanted.with_script then script_line line else []) ++ s.text)
+journal-stepped wanted p line s = elim (cases_Bool wanted.with_script) [ inl shows ↦ rw shows refl | inr plain ↦ rw plain refl ]
+
+pub journal-start : (wanted : Wanted) → journal_of wanted start ≡ []
+journal-start wanted = elim (cases_Bool wanted.with_script) [ inl shows ↦ rw shows refl | inr plain ↦ rw plain refl ]
+
+pub next-fault : (p : Played) (line : List ℕ) → has_fault p ≡ true → next p line ≡ p
+next-fault p line fault = subst (λ b. cond b p (stepped p line (step (p.number + 1) p.stage line)) ≡ p) (sym fault) refl
+
+pub next-going : (p : Played) (line : List ℕ) → has_fault p ≡ false → next p line ≡ stepped p line (step (p.number + 1) p.stage line)
+next-going p line going = let s = stepped p line (step (p.number + 1) p.stage line) in subst (λ b. cond b p s ≡ s) (sym going) refl
+
 -- one more line only adds to the journal
-journal-next : (p : Played) (line : List ℕ) → IsFront p.journal (next p line).journal
-journal-next p line =
-    elim (cases_Bool p.has_fault) [
-      | inl fault ↦ rw fault (front-whole p.journal)
-      | inr none ↦ rw none ((step (p.number + 1) p.stage line).text, refl)
+journal-next : (wanted : Wanted) (p : Played) (line : List ℕ) → IsFront (journal_of wanted p) (journal_of wanted (next p line))
+journal-next wanted p line =
+    elim (cases_Bool (has_fault p)) [
+      | inl fault ↦ subst (λ q. IsFront (journal_of wanted p) (journal_of wanted q)) (sym (next-fault p line fault)) (front-whole (journal_of wanted p))
+      | inr none ↦ (_, ap (journal_of wanted) (next-going p line none) ∙ journal-stepped wanted p line (step (p.number + 1) p.stage line))
     ]
 
-pub journal-fold : (lines : List (List ℕ)) (p : Played) → IsFront p.journal (fold next p lines).journal
-journal-fold [] p = front-whole p.journal
-journal-fold (line ∷ lines) p = front-trans _ _ _ (journal-next p line) (journal-fold lines (next p line))
-
-next-fault : (p : Played) (line : List ℕ) → p.has_fault ≡ true → next p line ≡ p
-next-fault p line fault = subst (λ b. cond b p (stepped (p.number + 1) p.journal (step (p.number + 1) p.stage line)) ≡ p) (sym fault) refl
-
-pub next-going : (p : Played) (line : List ℕ) → p.has_fault ≡ false → next p line ≡ stepped (p.number + 1) p.journal (step (p.number + 1) p.stage line)
-next-going p line going = let s = stepped (p.number + 1) p.journal (step (p.number + 1) p.stage line) in subst (λ b. cond b p s ≡ s) (sym going) refl
+pub journal-fold : (wanted : Wanted) (lines : List (List ℕ)) (p : Played) → IsFront (journal_of wanted p) (journal_of wanted (fold next p lines))
+journal-fold wanted [] p = front-whole (journal_of wanted p)
+journal-fold wanted (line ∷ lines) p = front-trans _ _ _ (journal-next wanted p line) (journal-fold wanted lines (next p line))
 
 -- after a fault no line counts
-pub fault-fold : (lines : List (List ℕ)) (p : Played) → p.has_fault ≡ true → fold next p lines ≡ p
+pub fault-fold : (lines : List (List ℕ)) (p : Played) → has_fault p ≡ true → fold next p lines ≡ p
 fault-fold [] p fault = refl
 fault-fold (line ∷ lines) p fault = ap (λ q. fold next q lines) (next-fault p line fault) ∙ fault-fold lines p fault
 
@@ -103,14 +112,14 @@ completed-front bytes more =
     let (lines, e) = pieces-front bytes more in
     (map (strip_last 13) lines, ap (map (strip_last 13)) e ∙ map-append (strip_last 13) (pieces bytes).0 lines)
 
-pub journal-front : (bytes more : List ℕ) → IsFront (journal bytes) (journal (bytes ++ more))
-journal-front bytes more =
+pub journal-front : (wanted : Wanted) (bytes more : List ℕ) → IsFront (journal wanted bytes) (journal wanted (bytes ++ more))
+journal-front wanted bytes more =
     let (lines, e) = completed-front bytes more in
     let same : play (completed (bytes ++ more)) ≡ fold next (play (completed bytes)) lines = ap play e ∙ fold-append next start (completed bytes) lines in
-    subst (λ p. IsFront (journal bytes) p.journal) (sym same) (journal-fold lines (play (completed bytes)))
+    subst (λ p. IsFront (journal wanted bytes) (journal_of wanted p)) (sym same) (journal-fold wanted lines (play (completed bytes)))
 
 -- after a fault no byte counts
-pub fault-stays : (bytes more : List ℕ) → (play (completed bytes)).has_fault ≡ true → play (completed (bytes ++ more)) ≡ play (completed bytes)
+pub fault-stays : (bytes more : List ℕ) → has_fault (play (completed bytes)) ≡ true → play (completed (bytes ++ more)) ≡ play (completed bytes)
 fault-stays bytes more fault =
     let (lines, e) = completed-front bytes more in
     ap play e ∙ fold-append next start (completed bytes) lines ∙ fault-fold lines (play (completed bytes)) fault
@@ -118,20 +127,24 @@ fault-stays bytes more fault =
 chosen-true : (b : Bool) (x y : List ℕ) → b ≡ true → cond b x y ≡ x
 chosen-true b x y e = subst (λ v. cond v x y ≡ x) (sym e) refl
 
-pub fault-output : (wanted : Wanted) (bytes : List ℕ) → (play (completed bytes)).has_fault ≡ true → (output wanted bytes ≡ journal bytes) × (is_faulty bytes ≡ true)
-fault-output wanted bytes fault =
-    let same : play (all_lines bytes) ≡ play (completed bytes) = rw (fold-append next start (completed bytes) (last_line (unfinished bytes))) (fault-fold (last_line (unfinished bytes)) (play (completed bytes)) fault) in
-    let faulty : (play (all_lines bytes)).has_fault ≡ true = ap (λ p. p.has_fault) same ∙ fault in
-    (chosen-true _ _ _ faulty ∙ ap (λ p. p.journal) same, faulty)
+-- nor a last line that lacks its LF
+pub fault-whole : (bytes : List ℕ) → has_fault (play (completed bytes)) ≡ true → play (all_lines bytes) ≡ play (completed bytes)
+fault-whole bytes fault = rw (fold-append next start (completed bytes) (last_line (unfinished bytes))) (fault-fold (last_line (unfinished bytes)) (play (completed bytes)) fault)
 
-pub whole-front : (wanted : Wanted) (p : Played) → IsFront p.journal (whole wanted p)
+pub fault-output : (wanted : Wanted) (bytes : List ℕ) → has_fault (play (completed bytes)) ≡ true → (output wanted bytes ≡ journal wanted bytes) × (is_faulty bytes ≡ true)
+fault-output wanted bytes fault =
+    let same = fault-whole bytes fault in
+    let faulty : has_fault (play (all_lines bytes)) ≡ true = ap has_fault same ∙ fault in
+    (chosen-true _ _ _ faulty ∙ ap (journal_of wanted) same, faulty)
+
+pub whole-front : (wanted : Wanted) (p : Played) → IsFront (journal_of wanted p) (whole wanted p)
 whole-front wanted p =
-    elim (cases_Bool p.has_fault) [
-      | inl fault ↦ rw fault (front-whole p.journal)
+    elim (cases_Bool (has_fault p)) [
+      | inl fault ↦ rw fault (front-whole (journal_of wanted p))
       | inr none ↦ rw none (ending wanted p.stage, refl)
     ]
 
-pub output-front : (wanted : Wanted) (bytes : List ℕ) → IsFront (journal bytes) (output wanted bytes)
+pub output-front : (wanted : Wanted) (bytes : List ℕ) → IsFront (journal wanted bytes) (output wanted bytes)
 output-front wanted bytes =
-    front-trans _ _ _ (rw (fold-append next start (completed bytes) (last_line (unfinished bytes))) (journal-fold (last_line (unfinished bytes)) (play (completed bytes))))
+    front-trans _ _ _ (rw (fold-append next start (completed bytes) (last_line (unfinished bytes))) (journal-fold wanted (last_line (unfinished bytes)) (play (completed bytes))))
     (whole-front wanted (play (all_lines bytes)))

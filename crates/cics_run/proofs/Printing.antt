@@ -1,5 +1,6 @@
 -- What is printed, one text further.
 use Rattle.std.proofs.Common.{ℕ, List, [], ◌++◌, refl, ap, sym, ◌∙◌, append_assoc, append-nil, Option, subst}
+use Rattle.std.specs.Prelude.{Result, Ok, Err, OnErr}
 use Rattle.std.specs.Io.KnownBytes.{Appends}
 use Rattle.cics_run.specs.Printing.{IsFront, AppendsFront, Prints}
 use Rattle.cics_run.proofs.Known.{appends-append, appends-nothing}
@@ -44,3 +45,8 @@ prints-part a b p q t (v, e, took) = (v, (q, e), took)
 pub front-longer : (a b : Option (List ℕ)) (text longer : List ℕ) → IsFront text longer → AppendsFront a b text → AppendsFront a b longer
 front-longer a b text longer (more, e) (front, (rest, f), took) =
     (front, (rest ++ more, e ∙ ap (λ x. x ++ more) f ∙ append_assoc front rest more), took)
+
+-- what is so is so of an error
+pub on-err : {A E : Type 0} (P : Type 0) (r : Result A E) → P → OnErr r P
+on-err P (Ok x) p = tt
+on-err P (Err e) p = p

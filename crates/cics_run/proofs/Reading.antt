@@ -1,5 +1,5 @@
 -- What a read adds to the bytes that were read.
-use Rattle.std.proofs.Common.{◌≡◌, ℕ, false, ◌+◌, ◌≤◌, List, [], ◌∷◌, ◌++◌, length, take, refl, arith, sym, subst, append-nil, Option, Some, None, length-append, inl, inr, ◌==◌}
+use Rattle.std.proofs.Common.{◌≡◌, ℕ, false, ◌+◌, ◌≤◌, List, [], ◌∷◌, ◌++◌, length, take, refl, ap, arith, sym, ◌∙◌, subst, append-nil, Option, Some, None, length-append, inl, inr, ◌==◌}
 use Rattle.std.proofs.lemmas.List.{take-append-le, length-map, length-take-le}
 use Rattle.std.proofs.lemmas.Bool.{cases_Bool}
 use Rattle.std.proofs.Math.Seq.{take-append_seam}
@@ -8,9 +8,9 @@ use Rattle.std.specs.Prelude.{Result, Ok, Err}
 use Rattle.std.specs.Io.KnownBytes.{Appends, Consumes, IsAtEnd}
 use Rattle.std.specs.Io.BufRead.{strip_last}
 use Rattle.cics_run.specs.Lines.{Pieces, pieces, with_first, completed}
-use Rattle.cics_run.specs.Running.{Played, next, start, journal, output, is_stopped, WritesFront, Answers, ReadsOn, RunsOver, failed_reads_of, failed_writes_of}
+use Rattle.cics_run.specs.Running.{Played, has_fault, next, start, journal, output, is_stopped, WritesFront, Answers, ReadsOn, RunsOver, failed_reads_of, failed_writes_of}
 use Rattle.cics_run.specs.Printing.{AppendsFront, Prints, stopped_writes}
-use Rattle.cics_run.specs.Standing.{Stands, Stopped, Finishes, fault_of, ended}
+use Rattle.cics_run.specs.Standing.{IsNew, Stands, Keeps, Stopped, Finishes, KeepsFault, fault_of, ended}
 use Rattle.cics_run.specs.Streams.{Rises, RisesAtMost, Tells}
 use Rattle.cics_run.specs.declared.writing.Stop.{Stop}
 use Rattle.cics_run.specs.declared.writing.Stop.TheVariants as stops
@@ -20,8 +20,8 @@ use Rattle.cics_run.specs.declared.running.Wanted.{Wanted}
 use Rattle.cics_run.specs.declared.running.TheConstants.{LIMIT, CHUNK}
 use Rattle.cics_run.specs.declared.session.Session.{Session}
 use Rattle.cics_run.proofs.Known.{consumes-append}
-use Rattle.cics_run.proofs.Printing.{front-longer, prints-all}
-use Rattle.cics_run.proofs.Playing.{output-front, fault-output}
+use Rattle.cics_run.proofs.Printing.{front-longer, prints-all, prints-nothing}
+use Rattle.cics_run.proofs.Playing.{output-front, fault-output, fault-whole, journal-start}
 
 -- there are no more lines than bytes
 with_first-lines : (c : ℕ) (p : Pieces) → length (with_first c p).0 ≡ length p.0
@@ -37,14 +37,14 @@ pieces-lines (c ∷ bytes) =
     ]
 
 next-number : (p : Played) (line : List ℕ) → (next p line).number ≤ p.number + 1
-next-number p line = elim (cases_Bool p.has_fault) [ inl fault ↦ rw fault (omega arith) | inr going ↦ rw going (omega arith) ]
+next-number p line = elim (cases_Bool (has_fault p)) [ inl fault ↦ rw fault (omega arith) | inr going ↦ rw going (omega arith) ]
 
 fold-number : (lines : List (List ℕ)) (p : Played) → (fold next p lines).number ≤ p.number + length lines
 fold-number [] p = omega arith
 fold-number (line ∷ lines) p = omega (arith, fold-number lines (next p line), next-number p line)
 
-pub number-bound : (bytes : List ℕ) (before now : Option (List ℕ)) (s : Session) → Stands bytes before now s → s.number ≤ length bytes
-number-bound bytes before now s at = omega (arith, at.number, fold-number (completed bytes) start, length-map (pieces bytes).0 (strip_last 13), pieces-lines bytes)
+pub number-bound : (wanted : Wanted) (bytes : List ℕ) (before now : Option (List ℕ)) (s : Session) → Stands wanted bytes before now s → s.number ≤ length bytes
+number-bound wanted bytes before now s at = omega (arith, at.number, fold-number (completed bytes) start, length-map (pieces bytes).0 (strip_last 13), pieces-lines bytes)
 
 -- the bytes of a read, as `&buffer[..n]` has them
 pub front-of : (n : ℕ) (got rest : List ℕ) → n ≤ length got → take n (got ++ rest) ≡ take n got
@@ -64,14 +64,39 @@ reads-going bytes told going none = (bytes, [], sym (append-nil bytes), omega ar
 pub reads-chunk : (bytes chunk : List ℕ) (told : Option (List ℕ)) → is_stopped bytes ≡ false → length chunk ≤ CHUNK → Tells told chunk → ReadsOn (bytes ++ chunk) told
 reads-chunk bytes chunk told going fits last = (bytes, chunk, refl, fits, going, last)
 
-pub stopped-output : (wanted : Wanted) (bytes : List ℕ) (rest before now : Option (List ℕ)) → Stopped bytes before now → Answers wanted bytes rest before now (Ok status.LineFault)
-stopped-output wanted bytes rest before now stop =
+pub stopped-output : (wanted : Wanted) (bytes : List ℕ) (rest before now : Option (List ℕ)) (s : Session) → Stopped wanted bytes before now s → Answers wanted bytes rest before now (Ok status.LineFault)
+stopped-output wanted bytes rest before now s stop =
     let (same, faulty) = fault-output wanted bytes stop.fault in
     (subst (λ t. Appends before now t) (sym same) stop.written, faulty, inl stop.fault)
 
+-- the line at which they stopped is kept
+pub stopped-keeps : (wanted : Wanted) (bytes : List ℕ) (input rest before now : Option (List ℕ)) (s : Session) → Consumes input rest bytes → Stopped wanted bytes before now s → KeepsFault input rest s (Ok status.LineFault)
+stopped-keeps wanted bytes input rest before now s read stop =
+    let same = fault-whole bytes stop.fault in
+    (bytes, read, ap has_fault same ∙ stop.fault, subst (Keeps s) (sym same) stop.kept)
+
+-- a run that came to the input's end keeps the last line, where that is a fault
+pub ended-keeps : (wanted : Wanted) (bytes : List ℕ) (input rest before now : Option (List ℕ)) (s : Session) (answer : Result Status Stop) → Consumes input rest bytes → Finishes wanted bytes before now s answer → KeepsFault input rest s (ended answer)
+ended-keeps wanted bytes input rest before now s (Ok status.Done) read end = tt
+ended-keeps wanted bytes input rest before now s (Ok status.LineFault) read (wrote, faulty, kept) = (bytes, read, faulty, kept)
+ended-keeps wanted bytes input rest before now s (Err stops.NoMemory) read end = tt
+ended-keeps wanted bytes input rest before now s (Err stops.WriteFault) read end = tt
+
+-- a new session stands before the first byte
+pub stands-new : (wanted : Wanted) (now : Option (List ℕ)) (s : Session) → IsNew s → Stands wanted [] now now (record s { with_script = wanted.with_script })
+stands-new wanted now s new =
+    record {
+      stage = new.stage;
+      number = new.number;
+      line = new.line;
+      going = refl;
+      shows = refl;
+      printed = rw (new.pending, journal-start wanted) (prints-nothing now []);
+    }
+
 -- where nothing is pending, the journal is written
-pub all-written : (bytes : List ℕ) (before now : Option (List ℕ)) (s : Session) → Stands bytes before now s → s.pending.items ≡ [] → Appends before now (journal bytes)
-all-written bytes before now s at none = prints-all before now [] (journal bytes) (subst (λ x. Prints before now [] x (journal bytes)) none at.printed)
+pub all-written : (wanted : Wanted) (bytes : List ℕ) (before now : Option (List ℕ)) (s : Session) → Stands wanted bytes before now s → s.pending.items ≡ [] → Appends before now (journal wanted bytes)
+all-written wanted bytes before now s at none = prints-all before now [] (journal wanted bytes) (subst (λ x. Prints before now [] x (journal wanted bytes)) none at.printed)
 
 -- one chunk more
 pub read_more : (a b c : Option (List ℕ)) (bytes got rest : List ℕ) (n : ℕ) → n ≤ length got → Consumes a b bytes → Consumes b c (take n got)
@@ -88,14 +113,14 @@ one_more bytes got n limit full one fits =
 
 -- a run that printing stopped
 pub runs-stop : (wanted : Wanted) (bytes : List ℕ) (input rest last before now : Option (List ℕ)) (stop : Stop) → Consumes input rest bytes → length bytes ≤ LIMIT → ReadsOn bytes last
-    → AppendsFront before now (journal bytes) → RunsOver wanted input rest last before now (Err (fault_of stop))
+    → AppendsFront before now (journal wanted bytes) → RunsOver wanted input rest last before now (Err (fault_of stop))
 runs-stop wanted bytes input rest last before now stops.NoMemory read within on front = (bytes, read, within, on, inl front)
 runs-stop wanted bytes input rest last before now stops.WriteFault read within on front = (bytes, read, within, on, inl front)
 
 -- a run that came to the input's end
-pub runs-ended : (wanted : Wanted) (bytes : List ℕ) (input rest last before now : Option (List ℕ)) (answer : Result Status Stop) → Consumes input rest bytes → length bytes ≤ LIMIT → ReadsOn bytes last
-    → IsAtEnd rest → Finishes wanted bytes before now answer → RunsOver wanted input rest last before now (ended answer)
-runs-ended wanted bytes input rest last before now (Ok status.Done) read within on end (wrote, going) = (bytes, read, within, on, (wrote, going, end))
-runs-ended wanted bytes input rest last before now (Ok status.LineFault) read within on end (wrote, faulty) = (bytes, read, within, on, (wrote, faulty, inr end))
-runs-ended wanted bytes input rest last before now (Err stops.NoMemory) read within on end front = (bytes, read, within, on, inr (end, front))
-runs-ended wanted bytes input rest last before now (Err stops.WriteFault) read within on end front = (bytes, read, within, on, inr (end, front))
+pub runs-ended : (wanted : Wanted) (bytes : List ℕ) (input rest last before now : Option (List ℕ)) (s : Session) (answer : Result Status Stop) → Consumes input rest bytes → length bytes ≤ LIMIT → ReadsOn bytes last
+    → IsAtEnd rest → Finishes wanted bytes before now s answer → RunsOver wanted input rest last before now (ended answer)
+runs-ended wanted bytes input rest last before now s (Ok status.Done) read within on end (wrote, going) = (bytes, read, within, on, (wrote, going, end))
+runs-ended wanted bytes input rest last before now s (Ok status.LineFault) read within on end (wrote, faulty, kept) = (bytes, read, within, on, (wrote, faulty, inr end))
+runs-ended wanted bytes input rest last before now s (Err stops.NoMemory) read within on end front = (bytes, read, within, on, inr (end, front))
+runs-ended wanted bytes input rest last before now s (Err stops.WriteFault) read within on end front = (bytes, read, within, on, inr (end, front))

@@ -1,11 +1,11 @@
 -- Worked scripts: what a run writes, computed from the bytes of the script.
-use Rattle.std.proofs.Common.{◌≡◌, ◌∷◌, [], refl}
+use Rattle.std.proofs.Common.{◌≡◌, ◌∷◌, ◌++◌, [], refl}
 use Rattle.std.specs.Fmt.{digits}
 use Rattle.cics_names.specs.Ebcdic.{code_of, character_of}
 use Rattle.cics_run.specs.Journal.{line}
 use Rattle.cics_run.specs.Running.{output}
 use Rattle.cics_run.specs.Settling.{turn, settled}
-use Rattle.cics_run.proofs.Scripts.{Writes, listed, replayed}
+use Rattle.cics_run.proofs.Scripts.{Writes, listed, replayed, with_script}
 use lib.Chars.{codes}
 
 -- a browse gives the records in the order of the codes of their keys
@@ -254,3 +254,24 @@ a_key_of_no_byte : Writes listed
     ∷ [])
 unfolding code_of character_of turn settled digits
 a_key_of_no_byte = refl
+
+-- each line of the script stands in front of what it led to, blank lines and definitions too, without its CR; behind a fault there is none
+a_script_beside_its_journal : Writes with_script
+    ((codes "DEFINE FILE('ACCT') KEYLENGTH(4) RECOVERABLE" ++ 13 ∷ [])
+    ∷ []
+    ∷ codes "ATTACH T1 TRANSID('AAAA')"
+    ∷ codes "T1 EXEC CICS READ FILE('ACCT') RIDFLD('0001') NOHANDLE"
+    ∷ codes "HELLO"
+    ∷ codes "T1 EXEC CICS RETURN"
+    ∷ [])
+    (codes "> DEFINE FILE('ACCT') KEYLENGTH(4) RECOVERABLE"
+    ∷ codes "> "
+    ∷ codes "> ATTACH T1 TRANSID('AAAA')"
+    ∷ codes "T1 ATTACHED 'AAAA'"
+    ∷ codes "> T1 EXEC CICS READ FILE('ACCT') RIDFLD('0001') NOHANDLE"
+    ∷ codes "T1 NOTFND 13"
+    ∷ codes "> HELLO"
+    ∷ codes "LINE 5 FAULT 3 UnknownWord"
+    ∷ [])
+unfolding code_of character_of turn settled digits
+a_script_beside_its_journal = refl

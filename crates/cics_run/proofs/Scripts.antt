@@ -15,8 +15,12 @@ Writes wanted script written = output wanted (lines script) ≡ lines written
 
 -- the listing stands behind the journal
 abbrev pub listed : Wanted
-listed = record { options = record { replay = false; no_list = false }; serial = false }
+listed = record { options = record { replay = false; no_list = false }; serial = false; with_script = false }
 
 -- and the replay behind the listing
 abbrev pub replayed : Wanted
-replayed = record { options = record { replay = true; no_list = false }; serial = false }
+replayed = record { options = record { replay = true; no_list = false }; serial = false; with_script = false }
+
+-- the journal alone, each line of the script in front of what it led to
+abbrev pub with_script : Wanted
+with_script = record { options = record { replay = false; no_list = true }; serial = false; with_script = true }

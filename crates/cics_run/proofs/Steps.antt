@@ -4,16 +4,18 @@ use Rattle.std.proofs.lemmas.Bool.{cases_Bool, eqb-true}
 use Rattle.std.proofs.lemmas.List.{map-append}
 use Rattle.std.proofs.Math.Numerals.{one-add}
 use Rattle.std.proofs.lemmas.List.Sums.{fold-append}
+use Rattle.std.specs.Prelude.{is_some}
 use Rattle.std.specs.List.{list_all, prefix_len}
 use Rattle.std.specs.Io.BufRead.{strip_last}
 use Rattle.std.specs.Io.KnownBytes.{Appends}
 use Rattle.cics_run.specs.Lines.{pieces, completed, unfinished, is_in_line}
 use Rattle.cics_run.specs.Printing.{AppendsFront, Prints}
-use Rattle.cics_run.specs.Running.{next, play, start, stepped, journal}
-use Rattle.cics_run.specs.Standing.{line_step, Stands, Stopped}
+use Rattle.cics_run.specs.Running.{has_fault, next, play, start, stepped, journal_of, journal}
+use Rattle.cics_run.specs.Standing.{next_step, next_text, ended_line, Ran, Stands, Keeps, Stopped}
+use Rattle.cics_run.specs.declared.running.Wanted.{Wanted}
 use Rattle.cics_run.specs.declared.session.Session.{Session}
 use Rattle.cics_run.proofs.Printing.{prints-prints, prints-all, prints-front, prints-part, front-longer}
-use Rattle.cics_run.proofs.Playing.{pieces-lf, pieces-bytes, next-going, journal-front, fault-stays}
+use Rattle.cics_run.proofs.Playing.{pieces-lf, pieces-bytes, next-going, journal-stepped, journal-front, fault-stays}
 
 completed-bytes : (bytes more : List ℕ) → list_all is_in_line more ≡ true → completed (bytes ++ more) ≡ completed bytes
 completed-bytes bytes more all = ap (λ p. map (strip_last 13) p.0) (pieces-bytes bytes more all)
@@ -22,69 +24,98 @@ completed-lf : (bytes : List ℕ) → completed (bytes ++ 10 ∷ []) ≡ complet
 completed-lf bytes = ap (λ p. map (strip_last 13) p.0) (pieces-lf bytes) ∙ map-append (strip_last 13) (pieces bytes).0 (unfinished bytes ∷ [])
 
 -- the lines up to the one that an LF ends
-play-lf : (bytes : List ℕ) (before now : Option (List ℕ)) (s : Session) → Stands bytes before now s
-    → play (completed (bytes ++ 10 ∷ [])) ≡ stepped ((play (completed bytes)).number + 1) (journal bytes) (line_step s)
-play-lf bytes before now s at =
+play-lf : (wanted : Wanted) (bytes : List ℕ) (before now : Option (List ℕ)) (s : Session) → Stands wanted bytes before now s
+    → play (completed (bytes ++ 10 ∷ [])) ≡ stepped (play (completed bytes)) (ended_line s) (next_step s (ended_line s))
+play-lf wanted bytes before now s at =
     ap play (completed-lf bytes) ∙ fold-append next start (completed bytes) (strip_last 13 (unfinished bytes) ∷ [])
     ∙ next-going (play (completed bytes)) (strip_last 13 (unfinished bytes)) at.going
     ∙ rw (at.number, at.stage, at.line) refl
 
-pub stands-bytes : (bytes more : List ℕ) (before now : Option (List ℕ)) (s t : Session) → list_all is_in_line more ≡ true → Stands bytes before now s
-    → t.stage ≡ s.stage → t.number ≡ s.number → t.line.items ≡ s.line.items ++ more → t.pending.items ≡ s.pending.items
-    → Stands (bytes ++ more) before now t
-stands-bytes bytes more before now s t all at stage number line pending =
+-- the journal up to that line
+journal-lf : (wanted : Wanted) (bytes : List ℕ) (before now : Option (List ℕ)) (s : Session) → Stands wanted bytes before now s
+    → journal wanted (bytes ++ 10 ∷ []) ≡ journal wanted bytes ++ next_text s (ended_line s)
+journal-lf wanted bytes before now s at =
+    ap (journal_of wanted) (play-lf wanted bytes before now s at)
+    ∙ rw at.shows (journal-stepped wanted (play (completed bytes)) (ended_line s) (next_step s (ended_line s)))
+
+pub stands-bytes : (wanted : Wanted) (bytes more : List ℕ) (before now : Option (List ℕ)) (s t : Session) → list_all is_in_line more ≡ true → Stands wanted bytes before now s
+    → t.stage ≡ s.stage → t.number ≡ s.number → t.line.items ≡ s.line.items ++ more → t.pending.items ≡ s.pending.items → t.with_script ≡ s.with_script
+    → Stands wanted (bytes ++ more) before now t
+stands-bytes wanted bytes more before now s t all at stage number line pending shows =
     let same : play (completed (bytes ++ more)) ≡ play (completed bytes) = ap play (completed-bytes bytes more all) in
     record {
       stage = stage ∙ at.stage ∙ sym (ap (λ p. p.stage) same);
       number = number ∙ at.number ∙ sym (ap (λ p. p.number) same);
       line = line ∙ ap (λ x. x ++ more) at.line ∙ sym (ap (λ p. p.1) (pieces-bytes bytes more all));
-      going = ap (λ p. p.has_fault) same ∙ at.going;
-      printed = subst (λ j. Prints before now [] t.pending.items j) (sym (ap (λ p. p.journal) same)) (subst (λ x. Prints before now [] x (journal bytes)) (sym pending) at.printed);
+      going = ap has_fault same ∙ at.going;
+      shows = shows ∙ at.shows;
+      printed = subst (λ j. Prints before now [] t.pending.items j) (sym (ap (journal_of wanted) same)) (subst (λ x. Prints before now [] x (journal wanted bytes)) (sym pending) at.printed);
     }
 
-pub stands-line : (bytes : List ℕ) (before old now : Option (List ℕ)) (s t : Session) → Stands bytes before old s
-    → t.stage ≡ (line_step s).stage → t.number ≡ s.number + 1 → t.line.items ≡ []
-    → Prints old now s.pending.items t.pending.items (line_step s).text
-    → false ≡ (line_step s).is_fault
-    → Stands (bytes ++ 10 ∷ []) before now t
-stands-line bytes before old now s t at stage number line text going =
-    let after = play-lf bytes before old s at in
+-- what a session has printed that ran a line more
+printed-line : (wanted : Wanted) (bytes : List ℕ) (before old now : Option (List ℕ)) (s t : Session) → Stands wanted bytes before old s
+    → Prints old now s.pending.items t.pending.items (next_text s (ended_line s))
+    → Prints before now [] t.pending.items (journal wanted (bytes ++ 10 ∷ []))
+printed-line wanted bytes before old now s t at text =
+    subst (Prints before now [] t.pending.items) (sym (journal-lf wanted bytes before old s at))
+    (prints-prints _ _ _ [] s.pending.items t.pending.items (journal wanted bytes) (next_text s (ended_line s)) at.printed text)
+
+pub stands-line : (wanted : Wanted) (bytes : List ℕ) (before old now : Option (List ℕ)) (s t : Session) → Stands wanted bytes before old s
+    → Ran s (ended_line s) t → t.line.items ≡ []
+    → Prints old now s.pending.items t.pending.items (next_text s (ended_line s))
+    → false ≡ is_some t.fault
+    → Stands wanted (bytes ++ 10 ∷ []) before now t
+stands-line wanted bytes before old now s t at ran line text going =
+    let after = play-lf wanted bytes before old s at in
     record {
-      stage = stage ∙ sym (ap (λ p. p.stage) after);
-      number = number ∙ ap (λ n. n + 1) at.number ∙ sym (ap (λ p. p.number) after);
+      stage = ran.stage ∙ sym (ap (λ p. p.stage) after);
+      number = ran.number ∙ ap (λ n. n + 1) at.number ∙ sym (ap (λ p. p.number) after);
       line = line ∙ sym (ap (λ p. p.1) (pieces-lf bytes));
-      going = ap (λ p. p.has_fault) after ∙ sym going;
-      printed = subst (λ j. Prints before now [] t.pending.items j) (sym (ap (λ p. p.journal) after)) (prints-prints _ _ _ [] s.pending.items t.pending.items (journal bytes) (line_step s).text at.printed text);
+      going = ap has_fault after ∙ sym (going ∙ ap is_some ran.fault);
+      shows = ran.shows ∙ at.shows;
+      printed = printed-line wanted bytes before old now s t at text;
     }
 
-pub stopped-line : (bytes more : List ℕ) (before old now : Option (List ℕ)) (s t : Session) → Stands bytes before old s
-    → Prints old now s.pending.items t.pending.items (line_step s).text → t.pending.items ≡ []
-    → true ≡ (line_step s).is_fault
-    → Stopped ((bytes ++ 10 ∷ []) ++ more) before now
-stopped-line bytes more before old now s t at text none fault =
-    let after = play-lf bytes before old s at in
-    let here : (play (completed (bytes ++ 10 ∷ []))).has_fault ≡ true = ap (λ p. p.has_fault) after ∙ sym fault in
-    let same = fault-stays (bytes ++ 10 ∷ []) more here in
-    let all = prints-prints before old now [] s.pending.items t.pending.items (journal bytes) (line_step s).text at.printed text in
+-- a session that ran a line and keeps it
+keeps-line : (wanted : Wanted) (bytes : List ℕ) (before old : Option (List ℕ)) (s t : Session) → Stands wanted bytes before old s
+    → Ran s (ended_line s) t → t.line.items ≡ ended_line s → Keeps t (play (completed (bytes ++ 10 ∷ [])))
+keeps-line wanted bytes before old s t at ran line =
+    let after = play-lf wanted bytes before old s at in
     record {
-      fault = ap (λ p. p.has_fault) same ∙ here;
-      written = subst (λ j. Appends before now j) (sym (ap (λ p. p.journal) same ∙ ap (λ p. p.journal) after))
-          (prints-all before now [] (journal bytes ++ (line_step s).text) (subst (λ x. Prints before now [] x (journal bytes ++ (line_step s).text)) none all));
+      line = line ∙ sym (ap (λ p. p.line) after);
+      number = ran.number ∙ ap (λ n. n + 1) at.number ∙ sym (ap (λ p. p.number) after);
+      fault = ran.fault ∙ sym (ap (λ p. p.fault) after);
+    }
+
+pub stopped-line : (wanted : Wanted) (bytes more : List ℕ) (before old now : Option (List ℕ)) (s t : Session) → Stands wanted bytes before old s
+    → Ran s (ended_line s) t → t.line.items ≡ ended_line s
+    → Prints old now s.pending.items t.pending.items (next_text s (ended_line s)) → t.pending.items ≡ []
+    → true ≡ is_some t.fault
+    → Stopped wanted ((bytes ++ 10 ∷ []) ++ more) before now t
+stopped-line wanted bytes more before old now s t at ran line text none fault =
+    let kept = keeps-line wanted bytes before old s t at ran line in
+    let here : has_fault (play (completed (bytes ++ 10 ∷ []))) ≡ true = ap is_some (sym kept.fault) ∙ sym fault in
+    let same = fault-stays (bytes ++ 10 ∷ []) more here in
+    let all = printed-line wanted bytes before old now s t at text in
+    record {
+      fault = ap has_fault same ∙ here;
+      written = subst (Appends before now) (sym (ap (journal_of wanted) same))
+          (prints-all before now [] (journal wanted (bytes ++ 10 ∷ [])) (subst (λ x. Prints before now [] x (journal wanted (bytes ++ 10 ∷ []))) none all));
+      kept = subst (Keeps t) (sym same) kept;
     }
 
 -- a line of whose text the writer took a front
-pub front-line : (bytes more : List ℕ) (before old now : Option (List ℕ)) (s : Session) → Stands bytes before old s
-    → AppendsFront old now (s.pending.items ++ (line_step s).text)
-    → AppendsFront before now (journal ((bytes ++ 10 ∷ []) ++ more))
-front-line bytes more before old now s at front =
-    let after = play-lf bytes before old s at in
-    front-longer before now (journal (bytes ++ 10 ∷ [])) (journal ((bytes ++ 10 ∷ []) ++ more)) (journal-front (bytes ++ 10 ∷ []) more)
-    (subst (λ j. AppendsFront before now j) (sym (ap (λ p. p.journal) after)) (prints-front before old now [] s.pending.items (journal bytes) (line_step s).text at.printed front))
+pub front-line : (wanted : Wanted) (bytes more : List ℕ) (before old now : Option (List ℕ)) (s : Session) → Stands wanted bytes before old s
+    → AppendsFront old now (s.pending.items ++ next_text s (ended_line s))
+    → AppendsFront before now (journal wanted ((bytes ++ 10 ∷ []) ++ more))
+front-line wanted bytes more before old now s at front =
+    front-longer before now (journal wanted (bytes ++ 10 ∷ [])) (journal wanted ((bytes ++ 10 ∷ []) ++ more)) (journal-front wanted (bytes ++ 10 ∷ []) more)
+    (subst (AppendsFront before now) (sym (journal-lf wanted bytes before old s at)) (prints-front before old now [] s.pending.items (journal wanted bytes) (next_text s (ended_line s)) at.printed front))
 
 -- no more was written
-pub front-here : (bytes more : List ℕ) (before now : Option (List ℕ)) (s : Session) → Stands bytes before now s → AppendsFront before now (journal (bytes ++ more))
-front-here bytes more before now s at =
-    front-longer before now (journal bytes) (journal (bytes ++ more)) (journal-front bytes more) (prints-part before now [] s.pending.items (journal bytes) at.printed)
+pub front-here : (wanted : Wanted) (bytes more : List ℕ) (before now : Option (List ℕ)) (s : Session) → Stands wanted bytes before now s → AppendsFront before now (journal wanted (bytes ++ more))
+front-here wanted bytes more before now s at =
+    front-longer before now (journal wanted bytes) (journal wanted (bytes ++ more)) (journal-front wanted bytes more) (prints-part before now [] s.pending.items (journal wanted bytes) at.printed)
 
 -- the bytes before an LF, and what follows them: an LF, if anything
 in-front : (bytes : List ℕ) → list_all is_in_line (take (prefix_len is_in_line bytes) bytes) ≡ true

@@ -10,3 +10,4 @@ pub mod Running
 pub mod Statuses
 pub mod Printing
 pub mod Standing
+pub mod Deadlocked

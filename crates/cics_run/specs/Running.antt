@@ -1,12 +1,14 @@
 -- What a run of a script writes.
-use Rattle.std.specs.Prelude.{◌≡◌, ℕ, Bool, true, false, ◌+◌, ◌≤◌, ◌⊎◌, if◌then◌else◌, List, [], ◌++◌, length, take, Option, Result, Ok, Err}
+use Rattle.std.specs.Prelude.{◌≡◌, ℕ, Bool, true, false, ◌+◌, ◌≤◌, ◌⊎◌, if◌then◌else◌, List, [], ◌++◌, length, take, Option, None, is_some, Result, Ok, Err}
 use Rattle.std.specs.List.{fold}
 use Rattle.std.specs.Io.KnownBytes.{Appends, Consumes, IsAtEnd}
 use Rattle.cics_run.specs.Lines.{completed, all_lines}
+use Rattle.cics_run.specs.Journal.{script_line}
 use Rattle.cics_run.specs.Stages.{step, Step, first_stage, listing_at, replay_at, serial_at}
 use Rattle.cics_run.specs.Printing.{AppendsFront}
 use Rattle.cics_run.specs.Streams.{Tells}
 use Rattle.cics_run.specs.declared.running.TheConstants.{CHUNK}
+use Rattle.cics_run.specs.declared.stage.Fault.{Fault}
 use Rattle.cics_run.specs.declared.stage.Stage.{Stage}
 use Rattle.cics_run.specs.declared.running.Status.{Status}
 use Rattle.cics_run.specs.declared.running.Status.TheVariants as status
@@ -15,20 +17,35 @@ use Rattle.cics_run.specs.declared.running.RunFault.TheVariants as faults
 use Rattle.cics_run.specs.declared.running.Options.{Options}
 use Rattle.cics_run.specs.declared.running.Wanted.{Wanted}
 
--- what stands behind some lines: the stage, how many lines there were, what was printed, and whether that ends with a fault
+-- what stands behind some lines: the stage, how many lines there were and the last of them, what was printed, the same with each line
+-- in front of what it led to, and the fault of the last line, where it has one
 pub record Played : Type 0 where
   pub stage : Stage
   pub number : ℕ
+  pub line : List ℕ
   pub journal : List ℕ
-  pub has_fault : Bool
+  pub shown : List ℕ
+  pub fault : Option Fault
 
--- a line's text is printed behind the journal so far
-abbrev pub stepped : ℕ → List ℕ → Step → Played
-stepped number journal s = record { stage = s.stage; number = number; journal = journal ++ s.text; has_fault = s.is_fault }
+-- whether the last line was a fault
+abbrev pub has_fault : Played → Bool
+has_fault p = is_some p.fault
+
+-- a line was run: its text is printed behind the journal so far, and the line itself in front of its text
+abbrev pub stepped : Played → List ℕ → Step → Played
+stepped p line s =
+    record {
+      stage = s.stage;
+      number = p.number + 1;
+      line = line;
+      journal = p.journal ++ s.text;
+      shown = p.shown ++ (script_line line ++ s.text);
+      fault = s.fault;
+    }
 
 -- One line more. Lines are numbered from 1, and behind a fault no line counts.
 abbrev pub next : Played → List ℕ → Played
-next p line = if p.has_fault then p else stepped (p.number + 1) p.journal (step (p.number + 1) p.stage line)
+next p line = if has_fault p then p else stepped p line (step (p.number + 1) p.stage line)
 
 -- how many bytes a script may have
 abbrev pub most_bytes : ℕ
@@ -36,19 +53,23 @@ most_bytes = 16777216
 
 -- before the first line
 abbrev pub start : Played
-start = record { stage = first_stage; number = 0; journal = []; has_fault = false }
+start = record { stage = first_stage; number = 0; line = []; journal = []; shown = []; fault = None }
 
 -- some lines, in their order
 abbrev pub play : List (List ℕ) → Played
 play lines = fold next start lines
 
--- the journal of the lines that these bytes complete
-abbrev pub journal : List ℕ → List ℕ
-journal bytes = (play (completed bytes)).journal
+-- the journal of some lines, with the script where that is wanted
+abbrev pub journal_of : Wanted → Played → List ℕ
+journal_of wanted p = if wanted.with_script then p.shown else p.journal
 
--- a run with these options, and no serial run
+-- the journal of the lines that these bytes complete
+abbrev pub journal : Wanted → List ℕ → List ℕ
+journal wanted bytes = journal_of wanted (play (completed bytes))
+
+-- a run with these options, and neither a serial run nor the script
 abbrev pub without_serial : Options → Wanted
-without_serial options = record { options = options; serial = false }
+without_serial options = record { options = options; serial = false; with_script = false }
 
 -- the listing stands behind the journal, unless it is left out, and behind that the replay and the serial run, where they are asked for
 abbrev pub ending : Wanted → Stage → List ℕ
@@ -58,7 +79,7 @@ ending wanted stage =
 
 -- behind a fault stand no listing, no replay and no serial run
 abbrev pub whole : Wanted → Played → List ℕ
-whole wanted p = if p.has_fault then p.journal else p.journal ++ ending wanted p.stage
+whole wanted p = if has_fault p then journal_of wanted p else journal_of wanted p ++ ending wanted p.stage
 
 -- what a run over a whole script writes
 abbrev pub output : Wanted → List ℕ → List ℕ
@@ -66,16 +87,16 @@ output wanted bytes = whole wanted (play (all_lines bytes))
 
 -- whether a fault is printed by a run over a whole script
 abbrev pub is_faulty : List ℕ → Bool
-is_faulty bytes = (play (all_lines bytes)).has_fault
+is_faulty bytes = has_fault (play (all_lines bytes))
 
 -- whether one of the lines that these bytes complete is a fault
 abbrev pub is_stopped : List ℕ → Bool
-is_stopped bytes = (play (completed bytes)).has_fault
+is_stopped bytes = has_fault (play (completed bytes))
 
 -- A front is written of what these bytes call for: the journal of the lines that they complete, and only at the input's end,
 -- where the last line may lack its LF, the whole output.
 abbrev pub WritesFront : Wanted → List ℕ → Option (List ℕ) → Option (List ℕ) → Option (List ℕ) → Type 0
-WritesFront wanted bytes rest old new = AppendsFront old new (journal bytes) ⊎ (IsAtEnd rest × AppendsFront old new (output wanted bytes))
+WritesFront wanted bytes rest old new = AppendsFront old new (journal wanted bytes) ⊎ (IsAtEnd rest × AppendsFront old new (output wanted bytes))
 
 -- What a run has done at each answer, where bytes are the bytes that it read:
 -- - Done: the input is at its end, no fault was printed, and the whole output is written;
@@ -90,8 +111,8 @@ Answers wanted bytes rest old new (Ok status.Done) = Appends old new (output wan
 Answers wanted bytes rest old new (Ok status.LineFault) =
     Appends old new (output wanted bytes) × (is_faulty bytes ≡ true) × ((is_stopped bytes ≡ true) ⊎ IsAtEnd rest)
 Answers wanted bytes rest old new (Err faults.InputTooLong) =
-    (length bytes ≡ most_bytes + 1) × (is_stopped (take most_bytes bytes) ≡ false) × Appends old new (journal (take most_bytes bytes))
-Answers wanted bytes rest old new (Err faults.ReadFault) = (is_stopped bytes ≡ false) × Appends old new (journal bytes)
+    (length bytes ≡ most_bytes + 1) × (is_stopped (take most_bytes bytes) ≡ false) × Appends old new (journal wanted (take most_bytes bytes))
+Answers wanted bytes rest old new (Err faults.ReadFault) = (is_stopped bytes ≡ false) × Appends old new (journal wanted bytes)
 Answers wanted bytes rest old new (Err faults.WriteFault) = WritesFront wanted bytes rest old new
 Answers wanted bytes rest old new (Err faults.NoMemory) = WritesFront wanted bytes rest old new
 

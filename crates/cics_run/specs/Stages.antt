@@ -1,5 +1,5 @@
 -- What the lines of a script lead to: at first to definitions, and from the first line that is none to a region.
-use Rattle.std.specs.Prelude.{◌≡◌, ℕ, Bool, true, false, List, [], ◌++◌, length, Option, Some, None, Result, Ok, Err, MatchResult, OnOk}
+use Rattle.std.specs.Prelude.{◌≡◌, ℕ, List, [], ◌++◌, length, Option, Some, None, Result, Ok, Err, MatchResult, OnOk}
 use Rattle.cics_names.specs.Keyed.{Bytes, value_at, has_key, is_key_in}
 use Rattle.cics_transdata.specs.declared.queues.Recovery.{Recovery}
 use Rattle.cics_ksds.specs.declared.definition.FileDef.{FileDef}
@@ -23,22 +23,29 @@ use Rattle.cics_run.specs.Journal.{attached_line, outcome_line, refused_line, cl
 use Rattle.cics_run.specs.Listings.{listing_text, replay_text}
 use Rattle.cics_run.specs.Serial.{serial_text}
 use Rattle.cics_run.specs.Settling.{region_at, Settled, settled}
+use Rattle.cics_run.specs.declared.stage.Fault.{Fault}
+use Rattle.cics_run.specs.declared.stage.Fault.TheVariants as faults
 use Rattle.cics_run.specs.declared.stage.Stage.{Stage}
 use Rattle.cics_run.specs.declared.stage.Stage.TheVariants.{Opening, Running}
 
--- what a line does: the stage behind it, the text that it prints, and whether that is a fault, which ends the run
+-- what a line does: the stage behind it, the text that it prints, and its fault, where it has one, which ends the run
 pub record Step : Type 0 where
   pub stage : Stage
   pub text : List ℕ
-  pub is_fault : Bool
+  pub fault : Option Fault
 
 -- nothing is printed
 abbrev pub silent : Stage → Step
-silent stage = record { stage = stage; text = []; is_fault = false }
+silent stage = record { stage = stage; text = []; fault = None }
+
+-- the line of the journal that tells a fault, of the line with this number
+abbrev pub fault_line : ℕ → Fault → List ℕ
+fault_line number (faults.Line fault) = line_fault_line number fault
+fault_line number (faults.Definition fault) = define_fault_line number fault
 
 -- a fault is printed, and nothing else changes
-abbrev pub faulty : Stage → List ℕ → Step
-faulty stage text = record { stage = stage; text = text; is_fault = true }
+abbrev pub faulty : ℕ → Stage → Fault → Step
+faulty number stage fault = record { stage = stage; text = fault_line number fault; fault = Some fault }
 
 -- before the first line nothing is defined
 abbrev pub first_stage : Stage
@@ -52,11 +59,11 @@ region_of (Running r) = r
 -- a definition is accepted, or its fault is printed
 abbrev pub defined : ℕ → OpeningState → Option DefineFault → OpeningState → Step
 defined number o None next = silent (Opening next)
-defined number o (Some fault) next = faulty (Opening o) (define_fault_line number fault)
+defined number o (Some fault) next = faulty number (Opening o) (faults.Definition fault)
 
 -- a definition behind the first line that is none
 abbrev pub too_late : ℕ → RegionValue → Step
-too_late number r = faulty (Running r) (line_fault_line number DefineTooLate)
+too_late number r = faulty number (Running r) (faults.Line DefineTooLate)
 
 -- DEFINE FILE
 abbrev pub file_defined : ℕ → Stage → Bytes → FileDef → Step
@@ -85,7 +92,7 @@ queue_loaded number (Running r) name content = too_late number r
 
 -- the line of an event, and then what the region prints while it settles
 abbrev pub told : List ℕ → Settled → Step
-told text s = record { stage = Running (region_at s.machine); text = text ++ s.text; is_fault = false }
+told text s = record { stage = Running (region_at s.machine); text = text ++ s.text; fault = None }
 
 -- an event that left this machine: its line is printed, and the region settles
 abbrev pub event : List ℕ → Machine → Step
@@ -135,7 +142,7 @@ followed number stage (Ok (Attach label transaction dtimout)) = task_attached (r
 followed number stage (Ok (Clock seconds)) = clock_moved (region_of stage).machine seconds
 followed number stage (Ok (Issue label command)) = command_issued (region_of stage).machine label command
 followed number stage (Ok Shutdown) = region_shut (region_of stage).machine
-followed number stage (Err fault) = faulty stage (line_fault_line number fault)
+followed number stage (Err fault) = faulty number stage (faults.Line fault)
 
 -- the bytes of a line, whose number is given
 abbrev pub step : ℕ → Stage → List ℕ → Step
@@ -154,8 +161,8 @@ abbrev pub serial_at : Stage → List ℕ
 serial_at stage = serial_text (region_of stage).machine.units
 
 -- a line led to this, and to this stage, unless there was no memory
-abbrev pub Leads : {E : Type 0} → Step → Stage → List ℕ → List ℕ → Result Bool E → Type 0
-Leads s stage before now result = MatchResult result (λ is_fault. (stage ≡ s.stage) × (now ≡ before ++ s.text) × (is_fault ≡ s.is_fault)) (λ _. Unit {0})
+abbrev pub Leads : {E : Type 0} → Step → Stage → List ℕ → List ℕ → Result (Option Fault) E → Type 0
+Leads s stage before now result = MatchResult result (λ fault. (stage ≡ s.stage) × (now ≡ before ++ s.text) × (fault ≡ s.fault)) (λ _. Unit {0})
 
 -- an event led to this, and to this region, unless there was no memory
 abbrev pub Happens : {E : Type 0} → Step → RegionValue → List ℕ → List ℕ → Result (Unit {0}) E → Type 0

@@ -1,10 +1,11 @@
 -- Where a session stands after some bytes of a script.
-use Rattle.std.specs.Prelude.{◌≡◌, ℕ, Bool, true, false, ◌+◌, List, [], Option, Result, MatchResult, Ok, Err}
+use Rattle.std.specs.Prelude.{◌≡◌, ℕ, Bool, true, false, ◌+◌, if◌then◌else◌, List, [], ◌++◌, Option, Result, MatchResult, Ok, Err, ⊤}
 use Rattle.std.specs.Io.BufRead.{strip_last}
-use Rattle.std.specs.Io.KnownBytes.{Appends}
+use Rattle.std.specs.Io.KnownBytes.{Appends, Consumes}
 use Rattle.cics_run.specs.Lines.{completed, unfinished, all_lines}
+use Rattle.cics_run.specs.Journal.{script_line}
 use Rattle.cics_run.specs.Stages.{step, Step, first_stage}
-use Rattle.cics_run.specs.Running.{play, journal, output, is_faulty}
+use Rattle.cics_run.specs.Running.{Played, play, has_fault, journal_of, journal, output, is_faulty}
 use Rattle.cics_run.specs.Printing.{AppendsFront, Prints}
 use Rattle.cics_run.specs.declared.stage.Stage.{Stage}
 use Rattle.cics_run.specs.declared.running.RunFault.{RunFault}
@@ -23,57 +24,90 @@ pub record IsNew (s : Session) : Type 0 where
   pub line : s.line.items ≡ []
   pub pending : s.pending.items ≡ []
 
--- the step of the line whose LF comes next
-abbrev pub line_step : Session → Step
-line_step s = step (s.number + 1) s.stage (strip_last 13 s.line.items)
+-- the step of a line that a session runs next
+abbrev pub next_step : Session → List ℕ → Step
+next_step s line = step (s.number + 1) s.stage line
+
+-- what is printed of that line: its bytes, where the script is wanted, and behind them what it leads to
+abbrev pub next_text : Session → List ℕ → List ℕ
+next_text s line = (if s.with_script then script_line line else []) ++ (next_step s line).text
+
+-- A session ran a line more.
+pub record Ran (s : Session) (line : List ℕ) (t : Session) : Type 0 where
+  pub stage : t.stage ≡ (next_step s line).stage
+  pub number : t.number ≡ s.number + 1
+  pub fault : t.fault ≡ (next_step s line).fault
+  pub shows : t.with_script ≡ s.with_script
+
+-- the line whose LF comes next
+abbrev pub ended_line : Session → List ℕ
+ended_line s = strip_last 13 s.line.items
 
 -- After these bytes, none of whose lines was a fault, their journal is printed.
-pub record Stands (bytes : List ℕ) (before now : Option (List ℕ)) (session : Session) : Type 0 where
+pub record Stands (wanted : Wanted) (bytes : List ℕ) (before now : Option (List ℕ)) (session : Session) : Type 0 where
   pub stage : session.stage ≡ (play (completed bytes)).stage
   pub number : session.number ≡ (play (completed bytes)).number
   pub line : session.line.items ≡ unfinished bytes
-  pub going : (play (completed bytes)).has_fault ≡ false
-  pub printed : Prints before now [] session.pending.items (journal bytes)
+  pub going : has_fault (play (completed bytes)) ≡ false
+  pub shows : session.with_script ≡ wanted.with_script
+  pub printed : Prints before now [] session.pending.items (journal wanted bytes)
 
 -- a call leads to this from each place where its session may stand, behind whatever bytes
-abbrev pub WhereverStands : Option (List ℕ) → Session → (List ℕ → Option (List ℕ) → Type 0) → Type 0
-WhereverStands now session LeadsTo = (bytes : List ℕ) (before : Option (List ℕ)) → Stands bytes before now session → LeadsTo bytes before
+abbrev pub WhereverStands : Wanted → Option (List ℕ) → Session → (List ℕ → Option (List ℕ) → Type 0) → Type 0
+WhereverStands wanted now session LeadsTo = (bytes : List ℕ) (before : Option (List ℕ)) → Stands wanted bytes before now session → LeadsTo bytes before
 
--- A line of these bytes was a fault, and their journal is written.
-pub record Stopped (bytes : List ℕ) (before now : Option (List ℕ)) : Type 0 where
-  pub fault : (play (completed bytes)).has_fault ≡ true
-  pub written : Appends before now (journal bytes)
+-- A session keeps the line at which these lines end: its bytes, its number and its fault.
+pub record Keeps (session : Session) (p : Played) : Type 0 where
+  pub line : session.line.items ≡ p.line
+  pub number : session.number ≡ p.number
+  pub fault : session.fault ≡ p.fault
+
+-- A line of these bytes was a fault: their journal is written, and the line is kept.
+pub record Stopped (wanted : Wanted) (bytes : List ℕ) (before now : Option (List ℕ)) (session : Session) : Type 0 where
+  pub fault : has_fault (play (completed bytes)) ≡ true
+  pub written : Appends before now (journal wanted bytes)
+  pub kept : Keeps session (play (completed bytes))
 
 -- whether a line was a fault, the session goes on or has stopped
-abbrev pub Comes : List ℕ → Option (List ℕ) → Option (List ℕ) → Session → Bool → Type 0
-Comes bytes before now session false = Stands bytes before now session
-Comes bytes before now session true = Stopped bytes before now
+abbrev pub Comes : Wanted → List ℕ → Option (List ℕ) → Option (List ℕ) → Session → Bool → Type 0
+Comes wanted bytes before now session false = Stands wanted bytes before now session
+Comes wanted bytes before now session true = Stopped wanted bytes before now session
 
 -- more bytes came
-abbrev pub Feeds : {E : Type 0} → List ℕ → Option (List ℕ) → Option (List ℕ) → Session → Result Bool E → Type 0
-Feeds bytes before now session result = MatchResult result (Comes bytes before now session) (λ _. AppendsFront before now (journal bytes))
+abbrev pub Feeds : {E : Type 0} → Wanted → List ℕ → Option (List ℕ) → Option (List ℕ) → Session → Result Bool E → Type 0
+Feeds wanted bytes before now session result =
+    MatchResult result (Comes wanted bytes before now session) (λ _. AppendsFront before now (journal wanted bytes))
 
 -- all that was printed is written
-abbrev pub Writes : {A E : Type 0} → List ℕ → Option (List ℕ) → Option (List ℕ) → Session → Result A E → Type 0
-Writes bytes before now session result =
-    MatchResult result (λ _. Stands bytes before now session × Appends before now (journal bytes)) (λ _. AppendsFront before now (journal bytes))
+abbrev pub Writes : {A E : Type 0} → Wanted → List ℕ → Option (List ℕ) → Option (List ℕ) → Session → Result A E → Type 0
+Writes wanted bytes before now session result =
+    MatchResult result (λ _. Stands wanted bytes before now session × Appends before now (journal wanted bytes))
+    (λ _. AppendsFront before now (journal wanted bytes))
 
--- all lines were run, and whether one of them, the last, was a fault
-abbrev pub IsClosed : List ℕ → Option (List ℕ) → Option (List ℕ) → List ℕ → Stage → Bool → Type 0
-IsClosed bytes before now pending stage fault =
-    let p = play (all_lines bytes) in
-    (p.has_fault ≡ fault) × (p.stage ≡ stage) × Prints before now [] pending p.journal
+-- All lines were run, and whether one of them, the last, was a fault: then it is kept.
+pub record IsClosed (wanted : Wanted) (bytes : List ℕ) (before now : Option (List ℕ)) (session : Session) (is_fault : Bool) : Type 0 where
+  pub fault : has_fault (play (all_lines bytes)) ≡ is_fault
+  pub stage : (play (all_lines bytes)).stage ≡ session.stage
+  pub printed : Prints before now [] session.pending.items (journal_of wanted (play (all_lines bytes)))
+  pub kept : is_fault ≡ true → Keeps session (play (all_lines bytes))
 
 -- the last line was run, where it lacks its LF
-abbrev pub Closes : {E : Type 0} → List ℕ → Option (List ℕ) → Option (List ℕ) → List ℕ → Stage → Result Bool E → Type 0
-Closes bytes before now pending stage result =
-    MatchResult result (IsClosed bytes before now pending stage) (λ _. AppendsFront before now (play (all_lines bytes)).journal)
+abbrev pub Closes : {E : Type 0} → Wanted → List ℕ → Option (List ℕ) → Option (List ℕ) → Session → Result Bool E → Type 0
+Closes wanted bytes before now session result =
+    MatchResult result (IsClosed wanted bytes before now session) (λ _. AppendsFront before now (journal_of wanted (play (all_lines bytes))))
 
 -- the input's end came
-abbrev pub Finishes : {E : Type 0} → Wanted → List ℕ → Option (List ℕ) → Option (List ℕ) → Result Status E → Type 0
-Finishes wanted bytes before now (Ok status.Done) = Appends before now (output wanted bytes) × (is_faulty bytes ≡ false)
-Finishes wanted bytes before now (Ok status.LineFault) = Appends before now (output wanted bytes) × (is_faulty bytes ≡ true)
-Finishes wanted bytes before now (Err e) = AppendsFront before now (output wanted bytes)
+abbrev pub Finishes : {E : Type 0} → Wanted → List ℕ → Option (List ℕ) → Option (List ℕ) → Session → Result Status E → Type 0
+Finishes wanted bytes before now session (Ok status.Done) = Appends before now (output wanted bytes) × (is_faulty bytes ≡ false)
+Finishes wanted bytes before now session (Ok status.LineFault) =
+    Appends before now (output wanted bytes) × (is_faulty bytes ≡ true) × Keeps session (play (all_lines bytes))
+Finishes wanted bytes before now session (Err e) = AppendsFront before now (output wanted bytes)
+
+-- Where a run over some bytes ended in a fault, the session keeps the line that has it.
+abbrev pub KeepsFault : Option (List ℕ) → Option (List ℕ) → Session → Result Status RunFault → Type 0
+KeepsFault input rest session (Ok status.LineFault) =
+    (bytes : List ℕ) × Consumes input rest bytes × (is_faulty bytes ≡ true) × Keeps session (play (all_lines bytes))
+KeepsFault input rest session _ = ⊤
 
 -- the fault of a run that stopped
 abbrev pub fault_of : Stop → RunFault

@@ -1,5 +1,5 @@
 -- The exit statuses of the program.
-use Rattle.std.specs.Prelude.{ℕ, Result, Ok, Err}
+use Rattle.std.specs.Prelude.{ℕ, Bool, true, Result, Ok, Err}
 use Rattle.cics_run.specs.declared.running.Status.{Status}
 use Rattle.cics_run.specs.declared.running.Status.TheVariants as status
 use Rattle.cics_run.specs.declared.running.RunFault.{RunFault}
@@ -13,3 +13,8 @@ status_of (Err faults.NoMemory) = 3
 status_of (Err faults.ReadFault) = 4
 status_of (Err faults.WriteFault) = 4
 status_of (Err faults.InputTooLong) = 4
+
+-- the exit status of a strict run, where something is amiss or not
+abbrev pub strict_status_of : Result Status RunFault → Bool → ℕ
+strict_status_of (Ok status.Done) true = 5
+strict_status_of result amiss = status_of result

@@ -1,13 +1,16 @@
 //! The program's arguments and its exit status.
 
 ghost use Rattle.std.specs.Prelude.{◌≡◌};
-ghost use Rattle.cics_run.specs.Statuses.{status_of};
+ghost use Rattle.cics_run.specs.Statuses.{status_of, strict_status_of};
 
 use crate::running::{Options, RunFault, Status, Wanted};
 use cics_names::NoMemory;
 use clap::error::ErrorKind;
 use clap::{Arg, ArgAction, Command, Error};
 use std::alloc::Global;
+
+/// The version of the product. `tools/door/version.txt` has it too.
+const VERSION: &str = "1.0.0";
 
 const ABOUT: &str = "\
 Runs a script of CICS commands on a region in memory.
@@ -28,12 +31,28 @@ the units of work that committed did to recoverable files and queues, one unit
 after the other in the order of the commits; behind them the units that are open.
 It leaves recoverable files and queues as the run has left them.
 
+The picture has a row for each line of the journal and a lane for each of the
+first sixteen tasks, with a mark for each event and an arrow from each wait to
+the task that is waited for. It is written when the whole script is run.
+
 Exit status:
-  0  the whole script was run, or this help was printed
+  0  the whole script was run, or the help or the version was printed
   1  a line of the script is at fault: the journal ends with that line's fault
   2  the arguments are wrong
   3  there is no memory
-  4  a read or a write failed, or the script has more than 16,777,216 bytes
+  4  a read or a write failed, the script has more than 16,777,216 bytes, or a
+     picture would have more than 100,000 events
+  5  with --strict: the whole script was run, and an event was refused, a task was
+     abended by a condition or a time-out, or a task still waits at the end
+
+Each option, from the root of the repository:
+  bin/cicsrun < examples/lost-update.cics
+  bin/cicsrun --no-list < examples/lost-update.cics
+  bin/cicsrun --replay < examples/rollback.cics
+  bin/cicsrun --serial < examples/turns.cics
+  bin/cicsrun --strict < examples/deadlock.cics
+  bin/cicsrun --picture < examples/deadlock.cics > deadlock.svg
+The language of a script: docs/LANGUAGE.md.
 
 Example, from the root of the repository. T2 waits for the record until T1 has
 taken its delete back by a rollback:
@@ -51,12 +70,16 @@ END";
 /// What a command line asks for.
 ///
 /// - `Run`: a run of a script.
-/// - `Help`: the help, which is to go to standard output.
+/// - `Strict`: a run that ends with a status of its own if something is amiss (`strict_status`).
+/// - `Picture`: the picture of a run.
+/// - `Help`: the help or the version, which is to go to standard output.
 /// - `Bad`: nothing that the program knows. The text says what is wrong, and is to go to standard
 ///   error.
 #[derive(Drop)]
 pub enum Asked {
     Run(Wanted),
+    Strict(Wanted),
+    Picture,
     Help(String),
     Bad(String),
 }
@@ -64,21 +87,44 @@ pub enum Asked {
 /// Reads the words of a command line, of which the first is the program's name.
 ///
 /// The options are `--no-list`, which leaves out the listing, `--replay`, which asks for the replay
-/// behind it, `--serial`, which asks for the serial run behind both, and `--help` (or `-h`). An
-/// option that is given twice is bad, and so is every other word but a `--`, behind which no option
-/// may stand. It is refused for want of memory alone.
+/// after it, `--serial`, which asks for the serial run after both, `--with-script`, which asks for
+/// each line of the script in front of what it led to, `--strict`, `--picture`, which asks for a
+/// picture in place of all that, `--version` (or `-V`) and `--help` (or `-h`). An option that is
+/// given twice is bad, so is `--serial` beside `--with-script`, so is another one beside
+/// `--picture`, and so is every other word but a `--`, after which no option may stand. It is
+/// refused for want of memory alone.
 pub fn arguments(alloc: Global, words: Vec<String>) -> Result<Asked, NoMemory> {
-    match wanted(alloc, &words) {
-        Ok(wanted) => Ok(Asked::Run(wanted)),
+    match asked_run(alloc, &words) {
+        Ok(asked) => Ok(asked),
         Err(error) => match error.kind() {
-            ErrorKind::DisplayHelp => Ok(Asked::Help(error.to_string(alloc)?)),
+            ErrorKind::DisplayHelp | ErrorKind::DisplayVersion => {
+                Ok(Asked::Help(error.to_string(alloc)?))
+            }
             ErrorKind::OutOfMemory => Err(NoMemory),
+            ErrorKind::UnknownArgument => {
+                Ok(Asked::Bad(with_tip(alloc, &error.to_string(alloc)?)?))
+            }
             _ => Ok(Asked::Bad(error.to_string(alloc)?)),
         },
     }
 }
 
-fn wanted(alloc: Global, words: &[String]) -> Result<Wanted, Error> {
+const UNKNOWN: &str = "error: unexpected argument '";
+
+// The message on a word that isn't known. One that may name a file is told how to hand it over.
+fn with_tip(alloc: Global, text: &str) -> Result<String, NoMemory> {
+    let named = text
+        .strip_prefix(UNKNOWN)
+        .and_then(|rest| rest.split_once("' found\n"));
+    match named {
+        Some((word, behind)) if !word.is_empty() && !word.starts_with('-') => Ok(format!(in alloc;
+            "{UNKNOWN}{word}' found\n\n  tip: a script is standard input: use < {word}\n{behind}"
+        )?),
+        _ => Ok(text.to_string(alloc)?),
+    }
+}
+
+fn asked_run(alloc: Global, words: &[String]) -> Result<Asked, Error> {
     let no_list = Arg::new(alloc, "no-list")
         .long("no-list")
         .action(ArgAction::SetTrue)
@@ -91,21 +137,51 @@ fn wanted(alloc: Global, words: &[String]) -> Result<Wanted, Error> {
         .long("serial")
         .action(ArgAction::SetTrue)
         .help("Print the serial run behind the listing and the replay");
+    let with_script = Arg::new(alloc, "with-script")
+        .long("with-script")
+        .action(ArgAction::SetTrue)
+        .conflicts_with("serial")?
+        .help("Print each line of the script in front of what it led to");
+    let strict = Arg::new(alloc, "strict")
+        .long("strict")
+        .action(ArgAction::SetTrue)
+        .help("End with status 5 if something is amiss");
+    let picture = Arg::new(alloc, "picture")
+        .long("picture")
+        .action(ArgAction::SetTrue)
+        .conflicts_with("no-list")?
+        .conflicts_with("replay")?
+        .conflicts_with("serial")?
+        .conflicts_with("with-script")?
+        .conflicts_with("strict")?
+        .help("Print a picture of the run (SVG) in place of all that");
     let command = Command::new(alloc, "cicsrun")
+        .version(VERSION)
         .about(ABOUT)
         .after_help(MORE)
         .arg(no_list)?
         .arg(replay)?
-        .arg(serial)?;
+        .arg(serial)?
+        .arg(with_script)?
+        .arg(strict)?
+        .arg(picture)?;
     let matches = command.try_get_matches_from(words)?;
+    if matches.get_flag("picture") {
+        return Ok(Asked::Picture);
+    }
     let options = Options {
         replay: matches.get_flag("replay"),
         no_list: matches.get_flag("no-list"),
     };
-    Ok(Wanted {
+    let wanted = Wanted {
         options,
         serial: matches.get_flag("serial"),
-    })
+        with_script: matches.get_flag("with-script"),
+    };
+    if matches.get_flag("strict") {
+        return Ok(Asked::Strict(wanted));
+    }
+    Ok(Asked::Run(wanted))
 }
 
 /// The exit status that tells the answer of a run: 0 done, 1 a fault of a line or a definition, 3
@@ -118,5 +194,16 @@ pub fn exit_status(answer: &Result<Status, RunFault>) -> u8
         Ok(Status::LineFault) => 1,
         Err(RunFault::NoMemory) => 3,
         Err(_) => 4,
+    }
+}
+
+/// The exit status of a strict run: 5 if it is done and something is amiss, else as `exit_status`
+/// says.
+pub fn strict_status(answer: &Result<Status, RunFault>, is_amiss: bool) -> u8
+    ensures { result ≡ strict_status_of answer.now is_amiss }
+{
+    match answer {
+        Ok(Status::Done) if is_amiss => 5,
+        _ => exit_status(answer),
     }
 }

@@ -6,12 +6,21 @@ ghost use Rattle.cics_run.specs.Journal.{abend_text, outcome_text, attached_line
 ghost use Rattle.cics_run.specs.Journal.{woken_line, expired_line, clock_line, clock_refused_line};
 ghost use Rattle.cics_run.specs.Journal.{shutdown_line, shutdown_refused_line, refusal_title};
 ghost use Rattle.cics_run.specs.Journal.{refusal_text, refused_line, define_title};
-ghost use Rattle.cics_run.specs.Journal.{define_fault_line, line_fault_line};
+ghost use Rattle.cics_run.specs.Journal.{define_fault_line, line_fault_line, script_line};
 
 use cics_dispatch::{Expired, Number, Outcome, Refused, Reply, Woken};
 use cics_names::{AbendCode, Condition, Name4, Name8, NoMemory, Record};
 use cics_script::{LineFault, push_bare, push_name, push_number, push_str, push_text};
 use cics_units::DefineFault;
+
+/// A line of the script, in front of what it led to.
+pub fn push_script_line(out: &mut Vec<u8>, line: &[u8]) -> Result<(), NoMemory>
+    ensures { OnOk result (out.new.items ≡ out.old.items ++ script_line line.now) }
+{
+    push_str(out, "> ")?;
+    out.extend_from_slice(line)?;
+    push_str(out, "\n")
+}
 
 /// A task was attached, for a transaction.
 pub fn push_attached(out: &mut Vec<u8>, label: Name8, transaction: Name4) -> Result<(), NoMemory>

@@ -4,7 +4,7 @@ ghost use Rattle.std.specs.Prelude.{◌≡◌, None};
 ghost use Rattle.cics_run.specs.Streams.{Rises, RisesAtMost};
 ghost use Rattle.cics_run.specs.Running.{RunsOver, without_serial, most_reads, failed_reads_of};
 ghost use Rattle.cics_run.specs.Running.{failed_writes_of};
-ghost use Rattle.cics_run.specs.Standing.{IsNew, ended, fault_of};
+ghost use Rattle.cics_run.specs.Standing.{IsNew, KeepsFault, ended, fault_of};
 
 use crate::session::Session;
 use crate::streams::{Sink, Source};
@@ -55,12 +55,14 @@ pub struct Options {
     pub no_list: bool,
 }
 
-/// What the program prints: the options of a run, and the serial run.
+/// What the program prints: the options of a run, the serial run, and the script.
 #[derive(Clone, Copy, Debug, PartialEq, Eq)]
 pub struct Wanted {
     pub options: Options,
     /// Print the serial run behind the listing and the replay.
     pub serial: bool,
+    /// Print each line of the script in front of what it leads to.
+    pub with_script: bool,
 }
 
 /// Runs the script that a reader gives, and writes its journal and what follows it.
@@ -79,6 +81,7 @@ pub fn run<R: Read, W: Write>(
     let wanted = Wanted {
         options,
         serial: false,
+        with_script: false,
     };
     let mut session = Session::new(alloc);
     run_over(&mut session, reader, writer, wanted)
@@ -92,8 +95,8 @@ pub fn run<R: Read, W: Write>(
 /// Returns how the run ended, or why it stopped: `Status` and `RunFault` say what is written then.
 /// It returns a read or a write fault only if that very call failed, and tries none again.
 ///
-/// The session is a new one, and is left to its owner, who drops it. A process that ends right
-/// after the run may forget it.
+/// The session is a new one, and is left to its owner, who drops it. After a fault it keeps the
+/// line that has it. A process that ends right after the run may forget it.
 pub fn run_over<S: Source, K: Sink>(
     session: &mut Session,
     source: &mut S,
@@ -106,9 +109,12 @@ pub fn run_over<S: Source, K: Sink>(
     ensures write_faults { Rises (K.failed sink.old) (K.failed sink.new)
         (failed_writes_of result) }
     ensures asked { RisesAtMost (S.asked source.old) (S.asked source.new) most_reads }
+    ensures kept { KeepsFault (S.remaining source.old) (S.remaining source.new) session.new
+        result }
     ensures whole_run { RunsOver wanted (S.remaining source.old) (S.remaining source.new)
         (S.last source.new) (K.contents sink.old) (K.contents sink.new) result }
 {
+    session.with_script = wanted.with_script;
     let mut buffer = [0u8; CHUNK];
     let mut room = LIMIT;
     'reads: loop {

@@ -1,24 +1,28 @@
 //! A run between two reads.
 
 ghost use Rattle.std.specs.Prelude.{◌≡◌, true, false, [], ◌++◌, ◌+◌, ◌<◌, ◌≤◌, ◌^◌, length};
-ghost use Rattle.std.specs.Prelude.{if◌then◌else◌};
+ghost use Rattle.std.specs.Prelude.{if◌then◌else◌, is_some};
 ghost use Rattle.std.specs.Prelude.{IfOk, OnOk, OnErr};
 ghost use Rattle.std.specs.List.{prefix_len, list_all};
 ghost use Rattle.std.specs.Io.BufRead.{strip_last};
 ghost use Rattle.cics_run.specs.Lines.{is_in_line};
-ghost use Rattle.cics_run.specs.Stages.{step, listing_at, replay_at, serial_at};
+ghost use Rattle.cics_run.specs.Journal.{script_line};
+ghost use Rattle.cics_run.specs.Stages.{listing_at, replay_at, serial_at};
 ghost use Rattle.cics_run.specs.declared.stage.Stage.TheVariants.{Running};
 ghost use Rattle.cics_run.specs.Printing.{AppendsFront, Prints, stopped_writes};
 ghost use Rattle.cics_run.specs.Streams.{Rises};
 ghost use Rattle.std.specs.Io.KnownBytes.{Appends};
 ghost use Rattle.cics_run.specs.Running.{ending};
-ghost use Rattle.cics_run.specs.Standing.{IsNew, line_step, WhereverStands, Feeds, Writes};
-ghost use Rattle.cics_run.specs.Standing.{Closes, Finishes};
+ghost use Rattle.cics_run.specs.Standing.{IsNew, Ran, ended_line, next_text, WhereverStands};
+ghost use Rattle.cics_run.specs.Standing.{Feeds, Writes, Closes, Finishes};
+ghost use Rattle.cics_run.specs.declared.running.Wanted.{Wanted};
 
+use crate::hints::Hints;
+use crate::journal::push_script_line;
 use crate::listing::{push_listing, push_replay};
 use crate::running::{Status, Wanted};
 use crate::serial::push_serial;
-use crate::stage::Stage;
+use crate::stage::{Fault, Stage};
 use crate::streams::Sink;
 use crate::writing::{Stop, write_pending, write_printed};
 use cics_dispatch::Region;
@@ -30,23 +34,25 @@ const LF: u8 = 10;
 const CR: u8 = 13;
 
 /// What the lines so far have led to, how many there were, the bytes of the next line that have
-/// come, and the text that is printed and not yet written.
+/// come, the text that is printed and not yet written, the fault of the last line, which is kept
+/// then, whether each line is printed in front of what it leads to, and hints for a person.
 #[derive(Drop)]
 pub struct Session {
     pub stage: Stage,
     pub number: u64,
     pub line: Vec<u8>,
     pub pending: Vec<u8>,
+    pub fault: Option<Fault>,
+    pub with_script: bool,
+    pub hints: Hints,
 }
 
-// A line without the CR right before its LF.
-fn without_cr(line: &[u8]) -> &[u8]
-    ensures { result.now ≡ strip_last 13 line.now }
+// Drops the CR right before a line's LF.
+fn drop_cr(line: &mut Vec<u8>)
+    ensures { line.new.items ≡ strip_last 13 line.old.items }
 {
     if !line.is_empty() && line[line.len() - 1] == CR {
-        &line[..line.len() - 1]
-    } else {
-        line
+        line.truncate(line.len() - 1);
     }
 }
 
@@ -87,32 +93,15 @@ fn line_len(bytes: &[u8]) -> usize
     }
 }
 
-// Runs a line and prints what comes of it, and tells whether that is a fault. A fault is written
-// at once.
-fn run_one<K: Sink>(
-    stage: &mut Stage,
-    number: u64,
-    line: &[u8],
-    pending: &mut Vec<u8>,
-    sink: &mut K,
-) -> Result<bool, Stop>
-    ensures stage { IfOk result (λ _. stage.new ≡ (step number stage.old line.now).stage) }
-    ensures fault { IfOk result (λ fault. fault ≡ (step number stage.old line.now).is_fault) }
-    ensures printed { OnOk result (Prints (K.contents sink.old)
-        (K.contents sink.new) pending.old.items pending.new.items
-        (step number stage.old line.now).text) }
-    ensures left { IfOk result (λ fault. fault ≡ true → pending.new.items ≡ []) }
-    ensures err { OnErr result
-        (AppendsFront (K.contents sink.old) (K.contents sink.new)
-        (pending.old.items ++ (step number stage.old line.now).text)) }
-    ensures failed { Rises (K.failed sink.old) (K.failed sink.new) (stopped_writes result) }
+// Prints a line of the script, where that is wanted.
+fn push_wanted_line(with_script: bool, line: &[u8], out: &mut Vec<u8>) -> Result<(), NoMemory>
+    ensures { OnOk result (out.new.items
+        ≡ out.old.items ++ (if with_script then script_line line.now else [])) }
 {
-    let is_fault = match stage.run_line(number, line, pending) {
-        Ok(is_fault) => is_fault,
-        Err(_) => return Err(Stop::NoMemory),
-    };
-    write_printed(pending, sink, is_fault)?;
-    Ok(is_fault)
+    if !with_script {
+        return Ok(());
+    }
+    push_script_line(out, line)
 }
 
 impl Session {
@@ -125,41 +114,69 @@ impl Session {
             number: 0,
             line: Vec::new(alloc),
             pending: Vec::new(alloc),
+            fault: None,
+            with_script: false,
+            hints: Hints::new(alloc),
         }
     }
 
     // Writes all that was printed and not yet written.
     fn write<K: Sink>(&mut self, sink: &mut K) -> Result<(), Stop>
-        ensures writes { WhereverStands (K.contents sink.old) self.old (λ bytes before.
-            Writes bytes before (K.contents sink.new) self.new result) }
+        ensures writes { (wanted : Wanted) → WhereverStands wanted (K.contents sink.old) self.old
+            (λ bytes before. Writes wanted bytes before (K.contents sink.new) self.new result) }
         ensures left { OnOk result (self.new.pending.items ≡ []) }
         ensures failed { Rises (K.failed sink.old) (K.failed sink.new) (stopped_writes result) }
     {
         write_pending(&mut self.pending, sink)
     }
 
-    // Runs the line whose LF came. A line with a fault is kept, to be told to a person.
-    fn end_line<K: Sink>(&mut self, sink: &mut K) -> Result<bool, Stop>
+    // Runs the line that is kept, prints what comes of it, and tells whether it has a fault. A
+    // fault is written at once.
+    fn run_kept<K: Sink>(&mut self, sink: &mut K) -> Result<bool, Stop>
         requires { self.old.number + 1 < 2 ^ 64 }
-        ensures stage { IfOk result (λ _. self.new.stage ≡ (line_step self.old).stage) }
-        ensures number { OnOk result (self.new.number ≡ self.old.number + 1) }
-        ensures line { IfOk result (λ fault. fault ≡ false → self.new.line.items ≡ []) }
-        ensures fault { IfOk result (λ fault. fault ≡ (line_step self.old).is_fault) }
+        ensures ran { OnOk result (Ran self.old self.old.line.items self.new) }
+        ensures line { OnOk result (self.new.line.items ≡ self.old.line.items) }
+        ensures fault { IfOk result (λ fault. fault ≡ is_some self.new.fault) }
         ensures printed { OnOk result (Prints (K.contents sink.old)
             (K.contents sink.new) self.old.pending.items self.new.pending.items
-            (line_step self.old).text) }
+            (next_text self.old self.old.line.items)) }
         ensures left { IfOk result (λ fault. fault ≡ true → self.new.pending.items ≡ []) }
         ensures err { OnErr result
             (AppendsFront (K.contents sink.old) (K.contents sink.new)
-            (self.old.pending.items ++ (line_step self.old).text)) }
+            (self.old.pending.items ++ next_text self.old self.old.line.items)) }
         ensures failed { Rises (K.failed sink.old) (K.failed sink.new) (stopped_writes result) }
     {
         self.number += 1;
-        let line = without_cr(&self.line);
-        let size = line.len();
-        let fault = run_one(&mut self.stage, self.number, line, &mut self.pending, sink)?;
-        if fault {
-            self.line.truncate(size);
+        push_wanted_line(self.with_script, &self.line, &mut self.pending)?;
+        let before = self.pending.len();
+        self.fault = self
+            .stage
+            .run_line(self.number, &self.line, &mut self.pending)?;
+        self.hints
+            .look(&self.stage, &self.line, &self.pending, before);
+        let is_fault = self.fault.is_some();
+        write_printed(&mut self.pending, sink, is_fault)?;
+        Ok(is_fault)
+    }
+
+    // Runs the line whose LF came. A line with a fault is kept, to be told to a person.
+    fn end_line<K: Sink>(&mut self, sink: &mut K) -> Result<bool, Stop>
+        requires { self.old.number + 1 < 2 ^ 64 }
+        ensures ran { OnOk result (Ran self.old (ended_line self.old) self.new) }
+        ensures line { IfOk result (λ fault. self.new.line.items
+            ≡ (if fault then ended_line self.old else [])) }
+        ensures fault { IfOk result (λ fault. fault ≡ is_some self.new.fault) }
+        ensures printed { OnOk result (Prints (K.contents sink.old)
+            (K.contents sink.new) self.old.pending.items self.new.pending.items
+            (next_text self.old (ended_line self.old))) }
+        ensures left { IfOk result (λ fault. fault ≡ true → self.new.pending.items ≡ []) }
+        ensures err { OnErr result
+            (AppendsFront (K.contents sink.old) (K.contents sink.new)
+            (self.old.pending.items ++ next_text self.old (ended_line self.old))) }
+        ensures failed { Rises (K.failed sink.old) (K.failed sink.new) (stopped_writes result) }
+    {
+        drop_cr(&mut self.line);
+        if self.run_kept(sink)? {
             return Ok(true);
         }
         self.line.clear();
@@ -170,8 +187,9 @@ impl Session {
     // one. Without a fault what was printed may wait to be written.
     fn run_lines<K: Sink>(&mut self, chunk: &[u8], sink: &mut K) -> Result<bool, Stop>
         requires { self.old.number + length chunk.now < 2 ^ 64 }
-        ensures feeds { WhereverStands (K.contents sink.old) self.old (λ bytes before.
-            Feeds (bytes ++ chunk.now) before (K.contents sink.new) self.new result) }
+        ensures feeds { (wanted : Wanted) → WhereverStands wanted (K.contents sink.old) self.old
+            (λ bytes before. Feeds wanted (bytes ++ chunk.now) before (K.contents sink.new) self.new
+            result) }
         ensures failed { Rises (K.failed sink.old) (K.failed sink.new) (stopped_writes result) }
     {
         let mut rest = chunk;
@@ -197,8 +215,9 @@ impl Session {
     /// On `Stop` the first part of the text is written.
     pub(crate) fn feed<K: Sink>(&mut self, chunk: &[u8], sink: &mut K) -> Result<bool, Stop>
         requires { self.old.number + length chunk.now < 2 ^ 64 }
-        ensures feeds { WhereverStands (K.contents sink.old) self.old (λ bytes before.
-            Feeds (bytes ++ chunk.now) before (K.contents sink.new) self.new result) }
+        ensures feeds { (wanted : Wanted) → WhereverStands wanted (K.contents sink.old) self.old
+            (λ bytes before. Feeds wanted (bytes ++ chunk.now) before (K.contents sink.new) self.new
+            result) }
         ensures left { IfOk result (λ fault. fault ≡ false → self.new.pending.items ≡ []) }
         ensures failed { Rises (K.failed sink.old) (K.failed sink.new) (stopped_writes result) }
     {
@@ -215,23 +234,15 @@ impl Session {
     // Runs the last line where it lacks its LF.
     fn end_input<K: Sink>(&mut self, sink: &mut K) -> Result<bool, Stop>
         requires { self.old.number + 1 < 2 ^ 64 }
-        ensures closes { WhereverStands (K.contents sink.old) self.old (λ bytes before.
-            Closes bytes before (K.contents sink.new) self.new.pending.items self.new.stage
-            result) }
+        ensures closes { (wanted : Wanted) → WhereverStands wanted (K.contents sink.old) self.old
+            (λ bytes before. Closes wanted bytes before (K.contents sink.new) self.new result) }
         ensures left { IfOk result (λ fault. fault ≡ true → self.new.pending.items ≡ []) }
         ensures failed { Rises (K.failed sink.old) (K.failed sink.new) (stopped_writes result) }
     {
         if self.line.is_empty() {
             return Ok(false);
         }
-        self.number += 1;
-        run_one(
-            &mut self.stage,
-            self.number,
-            &self.line,
-            &mut self.pending,
-            sink,
-        )
+        self.run_kept(sink)
     }
 
     /// Runs the last line if it lacks its LF, and if that is no fault, writes what is wanted of the
@@ -239,8 +250,8 @@ impl Session {
     /// first part of the output is written.
     pub(crate) fn finish<K: Sink>(&mut self, wanted: Wanted, sink: &mut K) -> Result<Status, Stop>
         requires { self.old.number + 1 < 2 ^ 64 }
-        ensures finishes { WhereverStands (K.contents sink.old) self.old (λ bytes before.
-            Finishes wanted bytes before (K.contents sink.new) result) }
+        ensures finishes { WhereverStands wanted (K.contents sink.old) self.old (λ bytes before.
+            Finishes wanted bytes before (K.contents sink.new) self.new result) }
         ensures failed { Rises (K.failed sink.old) (K.failed sink.new) (stopped_writes result) }
     {
         match self.end_input(sink) {

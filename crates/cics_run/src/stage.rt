@@ -1,16 +1,16 @@
 //! What the lines of a script lead to.
 
-ghost use Rattle.std.specs.Prelude.{◌≡◌, ◌++◌, List, ℕ, OnOk, OnErr, IfOk, Ok, Option, true};
+ghost use Rattle.std.specs.Prelude.{◌≡◌, ◌++◌, List, ℕ, OnOk, OnErr, IfOk, Ok, Option, Some};
 ghost use Rattle.cics_history.specs.Openings.{OpeningState};
 ghost use Rattle.cics_units.specs.Faults.{AnswersFault};
 ghost use Rattle.cics_units.specs.declared.opening.DefineFault.{DefineFault};
-ghost use Rattle.cics_run.specs.Journal.{line_fault_line, attached_line, outcome_line};
+ghost use Rattle.cics_run.specs.Journal.{attached_line, outcome_line};
 ghost use Rattle.cics_run.specs.Journal.{refused_line, clock_line, clock_refused_line};
 ghost use Rattle.cics_run.specs.Journal.{shutdown_line, shutdown_refused_line};
 ghost use Rattle.cics_run.specs.Stages.{first_stage, region_of, file_defined, prefix_defined};
 ghost use Rattle.cics_run.specs.Stages.{queue_defined, file_loaded, queue_loaded, event};
 ghost use Rattle.cics_run.specs.Stages.{task_attached, clock_moved, command_issued, region_shut};
-ghost use Rattle.cics_run.specs.Stages.{followed, step};
+ghost use Rattle.cics_run.specs.Stages.{fault_line, followed, step};
 ghost use Rattle.cics_run.specs.Stages.{defined, told_line, IsAnswered, Leads, Happens};
 ghost use Rattle.cics_run.specs.declared.stage.Stage.TheVariants.{Opening as OpeningStage, Running};
 
@@ -28,6 +28,15 @@ use cics_units::{DefineFault, Opening};
 use std::alloc::Global;
 use std::mem::replace;
 
+/// Why a line ends the run.
+#[derive(Clone, Copy, Debug, PartialEq, Eq)]
+pub enum Fault {
+    /// The line can't be read, or stands where it may not.
+    Line(LineFault),
+    /// What the line defines or loads is refused.
+    Definition(DefineFault),
+}
+
 /// Definitions, until the first line that is neither blank nor one; then a region.
 #[derive(Drop)]
 pub enum Stage {
@@ -43,31 +52,36 @@ impl Stage {
         Stage::Opening(Opening::new(alloc))
     }
 
-    /// Runs the line with this number, prints what comes of it, and tells whether that is a fault,
-    /// which ends the run.
+    /// Runs the line with this number, prints what comes of it, and returns its fault, which ends
+    /// the run.
     pub fn run_line(
         &mut self,
         number: u64,
         line: &[u8],
         out: &mut Vec<u8>,
-    ) -> Result<bool, NoMemory>
+    ) -> Result<Option<Fault>, NoMemory>
         ensures { Leads (step number self.old line.now) self.new out.old.items out.new.items
             result }
     {
         match read_line(*out.allocator(), line) {
             Ok(line) => self.follow(number, line, out),
             Err(LineFault::NoMemory) => Err(NoMemory),
-            Err(fault) => print_fault(number, fault, out),
+            Err(fault) => print_fault(number, Fault::Line(fault), out),
         }
     }
 
     // Runs a line that was read.
-    fn follow(&mut self, number: u64, line: Line, out: &mut Vec<u8>) -> Result<bool, NoMemory>
+    fn follow(
+        &mut self,
+        number: u64,
+        line: Line,
+        out: &mut Vec<u8>,
+    ) -> Result<Option<Fault>, NoMemory>
         ensures { Leads (followed number self.old (Ok line)) self.new out.old.items
             out.new.items result }
     {
         match line {
-            Line::Blank => Ok(false),
+            Line::Blank => Ok(None),
             Line::DefineFile(name, definition) => self.define_file(number, name, definition, out),
             Line::DefineTsPrefix(prefix) => self.define_prefix(number, prefix, out),
             Line::DefineTd(name, recovery) => self.define_queue(number, name, recovery, out),
@@ -90,7 +104,7 @@ impl Stage {
         name: Name8,
         definition: FileDef,
         out: &mut Vec<u8>,
-    ) -> Result<bool, NoMemory>
+    ) -> Result<Option<Fault>, NoMemory>
         ensures { Leads (file_defined number self.old name definition) self.new out.old.items
             out.new.items result }
     {
@@ -98,7 +112,7 @@ impl Stage {
             Stage::Opening(opening) => {
                 print_definition(number, opening.define_file(name, definition), out)
             }
-            Stage::Running(_) => print_fault(number, LineFault::DefineTooLate, out),
+            Stage::Running(_) => print_fault(number, Fault::Line(LineFault::DefineTooLate), out),
         }
     }
 
@@ -107,7 +121,7 @@ impl Stage {
         number: u64,
         prefix: Name8,
         out: &mut Vec<u8>,
-    ) -> Result<bool, NoMemory>
+    ) -> Result<Option<Fault>, NoMemory>
         ensures { Leads (prefix_defined number self.old prefix) self.new out.old.items out.new.items
             result }
     {
@@ -115,7 +129,7 @@ impl Stage {
             Stage::Opening(opening) => {
                 print_definition(number, opening.define_ts_prefix(prefix), out)
             }
-            Stage::Running(_) => print_fault(number, LineFault::DefineTooLate, out),
+            Stage::Running(_) => print_fault(number, Fault::Line(LineFault::DefineTooLate), out),
         }
     }
 
@@ -125,7 +139,7 @@ impl Stage {
         name: Name4,
         recovery: Recovery,
         out: &mut Vec<u8>,
-    ) -> Result<bool, NoMemory>
+    ) -> Result<Option<Fault>, NoMemory>
         ensures { Leads (queue_defined number self.old name recovery) self.new out.old.items
             out.new.items result }
     {
@@ -133,7 +147,7 @@ impl Stage {
             Stage::Opening(opening) => {
                 print_definition(number, opening.define_td(name, recovery), out)
             }
-            Stage::Running(_) => print_fault(number, LineFault::DefineTooLate, out),
+            Stage::Running(_) => print_fault(number, Fault::Line(LineFault::DefineTooLate), out),
         }
     }
 
@@ -143,7 +157,7 @@ impl Stage {
         name: Name8,
         content: Record,
         out: &mut Vec<u8>,
-    ) -> Result<bool, NoMemory>
+    ) -> Result<Option<Fault>, NoMemory>
         ensures { Leads (file_loaded number self.old name content) self.new out.old.items
             out.new.items result }
     {
@@ -151,7 +165,7 @@ impl Stage {
             Stage::Opening(opening) => {
                 print_definition(number, opening.load_file(name, content), out)
             }
-            Stage::Running(_) => print_fault(number, LineFault::DefineTooLate, out),
+            Stage::Running(_) => print_fault(number, Fault::Line(LineFault::DefineTooLate), out),
         }
     }
 
@@ -161,7 +175,7 @@ impl Stage {
         name: Name4,
         content: Record,
         out: &mut Vec<u8>,
-    ) -> Result<bool, NoMemory>
+    ) -> Result<Option<Fault>, NoMemory>
         ensures { Leads (queue_loaded number self.old name content) self.new out.old.items
             out.new.items result }
     {
@@ -169,7 +183,7 @@ impl Stage {
             Stage::Opening(opening) => {
                 print_definition(number, opening.load_td(name, content), out)
             }
-            Stage::Running(_) => print_fault(number, LineFault::DefineTooLate, out),
+            Stage::Running(_) => print_fault(number, Fault::Line(LineFault::DefineTooLate), out),
         }
     }
 
@@ -179,7 +193,7 @@ impl Stage {
         transaction: Name4,
         dtimout: u64,
         out: &mut Vec<u8>,
-    ) -> Result<bool, NoMemory>
+    ) -> Result<Option<Fault>, NoMemory>
         ensures { Leads (task_attached (region_of self.old).machine label transaction dtimout)
             self.new out.old.items out.new.items result }
     {
@@ -188,10 +202,10 @@ impl Stage {
             Stage::Running(region) => attach(region, label, transaction, dtimout, out)?,
             Stage::Opening(_) => unreachable!(),
         }
-        Ok(false)
+        Ok(None)
     }
 
-    fn set_clock(&mut self, seconds: u64, out: &mut Vec<u8>) -> Result<bool, NoMemory>
+    fn set_clock(&mut self, seconds: u64, out: &mut Vec<u8>) -> Result<Option<Fault>, NoMemory>
         ensures { Leads (clock_moved (region_of self.old).machine seconds) self.new out.old.items
             out.new.items result }
     {
@@ -200,10 +214,15 @@ impl Stage {
             Stage::Running(region) => set_clock(region, seconds, out)?,
             Stage::Opening(_) => unreachable!(),
         }
-        Ok(false)
+        Ok(None)
     }
 
-    fn issue(&mut self, label: Name8, command: Command, out: &mut Vec<u8>) -> Result<bool, NoMemory>
+    fn issue(
+        &mut self,
+        label: Name8,
+        command: Command,
+        out: &mut Vec<u8>,
+    ) -> Result<Option<Fault>, NoMemory>
         ensures { Leads (command_issued (region_of self.old).machine label command) self.new
             out.old.items out.new.items result }
     {
@@ -212,10 +231,10 @@ impl Stage {
             Stage::Running(region) => issue(region, label, command, out)?,
             Stage::Opening(_) => unreachable!(),
         }
-        Ok(false)
+        Ok(None)
     }
 
-    fn shutdown(&mut self, out: &mut Vec<u8>) -> Result<bool, NoMemory>
+    fn shutdown(&mut self, out: &mut Vec<u8>) -> Result<Option<Fault>, NoMemory>
         ensures { Leads (region_shut (region_of self.old).machine) self.new out.old.items
             out.new.items result }
     {
@@ -224,7 +243,7 @@ impl Stage {
             Stage::Running(region) => shutdown(region, out)?,
             Stage::Opening(_) => unreachable!(),
         }
-        Ok(false)
+        Ok(None)
     }
 
     /// Makes the region of the definitions, where there is none yet. Without memory the definitions
@@ -265,33 +284,33 @@ impl Stage {
 
 // Prints the fault of a line.
 #[cold]
-fn print_fault(number: u64, fault: LineFault, out: &mut Vec<u8>) -> Result<bool, NoMemory>
-    ensures text { OnOk result (out.new.items ≡ out.old.items ++ line_fault_line number fault) }
-    ensures fault { IfOk result (λ is_fault. is_fault ≡ true) }
+fn print_fault(number: u64, fault: Fault, out: &mut Vec<u8>) -> Result<Option<Fault>, NoMemory>
+    ensures text { OnOk result (out.new.items ≡ out.old.items ++ fault_line number fault) }
+    ensures fault { IfOk result (λ printed. printed ≡ Some fault) }
 {
-    push_line_fault(out, number, fault)?;
-    Ok(true)
+    match fault {
+        Fault::Line(fault) => push_line_fault(out, number, fault)?,
+        Fault::Definition(fault) => push_define_fault(out, number, fault)?,
+    }
+    Ok(Some(fault))
 }
 
-// Prints the fault of a definition, if it has one, and tells whether it has. The clause speaks of
-// the opening that the definition left, `now`.
+// Prints the fault of a definition, if it has one, and returns it. The clause speaks of the opening
+// that the definition left, `now`.
 fn print_definition(
     number: u64,
     answer: Result<(), DefineFault>,
     out: &mut Vec<u8>,
-) -> Result<bool, NoMemory>
+) -> Result<Option<Fault>, NoMemory>
     ensures { (o next now : OpeningState) (fault : Option DefineFault)
         → AnswersFault answer fault → OnOk answer (now ≡ next) → OnErr answer (now ≡ o)
         → Leads (defined number o fault next) (OpeningStage now) out.old.items out.new.items
         result }
 {
     match answer {
-        Ok(()) => Ok(false),
+        Ok(()) => Ok(None),
         Err(DefineFault::NoMemory) => Err(NoMemory),
-        Err(fault) => {
-            push_define_fault(out, number, fault)?;
-            Ok(true)
-        }
+        Err(fault) => print_fault(number, Fault::Definition(fault), out),
     }
 }
 

@@ -4,6 +4,7 @@ ghost use Rattle.std.specs.Prelude.{◌≡◌, ◌++◌, [], true, OnOk, OnErr};
 ghost use Rattle.std.specs.Io.KnownBytes.{Appends};
 ghost use Rattle.cics_run.specs.Printing.{AppendsFront, Prints, stopped_writes};
 ghost use Rattle.cics_run.specs.Streams.{Rises};
+ghost use Rattle.cics_run.specs.declared.writing.Stop.TheVariants as stops;
 
 use crate::streams::Sink;
 use cics_names::NoMemory;
@@ -21,9 +22,9 @@ pub enum Stop {
 }
 
 impl From<NoMemory> for Stop {
-    fn from(_error: NoMemory) -> Stop
-        ensures { result ≡ Stop.NoMemory }
-    {
+    ghost from_gives = { λ _ e. e ≡ stops.NoMemory };
+
+    fn from(_error: NoMemory) -> Stop {
         Stop::NoMemory
     }
 }

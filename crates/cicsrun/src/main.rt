@@ -1,8 +1,11 @@
-//! Runs the script on standard input, and prints its journal and listing on standard output.
+//! Runs the script on standard input, and prints its journal and listing, or a picture of it, on
+//! standard output.
 #![tactic(auto)]
 
+use cics_draw::{NoPicture, run_picture};
 use cics_run::{
-    Asked, RunFault, Session, Status, Wanted, arguments, exit_status, run_over, told_of,
+    Asked, RunFault, Session, Status, Wanted, Watched, arguments, exit_status, is_left_waiting,
+    run_over, strict_status, told_at_end, told_of,
 };
 use std::io::ErrorKind;
 use std::mem;
@@ -10,11 +13,19 @@ use std::process::ExitCode;
 
 const BAD_ARGUMENTS: u8 = 2;
 
+const TOO_MANY_EVENTS: u8 = 4;
+
 fn main(rt: HostRuntime) -> ExitCode {
     match asked(rt) {
-        Ok(Asked::Run(wanted)) => match run_to_the_end(rt, wanted) {
+        Ok(Asked::Run(wanted)) => ended(rt, run_to_the_end(rt, wanted)),
+        Ok(Asked::Strict(wanted)) => ended(rt, run_strictly(rt, wanted)),
+        Ok(Asked::Picture) => match draw_to_the_end(rt) {
+            Err(NoPicture::TooManyEvents) => {
+                let _ = eprintln!(rt; "cicsrun: {}", NoPicture::TooManyEvents);
+                ExitCode::from(TOO_MANY_EVENTS)
+            }
+            Err(NoPicture::Stopped(fault)) => stopped(rt, fault),
             Ok(status) => ExitCode::from(exit_status(&Ok(status))),
-            Err(fault) => stopped(rt, fault),
         },
         Ok(Asked::Help(text)) => match print!(rt; "{text}") {
             Ok(()) => ExitCode::SUCCESS,
@@ -28,25 +39,61 @@ fn main(rt: HostRuntime) -> ExitCode {
     }
 }
 
-// Runs the script on standard input. The process ends right after the run. So its memory isn't
-// given back piece by piece, which would take up to a tenth of the time.
-fn run_to_the_end(rt: HostRuntime, wanted: Wanted) -> Result<Status, RunFault> {
+// Runs the script on standard input, and returns the exit status. The process ends right after the
+// run. So its memory isn't given back piece by piece, which would take up to a tenth of the time.
+fn run_to_the_end(rt: HostRuntime, wanted: Wanted) -> Result<u8, RunFault> {
     let mut session = Session::new(rt.alloc());
     let answer = run_over(&mut session, &mut rt.stdin(), &mut rt.stdout(), wanted);
-    if let Ok(Status::LineFault) = answer {
-        tell(rt, &mut session);
+    if let Ok(status) = answer {
+        tell(rt, &mut session, status);
+    }
+    mem::forget(session);
+    Ok(exit_status(&Ok(answer?)))
+}
+
+// The same of a strict run.
+fn run_strictly(rt: HostRuntime, wanted: Wanted) -> Result<u8, RunFault> {
+    let mut session = Session::new(rt.alloc());
+    let mut journal = Watched::new(rt.stdout());
+    let answer = run_over(&mut session, &mut rt.stdin(), &mut journal, wanted);
+    if let Ok(status) = answer {
+        tell(rt, &mut session, status);
+    }
+    let is_amiss = journal.is_amiss() || is_left_waiting(&session);
+    mem::forget(session);
+    Ok(strict_status(&Ok(answer?), is_amiss))
+}
+
+// Draws the script on standard input. The process ends right after it, as after a run.
+fn draw_to_the_end(rt: HostRuntime) -> Result<Status, NoPicture> {
+    let mut session = Session::new(rt.alloc());
+    let answer = run_picture(&mut session, &mut rt.stdin(), &mut rt.stdout());
+    if let Ok(status) = answer {
+        tell(rt, &mut session, status);
     }
     mem::forget(session);
     answer
 }
 
-// Says on standard error what the faulty line needs, at which a run ended. Without memory it says
-// nothing: the journal has the fault.
-fn tell(rt: HostRuntime, session: &mut Session) {
-    if let Ok(text) = told_of(rt.alloc(), session) {
+// Says on standard error what a run leaves a person to know: what its faulty line needs, or which
+// deadlocks it ended in. Without memory it says nothing: the journal and the listing have it.
+fn tell(rt: HostRuntime, session: &mut Session, status: Status) {
+    let told = match status {
+        Status::LineFault => told_of(rt.alloc(), session),
+        Status::Done => told_at_end(rt.alloc(), session),
+    };
+    if let Ok(text) = told {
         if let Ok(text) = std::str::from_utf8(&text) {
             let _ = eprint!(rt; "{text}");
         }
+    }
+}
+
+// The exit status of a run. If it stopped, it says why on standard error.
+fn ended(rt: HostRuntime, status: Result<u8, RunFault>) -> ExitCode {
+    match status {
+        Ok(status) => ExitCode::from(status),
+        Err(fault) => stopped(rt, fault),
     }
 }
 

@@ -113,6 +113,7 @@ fn try_source<S: Source>(
     let wanted = Wanted {
         options: NOTHING,
         serial: false,
+        with_script: false,
     };
     let mut session = Session::new(rt.alloc());
     let answer = run_over(&mut session, source, &mut page, wanted);

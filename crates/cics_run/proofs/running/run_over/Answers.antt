@@ -1,16 +1,16 @@
-use Rattle.std.proofs.Common.{arith, ◌≡◌, false, [], ◌++◌, ◌+◌, ◌<◌, ◌≤◌, length, take, drop, length-append, subst, sym, length-take-le, length-take, length-drop}
+use Rattle.std.proofs.Common.{arith, refl, ◌≡◌, false, [], ◌++◌, ◌+◌, ◌<◌, ◌≤◌, length, take, drop, length-append, subst, sym, length-take-le, length-take, length-drop}
 use Rattle.std.specs.Io.KnownBytes.{Appends}
 use Rattle.cics_run.specs.Running.{journal, is_stopped}
 use Rattle.cics_run.specs.declared.running.TheConstants.{LIMIT}
-use Rattle.cics_run.proofs.Known.{consumes-append}
-use Rattle.cics_run.proofs.Counting.{rises-first, rises-rises}
-use Rattle.cics_run.proofs.Reading.{number-bound, front-of, chunk-length, within-chunk, reads-going, reads-chunk, stopped-output, all-written, read_more, read_nothing, one_more, runs-stop, runs-ended}
+use Rattle.cics_run.proofs.Known.{consumes-append, consumes-nothing}
+use Rattle.cics_run.proofs.Counting.{rises-first, rises-rises, rises-nothing}
+use Rattle.cics_run.proofs.Reading.{number-bound, front-of, chunk-length, within-chunk, reads-going, reads-chunk, stopped-output, stopped-keeps, ended-keeps, stands-new, all-written, read_more, read_nothing, one_more, runs-stop, runs-ended}
 use Rattle.cics_run.proofs.running.run_over.Goals as goal
 
 pub finish-requires : goal.finish-requires
 finish-requires g c =
     let (bytes, read, at, none, counts, room, whole) = c.reads.invariant in
-    omega (arith, number-bound bytes _ _ _ at, room)
+    omega (arith, number-bound c.args.wanted bytes _ _ _ at, room)
 
 pub feed-requires : goal.feed-requires
 feed-requires g c =
@@ -18,17 +18,35 @@ feed-requires g c =
     let n = c.in-Ok.field-0 in
     let got = c.read.new.buffer in
     let fits : n ≤ length got = c.in-Ok.ensures.bound.0 in
-    rw (front-of n got (drop c.max-size.result c.reads.buffer) fits) (omega (arith, number-bound bytes _ _ _ at, room, length-take-le n got fits, fits, c.read.auto.buffer, length-take c.max-size.result c.reads.buffer, c.max-size.ensures, c.min.ensures))
+    rw (front-of n got (drop c.max-size.result c.reads.buffer) fits) (omega (arith, number-bound c.args.wanted bytes _ _ _ at, room, length-take-le n got fits, fits, c.read.auto.buffer, length-take c.max-size.result c.reads.buffer, c.max-size.ensures, c.min.ensures))
 
 pub returns-in-Ok-eq0-clause-whole_run : goal.returns-in-Ok-eq0-clause-whole_run
 returns-in-Ok-eq0-clause-whole_run g c =
     let (bytes, read, at, none, counts, room, whole) = c.reads.invariant in
     let zero = c.in-Ok-eq0.field-0-test in
     let some : 0 < length c.read.new.buffer = omega (arith, c.read.auto.buffer, length-take c.max-size.result c.reads.buffer, c.max-size.ensures, whole) in
-    rw c.ended.ensures (runs-ended c.args.wanted bytes _ _ _ _ _ c.finish.result
+    rw c.ended.ensures (runs-ended c.args.wanted bytes _ _ _ _ _ c.finish.new.self c.finish.result
     (read_nothing _ _ _ bytes c.read.new.buffer c.in-Ok-eq0.field-0 zero read c.in-Ok-eq0.ensures.bytes.0) (omega (arith, room))
     (reads-going bytes _ at.going (rw zero at c.in-Ok-eq0.ensures.last))
     (c.in-Ok-eq0.ensures.bytes.1 zero some) (c.finish.ensures.finishes bytes (g.K.Sink.contents c.args.sink.now) at))
+
+pub returns-in-Ok-eq0-clause-kept : goal.returns-in-Ok-eq0-clause-kept
+returns-in-Ok-eq0-clause-kept g c =
+    let (bytes, read, at, none, counts, room, whole) = c.reads.invariant in
+    rw c.ended.ensures (ended-keeps c.args.wanted bytes _ _ _ _ c.finish.new.self c.finish.result
+    (read_nothing _ _ _ bytes c.read.new.buffer c.in-Ok-eq0.field-0 c.in-Ok-eq0.field-0-test read c.in-Ok-eq0.ensures.bytes.0)
+    (c.finish.ensures.finishes bytes (g.K.Sink.contents c.args.sink.now) at))
+
+pub returns-in-Ok-true-clause-kept : goal.returns-in-Ok-true-clause-kept
+returns-in-Ok-true-clause-kept g c =
+    let (bytes, read, at, none, counts, room, whole) = c.reads.invariant in
+    let n = c.in-Ok.field-0 in
+    let got = c.read.new.buffer in
+    let rest = drop c.max-size.result c.reads.buffer in
+    let fits : n ≤ length got = c.in-Ok.ensures.bound.0 in
+    let now = bytes ++ take n (got ++ rest) in
+    stopped-keeps c.args.wanted now _ _ _ _ c.feed.new.self (read_more _ _ _ bytes got rest n fits read c.in-Ok.ensures.bytes.0)
+    (rw c.in-Ok-true.field-0-test at (c.in-Ok-true.ensures.feeds c.args.wanted bytes (g.K.Sink.contents c.args.sink.now) at))
 
 pub returns-in-Ok-clause-whole_run : goal.returns-in-Ok-clause-whole_run
 returns-in-Ok-clause-whole_run g c =
@@ -46,7 +64,7 @@ returns-in-Ok-clause-whole_run g c =
       (
         over,
         subst (λ b. is_stopped b ≡ false) (sym front) at.going,
-        subst (λ b. Appends (g.K.Sink.contents c.args.sink.now) (g.K.Sink.contents c.reads.sink) (journal b)) (sym front) (all-written bytes _ _ _ at none),
+        subst (λ b. Appends (g.K.Sink.contents c.args.sink.now) (g.K.Sink.contents c.reads.sink) (journal c.args.wanted b)) (sym front) (all-written c.args.wanted bytes _ _ _ at none),
       ),
     )
 
@@ -64,7 +82,7 @@ returns-in-Ok-true-clause-whole_run g c =
       read_more _ _ _ bytes got rest n fits read c.in-Ok.ensures.bytes.0,
       within-chunk bytes (take n (got ++ rest)) n c.reads.room count size.0 room,
       reads-chunk bytes (take n (got ++ rest)) _ at.going (omega (arith, count, size.1)) (rw (front-of n got rest fits) c.in-Ok.ensures.last),
-      stopped-output c.args.wanted now (g.S.Source.remaining c.read.new.self) _ _ (rw c.in-Ok-true.field-0-test at (c.in-Ok-true.ensures.feeds bytes (g.K.Sink.contents c.args.sink.now) at)),
+      stopped-output c.args.wanted now (g.S.Source.remaining c.read.new.self) _ _ c.feed.new.self (rw c.in-Ok-true.field-0-test at (c.in-Ok-true.ensures.feeds c.args.wanted bytes (g.K.Sink.contents c.args.sink.now) at)),
     )
 
 pub returns-in-Err-feed-clause-whole_run : goal.returns-in-Err-feed-clause-whole_run
@@ -79,7 +97,7 @@ returns-in-Err-feed-clause-whole_run g c =
     rw c.fault_of.ensures (runs-stop c.args.wanted (bytes ++ take n (got ++ rest)) _ _ _ _ _ c.in-Err-feed.stop (read_more _ _ _ bytes got rest n fits read c.in-Ok.ensures.bytes.0)
     (within-chunk bytes (take n (got ++ rest)) n c.reads.room count size.0 room)
     (reads-chunk bytes (take n (got ++ rest)) _ at.going (omega (arith, count, size.1)) (rw (front-of n got rest fits) c.in-Ok.ensures.last))
-    (c.in-Err-feed.ensures.feeds bytes (g.K.Sink.contents c.args.sink.now) at))
+    (c.in-Err-feed.ensures.feeds c.args.wanted bytes (g.K.Sink.contents c.args.sink.now) at))
 
 pub reads-preserved : goal.reads-preserved
 reads-preserved g c =
@@ -92,7 +110,7 @@ reads-preserved g c =
     let fit : n ≤ c.reads.room = omega (arith, fits, c.read.auto.buffer, length-take c.max-size.result c.reads.buffer, c.max-size.ensures, c.min.ensures, c.if-room-eq0.false) in (
       bytes ++ take n (got ++ rest),
       read_more _ _ _ bytes got rest n fits read c.in-Ok.ensures.bytes.0,
-      rw c.in-Ok-false.field-0-test at (c.in-Ok-false.ensures.feeds bytes (g.K.Sink.contents c.args.sink.now) at),
+      rw c.in-Ok-false.field-0-test at (c.in-Ok-false.ensures.feeds c.args.wanted bytes (g.K.Sink.contents c.args.sink.now) at),
       c.in-Ok-false.ensures.left c.in-Ok-false.field-0-test,
       (
         (reads + 1, rises-rises _ _ _ reads 1 asked c.in-Ok.ensures.asked, rw length-append (omega (arith, few, count, c.in-Ok.field-0-test.1))),
@@ -102,3 +120,14 @@ reads-preserved g c =
       rw length-append (omega (arith, room, count, fit)),
       rw length-append (omega (arith, whole, c.read.auto.buffer, length-take c.max-size.result c.reads.buffer, length-drop c.max-size.result c.reads.buffer)),
     )
+
+pub reads-init : goal.reads-init
+reads-init g c = (
+  [],
+  consumes-nothing _,
+  stands-new c.args.wanted _ _ c.requires.new,
+  c.requires.new.pending,
+  ((0, rises-nothing _, omega arith), rises-nothing _, rises-nothing _),
+  refl,
+  refl,
+)

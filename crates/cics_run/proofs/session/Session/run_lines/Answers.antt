@@ -7,29 +7,29 @@ use Rattle.cics_run.proofs.Counting.{rises-first}
 use Rattle.cics_run.proofs.session.Session.run_lines.Goals as goal
 
 pub returns-in-Err-clause-feeds : goal.returns-in-Err-clause-feeds
-returns-in-Err-clause-feeds g c bytes before at =
+returns-in-Err-clause-feeds g c wanted bytes before at =
     let (done, whole, bound, counted, stands) = c.lines.invariant in
-    subst (λ b. AppendsFront before (g.K.Sink.contents c.lines.sink) (journal b)) (some-came bytes done [] _ c.lines.rest.now c.args.chunk.now refl whole)
-    (front-here (bytes ++ done) c.lines.rest.now before _ _ (stands bytes before at))
+    subst (λ b. AppendsFront before (g.K.Sink.contents c.lines.sink) (journal wanted b)) (some-came bytes done [] _ c.lines.rest.now c.args.chunk.now refl whole)
+    (front-here wanted (bytes ++ done) c.lines.rest.now before _ _ (stands wanted bytes before at))
 
 pub returns-in_default-clause-feeds : goal.returns-in_default-clause-feeds
-returns-in_default-clause-feeds g c bytes before at =
+returns-in_default-clause-feeds g c wanted bytes before at =
     let cut = cut-line c.lines.rest.now c.split_at.result.0.now c.split_at.result.1.now _ c.line_len.ensures.value c.split_at.ensures.front c.split_at.ensures.back in
     let (done, whole, bound, counted, stands) = c.lines.invariant in
-    let came = stands-bytes (bytes ++ done) c.split_at.result.0.now before (g.K.Sink.contents c.lines.sink) c.lines.self (record c.lines.self { line = c.extend_from_slice.new.self }) cut.in_line (stands bytes before at) refl refl c.in-Ok.ensures.items refl in
+    let came = stands-bytes wanted (bytes ++ done) c.split_at.result.0.now before (g.K.Sink.contents c.lines.sink) c.lines.self (record c.lines.self { line = c.extend_from_slice.new.self }) cut.in_line (stands wanted bytes before at) refl refl c.in-Ok.ensures.items refl refl in
     let all = all-came bytes done c.split_at.result.0.now c.split_at.result.1.now c.lines.rest.now c.args.chunk.now cut.whole whole c.in_default.ensures.cases in
-    let there = subst (λ x. Stands x before (g.K.Sink.contents c.lines.sink) (record c.lines.self { line = c.extend_from_slice.new.self })) all came in
+    let there = subst (λ x. Stands wanted x before (g.K.Sink.contents c.lines.sink) (record c.lines.self { line = c.extend_from_slice.new.self })) all came in
     there
 
 pub returns-in-Ok-true-clause-feeds : goal.returns-in-Ok-true-clause-feeds
-returns-in-Ok-true-clause-feeds g c bytes before at =
+returns-in-Ok-true-clause-feeds g c wanted bytes before at =
     let cut = cut-line c.lines.rest.now c.split_at.result.0.now c.split_at.result.1.now _ c.line_len.ensures.value c.split_at.ensures.front c.split_at.ensures.back in
     let (done, whole, bound, counted, stands) = c.lines.invariant in
     let first = c.in-Some.ensures.cases.0 in
-    let came = stands-bytes (bytes ++ done) c.split_at.result.0.now before (g.K.Sink.contents c.lines.sink) c.lines.self (record c.lines.self { line = c.extend_from_slice.new.self }) cut.in_line (stands bytes before at) refl refl c.in-Ok.ensures.items refl in
+    let came = stands-bytes wanted (bytes ++ done) c.split_at.result.0.now before (g.K.Sink.contents c.lines.sink) c.lines.self (record c.lines.self { line = c.extend_from_slice.new.self }) cut.in_line (stands wanted bytes before at) refl refl c.in-Ok.ensures.items refl refl in
     let e = line-came bytes done c.split_at.result.0.now c.split_at.result.1.now c.in-Some.after.now c.lines.rest.now c.args.chunk.now c.in-Some.field-0-0.now cut.whole whole first (cut.lf _ _ first) in
-    subst (λ b. Stopped b before (g.K.Sink.contents c.end_line.new.sink)) e
-    (stopped-line ((bytes ++ done) ++ c.split_at.result.0.now) c.in-Some.after.now before _ _ _ c.end_line.new.self came c.in-Ok-true.ensures.printed (c.in-Ok-true.ensures.left c.in-Ok-true.field-0-test) (sym c.in-Ok-true.field-0-test ∙ c.in-Ok-true.ensures.fault))
+    subst (λ b. Stopped wanted b before (g.K.Sink.contents c.end_line.new.sink) c.end_line.new.self) e
+    (stopped-line wanted ((bytes ++ done) ++ c.split_at.result.0.now) c.in-Some.after.now before _ _ _ c.end_line.new.self came c.in-Ok-true.ensures.ran (rw c.in-Ok-true.field-0-test at c.in-Ok-true.ensures.line) c.in-Ok-true.ensures.printed (c.in-Ok-true.ensures.left c.in-Ok-true.field-0-test) (sym c.in-Ok-true.field-0-test ∙ c.in-Ok-true.ensures.fault))
 
 pub lines-preserved : goal.lines-preserved
 lines-preserved g c =
@@ -37,24 +37,24 @@ lines-preserved g c =
     let (done, whole, bound, counted, stands) = c.lines.invariant in
     let first = c.in-Some.ensures.cases.0 in
     let fewer = c.in-Some.ensures.cases.1 in
-    let number = c.in-Ok-false.ensures.number in
+    let number = c.in-Ok-false.ensures.ran.number in
     let within : c.end_line.new.self.number + length c.in-Some.after.now ≤ c.args.self.now.number + length c.args.chunk.now = omega (arith, number, fewer, bound, c.split_at.ensures.back_len) in (
       (done ++ c.split_at.result.0.now) ++ 10 ∷ [],
       line-came [] done c.split_at.result.0.now c.split_at.result.1.now c.in-Some.after.now c.lines.rest.now c.args.chunk.now c.in-Some.field-0-0.now cut.whole whole first (cut.lf _ _ first),
       within,
       rises-first _ _ _ 0 counted c.in-Ok-false.ensures.failed,
-      λ bytes before at.
-          let came = stands-bytes (bytes ++ done) c.split_at.result.0.now before (g.K.Sink.contents c.lines.sink) c.lines.self (record c.lines.self { line = c.extend_from_slice.new.self }) cut.in_line (stands bytes before at) refl refl c.in-Ok.ensures.items refl in
+      λ wanted bytes before at.
+          let came = stands-bytes wanted (bytes ++ done) c.split_at.result.0.now before (g.K.Sink.contents c.lines.sink) c.lines.self (record c.lines.self { line = c.extend_from_slice.new.self }) cut.in_line (stands wanted bytes before at) refl refl c.in-Ok.ensures.items refl refl in
           rw (behind-line bytes done c.split_at.result.0.now (10 ∷ []))
-          (stands-line _ _ _ _ _ _ came c.in-Ok-false.ensures.stage number (c.in-Ok-false.ensures.line c.in-Ok-false.field-0-test) c.in-Ok-false.ensures.printed (sym c.in-Ok-false.field-0-test ∙ c.in-Ok-false.ensures.fault)),
+          (stands-line wanted _ _ _ _ _ _ came c.in-Ok-false.ensures.ran (rw c.in-Ok-false.field-0-test at c.in-Ok-false.ensures.line) c.in-Ok-false.ensures.printed (sym c.in-Ok-false.field-0-test ∙ c.in-Ok-false.ensures.fault)),
     )
 
 pub returns-in-Err-end_line-clause-feeds : goal.returns-in-Err-end_line-clause-feeds
-returns-in-Err-end_line-clause-feeds g c bytes before at =
+returns-in-Err-end_line-clause-feeds g c wanted bytes before at =
     let cut = cut-line c.lines.rest.now c.split_at.result.0.now c.split_at.result.1.now _ c.line_len.ensures.value c.split_at.ensures.front c.split_at.ensures.back in
     let (done, whole, bound, counted, stands) = c.lines.invariant in
     let first = c.in-Some.ensures.cases.0 in
-    let came = stands-bytes (bytes ++ done) c.split_at.result.0.now before (g.K.Sink.contents c.lines.sink) c.lines.self (record c.lines.self { line = c.extend_from_slice.new.self }) cut.in_line (stands bytes before at) refl refl c.in-Ok.ensures.items refl in
+    let came = stands-bytes wanted (bytes ++ done) c.split_at.result.0.now before (g.K.Sink.contents c.lines.sink) c.lines.self (record c.lines.self { line = c.extend_from_slice.new.self }) cut.in_line (stands wanted bytes before at) refl refl c.in-Ok.ensures.items refl refl in
     let e = line-came bytes done c.split_at.result.0.now c.split_at.result.1.now c.in-Some.after.now c.lines.rest.now c.args.chunk.now c.in-Some.field-0-0.now cut.whole whole first (cut.lf _ _ first) in
-    subst (λ b. AppendsFront before (g.K.Sink.contents c.end_line.new.sink) (journal b)) e
-    (front-line ((bytes ++ done) ++ c.split_at.result.0.now) c.in-Some.after.now before _ _ _ came c.in-Err-end_line.ensures.err)
+    subst (λ b. AppendsFront before (g.K.Sink.contents c.end_line.new.sink) (journal wanted b)) e
+    (front-line wanted ((bytes ++ done) ++ c.split_at.result.0.now) c.in-Some.after.now before _ _ _ came c.in-Err-end_line.ensures.err)

@@ -1,0 +1,2 @@
+pub mod Titles
+pub mod Pictures

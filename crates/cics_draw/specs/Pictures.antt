@@ -1,0 +1,84 @@
+-- What a run prints of each line of a script, and the picture of that.
+use Rattle.std.specs.Prelude.{◌≡◌, ℕ, Bool, true, false, ◌+◌, ◌<◌, ◌≤◌, if◌then◌else◌, List, [], ◌∷◌, length, Option, Result, Ok, Err}
+use Rattle.std.specs.Io.KnownBytes.{Appends, Consumes, IsAtEnd}
+use Rattle.cics_run.specs.Lines.{all_lines}
+use Rattle.cics_run.specs.Stages.{step, Step}
+use Rattle.cics_run.specs.Running.{Played, has_fault, next, start, is_faulty, most_bytes}
+use Rattle.cics_run.specs.Printing.{AppendsFront}
+use Rattle.cics_run.specs.declared.running.Status.{Status}
+use Rattle.cics_run.specs.declared.running.Status.TheVariants as status
+use Rattle.cics_run.specs.declared.running.RunFault.{RunFault}
+use Rattle.cics_run.specs.declared.running.RunFault.TheVariants as faults
+use Rattle.cics_picture.specs.Lanes.{most_rows}
+use Rattle.cics_picture.specs.Drawings.{Printed, Drawn, drawn}
+use Rattle.cics_picture.specs.Sheets.{sheet}
+use Rattle.cics_picture.specs.declared.drawing.Undrawn.{Undrawn}
+use Rattle.cics_picture.specs.declared.drawing.Undrawn.TheVariants as undrawns
+use Rattle.cics_draw.specs.Titles.{title_of}
+use Rattle.cics_draw.specs.declared.picture.NoPicture.{NoPicture}
+use Rattle.cics_draw.specs.declared.picture.NoPicture.TheVariants.{Stopped, TooManyEvents}
+
+-- a line and what its step printed
+abbrev pub printed : ℕ → List ℕ → Step → Printed
+printed number line s = record { number = number; line = line; text = s.text }
+
+-- What a run prints of each of these lines, from where it stands. Behind a fault no line counts.
+abbrev pub printed_from : Played → List (List ℕ) → List Printed
+printed_from p [] = []
+printed_from p (line ∷ lines) =
+    if has_fault p then [] else printed (p.number + 1) line (step (p.number + 1) p.stage line) ∷ printed_from (next p line) lines
+
+-- what a run prints of each line of a script
+abbrev pub printed_lines : List ℕ → List Printed
+printed_lines script = printed_from start (all_lines script)
+
+-- what is drawn of a script
+abbrev pub drawing_of : List ℕ → Drawn
+drawing_of script = drawn (printed_lines script)
+
+-- the picture of a script
+abbrev pub picture_of : List ℕ → List ℕ
+picture_of script = sheet (drawing_of script) (title_of script)
+
+-- a script has more events than a picture may have rows
+abbrev pub HasTooMany : List ℕ → Type 0
+HasTooMany script = most_rows < (drawing_of script).rows
+
+-- What was read when reading stopped: more than a script may have, or a part of what there is. Reading never fails to write.
+abbrev pub StopsBehind : List ℕ → RunFault → Type 0
+StopsBehind bytes faults.InputTooLong = length bytes ≡ most_bytes + 1
+StopsBehind bytes faults.ReadFault = length bytes ≤ most_bytes
+StopsBehind bytes faults.NoMemory = length bytes ≤ most_bytes + 1
+StopsBehind bytes faults.WriteFault = ⊥
+
+-- a script was read to its end, or reading stopped
+abbrev pub Reads : Option (List ℕ) → Option (List ℕ) → List ℕ → Result (Unit {0}) RunFault → Type 0
+Reads input rest script (Ok _) = Consumes input rest script × IsAtEnd rest × (length script ≤ most_bytes)
+Reads input rest script (Err fault) = (bytes : List ℕ) × Consumes input rest bytes × StopsBehind bytes fault
+
+-- What stands in the sink at each answer, where bytes are the bytes that were read:
+-- - Done and LineFault: the whole picture of the script, without a fault or up to its first one;
+-- - WriteFault: a front of the picture;
+-- - every other one: nothing more than before.
+abbrev pub Answers : List ℕ → Option (List ℕ) → Option (List ℕ) → Option (List ℕ) → Result Status NoPicture → Type 0
+Answers bytes rest old new (Ok status.Done) = IsAtEnd rest × (is_faulty bytes ≡ false) × Appends old new (picture_of bytes)
+Answers bytes rest old new (Ok status.LineFault) = IsAtEnd rest × (is_faulty bytes ≡ true) × Appends old new (picture_of bytes)
+Answers bytes rest old new (Err TooManyEvents) = IsAtEnd rest × HasTooMany bytes × Appends old new []
+Answers bytes rest old new (Err (Stopped faults.InputTooLong)) = (length bytes ≡ most_bytes + 1) × Appends old new []
+Answers bytes rest old new (Err (Stopped faults.ReadFault)) = Appends old new []
+Answers bytes rest old new (Err (Stopped faults.NoMemory)) = Appends old new []
+Answers bytes rest old new (Err (Stopped faults.WriteFault)) = IsAtEnd rest × AppendsFront old new (picture_of bytes)
+
+-- some bytes were read, not too many, and what was written is what they call for
+abbrev pub Pictures : Option (List ℕ) → Option (List ℕ) → Option (List ℕ) → Option (List ℕ) → Result Status NoPicture → Type 0
+Pictures input rest old new result = (bytes : List ℕ) × Consumes input rest bytes × (length bytes ≤ most_bytes + 1) × Answers bytes rest old new result
+
+-- why there is no picture, where none was drawn
+abbrev pub undrawn : Undrawn → NoPicture
+undrawn undrawns.NoMemory = Stopped faults.NoMemory
+undrawn undrawns.TooManyRows = TooManyEvents
+
+-- how a run ended
+abbrev pub run_status : Bool → Status
+run_status true = status.LineFault
+run_status false = status.Done

@@ -1,0 +1,103 @@
+//! A script that is read and its picture that is written.
+
+ghost use Rattle.std.specs.Prelude.{◌≡◌};
+ghost use Rattle.cics_run.specs.Standing.{IsNew};
+ghost use Rattle.cics_draw.specs.Pictures.{Pictures, Reads, undrawn, run_status};
+ghost use Rattle.std.specs.Prelude.{OnOk, OnErr, [], ◌++◌};
+
+use crate::drawing::draw_script;
+use cics_names::NoMemory;
+use cics_picture::Undrawn;
+use cics_run::{CHUNK, LIMIT, RunFault, Session, Sink, Source, Status, write_pending};
+use thiserror::Error;
+
+/// Why a script has no picture.
+#[derive(Debug, Drop, Error)]
+pub enum NoPicture {
+    /// The run stopped. Nothing was written, unless a write failed: then a front of the picture.
+    #[error("{0}")]
+    Stopped(RunFault),
+    /// The run has more events than a picture may have: nothing was written.
+    #[error("a picture has at most 100000 events")]
+    TooManyEvents,
+}
+
+// Puts the bytes that a source gives at the end of a text.
+fn push_chunk(script: &mut Vec<u8>, chunk: &[u8]) -> Result<(), NoMemory>
+    ensures { OnOk result (script.new.items ≡ script.old.items ++ chunk.now) }
+{
+    script.extend_from_slice(chunk)?;
+    Ok(())
+}
+
+// Reads a script to its end.
+fn read_script<S: Source>(source: &mut S, script: &mut Vec<u8>) -> Result<(), RunFault>
+    requires { script.old.items ≡ [] }
+    ensures { Reads (S.remaining source.old) (S.remaining source.new) script.new.items result }
+{
+    let mut buffer = [0u8; CHUNK];
+    let mut room = LIMIT;
+    'reads: loop {
+        let size = room.min(CHUNK).max(1);
+        match source.read(&mut buffer[..size]) {
+            Ok(0) => return Ok(()),
+            Ok(_) if room == 0 => return Err(RunFault::InputTooLong),
+            Ok(n) => match push_chunk(script, &buffer[..n]) {
+                Ok(()) => room -= n,
+                Err(_) => return Err(RunFault::NoMemory),
+            },
+            Err(_) => return Err(RunFault::ReadFault),
+        }
+    }
+}
+
+fn undrawn(error: Undrawn) -> NoPicture
+    ensures { result ≡ undrawn error }
+{
+    match error {
+        Undrawn::NoMemory => NoPicture::Stopped(RunFault::NoMemory),
+        Undrawn::TooManyRows => NoPicture::TooManyEvents,
+    }
+}
+
+fn run_status(is_faulty: bool) -> Status
+    ensures { result ≡ run_status is_faulty }
+{
+    if is_faulty {
+        Status::LineFault
+    } else {
+        Status::Done
+    }
+}
+
+/// Runs the script that a source gives, and writes its picture, when all is read and run.
+///
+/// It reads at most `LIMIT` bytes, and one more to see whether there are more. The picture of a
+/// script with a fault ends with the fault. The session is a new one, and is left to its owner.
+///
+/// Returns how the run ended, or why there is no picture.
+pub fn run_picture<S: Source, K: Sink>(
+    session: &mut Session,
+    source: &mut S,
+    sink: &mut K,
+) -> Result<Status, NoPicture>
+    requires new { IsNew session.old }
+    ensures whole { Pictures (S.remaining source.old) (S.remaining source.new)
+        (K.contents sink.old) (K.contents sink.new) result }
+{
+    let alloc = *session.pending.allocator();
+    let mut script = Vec::new(alloc);
+    match read_script(source, &mut script) {
+        Ok(()) => {}
+        Err(fault) => return Err(NoPicture::Stopped(fault)),
+    }
+    let mut text = Vec::new(alloc);
+    let is_faulty = match draw_script(session, &script, &mut text) {
+        Ok(is_faulty) => is_faulty,
+        Err(error) => return Err(undrawn(error)),
+    };
+    match write_pending(&mut text, sink) {
+        Ok(()) => Ok(run_status(is_faulty)),
+        Err(_) => Err(NoPicture::Stopped(RunFault::WriteFault)),
+    }
+}
