@@ -1,7 +1,27 @@
--- The first element of a list that is one is changed; each element is.
-use Rattle.std.proofs.Common.{◌≡◌, ◌<◌, ℕ, zero, suc, Bool, true, false, List, [], ◌∷◌, ◌++◌, map, length, take, drop, get_or, Option, None, Some, option_map, refl, ap, ◌∙◌, arith}
+-- The first element of a list that is one is found, and changed.
+use Rattle.std.proofs.Common.{◌≡◌, ◌<◌, ℕ, zero, suc, ◌+◌, Bool, true, false, cond, List, [], ◌∷◌, ◌++◌, map, length, take, drop, get_or, Option, None, Some, option_map, refl, ap, sym, ◌∙◌, arith, drop-cons}
 use Rattle.std.specs.Prelude.{slice_set, if◌then◌else◌}
 use Rattle.cics_orders.specs.Firsts.{first_place, with_first}
+
+-- an element that is none is passed over
+pub place_step : {X : Type 0} (is : X → Bool) (xs : List X) (i : ℕ) (x : X) → i < length xs → x ≡ get_or xs i x → is x ≡ false →
+    option_map (λ n. i + n) (first_place is (drop i xs)) ≡ option_map (λ n. (i + 1) + n) (first_place is (drop (i + 1) xs))
+place_step is xs i x short at apart =
+    let next : suc i ≡ i + 1 = omega arith in
+    let here : is (get_or xs i x) ≡ false = rw (sym at) apart in
+    ap (λ ys. option_map (λ n. i + n) (first_place is ys)) (drop-cons xs i x short)
+    ∙ rw here (by (first_place is (drop (suc i) xs))) ∙ ap (λ j. option_map (λ n. (i + 1) + n) (first_place is (drop j xs))) next
+  where
+    by : (o : Option ℕ) → option_map (λ n. i + n) (option_map suc o) ≡ option_map (λ n. (i + 1) + n) o
+    by None = refl
+    by (Some n) = ap Some (omega arith)
+
+-- and one that is one is found
+pub place_here : {X : Type 0} (is : X → Bool) (xs : List X) (i : ℕ) (x : X) → i < length xs → x ≡ get_or xs i x → is x ≡ true →
+    option_map (λ n. i + n) (first_place is (drop i xs)) ≡ Some i
+place_here is xs i x short at one =
+    let here : is (get_or xs i x) ≡ true = rw (sym at) one in
+    ap (λ ys. option_map (λ n. i + n) (first_place is ys)) (drop-cons xs i x short) ∙ rw here (ap Some (omega arith))
 
 -- where none is one, nothing is changed
 pub first_none : {X : Type 0} (is : X → Bool) (change : X → X) (xs : List X) → first_place is xs ≡ None → with_first is change xs ≡ xs

@@ -6,7 +6,8 @@ use Rattle.cics_names.specs.declared.commands.Verb.{Verb}
 use Rattle.cics_names.specs.declared.commands.Verb.TheVariants.{Syncpoint, Rollback, Return, Abend}
 use Rattle.cics_history.specs.Openings.{OpeningState, nothing_defined, with_file, with_record, with_prefix, with_queue, with_td_record}
 use Rattle.cics_dispatch.specs.Machine.{Machine, beginning_region}
-use Rattle.cics_dispatch.specs.Steps.{attached, issued}
+use Rattle.cics_names.specs.declared.commands.Command.{Command}
+use Rattle.cics_dispatch.specs.Steps.{Stepped, attached, issued}
 use Rattle.cics_dispatch.specs.Blockers.{waiting_command}
 use Rattle.cics_dispatch.specs.Waking.{clock_set, woken, expired}
 use Rattle.cics_dispatch.specs.Shutdown.{unless_down, shut_down}
@@ -78,6 +79,35 @@ abbrev pub IsAnswered : {X : Type 0} → Result X Refused → Type 0
 IsAnswered (Err NoMemory) = ⊥
 IsAnswered _ = Unit {0}
 
+-- an event was answered, or it was refused and changed nothing
+abbrev pub Happens : {X : Type 0} → Machine → Stepped (Result X Refused) → Option X → Machine → Type 0
+Happens m step (Some x) n = (step.outcome ≡ Ok x) × (n ≡ step.machine)
+Happens m step None n = (e : Refused) × (step.outcome ≡ Err e) × (n ≡ m)
+
+-- the step of a command
+unfoldable pub issuing : Machine → Bytes → Command → Stepped (Result Outcome Refused)
+issuing m label command = unless_down m (issued m label command)
+
+-- that of the clock
+unfoldable pub timing : Machine → ℕ → Stepped (Result (Unit {0}) Refused)
+timing m seconds = unless_down m (clock_set m seconds)
+
+-- that of the shutdown
+unfoldable pub shutting : Machine → Stepped (Result ℕ Refused)
+shutting m = unless_down m (shut_down m)
+
+-- that of an attach
+unfoldable pub attaching : Machine → Bytes → ℕ → Stepped (Result (Unit {0}) Refused)
+attaching m label dtimout = unless_down m (attached m label dtimout)
+
+-- that of a command which goes on
+unfoldable pub waking : Machine → Stepped (Option Woken)
+waking m = woken m
+
+-- that of a task whose time is over
+unfoldable pub expiring : Machine → Stepped (Option Expired)
+expiring m = expired m
+
 -- an event that is answered leaves its step's machine; one that is refused changes nothing
 abbrev pub left_by : {X : Type 0} → State → (X → List Lane) → Result X Refused → Machine → State
 left_by s lanes (Ok x) m = record s { machine = m; lanes = lanes x }
@@ -86,11 +116,11 @@ left_by s lanes (Err e) m = s
 -- a command, the clock and the shutdown are events; no other line is one
 abbrev pub after_line : State → Result Line LineFault → State
 after_line s (Ok (Issue label command)) =
-    let step = unless_down s.machine (issued s.machine label command) in left_by s (hearing s.lanes label) step.outcome step.machine
+    let step = issuing s.machine label command in left_by s (hearing s.lanes label) step.outcome step.machine
 after_line s (Ok (Clock seconds)) =
-    let step = unless_down s.machine (clock_set s.machine seconds) in left_by s (λ _. s.lanes) step.outcome step.machine
+    let step = timing s.machine seconds in left_by s (λ _. s.lanes) step.outcome step.machine
 after_line s (Ok Shutdown) =
-    let step = unless_down s.machine (shut_down s.machine) in left_by s (λ _. map shut s.lanes) step.outcome step.machine
+    let step = shutting s.machine in left_by s (λ _. map shut s.lanes) step.outcome step.machine
 after_line s _ = s
 
 -- ---- What goes on by itself
@@ -107,11 +137,11 @@ waking_turn s (Some w) m expiry = Some (record s { machine = m; lanes = hearing 
 
 -- a task whose time is over, if there is one
 abbrev pub expiry : State → Option State
-expiry s = expiry_turn s (expired s.machine).outcome (expired s.machine).machine
+expiry s = expiry_turn s (expiring s.machine).outcome (expiring s.machine).machine
 
 -- one turn, if there is one to take
 unfoldable pub turn : State → Option State
-turn s = waking_turn s (woken s.machine).outcome (woken s.machine).machine (expiry s)
+turn s = waking_turn s (waking s.machine).outcome (waking s.machine).machine (expiry s)
 
 -- a turn was taken, or there was none to take
 abbrev pub Takes : Option State → State → State → Bool → Type 0
@@ -202,7 +232,7 @@ lanes = record { givers = givers; given = given }
 -- ---- The start
 
 -- what is defined, with a line more
-abbrev pub defined_by : OpeningState → Result Line LineFault → OpeningState
+unfoldable pub defined_by : OpeningState → Result Line LineFault → OpeningState
 defined_by o (Ok (DefineFile name d)) = with_file o name d
 defined_by o (Ok (DefineTsPrefix prefix)) = with_prefix o prefix
 defined_by o (Ok (DefineTd name recovery)) = with_queue o name recovery
@@ -220,8 +250,8 @@ unless_refused m (Ok x) next = next
 unless_refused m (Err e) next = m
 
 -- a task is attached
-abbrev pub with_task : Machine → TaskPlan → Machine
-with_task m t = let step = unless_down m (attached m t.label t.dtimout) in unless_refused m step.outcome step.machine
+unfoldable pub with_task : Machine → TaskPlan → Machine
+with_task m t = let step = attaching m t.label t.dtimout in unless_refused m step.outcome step.machine
 
 -- the machine before the first order's first line: each task is attached
 abbrev pub initial_machine : Plan → Machine

@@ -1,12 +1,9 @@
 -- The lines that are left: each line that is given leaves one fewer, and nothing else takes or adds any.
-use Rattle.std.proofs.Common.{◌≡◌, ◌<◌, ◌≤◌, ℕ, zero, suc, ◌+◌, ◌-◌, Bool, true, false, ◌&&◌, List, [], ◌∷◌, ◌++◌, map, length, drop, Option, None, Some, Result, Ok, Err, refl, ap, sym, ◌∙◌, arith, subst}
+use Rattle.std.proofs.Common.{◌≡◌, ◌<◌, ◌≤◌, ℕ, zero, suc, ◌+◌, ◌-◌, Bool, true, false, cond, ◌&&◌, List, [], ◌∷◌, ◌++◌, map, length, drop, Option, None, Some, Result, Ok, Err, refl, ap, sym, ◌∙◌, arith, subst}
 use Rattle.std.specs.Prelude.{All, is_some, slice_get, slice_set, if◌then◌else◌}
 use Rattle.std.specs.List.{fold}
 use Rattle.cics_names.specs.Keyed.{Bytes}
 use Rattle.cics_dispatch.specs.Machine.{Machine}
-use Rattle.cics_dispatch.specs.Steps.{issued}
-use Rattle.cics_dispatch.specs.Waking.{clock_set, woken, expired}
-use Rattle.cics_dispatch.specs.Shutdown.{unless_down, shut_down}
 use Rattle.cics_dispatch.specs.declared.outcomes.Outcome.{Outcome}
 use Rattle.cics_dispatch.specs.declared.outcomes.Outcome.TheVariants.{Replied, Waiting, Abended, Ended}
 use Rattle.cics_dispatch.specs.declared.outcomes.Woken.{Woken}
@@ -18,7 +15,7 @@ use Rattle.cics_script.specs.declared.lines.Line.TheVariants as says
 use Rattle.cics_script.specs.declared.faults.LineFault.{LineFault}
 use Rattle.cics_lanes.specs.Orders.{Order, after, orders, led_by, led_by_any, numbered, IsOrdered}
 use Rattle.cics_lanes.proofs.Givers.{givers_ordered}
-use Rattle.cics_orders.specs.Giving.{NumberedLine, State, is_of, told_more, with_told, hearing, shut, left_by, after_line, expiry_turn, waking_turn, turn, behind_turn, settled, may_give, is_ready, givers, with_given, counted, ends_turn, given_line, given_by, given, lanes, task_lane, fresh_lane, initial_lanes, initial_state, line_count}
+use Rattle.cics_orders.specs.Giving.{issuing, timing, shutting, waking, expiring, NumberedLine, State, is_of, told_more, with_told, hearing, shut, left_by, after_line, expiry_turn, expiry, waking_turn, turn, behind_turn, settled, may_give, is_ready, givers, with_given, counted, ends_turn, given_line, given_by, given, lanes, task_lane, fresh_lane, initial_lanes, initial_state, line_count}
 use Rattle.cics_orders.specs.declared.plans.Plan.{Plan}
 use Rattle.cics_orders.specs.declared.plans.TaskPlan.{TaskPlan}
 use Rattle.cics_orders.specs.declared.lanes.Lane.{Lane}
@@ -67,11 +64,11 @@ kept_by s told (Err e) m same = kept s
 
 kept_line : (s : State) (r : Result Line LineFault) → Keeps s (after_line s r)
 kept_line s (Ok (says.Issue label command)) =
-    let step = unless_down s.machine (issued s.machine label command) in kept_by s (hearing s.lanes label) step.outcome step.machine (λ o. left_hearing s.lanes label o)
+    let step = issuing s.machine label command in kept_by s (hearing s.lanes label) step.outcome step.machine (λ o. left_hearing s.lanes label o)
 kept_line s (Ok (says.Clock seconds)) =
-    let step = unless_down s.machine (clock_set s.machine seconds) in kept_by s (λ _. s.lanes) step.outcome step.machine (λ _. refl)
+    let step = timing s.machine seconds in kept_by s (λ _. s.lanes) step.outcome step.machine (λ _. refl)
 kept_line s (Ok says.Shutdown) =
-    let step = unless_down s.machine (shut_down s.machine) in kept_by s (λ _. map shut s.lanes) step.outcome step.machine (λ _. left_shut s.lanes)
+    let step = shutting s.machine in kept_by s (λ _. map shut s.lanes) step.outcome step.machine (λ _. left_shut s.lanes)
 kept_line s (Ok says.Blank) = kept s
 kept_line s (Ok (says.DefineFile name d)) = kept s
 kept_line s (Ok (says.DefineTsPrefix prefix)) = kept s
@@ -83,14 +80,14 @@ kept_line s (Err fault) = kept s
 
 kept_turn : (s t : State) → turn s ≡ Some t → Keeps s t
 unfolding turn
-kept_turn s t = by (woken s.machine).outcome (expired s.machine).outcome
+kept_turn s t = by (waking s.machine).outcome (expiring s.machine).outcome
   where
-    by : (w : Option Woken) (e : Option Expired) → waking_turn s w (woken s.machine).machine (expiry_turn s e (expired s.machine).machine) ≡ Some t → Keeps s t
+    by : (w : Option Woken) (e : Option Expired) → waking_turn s w (waking s.machine).machine (expiry_turn s e (expiring s.machine).machine) ≡ Some t → Keeps s t
     by (Some w) e is =
-        let same : record s { machine = (woken s.machine).machine; lanes = hearing s.lanes w.label w.outcome } ≡ t = cc in
+        let same : record s { machine = (waking s.machine).machine; lanes = hearing s.lanes w.label w.outcome } ≡ t = cc in
         subst (Keeps s) same (record { plan = refl; lines = left_hearing s.lanes w.label w.outcome })
     by None (Some e) is =
-        let same : record s { machine = (expired s.machine).machine; lanes = with_told s.lanes e.label (Abended e.code None) } ≡ t = cc in
+        let same : record s { machine = (expiring s.machine).machine; lanes = with_told s.lanes e.label (Abended e.code None) } ≡ t = cc in
         subst (Keeps s) same (record { plan = refl; lines = left_told s.lanes e.label (Abended e.code None) })
     by None None is = cc
 
