@@ -1,5 +1,5 @@
--- File control, browsing (the file control chapter of the Application Programmer's Reference Manual):
--- a position is the key asked for, or the key last read with the direction of its read.
+-- File control, browsing (the file control chapter of the Application Programmer's Reference
+-- Manual): a position is the key asked for, or the key last read with the direction of its read.
 use Rattle.std.specs.Prelude.{◌==◌, Bool, true, false, not, ◌&&◌, ◌||◌, if◌then◌else◌, Option, Some, None, is_some, nat_eq}
 use Rattle.std.specs.List.{list_all, starts_with}
 use Rattle.cics_names.specs.Keyed.{Bytes, Map, is_same}
@@ -29,7 +29,8 @@ abbrev pub passes : (Bytes → Bool) → Option (Bytes × Bytes) → Bool
 passes test None = false
 passes test (Some e) = test e.0
 
--- whether STARTBR or RESETBR finds its place: with EQUAL the key asked for, else any key not below it
+-- whether STARTBR or RESETBR finds its place: with EQUAL the key asked for, else any key not below
+-- it
 abbrev pub finds_start : Map Bytes → Bytes → Bool → Bool → Bool
 finds_start records key generic equal =
     if equal
@@ -54,14 +55,15 @@ next_entry records p = first_from records p.key (is_forward p.place)
 abbrev pub only_same : Bytes → Option (Bytes × Bytes) → Option (Bytes × Bytes)
 only_same key found = if passes (is_same key) found then found else None
 
--- READPREV: below the key after a read back, not above it after a read forward. At Start the key itself,
--- or at the file's end the greatest key
+-- READPREV: below the key after a read back, not above it after a read forward. At Start the key
+-- itself, or at the file's end the greatest key
 abbrev pub prev_entry_at : Map Bytes → Bytes → Bool → Place → Option (Bytes × Bytes)
 prev_entry_at records key generic Start = if is_end key generic then last_to records key false else only_same key (last_to records key false)
 prev_entry_at records key generic Forward = last_to records key false
 prev_entry_at records key generic Back = last_to records key true
 
--- what READPREV answers without a record: NOTFND for a key that was asked for, ENDFILE at the file's end and past a key that was read
+-- what READPREV answers without a record: NOTFND for a key that was asked for, ENDFILE at the
+-- file's end and past a key that was read
 abbrev pub prev_none : Bytes → Bool → Place → Condition
 prev_none key generic Start = if is_end key generic then Endfile else Notfnd
 prev_none key generic Forward = Endfile

@@ -73,8 +73,8 @@ impl Browse {
     ///
     /// `generic` says that the key is only the first bytes of one. With `equal` the key itself must
     /// be there, or with `generic` a key that begins with it; without `equal` any key that isn't
-    /// below it will do. A key that isn't generic and has nothing but bytes X'FF' means the end of the file:
-    /// without `equal` it is found in every file.
+    /// below it will do. A key that isn't generic and has nothing but bytes X'FF' means the end of
+    /// the file: without `equal` it is found in every file.
     pub fn start<F: Ordered>(file: &F, key: Record, generic: bool, equal: bool) -> Option<Browse>
         ensures { result
             ≡ (if finds_start (F.file_records file.now) key generic equal
@@ -139,9 +139,9 @@ impl Browse {
     /// READPREV is below it, and makes its key the position. ENDFILE where there is none.
     ///
     /// At the key that STARTBR or RESETBR asked for it gives the record of that very key, or NOTFND
-    /// without one; where that key has nothing but bytes X'FF' it means the end of the file, so it gives the last
-    /// record, and ENDFILE in an empty file. INVREQ where that STARTBR or RESETBR was generic. On
-    /// any of these conditions the position stays.
+    /// without one; where that key has nothing but bytes X'FF' it means the end of the file, so it
+    /// gives the last record, and ENDFILE in an empty file. INVREQ where that STARTBR or RESETBR
+    /// was generic. On any of these conditions the position stays.
     ///
     /// `Err` comes only where memory for the copies is refused, and then the position stays.
     pub fn prev<F: Ordered>(&mut self, file: &F) -> Result<Browsed, NoMemory>

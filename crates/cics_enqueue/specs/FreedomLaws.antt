@@ -1,4 +1,5 @@
--- Where no other unit holds anything that overlaps a resource, a unit may take it; and what overlaps stays one unit's.
+-- Where no other unit holds anything that overlaps a resource, a unit may take it; and what
+-- overlaps stays one unit's.
 use Rattle.std.specs.Prelude.{◌≡◌, ℕ, ◌==◌, ◌&&◌, ◌||◌, Bool, true, false, not, if◌then◌else◌, Option, Some, None, IfNone, option_map, [], ◌∷◌, ◌++◌, length, refl}
 use Rattle.std.proofs.Common.{sym, ap, ◌∙◌, subst, ◌⊎◌, inl, inr, append_assoc, append-nil}
 use Rattle.std.specs.Ordering.{is_eq}

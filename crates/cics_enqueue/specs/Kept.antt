@@ -1,4 +1,5 @@
--- The table as it is kept: what each unit holds can be found without a look at what the others hold.
+-- The table as it is kept: what each unit holds can be found without a look at what the others
+-- hold.
 use Rattle.std.specs.Prelude.{◌≡◌, ℕ, ◌==◌, ◌+◌, nat_le, Bool, true, false, ◌&&◌, ◌++◌, if◌then◌else◌, T, Option, Some, None, option_map, nat_eq, length, drop, List, [], ◌∷◌}
 use Rattle.std.specs.List.{list_any}
 use Rattle.std.specs.Global.{Vec}
@@ -14,7 +15,8 @@ use Rattle.cics_enqueue.specs.ResourceLaws.{resource_of}
 abbrev pub Entries : Type 0
 Entries = List (Vec ℕ × Holding)
 
--- for each unit the keys that it took, in this order, among which may be some that it gave back since
+-- for each unit the keys that it took, in this order, among which may be some that it gave back
+-- since
 abbrev pub Owned : Type 0
 Owned = List (ℕ × Vec (Vec ℕ))
 
@@ -124,7 +126,8 @@ is_others_under start asker e = begins_with start e.0.items && is_other asker e.
 abbrev pub bytes_and_unit : Vec ℕ × Holding → Bytes × ℕ
 bytes_and_unit e = (e.0.items, e.1.unit)
 
--- the bytes and the unit of the first entry that begins with some bytes and is another unit's than the asker's
+-- the bytes and the unit of the first entry that begins with some bytes and is another unit's than
+-- the asker's
 abbrev pub first_shown : Bytes → Option ℕ → Entries → Option (Bytes × ℕ)
 first_shown start asker es = option_map bytes_and_unit (first_entry (is_others_under start asker) es)
 
@@ -133,7 +136,8 @@ abbrev pub others_unit : Option ℕ → Option Holding → Option ℕ
 others_unit asker None = None
 others_unit asker (Some h) = if is_other asker h.unit then Some h.unit else None
 
--- the unit of the first entry, another unit's than the asker's, whose bytes are some or these with more of the rest
+-- the unit of the first entry, another unit's than the asker's, whose bytes are some or these with
+-- more of the rest
 abbrev pub first_cover : Option ℕ → Entries → Bytes → Bytes → Option ℕ
 first_cover asker es key [] = None
 first_cover asker es key (x ∷ rest) = first_of (others_unit asker (lookup (finds key) es)) (first_cover asker es (key ++ x ∷ []) rest)
@@ -144,12 +148,13 @@ lesser_shown None y = y
 lesser_shown (Some x) None = Some x
 lesser_shown (Some x) (Some y) = if is_below (drop 1 y.0) (drop 1 x.0) then Some y else Some x
 
--- the unit of the first entry, another unit's than the asker's, that is a prefix of a file shorter than some bytes and with
--- which they begin
+-- the unit of the first entry, another unit's than the asker's, that is a prefix of a file shorter
+-- than some bytes and with which they begin
 abbrev pub first_shorter : Option ℕ → Entries → Bytes → Bytes → Option ℕ
 first_shorter asker es f b = first_cover asker es (0 ∷ length f ∷ (f ++ [])) b
 
--- the unit, other than the asker, of the lesser of the first key and the first prefix of a file that begin with a prefix
+-- the unit, other than the asker, of the lesser of the first key and the first prefix of a file
+-- that begin with a prefix
 abbrev pub least_shown : Bytes → Bytes → Option ℕ → Entries → Option ℕ
 least_shown f p asker es =
     option_map (λ q. q.1) (lesser_shown (first_shown (1 ∷ length f ∷ (f ++ p)) asker es) (first_shown (0 ∷ length f ∷ (f ++ p)) asker es))

@@ -13,8 +13,8 @@ abbrev pub behind : Bytes → Bytes
 behind [] = []
 behind (byte ∷ bytes) = bytes
 
--- the number that the first so many bytes are as digits of base 256, the highest first and zeros where there are fewer, behind
--- the digits of a number
+-- the number that the first so many bytes are as digits of base 256, the highest first and zeros
+-- where there are fewer, behind the digits of a number
 abbrev pub filled : ℕ → ℕ → Bytes → ℕ
 filled zero high bytes = high
 filled (suc n) high bytes = filled n (high * 256 + first_or_zero bytes) (behind bytes)

@@ -1,4 +1,5 @@
--- Task control: enqueues. A resource is held by one unit of work at most, with a count, and so are those that overlap.
+-- Task control: enqueues. A resource is held by one unit of work at most, with a count, and so are
+-- those that overlap.
 use Rattle.std.specs.Prelude.{◌≡◌, ◌≤◌, T, ℕ, ◌+◌, ◌-◌, ◌==◌, Bool, true, false, not, ◌&&◌, ◌||◌, if◌then◌else◌, Option, Some, None, option_map, nat_lt, nat_le, filter, length, drop, List, [], ◌∷◌, ◌++◌}
 use Rattle.std.specs.FinMap as map_by
 use Rattle.std.specs.FinMap.Entries.{where_key}
@@ -28,8 +29,8 @@ begins_with [] b = true
 begins_with (x ∷ p) [] = false
 begins_with (x ∷ p) (y ∷ b) = (x == y) && begins_with p b
 
--- whether a unit that holds the one keeps others from the other: where both are one resource, where one is a prefix of keys
--- of the other's file and the other begins with it
+-- whether a unit that holds the one keeps others from the other: where both are one resource, where
+-- one is a prefix of keys of the other's file and the other begins with it
 abbrev pub overlaps : Resource → Resource → Bool
 overlaps (FileKey f k) (FilePrefix g p) = is_same f g && begins_with p.items k.items
 overlaps (FilePrefix f p) (FileKey g k) = is_same f g && begins_with p.items k.items
@@ -51,7 +52,8 @@ abbrev pub is_other : Option ℕ → ℕ → Bool
 is_other None v = true
 is_other (Some u) v = not (v == u)
 
--- a resource as bytes, by which resources are ordered: the kind, and the names and bytes; a file's name after its length
+-- a resource as bytes, by which resources are ordered: the kind, and the names and bytes; a file's
+-- name after its length
 abbrev pub resource_key : Resource → Bytes
 resource_key (FilePrefix f p) = 0 ∷ length f ∷ (f ++ p.items)
 resource_key (FileKey f k) = 1 ∷ length f ∷ (f ++ k.items)
@@ -110,8 +112,8 @@ IsFreeBut t r asker = (s : Resource) (v : ℕ) → overlaps r s ≡ true → hol
 abbrev pub AreApart : Table → Type 0
 AreApart t = (r s : Resource) (u v : ℕ) → overlaps r s ≡ true → holder_of r t ≡ Some u → holder_of s t ≡ Some v → u ≡ v
 
--- what is so of every table: its resources rise, what overlaps is one unit's, and what is held is held at least once, and more
--- often only where it is a user's value
+-- what is so of every table: its resources rise, what overlaps is one unit's, and what is held is
+-- held at least once, and more often only where it is a user's value
 pub record IsLawful (t : Table) : Type 0 where
   pub in_order : T (is_in_order t)
   pub apart : AreApart t
@@ -169,8 +171,8 @@ abbrev pub first_of : Option ℕ → Option ℕ → Option ℕ
 first_of None y = y
 first_of (Some x) y = Some x
 
--- the unit, other than the asker, that holds a prefix of keys that is some bytes or begins with them, and is shorter than
--- these and the rest: the shortest such prefix, which is the least
+-- the unit, other than the asker, that holds a prefix of keys that is some bytes or begins with
+-- them, and is shorter than these and the rest: the shortest such prefix, which is the least
 abbrev pub holder_of_shorter : Bytes → Bytes → Bytes → Option ℕ → Table → Option ℕ
 holder_of_shorter f p [] asker t = None
 holder_of_shorter f p (x ∷ rest) asker t = first_of (other_than asker (holder_of (FilePrefix f (bytes_of p)) t)) (holder_of_shorter f (p ++ x ∷ []) rest asker t)
@@ -179,13 +181,13 @@ holder_of_shorter f p (x ∷ rest) asker t = first_of (other_than asker (holder_
 abbrev pub is_under : Resource → Resource → Bool
 is_under r s = begins_with (resource_key r) (resource_key s)
 
--- the least key or prefix of keys, in byte order, that begins with a prefix and that another unit than the asker holds: a
--- table has a file's keys in this order, and its prefixes
+-- the least key or prefix of keys, in byte order, that begins with a prefix and that another unit
+-- than the asker holds: a table has a file's keys in this order, and its prefixes
 abbrev pub least_under : Bytes → Bytes → Option ℕ → Table → Option (Resource × Held)
 least_under f p asker t = lesser (first_that (λ e. is_under (FileKey f (bytes_of p)) e.0 && is_other asker e.1.unit) t) (first_that (λ e. is_under (FilePrefix f (bytes_of p)) e.0 && is_other asker e.1.unit) t)
 
--- the unit, other than the asker, that holds the least key or prefix of keys that overlaps a prefix of keys: a shorter prefix
--- comes before all that begins with a longer one
+-- the unit, other than the asker, that holds the least key or prefix of keys that overlaps a prefix
+-- of keys: a shorter prefix comes before all that begins with a longer one
 abbrev pub held_with_prefix : Bytes → Bytes → Option ℕ → Table → Option ℕ
 held_with_prefix f p asker t = first_of (holder_of_shorter f [] p asker t) (option_map (λ e. e.1.unit) (least_under f p asker t))
 
@@ -199,7 +201,8 @@ holder_over r asker t = other_than asker (holder_of r t)
 abbrev pub taken : Table → Resource → ℕ → Table
 taken t r u = with_holder t r u (raised_count r (held_at r t))
 
--- the table after a unit gave back one take of a resource that is held so: with the last the resource is free
+-- the table after a unit gave back one take of a resource that is held so: with the last the
+-- resource is free
 abbrev pub given_back_of : Option Held → Table → Resource → ℕ → Table
 given_back_of None t r u = t
 given_back_of (Some h) t r u =

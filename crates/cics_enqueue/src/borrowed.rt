@@ -50,7 +50,8 @@ impl<'a> ResourceRef<'a> {
         }
     }
 
-    /// The records of a file under every key that begins with these at most 255 bytes, whether they are there or not.
+    /// The records of a file under every key that begins with these at most 255 bytes, whether they
+    /// are there or not.
     pub fn prefix(file: Name8, bytes: &'a [u8]) -> ResourceRef<'a>
         requires most { length bytes.now ≤ 255 }
         ensures { result ≡ FilePrefix file (bytes_of bytes.now) }

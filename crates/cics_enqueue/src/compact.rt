@@ -18,8 +18,8 @@ pub(crate) const PREFIX: u8 = 0;
 
 pub(crate) const KEY: u8 = 1;
 
-// What the bytes of the other kinds begin with: a temporary storage queue, the two ends of a transient data queue, a
-// user's value.
+// What the bytes of the other kinds begin with: a temporary storage queue, the two ends of a
+// transient data queue, a user's value.
 const TS_QUEUE: u8 = 2;
 
 const TD_READ: u8 = 3;
@@ -150,7 +150,8 @@ pub(crate) fn set_resource(key: &mut Key, resource: &ResourceRef<'_>) -> Result<
     }
 }
 
-// What is kept under bytes, found by going through the whole table: for where there is no room for a key of them.
+// What is kept under bytes, found by going through the whole table: for where there is no room for
+// a key of them.
 fn find_among<'t>(table: &'t BTreeMap<Key, Holding>, bytes: &[u8]) -> Option<&'t Holding>
     ensures { option_copied result ≡ lookup (finds bytes.now) table.now.entries }
 {

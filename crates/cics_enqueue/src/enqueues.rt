@@ -70,13 +70,15 @@ pub(crate) struct Holding {
 
 /// Which unit holds which resource.
 ///
-/// Contracts see it as the list of what is held, in the order of the resources, each with its unit and how many times.
+/// Contracts see it as the list of what is held, in the order of the resources, each with its unit
+/// and how many times.
 #[derive(Drop)]
 pub struct Enqueues {
     table: BTreeMap<Key, Holding>,
     owned: Owned,
-    // The key that takes and look-ups fill with the bytes that they look for. A take makes room in it for any, so that no
-    // look-up needs memory. One that has no room is dropped where that is refused, and an empty one stands here.
+    // The key that takes and look-ups fill with the bytes that they look for. A take makes room in
+    // it for any, so that no look-up needs memory. One that has no room is dropped where that is
+    // refused, and an empty one stands here.
     bound: Cell<Key>,
     alloc: Global,
 }
@@ -151,8 +153,8 @@ fn put_first(
     }
 }
 
-// Frees what is kept under a key, if it is this unit's, whatever its count: one that the unit gave back may be
-// another's by now.
+// Frees what is kept under a key, if it is this unit's, whatever its count: one that the unit gave
+// back may be another's by now.
 fn free_key(table: &mut BTreeMap<Key, Holding>, key: &Key, unit: UnitId)
     ensures entries { table.new.entries ≡ without_own unit key.now.items table.old.entries }
     ensures each { Frees unit key.now.items table.old.entries table.new.entries }
@@ -166,7 +168,8 @@ fn free_key(table: &mut BTreeMap<Key, Holding>, key: &Key, unit: UnitId)
     }
 }
 
-// Takes one take away from what is kept under a key, if it is this unit's, and tells whether nothing is left of it.
+// Takes one take away from what is kept under a key, if it is this unit's, and tells whether
+// nothing is left of it.
 fn lessen(table: &mut BTreeMap<Key, Holding>, key: &Key, unit: UnitId) -> bool
     requires key { resource_key (resource_of key.now.items) ≡ key.now.items }
     ensures kept { (own : List (ℕ × Vec (Vec ℕ))) →
@@ -226,7 +229,8 @@ impl Enqueues {
         unit
     }
 
-    /// How many times a resource is held: 0 where it is free, and more than 1 only for a user's value.
+    /// How many times a resource is held: 0 where it is free, and more than 1 only for a user's
+    /// value.
     pub fn count(&self, resource: &Resource) -> u16
         ensures { result ≡ count_of resource.now self.now }
     {
@@ -239,13 +243,14 @@ impl Enqueues {
         count
     }
 
-    /// The unit, another than `but_not`, that holds the least of what overlaps a resource, or None where no other unit holds
-    /// any of it: then `but_not` may take the resource.
+    /// The unit, another than `but_not`, that holds the least of what overlaps a resource, or None
+    /// where no other unit holds any of it: then `but_not` may take the resource.
     ///
-    /// A key of a file is overlapped by itself and by each prefix of it that is held, a prefix by what begins with it, too.
-    /// The least is that in byte order, a held prefix by its own bytes. Where no other unit that is
-    /// open has taken anything it costs no look-up. While any prefix is held it costs one for each byte
-    /// of the key or prefix, and for a prefix what `held_with_prefix` costs.
+    /// A key of a file is overlapped by itself and by each prefix of it that is held, a prefix by
+    /// what begins with it, too. The least is that in byte order, a held prefix by its own bytes.
+    /// Where no other unit that is open has taken anything it costs no look-up. While any prefix is
+    /// held it costs one for each byte of the key or prefix, and for a prefix what
+    /// `held_with_prefix` costs.
     pub fn holder_over(&self, resource: &ResourceRef<'_>, but_not: Option<UnitId>) -> Option<UnitId>
         ensures value { result ≡ holder_over resource.now but_not self.now }
         ensures free { IfNone result (IsFreeBut self.now resource.now but_not) }
@@ -271,11 +276,13 @@ impl Enqueues {
         unit
     }
 
-    /// The unit, another than `but_not`, that holds the least key of a file or prefix of keys that overlaps a prefix of at most
-    /// 255 bytes, or None where no other unit holds one: one that begins with the prefix, or with which the prefix begins.
+    /// The unit, another than `but_not`, that holds the least key of a file or prefix of keys that
+    /// overlaps a prefix of at most 255 bytes, or None where no other unit holds one: one that
+    /// begins with the prefix, or with which the prefix begins.
     ///
-    /// The least is that in byte order, a held prefix by its own bytes. It costs the logarithm of what is held, for each byte of
-    /// the prefix where any prefix is held, and what `but_not` itself holds under the prefix. It takes no memory.
+    /// The least is that in byte order, a held prefix by its own bytes. It costs the logarithm of
+    /// what is held, for each byte of the prefix where any prefix is held, and what `but_not`
+    /// itself holds under the prefix. It takes no memory.
     pub fn held_with_prefix(
         &self,
         file: Name8,
@@ -302,8 +309,8 @@ impl Enqueues {
         least
     }
 
-    // The unit, another than the asker, that holds the least of what overlaps a key: a shorter prefix, the key, or the prefix
-    // that has its bytes.
+    // The unit, another than the asker, that holds the least of what overlaps a key: a shorter
+    // prefix, the key, or the prefix that has its bytes.
     fn holder_of_key(&self, file: Name8, key: &[u8], asker: &Option<UnitId>) -> Option<UnitId>
         requires most { length key.now ≤ 255 }
         ensures { result ≡ holder_over (FileKey file (bytes_of key.now)) asker.now self.now }
@@ -314,9 +321,10 @@ impl Enqueues {
         holder
     }
 
-    /// Takes a resource for a unit that may take it: no other unit holds anything that overlaps it. A user's value is taken
-    /// once more where the unit holds it already; any other resource stays at count 1. Full where the unit holds the value
-    /// 65,535 times, and NoMemory where memory is refused: then nothing has changed.
+    /// Takes a resource for a unit that may take it: no other unit holds anything that overlaps it.
+    /// A user's value is taken once more where the unit holds it already; any other resource stays
+    /// at count 1. Full where the unit holds the value 65,535 times, and NoMemory where memory is
+    /// refused: then nothing has changed.
     pub fn take(&mut self, resource: Resource, unit: UnitId) -> Result<(), TakeFault>
         requires free { IsFreeFor self.old resource unit }
         ensures taken { OnOk result (self.new ≡ taken self.old resource unit) }
@@ -364,11 +372,12 @@ impl Enqueues {
         Ok(())
     }
 
-    /// Takes a user's value of at most 255 bytes for a unit where it is free or the unit's own, and else answers the
-    /// other unit that holds it: all that `holder_over` and `take` do, in one look-up where it isn't the unit's own.
+    /// Takes a user's value of at most 255 bytes for a unit where it is free or the unit's own, and
+    /// else answers the other unit that holds it: all that `holder_over` and `take` do, in one
+    /// look-up where it isn't the unit's own.
     ///
-    /// Full where the unit holds the value 65,535 times, and NoMemory where memory is refused. What isn't taken leaves
-    /// all as it was.
+    /// Full where the unit holds the value 65,535 times, and NoMemory where memory is refused. What
+    /// isn't taken leaves all as it was.
     pub fn enq(&mut self, value: &[u8], unit: UnitId) -> Result<Option<UnitId>, TakeFault>
         requires most { length value.now ≤ 255 }
         ensures holder { IfOk result (λ holder. holder
@@ -391,7 +400,8 @@ impl Enqueues {
         answer
     }
 
-    // Takes a user's value, by its key, where it is free or the unit's own, and else answers who holds it.
+    // Takes a user's value, by its key, where it is free or the unit's own, and else answers who
+    // holds it.
     fn enq_key(&mut self, key: &Key, unit: UnitId) -> Result<Option<UnitId>, TakeFault>
         requires key { resource_key (resource_of key.now.items) ≡ key.now.items }
         requires user { is_user (resource_of key.now.items) ≡ true }
@@ -418,8 +428,8 @@ impl Enqueues {
         Ok(None)
     }
 
-    /// Takes a resource, any but a user's value, for a unit that may take it, unless the unit holds it
-    /// already, and tells whether it was free: where it was, `let_go` undoes the take. NoMemory
+    /// Takes a resource, any but a user's value, for a unit that may take it, unless the unit holds
+    /// it already, and tells whether it was free: where it was, `let_go` undoes the take. NoMemory
     /// where memory is refused: then nothing has changed.
     pub fn hold(&mut self, resource: &ResourceRef<'_>, unit: UnitId) -> Result<bool, NoMemory>
         requires plain { is_user resource.now ≡ false }
@@ -460,7 +470,8 @@ impl Enqueues {
         Ok(was_held.is_none())
     }
 
-    // Takes a resource, by its key, for a unit where nobody holds it, and else answers how it is held: in one look-up.
+    // Takes a resource, by its key, for a unit where nobody holds it, and else answers how it is
+    // held: in one look-up.
     #[tactic(auto, using(crate::proofs::Tables::in_order))]
     fn take_free(&mut self, key: &Key, unit: UnitId) -> Result<Option<Holding>, NoMemory>
         requires key { resource_key (resource_of key.now.items) ≡ key.now.items }
@@ -485,7 +496,8 @@ impl Enqueues {
         Ok(None)
     }
 
-    // Takes a resource once more, by its key, for the unit that holds it. NoMemory where nobody does.
+    // Takes a resource once more, by its key, for the unit that holds it. NoMemory where nobody
+    // does.
     fn take_again(&mut self, key: &Key, user: bool) -> Result<(), TakeFault>
         requires key { resource_key (resource_of key.now.items) ≡ key.now.items }
         requires user { user ≡ is_user (resource_of key.now.items) }
@@ -503,14 +515,16 @@ impl Enqueues {
         raise(holding, user)
     }
 
-    /// Gives back one take of a resource, if the unit holds it: with the last one the resource is free. Takes no memory.
+    /// Gives back one take of a resource, if the unit holds it: with the last one the resource is
+    /// free. Takes no memory.
     pub fn give_back(&mut self, resource: &Resource, unit: UnitId)
         ensures { self.new ≡ given_back self.old resource.now unit }
     {
         self.let_go(&ResourceRef::of(resource), unit);
     }
 
-    /// Gives back one take of a resource whose bytes are borrowed, as `give_back` does. Takes no memory.
+    /// Gives back one take of a resource whose bytes are borrowed, as `give_back` does. Takes no
+    /// memory.
     pub fn let_go(&mut self, resource: &ResourceRef<'_>, unit: UnitId)
         ensures { self.new ≡ given_back self.old resource.now unit }
     {
@@ -534,7 +548,8 @@ impl Enqueues {
         self.let_go_listed(compact(resource).as_slice(), unit);
     }
 
-    // Gives back one take of a resource, by its bytes, where there is no room for a key: by that in the unit's list.
+    // Gives back one take of a resource, by its bytes, where there is no room for a key: by that in
+    // the unit's list.
     fn let_go_listed(&mut self, bytes: &[u8], unit: UnitId)
         requires key { resource_key (resource_of bytes.now) ≡ bytes.now }
         ensures { self.new ≡ given_back self.old (resource_of bytes.now) unit }
@@ -554,7 +569,8 @@ impl Enqueues {
         }
     }
 
-    /// Frees all that a unit holds, at a cost that goes by what it took since it began, and may have given back. Takes no memory.
+    /// Frees all that a unit holds, at a cost that goes by what it took since it began, and may
+    /// have given back. Takes no memory.
     pub fn release_all(&mut self, unit: UnitId)
         ensures { self.new ≡ released self.old unit }
     {

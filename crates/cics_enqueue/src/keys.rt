@@ -54,8 +54,8 @@ fn numbers_of(bytes: &[u8]) -> Numbers
     }
 }
 
-// The bytes of a resource, and their numbers: nearly all keys are told apart by these alone, which lie in the node of the tree,
-// where the bytes lie elsewhere in memory.
+// The bytes of a resource, and their numbers: nearly all keys are told apart by these alone, which
+// lie in the node of the tree, where the bytes lie elsewhere in memory.
 #[derive(Drop)]
 pub(crate) struct Key {
     numbers: Numbers,
@@ -119,8 +119,8 @@ impl Key {
         })
     }
 
-    // Makes it the key of these few bytes, and of none where there is no room for any key. It doesn't
-    // read the key's bytes back, as `set` does.
+    // Makes it the key of these few bytes, and of none where there is no room for any key. It
+    // doesn't read the key's bytes back, as `set` does.
     pub(crate) fn set_short<const N: usize>(&mut self, bytes: &[u8; N]) -> Result<(), NoMemory>
         requires most { length bytes.now ≤ 265 }
         ensures set { OnOk result (self.new.items ≡ bytes.now) }
@@ -135,7 +135,8 @@ impl Key {
         Ok(())
     }
 
-    // Makes it the key of these bytes and what comes after them, and of none where there is no room for them.
+    // Makes it the key of these bytes and what comes after them, and of none where there is no room
+    // for them.
     pub(crate) fn set(&mut self, front: &[u8], rest: &[u8]) -> Result<(), NoMemory>
         requires most { length front.now + length rest.now ≤ 265 }
         ensures set { OnOk result (self.new.items ≡ front.now ++ rest.now) }
@@ -147,7 +148,8 @@ impl Key {
     }
 }
 
-// The order of the bytes of two keys whose numbers are equal: that of their lengths, where neither has more bytes than the numbers.
+// The order of the bytes of two keys whose numbers are equal: that of their lengths, where neither
+// has more bytes than the numbers.
 fn order_behind(left: &[u8], right: &[u8]) -> Ordering
     requires level { length left.now ≤ 24 → length right.now ≤ 24
         → nat_cmp (length left.now) (length right.now) ≡ bytes_cmp left.now right.now }

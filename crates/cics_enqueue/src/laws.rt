@@ -7,9 +7,9 @@ ghost use Rattle.cics_enqueue.specs.declared.resources.Resource.{Resource};
 ghost use Rattle.cics_enqueue.specs.Resources.{Table, IsLawful, IsFreeFor};
 ghost use Rattle.cics_enqueue.specs.Resources.{taken, given_back, released};
 
-/// Every table is lawful: its resources rise, what overlaps has one holder, and what is held is held
-/// once, or more often where it is a user's value. So two units never hold a key and a prefix of it,
-/// or two prefixes of which the one begins with the other.
+/// Every table is lawful: its resources rise, what overlaps has one holder, and what is held is
+/// held once, or more often where it is a user's value. So two units never hold a key and a prefix
+/// of it, or two prefixes of which the one begins with the other.
 ///
 /// - `begins`: it is so while nothing is held.
 /// - `takes`: it stays so where a unit takes what it may take.

@@ -56,8 +56,8 @@ pub(crate) fn other_holder(
     other_unit(held_under(table, bound, bytes), asker)
 }
 
-// Sets the bound at which a look-up of what begins with some bytes begins: to these. Were there no room for them, it would be
-// no bytes, and the look-up would go through the whole table.
+// Sets the bound at which a look-up of what begins with some bytes begins: to these. Were there no
+// room for them, it would be no bytes, and the look-up would go through the whole table.
 fn set_bound(bound: &mut Key, start: &[u8])
     requires most { length start.now ≤ 265 }
     ensures { begins_with bound.new.items start.now ≡ true }
@@ -65,7 +65,8 @@ fn set_bound(bound: &mut Key, start: &[u8])
     let _ = bound.set(&[], start);
 }
 
-// The bytes and the unit of the first entry that begins with some bytes and is another unit's than the asker's.
+// The bytes and the unit of the first entry that begins with some bytes and is another unit's than
+// the asker's.
 pub(crate) fn first_under<'t>(
     table: &'t BTreeMap<Key, Holding>,
     bound: &mut Key,
@@ -107,7 +108,8 @@ pub(crate) fn has_prefixes(table: &BTreeMap<Key, Holding>) -> bool
     }
 }
 
-// The unit, another than the asker, that holds the shortest prefix of keys with which bytes begin, but these themselves.
+// The unit, another than the asker, that holds the shortest prefix of keys with which bytes begin,
+// but these themselves.
 pub(crate) fn shorter_holder(
     table: &BTreeMap<Key, Holding>,
     bound: &mut Key,
@@ -150,7 +152,8 @@ fn lesser_holder(key: &[u8], holder: UnitId, prefix: &[u8], other: UnitId) -> Un
     }
 }
 
-// The unit, another than the asker, that holds the least key or prefix of keys that begins with a prefix.
+// The unit, another than the asker, that holds the least key or prefix of keys that begins with a
+// prefix.
 pub(crate) fn least_holder(
     table: &BTreeMap<Key, Holding>,
     bound: &mut Key,
@@ -175,8 +178,8 @@ pub(crate) fn least_holder(
     Some(lesser_holder(key.0, key.1, prefix.0, prefix.1))
 }
 
-// The unit, another than the asker, that holds the first of what overlaps a key: a shorter prefix, the key, or the prefix that
-// has its bytes.
+// The unit, another than the asker, that holds the first of what overlaps a key: a shorter prefix,
+// the key, or the prefix that has its bytes.
 pub(crate) fn key_holder(
     table: &BTreeMap<Key, Holding>,
     bound: &mut Key,

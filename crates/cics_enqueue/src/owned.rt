@@ -16,12 +16,12 @@ use cics_names::NoMemory;
 use indexmap::IndexMap;
 use std::alloc::Global;
 
-// For each unit its keys in the order in which it took them. One that is given back before later ones stands here
-// until the unit ends: to look for it would cost more than to pass it over then.
+// For each unit its keys in the order in which it took them. One that is given back before later
+// ones stands here until the unit ends: to look for it would cost more than to pass it over then.
 pub(crate) type Owned = IndexMap<UnitId, Vec<Key>>;
 
-// True only where no unit but the asker has any keys; false says nothing, as a unit that gave all its
-// keys back stands here until it ends. It costs the same whatever the units have.
+// True only where no unit but the asker has any keys; false says nothing, as a unit that gave all
+// its keys back stands here until it ends. It costs the same whatever the units have.
 pub(crate) fn is_alone(owned: &Owned, asker: &Option<UnitId>) -> bool
     ensures { OnTrue result ((u : ℕ) (k : Vec ℕ) →
         is_other asker.now u ≡ true → owns owned.now.entries u k ≡ false) }
@@ -66,7 +66,8 @@ fn drop_last(keys: &mut Vec<Key>, key: &Key)
     }
 }
 
-// Takes a key from those of a unit where it is the one that the unit took last, and else leaves it there.
+// Takes a key from those of a unit where it is the one that the unit took last, and else leaves it
+// there.
 pub(crate) fn remove(owned: &mut Owned, unit: UnitId, key: &Key)
     ensures { Drops unit key.now.items owned.old.entries owned.new.entries }
 {

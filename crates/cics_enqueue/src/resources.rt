@@ -54,7 +54,8 @@ pub enum Resource {
     TdWrite(Name4),
     /// A value of a program's own.
     User(ArrayVec<u8, 255>),
-    /// The records of a file under every key that begins with these bytes, whether they are there or not.
+    /// The records of a file under every key that begins with these bytes, whether they are there
+    /// or not.
     FilePrefix(Name8, ArrayVec<u8, 255>),
 }
 
@@ -79,7 +80,8 @@ impl Resource {
         Resource::FileKey(file, kept(key))
     }
 
-    /// The records of a file under every key that begins with these at most 255 bytes, whether they are there or not.
+    /// The records of a file under every key that begins with these at most 255 bytes, whether they
+    /// are there or not.
     pub fn prefix(file: Name8, bytes: &[u8]) -> Resource
         requires most { length bytes.now ≤ 255 }
         ensures { result ≡ FilePrefix file (bytes_of bytes.now) }

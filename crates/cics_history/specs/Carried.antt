@@ -5,8 +5,8 @@ use Rattle.cics_transdata.specs.declared.images.TdImage.{TdImage}
 use Rattle.cics_transdata.specs.declared.images.TdImage.TheVariants.{Taken, Written}
 use Rattle.cics_history.specs.MarkImages.{MarkImage, OfReading, OfWriting}
 
--- a queue's image is this image of its marks: of a read or delete it has how many records were marked before, of a write
--- its kind alone, since the record that was marked is the last
+-- a queue's image is this image of its marks: of a read or delete it has how many records were
+-- marked before, of a write its kind alone, since the record that was marked is the last
 abbrev pub Carries : TdImage → MarkImage → Type 0
 Carries (Taken n) (OfReading q before made) = (n ≡ before) × (before ≤ made)
 Carries Written (OfWriting q before made) = (d : Bytes) × (made ≡ before ++ d ∷ [])

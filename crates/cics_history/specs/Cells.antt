@@ -1,5 +1,5 @@
--- Recovery: a store read by cells, the smallest parts that a command can change, and what a command does to one of
--- them.
+-- Recovery: a store read by cells, the smallest parts that a command can change, and what a command
+-- does to one of them.
 use Rattle.std.specs.Prelude.{◌≡◌, Bool, true, false, if◌then◌else◌, ◌&&◌, Option, Some, None, List, [], ◌∷◌, ◌++◌}
 use Rattle.cics_names.specs.Keyed.{Bytes, Map, value_at, is_same, is_rising}
 use Rattle.cics_names.specs.declared.conditions.Condition.TheVariants.{Normal, Dsiderr, Notfnd, Duprec, Qzero, Qiderr}
@@ -18,8 +18,8 @@ pub data Cell : Type 0 where
   Ts : (queue : Bytes) → Cell
   Td : (queue : Bytes) → Cell
 
--- what a cell holds: nothing where its file or queue isn't defined; else the record of a key or none, or the records
--- of a queue
+-- what a cell holds: nothing where its file or queue isn't defined; else the record of a key or
+-- none, or the records of a queue
 abbrev pub Content : Type 0
 Content = Option (List Bytes)
 
@@ -70,7 +70,8 @@ abbrev pub is_under : Bytes → Bytes → Cell → Bool
 is_under f p (Key g l) = is_same f g && has_prefix p l
 is_under f p _ = false
 
--- a command acts on the cell that it names, DELETE GENERIC on every key of the file that begins with the prefix
+-- a command acts on the cell that it names, DELETE GENERIC on every key of the file that begins
+-- with the prefix
 abbrev pub touches : Op → Cell → Bool
 touches (DeleteGeneric f p) x = is_under f p x
 touches op x = same_cell (cell_of op) x
@@ -88,7 +89,8 @@ gives a c = record { answer = a; cell = c }
 abbrev pub effected : Answer → List Bytes → List Bytes → Effect
 effected a c changed = gives a (Some (if is_normal a.condition then changed else c))
 
--- what each command answers and leaves, by what its cell holds; DELETE GENERIC, by what one of its cells holds
+-- what each command answers and leaves, by what its cell holds; DELETE GENERIC, by what one of its
+-- cells holds
 abbrev pub effect : Op → Content → Effect
 effect (Write f k r) None = gives (only Dsiderr) None
 effect (Write f k r) (Some []) = gives (only Normal) (Some (r ∷ []))
@@ -120,8 +122,8 @@ effect (TdRead q) (Some (x ∷ xs)) = gives (with_content Normal (Some x)) (Some
 effect (TdDelete q) None = gives (only Qiderr) None
 effect (TdDelete q) (Some c) = gives (only Normal) (Some [])
 
--- the two ends of a cell: a transient data queue is read at the one and written at the other; a key and a temporary
--- storage queue are used whole, which is both ends
+-- the two ends of a cell: a transient data queue is read at the one and written at the other; a key
+-- and a temporary storage queue are used whole, which is both ends
 pub data End : Type 0 where
   Reading Writing : End
 
@@ -141,7 +143,8 @@ recovers o (Td q) = queue_logical o q
 abbrev pub IsOrdered : Store → Type 0
 IsOrdered s = (f : Bytes) → is_in_order (value_at f s.files) ≡ true
 
--- a store is in order where the names and the keys rise and no temporary storage queue is without an item
+-- a store is in order where the names and the keys rise and no temporary storage queue is without
+-- an item
 pub record IsCanonical (s : Store) : Type 0 where
   pub files : is_rising s.files ≡ true
   pub records : IsOrdered s

@@ -1,5 +1,5 @@
--- Recovery, transient data: what the queues in place and the images of their marks keep true, however the open units
--- end.
+-- Recovery, transient data: what the queues in place and the images of their marks keep true,
+-- however the open units end.
 use Rattle.std.specs.Prelude.{◌≡◌, ℕ, ◌+◌, ◌≤◌, ◌==◌, ◌&&◌, Bool, true, false, if◌then◌else◌, Option, Some, List, [], ◌∷◌, ◌++◌, length, MatchBool}
 use Rattle.std.specs.List.{list_any}
 use Rattle.cics_names.specs.Keyed.{Bytes, is_same}
@@ -59,7 +59,8 @@ LeadsFresh (OfWriting n before made ∷ is) q f to =
     MatchBool (is_same n q) ((f ≡ made) × LeadsFresh is q before to) (LeadsFresh is q f to)
 LeadsFresh (OfReading n before made ∷ is) q f to = LeadsFresh is q f to
 
--- where a write is undone its record is not marked as read: s records are settled, and t are marked as read
+-- where a write is undone its record is not marked as read: s records are settled, and t are marked
+-- as read
 abbrev pub Fits : List MarkImage → Bytes → ℕ → ℕ → Type 0
 Fits [] q s t = Unit {0}
 Fits (OfReading n before made ∷ is) q s t = Fits is q s (if is_same n q then before else t)
@@ -76,9 +77,11 @@ abbrev pub is_of_writing : Bytes → MarkImage → Bool
 is_of_writing q (OfWriting n before made) = is_same n q
 is_of_writing q (OfReading n before made) = false
 
--- one unit's images of one queue, where the unit holds the reading end or not, and the writing end or not
+-- one unit's images of one queue, where the unit holds the reading end or not, and the writing end
+-- or not
 pub record HasEnds (reads writes : Bool) (is : List MarkImage) (q : Bytes) (m : MarkedQueue) : Type 0 where
-  -- what is undone of an end that the unit holds leaves it without a mark; an end that it doesn't hold stays
+  -- what is undone of an end that the unit holds leaves it without a mark; an end that it doesn't
+  -- hold stays
   pub taken : LeadsTaken is q m.taken (if reads then 0 else m.taken)
   pub fresh : LeadsFresh is q m.fresh (if writes then [] else m.fresh)
   pub fits : Fits is q (length m.settled) m.taken

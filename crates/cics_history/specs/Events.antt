@@ -1,4 +1,5 @@
--- Units that execute, enqueue and dequeue, unlock, commit and back out, in any order, and tasks that read temporary storage.
+-- Units that execute, enqueue and dequeue, unlock, commit and back out, in any order, and tasks
+-- that read temporary storage.
 use Rattle.std.specs.Prelude.{ℕ, Bool, true, ◌&&◌, if◌then◌else◌, Option, Some, None, nat_lt, length, List, [], ◌∷◌}
 use Rattle.cics_names.specs.Keyed.{Bytes}
 use Rattle.cics_history.specs.History.{outcome_of, is_open}
@@ -7,8 +8,9 @@ use Rattle.cics_history.specs.Execution.{after_execution, after_end, after_enque
 use Rattle.cics_history.specs.declared.ops.Op.{Op}
 use Rattle.cics_history.specs.declared.ops.UnitState.TheVariants.{Committed, BackedOut}
 
--- a unit, or a task without one, has a command executed, or enqueues on a value; a unit dequeues from a value, or unlocks a
--- file; it commits, or is backed out; a task reads an item of a temporary storage queue, which is of no unit
+-- a unit, or a task without one, has a command executed, or enqueues on a value; a unit dequeues
+-- from a value, or unlocks a file; it commits, or is backed out; a task reads an item of a
+-- temporary storage queue, which is of no unit
 pub data Event : Type 0 where
   Execute : (unit : Option ℕ) (op : Op) → Event
   Commit : (unit : ℕ) → Event
@@ -27,7 +29,8 @@ abbrev pub may_act : UnitsState → Option ℕ → Bool
 may_act s None = true
 may_act s (Some u) = is_live s u
 
--- an event of a unit that isn't open changes nothing, and neither does a command or an ENQ that must wait
+-- an event of a unit that isn't open changes nothing, and neither does a command or an ENQ that
+-- must wait
 abbrev pub happens : UnitsState → Event → UnitsState
 happens s (Execute u op) = if may_act s u then after_execution s u op else s
 happens s (Commit u) = if is_live s u then after_end s u Committed else s

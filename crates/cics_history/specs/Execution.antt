@@ -1,5 +1,5 @@
--- Recovery and task control: what each call on the units of a region answers, and what it leaves: executing a command,
--- ENQ and DEQ, UNLOCK, the end of a unit, READQ TS.
+-- Recovery and task control: what each call on the units of a region answers, and what it leaves:
+-- executing a command, ENQ and DEQ, UNLOCK, the end of a unit, READQ TS.
 use Rattle.std.specs.Prelude.{ℕ, ◌+◌, ◌-◌, ◌==◌, ◌<◌, Bool, true, false, not, ◌&&◌, ◌||◌, if◌then◌else◌, IsTrue, Option, Some, None, is_some, unwrap_or, filter, slice_set, nat_lt, nat_le, slice_get, List, [], ◌∷◌, ◌++◌, length}
 use Rattle.cics_names.specs.Keyed.{Bytes, Map, value_at, has_key, with_value, without, is_same, is_below}
 use Rattle.cics_names.specs.declared.conditions.Condition.{Condition}
@@ -63,7 +63,8 @@ abbrev pub with_read : UpdateRead → List UpdateRead → List UpdateRead
 with_read r [] = r ∷ []
 with_read r (x ∷ xs) = if is_read_before r x then r ∷ x ∷ xs else x ∷ with_read r xs
 
--- REWRITE, DELETE of the key that was read, and DELETE GENERIC of a prefix that it begins with cover the unit's update read
+-- REWRITE, DELETE of the key that was read, and DELETE GENERIC of a prefix that it begins with
+-- cover the unit's update read
 abbrev pub covers : ℕ → Op → UpdateRead → Bool
 covers u (Rewrite f k r) x = is_read_of u f x && is_same x.key k
 covers u (Delete f k) x = is_read_of u f x && is_same x.key k
@@ -108,7 +109,8 @@ entered s u op answer =
       next = next_after (store_of s) op answer.condition s.next;
     }
 
--- a command waits for the unit that it awaits; where it awaits none it has the answer that the store gives
+-- a command waits for the unit that it awaits; where it awaits none it has the answer that the
+-- store gives
 abbrev pub done_of : UnitsState → Option ℕ → Op → Option ℕ → Done
 done_of s u op (Some holder) = MustWait holder
 done_of s u op None = Answered (unit_or_next u s.outcomes) (apply (store_of s) op).answer
@@ -150,7 +152,8 @@ counted (c ∷ cs) u v =
     else if is_below v c.value then record { value = v; unit = u; count = 1 } ∷ c ∷ cs
     else c ∷ counted cs u v
 
--- a unit dequeues from a value once, with the last time altogether; what it doesn't hold stays as it is
+-- a unit dequeues from a value once, with the last time altogether; what it doesn't hold stays as
+-- it is
 abbrev pub uncounted : List EnqCount → ℕ → Bytes → List EnqCount
 uncounted [] u v = []
 uncounted (c ∷ cs) u v =
@@ -161,7 +164,8 @@ uncounted (c ∷ cs) u v =
 abbrev pub with_counts : UnitsState → List UnitState → List EnqCount → UnitsState
 with_counts s outcomes counts = record { opening = s.opening; trace = s.trace; outcomes = outcomes; commits = s.commits; reads = s.reads; counts = counts; next = s.next }
 
--- ENQ waits for another unit that holds the value; a unit that holds it the most times gets it no more
+-- ENQ waits for another unit that holds the value; a unit that holds it the most times gets it no
+-- more
 abbrev pub enq_of : UnitsState → Option ℕ → Bytes → Option ℕ → Enqueued
 enq_of s u v (Some holder) = EnqMustWait holder
 enq_of s u v None = if nat_le most_count (count_at s.counts (unit_or_next u s.outcomes) v) then CountFull else Taken (unit_or_next u s.outcomes)
@@ -244,12 +248,14 @@ after_end s u outcome = places_there (ended_as s u outcome)
 abbrev pub place_at : UnitsState → Bytes → ℕ
 place_at s q = unwrap_or (value_at q s.next) 0
 
--- READQ TS ITEM(n) asks for the item n, READQ TS NEXT for the item after the one that any task read last
+-- READQ TS ITEM(n) asks for the item n, READQ TS NEXT for the item after the one that any task read
+-- last
 abbrev pub item_asked : UnitsState → Bytes → Option ℕ → ℕ
 item_asked s q None = place_at s q + 1
 item_asked s q (Some n) = n
 
--- READQ TS gives the item, an open unit's changes included; an absent queue is QIDERR, an absent item ITEMERR
+-- READQ TS gives the item, an open unit's changes included; an absent queue is QIDERR, an absent
+-- item ITEMERR
 abbrev pub ts_reading : UnitsState → Bytes → ℕ → Answer
 ts_reading s q n =
     let items = ts_queue (store_of s) q in
@@ -290,9 +296,9 @@ is_item d = is_record_size (length d)
 abbrev pub is_short_key : Bytes → Bool
 is_short_key k = nat_le (length k) 255
 
--- a command is ready to be executed where its file or queue is defined, its record fits, its key or prefix has no more bytes
--- than a key may have, REWRITE has the key of the open update read, and READ UPDATE finds none open. The key of a record
--- that fits has the length which its file defines
+-- a command is ready to be executed where its file or queue is defined, its record fits, its key or
+-- prefix has no more bytes than a key may have, REWRITE has the key of the open update read, and
+-- READ UPDATE finds none open. The key of a record that fits has the length which its file defines
 abbrev pub is_ready_op : UnitsState → Option ℕ → Op → Bool
 is_ready_op s u (Write f k r) = is_fit_for (value_at f s.opening.files) k r
 is_ready_op s u (Rewrite f k r) = is_fit_for (value_at f s.opening.files) k r && same_key (has_read s u f) k where

@@ -1,6 +1,7 @@
--- Recovery: after any calls, the store holds what replaying the kept history from the opening gives, and in that replay
--- each kept command has the answer that it was given; where the last commands are all of one backed-out unit, what is
--- recoverable holds what the kept ones before them give; and the units take turns in the order in which they committed.
+-- Recovery: after any calls, the store holds what replaying the kept history from the opening
+-- gives, and in that replay each kept command has the answer that it was given; where the last
+-- commands are all of one backed-out unit, what is recoverable holds what the kept ones before them
+-- give; and the units take turns in the order in which they committed.
 use Rattle.std.specs.Prelude.{◌≡◌, ℕ, true, List, [], ◌++◌, All, IsTrue, IsPermutation}
 use Rattle.cics_names.specs.Keyed.{Bytes, value_at}
 use Rattle.cics_history.specs.declared.ops.Entry.{Entry}
@@ -17,8 +18,8 @@ pub record IsSameRecoverable (o : OpeningState) (s t : Store) : Type 0 where
   pub ts : (q : Bytes) → IsTrue (has_prefix_in o.prefixes q) → value_at q s.ts ≡ value_at q t.ts
   pub td : (q : Bytes) → IsTrue (queue_logical o q) → value_at q s.td ≡ value_at q t.td
 
--- a unit whose entries are the last ones left no trace: each recoverable file and queue holds what the kept entries before
--- them give
+-- a unit whose entries are the last ones left no trace: each recoverable file and queue holds what
+-- the kept entries before them give
 abbrev pub LeftNoTrace : UnitsValue → ℕ → Type 0
 LeftNoTrace v u =
     (before own : List Entry) → v.state.trace ≡ before ++ own → All (λ e. e.unit ≡ u) own →
@@ -44,8 +45,9 @@ pub record TakeTurns (v : UnitsValue) : Type 0 where
   -- where no unit is open, the turns of those that committed do
   pub closed : NoneIsOpen v.state → IsSameRecoverable v.state.opening v.store (serial_store v.state v.state.commits)
 
--- the store of the parts is the replay of the kept history, and each kept entry has the answer that its place gives; so
--- where the last entries are all of a unit that was backed out, it left no trace; and the units take turns
+-- the store of the parts is the replay of the kept history, and each kept entry has the answer that
+-- its place gives; so where the last entries are all of a unit that was backed out, it left no
+-- trace; and the units take turns
 pub record IsHeadline (v : UnitsValue) : Type 0 where
   pub store : v.store ≡ replay (initial_store v.state.opening) (kept v.state.opening v.state.trace v.state.outcomes)
   pub agrees : Agrees (initial_store v.state.opening) (kept v.state.opening v.state.trace v.state.outcomes)
@@ -56,7 +58,8 @@ pub record IsHeadline (v : UnitsValue) : Type 0 where
 abbrev pub beginning : OpeningState → UnitsState
 beginning o = record { opening = o; trace = []; outcomes = []; commits = []; reads = []; counts = []; next = [] }
 
--- a unit that ran alone from some entry on and is backed out by a call leaves what the kept entries before it give
+-- a unit that ran alone from some entry on and is backed out by a call leaves what the kept entries
+-- before it give
 abbrev pub LeavesNoTrace : UnitsValue → UnitsValue → ℕ → Type 0
 LeavesNoTrace old new u =
     (before own : List Entry) → old.state.trace ≡ before ++ own → All (λ e. e.unit ≡ u) own →

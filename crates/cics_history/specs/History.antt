@@ -1,5 +1,5 @@
--- Recovery (chapter on recovery and restart): the history of the executed commands, how the units of work ended, and
--- what replaying the history gives.
+-- Recovery (chapter on recovery and restart): the history of the executed commands, how the units
+-- of work ended, and what replaying the history gives.
 use Rattle.std.specs.Prelude.{◌≡◌, ℕ, Bool, true, false, not, ◌&&◌, unwrap_or, filter, slice_get, List, [], ◌∷◌}
 use Rattle.cics_history.specs.Openings.{OpeningState}
 use Rattle.cics_history.specs.Store.{Store, apply, is_recoverable}

@@ -1,4 +1,5 @@
--- Task control and recovery: at most one unit holds a resource, and the least of what is held is found.
+-- Task control and recovery: at most one unit holds a resource, and the least of what is held is
+-- found.
 use Rattle.std.specs.Prelude.{◌≡◌, ℕ, ◌<◌, ◌==◌, Bool, true, false, Option, List, length}
 use Rattle.std.specs.List.{list_any}
 use Rattle.cics_names.specs.Keyed.{Bytes, is_below}
@@ -21,8 +22,8 @@ meet rs ts = list_any (λ r. list_any (overlaps r) ts) rs
 abbrev pub IsHeldByOne : UnitsState → Type 0
 IsHeldByOne s = (u n : ℕ) → meet (held_by s u) (held_by s n) ≡ true → u ≡ n
 
--- an entry is of another unit than the one that asks, which holds it, and it overlaps the resource; and nothing of which that
--- is so comes before it in byte order
+-- an entry is of another unit than the one that asks, which holds it, and it overlaps the resource;
+-- and nothing of which that is so comes before it in byte order
 pub record IsLeastHeld (s : UnitsState) (asking : Option ℕ) (r : Resource) (e : Resource × Held) : Type 0 where
   pub meets : overlaps r e.0 ≡ true
   pub other : is_other asking e.1.unit ≡ true

@@ -1,6 +1,7 @@
--- Recovery and task control (chapters on recovery and on task control): what a unit of work holds, read off the history,
--- and when a command must wait for whom. No table is kept of it: a unit holds what its commands have used until it ends, the
--- values of its ENQ until their DEQ, and a record of an unrecoverable file while its update read is open.
+-- Recovery and task control (chapters on recovery and on task control): what a unit of work holds,
+-- read off the history, and when a command must wait for whom. No table is kept of it: a unit holds
+-- what its commands have used until it ends, the values of its ENQ until their DEQ, and a record of
+-- an unrecoverable file while its update read is open.
 use Rattle.std.specs.Prelude.{ℕ, ◌+◌, ◌==◌, Bool, true, false, not, ◌&&◌, ◌||◌, if◌then◌else◌, Option, Some, None, unwrap_or, option_map, filter, map, flat_map, List, [], ◌∷◌, ◌++◌}
 use Rattle.cics_names.specs.Keyed.{Bytes, Map, value_at}
 use Rattle.cics_enqueue.specs.Resources.{Table, Held, bytes_of, overlaps, is_other, lesser}
@@ -26,9 +27,9 @@ pub record EnqCount : Type 0 where
   pub unit : ℕ
   pub count : ℕ
 
--- the units of a region: what it opened with, the executed commands in their order, the outcome of each unit that began,
--- those that committed in the order in which they did, the open update reads by unit and file, the counts of ENQ by value, and
--- the NEXT places that aren't 0 by queue
+-- the units of a region: what it opened with, the executed commands in their order, the outcome of
+-- each unit that began, those that committed in the order in which they did, the open update reads
+-- by unit and file, the counts of ENQ by value, and the NEXT places that aren't 0 by queue
 pub record UnitsState : Type 0 where
   pub opening : OpeningState
   pub trace : List Entry
@@ -46,8 +47,9 @@ store_of s = replay (initial_store s.opening) (kept s.opening s.trace s.outcomes
 abbrev pub named_if : Bool → Resource → List Resource
 named_if b r = if b then r ∷ [] else []
 
--- what a command uses: its record, there or not, or all under its prefix; the name of a recoverable temporary storage
--- queue; of a LOGICAL queue the reading end for a read, the writing end for a write, both for a delete
+-- what a command uses: its record, there or not, or all under its prefix; the name of a recoverable
+-- temporary storage queue; of a LOGICAL queue the reading end for a read, the writing end for a
+-- write, both for a delete
 abbrev pub uses_of : OpeningState → Op → List Resource
 uses_of o (Write f k r) = FileKey f (bytes_of k) ∷ []
 uses_of o (Rewrite f k r) = FileKey f (bytes_of k) ∷ []
@@ -89,7 +91,8 @@ units_from n (x ∷ xs) = n ∷ units_from (n + 1) xs
 abbrev pub held_table : UnitsState → Table
 held_table s = flat_map (λ u. map (λ r. (r, record { unit = u; count = 1 })) (held_by s u)) (units_from 0 s.outcomes)
 
--- the least, in byte order, of what overlaps a resource and is held by another unit than the one that asks
+-- the least, in byte order, of what overlaps a resource and is held by another unit than the one
+-- that asks
 abbrev pub first_held : Table → Option ℕ → Resource → Option (Resource × Held)
 first_held [] u r = None
 first_held (e ∷ es) u r = if overlaps r e.0 && is_other u e.1.unit then lesser (Some e) (first_held es u r) else first_held es u r
@@ -112,7 +115,8 @@ holder_among t u (r ∷ rs) = first_some (first_holder t u r) (holder_among t u 
 abbrev pub is_own : Option ℕ → ℕ → Bool
 is_own u v = not (is_other u v)
 
--- the records of a queue that a unit may read: those that the ended units and itself have left, and no other unit's
+-- the records of a queue that a unit may read: those that the ended units and itself have left, and
+-- no other unit's
 abbrev pub committed_for : UnitsState → Option ℕ → Bytes → List Bytes
 committed_for s u q =
     let seen = filter (λ e. is_own u e.unit || not (is_open (outcome_of s.outcomes e.unit))) (kept s.opening s.trace s.outcomes) in
@@ -123,7 +127,8 @@ abbrev pub is_nothing : List Bytes → Bool
 is_nothing [] = true
 is_nothing (x ∷ xs) = false
 
--- READQ TD that finds no record which it may read waits for another unit at the writing end of the LOGICAL queue
+-- READQ TD that finds no record which it may read waits for another unit at the writing end of the
+-- LOGICAL queue
 abbrev pub writer_awaited : UnitsState → Option ℕ → Op → Option ℕ
 writer_awaited s u (TdRead q) = if queue_logical s.opening q && is_nothing (committed_for s u q) then first_holder (held_table s) u (WritingEnd q) else None
 writer_awaited s u (TdWrite q d) = None
@@ -137,7 +142,8 @@ writer_awaited s u (TsWrite q d) = None
 writer_awaited s u (TsRewrite q n d) = None
 writer_awaited s u (TsDelete q) = None
 
--- the unit that a command must wait for, if it must: another that holds what it uses, else the writer of what it would read
+-- the unit that a command must wait for, if it must: another that holds what it uses, else the
+-- writer of what it would read
 abbrev pub awaited : UnitsState → Option ℕ → Op → Option ℕ
 awaited s u op = first_some (holder_among (held_table s) u (uses_of s.opening op)) (writer_awaited s u op)
 

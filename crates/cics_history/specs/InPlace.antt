@@ -1,4 +1,5 @@
--- Recovery: all that the units change in place, through executions, commits, backouts and all other calls in any order.
+-- Recovery: all that the units change in place, through executions, commits, backouts and all other
+-- calls in any order.
 use Rattle.std.specs.Prelude.{ℕ, ◌&&◌, not, if◌then◌else◌, Option, Some, is_some, List, [], ◌∷◌}
 use Rattle.cics_history.specs.Openings.{OpeningState, queue_logical}
 use Rattle.cics_history.specs.Holding.{UnitsState, store_of, awaited}
@@ -32,9 +33,9 @@ parts_executed s p u op = record {
   marks = marks_executed s p.marks u op;
 }
 
--- an event changes the parts: none reads the history, but for what a unit holds and for the keys under a prefix. A commit
--- drops the images of its unit, a backout undoes them, the newest first; ENQ, DEQ, UNLOCK and READQ TS change no cell, no
--- image and no mark
+-- an event changes the parts: none reads the history, but for what a unit holds and for the keys
+-- under a prefix. A commit drops the images of its unit, a backout undoes them, the newest first;
+-- ENQ, DEQ, UNLOCK and READQ TS change no cell, no image and no mark
 abbrev pub happens_in_place : UnitsState → Parts → Event → Parts
 happens_in_place s p (Execute u op) =
     if may_act s u && not (is_some (awaited s u op)) then parts_executed s p u op else p

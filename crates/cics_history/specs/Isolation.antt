@@ -1,5 +1,6 @@
--- Recovery: the open units are kept apart. Everything is said of every way in which the open units may still end, an
--- ending: so a commit or a backout, after which fewer endings are left, has nothing to prove.
+-- Recovery: the open units are kept apart. Everything is said of every way in which the open units
+-- may still end, an ending: so a commit or a backout, after which fewer endings are left, has
+-- nothing to prove.
 use Rattle.std.specs.Prelude.{◌≡◌, ℕ, ◌<◌, Bool, true, false, ◌&&◌, not, Some, None, List, [], ◌∷◌, ◌++◌, length, filter}
 use Rattle.std.specs.List.{list_any}
 use Rattle.std.proofs.Common.{eqb, ◌⊎◌}
@@ -76,7 +77,8 @@ abbrev pub AtMost : List Entry → Cell → End → Outcomes → Outcomes → Ty
 AtMost es x end fin more = (u : ℕ) → used es u x end ≡ true → is_backed_out (more u) ≡ true →
     is_backed_out (fin u) ≡ true
 
--- what the cell holds depends on how the units that used it end, and the writers only add at its end
+-- what the cell holds depends on how the units that used it end, and the writers only add at its
+-- end
 abbrev pub FrontsAt : OpeningState → List Entry → Outcomes → Cell → Type 0
 FrontsAt o es out x =
     recovers o x ≡ true → (fin more : Outcomes) → Extends out fin → Extends out more →
@@ -106,8 +108,8 @@ IsFree es out v x end = (u : ℕ) → used es u x end ≡ true → (u ≡ v) ⊎
 abbrev pub AreKnown : UnitsState → Type 0
 AreKnown s = Each (λ e. e.unit < length s.outcomes) s.trace
 
--- what every call of the units keeps: the open units are kept apart, each unit that the state names has begun, and
--- each resource has one holder
+-- what every call of the units keeps: the open units are kept apart, each unit that the state names
+-- has begun, and each resource has one holder
 pub record IsSound (s : UnitsState) : Type 0 where
   pub isolated : IsIsolated s.opening s.trace (outcome_of s.outcomes)
   pub known : AreKnown s

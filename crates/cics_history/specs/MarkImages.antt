@@ -7,7 +7,8 @@ use Rattle.cics_history.specs.declared.ops.Op.{Op}
 use Rattle.cics_history.specs.declared.ops.Op.TheVariants.{TdWrite, TdRead, TdDelete}
 use Rattle.cics_history.specs.Marks.{MarkedQueue, shown, Queues}
 
--- one change of one end: how many records were marked as read, or which were marked as written, before and after it
+-- one change of one end: how many records were marked as read, or which were marked as written,
+-- before and after it
 pub data MarkImage : Type 0 where
   OfReading : (queue : Bytes) (before made : ℕ) → MarkImage
   OfWriting : (queue : Bytes) (before made : List Bytes) → MarkImage
@@ -22,12 +23,14 @@ abbrev pub unmarked : MarkImage → MarkedQueue → MarkedQueue
 unmarked (OfReading q before made) m = record m { taken = before }
 unmarked (OfWriting q before made) m = record m { fresh = before }
 
--- an image is ready where its end has what the change made, and no record that is to go is marked as read
+-- an image is ready where its end has what the change made, and no record that is to go is marked
+-- as read
 abbrev pub IsMarkReady : MarkImage → MarkedQueue → Type 0
 IsMarkReady (OfReading q before made) m = m.taken ≡ made
 IsMarkReady (OfWriting q before made) m = (m.fresh ≡ made) × (m.taken ≤ length (m.settled ++ before))
 
--- the images of this queue are ready one after the other, the newest first, and lead from the one to the other
+-- the images of this queue are ready one after the other, the newest first, and lead from the one
+-- to the other
 abbrev pub Unmarks : List MarkImage → Bytes → MarkedQueue → MarkedQueue → Type 0
 Unmarks [] q from to = from ≡ to
 Unmarks (i ∷ is) q from to =

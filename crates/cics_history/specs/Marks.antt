@@ -1,5 +1,5 @@
--- Recovery, transient data: a LOGICAL queue in place. What an open unit wrote or read stays in the queue, marked,
--- until the unit ends.
+-- Recovery, transient data: a LOGICAL queue in place. What an open unit wrote or read stays in the
+-- queue, marked, until the unit ends.
 use Rattle.std.specs.Prelude.{ℕ, ◌+◌, ◌-◌, Bool, true, false, if◌then◌else◌, unwrap_or, List, [], ◌∷◌, ◌++◌, length, take, drop}
 use Rattle.cics_names.specs.Keyed.{Bytes, value_at}
 use Rattle.cics_transdata.specs.Trans.{TransState}
@@ -11,8 +11,8 @@ use Rattle.cics_history.specs.declared.ops.Op.TheVariants.{TdWrite, TdRead, TdDe
 use Rattle.cics_history.specs.Cells.{Td, touches, Reading, Writing}
 use Rattle.cics_history.specs.Isolation.{used}
 
--- a queue in place: the records that no open unit wrote, behind them those that an open unit wrote, and how many at
--- the front an open unit has read
+-- a queue in place: the records that no open unit wrote, behind them those that an open unit wrote,
+-- and how many at the front an open unit has read
 pub record MarkedQueue : Type 0 where
   pub settled : List Bytes
   pub fresh : List Bytes
@@ -27,7 +27,8 @@ seen reader_gone writer_gone m =
 abbrev pub shown : MarkedQueue → List Bytes
 shown m = seen false false m
 
--- a write marks its record as written; a read marks the first record as read, a delete all that there are
+-- a write marks its record as written; a read marks the first record as read, a delete all that
+-- there are
 abbrev pub marked : Op → MarkedQueue → MarkedQueue
 marked (TdWrite q d) m = record m { fresh = m.fresh ++ d ∷ [] }
 marked (TdRead q) m = if is_nothing (shown m) then m else record m { taken = m.taken + 1 }

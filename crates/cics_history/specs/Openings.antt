@@ -1,6 +1,7 @@
--- What a region opens with: the files, the prefixes of the recoverable temporary storage queues, and the transient data
--- queues, each file and queue with what was loaded into it. The files, queues and prefixes are this profile's own way to
--- say what the manual leaves to the system's tables.
+-- What a region opens with: the files, the prefixes of the recoverable temporary storage queues,
+-- and the transient data queues, each file and queue with what was loaded into it. The files,
+-- queues and prefixes are this profile's own way to say what the manual leaves to the system's
+-- tables.
 use Rattle.std.specs.Prelude.{◌≡◌, ℕ, ◌+◌, ◌==◌, Bool, true, false, ◌&&◌, ◌||◌, if◌then◌else◌, Option, Some, None, option_map, nat_eq, nat_le, List, [], ◌∷◌, ◌++◌}
 use Rattle.std.specs.List.{starts_with}
 use Rattle.cics_names.specs.Keyed.{Bytes, Map, value_at, with_value, is_rising}
@@ -15,12 +16,14 @@ pub record FileOpening : Type 0 where
   pub definition : FileDef
   pub records : Map Bytes
 
--- a transient data queue that is defined: its recovery, and the records that were loaded, the first first
+-- a transient data queue that is defined: its recovery, and the records that were loaded, the first
+-- first
 pub record QueueOpening : Type 0 where
   pub recovery : Recovery
   pub records : List Bytes
 
--- all that is defined: files and transient data queues by name, prefixes in the order of their definitions
+-- all that is defined: files and transient data queues by name, prefixes in the order of their
+-- definitions
 pub record OpeningState : Type 0 where
   pub files : Map FileOpening
   pub prefixes : List Bytes
@@ -109,7 +112,8 @@ pub record HasFilesAlone (o : OpeningState) : Type 0 where
   pub prefixes : o.prefixes ≡ []
   pub queues : o.queues ≡ []
 
--- an opening is in order: the names of its files and of its queues rise, and so do the keys of each file
+-- an opening is in order: the names of its files and of its queues rise, and so do the keys of each
+-- file
 pub record IsOpeningInOrder (o : OpeningState) : Type 0 where
   pub files : is_rising o.files ≡ true
   pub records : (f : Bytes) → is_in_order (option_map (λ e. e.records) (value_at f o.files)) ≡ true

@@ -1,5 +1,5 @@
--- Recovery: what interleaved units did to recoverable files and queues is what they would have done one after the other,
--- in the order in which they committed.
+-- Recovery: what interleaved units did to recoverable files and queues is what they would have done
+-- one after the other, in the order in which they committed.
 use Rattle.std.specs.Prelude.{◌≡◌, ℕ, ◌==◌, Bool, true, false, not, ◌&&◌, if◌then◌else◌, filter, flat_map, List, [], ◌∷◌, ◌++◌}
 use Rattle.std.specs.List.{list_any}
 use Rattle.cics_history.specs.Openings.{OpeningState}
@@ -92,8 +92,8 @@ serial_store s units = replay (initial_store s.opening) (one_by_one s.opening s.
 
 -- ---- What every step keeps
 
--- one after the other these units give each recoverable cell as it stands after these outcomes, and each command has the
--- answer that its task was given
+-- one after the other these units give each recoverable cell as it stands after these outcomes, and
+-- each command has the answer that its task was given
 pub record IsSerial (o : OpeningState) (es : List Entry) (fin : Outcomes) (units : List ℕ) : Type 0 where
   pub answers : Agrees (initial_store o) (one_by_one o es units)
   pub cells : (x : Cell) → recovers o x ≡ true →
@@ -123,8 +123,8 @@ OrderIsSerial o es out order =
     (fin : Outcomes) → Extends out fin → ((u : ℕ) → is_open (out u) ≡ true → is_backed_out (fin u) ≡ true) →
     IsSerial o es fin order
 
--- what every call of the units keeps: the keys of each file rise when it is opened, and the units that committed are in their
--- order
+-- what every call of the units keeps: the keys of each file rise when it is opened, and the units
+-- that committed are in their order
 pub record IsInOrder (s : UnitsState) : Type 0 where
   pub ordered : IsOrdered (initial_store s.opening)
   pub commits : IsCommitOrder s

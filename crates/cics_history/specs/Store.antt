@@ -1,5 +1,5 @@
--- Recovery (chapters on file control, temporary storage control, transient data control): the store of files and queues,
--- and what each updating command answers and leaves.
+-- Recovery (chapters on file control, temporary storage control, transient data control): the store
+-- of files and queues, and what each updating command answers and leaves.
 use Rattle.std.specs.Prelude.{Bool, true, false, if◌then◌else◌, ℕ, Option, Some, None, unwrap_or, List, [], ◌∷◌, ◌++◌, map, length}
 use Rattle.cics_names.specs.Keyed.{Bytes, Map, value_at, with_value, without}
 use Rattle.cics_names.specs.declared.conditions.Condition.{Condition}
@@ -13,8 +13,8 @@ use Rattle.cics_history.specs.declared.ops.Op.{Op}
 use Rattle.cics_history.specs.declared.ops.Op.TheVariants.{Write, Rewrite, Delete, DeleteGeneric, ReadUpdate, TsWrite, TsRewrite, TsDelete, TdWrite, TdRead, TdDelete}
 use Rattle.cics_history.specs.declared.ops.Answer.{Answer}
 
--- the records of each defined file by key, the items of each temporary storage queue that is there, and the records of
--- each defined transient data queue
+-- the records of each defined file by key, the items of each temporary storage queue that is there,
+-- and the records of each defined transient data queue
 pub record Store : Type 0 where
   pub files : Map (Map Bytes)
   pub ts : Map Queue
@@ -92,7 +92,8 @@ abbrev pub counted_answer : {X : Type 0} → List X → Answer
 counted_answer [] = only Notfnd
 counted_answer (x ∷ xs) = numbered Normal (Some (length (x ∷ xs)))
 
--- DELETE GENERIC takes each record away whose key begins with the prefix, and answers how many they were; none is NOTFND
+-- DELETE GENERIC takes each record away whose key begins with the prefix, and answers how many they
+-- were; none is NOTFND
 abbrev pub apply_delete_generic : Store → Bytes → Bytes → Option (Map Bytes) → Applied
 apply_delete_generic s f p None = answered s (only Dsiderr) s
 apply_delete_generic s f p (Some records) = answered s (counted_answer (under p records)) (with_file s f (outside p records))
@@ -106,7 +107,8 @@ apply_read s k (Some records) = answered s (with_content (found_condition (value
 abbrev pub apply_ts_write : Store → Bytes → Bytes → Queue → Applied
 apply_ts_write s q d items = answered s (numbered (ts.write_condition items) (ts.write_number items)) (with_ts s q (items_after_write items d))
 
--- WRITEQ TS REWRITE replaces an item and answers its number; an absent queue is QIDERR, an absent item ITEMERR
+-- WRITEQ TS REWRITE replaces an item and answers its number; an absent queue is QIDERR, an absent
+-- item ITEMERR
 abbrev pub apply_ts_rewrite : Store → Bytes → ℕ → Bytes → Queue → Applied
 apply_ts_rewrite s q n d items = answered s (numbered (item_condition items n) (number_if (has_item items n) n)) (with_ts s q (items_after_rewrite items n d))
 

@@ -1,5 +1,5 @@
--- Recovery: the cells in place, and the images that each open unit keeps to undo its changes. The ends of LOGICAL
--- queues have images of their own.
+-- Recovery: the cells in place, and the images that each open unit keeps to undo its changes. The
+-- ends of LOGICAL queues have images of their own.
 use Rattle.std.specs.Prelude.{◌≡◌, ℕ, Bool, true, false, ◌&&◌, not, ◌==◌, if◌then◌else◌, Option, List, [], ◌∷◌, ◌++◌, MatchBool, unwrap_or}
 use Rattle.std.specs.List.{list_any}
 use Rattle.cics_names.specs.Keyed.{Bytes, Map, value_at}
@@ -31,12 +31,14 @@ Cells = Cell → Content
 abbrev pub after : Cells → Op → Cells
 after s op = λ x. if touches op x then (effect op (s x)).cell else s x
 
--- the cells after these images are undone, the newest first: each gives its cell back what it held before
+-- the cells after these images are undone, the newest first: each gives its cell back what it held
+-- before
 abbrev pub undone : Cells → List Image → Cells
 undone s [] = s
 undone s (i ∷ is) = undone (λ x. if same_cell i.cell x then i.before else s x) is
 
--- each image on the cell finds what its change made, and together they lead from the one content to the other
+-- each image on the cell finds what its change made, and together they lead from the one content to
+-- the other
 abbrev pub Leads : List Image → Cell → Content → Content → Type 0
 Leads [] x from to = from ≡ to
 Leads (i ∷ is) x from to =
@@ -57,8 +59,8 @@ abbrev pub changes : Op → Content → Bool
 changes (ReadUpdate f k) c = false
 changes op c = is_normal (effect op c).answer.condition
 
--- the images of one command: together they lead each cell that it changed back to what the command found there, and
--- no other cell has one
+-- the images of one command: together they lead each cell that it changed back to what the command
+-- found there, and no other cell has one
 abbrev pub AreImages : Op → Cells → List Image → Type 0
 AreImages op s new =
     (x : Cell) → MatchBool (touches op x && changes op (s x))
@@ -111,7 +113,8 @@ image_at op x c = if changes op c then record { cell = x; before = c; made = (ef
 abbrev pub image_of : Op → Content → List Image
 image_of op c = image_at op (cell_of op) c
 
--- the images of the keys of these records, the last key's the newest: each key that the command changes has one
+-- the images of the keys of these records, the last key's the newest: each key that the command
+-- changes has one
 abbrev pub images_under : Op → Bytes → Cells → Map Bytes → List Image
 images_under op f cells [] = []
 images_under op f cells (e ∷ es) = images_under op f cells es ++ image_at op (Key f e.0) (cells (Key f e.0))

@@ -9,8 +9,9 @@
 //! begins with its first command or ENQ. A command or an ENQ that must wait, and an event of a unit
 //! that isn't open, changes nothing. READQ TS is of no unit.
 //!
-//! What is said of whole runs supposes an opening in order, one whose names and keys rise; `Opening`
-//! makes no other. The answer of a delete by prefix counts records, which cells tell only there.
+//! What is said of whole runs supposes an opening in order, one whose names and keys rise;
+//! `Opening` makes no other. The answer of a delete by prefix counts records, which cells tell only
+//! there.
 
 ghost use Rattle.std.specs.Prelude.{◌≡◌, ◌≤◌, ℕ, ◌==◌, Bool, true, false, not, ◌&&◌, length};
 ghost use Rattle.std.specs.Prelude.{slice_get};
@@ -212,8 +213,8 @@ pub fn each_resource_has_one_holder()
 {}
 
 /// A unit holds an end of a LOGICAL queue exactly where it is open and has used that end, and no
-/// unit holds an end of another queue. So what a unit holds, and the table of all that is held, tell
-/// at which ends a commit of the unit has to commit.
+/// unit holds an end of another queue. So what a unit holds, and the table of all that is held,
+/// tell at which ends a commit of the unit has to commit.
 ///
 /// - `held`: so it is of what a unit holds.
 /// - `table`: so it is of the table, which names units that have begun.
@@ -245,8 +246,8 @@ pub fn stores_are_their_cells()
 ///
 /// - `cells`: it changes each cell that it touches by what the cell holds, and no other.
 /// - `answer`: its answer is the one that its cell gives, where it acts on one cell.
-/// - `generic`: DELETE GENERIC, which acts on every key that begins with its prefix, answers how many
-///   of them have records, and NOTFND where none has.
+/// - `generic`: DELETE GENERIC, which acts on every key that begins with its prefix, answers how
+///   many of them have records, and NOTFND where none has.
 /// - `local`: so the answer depends on the touched cells alone, where the keys rise.
 /// - `ordered`: the keys of each file go on rising.
 pub fn commands_act_by_cells()
@@ -294,8 +295,8 @@ pub fn calls_keep_apart()
 ///   images as they are, and those are right after each of these calls too: an ENQ may begin a
 ///   unit, which has no image.
 /// - `image`: the image of a command's own cell is the one that is asked for, where it acts on one.
-/// - `prefix`: those of DELETE GENERIC are the images of the records under its prefix, that of the last
-///   key the newest, in cells that hold at each key what a store does.
+/// - `prefix`: those of DELETE GENERIC are the images of the records under its prefix, that of the
+///   last key the newest, in cells that hold at each key what a store does.
 pub fn calls_keep_places()
     ensures begins { (o : OpeningState) → IsPlaceOf (beginning o) (placed o) }
     ensures executes { (s : UnitsState) (p : Place) (unit : Option ℕ) (op : Op) (new : List Image) →

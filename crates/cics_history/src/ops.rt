@@ -67,8 +67,8 @@ pub enum Op {
 }
 
 impl Op {
-    /// The file that a command on a file names, and the key, or the prefix of the keys whose records it
-    /// takes away; one on a queue names none.
+    /// The file that a command on a file names, and the key, or the prefix of the keys whose
+    /// records it takes away; one on a queue names none.
     pub fn record(&self) -> Option<(&Name8, &Record)>
         ensures there { is_some result ≡ is_file_op self.now }
         ensures file { IfSome result (λ named. named.0.now ≡ file_of self.now) }

@@ -1,5 +1,5 @@
--- What a change of one value is among the values by name: its image is an image of them all, the other cells keep what
--- they have, and no more is held back than at the value.
+-- What a change of one value is among the values by name: its image is an image of them all, the
+-- other cells keep what they have, and no more is held back than at the value.
 use Rattle.std.specs.Prelude.{◌≡◌, ◌≢◌, Bool, true, false, Option, Some, None}
 use Rattle.std.proofs.Common.{sym, ap, ◌∙◌, subst, refl, inl, inr}
 use Rattle.std.specs.Option.{option_map}

@@ -1,5 +1,5 @@
--- Values by name as one value whose changes are undone: a cell is a name with a cell of the value that has the name.
--- Every law ranges over all lists, also over those whose names do not rise.
+-- Values by name as one value whose changes are undone: a cell is a name with a cell of the value
+-- that has the name. Every law ranges over all lists, also over those whose names do not rise.
 use Rattle.std.specs.Prelude.{Bool, false, if◌then◌else◌, nat_le, Option, Some, None, [], ◌∷◌, ◌++◌, length, take, drop}
 use Rattle.std.specs.Option.{option_map}
 use Rattle.cics_names.specs.Keyed.{Bytes, Map, value_at, with_value}
@@ -10,7 +10,8 @@ use Rattle.cics_images.specs.declared.named.NamedImage.{NamedImage}
 abbrev pub cell_of : Bytes → Cell → Cell
 cell_of name c = length name ∷ (name ++ c)
 
--- a cell as a name and a cell of the value; none where the bytes are too short to have a name of that length
+-- a cell as a name and a cell of the value; none where the bytes are too short to have a name of
+-- that length
 abbrev pub split : Cell → Option (Bytes × Cell)
 split [] = None
 split (n ∷ rest) = if nat_le n (length rest) then Some (take n rest, drop n rest) else None
@@ -79,7 +80,8 @@ KeepsIn Keeps p (Some m) (Some n) = Keeps p m n
 abbrev pub NamedKeep : {M : Type 0} → ((Cell → Bool) → M → M → Type 0) → (Cell → Bool) → Map M → Map M → Type 0
 NamedKeep Keeps p s t = (name : Bytes) → KeepsIn Keeps (λ c. p (cell_of name c)) (value_at name s) (value_at name t)
 
--- what was fixed for each name. By name and not as a list, since in a list whose names do not rise a change may add an entry
+-- what was fixed for each name. By name and not as a list, since in a list whose names do not rise
+-- a change may add an entry
 abbrev pub named_fixed : {M F : Type 0} → (M → F) → Map M → Bytes → Option F
 named_fixed fixed s name = option_map fixed (value_at name s)
 

@@ -1,5 +1,5 @@
--- Files, temporary storage and transient data side by side as one value whose changes are undone: a cell is one of the
--- three, told apart by the first byte, with a cell of it.
+-- Files, temporary storage and transient data side by side as one value whose changes are undone: a
+-- cell is one of the three, told apart by the first byte, with a cell of it.
 use Rattle.std.specs.Prelude.{zero, suc, Bool, false, None, [], ◌∷◌}
 use Rattle.cics_images.specs.Cells.{Cell, Content}
 use Rattle.cics_images.specs.declared.stores.Stores.{Stores}
@@ -71,7 +71,8 @@ module _ {F T D : Type 0} where
   stores_swept f t d s c =
       by_part s (λ k. with_files s (f s.files k)) (λ k. with_temp_storage s (t s.temp_storage k)) (λ k. with_trans_data s (d s.trans_data k)) c
 
-  -- at the cells that pass, each of the second three has what its first has, and what an undo there needs
+  -- at the cells that pass, each of the second three has what its first has, and what an undo there
+  -- needs
   pub record StoresKeep (f : (Cell → Bool) → F → F → Type 0) (t : (Cell → Bool) → T → T → Type 0) (d : (Cell → Bool) → D → D → Type 0)
       (p : Cell → Bool) (old new : Stores F T D) : Type 0 where
     pub files : f (λ c. p (file_cell c)) old.files new.files

@@ -1,5 +1,5 @@
--- Files, temporary storage and transient data side by side as one value whose changes are undone: the laws, from those
--- of the three.
+-- Files, temporary storage and transient data side by side as one value whose changes are undone:
+-- the laws, from those of the three.
 use Rattle.std.specs.Prelude.{◌≡◌, ℕ, zero, suc, Bool, true, false, not, ◌&&◌, [], ◌∷◌, refl}
 use Rattle.std.proofs.Common.{ap, arith}
 use Rattle.std.specs.Bool.{Decides}

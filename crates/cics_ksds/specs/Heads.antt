@@ -5,7 +5,8 @@ use Rattle.cics_ksds.specs.declared.places.Place.{Place}
 use Rattle.cics_ksds.specs.declared.places.Place.TheVariants.{Filled, Empty}
 use Rattle.cics_ksds.specs.Words.{IsMarked, AreNumbers}
 
--- where the mark has numbers, they are those of the key that it names in the record, or of the whole key of an empty place
+-- where the mark has numbers, they are those of the key that it names in the record, or of the
+-- whole key of an empty place
 abbrev pub IsPlaceMark : Place → Mark → Type 0
 IsPlaceMark (Filled r) mark = IsMarked r mark
 IsPlaceMark (Empty key) mark = 0 < mark.length → (length key ≡ mark.length) × AreNumbers key mark.numbers

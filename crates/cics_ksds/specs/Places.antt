@@ -1,4 +1,5 @@
--- How a file is kept: as places in the rising order of their keys, each with a record or empty. No contract of the file names a place.
+-- How a file is kept: as places in the rising order of their keys, each with a record or empty. No
+-- contract of the file names a place.
 use Rattle.std.specs.Prelude.{◌≡◌, ◌||◌, ℕ, ◌<◌, ◌≤◌, true, false, List, [], ◌∷◌, Option, Some, None, length, IsTrue, All, T, slice_index_or, slice_set, take, drop, suc, ◌+◌, ◌-◌, nat_le, if◌then◌else◌}
 use Rattle.std.specs.List.{flat_map, insert, remove}
 use Rattle.std.specs.declared.cmp.Ordering.TheVariants.{Less}
@@ -184,7 +185,8 @@ pub record IsPlaceOf (d : FileDef) (areas : List (List (List Place))) (key : Byt
   pub at_most : length (interval_at areas at) ≤ 16
   pub is_at : IsAt d (places_in areas) key (index_of areas at)
 
--- the key has no place, and would go to this position: into the last interval whose first key isn't above it, or where there is none into the first of all
+-- the key has no place, and would go to this position: into the last interval whose first key isn't
+-- above it, or where there is none into the first of all
 pub record IsGapAt (d : FileDef) (areas : List (List (List Place))) (key : Bytes) (at : Position) : Type 0 where
   pub there : 0 < length areas → IsThere areas at
   pub place : at.place ≤ length (interval_at areas at)
@@ -224,7 +226,8 @@ IsSpot d areas key (Gap at) = record { gap : IsGapAt d areas key at; nothing_the
 abbrev pub halved : List (List Place) → ℕ → List (List Place)
 halved intervals number = insert (slice_set intervals number (take 8 (interval_in intervals number))) (suc number) (drop 8 (interval_in intervals number))
 
--- the intervals, and where the new place goes: a full interval is split first, and a place between its halves goes to the end of the first
+-- the intervals, and where the new place goes: a full interval is split first, and a place between
+-- its halves goes to the end of the first
 abbrev pub with_room : List (List Place) → ℕ → ℕ → List (List Place) × ℕ × ℕ
 with_room intervals number place =
     if nat_le 16 (length (interval_in intervals number))
@@ -272,7 +275,8 @@ pub record HasFirst (d : FileDef) (interval : List Place) : Type 0 where
   pub filled : 0 < length interval
   pub place : IsPlace d (slice_index_or interval 0 (Empty []))
 
--- of so many first keys, the one with this number is the last that isn't above the key, or the first of all
+-- of so many first keys, the one with this number is the last that isn't above the key, or the
+-- first of all
 pub record IsLastFrom (first_key : ℕ → Bytes) (count : ℕ) (key : Bytes) (number : ℕ) : Type 0 where
   pub in_range : number < count
   pub from : 0 < number → is_below key (first_key number) ≡ false

@@ -1,4 +1,5 @@
--- Deleting by a prefix is deleting its keys one after another, and its images lead each of them back.
+-- Deleting by a prefix is deleting its keys one after another, and its images lead each of them
+-- back.
 use Rattle.std.proofs.Common.{◌≡◌, ◌≢◌, Bool, true, false, not, ◌&&◌, cond, if◌then◌else◌, T, suc, List, [], ◌∷◌, get_or, map, Option, Some, is_some, refl, sym, ◌∙◌, ap, subst, arith}
 use Rattle.std.specs.List.{All}
 use Rattle.std.specs.Ordering.{is_lt}
@@ -18,7 +19,8 @@ use Rattle.cics_ksds.specs.UndoLaws.{removed_image, images_stored, emptied_keeps
 use Rattle.cics_ksds.specs.Prefixes.{has_prefix, under, all_deleted, without_prefix, removed_entry, prefix_images, AreFileImages, stored_on}
 
 -- ---- what the images of changes made one after another are good for
--- stored one after another they are ready in turn, newest first, before those that were ready already
+-- stored one after another they are ready in turn, newest first, before those that were ready
+-- already
 pub all_stored : (old new : FileValue) (kept images : List ImageValue) → AreFileImages old new images →
     AreReadyInTurn IsReadyImage undone old kept → AreReadyInTurn IsReadyImage undone new (stored_on kept images)
 all_stored old new kept [] made ready = subst (λ f. AreReadyInTurn IsReadyImage undone f kept) (sym made) ready

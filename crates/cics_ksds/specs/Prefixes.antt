@@ -1,4 +1,5 @@
--- DELETE with GENERIC: the records whose keys begin with the same bytes are deleted, each as DELETE of its key deletes it.
+-- DELETE with GENERIC: the records whose keys begin with the same bytes are deleted, each as DELETE
+-- of its key deletes it.
 use Rattle.std.specs.Prelude.{◌≡◌, Bool, not, if◌then◌else◌, List, [], ◌∷◌, map, fold, nat_eq}
 use Rattle.std.specs.List.{filter, starts_with}
 use Rattle.cics_names.specs.Keyed.{Bytes, Map}

@@ -13,7 +13,8 @@ number high (byte ∷ bytes) = number (high * 256 + byte) bytes
 abbrev pub AreBytes : ℕ → List ℕ → Type 0
 AreBytes count bytes = (i : ℕ) → i < count → slice_index bytes i < 256
 
--- where the second eight bytes of a key begin: behind the first, or so that they end with the key where it has fewer than 16
+-- where the second eight bytes of a key begin: behind the first, or so that they end with the key
+-- where it has fewer than 16
 abbrev pub second_at : List ℕ → ℕ
 second_at key = 8 - (16 - length key)
 

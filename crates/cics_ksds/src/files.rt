@@ -143,8 +143,8 @@ impl File {
     }
 
     /// How many control intervals the file has. An interval has 1 to 16 places side by side in key
-    /// order; a new key goes where its neighbours stand, and a full interval is halved first. It takes
-    /// no memory.
+    /// order; a new key goes where its neighbours stand, and a full interval is halved first. It
+    /// takes no memory.
     pub fn interval_count(&self) -> u64
         ensures at_least { length self.now.records + length self.now.empties ≤ 16 * result }
         ensures at_most { result ≤ length self.now.records + length self.now.empties }

@@ -273,8 +273,8 @@ fn area_of(definition: FileDef, areas: &[Area], key: &[u8], sought: Option<Numbe
     low
 }
 
-/// Where a key's place is, or else where it would be put in: into the last interval that doesn't begin
-/// above the key, or into the first one where all do.
+/// Where a key's place is, or else where it would be put in: into the last interval that doesn't
+/// begin above the key, or into the first one where all do.
 pub(crate) fn find(definition: FileDef, places: &Dataset, key: &[u8]) -> Result<Position, Position>
     requires { ArePlaces definition (places_in places.now) }
     ensures found { IfOk result (IsPlaceOf definition places.now key.now) }

@@ -157,9 +157,9 @@ impl File {
 
     /// DELETE with GENERIC (the file control chapter of the Application Programmer's Reference
     /// Manual): removes each record whose key begins with the prefix, as `delete` of the keys one
-    /// after another would, and no other. The prefix may have any number of bytes: with none of them
-    /// it is all records, and with more than a key has it is none. A number of 0 is what DELETE
-    /// answers NOTFND for, and then nothing changes.
+    /// after another would, and no other. The prefix may have any number of bytes: with none of
+    /// them it is all records, and with more than a key has it is none. A number of 0 is what
+    /// DELETE answers NOTFND for, and then nothing changes.
     ///
     /// It costs a look-up for each record that it removes, with `keep` two, and one more, and
     /// passes once over the empty places under the prefix, in one step over an interval without

@@ -1,5 +1,5 @@
--- What a command asks for, whatever its options (chapters on file control, temporary storage, transient data, task
--- control, program control and recovery).
+-- What a command asks for, whatever its options (chapters on file control, temporary storage,
+-- transient data, task control, program control and recovery).
 use Rattle.std.specs.Prelude.{ℕ, Option, Some, None}
 use Rattle.cics_names.specs.Keyed.{Bytes}
 use Rattle.cics_names.specs.declared.commands.Verb.{Verb}

@@ -1,4 +1,5 @@
--- The exceptional conditions, their numbers in EIBRESP, and the abend codes that they have by default.
+-- The exceptional conditions, their numbers in EIBRESP, and the abend codes that they have by
+-- default.
 use Rattle.std.specs.Prelude.{ℕ, Option, Some, None, List, [], ◌∷◌}
 use Rattle.cics_names.specs.declared.conditions.Condition.{Condition}
 use Rattle.cics_names.specs.declared.conditions.Condition.TheVariants.{Normal, Dsiderr, Notfnd, Duprec, Invreq, Endfile, Lengerr, Qzero, Qbusy, Itemerr, Qiderr, Enqbusy}
@@ -35,11 +36,13 @@ title_of Itemerr = codes "ITEMERR"
 title_of Qiderr = codes "QIDERR"
 title_of Enqbusy = codes "ENQBUSY"
 
--- an abend code whose third and fourth letters have these codes; each default code begins with A and E
+-- an abend code whose third and fourth letters have these codes; each default code begins with A
+-- and E
 abbrev pub code_ae : ℕ → ℕ → Option AbendCode
 code_ae third fourth = Some (record { 0 = 0xC1 ∷ 0xC5 ∷ third ∷ fourth ∷ [] })
 
--- the code that a task is abended with where it handles the condition nowhere; three conditions abend no task
+-- the code that a task is abended with where it handles the condition nowhere; three conditions
+-- abend no task
 abbrev pub default_abend_of : Condition → Option AbendCode
 default_abend_of Normal = None
 default_abend_of Dsiderr = code_ae 0xC9 0xD3

@@ -1,5 +1,6 @@
--- The characters of EBCDIC code page 037 that this project reads and prints, as runs of characters whose
--- codes follow one another: the first character (as in ASCII), its code, and how many there are.
+-- The characters of EBCDIC code page 037 that this project reads and prints, as runs of characters
+-- whose codes follow one another: the first character (as in ASCII), its code, and how many there
+-- are.
 use Rattle.std.specs.Prelude.{ℕ, Bool, ◌+◌, ◌-◌, ◌==◌, ◌&&◌, slice_get, nat_le, nat_lt, if◌then◌else◌, Option, Some, None, List, [], ◌∷◌, option_map, option_and_then}
 
 -- characters that follow one another in ASCII, and whose codes follow one another

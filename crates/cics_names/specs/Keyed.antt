@@ -1,4 +1,5 @@
--- Finite maps from byte strings (keys, names) as lists of entries in the rising order of their keys, the bytes unsigned.
+-- Finite maps from byte strings (keys, names) as lists of entries in the rising order of their
+-- keys, the bytes unsigned.
 use Rattle.std.specs.Prelude.{ℕ, Bool, false, not, ◌||◌, if◌then◌else◌, Option, List, [], ◌∷◌, is_some}
 use Rattle.std.specs.declared.cmp.Ordering.{Ordering}
 use Rattle.std.specs.Ordering.{nat_cmp, is_lt, is_eq}

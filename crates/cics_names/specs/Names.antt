@@ -1,4 +1,5 @@
--- A name is written with one to its width of the characters, not all blank, and is filled up with blanks.
+-- A name is written with one to its width of the characters, not all blank, and is filled up with
+-- blanks.
 use Rattle.std.specs.Prelude.{ℕ, ◌-◌, ◌==◌, nat_lt, if◌then◌else◌, Option, Some, None, Result, Ok, Err, List, ◌++◌, length, replicate}
 use Rattle.std.specs.List.{list_all}
 use Rattle.cics_names.specs.Ebcdic.{codes_of}
@@ -19,6 +20,7 @@ name_of_codes width None = Err BadCharacter
 name_of_codes width (Some codes) =
     if list_all (λ b. b == blank) codes then Err Empty else Ok (filled_up width codes)
 
--- the bytes of the name that a text writes, or the first fault in this order: too long, a bad character, empty
+-- the bytes of the name that a text writes, or the first fault in this order: too long, a bad
+-- character, empty
 abbrev pub name_of : ℕ → List ℕ → Result (List ℕ) NameFault
 name_of width text = if nat_lt width (length text) then Err TooLong else name_of_codes width (codes_of text)

@@ -129,7 +129,8 @@ same_keys xs ys rising_x rising_y same =
     sym (firsts xs) ∙ ap (map (λ e. e.0)) (same_maps (paired xs) (paired ys) rising_x rising_y
     (λ q. to_unit (value_at q (paired xs)) (value_at q (paired ys)) (has_key-paired q xs ∙ same q ∙ sym (has_key-paired q ys)))) ∙ firsts ys
 
--- what is not there is taken out with no change, also of a list whose keys do not rise: the first key stays
+-- what is not there is taken out with no change, also of a list whose keys do not rise: the first
+-- key stays
 stays : {A : Type 0} (x : A) (xs ys : List A) (b : Bool) → b ≡ false → ys ≡ xs →
     (if b then ys else x ∷ ys) ≡ x ∷ xs
 stays x xs ys true e same = cc

@@ -11,8 +11,9 @@ use crate::{Name4, Name8, NoMemory, Record};
 pub struct Command {
     /// What the command asks for.
     pub verb: Verb,
-    /// Whether the task is told each condition (RESP or NOHANDLE). Where it is false a condition abends the
-    /// task with its default code, if it has one (chapter on the exceptional conditions).
+    /// Whether the task is told each condition (RESP or NOHANDLE). Where it is false a condition
+    /// abends the task with its default code, if it has one (chapter on the exceptional
+    /// conditions).
     pub resp: bool,
 }
 
@@ -40,7 +41,8 @@ pub enum Verb {
         gteq: bool,
         update: bool,
     },
-    /// WRITE (file control): adds a record under the key `ridfld`, which is the key that lies in it.
+    /// WRITE (file control): adds a record under the key `ridfld`, which is the key that lies in
+    /// it.
     Write {
         file: Name8,
         ridfld: Record,
@@ -55,8 +57,8 @@ pub enum Verb {
         length: Option<u64>,
     },
     /// DELETE (file control): deletes the record of the key, or without `ridfld` the one that was
-    /// read for update. With `ridfld` and `generic` it deletes every record whose key begins with it,
-    /// and answers their number.
+    /// read for update. With `ridfld` and `generic` it deletes every record whose key begins with
+    /// it, and answers their number.
     Delete {
         file: Name8,
         ridfld: Option<Record>,
@@ -68,7 +70,8 @@ pub enum Verb {
         file: Name8,
     },
     /// STARTBR (file control, browsing): opens a browse at the least key that isn't below the one
-    /// given, with `equal` at that key itself, with `equal` and `generic` at a key that begins with it.
+    /// given, with `equal` at that key itself, with `equal` and `generic` at a key that begins with
+    /// it.
     StartBr {
         file: Name8,
         ridfld: Record,
@@ -123,8 +126,8 @@ pub enum Verb {
         from: Record,
         length: Option<u64>,
     },
-    /// READQ TD (transient data): takes the first record. With `nosuspend` it is QBUSY where it would
-    /// have to wait.
+    /// READQ TD (transient data): takes the first record. With `nosuspend` it is QBUSY where it
+    /// would have to wait.
     ReadqTd {
         queue: Name4,
         length: Option<u64>,
@@ -134,8 +137,8 @@ pub enum Verb {
     DeleteqTd {
         queue: Name4,
     },
-    /// ENQ (task control): enqueues on a value, the first `length` bytes of `resource`, 1 to 255. With
-    /// `nosuspend` it is ENQBUSY where another unit of work holds the value.
+    /// ENQ (task control): enqueues on a value, the first `length` bytes of `resource`, 1 to 255.
+    /// With `nosuspend` it is ENQBUSY where another unit of work holds the value.
     Enq {
         resource: Record,
         length: u64,
@@ -152,8 +155,8 @@ pub enum Verb {
     Rollback,
     /// RETURN (program control): commits the task's unit of work and ends the task.
     Return,
-    /// ABEND (program control): ends the task with a code, `????` where none is given, and backs its
-    /// unit of work out.
+    /// ABEND (program control): ends the task with a code, `????` where none is given, and backs
+    /// its unit of work out.
     Abend {
         code: Option<Name4>,
     },

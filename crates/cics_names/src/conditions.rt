@@ -7,7 +7,8 @@ use crate::names::Name4;
 
 /// What a command answers: `Normal`, or one of the exceptional conditions.
 ///
-/// The exceptional conditions chapter of the Application Programmer's Reference Manual describes them.
+/// The exceptional conditions chapter of the Application Programmer's Reference Manual describes
+/// them.
 #[derive(Clone, Copy, Debug, PartialEq, Eq)]
 pub enum Condition {
     /// The command did what it was asked for.
@@ -81,7 +82,8 @@ impl Condition {
         }
     }
 
-    /// The code that a task is abended with where the condition comes up and the command handles none.
+    /// The code that a task is abended with where the condition comes up and the command handles
+    /// none.
     ///
     /// `None` for the conditions that abend no task: `Normal`, `Qbusy` and `Enqbusy`.
     pub fn default_abend(self) -> Option<AbendCode>

@@ -13,7 +13,8 @@ pub fn to_ebcdic(character: char) -> Option<u8>
     entry(&CODES, character as usize)
 }
 
-/// The character of an EBCDIC code, or `None` for a byte that is the code of none of the 85 characters.
+/// The character of an EBCDIC code, or `None` for a byte that is the code of none of the 85
+/// characters.
 ///
 /// [`to_ebcdic`] leads each character that this gives back to its code.
 pub fn from_ebcdic(code: u8) -> Option<char>
@@ -24,7 +25,8 @@ pub fn from_ebcdic(code: u8) -> Option<char>
     Some(char::from(character))
 }
 
-// The code of each ASCII character, or 0 for one that isn't among the 85: no character has the code 0.
+// The code of each ASCII character, or 0 for one that isn't among the 85: no character has the code
+// 0.
 const CODES: [u8; 128] = [
     0, 0, 0, 0, 0, 0, 0, 0, 0, 0, 0, 0, 0, 0, 0, 0, 0, 0, 0, 0, 0, 0, 0, 0, 0, 0, 0, 0, 0, 0, 0, 0,
     0x40, 0, 0x7F, 0x7B, 0x5B, 0x6C, 0x50, 0x7D, 0x4D, 0x5D, 0x5C, 0x4E, 0x6B, 0x60, 0x4B, 0x61,

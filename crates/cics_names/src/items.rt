@@ -1,6 +1,7 @@
 //! A list of values on the heap.
 
-ghost use Rattle.std.specs.Prelude.{◌≡◌, ◌↔◌, ◌<◌, [], ◌∷◌, ◌++◌, IsTrue, OnOk, OnErr, length, slice_set};
+ghost use Rattle.std.specs.Prelude.{◌≡◌, ◌↔◌, ◌<◌, [], ◌∷◌};
+ghost use Rattle.std.specs.Prelude.{◌++◌, IsTrue, OnOk, OnErr, length, slice_set};
 
 use crate::records::NoMemory;
 use std::alloc::Global;
@@ -8,9 +9,9 @@ use std::marker::Model;
 
 /// Values in order.
 ///
-/// This is a `Vec` that contracts see as the list of its values alone: two lists with the same values are the same,
-/// whatever memory they hold. So types that clauses compare, and a listing is one, hold `Items` where they would
-/// hold a `Vec`.
+/// This is a `Vec` that contracts see as the list of its values alone: two lists with the same
+/// values are the same, whatever memory they hold. So types that clauses compare, and a listing is
+/// one, hold `Items` where they would hold a `Vec`.
 #[derive(Debug, Drop)]
 pub struct Items<T> {
     items: Vec<T>,
@@ -76,8 +77,8 @@ impl<T> Items<T> {
 impl<T: Drop> Items<T> {
     /// Adds a value at the end.
     ///
-    /// `NoMemory` where the list had to grow and memory was refused: the list is as before then, and the value is
-    /// dropped.
+    /// `NoMemory` where the list had to grow and memory was refused: the list is as before then,
+    /// and the value is dropped.
     pub fn push(&mut self, value: T) -> Result<(), NoMemory>
         ensures ok { OnOk result (self.new ≡ self.old ++ value ∷ []) }
         ensures err { OnErr result (self.new ≡ self.old) }
@@ -86,7 +87,8 @@ impl<T: Drop> Items<T> {
         Ok(())
     }
 
-    /// Puts a value in the place of the one at `index` (from 0), which is dropped. It takes no memory.
+    /// Puts a value in the place of the one at `index` (from 0), which is dropped. It takes no
+    /// memory.
     pub fn set(&mut self, index: usize, value: T)
         requires { index < length self.old }
         ensures { self.new ≡ slice_set self.old index value }

@@ -1,4 +1,5 @@
-//! What the command interface speaks of: names, records, the EBCDIC characters, the conditions and the commands.
+//! What the command interface speaks of: names, records, the EBCDIC characters, the conditions and
+//! the commands.
 #![tactic(auto)]
 
 mod commands;

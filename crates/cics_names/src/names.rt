@@ -12,8 +12,8 @@ const BLANK: u8 = 0x40;
 
 /// Why a text is no name.
 ///
-/// A text is looked at for these faults in the order `TooLong`, `BadCharacter`, `Empty`, and has the first one that
-/// it shows.
+/// A text is looked at for these faults in the order `TooLong`, `BadCharacter`, `Empty`, and has
+/// the first one that it shows.
 #[derive(Clone, Copy, Debug, PartialEq, Eq)]
 pub enum NameFault {
     /// No character but blanks, or none at all.
@@ -24,21 +24,21 @@ pub enum NameFault {
     BadCharacter,
 }
 
-/// A name of eight EBCDIC bytes, filled up with blanks on the right: of a data set, a temporary storage queue or a
-/// task.
+/// A name of eight EBCDIC bytes, filled up with blanks on the right: of a data set, a temporary
+/// storage queue or a task.
 ///
-/// Two spellings that are filled up to the same bytes are one name. Names are equal, are ordered and are hashed by
-/// the eight bytes, the order being that of unsigned bytes from the first one on.
+/// Two spellings that are filled up to the same bytes are one name. Names are equal, are ordered
+/// and are hashed by the eight bytes, the order being that of unsigned bytes from the first one on.
 #[derive(Clone, Copy, Debug, PartialEq, Eq, PartialOrd, Ord)]
 pub struct Name8 {
     bytes: [u8; 8],
 }
 
-/// A name of four EBCDIC bytes, filled up with blanks on the right: of a transient data queue, a transaction or an
-/// abend.
+/// A name of four EBCDIC bytes, filled up with blanks on the right: of a transient data queue, a
+/// transaction or an abend.
 ///
-/// Two spellings that are filled up to the same bytes are one name. Names are equal, are ordered and are hashed by
-/// the four bytes, the order being that of unsigned bytes from the first one on.
+/// Two spellings that are filled up to the same bytes are one name. Names are equal, are ordered
+/// and are hashed by the four bytes, the order being that of unsigned bytes from the first one on.
 #[derive(Clone, Copy, Debug, PartialEq, Eq, PartialOrd, Ord)]
 pub struct Name4 {
     bytes: [u8; 4],
@@ -97,9 +97,11 @@ impl Hash for Name4 {
 }
 
 impl Name8 {
-    /// The name that an ASCII text of one to eight characters writes, or the first fault of the text.
+    /// The name that an ASCII text of one to eight characters writes, or the first fault of the
+    /// text.
     ///
-    /// Blanks in front and between count as characters of the name; those at the end make no difference.
+    /// Blanks in front and between count as characters of the name; those at the end make no
+    /// difference.
     pub fn new(text: &[u8]) -> Result<Name8, NameFault>
         ensures { result ≡ name_of 8 text.now }
     {
@@ -117,9 +119,11 @@ impl Name8 {
 }
 
 impl Name4 {
-    /// The name that an ASCII text of one to four characters writes, or the first fault of the text.
+    /// The name that an ASCII text of one to four characters writes, or the first fault of the
+    /// text.
     ///
-    /// Blanks in front and between count as characters of the name; those at the end make no difference.
+    /// Blanks in front and between count as characters of the name; those at the end make no
+    /// difference.
     pub fn new(text: &[u8]) -> Result<Name4, NameFault>
         ensures { result ≡ name_of 4 text.now }
     {

@@ -26,8 +26,8 @@ impl<T: Drop> From<AllocFailed<T>> for NoMemory {
 
 /// The bytes of a record, of an item or of a key, as they stand in EBCDIC.
 ///
-/// Contracts see the bytes alone. Two records are equal where they have the same bytes, and are ordered by the first
-/// byte that differs, the bytes unsigned, or else by their length.
+/// Contracts see the bytes alone. Two records are equal where they have the same bytes, and are
+/// ordered by the first byte that differs, the bytes unsigned, or else by their length.
 #[derive(Debug, Drop)]
 pub struct Record {
     bytes: Vec<u8>,

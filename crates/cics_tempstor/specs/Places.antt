@@ -100,7 +100,8 @@ module _ (rows : Map Row) (rising : T (is_rising rows)) (q : Bytes) where
           ∙ ap (λ b. put_if place_shown q (if b then Some n else None) (places_of rows)) (both_true (nat_lt 0 n) (nat_le n (length (queue_at q rows))) has).0
 
 -- ---- no place is hidden
--- a row without an item has the place 0: a queue that comes back by an undo brings no other place with it
+-- a row without an item has the place 0: a queue that comes back by an undo brings no other place
+-- with it
 abbrev pub IsUnplacedIfEmpty : Row → Type 0
 IsUnplacedIfEmpty row = is_there row.items ≡ false → row.next ≡ 0
 

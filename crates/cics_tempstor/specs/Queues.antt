@@ -1,6 +1,7 @@
--- Temporary storage (chapter on temporary storage control): a queue is a list of items, numbered from 1, and a queue
--- without an item isn't there. Each queue has a NEXT place, the number of the item that was read last. What is kept of a
--- name is a row: the items of its queue and its NEXT place; a row without an item is empty.
+-- Temporary storage (chapter on temporary storage control): a queue is a list of items, numbered
+-- from 1, and a queue without an item isn't there. Each queue has a NEXT place, the number of the
+-- item that was read last. What is kept of a name is a row: the items of its queue and its NEXT
+-- place; a row without an item is empty.
 use Rattle.std.specs.Prelude.{ℕ, ◌+◌, ◌-◌, Bool, true, false, ◌&&◌, if◌then◌else◌, Option, Some, None, unwrap_or, nat_lt, nat_le, List, [], ◌∷◌, ◌++◌, length, slice_get, slice_set}
 use Rattle.cics_names.specs.Keyed.{Bytes, Map, value_at, with_value, without}
 use Rattle.cics_names.specs.declared.conditions.Condition.{Condition}
@@ -67,7 +68,8 @@ items_after_write items d = if nat_lt (length items) most_items then items ++ d 
 abbrev pub has_item : Queue → ℕ → Bool
 has_item items n = nat_lt 0 n && nat_le n (length items)
 
--- READQ TS and WRITEQ TS REWRITE of an item: an absent queue is QIDERR, an item that the queue doesn't have is ITEMERR
+-- READQ TS and WRITEQ TS REWRITE of an item: an absent queue is QIDERR, an item that the queue
+-- doesn't have is ITEMERR
 abbrev pub item_condition : Queue → ℕ → Condition
 item_condition items n = if has_item items n then Normal else if is_there items then Itemerr else Qiderr
 
@@ -103,7 +105,8 @@ abbrev pub ts_rewritten : Map Row → Bytes → ℕ → Bytes → Map Row
 ts_rewritten rows q n d =
     if has_item (queue_at q rows) n then with_value q (row_rewritten (row_at q rows) n d) rows else rows
 
--- the rows after DELETEQ TS: all items go, and the NEXT place is 0; an empty row stays where the delete may be undone
+-- the rows after DELETEQ TS: all items go, and the NEXT place is 0; an empty row stays where the
+-- delete may be undone
 abbrev pub ts_deleted : Bool → Map Row → Bytes → Map Row
 ts_deleted keep rows q =
     if is_there (queue_at q rows) then (if keep then with_value q empty_row rows else without q rows) else rows

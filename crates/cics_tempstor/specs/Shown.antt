@@ -1,4 +1,5 @@
--- The queues that are there and their NEXT places, by name, after each change of the rows: what a unit of work shows of them.
+-- The queues that are there and their NEXT places, by name, after each change of the rows: what a
+-- unit of work shows of them.
 use Rattle.std.proofs.Common.{◌≡◌, ℕ, Bool, true, false, ◌&&◌, cond, T, List, [], ◌∷◌, length, zero, suc, fold, Option, Some, None, nat_lt, arith, refl, sym, ap, subst, ◌∙◌}
 use Rattle.std.specs.Prelude.{unwrap_or, if◌then◌else◌}
 use Rattle.std.specs.Option.{option_and_then}

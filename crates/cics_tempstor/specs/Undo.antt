@@ -55,7 +55,8 @@ pub record IsReadyImage (rows : Map Row) (image : TsImage) : Type 0 where
 abbrev pub row_undone : Before → Row → Row
 row_undone before row = record { items = queue_before before row.items; next = row.next }
 
--- the rows after an undo; where it takes the only item, an empty row stays for older images of the name
+-- the rows after an undo; where it takes the only item, an empty row stays for older images of the
+-- name
 abbrev pub undone : Map Row → TsImage → Map Row
 undone rows image = with_value image.name (row_undone image.before (row_at image.name rows)) rows
 
@@ -68,7 +69,8 @@ undone_at rows q before =
 abbrev pub holds_row : Map Row → Cell → Bool
 holds_row rows q = has_key q rows && not (is_there (queue_at q rows))
 
--- at the names that pass, the second has the queues of the first, and a row wherever the first has one; of NEXT places nothing is said
+-- at the names that pass, the second has the queues of the first, and a row wherever the first has
+-- one; of NEXT places nothing is said
 pub record KeepsQueues (p : Cell → Bool) (f g : Map Row) : Type 0 where
   pub queues : (q : Cell) → p q ≡ true → queue_at q g ≡ queue_at q f
   pub rows : (q : Cell) → p q ≡ true → has_key q f ≡ true → has_key q g ≡ true

@@ -1,4 +1,5 @@
--- The laws of undoing, for temporary storage: what `Undoable` asks of it, and that each change gives an image as it should be.
+-- The laws of undoing, for temporary storage: what `Undoable` asks of it, and that each change
+-- gives an image as it should be.
 use Rattle.std.proofs.Common.{◌≡◌, ◌≢◌, ◌-◌, ◌<◌, ◌≤◌, ℕ, Bool, true, false, not, ◌&&◌, ◌||◌, cond, List, [], ◌∷◌, ◌++◌, length, take, slice_get, slice_set, Option, Some, None, IfSome, is_some, nat_lt, nat_le, ◌⊎◌, inl, inr, refl, sym, ◌∙◌, ap, subst, arith, zero, suc, length-append, length-set}
 use Rattle.std.specs.Prelude.{unwrap_or, if◌then◌else◌}
 use Rattle.std.specs.Bool.{Decides}

@@ -19,8 +19,8 @@ pub(crate) enum Before {
 /// The before image of one change of a queue: enough to undo it without taking memory.
 ///
 /// A change gives one where it was asked to keep one and its condition is NORMAL. No item is copied
-/// for it: what a change replaces or deletes moves into it. It is handed back to the same store once:
-/// to `undo` and then to `settle`, or to `settle` alone.
+/// for it: what a change replaces or deletes moves into it. It is handed back to the same store
+/// once: to `undo` and then to `settle`, or to `settle` alone.
 #[derive(Debug, Drop)]
 pub struct TsImage {
     pub(crate) name: Name8,

@@ -11,8 +11,8 @@ ghost use Rattle.cics_tempstor.specs.Queues.{ts_written, ts_rewritten, ts_delete
 ghost use Rattle.cics_tempstor.specs.Places.{AreInOrder, committed, backed_out, places_there};
 
 /// The NEXT places of the queues that are there, by name, over the commands and the ends of units
-/// of work. Neither a commit nor a backout moves one: only the place of a queue that a backout takes
-/// away is gone, and reads as 0.
+/// of work. Neither a commit nor a backout moves one: only the place of a queue that a backout
+/// takes away is gone, and reads as 0.
 ///
 /// The rows stay in order: their names rise, and no row without an item hides a place that an undo
 /// would show again.
@@ -22,8 +22,8 @@ ghost use Rattle.cics_tempstor.specs.Places.{AreInOrder, committed, backed_out, 
 /// - `deleted`: the place of the queue is gone.
 /// - `read`: a read that gives an item sets the place to its number.
 /// - `committed`: the images' names are swept, and no place changes.
-/// - `backed_out`: the images are undone, the newest first, and then their names are swept: the places
-///   of the queues that are there then are as before.
+/// - `backed_out`: the images are undone, the newest first, and then their names are swept: the
+///   places of the queues that are there then are as before.
 pub fn next_places_are_no_part_of_what_is_undone()
     ensures empty { AreInOrder [] × (places_of [] ≡ []) }
     ensures written { (rows : Map Row) (q d : Bytes) → AreInOrder rows →

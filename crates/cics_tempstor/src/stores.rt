@@ -19,8 +19,8 @@ use std::collections::BTreeMap;
 use std::marker::Model;
 
 /// Temporary storage (the chapter on temporary storage control of the Application Programmer's
-/// Reference Manual): queues of items by name, and names whose row is held empty for an undo. No read
-/// and no listing sees an empty row.
+/// Reference Manual): queues of items by name, and names whose row is held empty for an undo. No
+/// read and no listing sees an empty row.
 ///
 /// Contracts see the rows in the rising order of their names, each with its items and its NEXT
 /// place; an empty row has no item. A call costs the same whatever the number of queues; a listing
@@ -124,8 +124,8 @@ impl TempStore {
     /// the number of the new item.
     ///
     /// With `keep` a NORMAL answer has the image that undoes the write. `Err` comes only where
-    /// memory is refused, for the item's place in its queue or for the queue's row, and then nothing
-    /// has changed. An item that isn't added goes.
+    /// memory is refused, for the item's place in its queue or for the queue's row, and then
+    /// nothing has changed. An item that isn't added goes.
     pub fn write(&mut self, name: Name8, item: Record, keep: bool) -> Result<TsWritten, NoMemory>
         ensures condition { IfOk result (λ answer.
             answer.condition ≡ write_condition (queue_at name self.old)) }

@@ -1,5 +1,5 @@
--- Two units of work at the two ends of a queue: whatever the one does, and however and whenever it ends, the images of
--- the other stay ready in turn.
+-- Two units of work at the two ends of a queue: whatever the one does, and however and whenever it
+-- ends, the images of the other stay ready in turn.
 use Rattle.std.proofs.Common.{arith, ◌≡◌, ℕ, ◌+◌, ◌-◌, Bool, true, false, List, [], ◌∷◌, length, drop, refl, sym, ◌∙◌, ap, length-drop}
 use Rattle.std.specs.Prelude.{min}
 use Rattle.std.proofs.lemmas.List.{drop-drop}

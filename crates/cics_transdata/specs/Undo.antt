@@ -1,4 +1,5 @@
--- Recovery: what the before images of a queue mean, and what undoing one does. A queue has two cells, one for each end.
+-- Recovery: what the before images of a queue mean, and what undoing one does. A queue has two
+-- cells, one for each end.
 use Rattle.std.specs.Prelude.{◌≡◌, ◌-◌, ◌≤◌, ◌<◌, Bool, true, if◌then◌else◌, Option, Some, None, List, [], ◌∷◌, length, take, drop}
 use Rattle.std.specs.Option.{option_map}
 use Rattle.std.specs.Str.{bytes_eq}
@@ -40,8 +41,8 @@ content_at s c =
 abbrev pub without_last : List Bytes → List Bytes
 without_last records = take (length records - 1) records
 
--- back from what was marked as read is the part in front that was marked before; back from what was marked as written
--- is all but the last
+-- back from what was marked as read is the part in front that was marked before; back from what was
+-- marked as written is all but the last
 abbrev pub before_of : TdImage → Content → Content
 before_of (Taken before) after = option_map (take before) after
 before_of Written after = option_map without_last after
@@ -50,7 +51,8 @@ before_of Written after = option_map without_last after
 abbrev pub Leads : TdImage → Content → Content → Type 0
 Leads image after before = before ≡ before_of image after
 
--- an image is ready where what it takes back is marked still, and a written record isn't marked as read
+-- an image is ready where what it takes back is marked still, and a written record isn't marked as
+-- read
 abbrev pub IsReadyImage : TransState → TdImage → Type 0
 IsReadyImage s (Taken before) = (before ≤ s.read) × (s.read ≤ length s.placed)
 IsReadyImage s Written = (0 < s.written) × (s.written ≤ length s.placed) × (s.read < length s.placed)
