@@ -1,13 +1,17 @@
-//! Runs scripts over bytes in memory, one for each answer of a run but want of memory, and compares
-//! what each run answers and writes. The exit status is 0 if all came out as expected.
+//! Runs scripts over bytes in memory, with each answer of a run but `NoMemory`. Each read and each
+//! write fails in turn.
 #![tactic(auto)]
 
 mod streams;
 
-use crate::streams::{Blanks, Page, Script};
-use cics_run::{Options, RunFault, Session, Source, Status, Wanted, run, run_over};
+ghost use Rattle.std.specs.Prelude.{◌≡◌};
+
+use crate::streams::{Calls, Page, Script};
+use cics_run::{CHUNK, LIMIT, Options, RunFault, Session, Status, Wanted, run, run_over};
 use std::io;
+use std::marker::Brand;
 use std::process::ExitCode;
+use std::sync::ledger::{Blank, Ledger};
 
 const SCRIPT: &[u8] = b"DEFINE TDQUEUE('LOGA') LOGICAL
 ATTACH T1 TRANSID('SHOW')
@@ -17,10 +21,6 @@ T1 EXEC CICS RETURN";
 const FAULTY: &[u8] = b"ATTACH T1 TRANSID('SHOW')
 HELLO
 ATTACH T2 TRANSID('SHOW')
-";
-
-const WITHOUT_LAST_LINE: &[u8] = b"T1 ATTACHED 'SHOW'
-T1 NORMAL 0
 ";
 
 const JOURNAL: &[u8] = b"T1 ATTACHED 'SHOW'
@@ -58,9 +58,14 @@ const REPLAY: Options = Options {
     no_list: true,
 };
 
-const NOTHING: Options = Options {
-    replay: false,
-    no_list: true,
+// The journal alone.
+const WANTED: Wanted = Wanted {
+    options: Options {
+        replay: false,
+        no_list: true,
+    },
+    serial: false,
+    with_script: false,
 };
 
 // The name of an answer.
@@ -75,18 +80,15 @@ fn title(answer: &Result<Status, RunFault>) -> &'static str {
     }
 }
 
-// Prints what a run answered, and tells whether it wrote what it should.
-fn tell(
-    rt: &HostRuntime,
-    shows: &str,
-    answer: &Result<Status, RunFault>,
-    written: bool,
-) -> io::Result<()> {
-    let text = if written { "as expected" } else { "otherwise" };
-    println!(rt; "{shows}: {}, written {text}", title(answer))
+fn verdict(is_expected: bool) -> &'static str {
+    if is_expected {
+        "as expected"
+    } else {
+        "otherwise"
+    }
 }
 
-// Runs a script between a reader and a writer.
+// Runs a script between a reader and a writer of std.
 fn try_reader(
     rt: &HostRuntime,
     shows: &str,
@@ -95,65 +97,178 @@ fn try_reader(
 ) -> io::Result<()> {
     let mut text: Vec<u8> = Vec::new(rt.alloc());
     let answer = run(rt.alloc(), &mut script, &mut text, options);
-    tell(rt, shows, &answer, text.as_slice() == expected)
+    let verdict = verdict(text.as_slice() == expected);
+    println!(rt; "{shows}: {}, {verdict}", title(&answer))
 }
 
-// Runs a source onto a page with so much room.
-fn try_source<S: Source>(
+// Which call of a run fails. A write that takes no byte fails too.
+#[derive(Clone, Copy)]
+enum Failing {
+    Read,
+    Write,
+    EmptyWrite,
+}
+
+// A run between streams that count their calls.
+#[derive(Clone, Copy)]
+struct Trial<'a> {
+    script: &'a [u8],
+    // How many bytes a read gives at most, and a write takes.
+    most: usize,
+    failing: Failing,
+    // The number of the call that fails: 0 if none does.
+    number: usize,
+}
+
+impl<'a> Trial<'a> {
+    // Runs it. Each ledger has the numbers of one stream's calls.
+    fn run_counted<R: Ledger, W: Ledger>(
+        &self,
+        rt: &HostRuntime,
+        reads: Blank,
+        writes: Blank,
+    ) -> Outcome
+        requires reads { (reads.name ≡ R.name) × (reads.parts ≡ R.parts) × (reads.parts ≡ 2) }
+        requires writes { (writes.name ≡ W.name) × (writes.parts ≡ W.parts)
+            × (writes.parts ≡ 2) }
+    {
+        let (read, write) = match self.failing {
+            Failing::Read => (self.number, 0),
+            _ => (0, self.number),
+        };
+        let mut source = Script {
+            rest: self.script,
+            most: self.most,
+            calls: Calls::<R>::new(reads, read),
+        };
+        let mut page = Page {
+            text: Vec::new(rt.alloc()),
+            most: self.most,
+            takes_none: matches!(self.failing, Failing::EmptyWrite),
+            calls: Calls::<W>::new(writes, write),
+        };
+        let mut session = Session::new(rt.alloc());
+        let answer = run_over(&mut session, &mut source, &mut page, WANTED);
+        Outcome {
+            answer: title(&answer),
+            text: page.text,
+            reads: source.calls.made,
+            writes: page.calls.made,
+        }
+    }
+
+    fn run(&self, rt: &HostRuntime) -> Outcome {
+        self.run_counted::<Brand, Brand>(rt, Blank::new(2), Blank::new(2))
+    }
+}
+
+// What a run answered and wrote, and how often it read and wrote.
+#[derive(Drop)]
+struct Outcome {
+    answer: &'static str,
+    text: Vec<u8>,
+    reads: usize,
+    writes: usize,
+}
+
+impl Outcome {
+    fn is(&self, answer: &str, text: &[u8]) -> bool {
+        self.answer == answer && self.text.as_slice() == text
+    }
+
+    fn tell(&self, rt: &HostRuntime, shows: &str, is_expected: bool) -> io::Result<()> {
+        let verdict = verdict(is_expected);
+        println!(rt;
+            "{shows}: {}, {} reads, {} writes, {verdict}",
+            self.answer, self.reads, self.writes
+        )
+    }
+}
+
+// What the lines print that the first bytes of the script complete.
+fn journal_of(read: usize) -> &'static [u8] {
+    let front = &SCRIPT[..SCRIPT.len().min(read)];
+    match front.iter().filter(|byte| **byte == b'\n').count() {
+        0 | 1 => &JOURNAL[..0],
+        2 => &JOURNAL[..19],
+        _ => &JOURNAL[..31],
+    }
+}
+
+// Lets each such call fail in turn. Tells of the run that ends before its call would fail, or of
+// the first that comes out otherwise.
+fn fail_each(rt: &HostRuntime, shows: &str, (failing, most): (Failing, usize)) -> io::Result<()> {
+    for number in 1..1_000 {
+        let trial = Trial {
+            script: SCRIPT,
+            most,
+            failing,
+            number,
+        };
+        let run = trial.run(rt);
+        let before = most.saturating_mul(number - 1);
+        let (calls, answer, text) = match failing {
+            Failing::Read => (run.reads, "ReadFault", journal_of(before)),
+            _ => (
+                run.writes,
+                "WriteFault",
+                &JOURNAL[..JOURNAL.len().min(before)],
+            ),
+        };
+        if calls < number {
+            return run.tell(rt, shows, run.is("Done", JOURNAL));
+        }
+        if calls > number || !run.is(answer, text) {
+            return run.tell(rt, shows, false);
+        }
+    }
+    Ok(())
+}
+
+// Runs a script in which no call fails.
+fn try_script(
     rt: &HostRuntime,
     shows: &str,
-    source: &mut S,
-    (room, fails, expected): (usize, bool, &[u8]),
+    (script, most): (&[u8], usize),
+    (answer, text): (&str, &[u8]),
 ) -> io::Result<()> {
-    let mut page = Page {
-        text: Vec::new(rt.alloc()),
-        room,
-        fails,
+    let trial = Trial {
+        script,
+        most,
+        failing: Failing::Read,
+        number: 0,
     };
-    let wanted = Wanted {
-        options: NOTHING,
-        serial: false,
-        with_script: false,
-    };
-    let mut session = Session::new(rt.alloc());
-    let answer = run_over(&mut session, source, &mut page, wanted);
-    tell(rt, shows, &answer, page.text.as_slice() == expected)
+    let run = trial.run(rt);
+    run.tell(rt, shows, run.is(answer, text))
 }
 
-// A script that is read so many bytes at a time, and fails behind its last byte or ends there.
-fn read_by(most: usize, rest: &[u8], fails: bool) -> Script<'_> {
-    Script { rest, most, fails }
+// Comments, with one byte more than a script may have.
+fn comments(rt: &HostRuntime) -> io::Result<Vec<u8>> {
+    let mut lines = vec![in rt.alloc(); b'*'; LIMIT + 1]?;
+    for line in lines.chunks_mut(CHUNK) {
+        if let Some(first) = line.first_mut() {
+            *first = b'\n';
+        }
+    }
+    Ok(lines)
 }
 
 fn try_all(rt: &HostRuntime) -> io::Result<()> {
     try_reader(rt, "a listing", (SCRIPT, LISTING), LISTED)?;
     try_reader(rt, "a replay", (SCRIPT, REPLAY), REPLAYED)?;
     try_reader(rt, "a fault", (FAULTY, LISTING), FAULT)?;
-    let ample = (usize::MAX, true, JOURNAL);
-    try_source(
+    fail_each(rt, "each read of a byte fails", (Failing::Read, 1))?;
+    fail_each(rt, "each read of seven fails", (Failing::Read, 7))?;
+    fail_each(rt, "each write of a byte fails", (Failing::Write, 1))?;
+    fail_each(rt, "each write takes none", (Failing::EmptyWrite, 1))?;
+    try_script(rt, "a fault by bytes", (FAULTY, 1), ("LineFault", FAULT))?;
+    let long = comments(rt)?;
+    try_script(
         rt,
-        "a byte at a time",
-        &mut read_by(1, SCRIPT, false),
-        ample,
-    )?;
-    let cut = (usize::MAX, true, WITHOUT_LAST_LINE);
-    try_source(rt, "a read that fails", &mut read_by(7, SCRIPT, true), cut)?;
-    let short = (7, true, &JOURNAL[..7]);
-    try_source(
-        rt,
-        "a write that fails",
-        &mut read_by(7, SCRIPT, false),
-        short,
-    )?;
-    let full = (7, false, &JOURNAL[..7]);
-    try_source(
-        rt,
-        "a write that takes none",
-        &mut read_by(7, SCRIPT, false),
-        full,
-    )?;
-    let nothing = (usize::MAX, true, &JOURNAL[..0]);
-    try_source(rt, "blank lines without end", &mut Blanks, nothing)
+        "too long a script",
+        (&long, CHUNK),
+        ("InputTooLong", &[]),
+    )
 }
 
 fn main(rt: HostRuntime) -> ExitCode {
