@@ -3,7 +3,6 @@ mod Journal
 mod FileRows
 mod QueueRows
 mod TaskRows
-pub mod Asked
 pub mod Ready
 mod Browsing
 mod TaskTable

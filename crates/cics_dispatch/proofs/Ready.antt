@@ -1,7 +1,7 @@
 -- A command whose checks have passed asks for an updating command that is ready to be executed, with a key of no more bytes
 -- than a key may have.
 use Rattle.std.specs.Prelude.{◌<◌, IfSome, ◌≡◌, ℕ, ◌+◌, ◌≤◌, Bool, true, false, if◌then◌else◌, not, ◌&&◌, ◌||◌, Option, Some, None, is_some, nat_le, option_map, length, [], ◌∷◌, refl}
-use Rattle.std.proofs.Common.{sym, subst, arith}
+use Rattle.std.proofs.Common.{sym, ap, subst, arith}
 use Rattle.std.proofs.lemmas.Bool.{false≢true, leb-true, le-leb, eqb-true}
 use Rattle.cics_names.specs.Keyed.{Bytes, value_at, has_key, is_same}
 use Rattle.cics_names.specs.KeyedLaws.{is_same-self}
@@ -17,7 +17,7 @@ use Rattle.cics_history.specs.declared.ops.Op.TheVariants as op
 use Rattle.cics_dispatch.specs.Lengths.{fault_unless, first_fault, is_length_given, is_key_length, key_fault, is_within, used_of, from_fault, own_key_fault, write_fault}
 use Rattle.cics_dispatch.specs.Machine.{Machine, Task, definition_of}
 use Rattle.cics_dispatch.specs.Checks.{resource_fault, defined_fault, queue_fault, item_fault, open_key, read_fault, rewrite_fault, deleted_key_fault, delete_fault, fault_of}
-use Rattle.cics_dispatch.specs.Steps.{op_of}
+use Rattle.cics_dispatch.specs.Steps.{key_read, op_of}
 use Rattle.cics_names.specs.Commands.{file_named}
 use Rattle.cics_names.specs.declared.commands.Verb.{Verb}
 use Rattle.cics_names.specs.declared.commands.Verb.TheVariants.{Read, Write, Rewrite, Delete, WriteqTs, DeleteqTs, WriteqTd, ReadqTd, DeleteqTd, Enq}
@@ -218,10 +218,14 @@ of_read make (Some k) c same were_short is =
 no_key : (c o : Op) → o ≡ c → length (key_of o) ≡ 0 → length (key_of c) ≤ 255
 no_key c o same none = subst (λ c. length (key_of c) ≤ 255) same (omega (arith, none))
 
+-- the key that was read of the file that a command names
+pub key_read-named : (m : Machine) (t : Task) (f : Bytes) (verb : Verb) → file_named verb ≡ Some f → key_read m t (file_named verb) ≡ open_key m t f
+key_read-named m t f verb named = ap (key_read m t) named
+
 -- its key has no more bytes than a key may have, where the definition of its file is lawful and so is the key that was read
 pub named_key_short : (m : Machine) (t : Task) (verb : Verb) →
     ((f : Bytes) (d : FileDef) → file_named verb ≡ Some f → definition_of m f ≡ Some d → is_key d ≡ true) →
-    ((f k : Bytes) → file_named verb ≡ Some f → open_key m t f ≡ Some k → length k ≤ 255) →
+    ((k : Bytes) → key_read m t (file_named verb) ≡ Some k → length k ≤ 255) →
     (c : Op) → fault_of m t verb ≡ None → op_of m t verb ≡ Some c → length (key_of c) ≤ 255
 named_key_short m t (Read f key given n generic gteq false) lawful were_short c passes is = cc
 named_key_short m t (Read f key given n generic gteq true) lawful were_short c passes is =
@@ -237,7 +241,7 @@ named_key_short m t (Write f key given from n) lawful were_short c passes is =
     (key_short (definition_of m f) (λ d. write_fault d key given from n) key given false (λ d. lawful f d refl)
     (λ d none. (three_pass (key_fault d key given false) (from_fault d from n) (own_key_fault d key from n) none).0) passes)
 named_key_short m t (Rewrite f from n) lawful were_short c passes is =
-    of_read (λ key. op.Rewrite f key (used_of from n)) (open_key m t f) c (λ k. refl) (λ k. were_short f k refl) is
+    of_read (λ key. op.Rewrite f key (used_of from n)) (open_key m t f) c (λ k. refl) were_short is
 named_key_short m t (Delete f (Some key) given generic) lawful were_short c passes is = by generic passes is
   where
     at_most : (generic : Bool) → defined_fault (definition_of m f) (λ d. deleted_key_fault d key given generic) ≡ None → length key ≤ 255
@@ -250,7 +254,7 @@ named_key_short m t (Delete f (Some key) given generic) lawful were_short c pass
     by true passes is = let e : op.DeleteGeneric f key ≡ c = cc in subst (λ c. length (key_of c) ≤ 255) e (at_most true passes)
     by false passes is = let e : op.Delete f key ≡ c = cc in subst (λ c. length (key_of c) ≤ 255) e (at_most false passes)
 named_key_short m t (Delete f None given generic) lawful were_short c passes is =
-    of_read (λ key. op.Delete f key) (open_key m t f) c (λ k. refl) (λ k. were_short f k refl) is
+    of_read (λ key. op.Delete f key) (open_key m t f) c (λ k. refl) were_short is
 named_key_short m t (WriteqTs q from n None) lawful were_short c passes is =
     let e : op.TsWrite q (used_of from n) ≡ c = cc in no_key c (op.TsWrite q (used_of from n)) e (refl {a = 0})
 named_key_short m t (WriteqTs q from n (Some item)) lawful were_short c passes is =

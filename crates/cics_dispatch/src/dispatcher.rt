@@ -16,18 +16,18 @@ ghost use Rattle.cics_history.specs.declared.ops.UnitState.TheVariants.{Committe
 ghost use Rattle.cics_dispatch.specs.Machine.{units_after, definition_of};
 ghost use Rattle.cics_dispatch.specs.Machine.{RegionValue, beginning_region, task_at, abended, is_waiting};
 ghost use Rattle.cics_dispatch.specs.Machine.{unit_closed};
-ghost use Rattle.cics_dispatch.specs.Checks.{fault_of, open_key};
+ghost use Rattle.cics_dispatch.specs.Checks.{fault_of};
 ghost use Rattle.cics_history.specs.Execution.{IsOpenUnit, IsOpenOrNone};
 ghost use Rattle.cics_history.specs.Headline.{IsHeadline};
 ghost use Rattle.cics_history.specs.Records.{key_of};
-ghost use Rattle.cics_dispatch.specs.Steps.{answered, attached, busy_of, op_of, suspended};
+ghost use Rattle.cics_dispatch.specs.Steps.{answered, attached, busy_of, key_read, op_of, suspended};
 ghost use Rattle.cics_dispatch.specs.Waking.{clock_set};
 ghost use Rattle.cics_history.specs.Openings.{file_recoverable};
 ghost use Rattle.cics_dispatch.specs.Regions.{IsRegionKept};
 ghost use Rattle.cics_dispatch.specs.Settled.{is_keeping};
 ghost use Rattle.cics_dispatch.specs.Blockers.{unit_of};
 ghost use Rattle.cics_dispatch.specs.Answers.{IsStep, attach_may_want};
-ghost use Rattle.cics_names.specs.declared.commands.Verb.TheVariants.{Enq};
+ghost use Rattle.cics_names.specs.Commands.{file_named};
 ghost use Rattle.cics_dispatch.specs.Calls.{OfTask, IsAwake, HasReady, MayPerform};
 ghost use Rattle.cics_dispatch.specs.Calls.{KeepsRegion, IsStepOf};
 ghost use Rattle.cics_dispatch.specs.Calls.{IsStepOrRefused, IsAttempt, going_on, waiting_for};
@@ -225,13 +225,15 @@ impl Dispatcher {
         Ok(())
     }
 
-    // The key of the record that the task at a place has read for update in a file.
-    fn open_key(&self, at: usize, file: &Name8) -> Option<&[u8]>
+    // Returns the key of the record that the task at a place has read for update in a command's
+    // file, if there is one.
+    fn open_key(&self, at: usize, verb: &Verb) -> Option<&[u8]>
         requires within { at < length self.now.machine.tasks }
         ensures key { OfTask self.now.machine.tasks at
-            (λ t. option_copied result ≡ open_key self.now.machine t file.now) }
+            (λ t. option_copied result ≡ key_read self.now.machine t (file_named verb.now)) }
         ensures most { IfSome result (λ key. length key.now ≤ 255) }
     {
+        let file = verb.file()?;
         let unit = self.tasks.get(at).unit()?;
         self.units.open_read(unit, file)
     }
@@ -245,11 +247,14 @@ impl Dispatcher {
         Some(file.definition())
     }
 
-    // The first fault of a command of the task at a place. A file that isn't defined is DSIDERR, and a transient data
-    // queue that isn't is QIDERR.
+    // Returns the first fault of a command of the task at a place, by its open key. A file that
+    // isn't defined is DSIDERR, and a transient data queue that isn't is QIDERR.
     #[inline(never)]
-    fn fault(&self, at: usize, verb: &Verb) -> Option<Condition>
+    fn fault(&self, at: usize, verb: &Verb, open_key: Option<&[u8]>) -> Option<Condition>
         requires within { at < length self.now.machine.tasks }
+        requires key { OfTask self.now.machine.tasks at
+            (λ t. option_copied open_key ≡ key_read self.now.machine t (file_named verb.now)) }
+        requires most { IfSome open_key (λ key. length key.now ≤ 255) }
         ensures fault { OfTask self.now.machine.tasks at
             (λ t. result ≡ fault_of self.now.machine t verb.now) }
         ensures short { IfNone result (OfTask self.now.machine.tasks at
@@ -262,7 +267,7 @@ impl Dispatcher {
             return Some(Condition::Dsiderr);
         };
         let browse = self.tasks.get(at).browses().get(name);
-        file_fault(definition, self.open_key(at, name), browse, verb)
+        file_fault(definition, open_key, browse, verb)
     }
 
     // Ends the unit of the task at a place and its browses; the task ends too where that is said.

@@ -15,7 +15,7 @@ use Rattle.cics_history.specs.Isolation.{IsSound, used}
 use Rattle.cics_history.specs.Cells.{Td, Writing}
 use Rattle.cics_history.specs.Marks.{seen, marks_of}
 use Rattle.cics_history.specs.declared.ops.Op.{Op}
-use Rattle.cics_history.specs.declared.ops.Op.TheVariants.{Write, Rewrite, Delete, DeleteGeneric, ReadUpdate, TsWrite, TsRewrite, TsDelete, TdWrite, TdRead, TdDelete}
+use Rattle.cics_history.specs.declared.ops.Op.TheVariants.{TdRead}
 use Rattle.cics_history.proofs.States.{acting_open}
 use Rattle.cics_history.proofs.EndsHeld.{end_held}
 use Rattle.cics_history.proofs.MarkedParts.{first_of-seen}

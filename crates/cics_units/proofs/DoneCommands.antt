@@ -11,7 +11,7 @@ use Rattle.cics_history.specs.Holding.{UpdateRead}
 use Rattle.cics_history.specs.Records.{is_file_op, file_of}
 use Rattle.cics_history.specs.Store.{with_content, found_condition}
 use Rattle.cics_history.specs.declared.ops.Op.{Op}
-use Rattle.cics_history.specs.declared.ops.Op.TheVariants.{Write, Rewrite, Delete, DeleteGeneric, ReadUpdate, TsWrite, TsRewrite, TsDelete, TdWrite, TdRead, TdDelete}
+use Rattle.cics_history.specs.declared.ops.Op.TheVariants.{ReadUpdate, TsWrite, TsRewrite, TsDelete, TdWrite, TdRead, TdDelete}
 use Rattle.cics_units.specs.Applied.{IsFileBound, read_given}
 use Rattle.cics_units.specs.Executed.{IsDone}
 use Rattle.cics_units.specs.Parts.{CoreValue}

@@ -10,7 +10,7 @@ use Rattle.cics_tempstor.specs.Queues.{places_of}
 use Rattle.cics_enqueue.specs.Resources.{Table, Held, resource_cmp, most_count, held_at, holder_over, count_in, count_of, is_full, IsFreeFor, taken, given_back}
 use Rattle.cics_enqueue.proofs.TableLaws.{unit_in}
 use Rattle.cics_enqueue.specs.declared.resources.Resource.{Resource}
-use Rattle.cics_enqueue.specs.declared.resources.Resource.TheVariants.{FileKey, TsQueue, TdRead as ReadingEnd, TdWrite as WritingEnd, User, FilePrefix}
+use Rattle.cics_enqueue.specs.declared.resources.Resource.TheVariants.{User}
 use Rattle.cics_history.specs.Openings.{OpeningState}
 use Rattle.cics_history.specs.History.{outcome_of, is_open}
 use Rattle.cics_history.specs.Holding.{UnitsState, EnqCount, value_holder}

@@ -5,10 +5,10 @@ use Rattle.std.proofs.lemmas.Bool.{true≢false, false≢true}
 use Rattle.cics_names.specs.Keyed.{Bytes}
 use Rattle.cics_images.specs.Cells.{is_other}
 use Rattle.cics_images.specs.NamedLaws.{split_cell}
-use Rattle.cics_history.specs.Cells.{Cell, Key, Ts, Td, cell_of as cell_of_op, same_cell, touches, Writing, uses}
+use Rattle.cics_history.specs.Cells.{Cell, Key, Td, cell_of as cell_of_op, same_cell, touches, Writing, uses}
 use Rattle.cics_history.specs.Records.{is_file_op, file_of, key_of}
 use Rattle.cics_history.specs.declared.ops.Op.{Op}
-use Rattle.cics_history.specs.declared.ops.Op.TheVariants.{Write, Rewrite, Delete, DeleteGeneric, ReadUpdate, TsWrite, TsRewrite, TsDelete, TdWrite, TdRead, TdDelete}
+use Rattle.cics_history.specs.declared.ops.Op.TheVariants.{Write, Rewrite, Delete, DeleteGeneric, ReadUpdate, TdWrite, TdRead, TdDelete}
 use Rattle.cics_history.proofs.Joining.{same_cell-true, same_cell-refl}
 use Rattle.cics_units.specs.FilesImages.{cell_of}
 use Rattle.cics_units.specs.StoreMatching.{bytes_of}

@@ -18,7 +18,7 @@ use Rattle.cics_history.specs.Execution.{is_read_of, read_at, is_read_before, wi
 use Rattle.cics_history.specs.Records.{file_of, key_of}
 use Rattle.cics_units.specs.TableInPlace.{record_of, is_read, AreOnce}
 use Rattle.cics_history.specs.declared.ops.Op.{Op}
-use Rattle.cics_history.specs.declared.ops.Op.TheVariants.{Write, Rewrite, Delete, DeleteGeneric, ReadUpdate, TsWrite, TsRewrite, TsDelete, TdWrite, TdRead, TdDelete}
+use Rattle.cics_history.specs.declared.ops.Op.TheVariants.{Write, Rewrite, Delete, DeleteGeneric, ReadUpdate}
 use Rattle.cics_history.proofs.Holders.{any_filter}
 use Rattle.cics_history.proofs.Waiting.{any_more}
 use Rattle.cics_ksds.specs.Prefixes.{has_prefix}

@@ -25,7 +25,7 @@ use Rattle.cics_history.specs.Events.{may_act, is_live}
 use Rattle.cics_history.specs.Isolation.{IsSound}
 use Rattle.cics_history.specs.Serial.{IsInOrder}
 use Rattle.cics_history.specs.declared.ops.Op.{Op}
-use Rattle.cics_history.specs.declared.ops.Op.TheVariants.{Write, Rewrite, Delete, DeleteGeneric, ReadUpdate, TsWrite, TsRewrite, TsDelete, TdWrite, TdRead, TdDelete}
+use Rattle.cics_history.specs.declared.ops.Op.TheVariants.{Write, Rewrite, Delete, DeleteGeneric, ReadUpdate, TdWrite, TdRead, TdDelete}
 use Rattle.cics_history.specs.declared.ops.Answer.{Answer}
 use Rattle.cics_history.specs.declared.ops.UnitState.{UnitState}
 use Rattle.cics_history.specs.declared.ops.UnitState.TheVariants.{Open, Committed, BackedOut}

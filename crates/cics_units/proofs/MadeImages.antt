@@ -16,7 +16,7 @@ use Rattle.cics_history.specs.Store.{Store, apply}
 use Rattle.cics_history.specs.Cells.{Cell as OpCell, Key, content, is_generic, cell_of as cell_of_op, effect}
 use Rattle.cics_history.specs.Undo.{Image, Cells, changes, image_of, images_by}
 use Rattle.cics_history.specs.declared.ops.Op.{Op}
-use Rattle.cics_history.specs.declared.ops.Op.TheVariants.{Write, Rewrite, Delete, DeleteGeneric, ReadUpdate, TsWrite, TsRewrite, TsDelete, TdWrite, TdRead, TdDelete}
+use Rattle.cics_history.specs.declared.ops.Op.TheVariants.{DeleteGeneric}
 use Rattle.cics_history.proofs.Joining.{apply-content, touches-self}
 use Rattle.cics_units.specs.FilesImages.{FilesImage, cell_of, cell_of_image, files_content, files_undone, FilesKeep}
 use Rattle.cics_units.specs.FilesChanges.{IsFilesImage}

@@ -13,7 +13,7 @@ use Rattle.cics_units.specs.OpenReads.{is_read_key, is_read_under}
 use Rattle.cics_history.specs.Records.{file_of}
 use Rattle.cics_units.specs.TableInPlace.{AreOnce}
 use Rattle.cics_history.specs.declared.ops.Op.{Op}
-use Rattle.cics_history.specs.declared.ops.Op.TheVariants.{Write, Rewrite, Delete, DeleteGeneric, ReadUpdate, TsWrite, TsRewrite, TsDelete, TdWrite, TdRead, TdDelete}
+use Rattle.cics_history.specs.declared.ops.Op.TheVariants.{Rewrite, Delete, DeleteGeneric}
 use Rattle.cics_history.proofs.Waiting.{any_more}
 use Rattle.cics_units.proofs.HeldReads.{any_never, OnEach, OnEach-map, read_keys, covers-own, covered_key, covered_at, covered_all}
 

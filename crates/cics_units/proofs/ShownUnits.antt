@@ -27,7 +27,7 @@ use Rattle.cics_units.specs.TableInPlace.{is_read, counts_in, table_changed, tab
 use Rattle.cics_units.specs.Parts.{CoreValue, IsCoreAsBefore, given_record}
 use Rattle.cics_units.specs.KeptUnits.{state_shown, AreValid}
 use Rattle.cics_history.specs.declared.ops.Op.{Op}
-use Rattle.cics_history.specs.declared.ops.Op.TheVariants.{Write, Rewrite, Delete, DeleteGeneric, ReadUpdate, TsWrite, TsRewrite, TsDelete, TdWrite, TdRead, TdDelete}
+use Rattle.cics_history.specs.declared.ops.Op.TheVariants.{ReadUpdate}
 use Rattle.cics_history.specs.declared.ops.Answer.{Answer}
 use Rattle.cics_history.specs.declared.ops.Done.TheVariants.{Answered, MustWait}
 use Rattle.cics_history.specs.declared.ops.Entry.{Entry}

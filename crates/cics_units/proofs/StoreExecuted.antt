@@ -6,7 +6,7 @@ use Rattle.cics_images.specs.Cells.{AreOf}
 use Rattle.cics_images.specs.Turns.{IsImageOf}
 use Rattle.cics_images.specs.declared.stores.StoreImage.TheVariants.{File, TempStorage, TransData}
 use Rattle.cics_history.specs.declared.ops.Op.{Op}
-use Rattle.cics_history.specs.declared.ops.Op.TheVariants.{Write, Rewrite, Delete, DeleteGeneric, ReadUpdate, TsWrite, TsRewrite, TsDelete, TdWrite, TdRead, TdDelete}
+use Rattle.cics_history.specs.declared.ops.Op.TheVariants.{TdWrite, TdRead, TdDelete}
 use Rattle.cics_history.specs.Cells.{Td, touches}
 use Rattle.cics_history.specs.Undo.{Image}
 use Rattle.cics_history.specs.Marks.{Queues}

@@ -24,7 +24,7 @@ use Rattle.cics_history.specs.Holding.{UnitsState, awaited}
 use Rattle.cics_history.specs.Execution.{unit_or_next}
 use Rattle.cics_history.specs.declared.ops.Op.{Op}
 use Rattle.cics_history.specs.declared.ops.Op.TheVariants.{TdWrite, TdRead}
-use Rattle.cics_history.specs.Cells.{Cell, Key, Ts, Td, End, Reading, Writing, uses}
+use Rattle.cics_history.specs.Cells.{Cell, Td, End, Reading, Writing, uses}
 use Rattle.cics_history.specs.Isolation.{used, IsSound}
 use Rattle.cics_history.specs.Undo.{Image}
 use Rattle.cics_history.specs.MarkImages.{MarkImage}

@@ -15,7 +15,7 @@ use Rattle.cics_history.specs.Openings.{OpeningState, HasLawfulKeys, IsOpeningIn
 use Rattle.cics_history.specs.Store.{Store, ts_queue}
 use Rattle.cics_history.specs.Holding.{UnitsState, store_of}
 use Rattle.cics_history.specs.Execution.{place_at, item_asked, ts_reading, after_ts_reading}
-use Rattle.cics_history.specs.Cells.{IsCanonical, Cell, Key, Ts, Td, content}
+use Rattle.cics_history.specs.Cells.{IsCanonical, Cell, Ts, content}
 use Rattle.cics_history.specs.declared.ops.Answer.{Answer}
 use Rattle.cics_history.specs.declared.ops.Entry.{Entry}
 use Rattle.cics_history.specs.declared.ops.UnitState.{UnitState}

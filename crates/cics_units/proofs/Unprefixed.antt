@@ -8,7 +8,7 @@ use Rattle.arrayvec.specs.ArrayVec.{ArrayVec}
 use Rattle.cics_names.specs.Keyed.{Bytes}
 use Rattle.cics_enqueue.specs.Resources.{bytes_of, is_one, is_user}
 use Rattle.cics_enqueue.specs.declared.resources.Resource.{Resource}
-use Rattle.cics_enqueue.specs.declared.resources.Resource.TheVariants.{FileKey, TsQueue, TdRead as ReadingEnd, TdWrite as WritingEnd, User, FilePrefix}
+use Rattle.cics_enqueue.specs.declared.resources.Resource.TheVariants.{TsQueue, TdRead as ReadingEnd, TdWrite as WritingEnd, User, FilePrefix}
 use Rattle.cics_history.specs.Openings.{OpeningState, file_recoverable, queue_logical, has_prefix_in}
 use Rattle.cics_history.specs.Store.{is_normal, is_recoverable}
 use Rattle.cics_history.specs.Holding.{UpdateRead, EnqCount, uses_of}

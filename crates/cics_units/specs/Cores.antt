@@ -18,7 +18,7 @@ core_value c = record { stores = record { store = c.store; images = c.rows.items
 pub record IsBoundFor (core : CoreValue) (unit : ℕ) (b : BoundOp) : Type 0 where
   pub bound : IsBound core.stores.store b.op.now b.recoverable
   pub used : listed b.uses ≡ uses_if b.recoverable b.op.now
-  -- a unit that holds the writing end of a queue may read what it wrote itself
+  -- for READQ TD: the unit holds the writing end of the queue. Other commands may have either
   pub own : IsOwn b.op.now (is_writer core.table unit (queue_of b.op.now)) b.own
 
 -- a command that isn't READ UPDATE can be applied: what it acts on is there and shows it enough, and there is room for its images

@@ -25,7 +25,7 @@ pub record IsExecuted (old new : CoreValue) (unit : ℕ) (op : Op) (recoverable 
   pub roomy : StoreWithImages
   pub room : AreRoomier old.stores roomy
   pub begun : unit < length roomy.images
-  -- a unit that holds the writing end of a queue may read what it wrote itself
+  -- for READQ TD: the unit holds the writing end of the queue. Other commands may have either
   pub own : Bool
   pub own_is : IsOwn op (is_writer old.table unit (queue_of op)) own
   pub done : IsDone (record { stores = roomy; table = old.table; reads = old.reads }) new unit op recoverable own answer

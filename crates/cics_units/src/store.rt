@@ -1,6 +1,6 @@
 //! The store of files and queues: applies updating commands in place, and adds what undoes them.
 
-ghost use Rattle.std.specs.Prelude.{◌≡◌, ◌<◌, ◌≤◌, ◌++◌, Bool, true, [], length, IfOk, OnErr};
+ghost use Rattle.std.specs.Prelude.{◌≡◌, ◌<◌, ◌≤◌, ◌++◌, true, [], length, IfOk, OnErr};
 ghost use Rattle.std.specs.Prelude.{IsSome, option_map};
 ghost use Rattle.cics_units.specs.RegionFiles.{IsThere};
 ghost use Rattle.cics_names.specs.Keyed.{value_at};

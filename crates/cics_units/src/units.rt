@@ -1,8 +1,8 @@
 //! Units of work: their commands, what they acquire, and their ends.
 
 ghost use Rattle.std.specs.Prelude.{◌≡◌, ◌<◌, ◌≤◌, ◌+◌, ◌++◌, ◌∷◌, [], true, length, vec_len};
-ghost use Rattle.std.specs.Prelude.{vec_capacity, IsTrue, Option, Some, None, option_map, IfOk};
-ghost use Rattle.std.specs.Prelude.{IfErr, IfSome, OnOk, OnErr};
+ghost use Rattle.std.specs.Prelude.{vec_capacity, IsTrue, option_map, IfOk, IfErr, IfSome, OnOk};
+ghost use Rattle.std.specs.Prelude.{OnErr};
 ghost use Rattle.std.specs.Option.{option_copied};
 ghost use Rattle.cics_names.specs.Keyed.{value_at};
 ghost use Rattle.cics_history.specs.Openings.{IsOpeningInOrder, is_key};

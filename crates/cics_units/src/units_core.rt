@@ -1,5 +1,8 @@
 //! What units change in place: the files and queues, the images of each unit, the locks, and the
 //! open update reads.
+//!
+//! Steps of `Units::submit` that every command takes have `inline(always)`, also in `units.rt` and
+//! `opening.rt`. A load of transient data was measured to need fewer instructions so.
 
 ghost use Rattle.std.specs.Prelude.{◌≡◌, ◌<◌, ◌≤◌, ℕ, true, false, not, if◌then◌else◌, [], None};
 ghost use Rattle.std.specs.Prelude.{length, filter, reverse, IfOk, IfSome, OnOk, OnErr, All};

@@ -1,10 +1,8 @@
 //! What a command uses, and how its unit acquires it: all of it, or nothing on `NoMemory`.
 
-ghost use Rattle.std.specs.Prelude.{◌≡◌, ◌≤◌, ◌∷◌, [], false, length, IfOk, OnOk, OnErr};
+ghost use Rattle.std.specs.Prelude.{◌≡◌, ◌≤◌, false, length, IfOk, OnOk, OnErr};
 ghost use Rattle.std.specs.List.{list_any};
-ghost use Rattle.cics_enqueue.specs.Resources.{is_user, bytes_of};
-ghost use Rattle.cics_enqueue.specs.declared.resources.Resource.TheVariants.{FileKey, TsQueue};
-ghost use Rattle.cics_enqueue.specs.declared.resources.Resource.TheVariants.{TdRead, TdWrite};
+ghost use Rattle.cics_enqueue.specs.Resources.{is_user};
 ghost use Rattle.cics_history.specs.Records.{key_of};
 ghost use Rattle.cics_units.specs.Uses.{uses_if, listed, taken_all, AreFreeFor, holder_over_all};
 ghost use Rattle.cics_units.specs.Uses.{given_back_if, let_go};

@@ -1,7 +1,7 @@
 //! The commands of the tasks of a region, from the look at what other units hold on.
 
 ghost use Rattle.std.specs.Prelude.{◌≡◌, ◌<◌, true, false, None, is_some, length, if◌then◌else◌, slice_get};
-ghost use Rattle.std.specs.Prelude.{IsTrue, IfOk, OnErr};
+ghost use Rattle.std.specs.Prelude.{IsTrue, OnErr};
 ghost use Rattle.cics_names.specs.Commands.{file_named};
 ghost use Rattle.cics_dispatch.specs.Machine.{task_at, unit_closed};
 ghost use Rattle.cics_dispatch.specs.Steps.{op_of, code_of, performed, issued};
@@ -35,19 +35,6 @@ fn abend_code(code: Option<Name4>) -> AbendCode
 }
 
 impl Dispatcher {
-    // The updating command that a command of the task at a place asks for, if it asks for one.
-    fn op(&self, at: usize, verb: &Verb) -> Result<Option<Op>, NoMemory>
-        requires within { at < length self.now.machine.tasks }
-        ensures op { IfOk result (λ op. OfTask self.now.machine.tasks at
-            (λ t. op ≡ op_of self.now.machine t verb.now)) }
-        ensures growing { OnErr result (IsTrue (is_growing verb.now)) }
-    {
-        match verb.file() {
-            Some(name) => asked_op(self.alloc, verb, self.open_key(at, name)),
-            None => asked_op(self.alloc, verb, None),
-        }
-    }
-
     // A command of the task at a place that updates nothing.
     fn perform_other(&mut self, at: usize, command: Command) -> Result<Outcome, NoMemory>
         requires within { at < length self.old.machine.tasks }
@@ -161,15 +148,18 @@ impl Dispatcher {
         Outcome::Replied(plain_reply(Condition::Normal))
     }
 
-    // A command of the task at a place whose checks have passed.
-    fn perform(&mut self, at: usize, command: Command) -> Result<Outcome, NoMemory>
+    // Performs a command of the task at a place whose checks have passed. `op` is the updating
+    // command that it asks for.
+    fn perform(&mut self, at: usize, command: Command, op: Option<Op>) -> Result<Outcome, NoMemory>
         requires within { at < length self.old.machine.tasks }
         requires may { MayPerform self.old.machine at command.verb }
+        requires asked { OfTask self.old.machine.tasks at
+            (λ t. op ≡ op_of self.old.machine t command.verb) }
         ensures step { IsStepOrRefused self.old at
             (λ t. performed self.old.machine t command) result self.new }
         ensures growing { OnErr result (IsTrue (is_growing command.verb)) }
     {
-        match self.op(at, &command.verb)? {
+        match op {
             Some(op) => self.update(at, command, op),
             None => self.perform_other(at, command),
         }
@@ -196,9 +186,13 @@ impl Dispatcher {
         if self.waits.is_waiting(&label) {
             return Err(Refused::TaskWaiting);
         }
-        match self.fault(at, &command.verb) {
+        let open_key = self.open_key(at, &command.verb);
+        match self.fault(at, &command.verb, open_key) {
             Some(fault) => Ok(self.answer(at, command.resp, plain_reply(fault))),
-            None => Ok(self.perform(at, command)?),
+            None => {
+                let op = asked_op(self.alloc, &command.verb, open_key)?;
+                Ok(self.perform(at, command, op)?)
+            }
         }
     }
 }

@@ -4,7 +4,7 @@ use Rattle.cics_names.specs.Keyed.{Bytes}
 use Rattle.cics_history.specs.Records.{key_of}
 use Rattle.cics_dispatch.specs.Machine.{RegionValue, task_at}
 use Rattle.cics_dispatch.specs.Calls.{OfTask}
-use Rattle.cics_dispatch.specs.Steps.{answered, op_of}
+use Rattle.cics_dispatch.specs.Steps.{answered, asked_op, op_of}
 use Rattle.cics_dispatch.proofs.RegionPerforming.{issued_to, issued_waiting, issued_awake, issued_told, wants_memory, refused_memory}
 use Rattle.cics_dispatch.proofs.dispatcher.Dispatcher.issue.Goals as goal
 
@@ -30,11 +30,22 @@ perform-requires-clause-may c =
       short = subst (λ fault. IfNone fault (OfTask m.tasks c.args.at (λ t. IfSome (op_of m t c.args.command.verb) (λ o. length (key_of o) ≤ 255)))) c.in-None.is c.fault.ensures.short;
     }
 
+pub perform-requires-clause-asked : goal.perform-requires-clause-asked
+perform-requires-clause-asked c = λ t there. c.in_ok-op-in-None.ensures.op ∙ ap (λ o. asked_op o c.args.command.verb) (c.open_key-open_key.ensures.key t there)
+
+pub returns-in_err-op-in-None-clause-step : goal.returns-in_err-op-in-None-clause-step
+returns-in_err-op-in-None-clause-step c =
+    let to = issued_to c.args.self.now c.args.label c.args.at c.get.result.now false c.self.view_is (found_before c.args.at c.args.label c.self.view_is c.requires.task) c.get.ensures
+    (sym c.has_ended.ensures ∙ c.if-has_ended.false) (sym c.is_waiting.ensures.waiting ∙ c.if-is_waiting.false) in
+    refused_memory _ _ _ c.from_residual.result _ c.from_residual.ensures
+    (wants_memory c.args.self.now.machine c.args.label c.args.command c.get.result.now to.of_label to.goes_on to.waiting
+    (sym (c.fault.ensures.fault c.get.result.now to.there) ∙ c.in-None.is) c.in_err-op-in-None.ensures.growing) refl
+
 pub returns-in_err-perform-in-None-clause-step : goal.returns-in_err-perform-in-None-clause-step
 returns-in_err-perform-in-None-clause-step c =
     let to = issued_to c.args.self.now c.args.label c.args.at c.get.result.now false c.self.view_is (found_before c.args.at c.args.label c.self.view_is c.requires.task) c.get.ensures
     (sym c.has_ended.ensures ∙ c.if-has_ended.false) (sym c.is_waiting.ensures.waiting ∙ c.if-is_waiting.false) in
-    refused_memory _ _ _ c.from_residual.result _ c.from_residual.ensures
+    refused_memory _ _ _ c.from_residual-in_err-perform-in-None.result _ c.from_residual-in_err-perform-in-None.ensures
     (wants_memory c.args.self.now.machine c.args.label c.args.command c.get.result.now to.of_label to.goes_on to.waiting
     (sym (c.fault.ensures.fault c.get.result.now to.there) ∙ c.in-None.is) c.in_err-perform-in-None.ensures.growing) c.in_err-perform-in-None.ensures.step
 
