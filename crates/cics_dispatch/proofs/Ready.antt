@@ -1,7 +1,7 @@
 -- A command whose checks have passed asks for an updating command that is ready to be executed, with a key of no more bytes
 -- than a key may have.
 use Rattle.std.specs.Prelude.{◌<◌, IfSome, ◌≡◌, ℕ, ◌+◌, ◌≤◌, Bool, true, false, if◌then◌else◌, not, ◌&&◌, ◌||◌, Option, Some, None, is_some, nat_le, option_map, length, [], ◌∷◌, refl}
-use Rattle.std.proofs.Common.{sym, ap, subst, arith}
+use Rattle.std.proofs.Common.{sym, subst, arith}
 use Rattle.std.proofs.lemmas.Bool.{false≢true, leb-true, le-leb, eqb-true}
 use Rattle.cics_names.specs.Keyed.{Bytes, value_at, has_key, is_same}
 use Rattle.cics_names.specs.KeyedLaws.{is_same-self}
@@ -217,10 +217,6 @@ of_read make (Some k) c same were_short is =
 -- a command on a queue has no key
 no_key : (c o : Op) → o ≡ c → length (key_of o) ≡ 0 → length (key_of c) ≤ 255
 no_key c o same none = subst (λ c. length (key_of c) ≤ 255) same (omega (arith, none))
-
--- the key that was read of the file that a command names
-pub key_read-named : (m : Machine) (t : Task) (f : Bytes) (verb : Verb) → file_named verb ≡ Some f → key_read m t (file_named verb) ≡ open_key m t f
-key_read-named m t f verb named = ap (key_read m t) named
 
 -- its key has no more bytes than a key may have, where the definition of its file is lawful and so is the key that was read
 pub named_key_short : (m : Machine) (t : Task) (verb : Verb) →
