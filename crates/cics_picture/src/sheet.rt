@@ -4,7 +4,8 @@ ghost use Rattle.std.specs.Prelude.{◌≡◌, ◌++◌, ◌<◌, ◌≤◌, ◌
 ghost use Rattle.cics_markup.specs.Documents.{Document};
 ghost use Rattle.cics_markup.specs.Reading.{document_of};
 ghost use Rattle.cics_picture.specs.Lanes.{most_lanes};
-ghost use Rattle.cics_picture.specs.Drawings.{drawn_of, Printed, drawn};
+ghost use Rattle.cics_picture.specs.Drawings.{drawn_of, Printed, Row, drawn};
+ghost use Rattle.cics_picture.specs.Arrows.{TellsWait, DrawsArrow};
 ghost use Rattle.cics_picture.specs.Sheets.{style_text, bands, lane_lines, headings, ground, heading};
 ghost use Rattle.cics_picture.specs.Sheets.{legend_item, answers_legend, ways_legend, region_legend};
 ghost use Rattle.cics_picture.specs.Sheets.{width_of, height_of, moved_texts, sheet};
@@ -24,6 +25,12 @@ use cics_names::NoMemory;
 pub fn sheets_are_documents()
     ensures { (lines : List Printed) (title : List ℕ)
         → (d : Document) × (document_of (sheet (drawn lines) title) ≡ Some d) }
+{}
+
+/// If at most sixteen tasks are attached, each event WAITING has exactly one arrow: from the lane of
+/// its task to the lane of the task that it names.
+pub fn waits_have_arrows()
+    ensures { (before : List Row) (r : Row) → TellsWait before r → DrawsArrow before r }
 {}
 
 fn push_style(out: &mut Vec<u8>) -> Result<(), NoMemory>
