@@ -19,8 +19,8 @@ use cics_names::NoMemory;
 use cics_picture::{Drawing, Undrawn, push_sheet};
 use cics_run::Session;
 
-/// The rows of a picture show what the run prints, in order: their events, each with its LF, are the
-/// journal.
+/// The rows of a picture show what the run prints, in order: their events, each with its LF, are
+/// the journal.
 pub fn rows_are_the_journal()
     ensures { (script : List ℕ)
         → events_of (all_rows (printed_lines script)) ≡ (play (all_lines script)).journal }

@@ -103,8 +103,8 @@ fn write_all<K: Sink>(sink: &mut K, bytes: &[u8]) -> Result<(), Failed>
 /// script with a fault ends with the fault. The session is a new one, and is left to its owner.
 ///
 /// Returns how the run ended, or why there is no picture. It returns a read or a write fault only
-/// if that very call failed, and tries none again. After a fault the session keeps the line that has
-/// it.
+/// if that very call failed, and tries none again. After a fault the session keeps the line with
+/// the fault.
 pub fn run_picture<S: Source, K: Sink>(
     session: &mut Session,
     source: &mut S,

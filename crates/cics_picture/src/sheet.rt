@@ -7,8 +7,8 @@ ghost use Rattle.cics_picture.specs.Lanes.{most_lanes};
 ghost use Rattle.cics_picture.specs.Drawings.{drawn_of, Printed, Row, drawn};
 ghost use Rattle.cics_picture.specs.Arrows.{TellsWait, DrawsArrow};
 ghost use Rattle.cics_picture.specs.Sheets.{style_text, bands, lane_lines, headings, ground, heading};
-ghost use Rattle.cics_picture.specs.Sheets.{legend_item, answers_legend, ways_legend, region_legend};
-ghost use Rattle.cics_picture.specs.Sheets.{width_of, height_of, moved_texts, sheet};
+ghost use Rattle.cics_picture.specs.Sheets.{legend_item, answers_legend, ways_legend};
+ghost use Rattle.cics_picture.specs.Sheets.{region_legend, width_of, height_of, moved_texts, sheet};
 
 use crate::drawing::Drawing;
 use crate::elements::{
@@ -27,8 +27,8 @@ pub fn sheets_are_documents()
         → (d : Document) × (document_of (sheet (drawn lines) title) ≡ Some d) }
 {}
 
-/// If at most sixteen tasks are attached, each event WAITING has exactly one arrow: from the lane of
-/// its task to the lane of the task that it names.
+/// If at most sixteen tasks are attached, each event WAITING has exactly one arrow: from the lane
+/// of its task to the lane of the task that it names.
 pub fn waits_have_arrows()
     ensures { (before : List Row) (r : Row) → TellsWait before r → DrawsArrow before r }
 {}
