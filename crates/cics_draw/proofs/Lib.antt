@@ -1,2 +1,4 @@
 pub mod Cutting
 pub mod Playing
+pub mod Counting
+pub mod Journals

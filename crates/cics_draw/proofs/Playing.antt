@@ -5,12 +5,13 @@ use Rattle.std.specs.Prelude.{is_some}
 use Rattle.std.specs.List.{fold}
 use Rattle.cics_run.specs.Lines.{all_lines}
 use Rattle.cics_run.specs.Stages.{step}
-use Rattle.cics_run.specs.Running.{Played, has_fault, next, is_faulty}
-use Rattle.cics_run.specs.declared.stage.Stage.{Stage}
+use Rattle.cics_run.specs.Running.{Played, play, has_fault, next, stepped, is_faulty}
+use Rattle.cics_run.specs.Standing.{Ran, Keeps, next_step}
+use Rattle.cics_run.specs.declared.session.Session.{Session}
 use Rattle.cics_run.proofs.Playing.{next-going, fault-fold}
 use Rattle.cics_picture.specs.Lanes.{most_rows}
 use Rattle.cics_picture.specs.Drawings.{Drawn, Row, with_row, rows_of, all_rows}
-use Rattle.cics_draw.specs.Pictures.{printed, printed_from, drawing_of, HasTooMany}
+use Rattle.cics_draw.specs.Pictures.{printed, next_printed, printed_from, drawing_of, HasTooMany}
 
 -- what is drawn of the lines that a run plays from where it stands
 abbrev pub drawn_from : Drawn → Played → List (List ℕ) → Drawn
@@ -55,62 +56,73 @@ too-many d p line lines going over =
     rw (line-drawn d p line lines going) (omega (arith, over, rows-counted rows d, rows-counted (all_rows (printed_from (next p line) lines)) (fold with_row d rows)))
 
 -- Where a run stands in front of the rest of a script, none of whose lines was a fault, with what was drawn.
-pub record Stands (d : Drawn) (stage : Stage) (number : ℕ) (rest script : List ℕ) : Type 0 where
+pub record Stands (d : Drawn) (s : Session) (rest script : List ℕ) : Type 0 where
   pub played : Played
-  pub at_stage : stage ≡ played.stage
-  pub at_number : number ≡ played.number
+  pub at_stage : s.stage ≡ played.stage
+  pub at_number : s.number ≡ played.number
+  pub at_line : s.line.items ≡ []
   pub going : has_fault played ≡ false
   pub drawn : drawn_from d played (all_lines rest) ≡ drawing_of script
-  pub fault : has_fault (fold next played (all_lines rest)) ≡ is_faulty script
+  pub ends : fold next played (all_lines rest) ≡ play (all_lines script)
 
-module _ (d e : Drawn) (stage : Stage) (number : ℕ) (rest line after script : List ℕ) (at : Stands d stage number rest script) (lines : all_lines rest ≡ line ∷ all_lines after) where
+module _ (d e : Drawn) (s t : Session) (rest line after script : List ℕ) (at : Stands d s rest script) (lines : all_lines rest ≡ line ∷ all_lines after) (ran : Ran s line t) where
   -- the line's step, as the run has it
-  same : printed (number + 1) line (step (number + 1) stage line) ≡ printed (at.played.number + 1) line (step (at.played.number + 1) at.played.stage line)
+  same : next_printed s line ≡ printed (at.played.number + 1) line (step (at.played.number + 1) at.played.stage line)
   same = rw (at.at_number, at.at_stage) refl
 
-  same-fault : is_some (step (number + 1) stage line).fault ≡ has_fault (next at.played line)
-  same-fault = rw (at.at_number, at.at_stage) (sym (ap has_fault (next-going at.played line at.going)))
+  same-step : next_step s line ≡ step (at.played.number + 1) at.played.stage line
+  same-step = rw (at.at_number, at.at_stage) refl
 
-  first-drawn : e ≡ fold with_row d (rows_of (printed (number + 1) line (step (number + 1) stage line))) → drawn_from e (next at.played line) (all_lines after) ≡ drawing_of script
+  going-on : next at.played line ≡ stepped at.played line (next_step s line)
+  going-on = next-going at.played line at.going ∙ ap (stepped at.played line) (sym same-step)
+
+  same-fault : is_some t.fault ≡ has_fault (next at.played line)
+  same-fault = ap is_some ran.fault ∙ sym (ap has_fault going-on)
+
+  first-drawn : e ≡ fold with_row d (rows_of (next_printed s line)) → drawn_from e (next at.played line) (all_lines after) ≡ drawing_of script
   first-drawn is =
-      ap (λ x. drawn_from x (next at.played line) (all_lines after)) (is ∙ ap (λ s. fold with_row d (rows_of s)) same)
+      ap (λ x. drawn_from x (next at.played line) (all_lines after)) (is ∙ ap (λ p. fold with_row d (rows_of p)) same)
       ∙ sym (line-drawn d at.played line (all_lines after) at.going) ∙ ap (drawn_from d at.played) (sym lines) ∙ at.drawn
 
-  first-fault : has_fault (fold next (next at.played line) (all_lines after)) ≡ is_faulty script
-  first-fault = ap (λ l. has_fault (fold next at.played l)) (sym lines) ∙ at.fault
+  first-ends : fold next (next at.played line) (all_lines after) ≡ play (all_lines script)
+  first-ends = ap (fold next at.played) (sym lines) ∙ at.ends
 
   -- the line was no fault
-  pub stands-next : (new : Stage) (count : ℕ) → new ≡ (step (number + 1) stage line).stage → count ≡ number + 1
-      → e ≡ fold with_row d (rows_of (printed (number + 1) line (step (number + 1) stage line))) → false ≡ is_some (step (number + 1) stage line).fault
-      → Stands e new count after script
-  stands-next new count is-stage is-count is passed =
+  pub stands-next : e ≡ fold with_row d (rows_of (next_printed s line)) → t.line.items ≡ [] → false ≡ is_some t.fault → Stands e t after script
+  stands-next is none passed =
       record {
         played = next at.played line;
-        at_stage = is-stage ∙ rw (at.at_number, at.at_stage) (sym (ap (λ p. p.stage) (next-going at.played line at.going)));
-        at_number = is-count ∙ ap (λ n. n + 1) at.at_number ∙ sym (ap (λ p. p.number) (next-going at.played line at.going));
+        at_stage = ran.stage ∙ sym (ap (λ p. p.stage) going-on);
+        at_number = ran.number ∙ ap (λ n. n + 1) at.at_number ∙ sym (ap (λ p. p.number) going-on);
+        at_line = none;
         going = sym (passed ∙ same-fault);
         drawn = first-drawn is;
-        fault = first-fault;
+        ends = first-ends;
       }
 
   -- the line was a fault
-  pub stands-stopped : e ≡ fold with_row d (rows_of (printed (number + 1) line (step (number + 1) stage line))) → true ≡ is_some (step (number + 1) stage line).fault
-      → (e ≡ drawing_of script) × (is_faulty script ≡ true)
-  stands-stopped is failed =
-      let stopped = sym (failed ∙ same-fault) in (
+  pub stands-stopped : e ≡ fold with_row d (rows_of (next_printed s line)) → t.line.items ≡ line → true ≡ is_some t.fault
+      → (e ≡ drawing_of script) × (is_faulty script ≡ true) × Keeps t (play (all_lines script))
+  stands-stopped is kept failed =
+      let stopped : has_fault (next at.played line) ≡ true = sym (failed ∙ same-fault) in
+      let last : play (all_lines script) ≡ next at.played line = sym first-ends ∙ fault-fold (all_lines after) (next at.played line) stopped in
+      let keeps : Keeps t (stepped at.played line (next_step s line)) = record { line = kept; number = ran.number ∙ ap (λ n. n + 1) at.at_number; fault = ran.fault } in (
         sym (fault-drawn e (next at.played line) (all_lines after) stopped) ∙ first-drawn is,
-        sym first-fault ∙ ap has_fault (fault-fold (all_lines after) (next at.played line) stopped) ∙ stopped,
+        ap has_fault last ∙ stopped,
+        subst (Keeps t) (sym (last ∙ going-on)) keeps,
       )
 
-  -- the line had too many rows
-  pub stands-over : most_rows < d.rows + length (rows_of (printed (number + 1) line (step (number + 1) stage line))) → HasTooMany script
-  stands-over over =
-      subst (λ t. most_rows < t.rows) (ap (drawn_from d at.played) (sym lines) ∙ at.drawn)
-      (too-many d at.played line (all_lines after) at.going (subst (λ s. most_rows < d.rows + length (rows_of s)) same over))
+-- a line had too many rows
+pub stands-over : (d : Drawn) (s : Session) (rest line after script : List ℕ) → Stands d s rest script → all_lines rest ≡ line ∷ all_lines after
+    → most_rows < d.rows + length (rows_of (next_printed s line)) → HasTooMany script
+stands-over d s rest line after script at lines over =
+    let same : next_printed s line ≡ printed (at.played.number + 1) line (step (at.played.number + 1) at.played.stage line) = rw (at.at_number, at.at_stage) refl in
+    subst (λ t. most_rows < t.rows) (ap (drawn_from d at.played) (sym lines) ∙ at.drawn)
+    (too-many d at.played line (all_lines after) at.going (subst (λ p. most_rows < d.rows + length (rows_of p)) same over))
 
 -- no line was left
-pub stands-ended : (d : Drawn) (stage : Stage) (number : ℕ) (rest script : List ℕ) → Stands d stage number rest script → all_lines rest ≡ [] → (d ≡ drawing_of script) × (is_faulty script ≡ false)
-stands-ended d stage number rest script at none = (
+pub stands-ended : (d : Drawn) (s : Session) (rest script : List ℕ) → Stands d s rest script → all_lines rest ≡ [] → (d ≡ drawing_of script) × (is_faulty script ≡ false)
+stands-ended d s rest script at none = (
   ap (drawn_from d at.played) (sym none) ∙ at.drawn,
-  sym at.fault ∙ ap (λ l. has_fault (fold next at.played l)) none ∙ at.going,
+  sym (ap has_fault at.ends) ∙ ap (λ l. has_fault (fold next at.played l)) none ∙ at.going,
 )

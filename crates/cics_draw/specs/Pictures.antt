@@ -1,9 +1,11 @@
 -- What a run prints of each line of a script, and the picture of that.
-use Rattle.std.specs.Prelude.{◌≡◌, ℕ, Bool, true, false, ◌+◌, ◌<◌, ◌≤◌, if◌then◌else◌, List, [], ◌∷◌, length, Option, Result, Ok, Err}
+use Rattle.std.specs.Prelude.{◌≡◌, ℕ, Bool, true, false, ◌+◌, ◌<◌, ◌≤◌, if◌then◌else◌, List, [], ◌∷◌, length, Option, Result, Ok, Err, IfOk, is_some, ⊤}
 use Rattle.std.specs.Io.KnownBytes.{Appends, Consumes, IsAtEnd}
 use Rattle.cics_run.specs.Lines.{all_lines}
 use Rattle.cics_run.specs.Stages.{step, Step}
-use Rattle.cics_run.specs.Running.{Played, has_fault, next, start, is_faulty, most_bytes}
+use Rattle.cics_run.specs.Running.{Played, play, has_fault, next, start, is_faulty, most_bytes}
+use Rattle.cics_run.specs.Standing.{Ran, Keeps, next_step}
+use Rattle.cics_run.specs.declared.session.Session.{Session}
 use Rattle.cics_run.specs.Printing.{AppendsFront}
 use Rattle.cics_run.specs.declared.running.Status.{Status}
 use Rattle.cics_run.specs.declared.running.Status.TheVariants as status
@@ -22,6 +24,10 @@ use Rattle.cics_draw.specs.declared.picture.NoPicture.TheVariants.{Stopped, TooM
 abbrev pub printed : ℕ → List ℕ → Step → Printed
 printed number line s = record { number = number; line = line; text = s.text }
 
+-- the line that a session runs next, and what it prints
+abbrev pub next_printed : Session → List ℕ → Printed
+next_printed s line = printed (s.number + 1) line (next_step s line)
+
 -- What a run prints of each of these lines, from where it stands. Behind a fault no line counts.
 abbrev pub printed_from : Played → List (List ℕ) → List Printed
 printed_from p [] = []
@@ -39,6 +45,15 @@ drawing_of script = drawn (printed_lines script)
 -- the picture of a script
 abbrev pub picture_of : List ℕ → List ℕ
 picture_of script = sheet (drawing_of script) (title_of script)
+
+-- A session ran a line, which it keeps if that is a fault.
+abbrev pub RunsLine : {E : Type 0} → Session → List ℕ → Session → Result Bool E → Type 0
+RunsLine s line t result = IfOk result (λ fault. Ran s line t × (fault ≡ is_some t.fault) × (t.line.items ≡ (if fault then line else [])))
+
+-- a session keeps the last line that a script runs, if that is a fault
+abbrev pub KeepsLast : List ℕ → Session → Bool → Type 0
+KeepsLast script session true = Keeps session (play (all_lines script))
+KeepsLast script session false = ⊤
 
 -- a script has more events than a picture may have rows
 abbrev pub HasTooMany : List ℕ → Type 0
@@ -72,6 +87,32 @@ Answers bytes rest old new (Err (Stopped faults.WriteFault)) = IsAtEnd rest × A
 -- some bytes were read, not too many, and what was written is what they call for
 abbrev pub Pictures : Option (List ℕ) → Option (List ℕ) → Option (List ℕ) → Option (List ℕ) → Result Status NoPicture → Type 0
 Pictures input rest old new result = (bytes : List ℕ) × Consumes input rest bytes × (length bytes ≤ most_bytes + 1) × Answers bytes rest old new result
+
+-- If a picture ends in a fault, the session keeps the line that has it.
+abbrev pub KeepsFault : Option (List ℕ) → Option (List ℕ) → Session → Result Status NoPicture → Type 0
+KeepsFault input rest session (Ok status.LineFault) =
+    (bytes : List ℕ) × Consumes input rest bytes × (is_faulty bytes ≡ true) × Keeps session (play (all_lines bytes))
+KeepsFault input rest session _ = ⊤
+
+-- how many reads failed, where this is why it stopped
+abbrev pub read_failures : RunFault → ℕ
+read_failures faults.ReadFault = 1
+read_failures _ = 0
+
+-- how many writes failed, where this is why it stopped
+abbrev pub write_failures : RunFault → ℕ
+write_failures faults.WriteFault = 1
+write_failures _ = 0
+
+-- none failed, unless reading or writing stopped
+abbrev pub failures : {A F : Type 0} → (F → ℕ) → Result A F → ℕ
+failures count (Ok _) = 0
+failures count (Err fault) = count fault
+
+-- none failed, unless this is why there is no picture
+abbrev pub failures_of : (RunFault → ℕ) → NoPicture → ℕ
+failures_of count (Stopped fault) = count fault
+failures_of count TooManyEvents = 0
 
 -- why there is no picture, where none was drawn
 abbrev pub undrawn : Undrawn → NoPicture

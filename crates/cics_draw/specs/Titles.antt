@@ -1,5 +1,5 @@
 -- The title of a picture.
-use Rattle.std.specs.Prelude.{ℕ, Bool, not, ◌||◌, ◌==◌, min, if◌then◌else◌, List, take, drop}
+use Rattle.std.specs.Prelude.{ℕ, Bool, not, ◌||◌, ◌==◌, if◌then◌else◌, List, take, drop}
 use Rattle.std.specs.List.{prefix_len}
 use Rattle.std.specs.Str.{bytes_eq}
 use lib.Chars.{codes}
@@ -8,9 +8,9 @@ use lib.Chars.{codes}
 abbrev pub is_in_title : ℕ → Bool
 is_in_title c = not (c == 46 || (c == 58 || (c == 10 || c == 13)))
 
--- the first words of a comment, so many bytes at most
+-- the first words of a comment
 abbrev pub first_words : List ℕ → List ℕ
-first_words bytes = take (min (prefix_len is_in_title bytes) 96) bytes
+first_words bytes = take (prefix_len is_in_title bytes) bytes
 
 -- a script that begins with a comment has its first words for a title
 abbrev pub title_of : List ℕ → List ℕ

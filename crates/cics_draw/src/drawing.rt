@@ -1,15 +1,17 @@
 //! The lines of a script, run and drawn.
 
-ghost use Rattle.std.specs.Prelude.{◌≡◌, ◌++◌, ◌<◌, ◌+◌, ◌^◌, IfOk};
-ghost use Rattle.std.specs.Prelude.{IfErr, OnOk, length, is_some};
+ghost use Rattle.std.specs.Prelude.{◌≡◌, ◌++◌, ◌<◌, ◌+◌, ◌^◌, [], List, ℕ, IfOk};
+ghost use Rattle.std.specs.Prelude.{IfErr, OnOk, length};
 ghost use Rattle.std.specs.List.{fold};
-ghost use Rattle.cics_run.specs.Standing.{IsNew};
-ghost use Rattle.cics_run.specs.Stages.{step};
-ghost use Rattle.cics_run.specs.Running.{is_faulty};
+ghost use Rattle.cics_run.specs.Standing.{IsNew, next_step};
+ghost use Rattle.cics_run.specs.Lines.{all_lines};
+ghost use Rattle.cics_run.specs.Running.{is_faulty, play};
 ghost use Rattle.cics_picture.specs.Lanes.{most_rows};
 ghost use Rattle.cics_picture.specs.Drawings.{drawn_of, nothing_drawn, with_row, rows_of};
+ghost use Rattle.cics_picture.specs.Drawings.{all_rows, events_of};
 ghost use Rattle.cics_picture.specs.declared.drawing.Undrawn.TheVariants.{TooManyRows};
-ghost use Rattle.cics_draw.specs.Pictures.{printed, drawing_of, picture_of};
+ghost use Rattle.cics_draw.specs.Pictures.{next_printed, printed_lines, drawing_of, picture_of};
+ghost use Rattle.cics_draw.specs.Pictures.{RunsLine, KeepsLast};
 
 use crate::lines::next_line;
 use crate::titles::title_of;
@@ -17,17 +19,20 @@ use cics_names::NoMemory;
 use cics_picture::{Drawing, Undrawn, push_sheet};
 use cics_run::Session;
 
+/// The rows of a picture show what the run prints, in order: their events, each with its LF, are
+/// the journal.
+pub fn rows_are_the_journal()
+    ensures { (script : List ℕ)
+        → events_of (all_rows (printed_lines script)) ≡ (play (all_lines script)).journal }
+{}
+
 // Runs a line and tells whether it is a fault. What it prints is pending then, and a line with a
 // fault is kept, to be told to a person.
 fn run_line(session: &mut Session, line: &[u8]) -> Result<bool, NoMemory>
-    requires { session.old.number + 1 < 2 ^ 64 }
-    ensures stage { IfOk result (λ _. session.new.stage
-        ≡ (step (session.old.number + 1) session.old.stage line.now).stage) }
-    ensures fault { IfOk result (λ fault. fault
-        ≡ is_some (step (session.old.number + 1) session.old.stage line.now).fault) }
-    ensures number { OnOk result (session.new.number ≡ session.old.number + 1) }
-    ensures text { OnOk result (session.new.pending.items
-        ≡ (step (session.old.number + 1) session.old.stage line.now).text) }
+    requires number { session.old.number + 1 < 2 ^ 64 }
+    requires none { session.old.line.items ≡ [] }
+    ensures runs { RunsLine session.old line.now session.new result }
+    ensures text { OnOk result (session.new.pending.items ≡ (next_step session.old line.now).text) }
 {
     session.number += 1;
     session.pending.clear();
@@ -46,18 +51,13 @@ fn run_line(session: &mut Session, line: &[u8]) -> Result<bool, NoMemory>
 
 // Runs a line and draws what it prints, and tells whether that is a fault.
 fn draw_line(session: &mut Session, drawing: &mut Drawing, line: &[u8]) -> Result<bool, Undrawn>
-    requires { session.old.number + 1 < 2 ^ 64 }
-    ensures stage { IfOk result (λ _. session.new.stage
-        ≡ (step (session.old.number + 1) session.old.stage line.now).stage) }
-    ensures fault { IfOk result (λ fault. fault
-        ≡ is_some (step (session.old.number + 1) session.old.stage line.now).fault) }
-    ensures number { OnOk result (session.new.number ≡ session.old.number + 1) }
+    requires number { session.old.number + 1 < 2 ^ 64 }
+    requires none { session.old.line.items ≡ [] }
+    ensures runs { RunsLine session.old line.now session.new result }
     ensures drawn { OnOk result (drawn_of drawing.new
-        ≡ fold with_row (drawn_of drawing.old) (rows_of (printed (session.old.number + 1) line.now
-        (step (session.old.number + 1) session.old.stage line.now)))) }
+        ≡ fold with_row (drawn_of drawing.old) (rows_of (next_printed session.old line.now))) }
     ensures too_many { IfErr result (λ e. e ≡ TooManyRows
-        → most_rows < drawing.old.rows + length (rows_of (printed (session.old.number + 1) line.now
-        (step (session.old.number + 1) session.old.stage line.now)))) }
+        → most_rows < drawing.old.rows + length (rows_of (next_printed session.old line.now))) }
 {
     let is_fault = match run_line(session, line) {
         Ok(is_fault) => is_fault,
@@ -77,6 +77,7 @@ fn draw_lines(session: &mut Session, drawing: &mut Drawing, script: &[u8]) -> Re
     requires nothing { drawn_of drawing.old ≡ nothing_drawn }
     ensures drawn { OnOk result (drawn_of drawing.new ≡ drawing_of script.now) }
     ensures fault { IfOk result (λ fault. is_faulty script.now ≡ fault) }
+    ensures kept { IfOk result (KeepsLast script.now session.new) }
     ensures too_many { IfErr result (λ e. e ≡ TooManyRows
         → most_rows < (drawing_of script.now).rows) }
 {
@@ -101,6 +102,7 @@ pub fn draw_script(session: &mut Session, script: &[u8], out: &mut Vec<u8>) -> R
     requires new { IsNew session.old }
     ensures picture { OnOk result (out.new.items ≡ out.old.items ++ picture_of script.now) }
     ensures fault { IfOk result (λ fault. is_faulty script.now ≡ fault) }
+    ensures kept { IfOk result (KeepsLast script.now session.new) }
     ensures too_many { IfErr result (λ e. e ≡ TooManyRows
         → most_rows < (drawing_of script.now).rows) }
 {

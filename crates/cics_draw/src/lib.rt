@@ -1,7 +1,8 @@
 //! Runs a script and draws it: the picture of a run, in place of its journal.
 //!
 //! [`run_picture`] reads a script whole, runs it as `cics_run` does, and writes one SVG. What it
-//! writes is a stated function of the bytes read: the picture of what each line prints, in order.
+//! writes is a stated function of the bytes read, and [`rows_are_the_journal`] says that its rows
+//! show what the run prints, in order.
 #![tactic(auto)]
 
 mod drawing;
@@ -9,5 +10,5 @@ mod lines;
 mod picture;
 mod titles;
 
-pub use drawing::draw_script;
+pub use drawing::{draw_script, rows_are_the_journal};
 pub use picture::{NoPicture, run_picture};

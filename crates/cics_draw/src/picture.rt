@@ -1,14 +1,18 @@
 //! A script that is read and its picture that is written.
 
-ghost use Rattle.std.specs.Prelude.{◌≡◌};
+ghost use Rattle.std.specs.Prelude.{◌≡◌, OnOk, OnErr, [], ◌++◌};
+ghost use Rattle.std.specs.Io.KnownBytes.{Appends};
+ghost use Rattle.cics_run.specs.Printing.{AppendsFront};
+ghost use Rattle.cics_run.specs.Running.{most_reads};
 ghost use Rattle.cics_run.specs.Standing.{IsNew};
-ghost use Rattle.cics_draw.specs.Pictures.{Pictures, Reads, undrawn, run_status};
-ghost use Rattle.std.specs.Prelude.{OnOk, OnErr, [], ◌++◌};
+ghost use Rattle.cics_run.specs.Streams.{Rises, RisesAtMost};
+ghost use Rattle.cics_draw.specs.Pictures.{Pictures, Reads, KeepsFault, undrawn, run_status};
+ghost use Rattle.cics_draw.specs.Pictures.{failures, failures_of, read_failures, write_failures};
 
 use crate::drawing::draw_script;
 use cics_names::NoMemory;
 use cics_picture::Undrawn;
-use cics_run::{CHUNK, LIMIT, RunFault, Session, Sink, Source, Status, write_pending};
+use cics_run::{CHUNK, Failed, LIMIT, RunFault, Session, Sink, Source, Status};
 use thiserror::Error;
 
 /// Why a script has no picture.
@@ -33,7 +37,11 @@ fn push_chunk(script: &mut Vec<u8>, chunk: &[u8]) -> Result<(), NoMemory>
 // Reads a script to its end.
 fn read_script<S: Source>(source: &mut S, script: &mut Vec<u8>) -> Result<(), RunFault>
     requires { script.old.items ≡ [] }
-    ensures { Reads (S.remaining source.old) (S.remaining source.new) script.new.items result }
+    ensures reads { Reads (S.remaining source.old) (S.remaining source.new) script.new.items
+        result }
+    ensures failed { Rises (S.failed source.old) (S.failed source.new)
+        (failures read_failures result) }
+    ensures asked { RisesAtMost (S.asked source.old) (S.asked source.new) most_reads }
 {
     let mut buffer = [0u8; CHUNK];
     let mut room = LIMIT;
@@ -70,18 +78,46 @@ fn run_status(is_faulty: bool) -> Status
     }
 }
 
+// Writes all the bytes. A write of no byte is a fault, and nothing is tried again.
+fn write_all<K: Sink>(sink: &mut K, bytes: &[u8]) -> Result<(), Failed>
+    ensures failed { Rises (K.failed sink.old) (K.failed sink.new)
+        (failures (λ _. 1) result) }
+    ensures ok { OnOk result (Appends (K.contents sink.old) (K.contents sink.new) bytes.now) }
+    ensures err { OnErr result
+        (AppendsFront (K.contents sink.old) (K.contents sink.new) bytes.now) }
+{
+    let mut at = 0;
+    while at < bytes.len() {
+        match sink.write(&bytes[at..]) {
+            Ok(0) => return Err(Failed),
+            Ok(n) => at += n,
+            Err(_) => return Err(Failed),
+        }
+    }
+    Ok(())
+}
+
 /// Runs the script that a source gives, and writes its picture, when all is read and run.
 ///
 /// It reads at most `LIMIT` bytes, and one more to see whether there are more. The picture of a
 /// script with a fault ends with the fault. The session is a new one, and is left to its owner.
 ///
-/// Returns how the run ended, or why there is no picture.
+/// Returns how the run ended, or why there is no picture. It returns a read or a write fault only
+/// if that very call failed, and tries none again. After a fault the session keeps the line with
+/// the fault.
 pub fn run_picture<S: Source, K: Sink>(
     session: &mut Session,
     source: &mut S,
     sink: &mut K,
 ) -> Result<Status, NoPicture>
     requires new { IsNew session.old }
+    ensures read_faults { Rises (S.failed source.old) (S.failed source.new)
+        (failures (failures_of read_failures) result) }
+    ensures write_faults { Rises (K.failed sink.old) (K.failed sink.new)
+        (failures (failures_of write_failures) result) }
+    ensures asked { RisesAtMost (S.asked source.old) (S.asked source.new) most_reads }
+    ensures kept { KeepsFault (S.remaining source.old) (S.remaining source.new) session.new
+        result }
     ensures whole { Pictures (S.remaining source.old) (S.remaining source.new)
         (K.contents sink.old) (K.contents sink.new) result }
 {
@@ -96,7 +132,7 @@ pub fn run_picture<S: Source, K: Sink>(
         Ok(is_faulty) => is_faulty,
         Err(error) => return Err(undrawn(error)),
     };
-    match write_pending(&mut text, sink) {
+    match write_all(sink, &text) {
         Ok(()) => Ok(run_status(is_faulty)),
         Err(_) => Err(NoPicture::Stopped(RunFault::WriteFault)),
     }

@@ -20,10 +20,11 @@ fn words_len(bytes: &[u8]) -> usize
 fn first_words(bytes: &[u8]) -> &[u8]
     ensures { result.now ≡ first_words bytes.now }
 {
-    &bytes[..words_len(bytes).min(96)]
+    &bytes[..words_len(bytes)]
 }
 
-/// Returns the title of a script: what its first line says, if that is a comment.
+/// Returns the title of a script. If its first line is a comment, that is what it says up to a full
+/// stop or a colon.
 pub fn title_of(script: &[u8]) -> &[u8]
     ensures { result.now ≡ title_of script.now }
 {

@@ -23,6 +23,7 @@ digits (suc places) n = elim (nat_lt n 10) as (λ _. List ℕ) [
 abbrev pub character_text : ℕ → List ℕ
 character_text c = if is_plain c then c ∷ [] else codes "&#" ++ (digits (suc c) c ++ codes ";")
 
+-- the text of characters
 abbrev pub text_of : List ℕ → List ℕ
 text_of characters = flat_map character_text characters
 
@@ -30,6 +31,7 @@ text_of characters = flat_map character_text characters
 abbrev pub shown : ℕ → ℕ
 shown b = if b == 10 || (nat_le 32 b && nat_le b 126) then b else if b == 9 then 32 else 65533
 
+-- the text of the characters that are shown for bytes
 abbrev pub shown_text : List ℕ → List ℕ
 shown_text bytes = text_of (map shown bytes)
 

@@ -20,18 +20,23 @@ pub data Document : Type 0 where
   Character : ℕ → Document → Document
   Element : Tag → List Attribute → Document → Document → Document
 
+-- an attribute with a value
 abbrev pub attribute : Key → List ℕ → Attribute
 attribute key value = record { key = key; value = value }
 
+-- a blank, the name, and the value between quotes
 abbrev pub attribute_text : Attribute → List ℕ
 attribute_text a = codes " " ++ (key_name a.key ++ (codes "=\"" ++ (text_of a.value ++ codes "\"")))
 
+-- a start tag with its attributes
 abbrev pub start_text : Tag → List Attribute → List ℕ
 start_text tag attributes = codes "<" ++ (tag_name tag ++ (flat_map attribute_text attributes ++ codes ">"))
 
+-- an end tag
 abbrev pub end_text : Tag → List ℕ
 end_text tag = codes "</" ++ (tag_name tag ++ codes ">")
 
+-- a character's text, or an element between its tags, and then the text of what follows
 abbrev pub document_text : Document → List ℕ
 document_text Empty = []
 document_text (Character c d) = character_text c ++ document_text d

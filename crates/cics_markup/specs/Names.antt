@@ -7,6 +7,7 @@ use Rattle.cics_markup.specs.declared.names.Key.{Key}
 use Rattle.cics_markup.specs.declared.names.Key.TheVariants as key
 use lib.Chars.{codes}
 
+-- the name of an element
 abbrev pub tag_name : Tag → List ℕ
 tag_name tag.Svg = codes "svg"
 tag_name tag.Title = codes "title"
@@ -21,6 +22,7 @@ tag_name tag.Line = codes "line"
 tag_name tag.Path = codes "path"
 tag_name tag.Text = codes "text"
 
+-- the name of an attribute
 abbrev pub key_name : Key → List ℕ
 key_name key.Class = codes "class"
 key_name key.Cx = codes "cx"
@@ -45,9 +47,11 @@ key_name key.Y = codes "y"
 key_name key.Y1 = codes "y1"
 key_name key.Y2 = codes "y2"
 
+-- all elements
 abbrev pub tags : List Tag
 tags = tag.Svg ∷ tag.Title ∷ tag.Style ∷ tag.Defs ∷ tag.Pattern ∷ tag.G ∷ tag.A ∷ tag.Rect ∷ tag.Circle ∷ tag.Line ∷ tag.Path ∷ tag.Text ∷ []
 
+-- all attributes
 abbrev pub keys : List Key
 keys =
     key.Class ∷ key.Cx ∷ key.Cy ∷ key.D ∷ key.Height ∷ key.Href ∷ key.Id ∷ key.PatternUnits ∷ key.R ∷ key.Role ∷ key.Rx ∷ key.Space

@@ -93,6 +93,7 @@ pub record Paired : Type 0 where
   pub document : Document
   pub open_ends : List (Tag × Document)
 
+-- pieces that were paired to these
 abbrev pub paired : Document → List (Tag × Document) → Paired
 paired document open_ends = record { document = document; open_ends = open_ends }
 

@@ -1,3 +1,4 @@
 pub mod Chains
 pub mod Markup
 pub mod WellFormed
+pub mod Waits

@@ -10,11 +10,11 @@ use Rattle.cics_markup.specs.Reading.{document_of}
 use Rattle.cics_markup.proofs.ReadBack.{read_back}
 use Rattle.cics_picture.specs.declared.events.Kind.{Kind}
 use Rattle.cics_picture.specs.declared.events.Kind.TheVariants as kind
-use Rattle.cics_picture.specs.Events.{first_word, behind_word, class_of, shape_of}
+use Rattle.cics_picture.specs.Events.{first_word, behind_word, kind_of, class_of, shape_of}
 use Rattle.cics_picture.specs.Lanes.{lane_of, tasks_behind, lane_x, row_y}
-use Rattle.cics_picture.specs.Elements.{class, words, number_words, shape, stroke, field, spoken, namespace, picture_start, moved_start, tip, head}
-use Rattle.cics_picture.specs.Drawings.{Drawn, nothing_drawn, arrow_to, beside, event_kind, lane_marks, row_number, row_texts, Row, with_row, rows_from, Printed, all_rows, drawn}
-use Rattle.cics_picture.specs.Sheets.{style_text, bands, lane_lines, headings, legend_item, answers_legend, ways_legend, heading, ground, moved_texts, sheet, width_of, height_of}
+use Rattle.cics_picture.specs.Elements.{class, words, number_words, shape, stroke, field, spoken, namespace, picture_start, moved_start, tip, head, cut}
+use Rattle.cics_picture.specs.Drawings.{Drawn, nothing_drawn, arrow_to, beside, lane_marks, marks_of, row_number, row_texts, Row, with_row, Printed, all_rows, drawn}
+use Rattle.cics_picture.specs.Sheets.{style_text, bands, lane_lines, headings, legend_item, answers_legend, ways_legend, region_legend, heading, ground, moved_texts, sheet, width_of, height_of}
 use Rattle.cics_picture.specs.declared.style.TheConstants.{STYLE}
 use Rattle.cics_picture.proofs.Markup.{IsMarkup, nothing, itself, behind, within}
 use lib.Chars.{codes}
@@ -61,11 +61,25 @@ at-side tasks lane y event kind.Ended = nothing
 at-side tasks lane y event kind.Abended = nothing
 at-side tasks lane y event kind.Refused = nothing
 at-side tasks lane y event kind.Condition = nothing
+at-side tasks lane y event kind.Clock = nothing
+at-side tasks lane y event kind.Down = nothing
 
 in-lane : (tasks : List (List ℕ)) (y : ℕ) (event : List ℕ) (lane : Option ℕ) → IsMarkup (lane_marks tasks y event lane)
 in-lane tasks y event None = nothing
 in-lane tasks y event (Some lane) =
-    behind _ _ (at-side tasks lane y event (event_kind event)) (shape-there (class_of (event_kind event)) (shape_of (event_kind event)) (lane_x lane) y)
+    behind _ _ (at-side tasks lane y event (kind_of event)) (shape-there (class_of (kind_of event)) (shape_of (kind_of event)) (lane_x lane) y)
+
+all-marks : (tasks : List (List ℕ)) (y : ℕ) (event : List ℕ) (k : Kind) → IsMarkup (marks_of tasks y event k)
+all-marks tasks y event kind.Clock = stroke-there (codes "clk") 66 y (66 + 60 * length tasks) y
+all-marks tasks y event kind.Down = stroke-there (codes "dwn") 66 y (66 + 60 * length tasks) y
+all-marks tasks y event kind.Attached = in-lane tasks y event (lane_of tasks (first_word event))
+all-marks tasks y event kind.Normal = in-lane tasks y event (lane_of tasks (first_word event))
+all-marks tasks y event kind.Waiting = in-lane tasks y event (lane_of tasks (first_word event))
+all-marks tasks y event kind.Woken = in-lane tasks y event (lane_of tasks (first_word event))
+all-marks tasks y event kind.Ended = in-lane tasks y event (lane_of tasks (first_word event))
+all-marks tasks y event kind.Abended = in-lane tasks y event (lane_of tasks (first_word event))
+all-marks tasks y event kind.Refused = in-lane tasks y event (lane_of tasks (first_word event))
+all-marks tasks y event kind.Condition = in-lane tasks y event (lane_of tasks (first_word event))
 
 either : (b : Bool) (x y : List ℕ) → IsMarkup x → IsMarkup y → IsMarkup (cond b x y)
 either true x y p q = p
@@ -75,11 +89,11 @@ number-drawn : (y number : ℕ) → IsMarkup (row_number y number)
 number-drawn y number = either (number == 0) _ _ nothing (number-there (codes "d e") 52 y number)
 
 row : (y : ℕ) (line event : List ℕ) → IsMarkup (row_texts y line event)
-row y line event = behind _ _ (at-place (codes "line") 78 y _) (at-place (class_of (event_kind event)) 744 y _)
+row y line event = behind _ _ (at-place (codes "line") 78 y _) (at-place (class_of (kind_of event)) 744 y _)
 
 row-drawn : (d : Drawn) (r : Row) → IsDrawn d → IsDrawn (with_row d r)
 row-drawn d r p = (
-  behind _ _ p.0 (behind _ _ (number-drawn (row_y d.rows + 4) r.number) (in-lane (tasks_behind d.tasks r.event) (row_y d.rows) r.event (lane_of (tasks_behind d.tasks r.event) (first_word r.event)))),
+  behind _ _ p.0 (behind _ _ (number-drawn (row_y d.rows + 4) r.number) (all-marks (tasks_behind d.tasks r.event) (row_y d.rows) r.event (kind_of r.event))),
   behind _ _ p.1 (row (row_y d.rows + 4) r.line r.event),
 )
 
@@ -117,14 +131,18 @@ ways : IsMarkup ways_legend
 unfolding ways_legend
 ways = behind _ _ (meaning 484 kind.Waiting _) (behind _ _ (meaning 564 kind.Woken _) (behind _ _ (meaning 664 kind.Ended _) (meaning 754 kind.Abended _)))
 
+region : IsMarkup region_legend
+unfolding region_legend
+region = behind _ _ (meaning 854 kind.Clock _) (meaning 934 kind.Down _)
+
 head-there : (title : List ℕ) → IsMarkup (heading title)
 unfolding heading
-head-there title = behind _ _ (at-place (codes "h1") 16 30 title) (behind _ _ answers ways)
+head-there title = behind _ _ (at-place (codes "h1") 16 30 (cut 96 title)) (behind _ _ answers (behind _ _ ways region))
 
 under : (d : Drawn) (title : List ℕ) → IsMarkup (ground d title)
 under d title =
     behind _ _ (alone tag.Title title) (behind _ _ style (behind _ _ (field-there (codes "paper") 0 (width_of d) (height_of d))
-    (behind _ _ (shades (width_of d) (d.rows / 2)) (behind _ _ (head-there title) (lanes (height_of d) (length d.tasks))))))
+    (behind _ _ (shades (width_of d) ((d.rows + 1) / 2)) (behind _ _ (head-there title) (lanes (height_of d) (length d.tasks))))))
 
 moved : (d : Drawn) → IsMarkup d.texts → IsMarkup (moved_texts d)
 unfolding moved_start

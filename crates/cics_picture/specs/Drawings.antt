@@ -1,12 +1,12 @@
 -- What the rows of a picture draw: one row for each event, in order.
-use Rattle.std.specs.Prelude.{ℕ, ◌==◌, ◌+◌, if◌then◌else◌, List, [], ◌∷◌, ◌++◌, Option, Some, None}
+use Rattle.std.specs.Prelude.{ℕ, ◌==◌, ◌+◌, ◌*◌, if◌then◌else◌, List, [], ◌∷◌, ◌++◌, length, Option, Some, None}
 use Rattle.std.specs.List.{fold, flat_map}
 use Rattle.cics_picture.specs.declared.events.Kind.{Kind}
-use Rattle.cics_picture.specs.declared.events.Kind.TheVariants.{Attached, Waiting}
+use Rattle.cics_picture.specs.declared.events.Kind.TheVariants.{Attached, Waiting, Clock, Down}
 use Rattle.cics_picture.specs.declared.drawing.Drawing.{Drawing}
 use Rattle.cics_picture.specs.Events.{first_word, behind_word, kind_of, class_of}
 use Rattle.cics_picture.specs.Lanes.{lane_of, tasks_behind, lane_x, row_y}
-use Rattle.cics_picture.specs.Elements.{words, number_words, mark, arrow, cut}
+use Rattle.cics_picture.specs.Elements.{words, number_words, mark, stroke, arrow, cut}
 use lib.Chars.{codes}
 
 -- the number of rows, the tasks that have lanes, and the texts of what stands in the lanes and to the right of them
@@ -35,18 +35,24 @@ beside tasks lane y event Attached = words (codes "b m") (lane_x lane) 76 (first
 beside tasks lane y event Waiting = arrow_to lane (lane_of tasks (behind_word (behind_word event))) y
 beside tasks lane y event kind = []
 
--- the kind of an event
-abbrev pub event_kind : List ℕ → Kind
-event_kind event = kind_of (first_word (behind_word event))
-
 -- the marks of an event, in the lane of its task
 abbrev pub lane_marks : List (List ℕ) → ℕ → List ℕ → Option ℕ → List ℕ
 lane_marks tasks y event None = []
-lane_marks tasks y event (Some lane) = beside tasks lane y event (event_kind event) ++ mark (event_kind event) (lane_x lane) y
+lane_marks tasks y event (Some lane) = beside tasks lane y event (kind_of event) ++ mark (kind_of event) (lane_x lane) y
 
--- the marks of an event, if its task has a lane
+-- a line across the lanes
+abbrev pub across : List (List ℕ) → ℕ → Kind → List ℕ
+across tasks y kind = stroke (class_of kind) 66 y (66 + 60 * length tasks) y
+
+-- an event of the region has a line across the lanes, and one of a task its marks, if the task has a lane
+abbrev pub marks_of : List (List ℕ) → ℕ → List ℕ → Kind → List ℕ
+marks_of tasks y event Clock = across tasks y Clock
+marks_of tasks y event Down = across tasks y Down
+marks_of tasks y event kind = lane_marks tasks y event (lane_of tasks (first_word event))
+
+-- the marks of an event
 abbrev pub row_marks : List (List ℕ) → ℕ → List ℕ → List ℕ
-row_marks tasks y event = lane_marks tasks y event (lane_of tasks (first_word event))
+row_marks tasks y event = marks_of tasks y event (kind_of event)
 
 -- the number of a line of the script, to the left of the lanes; an event without a line, whose number is 0, has none
 abbrev pub row_number : ℕ → ℕ → List ℕ
@@ -54,7 +60,7 @@ row_number y number = if number == 0 then [] else number_words (codes "d e") 52 
 
 -- the line and the event side by side
 abbrev pub row_texts : ℕ → List ℕ → List ℕ → List ℕ
-row_texts y line event = words (codes "line") 78 y (cut 90 line) ++ words (class_of (event_kind event)) 744 y (cut 70 event)
+row_texts y line event = words (codes "line") 78 y (cut 90 line) ++ words (class_of (kind_of event)) 744 y (cut 70 event)
 
 -- A row: the number and the text of the line that it shows, or 0 and nothing, and its event.
 pub record Row : Type 0 where

@@ -74,6 +74,6 @@ head from to = if nat_lt from to then codes "M0 0l-8 -4v8z" else codes "M0 0l8 -
 abbrev pub arrow : ℕ → ℕ → ℕ → List ℕ
 arrow from to y = stroke (codes "aw") (lane_x from) y (tip from to) y ++ shape (codes "fw") (head from to) (tip from to) y
 
--- words cut to a number of bytes
+-- words cut to a number of bytes, of which two dots are the last
 abbrev pub cut : ℕ → List ℕ → List ℕ
-cut most bytes = if nat_le (length bytes) most then bytes else take most bytes
+cut most bytes = if nat_le (length bytes) most then bytes else take (most - 2) bytes ++ codes ".."

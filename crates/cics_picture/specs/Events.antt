@@ -1,5 +1,6 @@
 -- What a line of the journal says: a label, and what its task was told, the first word of which says of what kind it is.
-use Rattle.std.specs.Prelude.{ℕ, Bool, not, ◌==◌, ◌+◌, if◌then◌else◌, List, take, drop}
+-- Behind a word that is no label stands a number.
+use Rattle.std.specs.Prelude.{ℕ, Bool, false, not, ◌&&◌, ◌==◌, nat_le, ◌+◌, if◌then◌else◌, List, [], ◌∷◌, take, drop}
 use Rattle.std.specs.List.{prefix_len}
 use Rattle.std.specs.Str.{bytes_eq}
 use Rattle.cics_picture.specs.declared.events.Kind.{Kind}
@@ -18,17 +19,36 @@ first_word bytes = take (prefix_len is_in_word bytes) bytes
 abbrev pub behind_word : List ℕ → List ℕ
 behind_word bytes = drop (prefix_len is_in_word bytes + 1) bytes
 
--- the kind of what a task was told, from the first word of it
-abbrev pub kind_of : List ℕ → Kind
-kind_of word =
+-- whether a word begins with a digit
+abbrev pub is_number : List ℕ → Bool
+is_number [] = false
+is_number (c ∷ word) = nat_le 48 c && nat_le c 57
+
+-- the kind of an event of the region: its clock was set, or it was shut down, or a line of the script has a fault
+abbrev pub region_kind : List ℕ → Kind
+region_kind word = if bytes_eq word (codes "CLOCK") then kind.Clock else kind.Down
+
+-- the kind of what a waiting command was told, from the first word of it
+abbrev pub woken_kind : List ℕ → Kind
+woken_kind word = if bytes_eq word (codes "NORMAL") then kind.Woken else if bytes_eq word (codes "ABEND") then kind.Abended else kind.Condition
+
+-- the kind of what a task was told
+abbrev pub told_kind : List ℕ → List ℕ → Kind
+told_kind word behind =
     if bytes_eq word (codes "ATTACHED") then kind.Attached
     else if bytes_eq word (codes "NORMAL") then kind.Normal
     else if bytes_eq word (codes "WAITING") then kind.Waiting
-    else if bytes_eq word (codes "WOKEN") then kind.Woken
+    else if bytes_eq word (codes "WOKEN") then woken_kind (first_word behind)
     else if bytes_eq word (codes "ENDED") then kind.Ended
     else if bytes_eq word (codes "ABEND") then kind.Abended
     else if bytes_eq word (codes "REFUSED") then kind.Refused
     else kind.Condition
+
+-- the kind of an event
+abbrev pub kind_of : List ℕ → Kind
+kind_of event =
+    if is_number (behind_word event) then region_kind (first_word event)
+    else told_kind (first_word (behind_word event)) (behind_word (behind_word event))
 
 -- the class that gives a kind its colour
 abbrev pub class_of : Kind → List ℕ
@@ -40,9 +60,11 @@ class_of kind.Ended = codes "mf"
 class_of kind.Abended = codes "ma"
 class_of kind.Refused = codes "mc"
 class_of kind.Condition = codes "mc"
+class_of kind.Clock = codes "clk"
+class_of kind.Down = codes "dwn"
 
 -- the shape of a kind, as a path round its place: a ring, a dot, an hourglass, an arrowhead, a foot, a cross in a ring, a barred
--- ring, a triangle
+-- ring, a triangle, and a stroke for each line across the lanes
 abbrev pub shape_of : Kind → List ℕ
 shape_of kind.Attached = codes "M-6 0a6 6 0 1 0 12 0a6 6 0 1 0 -12 0z"
 shape_of kind.Normal = codes "M-5 0a5 5 0 1 0 10 0a5 5 0 1 0 -10 0z"
@@ -52,3 +74,5 @@ shape_of kind.Ended = codes "M-9 0h18"
 shape_of kind.Abended = codes "M-8 0a8 8 0 1 0 16 0a8 8 0 1 0 -16 0zM-3 -3l6 6m0 -6l-6 6"
 shape_of kind.Refused = codes "M-5 0a5 5 0 1 0 10 0a5 5 0 1 0 -10 0zM-3 3l6 -6"
 shape_of kind.Condition = codes "M0 -6l6 10h-12z"
+shape_of kind.Clock = codes "M-9 0h18"
+shape_of kind.Down = codes "M-9 0h18"

@@ -3,7 +3,7 @@ use Rattle.std.specs.Prelude.{ℕ, ◌+◌, ◌*◌, nat_lt, if◌then◌else◌
 use Rattle.std.specs.Str.{bytes_eq}
 use Rattle.cics_picture.specs.declared.events.Kind.{Kind}
 use Rattle.cics_picture.specs.declared.events.Kind.TheVariants.{Attached}
-use Rattle.cics_picture.specs.Events.{first_word, behind_word, kind_of}
+use Rattle.cics_picture.specs.Events.{first_word, kind_of}
 
 -- The first sixteen tasks have lanes, in the order in which they are attached.
 abbrev pub most_lanes : ℕ
@@ -29,7 +29,7 @@ with_task tasks label kind = tasks
 
 -- the tasks that have lanes behind an event
 abbrev pub tasks_behind : List (List ℕ) → List ℕ → List (List ℕ)
-tasks_behind tasks event = with_task tasks (first_word event) (kind_of (first_word (behind_word event)))
+tasks_behind tasks event = with_task tasks (first_word event) (kind_of event)
 
 -- the middle of a lane
 abbrev pub lane_x : ℕ → ℕ

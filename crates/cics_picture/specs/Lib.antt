@@ -3,3 +3,4 @@ pub mod Lanes
 pub mod Elements
 pub mod Drawings
 pub mod Sheets
+pub mod Arrows

@@ -5,7 +5,7 @@ use Rattle.cics_markup.specs.Documents.{end_text}
 use Rattle.cics_picture.specs.declared.events.Kind.{Kind}
 use Rattle.cics_picture.specs.declared.events.Kind.TheVariants as kind
 use Rattle.cics_picture.specs.Lanes.{lane_x, row_y}
-use Rattle.cics_picture.specs.Elements.{words, mark, stroke, field, spoken, picture_start, moved_start}
+use Rattle.cics_picture.specs.Elements.{words, cut, mark, stroke, field, spoken, picture_start, moved_start}
 use Rattle.cics_picture.specs.Drawings.{Drawn}
 use Rattle.cics_picture.specs.declared.style.TheConstants.{STYLE}
 use lib.Chars.{codes}
@@ -56,9 +56,13 @@ ways_legend =
     ++ (legend_item 664 kind.Ended (codes "ended")
     ++ legend_item 754 kind.Abended (codes "abended")))
 
+-- what the lines across the lanes mean
+unfoldable pub region_legend : List ℕ
+region_legend = legend_item 854 kind.Clock (codes "clock") ++ legend_item 934 kind.Down (codes "shutdown or fault")
+
 -- the title, and the legend below it
 unfoldable pub heading : List ℕ → List ℕ
-heading title = words (codes "h1") 16 30 title ++ (answers_legend ++ ways_legend)
+heading title = words (codes "h1") 16 30 (cut 96 title) ++ (answers_legend ++ (ways_legend ++ region_legend))
 
 -- what stands under the rows: title, style, paper, shades, heading, and the lines of the lanes
 abbrev pub ground : Drawn → List ℕ → List ℕ
@@ -66,7 +70,7 @@ ground d title =
     spoken tag.Title title
     ++ (style_text
     ++ (field (codes "paper") 0 (width_of d) (height_of d)
-    ++ (bands (width_of d) (d.rows / 2)
+    ++ (bands (width_of d) ((d.rows + 1) / 2)
     ++ (heading title
     ++ lane_lines (height_of d) (length d.tasks)))))
 

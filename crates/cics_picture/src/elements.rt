@@ -1,6 +1,6 @@
 //! The elements of a picture, each put at the end of a text.
 
-ghost use Rattle.std.specs.Prelude.{◌≡◌, ◌++◌, ◌<◌, OnOk};
+ghost use Rattle.std.specs.Prelude.{◌≡◌, ◌++◌, ◌<◌, ◌≤◌, OnOk};
 ghost use Rattle.cics_picture.specs.Lanes.{most_lanes};
 ghost use Rattle.cics_picture.specs.Elements.{words_start, words, number_words, shape, stroke};
 ghost use Rattle.cics_picture.specs.Elements.{field, spoken};
@@ -43,6 +43,23 @@ pub fn push_words(
 {
     push_words_start(out, class, place)?;
     push_text(out, bytes)?;
+    push_end(out, Tag::Text)?;
+    Ok(())
+}
+
+/// Puts words at a place that are in two parts.
+pub fn push_cut_words(
+    out: &mut Vec<u8>,
+    class: &[u8],
+    place: (u64, u64),
+    parts: (&[u8], &[u8]),
+) -> Result<(), NoMemory>
+    ensures { OnOk result (out.new.items ≡ out.old.items
+        ++ words class.now place.0 place.1 (parts.entry.0.now ++ parts.entry.1.now)) }
+{
+    push_words_start(out, class, place)?;
+    push_text(out, parts.0)?;
+    push_text(out, parts.1)?;
     push_end(out, Tag::Text)?;
     Ok(())
 }
@@ -206,13 +223,14 @@ pub fn push_arrow(out: &mut Vec<u8>, from: usize, to: usize, y: u64) -> Result<(
     )
 }
 
-/// Returns as many bytes from the front as may be shown.
-pub fn cut(bytes: &[u8], most: usize) -> &[u8]
-    ensures { result.now ≡ cut most bytes.now }
+/// Returns the bytes, if there are no more than may be shown, else their front and two dots.
+pub fn cut(bytes: &[u8], most: usize) -> (&[u8], &[u8])
+    requires { 2 ≤ most }
+    ensures { result.0.now ++ result.1.now ≡ cut most bytes.now }
 {
     if bytes.len() <= most {
-        bytes
+        (bytes, "".as_bytes())
     } else {
-        &bytes[..most]
+        (&bytes[..most - 2], "..".as_bytes())
     }
 }

@@ -3,9 +3,10 @@
 ghost use Rattle.std.specs.Prelude.{◌≡◌, ◌≤◌, length};
 ghost use Rattle.std.specs.List.{prefix_len};
 ghost use Rattle.cics_picture.specs.Events.{is_in_word, first_word, behind_word, kind_of};
-ghost use Rattle.cics_picture.specs.Events.{class_of, shape_of};
+ghost use Rattle.cics_picture.specs.Events.{class_of, shape_of, is_number, region_kind};
+ghost use Rattle.cics_picture.specs.Events.{woken_kind, told_kind};
 
-/// What a task was told.
+/// What a task was told, or what the region did: `Down` is a shutdown or a line's fault.
 #[derive(Clone, Copy, Debug, PartialEq, Eq)]
 pub enum Kind {
     Attached,
@@ -16,6 +17,8 @@ pub enum Kind {
     Abended,
     Refused,
     Condition,
+    Clock,
+    Down,
 }
 
 impl Kind {
@@ -32,6 +35,8 @@ impl Kind {
             Kind::Abended => "ma",
             Kind::Refused => "mc",
             Kind::Condition => "mc",
+            Kind::Clock => "clk",
+            Kind::Down => "dwn",
         }
     }
 
@@ -48,6 +53,8 @@ impl Kind {
             Kind::Abended => "M-8 0a8 8 0 1 0 16 0a8 8 0 1 0 -16 0zM-3 -3l6 6m0 -6l-6 6",
             Kind::Refused => "M-5 0a5 5 0 1 0 10 0a5 5 0 1 0 -10 0zM-3 3l6 -6",
             Kind::Condition => "M0 -6l6 10h-12z",
+            Kind::Clock => "M-9 0h18",
+            Kind::Down => "M-9 0h18",
         }
     }
 }
@@ -79,9 +86,40 @@ pub fn behind_word(bytes: &[u8]) -> &[u8]
     }
 }
 
-/// Returns the kind of what a task was told, from the first word of it.
-pub fn kind_of(word: &[u8]) -> Kind
-    ensures { result ≡ kind_of word.now }
+// Whether a word begins with a digit.
+fn is_number(word: &[u8]) -> bool
+    ensures { result ≡ is_number word.now }
+{
+    match word.split_first() {
+        Some((byte, _)) => *byte >= b'0' && *byte <= b'9',
+        None => false,
+    }
+}
+
+fn region_kind(word: &[u8]) -> Kind
+    ensures { result ≡ region_kind word.now }
+{
+    if word == "CLOCK".as_bytes() {
+        Kind::Clock
+    } else {
+        Kind::Down
+    }
+}
+
+fn woken_kind(word: &[u8]) -> Kind
+    ensures { result ≡ woken_kind word.now }
+{
+    if word == "NORMAL".as_bytes() {
+        Kind::Woken
+    } else if word == "ABEND".as_bytes() {
+        Kind::Abended
+    } else {
+        Kind::Condition
+    }
+}
+
+fn told_kind(word: &[u8], behind: &[u8]) -> Kind
+    ensures { result ≡ told_kind word.now behind.now }
 {
     if word == "ATTACHED".as_bytes() {
         Kind::Attached
@@ -90,7 +128,7 @@ pub fn kind_of(word: &[u8]) -> Kind
     } else if word == "WAITING".as_bytes() {
         Kind::Waiting
     } else if word == "WOKEN".as_bytes() {
-        Kind::Woken
+        woken_kind(first_word(behind))
     } else if word == "ENDED".as_bytes() {
         Kind::Ended
     } else if word == "ABEND".as_bytes() {
@@ -99,5 +137,17 @@ pub fn kind_of(word: &[u8]) -> Kind
         Kind::Refused
     } else {
         Kind::Condition
+    }
+}
+
+/// Returns the kind of an event.
+pub fn kind_of(event: &[u8]) -> Kind
+    ensures { result ≡ kind_of event.now }
+{
+    let told = behind_word(event);
+    if is_number(told) {
+        region_kind(first_word(event))
+    } else {
+        told_kind(first_word(told), behind_word(told))
     }
 }

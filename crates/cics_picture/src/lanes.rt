@@ -3,7 +3,7 @@
 ghost use Rattle.std.specs.Prelude.{◌≡◌, ◌<◌, ◌≤◌, length, IfSome, OnOk, OnErr};
 ghost use Rattle.cics_picture.specs.Lanes.{lane_of, lane_x, row_y, tasks_behind, most_lanes};
 
-use crate::events::{Kind, behind_word, first_word, kind_of};
+use crate::events::{Kind, first_word, kind_of};
 use cics_names::{Items, NoMemory, Record};
 use std::alloc::Global;
 
@@ -32,7 +32,7 @@ pub fn give_lane(tasks: &mut Items<Record>, alloc: Global, event: &[u8]) -> Resu
     ensures within { length tasks.new ≤ most_lanes }
     ensures err { OnErr result (tasks.new ≡ tasks.old) }
 {
-    match kind_of(first_word(behind_word(event))) {
+    match kind_of(event) {
         Kind::Attached if tasks.len() < MOST_LANES => {
             tasks.push(Record::from_slice(alloc, first_word(event))?)
         }

@@ -1,18 +1,21 @@
 //! The rows of a picture and the marks in its lanes.
 
-ghost use Rattle.std.specs.Prelude.{◌≡◌, ◌++◌, ◌<◌, ◌≤◌, ◌+◌, [], length, IfSome, OnOk};
+ghost use Rattle.std.specs.Prelude.{◌≡◌, ◌++◌, ◌<◌, ◌≤◌, ◌+◌, ◌*◌, [], length, IfSome, OnOk};
 ghost use Rattle.std.specs.Prelude.{IfErr};
 ghost use Rattle.std.specs.List.{fold};
 ghost use Rattle.cics_picture.specs.Lanes.{most_lanes, most_rows, row_y, lane_of};
 ghost use Rattle.cics_picture.specs.Drawings.{drawn_of, nothing_drawn, arrow_to, beside};
-ghost use Rattle.cics_picture.specs.Drawings.{event_kind};
-ghost use Rattle.cics_picture.specs.Events.{behind_word};
+ghost use Rattle.cics_picture.specs.Drawings.{lane_marks};
+ghost use Rattle.cics_picture.specs.Elements.{stroke};
+ghost use Rattle.cics_picture.specs.Events.{behind_word, first_word, kind_of, class_of};
 ghost use Rattle.cics_picture.specs.Drawings.{row_marks, row_number, row_texts, with_row};
 ghost use Rattle.cics_picture.specs.Drawings.{row, rows_from};
 ghost use Rattle.cics_picture.specs.declared.drawing.Undrawn.TheVariants.{TooManyRows};
 
 use crate::drawing::{Drawing, LIMIT, Undrawn};
-use crate::elements::{cut, push_arrow, push_mark, push_number_words, push_words};
+use crate::elements::{
+    cut, push_arrow, push_cut_words, push_mark, push_number_words, push_stroke, push_words,
+};
 use crate::events::{Kind, behind_word, first_word, kind_of};
 use crate::lanes::{give_lane, lane_of, lane_x};
 use cics_names::{Items, NoMemory, Record};
@@ -27,12 +30,6 @@ fn row_y(row: u64) -> u64
     ensures within { result ≤ 2200098 }
 {
     98 + 22 * row
-}
-
-fn event_kind(event: &[u8]) -> Kind
-    ensures { result ≡ event_kind event.now }
-{
-    kind_of(first_word(behind_word(event)))
 }
 
 // Puts an arrow to the task that is waited for, if it has a lane.
@@ -71,9 +68,9 @@ fn push_beside(
     requires few { length tasks.now ≤ most_lanes }
     requires lane { place.0 < most_lanes }
     ensures { OnOk result (out.new.items ≡ out.old.items
-        ++ beside tasks.now place.0 place.1 event.now (event_kind event.now)) }
+        ++ beside tasks.now place.0 place.1 event.now (kind_of event.now)) }
 {
-    match event_kind(event) {
+    match kind_of(event) {
         Kind::Attached => push_words(
             out,
             "b m".as_bytes(),
@@ -85,17 +82,49 @@ fn push_beside(
     }
 }
 
-// Puts the marks of an event in the lane of its task, if it has one.
-fn push_marks(out: &mut Vec<u8>, tasks: &[Record], y: u64, event: &[u8]) -> Result<(), NoMemory>
+// Puts a line across the lanes.
+fn push_across(out: &mut Vec<u8>, lanes: usize, y: u64, kind: Kind) -> Result<(), NoMemory>
+    requires { lanes ≤ most_lanes }
+    ensures { OnOk result (out.new.items
+        ≡ out.old.items ++ stroke (class_of kind) 66 y (66 + 60 * lanes) y) }
+{
+    push_stroke(
+        out,
+        kind.class().as_bytes(),
+        (66, y),
+        (66 + 60 * (lanes as u64), y),
+    )
+}
+
+// Puts the marks of a task's event in its lane, if it has one.
+fn push_lane_marks(
+    out: &mut Vec<u8>,
+    tasks: &[Record],
+    y: u64,
+    event: &[u8],
+) -> Result<(), NoMemory>
     requires { length tasks.now ≤ most_lanes }
-    ensures { OnOk result (out.new.items ≡ out.old.items ++ row_marks tasks.now y event.now) }
+    ensures { OnOk result (out.new.items ≡ out.old.items
+        ++ lane_marks tasks.now y event.now (lane_of tasks.now (first_word event.now))) }
 {
     match lane_of(tasks, first_word(event)) {
         Some(lane) => {
             push_beside(out, tasks, (lane, y), event)?;
-            push_mark(out, event_kind(event), lane_x(lane), y)
+            push_mark(out, kind_of(event), lane_x(lane), y)
         }
         None => Ok(()),
+    }
+}
+
+// Puts the marks of an event.
+fn push_marks(out: &mut Vec<u8>, tasks: &[Record], y: u64, event: &[u8]) -> Result<(), NoMemory>
+    requires { length tasks.now ≤ most_lanes }
+    ensures { OnOk result (out.new.items ≡ out.old.items ++ row_marks tasks.now y event.now) }
+{
+    match kind_of(event) {
+        Kind::Clock => push_across(out, tasks.len(), y, Kind::Clock),
+        Kind::Down => push_across(out, tasks.len(), y, Kind::Down),
+        _ => push_lane_marks(out, tasks, y, event),
     }
 }
 
@@ -113,10 +142,10 @@ fn push_row_number(out: &mut Vec<u8>, y: u64, number: u64) -> Result<(), NoMemor
 fn push_texts(out: &mut Vec<u8>, y: u64, line: &[u8], event: &[u8]) -> Result<(), NoMemory>
     ensures { OnOk result (out.new.items ≡ out.old.items ++ row_texts y line.now event.now) }
 {
-    push_words(out, "line".as_bytes(), (78, y), cut(line, 90))?;
-    push_words(
+    push_cut_words(out, "line".as_bytes(), (78, y), cut(line, 90))?;
+    push_cut_words(
         out,
-        event_kind(event).class().as_bytes(),
+        kind_of(event).class().as_bytes(),
         (744, y),
         cut(event, 70),
     )

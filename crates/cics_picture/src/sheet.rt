@@ -4,15 +4,16 @@ ghost use Rattle.std.specs.Prelude.{◌≡◌, ◌++◌, ◌<◌, ◌≤◌, ◌
 ghost use Rattle.cics_markup.specs.Documents.{Document};
 ghost use Rattle.cics_markup.specs.Reading.{document_of};
 ghost use Rattle.cics_picture.specs.Lanes.{most_lanes};
-ghost use Rattle.cics_picture.specs.Drawings.{drawn_of, Printed, drawn};
+ghost use Rattle.cics_picture.specs.Drawings.{drawn_of, Printed, Row, drawn};
+ghost use Rattle.cics_picture.specs.Arrows.{TellsWait, DrawsArrow};
 ghost use Rattle.cics_picture.specs.Sheets.{style_text, bands, lane_lines, headings, ground, heading};
 ghost use Rattle.cics_picture.specs.Sheets.{legend_item, answers_legend, ways_legend};
-ghost use Rattle.cics_picture.specs.Sheets.{width_of, height_of, moved_texts, sheet};
+ghost use Rattle.cics_picture.specs.Sheets.{region_legend, width_of, height_of, moved_texts, sheet};
 
 use crate::drawing::Drawing;
 use crate::elements::{
-    push_field, push_mark, push_moved_start, push_picture_start, push_spoken, push_stroke,
-    push_words,
+    cut, push_cut_words, push_field, push_mark, push_moved_start, push_picture_start, push_spoken,
+    push_stroke, push_words,
 };
 use crate::events::Kind;
 use crate::lanes::lane_x;
@@ -24,6 +25,12 @@ use cics_names::NoMemory;
 pub fn sheets_are_documents()
     ensures { (lines : List Printed) (title : List ℕ)
         → (d : Document) × (document_of (sheet (drawn lines) title) ≡ Some d) }
+{}
+
+/// If at most sixteen tasks are attached, each event WAITING has exactly one arrow: from the lane
+/// of its task to the lane of the task that it names.
+pub fn waits_have_arrows()
+    ensures { (before : List Row) (r : Row) → TellsWait before r → DrawsArrow before r }
 {}
 
 fn push_style(out: &mut Vec<u8>) -> Result<(), NoMemory>
@@ -102,14 +109,24 @@ fn push_ways_legend(out: &mut Vec<u8>) -> Result<(), NoMemory>
     push_legend_item(out, 754, Kind::Abended, "abended")
 }
 
+// Puts what the lines across the lanes mean.
+#[tactic(auto, unfolding(crate::specs::Sheets::region_legend))]
+fn push_region_legend(out: &mut Vec<u8>) -> Result<(), NoMemory>
+    ensures { OnOk result (out.new.items ≡ out.old.items ++ region_legend) }
+{
+    push_legend_item(out, 854, Kind::Clock, "clock")?;
+    push_legend_item(out, 934, Kind::Down, "shutdown or fault")
+}
+
 // Puts the title, and the legend below it.
 #[tactic(auto, unfolding(crate::specs::Sheets::heading))]
 fn push_heading(out: &mut Vec<u8>, title: &[u8]) -> Result<(), NoMemory>
     ensures { OnOk result (out.new.items ≡ out.old.items ++ heading title.now) }
 {
-    push_words(out, "h1".as_bytes(), (16, 30), title)?;
+    push_cut_words(out, "h1".as_bytes(), (16, 30), cut(title, 96))?;
     push_answers_legend(out)?;
-    push_ways_legend(out)
+    push_ways_legend(out)?;
+    push_region_legend(out)
 }
 
 // How wide a picture is.
@@ -139,7 +156,7 @@ fn push_ground(out: &mut Vec<u8>, drawing: &Drawing, title: &[u8]) -> Result<(),
         0,
         (width_of(drawing), height_of(drawing)),
     )?;
-    push_bands(out, width_of(drawing), drawing.rows / 2)?;
+    push_bands(out, width_of(drawing), (drawing.rows + 1) / 2)?;
     push_heading(out, title)?;
     push_lane_lines(out, height_of(drawing), drawing.tasks.len())
 }

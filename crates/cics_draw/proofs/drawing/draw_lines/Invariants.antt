@@ -4,7 +4,7 @@ use Rattle.cics_draw.proofs.Playing.{Stands}
 use Rattle.cics_draw.proofs.drawing.draw_lines.Given as goal
 
 abbrev pub invariant-lines : goal.invariant-lines
-invariant-lines l = Stands (drawn_of l.drawing) l.session.stage l.session.number l.rest l.script × (l.session.number + length l.rest ≤ length l.script)
+invariant-lines l = Stands (drawn_of l.drawing) l.session l.rest l.script × (l.session.number + length l.rest ≤ length l.script)
 
 abbrev pub decreases-lines : goal.decreases-lines
 decreases-lines l = length l.rest

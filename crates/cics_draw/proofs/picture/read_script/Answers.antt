@@ -4,9 +4,9 @@ use Rattle.cics_run.proofs.Known.{consumes-append}
 use Rattle.cics_run.proofs.Reading.{chunk-length, read_more, one_more}
 use Rattle.cics_draw.proofs.picture.read_script.Goals as goal
 
-pub returns-in-Ok : goal.returns-in-Ok
-returns-in-Ok g c =
-    let (read, room, whole) = c.reads.invariant in
+pub returns-in-Ok-clause-reads : goal.returns-in-Ok-clause-reads
+returns-in-Ok-clause-reads g c =
+    let (read, room, whole, asked, failed) = c.reads.invariant in
     let bytes = c.reads.script.items in
     let n = c.in-Ok.field-0 in
     let got = c.read.new.buffer in
@@ -15,9 +15,9 @@ returns-in-Ok g c =
     let one : n ≡ 1 = omega (arith, fits, c.in-Ok.field-0-test.1, c.read.auto.buffer, length-take c.max-size.result c.reads.buffer, c.max-size.ensures, c.min.ensures, c.if-room-eq0.true) in
     (bytes ++ take n got, consumes-append _ _ _ bytes _ read c.in-Ok.ensures.bytes.0, (one_more bytes got n LIMIT full one fits).0)
 
-pub returns-in-Err-push_chunk : goal.returns-in-Err-push_chunk
-returns-in-Err-push_chunk g c =
-    let (read, room, whole) = c.reads.invariant in
+pub returns-in-Err-push_chunk-clause-reads : goal.returns-in-Err-push_chunk-clause-reads
+returns-in-Err-push_chunk-clause-reads g c =
+    let (read, room, whole, asked, failed) = c.reads.invariant in
     let bytes = c.reads.script.items in
     let n = c.in-Ok.field-0 in
     let got = c.read.new.buffer in

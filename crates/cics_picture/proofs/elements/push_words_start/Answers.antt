@@ -1,4 +1,4 @@
-use Rattle.std.proofs.Common.{[], ◌∷◌, ◌++◌, ap, ◌∙◌}
+use Rattle.std.proofs.Common.{[], ◌++◌, ap, ◌∙◌}
 use Rattle.cics_markup.specs.declared.names.Tag.TheVariants as tag
 use Rattle.cics_markup.specs.declared.names.Key.TheVariants as key
 use Rattle.cics_markup.specs.Names.{tag_name}
