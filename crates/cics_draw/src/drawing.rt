@@ -15,7 +15,7 @@ use crate::lines::next_line;
 use crate::titles::title_of;
 use cics_names::NoMemory;
 use cics_picture::{Drawing, Undrawn, push_sheet};
-use cics_run::Session;
+use cics_run::{Session, keep_undefined};
 
 // Runs a line and tells whether it is a fault. What it prints is pending then, and a line with a
 // fault is kept, to be told to a person.
@@ -34,9 +34,7 @@ fn run_line(session: &mut Session, line: &[u8]) -> Result<bool, NoMemory>
     session.fault = session
         .stage
         .run_line(session.number, line, &mut session.pending)?;
-    session
-        .hints
-        .look(&session.stage, line, &session.pending, 0);
+    keep_undefined(&mut session.undefined, line, &session.pending, 0);
     let is_fault = session.fault.is_some();
     if is_fault {
         session.line.extend_from_slice(line)?;

@@ -1,18 +1,9 @@
-//! What is told to a person at the end of a run: the deadlocks in which it leaves its tasks, and
-//! hints.
+//! What is told of the deadlocks in which a run leaves its tasks.
 
-use crate::session::Session;
-use crate::stage::Stage;
-use crate::strict::waiting_count;
 use cics_deadlock::deadlocks;
 use cics_dispatch::Region;
 use cics_names::{Name8, NoMemory, Record, Verb};
 use cics_script::{push_bare, push_name, push_str, push_text};
-use std::alloc::Global;
-
-// How many tasks may wait at a run's end for its deadlocks to be told. The search takes time by the
-// square.
-const MOST_WAITING: usize = 10_000;
 
 // A record of a file, or the records whose keys have a prefix.
 fn push_keys(out: &mut Vec<u8>, what: &str, key: &Record, file: &Name8) -> Result<(), NoMemory> {
@@ -121,20 +112,4 @@ pub fn push_deadlocks(out: &mut Vec<u8>, region: &Region) -> Result<(), NoMemory
         push_deadlock(out, region, labels.as_slice())?;
     }
     Ok(())
-}
-
-/// Returns what is to be told at the end of a run that ended with `Status::Done`: a line for each
-/// deadlock, if at most 10,000 tasks wait, and one for each name that isn't defined while it is in
-/// capitals. The session is the one that was run.
-///
-/// Errors: `NoMemory`, if a task waits or there is a hint. Cost: that of `deadlocks`.
-pub fn told_at_end(alloc: Global, session: &Session) -> Result<Vec<u8>, NoMemory> {
-    let mut text = Vec::new(alloc);
-    if let Stage::Running(region) = &session.stage {
-        if (1..=MOST_WAITING).contains(&waiting_count(region)) {
-            push_deadlocks(&mut text, region)?;
-        }
-    }
-    text.extend_from_slice(session.hints.text())?;
-    Ok(text)
 }

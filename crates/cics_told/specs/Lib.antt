@@ -1,0 +1,2 @@
+pub mod Amiss
+pub mod Waiting
