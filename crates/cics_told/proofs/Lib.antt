@@ -1,1 +1,2 @@
 mod AmissRows
+pub mod Put

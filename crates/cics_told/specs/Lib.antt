@@ -1,2 +1,3 @@
 pub mod Amiss
+pub mod Deadlocked
 pub mod Waiting
