@@ -17,7 +17,7 @@ use crate::lines::next_line;
 use crate::titles::title_of;
 use cics_names::NoMemory;
 use cics_picture::{Drawing, Undrawn, push_sheet};
-use cics_run::Session;
+use cics_run::{Session, keep_undefined};
 
 /// The rows of a picture show what the run prints, in order: their events, each with its LF, are
 /// the journal.
@@ -39,9 +39,7 @@ fn run_line(session: &mut Session, line: &[u8]) -> Result<bool, NoMemory>
     session.fault = session
         .stage
         .run_line(session.number, line, &mut session.pending)?;
-    session
-        .hints
-        .look(&session.stage, line, &session.pending, 0);
+    keep_undefined(&mut session.undefined, line, &session.pending, 0);
     let is_fault = session.fault.is_some();
     if is_fault {
         session.line.extend_from_slice(line)?;

@@ -1,5 +1,5 @@
 -- Where a session stands after some bytes of a script.
-use Rattle.std.specs.Prelude.{◌≡◌, ℕ, Bool, true, false, ◌+◌, if◌then◌else◌, List, [], ◌++◌, Option, Result, MatchResult, Ok, Err, ⊤}
+use Rattle.std.specs.Prelude.{◌≡◌, ℕ, Bool, true, false, ◌+◌, if◌then◌else◌, List, [], ◌++◌, Option, None, Result, MatchResult, Ok, Err, ⊤}
 use Rattle.std.specs.Io.BufRead.{strip_last}
 use Rattle.std.specs.Io.KnownBytes.{Appends, Consumes}
 use Rattle.cics_run.specs.Lines.{completed, unfinished, all_lines}
@@ -23,6 +23,7 @@ pub record IsNew (s : Session) : Type 0 where
   pub number : s.number ≡ 0
   pub line : s.line.items ≡ []
   pub pending : s.pending.items ≡ []
+  pub fault : s.fault ≡ None
 
 -- the step of a line that a session runs next
 abbrev pub next_step : Session → List ℕ → Step

@@ -86,13 +86,13 @@ pub enum Asked {
 
 /// Reads the words of a command line, of which the first is the program's name.
 ///
-/// The options are `--no-list`, which leaves out the listing, `--replay`, which asks for the replay
-/// after it, `--serial`, which asks for the serial run after both, `--with-script`, which asks for
-/// each line of the script in front of what it led to, `--strict`, `--picture`, which asks for a
-/// picture in place of all that, `--version` (or `-V`) and `--help` (or `-h`). An option that is
-/// given twice is bad, so is `--serial` beside `--with-script`, so is another one beside
-/// `--picture`, and so is every other word but a `--`, after which no option may stand. It is
-/// refused for want of memory alone.
+/// The options are those of the help. These are bad:
+///
+/// - an option that is given twice;
+/// - `--serial` beside `--with-script`, and any option beside `--picture`;
+/// - each other word but a `--`, after which no option may stand.
+///
+/// The only error is `NoMemory`.
 pub fn arguments(alloc: Global, words: Vec<String>) -> Result<Asked, NoMemory> {
     match asked_run(alloc, &words) {
         Ok(asked) => Ok(asked),
@@ -177,8 +177,10 @@ fn asked_run(alloc: Global, words: &[String]) -> Result<Asked, Error> {
     Ok(Asked::Run(wanted))
 }
 
-/// The exit status that tells the answer of a run: 0 done, 1 a fault of a line or a definition, 3
-/// no memory, 4 a fault in reading or writing or too long a script.
+/// Returns the exit status that tells the answer of a run.
+///
+/// It is 0 if the run is done, 1 at a fault of a line or a definition, and 3 without memory. It is
+/// 4 if a read or a write failed, or the script is too long.
 pub fn exit_status(answer: &Result<Status, RunFault>) -> u8
     ensures { result ≡ status_of answer.now }
 {
@@ -190,8 +192,8 @@ pub fn exit_status(answer: &Result<Status, RunFault>) -> u8
     }
 }
 
-/// The exit status of a strict run: 5 if it is done and something is amiss, else as `exit_status`
-/// says.
+/// Returns the exit status of a run in which something is amiss or not: 5 if it is done and
+/// something is, else as `exit_status` says.
 pub fn strict_status(answer: &Result<Status, RunFault>, is_amiss: bool) -> u8
     ensures { result ≡ strict_status_of answer.now is_amiss }
 {

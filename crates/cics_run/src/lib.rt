@@ -2,8 +2,6 @@
 #![tactic(auto)]
 
 mod command_line;
-mod deadlocked;
-mod hints;
 pub mod journal;
 pub mod listing;
 mod running;
@@ -12,16 +10,13 @@ mod session;
 mod settling;
 pub mod stage;
 mod streams;
-mod strict;
-mod told;
+mod undefined;
 mod unit_lines;
 mod writing;
 
 pub use command_line::{Asked, arguments, exit_status, strict_status};
-pub use deadlocked::{push_deadlocks, told_at_end};
 pub use running::{CHUNK, LIMIT, Options, RunFault, Status, Wanted, run, run_over};
 pub use session::Session;
 pub use streams::{Failed, Sink, Source};
-pub use strict::{Watched, is_left_waiting};
-pub use told::told_of;
+pub use undefined::{Named, keep_undefined};
 pub use writing::{Stop, write_pending};

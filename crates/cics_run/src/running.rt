@@ -67,8 +67,8 @@ pub struct Wanted {
 
 /// Runs the script that a reader gives, and writes its journal and what follows it.
 ///
-/// It is [`run_over`] a source and a sink that count nothing. `alloc` gives the memory of the
-/// region and of what is printed.
+/// It is [`run_over`] a source and a sink that count nothing, and prints neither the serial run nor
+/// the script. `alloc` gives the memory of the region and of what is printed.
 pub fn run<R: Read, W: Write>(
     alloc: Global,
     reader: &mut R,

@@ -19,14 +19,13 @@ use cics_script::{push_name, push_number, push_str, push_text};
 use cics_transdata::Recovery;
 use cics_units::{Opening, UnitState, Units};
 
-/// The serial run of units of work, behind its heading: a script that defines and loads what was
-/// opened, and in which a task for each unit that committed does, one after the other in the order
-/// of the commits, what the unit did to recoverable files and queues, and commits. Behind them come
-/// the units that are open, in the order of their numbers, which don't commit.
+/// Puts the serial run of units of work, behind its heading: a script that defines and loads what
+/// was opened. It has a task for each committed unit, in the order of the commits. The task does
+/// what the unit did to recoverable files and queues, and commits. Behind them come the open units,
+/// in the order of their numbers, which don't commit.
 ///
-/// The commands are walked once, and their lines gathered for each unit: it takes memory for these,
-/// for the text and for copies of the records in it. `NoMemory` comes only where some of it is
-/// refused, and `out` then holds a front of the text behind what it held.
+/// It takes memory for the lines of each unit, for the text and for copies of its records. On
+/// `NoMemory`, the only error, `out` holds a front of the text behind what it held.
 pub fn push_serial(out: &mut Vec<u8>, units: &Units) -> Result<(), NoMemory>
     ensures { OnOk result (out.new.items ≡ out.old.items ++ serial_text units.now.state) }
 {

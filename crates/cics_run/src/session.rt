@@ -17,13 +17,13 @@ ghost use Rattle.cics_run.specs.Standing.{IsNew, Ran, ended_line, next_text, Whe
 ghost use Rattle.cics_run.specs.Standing.{Feeds, Writes, Closes, Finishes};
 ghost use Rattle.cics_run.specs.declared.running.Wanted.{Wanted};
 
-use crate::hints::Hints;
 use crate::journal::push_script_line;
 use crate::listing::{push_listing, push_replay};
 use crate::running::{Status, Wanted};
 use crate::serial::push_serial;
 use crate::stage::{Fault, Stage};
 use crate::streams::Sink;
+use crate::undefined::{Named, keep_undefined};
 use crate::writing::{Stop, write_pending, write_printed};
 use cics_dispatch::Region;
 use cics_names::NoMemory;
@@ -33,18 +33,23 @@ const LF: u8 = 10;
 
 const CR: u8 = 13;
 
-/// What the lines so far have led to, how many there were, the bytes of the next line that have
-/// come, the text that is printed and not yet written, the fault of the last line, which is kept
-/// then, whether each line is printed in front of what it leads to, and hints for a person.
+/// Run state between reads.
 #[derive(Drop)]
 pub struct Session {
+    /// What the lines so far have led to.
     pub stage: Stage,
+    /// How many lines there were.
     pub number: u64,
+    /// The bytes of the next line that have come, or the last line if it has a fault.
     pub line: Vec<u8>,
+    /// Text that is printed and not yet written.
     pub pending: Vec<u8>,
+    /// The fault of the last line.
     pub fault: Option<Fault>,
+    /// Whether each line is printed in front of what it leads to.
     pub with_script: bool,
-    pub hints: Hints,
+    /// Names that commands had and that aren't defined, each once, at most 64.
+    pub undefined: Vec<Named>,
 }
 
 // Drops the CR right before a line's LF.
@@ -116,7 +121,7 @@ impl Session {
             pending: Vec::new(alloc),
             fault: None,
             with_script: false,
-            hints: Hints::new(alloc),
+            undefined: Vec::new(alloc),
         }
     }
 
@@ -152,8 +157,7 @@ impl Session {
         self.fault = self
             .stage
             .run_line(self.number, &self.line, &mut self.pending)?;
-        self.hints
-            .look(&self.stage, &self.line, &self.pending, before);
+        keep_undefined(&mut self.undefined, &self.line, &self.pending, before);
         let is_fault = self.fault.is_some();
         write_printed(&mut self.pending, sink, is_fault)?;
         Ok(is_fault)
@@ -245,9 +249,9 @@ impl Session {
         self.run_kept(sink)
     }
 
-    /// Runs the last line if it lacks its LF, and if that is no fault, writes what is wanted of the
-    /// listing, the replay and the serial run. The status tells which of the two came. On `Stop` the
-    /// first part of the output is written.
+    /// Runs the last line if it lacks its LF. Without a fault it writes what is wanted of the
+    /// listing, the replay and the serial run. The status tells whether there was one. On `Stop`
+    /// the first part of the output is written.
     pub(crate) fn finish<K: Sink>(&mut self, wanted: Wanted, sink: &mut K) -> Result<Status, Stop>
         requires { self.old.number + 1 < 2 ^ 64 }
         ensures finishes { WhereverStands wanted (K.contents sink.old) self.old (λ bytes before.

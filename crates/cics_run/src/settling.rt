@@ -7,11 +7,8 @@ use crate::journal::{push_expired, push_woken};
 use cics_dispatch::Region;
 use cics_names::NoMemory;
 
-/// Lets each waiting command go on that needn't wait any more, abends each task that has waited too
-/// long, and prints what comes of it, until nothing more comes by itself.
-///
-/// A command that may go on comes before a task whose time is over. It is refused for want of
-/// memory alone.
+/// Drains a region: runs wake-ups and time-outs until neither applies, and prints each. Wake-ups
+/// come first. The only error is `NoMemory`.
 pub fn settle(region: &mut Region, out: &mut Vec<u8>) -> Result<(), NoMemory>
     ensures region { OnOk result (region.new
         ≡ region_at (settled (length region.old.machine.waiting) region.old.machine).machine) }

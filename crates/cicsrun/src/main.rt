@@ -4,9 +4,9 @@
 
 use cics_draw::{NoPicture, run_picture};
 use cics_run::{
-    Asked, RunFault, Session, Status, Wanted, Watched, arguments, exit_status, is_left_waiting,
-    run_over, strict_status, told_at_end, told_of,
+    Asked, RunFault, Session, Status, Wanted, arguments, exit_status, run_over, strict_status,
 };
+use cics_told::{Watched, is_left_waiting, told_at_end, told_of};
 use std::io::ErrorKind;
 use std::mem;
 use std::process::ExitCode;
@@ -17,8 +17,8 @@ const TOO_MANY_EVENTS: u8 = 4;
 
 fn main(rt: HostRuntime) -> ExitCode {
     match asked(rt) {
-        Ok(Asked::Run(wanted)) => ended(rt, run_to_the_end(rt, wanted)),
-        Ok(Asked::Strict(wanted)) => ended(rt, run_strictly(rt, wanted)),
+        Ok(Asked::Run(wanted)) => ended(rt, run_to_the_end(rt, wanted, false)),
+        Ok(Asked::Strict(wanted)) => ended(rt, run_to_the_end(rt, wanted, true)),
         Ok(Asked::Picture) => match draw_to_the_end(rt) {
             Err(NoPicture::TooManyEvents) => {
                 let _ = eprintln!(rt; "cicsrun: {}", NoPicture::TooManyEvents);
@@ -41,25 +41,14 @@ fn main(rt: HostRuntime) -> ExitCode {
 
 // Runs the script on standard input, and returns the exit status. The process ends right after the
 // run. So its memory isn't given back piece by piece, which would take up to a tenth of the time.
-fn run_to_the_end(rt: HostRuntime, wanted: Wanted) -> Result<u8, RunFault> {
+fn run_to_the_end(rt: HostRuntime, wanted: Wanted, is_strict: bool) -> Result<u8, RunFault> {
     let mut session = Session::new(rt.alloc());
-    let answer = run_over(&mut session, &mut rt.stdin(), &mut rt.stdout(), wanted);
-    if let Ok(status) = answer {
-        tell(rt, &mut session, status);
-    }
-    mem::forget(session);
-    Ok(exit_status(&Ok(answer?)))
-}
-
-// The same of a strict run.
-fn run_strictly(rt: HostRuntime, wanted: Wanted) -> Result<u8, RunFault> {
-    let mut session = Session::new(rt.alloc());
-    let mut journal = Watched::new(rt.stdout());
+    let mut journal = Watched::new(rt.stdout(), is_strict);
     let answer = run_over(&mut session, &mut rt.stdin(), &mut journal, wanted);
     if let Ok(status) = answer {
         tell(rt, &mut session, status);
     }
-    let is_amiss = journal.is_amiss() || is_left_waiting(&session);
+    let is_amiss = is_strict && (journal.is_amiss() || is_left_waiting(&session));
     mem::forget(session);
     Ok(strict_status(&Ok(answer?), is_amiss))
 }
@@ -75,8 +64,9 @@ fn draw_to_the_end(rt: HostRuntime) -> Result<Status, NoPicture> {
     answer
 }
 
-// Says on standard error what a run leaves a person to know: what its faulty line needs, or which
-// deadlocks it ended in. Without memory it says nothing: the journal and the listing have it.
+// Says on standard error what a run leaves a person to know: what its faulty line needs, or its
+// deadlocks and undefined names. Without memory it says nothing: the journal and the listing have
+// it.
 fn tell(rt: HostRuntime, session: &mut Session, status: Status) {
     let told = match status {
         Status::LineFault => told_of(rt.alloc(), session),

@@ -1,0 +1,2 @@
+mod AmissRows
+pub mod Put

@@ -1,0 +1,3 @@
+pub mod Amiss
+pub mod Deadlocked
+pub mod Waiting

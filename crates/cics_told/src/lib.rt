@@ -1,0 +1,14 @@
+//! What a run leaves a person to know: what its faulty line needs, its deadlocks, names that aren't
+//! defined, and what a strict run finds amiss.
+#![tactic(auto)]
+
+mod deadlocked;
+mod hints;
+mod strict;
+mod told;
+mod waiting;
+
+pub use deadlocked::push_deadlocks;
+pub use strict::Watched;
+pub use told::{told_at_end, told_of};
+pub use waiting::is_left_waiting;

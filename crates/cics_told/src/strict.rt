@@ -1,0 +1,160 @@
+//! What a strict run finds amiss.
+
+ghost use Rattle.std.specs.Prelude.{◌≡◌, ◌≤◌, [], false, length};
+ghost use Rattle.std.specs.Prelude.{if◌then◌else◌, take, IfOk};
+ghost use Rattle.std.specs.Io.{WritesAtMost};
+ghost use Rattle.std.specs.Io.KnownBytes.{WriteAppends};
+ghost use Rattle.std.specs.List.{prefix_len, fold};
+ghost use Rattle.cics_told.specs.Amiss.{is_in_label, behind_label, without_woken};
+ghost use Rattle.cics_told.specs.Amiss.{is_refusal, is_abend, is_told_amiss};
+ghost use Rattle.cics_told.specs.Amiss.{is_of_script, is_amiss, seen_by, with_byte};
+
+use arrayvec::ArrayVec;
+use std::io::{Result, Write};
+
+// How many bytes a line has at most that tells of a refusal or an abend.
+const MOST: usize = 48;
+
+/// A writer that hands the journal on to another, and in a strict run looks at each line.
+#[derive(Drop)]
+pub struct Watched<W> {
+    writer: W,
+    is_strict: bool,
+    // The first bytes of the line that isn't whole yet.
+    line: ArrayVec<u8, MOST>,
+    is_amiss: bool,
+}
+
+// The length of the label that begins a line.
+fn label_len(line: &[u8]) -> usize
+    ensures value { result ≡ prefix_len is_in_label line.now }
+    ensures within { result ≤ length line.now }
+{
+    line.iter().take_while(|byte| **byte != b' ').count()
+}
+
+fn behind_label(line: &[u8]) -> &[u8]
+    ensures { result.now ≡ behind_label line.now }
+{
+    &line[(label_len(line) + 1).min(line.len())..]
+}
+
+fn without_woken(told: &[u8]) -> &[u8]
+    ensures { result.now ≡ without_woken told.now }
+{
+    match told.strip_prefix("WOKEN ".as_bytes()) {
+        Some(behind) => behind,
+        None => told,
+    }
+}
+
+// Whether a refusal is told. Its number sets it apart from a task of that name.
+fn is_refusal(told: &[u8]) -> bool
+    ensures { result ≡ is_refusal told.now }
+{
+    match told.strip_prefix("REFUSED ".as_bytes()) {
+        Some(number) => match number.split_first() {
+            Some((digit, _)) => digit.is_ascii_digit(),
+            None => false,
+        },
+        None => false,
+    }
+}
+
+// Whether an abend is told that no task asked for. One that a task asks for has a code of four
+// characters, and no more behind it; AKCS is the code of a time-out.
+fn is_abend(told: &[u8]) -> bool
+    ensures { result ≡ is_abend told.now }
+{
+    match told.strip_prefix("ABEND ".as_bytes()) {
+        Some(code) => code.len() > 4 || code.strip_prefix("AKCS".as_bytes()).is_some(),
+        None => false,
+    }
+}
+
+fn is_told_amiss(told: &[u8]) -> bool
+    ensures { result ≡ is_told_amiss told.now }
+{
+    is_refusal(told) || is_abend(told)
+}
+
+// A line of the script begins with `>`.
+fn is_of_script(line: &[u8]) -> bool
+    ensures { result ≡ is_of_script line.now }
+{
+    line.strip_prefix(">".as_bytes()).is_some()
+}
+
+// Whether a line of a journal tells that an event was refused, or that a task was abended by a
+// condition or a time-out.
+fn is_amiss(line: &[u8]) -> bool
+    ensures { result ≡ is_amiss line.now }
+{
+    !is_of_script(line) && is_told_amiss(without_woken(behind_label(line)))
+}
+
+impl<W: Write> Watched<W> {
+    /// Returns a writer that hands on to this one.
+    pub fn new(writer: W, is_strict: bool) -> Watched<W>
+        ensures writer { result.writer ≡ writer }
+        ensures seen { seen_by result ≡ ([], false) }
+    {
+        Watched {
+            writer,
+            is_strict,
+            line: ArrayVec::new(),
+            is_amiss: false,
+        }
+    }
+
+    /// Returns whether a whole line told of a refused event, or of an abend by a condition or a
+    /// time-out.
+    pub fn is_amiss(&self) -> bool
+        ensures { result ≡ self.now.is_amiss }
+    {
+        self.is_amiss
+    }
+
+    fn look_at(&mut self, byte: u8)
+        ensures seen { seen_by self.new ≡ with_byte (seen_by self.old) byte }
+        ensures writer { self.new.writer ≡ self.old.writer }
+    {
+        if byte == b'\n' {
+            self.is_amiss |= is_amiss(&self.line);
+            self.line.clear();
+        } else if self.line.len() < MOST {
+            self.line.push(byte);
+        }
+    }
+
+    fn look(&mut self, bytes: &[u8])
+        ensures seen { seen_by self.new ≡ fold with_byte (seen_by self.old) bytes.now }
+        ensures writer { self.new.writer ≡ self.old.writer }
+    {
+        for byte in bytes {
+            self.look_at(*byte);
+        }
+    }
+}
+
+impl<W: Write> Write for Watched<W> {
+    ghost contents = { λ w. W.Write.contents w.writer };
+
+    fn write(&mut self, bytes: &[u8]) -> Result<usize>
+        ensures bound { WritesAtMost result bytes.now }
+        ensures bytes { WriteAppends (W.Write.contents self.old.writer)
+            (W.Write.contents self.new.writer) result bytes.now }
+        ensures seen { IfOk result (λ n. seen_by self.new ≡ fold with_byte (seen_by self.old)
+            (if self.old.is_strict then take n bytes.now else [])) }
+    {
+        let taken = self.writer.write(bytes)?;
+        if self.is_strict {
+            self.look(&bytes[..taken]);
+        }
+        Ok(taken)
+    }
+
+    fn flush(&mut self) -> Result<()> {
+        self.writer.flush()
+    }
+}
