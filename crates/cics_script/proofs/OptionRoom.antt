@@ -1,6 +1,6 @@
 -- A line has each of its options once, so it has no more of them than its form has rows: 13 at most.
 use Rattle.std.proofs.Common.{◌≡◌, ◌<◌, ◌≤◌, true, false, List, [], ◌∷◌, ◌++◌, length, refl, ap, sym, ◌∙◌, subst, arith, Option, Some, None, ◌⊎◌, inl, inr}
-use Rattle.std.specs.Prelude.{Ok}
+use Rattle.std.specs.Prelude.{Ok, ◌||◌}
 use Rattle.std.specs.Cmp.{IsEquivalence, nat_eq_equiv, on_equiv}
 use Rattle.std.specs.List.{IsDistinct, list_any}
 use Rattle.std.specs.Map.{keys_of}
@@ -19,27 +19,22 @@ use Rattle.cics_script.specs.declared.words.Form.{Form}
 use Rattle.cics_script.specs.declared.words.Form.TheVariants as form
 use Rattle.cics_script.specs.declared.words.OptionWord.{OptionWord}
 use Rattle.cics_script.specs.declared.words.Kind.{Kind}
-use Rattle.cics_script.specs.Words.{place, same, excludes, kind_among, kind_in, or_else, options_of_define, options_of_load, options_of_attach, options_of_command, options_of_every_command}
+use Rattle.cics_script.specs.Words.{place, same, excludes, kind_in, own_options, shared_options}
 use Rattle.cics_script.specs.Options.{Content, Entry, allowed}
 
 -- what a line of this form may have
-abbrev pub rows_of : Form → List (OptionWord × Kind)
-rows_of (form.Define object) = options_of_define object
-rows_of (form.Load object) = options_of_load object
-rows_of form.Attach = options_of_attach
-rows_of form.Clock = []
-rows_of form.Shutdown = []
-rows_of (form.Command verb) = options_of_command verb ++ options_of_every_command
+abbrev pub rows_of : Form → List OptionWord
+rows_of f = own_options f ++ shared_options f
 
 -- options that a line of this form may have, each of them once
 pub record AreOnce (f : Form) (found : List Entry) : Type 0 where
   pub apart : IsDistinct same (keys_of found)
-  pub here : (q : OptionWord) → list_any (same q) (keys_of found) ≡ true → list_any (same q) (keys_of (rows_of f)) ≡ true
+  pub here : (q : OptionWord) → list_any (same q) (keys_of found) ≡ true → list_any (same q) (rows_of f) ≡ true
 
 laws : IsEquivalence same
 laws = on_equiv place nat_eq_equiv
 
-rows-most-command : (verb : CommandWord) → length (options_of_command verb ++ options_of_every_command) ≤ 13
+rows-most-command : (verb : CommandWord) → length (rows_of (form.Command verb)) ≤ 13
 rows-most-command command.Read = omega arith
 rows-most-command verb = omega arith
 
@@ -56,30 +51,15 @@ rows-most (form.Command verb) = rows-most-command verb
 
 once-most : (f : Form) (found : List Entry) → AreOnce f found → length found ≤ 13
 once-most f found once =
-    omega (arith, length-keys_of found, length-keys_of (rows_of f), rows-most f, length-le_from_is_member laws (keys_of found) (keys_of (rows_of f)) once.apart once.here)
+    omega (arith, length-keys_of found, rows-most f, length-le_from_is_member laws (keys_of found) (rows_of f) once.apart once.here)
 
--- the row that says what an option takes
-kind_among-append : (option : OptionWord) (rows more : List (OptionWord × Kind)) → kind_among option (rows ++ more) ≡ or_else (kind_among option rows) (kind_among option more)
-kind_among-append option [] more = refl
-kind_among-append option (row ∷ rows) more =
-    elim (cases_Bool (same row.0 option)) [ inl here ↦ rw here refl | inr other ↦ rw other (kind_among-append option rows more) ]
-
-among_rows : (option : OptionWord) (rows : List (OptionWord × Kind)) (kind : Kind) → kind_among option rows ≡ Some kind → list_any (same option) (keys_of rows) ≡ true
-among_rows option [] kind is = absurd (cc)
-among_rows option (row ∷ rows) kind is =
-    elim (cases_Bool (same row.0 option)) [
-      | inl here ↦ rw (laws.symm option row.0, here) refl
-      | inr other ↦ rw (laws.symm option row.0, other) (among_rows option rows kind (rw other at is))
+in_form : (f : Form) (option : OptionWord) (kind : Kind) → kind_in f option ≡ Some kind → list_any (same option) (rows_of f) ≡ true
+in_form f option kind is =
+    list_any-append (same option) (own_options f) (shared_options f)
+    ∙ elim (cases_Bool (list_any (same option) (own_options f) || list_any (same option) (shared_options f))) [
+      | inl here ↦ here
+      | inr none ↦ absurd (let wrong = rw none at is in cc)
     ]
-
-in_form : (f : Form) (option : OptionWord) (kind : Kind) → kind_in f option ≡ Some kind → list_any (same option) (keys_of (rows_of f)) ≡ true
-in_form (form.Define object) option kind is = among_rows option (options_of_define object) kind is
-in_form (form.Load object) option kind is = among_rows option (options_of_load object) kind is
-in_form form.Attach option kind is = among_rows option options_of_attach kind is
-in_form form.Clock option kind is = absurd (cc)
-in_form form.Shutdown option kind is = absurd (cc)
-in_form (form.Command verb) option kind is =
-    among_rows option (options_of_command verb ++ options_of_every_command) kind (kind_among-append option (options_of_command verb) options_of_every_command ∙ is)
 
 -- an option that may stand is one of the form's, and not yet there
 allowed_parts : (found : List Entry) (option : OptionWord) (k : Option Kind) (kind : Kind) → allowed found option k ≡ Ok kind
@@ -122,7 +102,7 @@ once-more f found option content kind once may =
       apart = subst (IsDistinct same) (sym keys) (IsDistinct-push laws (keys_of found) option once.apart (not_there found option ∙ parts.1));
       here = λ q is. elim (among_more q option (keys_of found) (ap (list_any (same q)) (sym keys) ∙ is)) [
         | inl before ↦ once.here q before
-        | inr it ↦ list_any_congr laws q option (keys_of (rows_of f)) it ∙ in_form f option kind parts.0
+        | inr it ↦ list_any_congr laws q option (rows_of f) it ∙ in_form f option kind parts.0
       ];
     }
 

@@ -11,7 +11,7 @@ use Rattle.cics_script.specs.declared.words.Kind.{Kind}
 use Rattle.cics_script.specs.declared.words.Kind.TheVariants.{Flag, Text, Name8, Name4, Number, Area, Last}
 use Rattle.cics_script.specs.Faults.{◌>>=◌}
 use Rattle.cics_script.specs.Tokens.{Token, word, number, literal, opening, closing, broken}
-use Rattle.cics_script.specs.Words.{lookup, option_words, commands, queue_words, same, excludes, kind_in}
+use Rattle.cics_script.specs.Words.{lookup, option_word, option_words, commands, queue_words, same, excludes, kind_in}
 use Rattle.cics_script.specs.Options.{Content, Entry, Place, name8, name4, text, amount, content_in, nothing, at_option, at_value, at_closing, behind_option, moves, reads, named, entered, allowed, options}
 use Rattle.cics_script.specs.Values.{content_at, has, amount_at, text_at, name4_at, name8_at}
 use Rattle.cics_script.specs.Commands.{verb_in, is_handled}
@@ -26,7 +26,7 @@ use Rattle.cics_script.specs.declared.lines.Line.{Line}
 use Rattle.cics_script.specs.declared.faults.LineFault.{LineFault}
 use Rattle.std.proofs.lemmas.Bool.{cases_Bool}
 use Rattle.cics_script.specs.declared.words.CommandWord.TheVariants as command
-use Rattle.cics_script.specs.Spelling.{Written, option_word, command_word, value_tokens, option_tokens, is_bare, IsValue, MayPrecede, IsWritten, AreOptions, AreApart, Stands, Gives, flag, options_of, word_of, AllGiven, queue_tokens, verb_tokens, Spells}
+use Rattle.cics_script.specs.Spelling.{Written, command_word, value_tokens, option_tokens, is_bare, IsValue, MayPrecede, IsWritten, AreOptions, AreApart, Stands, Gives, flag, options_of, word_of, AllGiven, queue_tokens, verb_tokens, Spells}
 use Rattle.cics_script.proofs.OptionSteps.{reads-opening, reads-further}
 use lib.Chars.{codes}
 

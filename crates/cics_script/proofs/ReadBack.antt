@@ -19,7 +19,8 @@ use Rattle.cics_script.specs.Texts.{doubled, shown, text_of, name_text, unfilled
 use Rattle.cics_script.specs.Lines.{is_script_byte, label_in, statement, line}
 use Rattle.cics_script.specs.Layout.{quoted, hexadecimal, hexadecimal_digit, token_bytes, is_word, IsWritable}
 use Rattle.cics_script.specs.WrittenOut.{in_parentheses, value_text, option_text, queue_text, command_text, asked_of, written_with, written_out}
-use Rattle.cics_script.specs.Spelling.{option_word, command_word, value_tokens, option_tokens, queue_tokens, command_tokens, options_of, CanBeGiven, AllCanBeGiven, go_together}
+use Rattle.cics_script.specs.Words.{option_word}
+use Rattle.cics_script.specs.Spelling.{command_word, value_tokens, option_tokens, queue_tokens, command_tokens, options_of, CanBeGiven, AllCanBeGiven, go_together}
 use Rattle.cics_script.specs.Layout.{ends}
 use Rattle.cics_script.proofs.Layouts.{both_true, tokens-written, tokens-opening, tokens-blank, script-written, no_comment-word}
 use Rattle.cics_script.proofs.NamesBack.{character, is_coded, name-coded}

@@ -1,12 +1,12 @@
 -- Tables are read as functions of the index.
 use Rattle.std.proofs.Common.{◌≡◌, ◌<◌, ℕ, zero, suc, ◌+◌, ◌==◌, ◌&&◌, Bool, true, false, List, [], ◌∷◌, length, get_or, refl, ap, ◌∙◌, arith, zero-add}
+use Rattle.std.specs.Prelude.{not}
 use Rattle.std.proofs.lemmas.Bool.{and_parts}
 use Rattle.cics_names.specs.Ebcdic.{code_of, character_of}
-use Rattle.cics_script.specs.Tokens.{is_word_byte, capital}
+use Rattle.cics_script.specs.Tokens.{is_word_byte}
 use Rattle.cics_script.specs.Literals.{is_plain, ebcdic}
 use Rattle.cics_script.specs.Texts.{plain}
 use Rattle.cics_script.specs.declared.tokens.TheConstants.{IN_WORD}
-use Rattle.cics_script.specs.declared.words.TheConstants.{CAPITALS}
 use Rattle.cics_script.specs.declared.literals.TheConstants.{PLAIN, EBCDIC}
 use Rattle.cics_script.specs.declared.texts.TheConstants.{CHARACTERS}
 
@@ -46,13 +46,13 @@ alike-eq true false e = cc
 alike-eq false true e = cc
 alike-eq false false e = refl
 
-pub read-IN_WORD : (n : ℕ) → n < 256 → get_or IN_WORD n false ≡ is_word_byte n
+pub read-IN_WORD : (n : ℕ) → n < 256 → not (get_or IN_WORD n 0 == 0) ≡ is_word_byte n
 unfolding tells
-read-IN_WORD n within = table_read (λ b. b) alike alike-eq is_word_byte IN_WORD false refl n within
+read-IN_WORD n within = table_read (λ n. not (n == 0)) alike alike-eq is_word_byte IN_WORD 0 refl n within
 
-pub read-PLAIN : (n : ℕ) → n < 256 → get_or PLAIN n false ≡ is_plain n
+pub read-PLAIN : (n : ℕ) → n < 256 → not (get_or PLAIN n 0 == 0) ≡ is_plain n
 unfolding tells code_of
-read-PLAIN n within = table_read (λ b. b) alike alike-eq is_plain PLAIN false refl n within
+read-PLAIN n within = table_read (λ n. not (n == 0)) alike alike-eq is_plain PLAIN 0 refl n within
 
 -- tables of numbers
 eqb-eq : (a b : ℕ) → (a == b) ≡ true → a ≡ b
@@ -61,10 +61,6 @@ eqb-eq a b e = grind (arith, e)
 pub read-EBCDIC : (n : ℕ) → n < 256 → get_or EBCDIC n 0 ≡ ebcdic n
 unfolding tells code_of
 read-EBCDIC n within = table_read (λ b. b) (λ a b. a == b) eqb-eq ebcdic EBCDIC 0 refl n within
-
-pub read-CAPITALS : (n : ℕ) → n < 256 → get_or CAPITALS n 0 ≡ capital n
-unfolding tells
-read-CAPITALS n within = table_read (λ b. b) (λ a b. a == b) eqb-eq capital CAPITALS 0 refl n within
 
 pub read-CHARACTERS : (n : ℕ) → n < 256 → get_or CHARACTERS n 0 ≡ plain n
 unfolding tells character_of

@@ -15,11 +15,11 @@ use Rattle.cics_script.specs.declared.words.OptionWord.TheVariants.{File, TsPref
 use Rattle.cics_script.specs.declared.words.OptionWord.TheVariants.{Gteq, Update, NumRec, Queue, Item, Next, Rewrite, Main, Auxiliary, Resource, NoSuspend, Rollback, AbCode, Cancel, NoDump, Resp, Resp2, NoHandle, EndExec}
 use Rattle.cics_script.specs.Faults.{◌>>=◌}
 use Rattle.cics_script.specs.Tokens.{Token, word, tokens, after_blanks}
-use Rattle.cics_script.specs.Words.{lookup, starts}
+use Rattle.cics_script.specs.Words.{option_word, lookup, starts}
 use Rattle.cics_script.specs.Options.{Entry}
 use Rattle.cics_script.specs.Lines.{is_script_byte, is_empty_or_comment, label_in, begun, issue, statement, line}
 use Rattle.cics_script.specs.Layout.{is_word, IsWritable, AreWritable, laid_out}
-use Rattle.cics_script.specs.Spelling.{Written, option_word, command_word, value_tokens, option_tokens, queue_tokens, verb_tokens, command_tokens, AreWritten, Spells}
+use Rattle.cics_script.specs.Spelling.{Written, command_word, value_tokens, option_tokens, queue_tokens, verb_tokens, command_tokens, AreWritten, Spells}
 use Rattle.cics_script.proofs.Layouts.{if-false, tokens-laid_out, script-laid_out, no_comment-word}
 use Rattle.cics_script.proofs.Orders.{command-written}
 use lib.Chars.{codes}

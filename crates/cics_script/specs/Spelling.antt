@@ -10,58 +10,17 @@ use Rattle.cics_script.specs.declared.words.CommandWord.TheVariants as command
 use Rattle.cics_script.specs.declared.words.Form.{Form}
 use Rattle.cics_script.specs.declared.words.Form.TheVariants as form
 use Rattle.cics_script.specs.declared.words.OptionWord.{OptionWord}
-use Rattle.cics_script.specs.declared.words.OptionWord.TheVariants.{File, TsPrefix, TdQueue, KeyLength, KeyOffset, RecordSize, Recoverable, Unrecoverable, Logical, Physical, Unrecovered, From, Transid, Dtimout, Ridfld, Length, Into, Generic, Equal}
-use Rattle.cics_script.specs.declared.words.OptionWord.TheVariants.{Gteq, Update, NumRec, Queue, Item, Next, Rewrite, Main, Auxiliary, Resource, NoSuspend, Rollback, AbCode, Cancel, NoDump, Resp, Resp2, NoHandle, EndExec}
+use Rattle.cics_script.specs.declared.words.OptionWord.TheVariants.{File, KeyLength, From, Ridfld, Length, Generic, Equal}
+use Rattle.cics_script.specs.declared.words.OptionWord.TheVariants.{Gteq, Update, NumRec, Queue, Item, Rewrite, Resource, NoSuspend, Rollback, AbCode}
 use Rattle.cics_script.specs.declared.words.Kind.{Kind}
 use Rattle.cics_script.specs.declared.words.Kind.TheVariants.{Flag, Last}
 use Rattle.cics_script.specs.Tokens.{Token, word, opening, closing}
-use Rattle.cics_script.specs.Words.{same, excludes, kind_in}
+use Rattle.cics_script.specs.Words.{same, excludes, kind_in, option_word}
 use Rattle.cics_script.specs.Options.{Content, text, name8, name4, amount, nothing, content_in, Entry}
 use Rattle.cics_script.specs.Values.{has}
 use Rattle.cics_script.specs.Commands.{is_handled}
 use Rattle.cics_script.specs.Layout.{IsWritable}
 use lib.Chars.{codes}
-
--- the word of an option
-abbrev pub option_word : OptionWord → List ℕ
-option_word File = codes "FILE"
-option_word TsPrefix = codes "TSPREFIX"
-option_word TdQueue = codes "TDQUEUE"
-option_word KeyLength = codes "KEYLENGTH"
-option_word KeyOffset = codes "KEYOFFSET"
-option_word RecordSize = codes "RECORDSIZE"
-option_word Recoverable = codes "RECOVERABLE"
-option_word Unrecoverable = codes "UNRECOVERABLE"
-option_word Logical = codes "LOGICAL"
-option_word Physical = codes "PHYSICAL"
-option_word Unrecovered = codes "NONE"
-option_word From = codes "FROM"
-option_word Transid = codes "TRANSID"
-option_word Dtimout = codes "DTIMOUT"
-option_word Ridfld = codes "RIDFLD"
-option_word Length = codes "LENGTH"
-option_word Into = codes "INTO"
-option_word Generic = codes "GENERIC"
-option_word Equal = codes "EQUAL"
-option_word Gteq = codes "GTEQ"
-option_word Update = codes "UPDATE"
-option_word NumRec = codes "NUMREC"
-option_word Queue = codes "QUEUE"
-option_word Item = codes "ITEM"
-option_word Next = codes "NEXT"
-option_word Rewrite = codes "REWRITE"
-option_word Main = codes "MAIN"
-option_word Auxiliary = codes "AUXILIARY"
-option_word Resource = codes "RESOURCE"
-option_word NoSuspend = codes "NOSUSPEND"
-option_word Rollback = codes "ROLLBACK"
-option_word AbCode = codes "ABCODE"
-option_word Cancel = codes "CANCEL"
-option_word NoDump = codes "NODUMP"
-option_word Resp = codes "RESP"
-option_word Resp2 = codes "RESP2"
-option_word NoHandle = codes "NOHANDLE"
-option_word EndExec = codes "END-EXEC"
 
 -- the word of a command, behind which TS or TD stands where it acts on a queue
 abbrev pub command_word : CommandWord → List ℕ

@@ -1,5 +1,5 @@
 -- The words of the grammar: which word begins which line, and what each line and command takes.
-use Rattle.std.specs.Prelude.{ℕ, Bool, ◌==◌, ◌||◌, ◌&&◌, if◌then◌else◌, List, [], ◌∷◌, Option, Some, None}
+use Rattle.std.specs.Prelude.{ℕ, Bool, ◌==◌, ◌||◌, if◌then◌else◌, List, [], ◌∷◌, Option, Some, None}
 use Rattle.std.specs.List.{list_any}
 use Rattle.std.specs.Str.{bytes_eq}
 use Rattle.cics_script.specs.declared.words.Start.{Start}
@@ -43,11 +43,11 @@ load_objects = (codes "FILE", loaded.File) ∷ (codes "DATASET", loaded.File) �
 abbrev pub commands : List (List ℕ × CommandWord)
 commands =
     (codes "READ", command.Read) ∷ (codes "WRITE", command.Write) ∷ (codes "REWRITE", command.Rewrite)
-    ∷ (codes "DELETE", command.Delete) ∷ (codes "UNLOCK", command.Unlock) ∷ (codes "STARTBR", command.StartBr)
-    ∷ (codes "RESETBR", command.ResetBr) ∷ (codes "READNEXT", command.ReadNext) ∷ (codes "READPREV", command.ReadPrev)
-    ∷ (codes "ENDBR", command.EndBr) ∷ (codes "WRITEQ", command.WriteqTs) ∷ (codes "READQ", command.ReadqTs)
-    ∷ (codes "DELETEQ", command.DeleteqTs) ∷ (codes "ENQ", command.Enq) ∷ (codes "DEQ", command.Deq)
-    ∷ (codes "SYNCPOINT", command.Syncpoint) ∷ (codes "RETURN", command.Return) ∷ (codes "ABEND", command.Abend) ∷ []
+    ∷ (codes "DELETE", command.Delete) ∷ (codes "RETURN", command.Return) ∷ (codes "UNLOCK", command.Unlock)
+    ∷ (codes "STARTBR", command.StartBr) ∷ (codes "RESETBR", command.ResetBr) ∷ (codes "READNEXT", command.ReadNext)
+    ∷ (codes "READPREV", command.ReadPrev) ∷ (codes "ENDBR", command.EndBr) ∷ (codes "WRITEQ", command.WriteqTs)
+    ∷ (codes "READQ", command.ReadqTs) ∷ (codes "DELETEQ", command.DeleteqTs) ∷ (codes "ENQ", command.Enq)
+    ∷ (codes "DEQ", command.Deq) ∷ (codes "SYNCPOINT", command.Syncpoint) ∷ (codes "ABEND", command.Abend) ∷ []
 
 -- what a verb is with one of the words that may stand right behind it: TS or TD behind one that acts on a queue
 abbrev pub queue_words : CommandWord → List (List ℕ × CommandWord)
@@ -59,12 +59,11 @@ queue_words verb = []
 -- the words that are options of some line
 abbrev pub option_words : List (List ℕ × OptionWord)
 option_words =
-    (codes "FILE", File) ∷ (codes "DATASET", File) ∷ (codes "TSPREFIX", TsPrefix)
-    ∷ (codes "TDQUEUE", TdQueue) ∷ (codes "KEYLENGTH", KeyLength) ∷ (codes "KEYOFFSET", KeyOffset)
+    (codes "FILE", File) ∷ (codes "DATASET", File) ∷ (codes "TRANSID", Transid)
+    ∷ (codes "DTIMOUT", Dtimout) ∷ (codes "TSPREFIX", TsPrefix) ∷ (codes "TDQUEUE", TdQueue) ∷ (codes "KEYLENGTH", KeyLength) ∷ (codes "KEYOFFSET", KeyOffset)
     ∷ (codes "RECORDSIZE", RecordSize) ∷ (codes "RECOVERABLE", Recoverable) ∷ (codes "UNRECOVERABLE", Unrecoverable)
     ∷ (codes "LOGICAL", Logical) ∷ (codes "PHYSICAL", Physical) ∷ (codes "NONE", Unrecovered)
-    ∷ (codes "FROM", From) ∷ (codes "TRANSID", Transid) ∷ (codes "DTIMOUT", Dtimout)
-    ∷ (codes "RIDFLD", Ridfld) ∷ (codes "LENGTH", Length) ∷ (codes "INTO", Into)
+    ∷ (codes "FROM", From) ∷ (codes "RIDFLD", Ridfld) ∷ (codes "LENGTH", Length) ∷ (codes "INTO", Into)
     ∷ (codes "GENERIC", Generic) ∷ (codes "EQUAL", Equal) ∷ (codes "GTEQ", Gteq)
     ∷ (codes "UPDATE", Update) ∷ (codes "NUMREC", NumRec) ∷ (codes "QUEUE", Queue)
     ∷ (codes "ITEM", Item) ∷ (codes "NEXT", Next) ∷ (codes "REWRITE", Rewrite)
@@ -118,91 +117,116 @@ place EndExec = 37
 abbrev pub same : OptionWord → OptionWord → Bool
 same first second = place first == place second
 
--- what an option takes, by these rows
-abbrev pub kind_among : OptionWord → List (OptionWord × Kind) → Option Kind
-kind_among option [] = None
-kind_among option (row ∷ rows) = if same row.0 option then Some row.1 else kind_among option rows
+-- the word of an option, by these rows: the first
+abbrev pub word_among : OptionWord → List (List ℕ × OptionWord) → List ℕ
+word_among option [] = []
+word_among option (row ∷ rows) = if same row.1 option then row.0 else word_among option rows
 
--- what DEFINE takes, by what it defines
-abbrev pub options_of_define : DefineObject → List (OptionWord × Kind)
-options_of_define defined.File =
-    (File, Name8) ∷ (KeyLength, Number) ∷ (KeyOffset, Number) ∷ (RecordSize, Number) ∷ (Recoverable, Flag) ∷ (Unrecoverable, Flag) ∷ []
-options_of_define defined.TsPrefix = (TsPrefix, Name8) ∷ []
-options_of_define defined.TdQueue = (TdQueue, Name4) ∷ (Logical, Flag) ∷ (Physical, Flag) ∷ (Unrecovered, Flag) ∷ []
+-- the word of an option: of FILE and DATASET the first
+abbrev pub option_word : OptionWord → List ℕ
+option_word option = word_among option option_words
 
--- what LOAD takes, by what it loads
-abbrev pub options_of_load : LoadObject → List (OptionWord × Kind)
-options_of_load loaded.File = (File, Name8) ∷ (From, Text) ∷ []
-options_of_load loaded.TdQueue = (TdQueue, Name4) ∷ (From, Text) ∷ []
-
--- what ATTACH takes
-abbrev pub options_of_attach : List (OptionWord × Kind)
-options_of_attach = (Transid, Name4) ∷ (Dtimout, Number) ∷ []
-
--- what the commands take that give a browse its place: STARTBR and RESETBR
-abbrev pub options_of_browse_start : List (OptionWord × Kind)
-options_of_browse_start = (File, Name8) ∷ (Ridfld, Text) ∷ (KeyLength, Number) ∷ (Generic, Flag) ∷ (Equal, Flag) ∷ (Gteq, Flag) ∷ []
-
--- what the commands take that go on with a browse: READNEXT and READPREV, of which RIDFLD is read without effect
-abbrev pub options_of_browse_read : List (OptionWord × Kind)
-options_of_browse_read = (File, Name8) ∷ (Into, Area) ∷ (Ridfld, Area) ∷ (Length, Number) ∷ []
-
--- what a command takes besides the options of every command
-abbrev pub options_of_command : CommandWord → List (OptionWord × Kind)
-options_of_command command.Read =
-    (File, Name8) ∷ (Ridfld, Text) ∷ (KeyLength, Number) ∷ (Length, Number) ∷ (Into, Area)
-    ∷ (Generic, Flag) ∷ (Equal, Flag) ∷ (Gteq, Flag) ∷ (Update, Flag) ∷ []
-options_of_command command.Write = (File, Name8) ∷ (Ridfld, Text) ∷ (From, Text) ∷ (Length, Number) ∷ (KeyLength, Number) ∷ []
-options_of_command command.Rewrite = (File, Name8) ∷ (From, Text) ∷ (Length, Number) ∷ []
-options_of_command command.Delete = (File, Name8) ∷ (Ridfld, Text) ∷ (KeyLength, Number) ∷ (Generic, Flag) ∷ (NumRec, Area) ∷ []
-options_of_command command.Unlock = (File, Name8) ∷ []
-options_of_command command.StartBr = options_of_browse_start
-options_of_command command.ResetBr = options_of_browse_start
-options_of_command command.ReadNext = options_of_browse_read
-options_of_command command.ReadPrev = options_of_browse_read
-options_of_command command.EndBr = (File, Name8) ∷ []
-options_of_command command.WriteqTs =
-    (Queue, Name8) ∷ (From, Text) ∷ (Length, Number) ∷ (Item, Area) ∷ (Rewrite, Flag)
-    ∷ (Main, Flag) ∷ (Auxiliary, Flag) ∷ (NoSuspend, Flag) ∷ []
-options_of_command command.ReadqTs = (Queue, Name8) ∷ (Into, Area) ∷ (Length, Number) ∷ (Item, Number) ∷ (Next, Flag) ∷ []
-options_of_command command.DeleteqTs = (Queue, Name8) ∷ []
-options_of_command command.WriteqTd = (Queue, Name4) ∷ (From, Text) ∷ (Length, Number) ∷ []
-options_of_command command.ReadqTd = (Queue, Name4) ∷ (Into, Area) ∷ (Length, Number) ∷ (NoSuspend, Flag) ∷ []
-options_of_command command.DeleteqTd = (Queue, Name4) ∷ []
-options_of_command command.Enq = (Resource, Text) ∷ (Length, Number) ∷ (NoSuspend, Flag) ∷ []
-options_of_command command.Deq = (Resource, Text) ∷ (Length, Number) ∷ []
-options_of_command command.Syncpoint = (Rollback, Flag) ∷ []
+-- what a command has besides the options of every command
+abbrev pub options_of_command : CommandWord → List OptionWord
+options_of_command command.Read = File ∷ Ridfld ∷ KeyLength ∷ Length ∷ Into ∷ Generic ∷ Equal ∷ Gteq ∷ Update ∷ []
+options_of_command command.Write = File ∷ Ridfld ∷ From ∷ Length ∷ KeyLength ∷ []
+options_of_command command.Rewrite = File ∷ From ∷ Length ∷ []
+options_of_command command.Delete = File ∷ Ridfld ∷ KeyLength ∷ Generic ∷ NumRec ∷ []
+options_of_command command.Unlock = File ∷ []
+options_of_command command.StartBr = File ∷ Ridfld ∷ KeyLength ∷ Generic ∷ Equal ∷ Gteq ∷ []
+options_of_command command.ResetBr = File ∷ Ridfld ∷ KeyLength ∷ Generic ∷ Equal ∷ Gteq ∷ []
+options_of_command command.ReadNext = File ∷ Into ∷ Ridfld ∷ Length ∷ []
+options_of_command command.ReadPrev = File ∷ Into ∷ Ridfld ∷ Length ∷ []
+options_of_command command.EndBr = File ∷ []
+options_of_command command.WriteqTs = Queue ∷ From ∷ Length ∷ Item ∷ Rewrite ∷ Main ∷ Auxiliary ∷ NoSuspend ∷ []
+options_of_command command.ReadqTs = Queue ∷ Into ∷ Length ∷ Item ∷ Next ∷ []
+options_of_command command.DeleteqTs = Queue ∷ []
+options_of_command command.WriteqTd = Queue ∷ From ∷ Length ∷ []
+options_of_command command.ReadqTd = Queue ∷ Into ∷ Length ∷ NoSuspend ∷ []
+options_of_command command.DeleteqTd = Queue ∷ []
+options_of_command command.Enq = Resource ∷ Length ∷ NoSuspend ∷ []
+options_of_command command.Deq = Resource ∷ Length ∷ []
+options_of_command command.Syncpoint = Rollback ∷ []
 options_of_command command.Return = []
-options_of_command command.Abend = (AbCode, Name4) ∷ (Cancel, Flag) ∷ (NoDump, Flag) ∷ []
+options_of_command command.Abend = AbCode ∷ Cancel ∷ NoDump ∷ []
 
--- what every command takes
-abbrev pub options_of_every_command : List (OptionWord × Kind)
-options_of_every_command = (Resp, Area) ∷ (Resp2, Area) ∷ (NoHandle, Flag) ∷ (EndExec, Last) ∷ []
+-- the options of a line, without those of every command
+abbrev pub own_options : Form → List OptionWord
+own_options (form.Define defined.File) = File ∷ KeyLength ∷ KeyOffset ∷ RecordSize ∷ Recoverable ∷ Unrecoverable ∷ []
+own_options (form.Define defined.TsPrefix) = TsPrefix ∷ []
+own_options (form.Define defined.TdQueue) = TdQueue ∷ Logical ∷ Physical ∷ Unrecovered ∷ []
+own_options (form.Load loaded.File) = File ∷ From ∷ []
+own_options (form.Load loaded.TdQueue) = TdQueue ∷ From ∷ []
+own_options form.Attach = Transid ∷ Dtimout ∷ []
+own_options form.Clock = []
+own_options form.Shutdown = []
+own_options (form.Command verb) = options_of_command verb
 
--- the first kind, or else the second
-abbrev pub or_else : Option Kind → Option Kind → Option Kind
-or_else (Some kind) other = Some kind
-or_else None other = other
+-- the options of every command
+abbrev pub shared_options : Form → List OptionWord
+shared_options (form.Command verb) = Resp ∷ Resp2 ∷ NoHandle ∷ EndExec ∷ []
+shared_options line = []
+
+-- what an option takes in most lines that have it
+abbrev pub usual_kind : OptionWord → Kind
+usual_kind File = Name8
+usual_kind TsPrefix = Name8
+usual_kind Queue = Name8
+usual_kind TdQueue = Name4
+usual_kind Transid = Name4
+usual_kind AbCode = Name4
+usual_kind KeyLength = Number
+usual_kind KeyOffset = Number
+usual_kind RecordSize = Number
+usual_kind Dtimout = Number
+usual_kind Length = Number
+usual_kind Item = Number
+usual_kind From = Text
+usual_kind Ridfld = Text
+usual_kind Resource = Text
+usual_kind Into = Area
+usual_kind NumRec = Area
+usual_kind Resp = Area
+usual_kind Resp2 = Area
+usual_kind EndExec = Last
+usual_kind option = Flag
+
+-- what an option takes where one of them takes something else
+abbrev pub kind_but : OptionWord → Kind → OptionWord → Kind
+kind_but other kind option = if same option other then kind else usual_kind option
+
+-- what an option takes in a line that has it: RIDFLD of READNEXT and READPREV, and ITEM of WRITEQ TS, are read without effect
+abbrev pub kind_at : Form → OptionWord → Kind
+kind_at (form.Command command.ReadNext) option = kind_but Ridfld Area option
+kind_at (form.Command command.ReadPrev) option = kind_but Ridfld Area option
+kind_at (form.Command command.WriteqTs) option = kind_but Item Area option
+kind_at (form.Command command.WriteqTd) option = kind_but Queue Name4 option
+kind_at (form.Command command.ReadqTd) option = kind_but Queue Name4 option
+kind_at (form.Command command.DeleteqTd) option = kind_but Queue Name4 option
+kind_at line option = usual_kind option
 
 -- what an option of a line takes, or nothing where the line has no such option
 abbrev pub kind_in : Form → OptionWord → Option Kind
-kind_in (form.Define object) option = kind_among option (options_of_define object)
-kind_in (form.Load object) option = kind_among option (options_of_load object)
-kind_in form.Attach option = kind_among option options_of_attach
-kind_in form.Clock option = None
-kind_in form.Shutdown option = None
-kind_in (form.Command verb) option = or_else (kind_among option (options_of_command verb)) (kind_among option options_of_every_command)
+kind_in line option =
+    if list_any (same option) (own_options line) || list_any (same option) (shared_options line) then Some (kind_at line option) else None
 
--- the pairs of options that one line can't have both
-abbrev pub exclusions : List (OptionWord × OptionWord)
-exclusions =
-    (Recoverable, Unrecoverable) ∷ (Logical, Physical) ∷ (Logical, Unrecovered) ∷ (Physical, Unrecovered)
-    ∷ (Equal, Gteq) ∷ (Update, Gteq) ∷ (Update, Generic) ∷ (Item, Next) ∷ (Main, Auxiliary) ∷ []
-
--- whether a pair, in either order, is in these rows
-abbrev pub is_pair_in : OptionWord → OptionWord → List (OptionWord × OptionWord) → Bool
-is_pair_in first second rows = list_any (λ row. (same row.0 first && same row.1 second) || (same row.0 second && same row.1 first)) rows
+-- the options that one line can't have beside this one
+abbrev pub excluded_by : OptionWord → List OptionWord
+excluded_by Recoverable = Unrecoverable ∷ []
+excluded_by Unrecoverable = Recoverable ∷ []
+excluded_by Logical = Physical ∷ Unrecovered ∷ []
+excluded_by Physical = Logical ∷ Unrecovered ∷ []
+excluded_by Unrecovered = Logical ∷ Physical ∷ []
+excluded_by Equal = Gteq ∷ []
+excluded_by Gteq = Equal ∷ Update ∷ []
+excluded_by Update = Gteq ∷ Generic ∷ []
+excluded_by Generic = Update ∷ []
+excluded_by Item = Next ∷ []
+excluded_by Next = Item ∷ []
+excluded_by Main = Auxiliary ∷ []
+excluded_by Auxiliary = Main ∷ []
+excluded_by option = []
 
 -- whether two options exclude each other
 abbrev pub excludes : OptionWord → OptionWord → Bool
-excludes first second = is_pair_in first second exclusions
+excludes first second = list_any (same first) (excluded_by second)

@@ -8,7 +8,8 @@ use Rattle.cics_script.specs.declared.words.CommandWord.TheVariants as command
 use Rattle.cics_script.specs.declared.words.OptionWord.{OptionWord}
 use Rattle.cics_script.specs.declared.words.OptionWord.TheVariants.{NoHandle}
 use Rattle.cics_script.specs.Options.{Content, text, name8, name4, amount, nothing}
-use Rattle.cics_script.specs.Spelling.{option_word, command_word, flag, options_of, word_of}
+use Rattle.cics_script.specs.Words.{option_word}
+use Rattle.cics_script.specs.Spelling.{command_word, flag, options_of, word_of}
 use Rattle.cics_script.specs.Texts.{text_of, name_text}
 use lib.Chars.{codes}
 

@@ -3,12 +3,15 @@
 ghost use Rattle.std.specs.Prelude.{◌≡◌, ◌||◌, Ok};
 ghost use Rattle.cics_script.specs.Faults.{Reads};
 ghost use Rattle.cics_script.specs.Views.{entries};
+ghost use Rattle.cics_script.specs.Values.{name8_at, needed};
 ghost use Rattle.cics_script.specs.Commands.{keyed_in, enqueued_in, needs_key, delete_of};
 ghost use Rattle.cics_script.specs.Commands.{replaced_in, verb_in, is_handled};
 
 use crate::faults::LineFault;
 use crate::options::{Found, has_option};
-use crate::values::{name4_of, name8_of, needed_number_of, number_of, optional_text_of, text_of};
+use crate::values::{
+    name4_of, name8_of, needed, needed_number_of, number_of, optional_text_of, text_of,
+};
 use crate::words::{CommandWord, OptionWord};
 use cics_names::{Name8, Record, Verb};
 use std::alloc::Global;
@@ -20,83 +23,67 @@ pub fn is_handled(found: &[Found<'_>]) -> bool
     has_option(found, OptionWord::Resp) || has_option(found, OptionWord::NoHandle)
 }
 
+// The file of a command.
+fn file_of(found: &[Found<'_>]) -> Result<Name8, LineFault>
+    ensures { result ≡ needed (name8_at OptionWord.File (entries found.now)) Ok }
+{
+    needed(name8_of(found, OptionWord::File))
+}
+
 // The file of a command, and the key that it names.
 fn keyed(alloc: Global, found: &[Found<'_>]) -> Result<(Name8, Record), LineFault>
     ensures { Reads (keyed_in (entries found.now)) result }
 {
-    let Some(file) = name8_of(found, OptionWord::File) else {
-        return Err(LineFault::MissingOption);
-    };
-    match text_of(alloc, found, OptionWord::Ridfld) {
-        Ok(ridfld) => Ok((file, ridfld)),
-        Err(fault) => Err(fault),
-    }
+    let file = file_of(found)?;
+    let ridfld = text_of(alloc, found, OptionWord::Ridfld)?;
+    Ok((file, ridfld))
 }
 
 // The value that a command enqueues on or gives back, and how many of its bytes count.
 fn enqueued(alloc: Global, found: &[Found<'_>]) -> Result<(Record, u64), LineFault>
     ensures { Reads (enqueued_in (entries found.now)) result }
 {
-    let resource = match text_of(alloc, found, OptionWord::Resource) {
-        Ok(resource) => resource,
-        Err(fault) => return Err(fault),
-    };
-    match number_of(found, OptionWord::Length) {
-        Some(length) => Ok((resource, length)),
-        None => Err(LineFault::MissingOption),
-    }
+    let resource = text_of(alloc, found, OptionWord::Resource)?;
+    let length = needed(number_of(found, OptionWord::Length))?;
+    Ok((resource, length))
 }
 
 fn read_verb(alloc: Global, found: &[Found<'_>]) -> Result<Verb, LineFault>
     ensures { Reads (verb_in CommandWord.Read (entries found.now)) result }
 {
-    match keyed(alloc, found) {
-        Ok((file, ridfld)) => Ok(Verb::Read {
-            file,
-            ridfld,
-            key_length: number_of(found, OptionWord::KeyLength),
-            length: number_of(found, OptionWord::Length),
-            generic: has_option(found, OptionWord::Generic),
-            gteq: has_option(found, OptionWord::Gteq),
-            update: has_option(found, OptionWord::Update),
-        }),
-        Err(fault) => Err(fault),
-    }
+    let (file, ridfld) = keyed(alloc, found)?;
+    Ok(Verb::Read {
+        file,
+        ridfld,
+        key_length: number_of(found, OptionWord::KeyLength),
+        length: number_of(found, OptionWord::Length),
+        generic: has_option(found, OptionWord::Generic),
+        gteq: has_option(found, OptionWord::Gteq),
+        update: has_option(found, OptionWord::Update),
+    })
 }
 
 fn write_verb(alloc: Global, found: &[Found<'_>]) -> Result<Verb, LineFault>
     ensures { Reads (verb_in CommandWord.Write (entries found.now)) result }
 {
-    let (file, ridfld) = match keyed(alloc, found) {
-        Ok(keyed) => keyed,
-        Err(fault) => return Err(fault),
-    };
-    match text_of(alloc, found, OptionWord::From) {
-        Ok(from) => Ok(Verb::Write {
-            file,
-            ridfld,
-            key_length: number_of(found, OptionWord::KeyLength),
-            from,
-            length: number_of(found, OptionWord::Length),
-        }),
-        Err(fault) => Err(fault),
-    }
+    let (file, ridfld) = keyed(alloc, found)?;
+    Ok(Verb::Write {
+        file,
+        ridfld,
+        key_length: number_of(found, OptionWord::KeyLength),
+        from: text_of(alloc, found, OptionWord::From)?,
+        length: number_of(found, OptionWord::Length),
+    })
 }
 
 fn rewrite_verb(alloc: Global, found: &[Found<'_>]) -> Result<Verb, LineFault>
     ensures { Reads (verb_in CommandWord.Rewrite (entries found.now)) result }
 {
-    let Some(file) = name8_of(found, OptionWord::File) else {
-        return Err(LineFault::MissingOption);
-    };
-    match text_of(alloc, found, OptionWord::From) {
-        Ok(from) => Ok(Verb::Rewrite {
-            file,
-            from,
-            length: number_of(found, OptionWord::Length),
-        }),
-        Err(fault) => Err(fault),
-    }
+    Ok(Verb::Rewrite {
+        file: file_of(found)?,
+        from: text_of(alloc, found, OptionWord::From)?,
+        length: number_of(found, OptionWord::Length),
+    })
 }
 
 // Whether DELETE has an option that needs a key.
@@ -135,85 +122,53 @@ fn delete_named(file: Name8, ridfld: Option<Record>, found: &[Found<'_>]) -> Res
 fn delete_verb(alloc: Global, found: &[Found<'_>]) -> Result<Verb, LineFault>
     ensures { Reads (verb_in CommandWord.Delete (entries found.now)) result }
 {
-    let Some(file) = name8_of(found, OptionWord::File) else {
-        return Err(LineFault::MissingOption);
-    };
-    match optional_text_of(alloc, found, OptionWord::Ridfld) {
-        Ok(ridfld) => delete_named(file, ridfld, found),
-        Err(fault) => Err(fault),
-    }
-}
-
-fn unlock_verb(found: &[Found<'_>]) -> Result<Verb, LineFault>
-    ensures { result ≡ verb_in CommandWord.Unlock (entries found.now) }
-{
-    match name8_of(found, OptionWord::File) {
-        Some(file) => Ok(Verb::Unlock { file }),
-        None => Err(LineFault::MissingOption),
-    }
+    let file = file_of(found)?;
+    let ridfld = optional_text_of(alloc, found, OptionWord::Ridfld)?;
+    delete_named(file, ridfld, found)
 }
 
 fn startbr_verb(alloc: Global, found: &[Found<'_>]) -> Result<Verb, LineFault>
     ensures { Reads (verb_in CommandWord.StartBr (entries found.now)) result }
 {
-    match keyed(alloc, found) {
-        Ok((file, ridfld)) => Ok(Verb::StartBr {
-            file,
-            ridfld,
-            key_length: number_of(found, OptionWord::KeyLength),
-            generic: has_option(found, OptionWord::Generic),
-            equal: has_option(found, OptionWord::Equal),
-        }),
-        Err(fault) => Err(fault),
-    }
+    let (file, ridfld) = keyed(alloc, found)?;
+    Ok(Verb::StartBr {
+        file,
+        ridfld,
+        key_length: number_of(found, OptionWord::KeyLength),
+        generic: has_option(found, OptionWord::Generic),
+        equal: has_option(found, OptionWord::Equal),
+    })
 }
 
 fn resetbr_verb(alloc: Global, found: &[Found<'_>]) -> Result<Verb, LineFault>
     ensures { Reads (verb_in CommandWord.ResetBr (entries found.now)) result }
 {
-    match keyed(alloc, found) {
-        Ok((file, ridfld)) => Ok(Verb::ResetBr {
-            file,
-            ridfld,
-            key_length: number_of(found, OptionWord::KeyLength),
-            generic: has_option(found, OptionWord::Generic),
-            equal: has_option(found, OptionWord::Equal),
-        }),
-        Err(fault) => Err(fault),
-    }
+    let (file, ridfld) = keyed(alloc, found)?;
+    Ok(Verb::ResetBr {
+        file,
+        ridfld,
+        key_length: number_of(found, OptionWord::KeyLength),
+        generic: has_option(found, OptionWord::Generic),
+        equal: has_option(found, OptionWord::Equal),
+    })
 }
 
 fn readnext_verb(found: &[Found<'_>]) -> Result<Verb, LineFault>
     ensures { result ≡ verb_in CommandWord.ReadNext (entries found.now) }
 {
-    match name8_of(found, OptionWord::File) {
-        Some(file) => Ok(Verb::ReadNext {
-            file,
-            length: number_of(found, OptionWord::Length),
-        }),
-        None => Err(LineFault::MissingOption),
-    }
+    Ok(Verb::ReadNext {
+        file: file_of(found)?,
+        length: number_of(found, OptionWord::Length),
+    })
 }
 
 fn readprev_verb(found: &[Found<'_>]) -> Result<Verb, LineFault>
     ensures { result ≡ verb_in CommandWord.ReadPrev (entries found.now) }
 {
-    match name8_of(found, OptionWord::File) {
-        Some(file) => Ok(Verb::ReadPrev {
-            file,
-            length: number_of(found, OptionWord::Length),
-        }),
-        None => Err(LineFault::MissingOption),
-    }
-}
-
-fn endbr_verb(found: &[Found<'_>]) -> Result<Verb, LineFault>
-    ensures { result ≡ verb_in CommandWord.EndBr (entries found.now) }
-{
-    match name8_of(found, OptionWord::File) {
-        Some(file) => Ok(Verb::EndBr { file }),
-        None => Err(LineFault::MissingOption),
-    }
+    Ok(Verb::ReadPrev {
+        file: file_of(found)?,
+        length: number_of(found, OptionWord::Length),
+    })
 }
 
 // The item that WRITEQ TS replaces.
@@ -223,113 +178,66 @@ fn replaced(found: &[Found<'_>]) -> Result<Option<u64>, LineFault>
     if !has_option(found, OptionWord::Rewrite) {
         return Ok(None);
     }
-    match needed_number_of(found, OptionWord::Item) {
-        Ok(item) => Ok(Some(item)),
-        Err(fault) => Err(fault),
-    }
+    Ok(Some(needed_number_of(found, OptionWord::Item)?))
 }
 
 fn writeq_ts_verb(alloc: Global, found: &[Found<'_>]) -> Result<Verb, LineFault>
     ensures { Reads (verb_in CommandWord.WriteqTs (entries found.now)) result }
 {
-    let Some(queue) = name8_of(found, OptionWord::Queue) else {
-        return Err(LineFault::MissingOption);
-    };
-    let from = match text_of(alloc, found, OptionWord::From) {
-        Ok(from) => from,
-        Err(fault) => return Err(fault),
-    };
-    match replaced(found) {
-        Ok(item) => Ok(Verb::WriteqTs {
-            queue,
-            from,
-            length: number_of(found, OptionWord::Length),
-            item,
-        }),
-        Err(fault) => Err(fault),
-    }
+    Ok(Verb::WriteqTs {
+        queue: needed(name8_of(found, OptionWord::Queue))?,
+        from: text_of(alloc, found, OptionWord::From)?,
+        length: number_of(found, OptionWord::Length),
+        item: replaced(found)?,
+    })
 }
 
 fn readq_ts_verb(found: &[Found<'_>]) -> Result<Verb, LineFault>
     ensures { result ≡ verb_in CommandWord.ReadqTs (entries found.now) }
 {
-    match name8_of(found, OptionWord::Queue) {
-        Some(queue) => Ok(Verb::ReadqTs {
-            queue,
-            length: number_of(found, OptionWord::Length),
-            item: number_of(found, OptionWord::Item),
-        }),
-        None => Err(LineFault::MissingOption),
-    }
-}
-
-fn deleteq_ts_verb(found: &[Found<'_>]) -> Result<Verb, LineFault>
-    ensures { result ≡ verb_in CommandWord.DeleteqTs (entries found.now) }
-{
-    match name8_of(found, OptionWord::Queue) {
-        Some(queue) => Ok(Verb::DeleteqTs { queue }),
-        None => Err(LineFault::MissingOption),
-    }
+    Ok(Verb::ReadqTs {
+        queue: needed(name8_of(found, OptionWord::Queue))?,
+        length: number_of(found, OptionWord::Length),
+        item: number_of(found, OptionWord::Item),
+    })
 }
 
 fn writeq_td_verb(alloc: Global, found: &[Found<'_>]) -> Result<Verb, LineFault>
     ensures { Reads (verb_in CommandWord.WriteqTd (entries found.now)) result }
 {
-    let Some(queue) = name4_of(found, OptionWord::Queue) else {
-        return Err(LineFault::MissingOption);
-    };
-    match text_of(alloc, found, OptionWord::From) {
-        Ok(from) => Ok(Verb::WriteqTd {
-            queue,
-            from,
-            length: number_of(found, OptionWord::Length),
-        }),
-        Err(fault) => Err(fault),
-    }
+    Ok(Verb::WriteqTd {
+        queue: needed(name4_of(found, OptionWord::Queue))?,
+        from: text_of(alloc, found, OptionWord::From)?,
+        length: number_of(found, OptionWord::Length),
+    })
 }
 
 fn readq_td_verb(found: &[Found<'_>]) -> Result<Verb, LineFault>
     ensures { result ≡ verb_in CommandWord.ReadqTd (entries found.now) }
 {
-    match name4_of(found, OptionWord::Queue) {
-        Some(queue) => Ok(Verb::ReadqTd {
-            queue,
-            length: number_of(found, OptionWord::Length),
-            nosuspend: has_option(found, OptionWord::NoSuspend),
-        }),
-        None => Err(LineFault::MissingOption),
-    }
-}
-
-fn deleteq_td_verb(found: &[Found<'_>]) -> Result<Verb, LineFault>
-    ensures { result ≡ verb_in CommandWord.DeleteqTd (entries found.now) }
-{
-    match name4_of(found, OptionWord::Queue) {
-        Some(queue) => Ok(Verb::DeleteqTd { queue }),
-        None => Err(LineFault::MissingOption),
-    }
+    Ok(Verb::ReadqTd {
+        queue: needed(name4_of(found, OptionWord::Queue))?,
+        length: number_of(found, OptionWord::Length),
+        nosuspend: has_option(found, OptionWord::NoSuspend),
+    })
 }
 
 fn enq_verb(alloc: Global, found: &[Found<'_>]) -> Result<Verb, LineFault>
     ensures { Reads (verb_in CommandWord.Enq (entries found.now)) result }
 {
-    match enqueued(alloc, found) {
-        Ok((resource, length)) => Ok(Verb::Enq {
-            resource,
-            length,
-            nosuspend: has_option(found, OptionWord::NoSuspend),
-        }),
-        Err(fault) => Err(fault),
-    }
+    let (resource, length) = enqueued(alloc, found)?;
+    Ok(Verb::Enq {
+        resource,
+        length,
+        nosuspend: has_option(found, OptionWord::NoSuspend),
+    })
 }
 
 fn deq_verb(alloc: Global, found: &[Found<'_>]) -> Result<Verb, LineFault>
     ensures { Reads (verb_in CommandWord.Deq (entries found.now)) result }
 {
-    match enqueued(alloc, found) {
-        Ok((resource, length)) => Ok(Verb::Deq { resource, length }),
-        Err(fault) => Err(fault),
-    }
+    let (resource, length) = enqueued(alloc, found)?;
+    Ok(Verb::Deq { resource, length })
 }
 
 fn syncpoint_verb(found: &[Found<'_>]) -> Verb
@@ -351,18 +259,26 @@ pub fn verb_of(alloc: Global, command: CommandWord, found: &[Found<'_>]) -> Resu
         CommandWord::Write => write_verb(alloc, found),
         CommandWord::Rewrite => rewrite_verb(alloc, found),
         CommandWord::Delete => delete_verb(alloc, found),
-        CommandWord::Unlock => unlock_verb(found),
+        CommandWord::Unlock => Ok(Verb::Unlock {
+            file: file_of(found)?,
+        }),
         CommandWord::StartBr => startbr_verb(alloc, found),
         CommandWord::ResetBr => resetbr_verb(alloc, found),
         CommandWord::ReadNext => readnext_verb(found),
         CommandWord::ReadPrev => readprev_verb(found),
-        CommandWord::EndBr => endbr_verb(found),
+        CommandWord::EndBr => Ok(Verb::EndBr {
+            file: file_of(found)?,
+        }),
         CommandWord::WriteqTs => writeq_ts_verb(alloc, found),
         CommandWord::ReadqTs => readq_ts_verb(found),
-        CommandWord::DeleteqTs => deleteq_ts_verb(found),
+        CommandWord::DeleteqTs => Ok(Verb::DeleteqTs {
+            queue: needed(name8_of(found, OptionWord::Queue))?,
+        }),
         CommandWord::WriteqTd => writeq_td_verb(alloc, found),
         CommandWord::ReadqTd => readq_td_verb(found),
-        CommandWord::DeleteqTd => deleteq_td_verb(found),
+        CommandWord::DeleteqTd => Ok(Verb::DeleteqTd {
+            queue: needed(name4_of(found, OptionWord::Queue))?,
+        }),
         CommandWord::Enq => enq_verb(alloc, found),
         CommandWord::Deq => deq_verb(alloc, found),
         CommandWord::Syncpoint => Ok(syncpoint_verb(found)),

@@ -38,18 +38,7 @@ impl LineFault {
     pub fn number(self) -> u64
         ensures { result ≡ number_of self }
     {
-        match self {
-            LineFault::TooLong => 1,
-            LineFault::NotAscii => 2,
-            LineFault::UnknownWord => 3,
-            LineFault::BadLiteral => 4,
-            LineFault::BadNumber => 5,
-            LineFault::MissingOption => 6,
-            LineFault::DoubledOption => 7,
-            LineFault::OptionNotHere => 8,
-            LineFault::DefineTooLate => 9,
-            LineFault::NoMemory => 10,
-        }
+        self as u64 + 1
     }
 
     /// The name that a journal prints behind the number.

@@ -22,7 +22,7 @@ use crate::options::{Found, Options, has_option, read_options};
 use crate::tokens::{
     Token, begins_with, behind_word, either_named, named, next_token, next_word, skip_blanks,
 };
-use crate::values::{name4_of, name8_of, number_of, text_of};
+use crate::values::{name4_of, name8_of, needed, number_of, text_of};
 use crate::words::{
     CommandWord, DefineObject, Form, LoadObject, OptionWord, Start, capital_of, command_named,
     define_object, is_of_queue, is_spelled, load_object, queue_command, start_of, td_command,
@@ -101,15 +101,9 @@ fn queue_recovery_of(found: &[Found<'_>]) -> Option<Recovery>
 fn file_definition(found: &[Found<'_>]) -> Result<Line, LineFault>
     ensures { result ≡ definition_in DefineObject.File (entries found.now) }
 {
-    let Some(name) = name8_of(found, OptionWord::File) else {
-        return Err(LineFault::MissingOption);
-    };
-    let Some(key_length) = number_of(found, OptionWord::KeyLength) else {
-        return Err(LineFault::MissingOption);
-    };
-    let Some(recoverable) = recovery_of(found) else {
-        return Err(LineFault::MissingOption);
-    };
+    let name = needed(name8_of(found, OptionWord::File))?;
+    let key_length = needed(number_of(found, OptionWord::KeyLength))?;
+    let recoverable = needed(recovery_of(found))?;
     let definition = FileDef {
         key_length,
         key_offset: number_of(found, OptionWord::KeyOffset).unwrap_or(0),
@@ -122,72 +116,40 @@ fn file_definition(found: &[Found<'_>]) -> Result<Line, LineFault>
 fn prefix_definition(found: &[Found<'_>]) -> Result<Line, LineFault>
     ensures { result ≡ definition_in DefineObject.TsPrefix (entries found.now) }
 {
-    match name8_of(found, OptionWord::TsPrefix) {
-        Some(prefix) => Ok(Line::DefineTsPrefix(prefix)),
-        None => Err(LineFault::MissingOption),
-    }
+    let prefix = needed(name8_of(found, OptionWord::TsPrefix))?;
+    Ok(Line::DefineTsPrefix(prefix))
 }
 
 fn queue_definition(found: &[Found<'_>]) -> Result<Line, LineFault>
     ensures { result ≡ definition_in DefineObject.TdQueue (entries found.now) }
 {
-    let Some(name) = name4_of(found, OptionWord::TdQueue) else {
-        return Err(LineFault::MissingOption);
-    };
-    match queue_recovery_of(found) {
-        Some(recovery) => Ok(Line::DefineTd(name, recovery)),
-        None => Err(LineFault::MissingOption),
-    }
+    let name = needed(name4_of(found, OptionWord::TdQueue))?;
+    let recovery = needed(queue_recovery_of(found))?;
+    Ok(Line::DefineTd(name, recovery))
 }
 
 fn file_load(alloc: Global, found: &[Found<'_>]) -> Result<Line, LineFault>
     ensures { Reads (load_in LoadObject.File (entries found.now)) result }
 {
-    let Some(name) = name8_of(found, OptionWord::File) else {
-        return Err(LineFault::MissingOption);
-    };
-    match text_of(alloc, found, OptionWord::From) {
-        Ok(record) => Ok(Line::LoadFile(name, record)),
-        Err(fault) => Err(fault),
-    }
+    let name = needed(name8_of(found, OptionWord::File))?;
+    Ok(Line::LoadFile(name, text_of(alloc, found, OptionWord::From)?))
 }
 
 fn queue_load(alloc: Global, found: &[Found<'_>]) -> Result<Line, LineFault>
     ensures { Reads (load_in LoadObject.TdQueue (entries found.now)) result }
 {
-    let Some(name) = name4_of(found, OptionWord::TdQueue) else {
-        return Err(LineFault::MissingOption);
-    };
-    match text_of(alloc, found, OptionWord::From) {
-        Ok(record) => Ok(Line::LoadTd(name, record)),
-        Err(fault) => Err(fault),
-    }
+    let name = needed(name4_of(found, OptionWord::TdQueue))?;
+    Ok(Line::LoadTd(name, text_of(alloc, found, OptionWord::From)?))
 }
 
 fn attach_line(label: Name8, found: &[Found<'_>]) -> Result<Line, LineFault>
     ensures { result ≡ attach_in label (entries found.now) }
 {
-    match name4_of(found, OptionWord::Transid) {
-        Some(transaction) => Ok(Line::Attach {
-            label,
-            transaction,
-            dtimout: number_of(found, OptionWord::Dtimout).unwrap_or(0),
-        }),
-        None => Err(LineFault::MissingOption),
-    }
-}
-
-// The word that is the next token, and the line behind it.
-#[cold]
-#[inline(never)]
-fn find_word(bytes: &[u8]) -> Result<(&[u8], &[u8]), LineFault>
-    ensures { GivesWord (word_first (tokens bytes.now)) result }
-{
-    match next_token(bytes) {
-        Ok(Some((Token::Word(word), rest))) => Ok((word, rest)),
-        Ok(_) => Err(LineFault::UnknownWord),
-        Err(fault) => Err(fault),
-    }
+    Ok(Line::Attach {
+        label,
+        transaction: needed(name4_of(found, OptionWord::Transid))?,
+        dtimout: number_of(found, OptionWord::Dtimout).unwrap_or(0),
+    })
 }
 
 // The word in front, and the line behind it.
@@ -198,22 +160,24 @@ fn first_word(bytes: &[u8]) -> Result<(&[u8], &[u8]), LineFault>
     if let Some(found) = next_word(bytes) {
         return Ok(found);
     }
-    find_word(bytes)
+    match next_token(bytes) {
+        Ok(Some((Token::Word(word), rest))) => Ok((word, rest)),
+        Ok(_) => Err(LineFault::UnknownWord),
+        Err(fault) => Err(fault),
+    }
 }
 
 // The line behind a word that has to stand in front.
+#[cold]
+#[inline(never)]
 fn skip_word<'a>(bytes: &'a [u8], wanted: &[u8]) -> Result<&'a [u8], LineFault>
     ensures { GivesRest (behind wanted.now (tokens bytes.entry.now)) result }
 {
-    match first_word(bytes) {
-        Ok((word, rest)) => {
-            if is_spelled(word, wanted) {
-                Ok(rest)
-            } else {
-                Err(LineFault::UnknownWord)
-            }
-        }
-        Err(fault) => Err(fault),
+    let (word, rest) = first_word(bytes)?;
+    if is_spelled(word, wanted) {
+        Ok(rest)
+    } else {
+        Err(LineFault::UnknownWord)
     }
 }
 
@@ -257,21 +221,16 @@ fn label_of(word: &[u8]) -> Result<Name8, LineFault>
 fn read_define(alloc: Global, bytes: &[u8]) -> Result<Line, LineFault>
     ensures { Reads (define (tokens bytes.now)) result }
 {
-    let word = match first_word(bytes) {
-        Ok((word, _)) => word,
-        Err(fault) => return Err(fault),
-    };
+    let (word, _) = first_word(bytes)?;
     let Some(object) = define_object(word) else {
         return Err(LineFault::UnknownWord);
     };
     let mut found = Options::new();
-    match read_options(alloc, Form::Define(object), bytes, &mut found) {
-        Ok(()) => match object {
-            DefineObject::File => file_definition(&found),
-            DefineObject::TsPrefix => prefix_definition(&found),
-            DefineObject::TdQueue => queue_definition(&found),
-        },
-        Err(fault) => Err(fault),
+    read_options(alloc, Form::Define(object), bytes, &mut found)?;
+    match object {
+        DefineObject::File => file_definition(&found),
+        DefineObject::TsPrefix => prefix_definition(&found),
+        DefineObject::TdQueue => queue_definition(&found),
     }
 }
 
@@ -279,20 +238,15 @@ fn read_define(alloc: Global, bytes: &[u8]) -> Result<Line, LineFault>
 fn read_load(alloc: Global, bytes: &[u8]) -> Result<Line, LineFault>
     ensures { Reads (load (tokens bytes.now)) result }
 {
-    let word = match first_word(bytes) {
-        Ok((word, _)) => word,
-        Err(fault) => return Err(fault),
-    };
+    let (word, _) = first_word(bytes)?;
     let Some(object) = load_object(word) else {
         return Err(LineFault::UnknownWord);
     };
     let mut found = Options::new();
-    match read_options(alloc, Form::Load(object), bytes, &mut found) {
-        Ok(()) => match object {
-            LoadObject::File => file_load(alloc, &found),
-            LoadObject::TdQueue => queue_load(alloc, &found),
-        },
-        Err(fault) => Err(fault),
+    read_options(alloc, Form::Load(object), bytes, &mut found)?;
+    match object {
+        LoadObject::File => file_load(alloc, &found),
+        LoadObject::TdQueue => queue_load(alloc, &found),
     }
 }
 
@@ -300,19 +254,11 @@ fn read_load(alloc: Global, bytes: &[u8]) -> Result<Line, LineFault>
 fn read_attach(alloc: Global, bytes: &[u8]) -> Result<Line, LineFault>
     ensures { Reads (attach (tokens bytes.now)) result }
 {
-    let (word, rest) = match first_word(bytes) {
-        Ok(first) => first,
-        Err(fault) => return Err(fault),
-    };
-    let label = match label_of(word) {
-        Ok(label) => label,
-        Err(fault) => return Err(fault),
-    };
+    let (word, rest) = first_word(bytes)?;
+    let label = label_of(word)?;
     let mut found = Options::new();
-    match read_options(alloc, Form::Attach, rest, &mut found) {
-        Ok(()) => attach_line(label, &found),
-        Err(fault) => Err(fault),
-    }
+    read_options(alloc, Form::Attach, rest, &mut found)?;
+    attach_line(label, &found)
 }
 
 // The number in front, and the line behind it.
@@ -330,15 +276,10 @@ fn first_number(bytes: &[u8]) -> Result<(u64, &[u8]), LineFault>
 fn read_clock(alloc: Global, bytes: &[u8]) -> Result<Line, LineFault>
     ensures { Reads (clock (tokens bytes.now)) result }
 {
-    let (seconds, rest) = match first_number(bytes) {
-        Ok(first) => first,
-        Err(fault) => return Err(fault),
-    };
+    let (seconds, rest) = first_number(bytes)?;
     let mut found = Options::new();
-    match read_options(alloc, Form::Clock, rest, &mut found) {
-        Ok(()) => Ok(Line::Clock(seconds)),
-        Err(fault) => Err(fault),
-    }
+    read_options(alloc, Form::Clock, rest, &mut found)?;
+    Ok(Line::Clock(seconds))
 }
 
 // A SHUTDOWN line behind its first word.
@@ -346,30 +287,10 @@ fn read_clock(alloc: Global, bytes: &[u8]) -> Result<Line, LineFault>
 fn read_shutdown(alloc: Global, bytes: &[u8]) -> Result<Line, LineFault>
     ensures { Reads (shutdown (tokens bytes.now)) result }
 {
-    let rest = match skip_word(bytes, b"IMMEDIATE") {
-        Ok(rest) => rest,
-        Err(fault) => return Err(fault),
-    };
+    let rest = skip_word(bytes, b"IMMEDIATE")?;
     let mut found = Options::new();
-    match read_options(alloc, Form::Shutdown, rest, &mut found) {
-        Ok(()) => Ok(Line::Shutdown),
-        Err(fault) => Err(fault),
-    }
-}
-
-// The command that a verb and the next token are, and the line behind them.
-#[cold]
-#[inline(never)]
-fn placed_queue_command(verb: CommandWord, bytes: &[u8]) -> (CommandWord, &[u8])
-    ensures { command_at verb (tokens bytes.now) ≡ (result.0, tokens result.1.now) }
-{
-    match next_token(bytes) {
-        Ok(Some((Token::Word(word), rest))) => match queue_command(verb, word) {
-            Some(command) => (command, rest),
-            None => (verb, bytes),
-        },
-        _ => (verb, bytes),
-    }
+    read_options(alloc, Form::Shutdown, rest, &mut found)?;
+    Ok(Line::Shutdown)
 }
 
 // The command that a verb and TS or TD are, where the line begins with one of these words in
@@ -400,7 +321,13 @@ fn placed_command(verb: CommandWord, bytes: &[u8]) -> (CommandWord, &[u8])
             return placed;
         }
     }
-    placed_queue_command(verb, bytes)
+    match next_token(bytes) {
+        Ok(Some((Token::Word(word), rest))) => match queue_command(verb, word) {
+            Some(command) => (command, rest),
+            None => (verb, bytes),
+        },
+        _ => (verb, bytes),
+    }
 }
 
 // A command behind its verb, and behind TS or TD where it stands there.
@@ -413,16 +340,10 @@ fn read_issued(
     ensures { Reads (issued label (command, tokens bytes.now)) result }
 {
     let mut found = Options::new();
-    if let Err(fault) = read_options(alloc, Form::Command(command), bytes, &mut found) {
-        return Err(fault);
-    }
-    match verb_of(alloc, command, &found) {
-        Ok(verb) => {
-            let resp = is_handled(&found);
-            Ok(Line::Issue(label, Command { verb, resp }))
-        }
-        Err(fault) => Err(fault),
-    }
+    read_options(alloc, Form::Command(command), bytes, &mut found)?;
+    let verb = verb_of(alloc, command, &found)?;
+    let resp = is_handled(&found);
+    Ok(Line::Issue(label, Command { verb, resp }))
 }
 
 // The verb with which the line begins, where it is one that many lines have and is written in
@@ -459,20 +380,6 @@ fn common_verb(bytes: &[u8]) -> Option<(CommandWord, &[u8])>
     }
 }
 
-// The verb that is the next token, and the line behind it.
-#[inline(never)]
-fn find_verb(bytes: &[u8]) -> Result<(CommandWord, &[u8]), LineFault>
-    ensures { GivesVerb (verb_first (tokens bytes.now)) result }
-{
-    match first_word(bytes) {
-        Ok((word, rest)) => match command_named(word) {
-            Some(verb) => Ok((verb, rest)),
-            None => Err(LineFault::UnknownWord),
-        },
-        Err(fault) => Err(fault),
-    }
-}
-
 // The verb in front, and the line behind it.
 fn first_verb(bytes: &[u8]) -> Result<(CommandWord, &[u8]), LineFault>
     ensures { GivesVerb (verb_first (tokens bytes.now)) result }
@@ -480,32 +387,20 @@ fn first_verb(bytes: &[u8]) -> Result<(CommandWord, &[u8]), LineFault>
     if let Some(found) = common_verb(bytes) {
         return Ok(found);
     }
-    find_verb(bytes)
+    let (word, rest) = first_word(bytes)?;
+    match command_named(word) {
+        Some(verb) => Ok((verb, rest)),
+        None => Err(LineFault::UnknownWord),
+    }
 }
 
 // A command behind EXEC CICS.
 fn read_command(alloc: Global, label: Name8, bytes: &[u8]) -> Result<Line, LineFault>
     ensures { Reads (command_line label (tokens bytes.now)) result }
 {
-    let (verb, rest) = match first_verb(bytes) {
-        Ok(first) => first,
-        Err(fault) => return Err(fault),
-    };
+    let (verb, rest) = first_verb(bytes)?;
     let (command, behind) = placed_command(verb, rest);
     read_issued(alloc, label, command, behind)
-}
-
-// The line behind the words EXEC and CICS.
-#[cold]
-#[inline(never)]
-fn skip_both_words(bytes: &[u8]) -> Result<&[u8], LineFault>
-    ensures { GivesRest
-        (behind (codes "EXEC") (tokens bytes.now) and_next behind (codes "CICS")) result }
-{
-    match skip_word(bytes, b"EXEC") {
-        Ok(rest) => skip_word(rest, b"CICS"),
-        Err(fault) => Err(fault),
-    }
 }
 
 // The line behind EXEC and CICS.
@@ -517,7 +412,7 @@ fn skip_exec_cics(bytes: &[u8]) -> Result<&[u8], LineFault>
     if begins_with(bytes, b" EXEC CICS ") {
         return Ok(bytes.split_at(11).1);
     }
-    skip_both_words(bytes)
+    skip_word(skip_word(bytes, b"EXEC")?, b"CICS")
 }
 
 // The command of a task behind its label.
@@ -534,20 +429,14 @@ fn read_issue(alloc: Global, label: Name8, bytes: &[u8]) -> Result<Line, LineFau
 pub fn read_statement(alloc: Global, bytes: &[u8]) -> Result<Line, LineFault>
     ensures { Reads (statement (tokens bytes.now)) result }
 {
-    let (word, rest) = match first_word(bytes) {
-        Ok(first) => first,
-        Err(fault) => return Err(fault),
-    };
+    let (word, rest) = first_word(bytes)?;
     match start_of(word) {
         Some(Start::Define) => read_define(alloc, rest),
         Some(Start::Load) => read_load(alloc, rest),
         Some(Start::Attach) => read_attach(alloc, rest),
         Some(Start::Clock) => read_clock(alloc, rest),
         Some(Start::Shutdown) => read_shutdown(alloc, rest),
-        None => match label_of(word) {
-            Ok(label) => read_issue(alloc, label, rest),
-            Err(fault) => Err(fault),
-        },
+        None => read_issue(alloc, label_of(word)?, rest),
     }
 }
 

@@ -124,34 +124,23 @@ fn next_piece(notation: Notation, bytes: &[u8]) -> Piece<'_>
     }
 }
 
-// Whether each character stands for itself: it has a code, and is no quote. A table, as each byte
+// 1 for each character that stands for itself: it has a code, and is no quote. A table, as each byte
 // of a literal is looked at.
-static PLAIN: [bool; 256] = [
-    false, false, false, false, false, false, false, false, false, false, false, false, false,
-    false, false, false, false, false, false, false, false, false, false, false, false, false,
-    false, false, false, false, false, false, true, false, true, true, true, true, true, false,
-    true, true, true, true, true, true, true, true, true, true, true, true, true, true, true, true,
-    true, true, true, true, true, true, true, true, true, true, true, true, true, true, true, true,
-    true, true, true, true, true, true, true, true, true, true, true, true, true, true, true, true,
-    true, true, true, false, false, false, false, true, false, true, true, true, true, true, true,
-    true, true, true, true, true, true, true, true, true, true, true, true, true, true, true, true,
-    true, true, true, true, false, false, false, false, false, false, false, false, false, false,
-    false, false, false, false, false, false, false, false, false, false, false, false, false,
-    false, false, false, false, false, false, false, false, false, false, false, false, false,
-    false, false, false, false, false, false, false, false, false, false, false, false, false,
-    false, false, false, false, false, false, false, false, false, false, false, false, false,
-    false, false, false, false, false, false, false, false, false, false, false, false, false,
-    false, false, false, false, false, false, false, false, false, false, false, false, false,
-    false, false, false, false, false, false, false, false, false, false, false, false, false,
-    false, false, false, false, false, false, false, false, false, false, false, false, false,
-    false, false, false, false, false, false, false, false, false, false, false, false, false,
-    false, false, false, false, false, false,
+static PLAIN: [u8; 256] = [
+    0, 0, 0, 0, 0, 0, 0, 0, 0, 0, 0, 0, 0, 0, 0, 0, 0, 0, 0, 0, 0, 0, 0, 0, 0, 0, 0, 0, 0, 0, 0, 0,
+    1, 0, 1, 1, 1, 1, 1, 0, 1, 1, 1, 1, 1, 1, 1, 1, 1, 1, 1, 1, 1, 1, 1, 1, 1, 1, 1, 1, 1, 1, 1, 1,
+    1, 1, 1, 1, 1, 1, 1, 1, 1, 1, 1, 1, 1, 1, 1, 1, 1, 1, 1, 1, 1, 1, 1, 1, 1, 1, 1, 0, 0, 0, 0, 1,
+    0, 1, 1, 1, 1, 1, 1, 1, 1, 1, 1, 1, 1, 1, 1, 1, 1, 1, 1, 1, 1, 1, 1, 1, 1, 1, 1, 0, 0, 0, 0, 0,
+    0, 0, 0, 0, 0, 0, 0, 0, 0, 0, 0, 0, 0, 0, 0, 0, 0, 0, 0, 0, 0, 0, 0, 0, 0, 0, 0, 0, 0, 0, 0, 0,
+    0, 0, 0, 0, 0, 0, 0, 0, 0, 0, 0, 0, 0, 0, 0, 0, 0, 0, 0, 0, 0, 0, 0, 0, 0, 0, 0, 0, 0, 0, 0, 0,
+    0, 0, 0, 0, 0, 0, 0, 0, 0, 0, 0, 0, 0, 0, 0, 0, 0, 0, 0, 0, 0, 0, 0, 0, 0, 0, 0, 0, 0, 0, 0, 0,
+    0, 0, 0, 0, 0, 0, 0, 0, 0, 0, 0, 0, 0, 0, 0, 0, 0, 0, 0, 0, 0, 0, 0, 0, 0, 0, 0, 0, 0, 0, 0, 0,
 ];
 
 fn is_plain_byte(byte: u8) -> bool
     ensures { result ≡ is_plain byte }
 {
-    PLAIN[usize::from(byte)]
+    PLAIN[usize::from(byte)] != 0
 }
 
 // Whether every character stands for itself. The loop doesn't stop at one that doesn't, so that
@@ -389,19 +378,6 @@ impl<'a> Literal<'a> {
         }
     }
 
-    // The record that a quoted literal writes, in EBCDIC.
-    fn quoted_record(self, alloc: Global) -> Result<Record, NoMemory>
-        requires { self.notation ≡ Notation.Quoted }
-        ensures { IfOk result (λ made. made
-            ≡ recorded self.entry.notation
-            (said (text_in self.entry.notation self.entry.behind_quote.now))) }
-    {
-        match self.plain() {
-            Some(text) => Ok(Record::new(copy_plain(alloc, Encoding::Ebcdic, text)?)),
-            None => Ok(Record::new(self.copy(alloc, Encoding::Ebcdic)?)),
-        }
-    }
-
     /// The record that the literal writes: a quoted one in EBCDIC.
     pub fn record(self, alloc: Global) -> Result<Record, NoMemory>
         ensures { IfOk result (λ made. made
@@ -409,7 +385,7 @@ impl<'a> Literal<'a> {
             (said (text_in self.entry.notation self.entry.behind_quote.now))) }
     {
         match self.notation {
-            Notation::Quoted => self.quoted_record(alloc),
+            Notation::Quoted => Ok(Record::new(self.copy(alloc, Encoding::Ebcdic)?)),
             Notation::Hexadecimal => Ok(Record::new(self.copy(alloc, Encoding::AsWritten)?)),
         }
     }

@@ -15,16 +15,14 @@ ghost use Rattle.cics_script.specs.Views.{Opens, Fills, Shuts, HasValue, Enters,
 use crate::faults::LineFault;
 use crate::literals::{Encoding, Literal, Notation};
 use crate::tokens::{Token, either_named, named, next_quoted, next_token};
-use crate::words::{
-    Form, Kind, OptionWord, is_excluded, is_exclusive, is_same, kind_of, option_named,
-};
+use crate::words::{Form, Kind, OptionWord, is_excluded, is_same, kind_of, option_named};
 use arrayvec::ArrayVec;
 use cics_names::{Name4, Name8};
 use std::alloc::Global;
 use std::borrow::CowSlice;
 
-// No line has more options, as each stands once: READ has nine rows of its own, more than any other, and every command
-// four.
+// No line has more options, as each stands once: READ has nine of its own, more than any other line,
+// and every command four.
 const MOST: usize = 13;
 
 /// The options of a line.
@@ -134,14 +132,8 @@ fn value_of<'a>(alloc: Global, kind: Kind, token: Token<'a>) -> Result<Value<'a>
 {
     match (kind, token) {
         (Kind::Text, Token::Literal(literal)) => Ok(Value::Text(literal)),
-        (Kind::Name8, Token::Literal(literal)) => match name8_of(alloc, literal) {
-            Ok(name) => Ok(Value::Name8(name)),
-            Err(fault) => Err(fault),
-        },
-        (Kind::Name4, Token::Literal(literal)) => match name4_of(alloc, literal) {
-            Ok(name) => Ok(Value::Name4(name)),
-            Err(fault) => Err(fault),
-        },
+        (Kind::Name8, Token::Literal(literal)) => Ok(Value::Name8(name8_of(alloc, literal)?)),
+        (Kind::Name4, Token::Literal(literal)) => Ok(Value::Name4(name4_of(alloc, literal)?)),
         (Kind::Number | Kind::Area, Token::Number(number)) => Ok(Value::Number(number)),
         (Kind::Area, Token::Literal(_) | Token::Word(_)) => Ok(Value::Nothing),
         _ => Err(wrong_value(kind)),
@@ -207,19 +199,6 @@ fn put_literal<'a>(
     Ok(())
 }
 
-// The line behind an opening parenthesis, where one is the next token.
-#[cold]
-#[inline(never)]
-fn find_opening(kind: Kind, bytes: &[u8]) -> Result<&[u8], LineFault>
-    ensures { Opens kind bytes.now result }
-{
-    match next_token(bytes) {
-        Ok(Some((Token::Opening, rest))) => Ok(rest),
-        Ok(_) => Err(wrong_value(kind)),
-        Err(fault) => Err(fault),
-    }
-}
-
 // The line behind an opening parenthesis.
 fn read_opening(kind: Kind, bytes: &[u8]) -> Result<&[u8], LineFault>
     ensures { Opens kind bytes.now result }
@@ -228,29 +207,9 @@ fn read_opening(kind: Kind, bytes: &[u8]) -> Result<&[u8], LineFault>
     if let Some((b'(', rest)) = bytes.split_first() {
         return Ok(rest);
     }
-    find_opening(kind, bytes)
-}
-
-// Puts an option with the next token as its value behind those that were read. The line behind the
-// value.
-#[inline(never)]
-fn find_content<'a>(
-    alloc: Global,
-    kind: Kind,
-    bytes: &'a [u8],
-    option: OptionWord,
-    found: &mut Options<'a>,
-) -> Result<&'a [u8], LineFault>
-    requires { length found.old.items < 13 }
-    ensures { Fills kind option (entries found.old.items) (entries found.new.items)
-        bytes.entry.now result }
-{
     match next_token(bytes) {
-        Ok(Some((token, rest))) => match put_token(alloc, kind, token, option, found) {
-            Ok(()) => Ok(rest),
-            Err(fault) => Err(fault),
-        },
-        Ok(None) => Err(wrong_value(kind)),
+        Ok(Some((Token::Opening, rest))) => Ok(rest),
+        Ok(_) => Err(wrong_value(kind)),
         Err(fault) => Err(fault),
     }
 }
@@ -275,18 +234,12 @@ fn read_content<'a>(
             Err(fault) => Err(fault),
         };
     }
-    find_content(alloc, kind, bytes, option, found)
-}
-
-// The line behind a closing parenthesis, where one is the next token.
-#[cold]
-#[inline(never)]
-fn find_closing(kind: Kind, bytes: &[u8]) -> Result<&[u8], LineFault>
-    ensures { Shuts kind bytes.now result }
-{
     match next_token(bytes) {
-        Ok(Some((Token::Closing, rest))) => Ok(rest),
-        Ok(_) => Err(wrong_value(kind)),
+        Ok(Some((token, rest))) => match put_token(alloc, kind, token, option, found) {
+            Ok(()) => Ok(rest),
+            Err(fault) => Err(fault),
+        },
+        Ok(None) => Err(wrong_value(kind)),
         Err(fault) => Err(fault),
     }
 }
@@ -299,7 +252,11 @@ fn read_closing(kind: Kind, bytes: &[u8]) -> Result<&[u8], LineFault>
     if let Some((b')', rest)) = bytes.split_first() {
         return Ok(rest);
     }
-    find_closing(kind, bytes)
+    match next_token(bytes) {
+        Ok(Some((Token::Closing, rest))) => Ok(rest),
+        Ok(_) => Err(wrong_value(kind)),
+        Err(fault) => Err(fault),
+    }
 }
 
 // Puts an option with its value in parentheses behind those that were read. The line behind them.
@@ -345,9 +302,6 @@ pub fn has_option(found: &[Found<'_>], option: OptionWord) -> bool
 fn has_excluded(found: &[Found<'_>], option: OptionWord) -> bool
     ensures { result ≡ list_any (λ entry. excludes entry.0 option) (entries found.now) }
 {
-    if !is_exclusive(option) {
-        return false;
-    }
     for one in found {
         if is_excluded(one.option, option) {
             return true;
@@ -452,31 +406,6 @@ fn common_option(bytes: &[u8]) -> Option<(OptionWord, &[u8])>
     }
 }
 
-// The option of the word that is the next token and the line behind it, or nothing at the line's
-// end.
-#[inline(never)]
-fn find_option(last: Option<Kind>, bytes: &[u8]) -> Result<Option<(OptionWord, &[u8])>, LineFault>
-    ensures none { IfOk result (λ found.
-        found ≡ None → tokens bytes.now ≡ []) }
-    ensures some { IfOk result (λ found. IfSome found (λ next.
-        IsNamed option_words next.0 bytes.now next.1.now)) }
-    ensures fault { IfErr result (λ fault. (form : Form) (found : List Entry) →
-        reads form (at_option last) found (tokens bytes.now) ≡ Err fault) }
-{
-    match next_token(bytes) {
-        Ok(None) => Ok(None),
-        Ok(Some((token, rest))) => match token {
-            Token::Word(word) => match option_named(word) {
-                Some(option) => Ok(Some((option, rest))),
-                None => Err(LineFault::UnknownWord),
-            },
-            Token::Opening | Token::Closing => Err(surplus_fault(last)),
-            Token::Number(_) | Token::Literal(_) => Err(LineFault::UnknownWord),
-        },
-        Err(fault) => Err(fault),
-    }
-}
-
 // The line behind the blank with which it begins, or all of it where it begins with none.
 fn skip_one_blank(bytes: &[u8]) -> &[u8]
     ensures tokens { tokens result.now ≡ tokens bytes.now }
@@ -504,7 +433,18 @@ fn next_option(last: Option<Kind>, bytes: &[u8]) -> Result<Option<(OptionWord, &
     if let Some(found) = common_option(skip_one_blank(bytes)) {
         return Ok(Some(found));
     }
-    find_option(last, bytes)
+    match next_token(bytes) {
+        Ok(None) => Ok(None),
+        Ok(Some((token, rest))) => match token {
+            Token::Word(word) => match option_named(word) {
+                Some(option) => Ok(Some((option, rest))),
+                None => Err(LineFault::UnknownWord),
+            },
+            Token::Opening | Token::Closing => Err(surplus_fault(last)),
+            Token::Number(_) | Token::Literal(_) => Err(LineFault::UnknownWord),
+        },
+        Err(fault) => Err(fault),
+    }
 }
 
 /// Reads the options of a line behind its fixed part into `found`, which has none yet. At a fault

@@ -51,8 +51,7 @@ pub fn optional_text_of(
             Ok(record) => Ok(Some(record)),
             Err(_) => Err(LineFault::NoMemory),
         },
-        Some(_) => Ok(None),
-        None => Ok(None),
+        _ => Ok(None),
     }
 }
 
@@ -62,8 +61,7 @@ pub fn name8_of(found: &[Found<'_>], option: OptionWord) -> Option<Name8>
 {
     match value_at(found, option) {
         Some(Value::Name8(name)) => Some(*name),
-        Some(_) => None,
-        None => None,
+        _ => None,
     }
 }
 
@@ -73,8 +71,7 @@ pub fn name4_of(found: &[Found<'_>], option: OptionWord) -> Option<Name4>
 {
     match value_at(found, option) {
         Some(Value::Name4(name)) => Some(*name),
-        Some(_) => None,
-        None => None,
+        _ => None,
     }
 }
 
@@ -84,9 +81,15 @@ pub fn number_of(found: &[Found<'_>], option: OptionWord) -> Option<u64>
 {
     match value_at(found, option) {
         Some(Value::Number(number)) => Some(*number),
-        Some(_) => None,
-        None => None,
+        _ => None,
     }
+}
+
+/// What a line can't do without; where there is none, `MissingOption`.
+pub fn needed<T>(value: Option<T>) -> Result<T, LineFault>
+    ensures { result ≡ needed value Ok }
+{
+    value.ok_or(LineFault::MissingOption)
 }
 
 /// The number of an option that may give anything: where the option isn't there, `MissingOption`,

@@ -1,15 +1,22 @@
 //! The words of the grammar: which word begins which line, and what each line and command takes.
 
-ghost use Rattle.std.specs.Prelude.{◌≡◌, ◌||◌, ◌&&◌, ℕ, false, List, [], ◌∷◌, map};
-ghost use Rattle.std.specs.Prelude.{Option, Some, None};
+ghost use Rattle.std.specs.Prelude.{◌≡◌, ◌||◌, false, [], map};
 ghost use Rattle.std.specs.List.{list_any};
 ghost use Rattle.std.specs.Str.{bytes_eq};
 ghost use Rattle.cics_script.specs.Tokens.{capital};
 ghost use Rattle.cics_script.specs.Words.{lookup, starts, define_objects, load_objects};
-ghost use Rattle.cics_script.specs.Words.{commands, queue_words};
-ghost use Rattle.cics_script.specs.Words.{option_words, same, kind_among, kind_in};
-ghost use Rattle.cics_script.specs.Words.{options_of_command, exclusions, is_pair_in, excludes};
+ghost use Rattle.cics_script.specs.Words.{commands, queue_words, option_words, option_word};
+ghost use Rattle.cics_script.specs.Words.{word_among, same, own_options, options_of_command};
+ghost use Rattle.cics_script.specs.Words.{shared_options, usual_kind, kind_but, kind_at, kind_in};
+ghost use Rattle.cics_script.specs.Words.{excluded_by, excludes};
 ghost use lib.Chars.{codes};
+
+use crate::words::OptionWord::{
+    AbCode, Auxiliary, Cancel, Dtimout, EndExec, Equal, File, From, Generic, Gteq, Into, Item,
+    KeyLength, KeyOffset, Length, Logical, Main, Next, NoDump, NoHandle, NoSuspend, NumRec,
+    Physical, Queue, RecordSize, Recoverable, Resource, Resp, Resp2, Rewrite, Ridfld, Rollback,
+    TdQueue, Transid, TsPrefix, Unrecoverable, Unrecovered, Update,
+};
 
 /// What the first word of a line makes of it, where the word is no label.
 #[derive(Clone, Copy, Debug, PartialEq, Eq)]
@@ -157,311 +164,74 @@ static LOAD_OBJECTS: [(&str, LoadObject); 3] = [
     ("TDQUEUE", LoadObject::TdQueue),
 ];
 
-// The verbs by their first letters.
-
-static COMMANDS_A: [(&str, CommandWord); 1] = [("ABEND", CommandWord::Abend)];
-
-static COMMANDS_D: [(&str, CommandWord); 3] = [
-    ("DELETE", CommandWord::Delete),
-    ("DELETEQ", CommandWord::DeleteqTs),
-    ("DEQ", CommandWord::Deq),
-];
-
-static COMMANDS_E: [(&str, CommandWord); 2] = [
-    ("ENDBR", CommandWord::EndBr),
-    ("ENQ", CommandWord::Enq),
-];
-
-static COMMANDS_R: [(&str, CommandWord); 7] = [
+static COMMANDS: [(&str, CommandWord); 18] = [
     ("READ", CommandWord::Read),
+    ("WRITE", CommandWord::Write),
     ("REWRITE", CommandWord::Rewrite),
+    ("DELETE", CommandWord::Delete),
+    ("RETURN", CommandWord::Return),
+    ("UNLOCK", CommandWord::Unlock),
+    ("STARTBR", CommandWord::StartBr),
     ("RESETBR", CommandWord::ResetBr),
     ("READNEXT", CommandWord::ReadNext),
     ("READPREV", CommandWord::ReadPrev),
-    ("READQ", CommandWord::ReadqTs),
-    ("RETURN", CommandWord::Return),
-];
-
-static COMMANDS_S: [(&str, CommandWord); 2] = [
-    ("STARTBR", CommandWord::StartBr),
-    ("SYNCPOINT", CommandWord::Syncpoint),
-];
-
-static COMMANDS_U: [(&str, CommandWord); 1] = [("UNLOCK", CommandWord::Unlock)];
-
-static COMMANDS_W: [(&str, CommandWord); 2] = [
-    ("WRITE", CommandWord::Write),
+    ("ENDBR", CommandWord::EndBr),
     ("WRITEQ", CommandWord::WriteqTs),
+    ("READQ", CommandWord::ReadqTs),
+    ("DELETEQ", CommandWord::DeleteqTs),
+    ("ENQ", CommandWord::Enq),
+    ("DEQ", CommandWord::Deq),
+    ("SYNCPOINT", CommandWord::Syncpoint),
+    ("ABEND", CommandWord::Abend),
 ];
 
-static NO_COMMANDS: [(&str, CommandWord); 0] = [];
-
-// The options by the first letters of their words: a line's word is compared with few others.
-
-static OPTIONS_A: [(&str, OptionWord); 2] = [
-    ("AUXILIARY", OptionWord::Auxiliary),
-    ("ABCODE", OptionWord::AbCode),
-];
-
-static OPTIONS_C: [(&str, OptionWord); 1] = [("CANCEL", OptionWord::Cancel)];
-
-static OPTIONS_D: [(&str, OptionWord); 2] = [
-    ("DATASET", OptionWord::File),
-    ("DTIMOUT", OptionWord::Dtimout),
-];
-
-static OPTIONS_E: [(&str, OptionWord); 2] = [
-    ("EQUAL", OptionWord::Equal),
-    ("END-EXEC", OptionWord::EndExec),
-];
-
-static OPTIONS_F: [(&str, OptionWord); 2] = [
-    ("FILE", OptionWord::File),
-    ("FROM", OptionWord::From),
-];
-
-static OPTIONS_G: [(&str, OptionWord); 2] = [
-    ("GENERIC", OptionWord::Generic),
-    ("GTEQ", OptionWord::Gteq),
-];
-
-static OPTIONS_I: [(&str, OptionWord); 2] = [
-    ("INTO", OptionWord::Into),
-    ("ITEM", OptionWord::Item),
-];
-
-static OPTIONS_K: [(&str, OptionWord); 2] = [
-    ("KEYLENGTH", OptionWord::KeyLength),
-    ("KEYOFFSET", OptionWord::KeyOffset),
-];
-
-static OPTIONS_L: [(&str, OptionWord); 2] = [
-    ("LOGICAL", OptionWord::Logical),
-    ("LENGTH", OptionWord::Length),
-];
-
-static OPTIONS_M: [(&str, OptionWord); 1] = [("MAIN", OptionWord::Main)];
-
-static OPTIONS_N: [(&str, OptionWord); 6] = [
-    ("NONE", OptionWord::Unrecovered),
-    ("NUMREC", OptionWord::NumRec),
-    ("NEXT", OptionWord::Next),
-    ("NOSUSPEND", OptionWord::NoSuspend),
-    ("NODUMP", OptionWord::NoDump),
-    ("NOHANDLE", OptionWord::NoHandle),
-];
-
-static OPTIONS_P: [(&str, OptionWord); 1] = [("PHYSICAL", OptionWord::Physical)];
-
-static OPTIONS_Q: [(&str, OptionWord); 1] = [("QUEUE", OptionWord::Queue)];
-
-static OPTIONS_R: [(&str, OptionWord); 8] = [
-    ("RECORDSIZE", OptionWord::RecordSize),
-    ("RECOVERABLE", OptionWord::Recoverable),
-    ("RIDFLD", OptionWord::Ridfld),
-    ("REWRITE", OptionWord::Rewrite),
-    ("RESOURCE", OptionWord::Resource),
-    ("ROLLBACK", OptionWord::Rollback),
-    ("RESP", OptionWord::Resp),
-    ("RESP2", OptionWord::Resp2),
-];
-
-static OPTIONS_T: [(&str, OptionWord); 3] = [
-    ("TSPREFIX", OptionWord::TsPrefix),
-    ("TDQUEUE", OptionWord::TdQueue),
-    ("TRANSID", OptionWord::Transid),
-];
-
-static OPTIONS_U: [(&str, OptionWord); 2] = [
-    ("UNRECOVERABLE", OptionWord::Unrecoverable),
-    ("UPDATE", OptionWord::Update),
-];
-
-static NO_OPTION_WORDS: [(&str, OptionWord); 0] = [];
-
-static DEFINE_FILE: [(OptionWord, Kind); 6] = [
-    (OptionWord::File, Kind::Name8),
-    (OptionWord::KeyLength, Kind::Number),
-    (OptionWord::KeyOffset, Kind::Number),
-    (OptionWord::RecordSize, Kind::Number),
-    (OptionWord::Recoverable, Kind::Flag),
-    (OptionWord::Unrecoverable, Kind::Flag),
-];
-
-static DEFINE_TSPREFIX: [(OptionWord, Kind); 1] = [(OptionWord::TsPrefix, Kind::Name8)];
-
-static DEFINE_TDQUEUE: [(OptionWord, Kind); 4] = [
-    (OptionWord::TdQueue, Kind::Name4),
-    (OptionWord::Logical, Kind::Flag),
-    (OptionWord::Physical, Kind::Flag),
-    (OptionWord::Unrecovered, Kind::Flag),
-];
-
-static LOAD_FILE: [(OptionWord, Kind); 2] = [
-    (OptionWord::File, Kind::Name8),
-    (OptionWord::From, Kind::Text),
-];
-
-static LOAD_TDQUEUE: [(OptionWord, Kind); 2] = [
-    (OptionWord::TdQueue, Kind::Name4),
-    (OptionWord::From, Kind::Text),
-];
-
-static ATTACH: [(OptionWord, Kind); 2] = [
-    (OptionWord::Transid, Kind::Name4),
-    (OptionWord::Dtimout, Kind::Number),
-];
-
-static READ: [(OptionWord, Kind); 9] = [
-    (OptionWord::File, Kind::Name8),
-    (OptionWord::Ridfld, Kind::Text),
-    (OptionWord::KeyLength, Kind::Number),
-    (OptionWord::Length, Kind::Number),
-    (OptionWord::Into, Kind::Area),
-    (OptionWord::Generic, Kind::Flag),
-    (OptionWord::Equal, Kind::Flag),
-    (OptionWord::Gteq, Kind::Flag),
-    (OptionWord::Update, Kind::Flag),
-];
-
-static WRITE: [(OptionWord, Kind); 5] = [
-    (OptionWord::File, Kind::Name8),
-    (OptionWord::Ridfld, Kind::Text),
-    (OptionWord::From, Kind::Text),
-    (OptionWord::Length, Kind::Number),
-    (OptionWord::KeyLength, Kind::Number),
-];
-
-static REWRITE: [(OptionWord, Kind); 3] = [
-    (OptionWord::File, Kind::Name8),
-    (OptionWord::From, Kind::Text),
-    (OptionWord::Length, Kind::Number),
-];
-
-static DELETE: [(OptionWord, Kind); 5] = [
-    (OptionWord::File, Kind::Name8),
-    (OptionWord::Ridfld, Kind::Text),
-    (OptionWord::KeyLength, Kind::Number),
-    (OptionWord::Generic, Kind::Flag),
-    (OptionWord::NumRec, Kind::Area),
-];
-
-static FILE_ALONE: [(OptionWord, Kind); 1] = [(OptionWord::File, Kind::Name8)];
-
-static BROWSE_START: [(OptionWord, Kind); 6] = [
-    (OptionWord::File, Kind::Name8),
-    (OptionWord::Ridfld, Kind::Text),
-    (OptionWord::KeyLength, Kind::Number),
-    (OptionWord::Generic, Kind::Flag),
-    (OptionWord::Equal, Kind::Flag),
-    (OptionWord::Gteq, Kind::Flag),
-];
-
-static BROWSE_READ: [(OptionWord, Kind); 4] = [
-    (OptionWord::File, Kind::Name8),
-    (OptionWord::Into, Kind::Area),
-    (OptionWord::Ridfld, Kind::Area),
-    (OptionWord::Length, Kind::Number),
-];
-
-static WRITEQ_TS: [(OptionWord, Kind); 8] = [
-    (OptionWord::Queue, Kind::Name8),
-    (OptionWord::From, Kind::Text),
-    (OptionWord::Length, Kind::Number),
-    (OptionWord::Item, Kind::Area),
-    (OptionWord::Rewrite, Kind::Flag),
-    (OptionWord::Main, Kind::Flag),
-    (OptionWord::Auxiliary, Kind::Flag),
-    (OptionWord::NoSuspend, Kind::Flag),
-];
-
-static READQ_TS: [(OptionWord, Kind); 5] = [
-    (OptionWord::Queue, Kind::Name8),
-    (OptionWord::Into, Kind::Area),
-    (OptionWord::Length, Kind::Number),
-    (OptionWord::Item, Kind::Number),
-    (OptionWord::Next, Kind::Flag),
-];
-
-static DELETEQ_TS: [(OptionWord, Kind); 1] = [(OptionWord::Queue, Kind::Name8)];
-
-static WRITEQ_TD: [(OptionWord, Kind); 3] = [
-    (OptionWord::Queue, Kind::Name4),
-    (OptionWord::From, Kind::Text),
-    (OptionWord::Length, Kind::Number),
-];
-
-static READQ_TD: [(OptionWord, Kind); 4] = [
-    (OptionWord::Queue, Kind::Name4),
-    (OptionWord::Into, Kind::Area),
-    (OptionWord::Length, Kind::Number),
-    (OptionWord::NoSuspend, Kind::Flag),
-];
-
-static DELETEQ_TD: [(OptionWord, Kind); 1] = [(OptionWord::Queue, Kind::Name4)];
-
-static ENQ: [(OptionWord, Kind); 3] = [
-    (OptionWord::Resource, Kind::Text),
-    (OptionWord::Length, Kind::Number),
-    (OptionWord::NoSuspend, Kind::Flag),
-];
-
-static DEQ: [(OptionWord, Kind); 2] = [
-    (OptionWord::Resource, Kind::Text),
-    (OptionWord::Length, Kind::Number),
-];
-
-static SYNCPOINT: [(OptionWord, Kind); 1] = [(OptionWord::Rollback, Kind::Flag)];
-
-static NO_OPTIONS: [(OptionWord, Kind); 0] = [];
-
-static ABEND: [(OptionWord, Kind); 3] = [
-    (OptionWord::AbCode, Kind::Name4),
-    (OptionWord::Cancel, Kind::Flag),
-    (OptionWord::NoDump, Kind::Flag),
-];
-
-static EVERY_COMMAND: [(OptionWord, Kind); 4] = [
-    (OptionWord::Resp, Kind::Area),
-    (OptionWord::Resp2, Kind::Area),
-    (OptionWord::NoHandle, Kind::Flag),
-    (OptionWord::EndExec, Kind::Last),
-];
-
-static EXCLUSIONS: [(OptionWord, OptionWord); 9] = [
-    (OptionWord::Recoverable, OptionWord::Unrecoverable),
-    (OptionWord::Logical, OptionWord::Physical),
-    (OptionWord::Logical, OptionWord::Unrecovered),
-    (OptionWord::Physical, OptionWord::Unrecovered),
-    (OptionWord::Equal, OptionWord::Gteq),
-    (OptionWord::Update, OptionWord::Gteq),
-    (OptionWord::Update, OptionWord::Generic),
-    (OptionWord::Item, OptionWord::Next),
-    (OptionWord::Main, OptionWord::Auxiliary),
-];
-
-// Each byte, with the capital of each small letter.
-static CAPITALS: [u8; 256] = [
-    0, 1, 2, 3, 4, 5, 6, 7, 8, 9, 10, 11, 12, 13, 14, 15, 16, 17, 18, 19, 20, 21, 22, 23, 24, 25,
-    26, 27, 28, 29, 30, 31, 32, 33, 34, 35, 36, 37, 38, 39, 40, 41, 42, 43, 44, 45, 46, 47, 48, 49,
-    50, 51, 52, 53, 54, 55, 56, 57, 58, 59, 60, 61, 62, 63, 64, 65, 66, 67, 68, 69, 70, 71, 72, 73,
-    74, 75, 76, 77, 78, 79, 80, 81, 82, 83, 84, 85, 86, 87, 88, 89, 90, 91, 92, 93, 94, 95, 96, 65,
-    66, 67, 68, 69, 70, 71, 72, 73, 74, 75, 76, 77, 78, 79, 80, 81, 82, 83, 84, 85, 86, 87, 88, 89,
-    90, 123, 124, 125, 126, 127, 128, 129, 130, 131, 132, 133, 134, 135, 136, 137, 138, 139, 140,
-    141, 142, 143, 144, 145, 146, 147, 148, 149, 150, 151, 152, 153, 154, 155, 156, 157, 158, 159,
-    160, 161, 162, 163, 164, 165, 166, 167, 168, 169, 170, 171, 172, 173, 174, 175, 176, 177, 178,
-    179, 180, 181, 182, 183, 184, 185, 186, 187, 188, 189, 190, 191, 192, 193, 194, 195, 196, 197,
-    198, 199, 200, 201, 202, 203, 204, 205, 206, 207, 208, 209, 210, 211, 212, 213, 214, 215, 216,
-    217, 218, 219, 220, 221, 222, 223, 224, 225, 226, 227, 228, 229, 230, 231, 232, 233, 234, 235,
-    236, 237, 238, 239, 240, 241, 242, 243, 244, 245, 246, 247, 248, 249, 250, 251, 252, 253, 254,
-    255,
+static OPTIONS: [(&str, OptionWord); 39] = [
+    ("FILE", File),
+    ("DATASET", File),
+    ("TRANSID", Transid),
+    ("DTIMOUT", Dtimout),
+    ("TSPREFIX", TsPrefix),
+    ("TDQUEUE", TdQueue),
+    ("KEYLENGTH", KeyLength),
+    ("KEYOFFSET", KeyOffset),
+    ("RECORDSIZE", RecordSize),
+    ("RECOVERABLE", Recoverable),
+    ("UNRECOVERABLE", Unrecoverable),
+    ("LOGICAL", Logical),
+    ("PHYSICAL", Physical),
+    ("NONE", Unrecovered),
+    ("FROM", From),
+    ("RIDFLD", Ridfld),
+    ("LENGTH", Length),
+    ("INTO", Into),
+    ("GENERIC", Generic),
+    ("EQUAL", Equal),
+    ("GTEQ", Gteq),
+    ("UPDATE", Update),
+    ("NUMREC", NumRec),
+    ("QUEUE", Queue),
+    ("ITEM", Item),
+    ("NEXT", Next),
+    ("REWRITE", Rewrite),
+    ("MAIN", Main),
+    ("AUXILIARY", Auxiliary),
+    ("RESOURCE", Resource),
+    ("NOSUSPEND", NoSuspend),
+    ("ROLLBACK", Rollback),
+    ("ABCODE", AbCode),
+    ("CANCEL", Cancel),
+    ("NODUMP", NoDump),
+    ("RESP", Resp),
+    ("RESP2", Resp2),
+    ("NOHANDLE", NoHandle),
+    ("END-EXEC", EndExec),
 ];
 
 /// A letter's capital, and any other byte as it is.
 pub fn capital_of(byte: u8) -> u8
     ensures { result ≡ capital byte }
 {
-    CAPITALS[usize::from(byte)]
+    byte.to_ascii_uppercase()
 }
 
 /// Whether a word, in capitals or small letters, is this word in capitals.
@@ -512,30 +282,11 @@ pub fn load_object(word: &[u8]) -> Option<LoadObject>
     find_row(&LOAD_OBJECTS, word)
 }
 
-// The verbs that begin with this capital.
-fn commands_beginning(letter: u8) -> &'static [(&'static str, CommandWord)]
-    ensures { (letters : List ℕ) →
-        lookup (letter ∷ letters) (map (λ row. (row.0.now, row.1)) result.now)
-        ≡ lookup (letter ∷ letters) commands }
-{
-    match letter {
-        b'A' => &COMMANDS_A,
-        b'D' => &COMMANDS_D,
-        b'E' => &COMMANDS_E,
-        b'R' => &COMMANDS_R,
-        b'S' => &COMMANDS_S,
-        b'U' => &COMMANDS_U,
-        b'W' => &COMMANDS_W,
-        _ => &NO_COMMANDS,
-    }
-}
-
 /// The command of this verb.
 pub fn command_named(word: &[u8]) -> Option<CommandWord>
     ensures { result ≡ lookup (map capital word.now) commands }
 {
-    let (first, _) = word.split_first()?;
-    find_row(commands_beginning(capital_of(*first)), word)
+    find_row(&COMMANDS, word)
 }
 
 /// Whether the verb acts on a queue of temporary storage where nothing else is said, so that TS or
@@ -585,39 +336,30 @@ pub fn td_command(verb: CommandWord) -> Option<CommandWord>
     }
 }
 
-// The options whose words begin with this capital.
-fn options_beginning(letter: u8) -> &'static [(&'static str, OptionWord)]
-    ensures { (letters : List ℕ) →
-        lookup (letter ∷ letters) (map (λ row. (row.0.now, row.1)) result.now)
-        ≡ lookup (letter ∷ letters) option_words }
-{
-    match letter {
-        b'A' => &OPTIONS_A,
-        b'C' => &OPTIONS_C,
-        b'D' => &OPTIONS_D,
-        b'E' => &OPTIONS_E,
-        b'F' => &OPTIONS_F,
-        b'G' => &OPTIONS_G,
-        b'I' => &OPTIONS_I,
-        b'K' => &OPTIONS_K,
-        b'L' => &OPTIONS_L,
-        b'M' => &OPTIONS_M,
-        b'N' => &OPTIONS_N,
-        b'P' => &OPTIONS_P,
-        b'Q' => &OPTIONS_Q,
-        b'R' => &OPTIONS_R,
-        b'T' => &OPTIONS_T,
-        b'U' => &OPTIONS_U,
-        _ => &NO_OPTION_WORDS,
-    }
-}
-
 /// The option of this word, whatever the line.
 pub fn option_named(word: &[u8]) -> Option<OptionWord>
     ensures { result ≡ lookup (map capital word.now) option_words }
 {
-    let (first, _) = word.split_first()?;
-    find_row(options_beginning(capital_of(*first)), word)
+    find_row(&OPTIONS, word)
+}
+
+// The word that a table has for an option: the first.
+fn find_word(rows: &[(&'static str, OptionWord)], option: OptionWord) -> &'static str
+    ensures { result.now ≡ word_among option (map (λ row. (row.0.now, row.1)) rows.now) }
+{
+    for row in rows {
+        if is_same(row.1, option) {
+            return row.0;
+        }
+    }
+    ""
+}
+
+/// The word of an option: of FILE and DATASET the first.
+pub fn option_word(option: OptionWord) -> &'static str
+    ensures { result.now ≡ option_word option }
+{
+    find_word(&OPTIONS, option)
 }
 
 /// Whether two options are the same.
@@ -627,41 +369,121 @@ pub fn is_same(first: OptionWord, second: OptionWord) -> bool
     first == second
 }
 
-// What an option takes, by these rows.
-fn find_kind(rows: &[(OptionWord, Kind)], option: OptionWord) -> Option<Kind>
-    ensures { result ≡ kind_among option rows.now }
+// The options of a line, without those of every command.
+fn own_options(form: Form) -> &'static [OptionWord]
+    ensures { result.now ≡ own_options form }
 {
-    for row in rows {
-        if is_same(row.0, option) {
-            return Some(row.1);
-        }
+    match form {
+        Form::Define(DefineObject::File) => &[
+            File,
+            KeyLength,
+            KeyOffset,
+            RecordSize,
+            Recoverable,
+            Unrecoverable,
+        ],
+        Form::Define(DefineObject::TsPrefix) => &[TsPrefix],
+        Form::Define(DefineObject::TdQueue) => &[TdQueue, Logical, Physical, Unrecovered],
+        Form::Load(LoadObject::File) => &[File, From],
+        Form::Load(LoadObject::TdQueue) => &[TdQueue, From],
+        Form::Attach => &[Transid, Dtimout],
+        Form::Clock | Form::Shutdown => &[],
+        Form::Command(command) => options_of_command(command),
     }
-    None
 }
 
 // The options that a command has besides those of every command.
-fn options_of(command: CommandWord) -> &'static [(OptionWord, Kind)]
+fn options_of_command(command: CommandWord) -> &'static [OptionWord]
     ensures { result.now ≡ options_of_command command }
 {
     match command {
-        CommandWord::Read => &READ,
-        CommandWord::Write => &WRITE,
-        CommandWord::Rewrite => &REWRITE,
-        CommandWord::Delete => &DELETE,
-        CommandWord::Unlock | CommandWord::EndBr => &FILE_ALONE,
-        CommandWord::StartBr | CommandWord::ResetBr => &BROWSE_START,
-        CommandWord::ReadNext | CommandWord::ReadPrev => &BROWSE_READ,
-        CommandWord::WriteqTs => &WRITEQ_TS,
-        CommandWord::ReadqTs => &READQ_TS,
-        CommandWord::DeleteqTs => &DELETEQ_TS,
-        CommandWord::WriteqTd => &WRITEQ_TD,
-        CommandWord::ReadqTd => &READQ_TD,
-        CommandWord::DeleteqTd => &DELETEQ_TD,
-        CommandWord::Enq => &ENQ,
-        CommandWord::Deq => &DEQ,
-        CommandWord::Syncpoint => &SYNCPOINT,
-        CommandWord::Return => &NO_OPTIONS,
-        CommandWord::Abend => &ABEND,
+        CommandWord::Read => &[
+            File, Ridfld, KeyLength, Length, Into, Generic, Equal, Gteq, Update,
+        ],
+        CommandWord::Write => &[File, Ridfld, From, Length, KeyLength],
+        CommandWord::Rewrite => &[File, From, Length],
+        CommandWord::Delete => &[File, Ridfld, KeyLength, Generic, NumRec],
+        CommandWord::Unlock | CommandWord::EndBr => &[File],
+        CommandWord::StartBr | CommandWord::ResetBr => {
+            &[File, Ridfld, KeyLength, Generic, Equal, Gteq]
+        }
+        CommandWord::ReadNext | CommandWord::ReadPrev => &[File, Into, Ridfld, Length],
+        CommandWord::WriteqTs => &[
+            Queue, From, Length, Item, Rewrite, Main, Auxiliary, NoSuspend,
+        ],
+        CommandWord::ReadqTs => &[Queue, Into, Length, Item, Next],
+        CommandWord::WriteqTd => &[Queue, From, Length],
+        CommandWord::ReadqTd => &[Queue, Into, Length, NoSuspend],
+        CommandWord::DeleteqTs | CommandWord::DeleteqTd => &[Queue],
+        CommandWord::Enq => &[Resource, Length, NoSuspend],
+        CommandWord::Deq => &[Resource, Length],
+        CommandWord::Syncpoint => &[Rollback],
+        CommandWord::Return => &[],
+        CommandWord::Abend => &[AbCode, Cancel, NoDump],
+    }
+}
+
+// The options of every command.
+fn shared_options(form: Form) -> &'static [OptionWord]
+    ensures { result.now ≡ shared_options form }
+{
+    match form {
+        Form::Command(_) => &[Resp, Resp2, NoHandle, EndExec],
+        _ => &[],
+    }
+}
+
+// Whether an option is one of these.
+fn is_among(options: &[OptionWord], option: OptionWord) -> bool
+    ensures { result ≡ list_any (same option) options.now }
+{
+    for one in options {
+        if is_same(option, *one) {
+            return true;
+        }
+    }
+    false
+}
+
+// What an option takes in most lines that have it.
+fn usual_kind(option: OptionWord) -> Kind
+    ensures { result ≡ usual_kind option }
+{
+    match option {
+        File | TsPrefix | Queue => Kind::Name8,
+        TdQueue | Transid | AbCode => Kind::Name4,
+        KeyLength | KeyOffset | RecordSize | Dtimout | Length | Item => Kind::Number,
+        From | Ridfld | Resource => Kind::Text,
+        Into | NumRec | Resp | Resp2 => Kind::Area,
+        EndExec => Kind::Last,
+        _ => Kind::Flag,
+    }
+}
+
+// What an option takes where one of them takes something else than in most lines.
+fn kind_but(other: OptionWord, kind: Kind, option: OptionWord) -> Kind
+    ensures { result ≡ kind_but other kind option }
+{
+    if is_same(option, other) {
+        kind
+    } else {
+        usual_kind(option)
+    }
+}
+
+// What an option takes in a line that has it.
+fn kind_at(form: Form, option: OptionWord) -> Kind
+    ensures { result ≡ kind_at form option }
+{
+    match form {
+        Form::Command(CommandWord::ReadNext | CommandWord::ReadPrev) => {
+            kind_but(Ridfld, Kind::Area, option)
+        }
+        Form::Command(CommandWord::WriteqTs) => kind_but(Item, Kind::Area, option),
+        Form::Command(CommandWord::WriteqTd | CommandWord::ReadqTd | CommandWord::DeleteqTd) => {
+            kind_but(Queue, Kind::Name4, option)
+        }
+        _ => usual_kind(option),
     }
 }
 
@@ -669,61 +491,38 @@ fn options_of(command: CommandWord) -> &'static [(OptionWord, Kind)]
 pub fn kind_of(form: Form, option: OptionWord) -> Option<Kind>
     ensures { result ≡ kind_in form option }
 {
-    match form {
-        Form::Define(DefineObject::File) => find_kind(&DEFINE_FILE, option),
-        Form::Define(DefineObject::TsPrefix) => find_kind(&DEFINE_TSPREFIX, option),
-        Form::Define(DefineObject::TdQueue) => find_kind(&DEFINE_TDQUEUE, option),
-        Form::Load(LoadObject::File) => find_kind(&LOAD_FILE, option),
-        Form::Load(LoadObject::TdQueue) => find_kind(&LOAD_TDQUEUE, option),
-        Form::Attach => find_kind(&ATTACH, option),
-        Form::Clock | Form::Shutdown => find_kind(&NO_OPTIONS, option),
-        Form::Command(command) => match find_kind(options_of(command), option) {
-            Some(kind) => Some(kind),
-            None => find_kind(&EVERY_COMMAND, option),
-        },
+    if is_among(own_options(form), option) || is_among(shared_options(form), option) {
+        Some(kind_at(form, option))
+    } else {
+        None
     }
 }
 
-// Whether a pair of options, in either order, is in these rows.
-fn has_pair(rows: &[(OptionWord, OptionWord)], first: OptionWord, second: OptionWord) -> bool
-    ensures { result ≡ is_pair_in first second rows.now }
+// The options that one line can't have beside this one.
+fn excluded_by(option: OptionWord) -> &'static [OptionWord]
+    ensures { result.now ≡ excluded_by option }
 {
-    for row in rows {
-        if is_same(row.0, first) && is_same(row.1, second) {
-            return true;
-        }
-        if is_same(row.0, second) && is_same(row.1, first) {
-            return true;
-        }
+    match option {
+        Recoverable => &[Unrecoverable],
+        Unrecoverable => &[Recoverable],
+        Logical => &[Physical, Unrecovered],
+        Physical => &[Logical, Unrecovered],
+        Unrecovered => &[Logical, Physical],
+        Equal => &[Gteq],
+        Gteq => &[Equal, Update],
+        Update => &[Gteq, Generic],
+        Generic => &[Update],
+        Item => &[Next],
+        Next => &[Item],
+        Main => &[Auxiliary],
+        Auxiliary => &[Main],
+        _ => &[],
     }
-    false
-}
-
-/// Whether there are options that one line can't have beside this one. Most options have none.
-pub fn is_exclusive(option: OptionWord) -> bool
-    ensures { result ≡ list_any (λ row. same row.0 option || same row.1 option) exclusions }
-{
-    matches!(
-        option,
-        OptionWord::Recoverable
-            | OptionWord::Unrecoverable
-            | OptionWord::Logical
-            | OptionWord::Physical
-            | OptionWord::Unrecovered
-            | OptionWord::Equal
-            | OptionWord::Gteq
-            | OptionWord::Update
-            | OptionWord::Generic
-            | OptionWord::Item
-            | OptionWord::Next
-            | OptionWord::Main
-            | OptionWord::Auxiliary
-    )
 }
 
 /// Whether one line can't have both options.
 pub fn is_excluded(first: OptionWord, second: OptionWord) -> bool
     ensures { result ≡ excludes first second }
 {
-    has_pair(&EXCLUSIONS, first, second)
+    is_among(excluded_by(second), first)
 }

@@ -5,11 +5,12 @@ ghost use Rattle.std.specs.Option.{option_copied};
 ghost use Rattle.std.specs.List.{flat_map};
 ghost use Rattle.cics_names.specs.Commands.{file_named};
 ghost use Rattle.cics_script.specs.Options.{text, name8, name4, amount};
-ghost use Rattle.cics_script.specs.Spelling.{flag, option_word, options_of, replacing, word_of};
+ghost use Rattle.cics_script.specs.Spelling.{flag, options_of, replacing, word_of};
+ghost use Rattle.cics_script.specs.Words.{option_word};
 ghost use Rattle.cics_script.specs.WrittenOut.{option_text, command_text, written_out};
 
 use crate::texts::{push_name, push_number, push_str, push_text};
-use crate::words::OptionWord;
+use crate::words::{OptionWord, option_word};
 use cics_names::{Command, Name4, Name8, NoMemory, Record, Verb};
 
 /// Puts the line of a command, without an LF, at the end of `out`: the mirror of `read_line`, which
@@ -314,50 +315,4 @@ fn push_word(out: &mut Vec<u8>, option: OptionWord) -> Result<(), NoMemory>
 {
     push_str(out, " ")?;
     push_str(out, option_word(option))
-}
-
-// The word of an option.
-fn option_word(option: OptionWord) -> &'static str
-    ensures { result.now ≡ option_word option }
-{
-    match option {
-        OptionWord::File => "FILE",
-        OptionWord::TsPrefix => "TSPREFIX",
-        OptionWord::TdQueue => "TDQUEUE",
-        OptionWord::KeyLength => "KEYLENGTH",
-        OptionWord::KeyOffset => "KEYOFFSET",
-        OptionWord::RecordSize => "RECORDSIZE",
-        OptionWord::Recoverable => "RECOVERABLE",
-        OptionWord::Unrecoverable => "UNRECOVERABLE",
-        OptionWord::Logical => "LOGICAL",
-        OptionWord::Physical => "PHYSICAL",
-        OptionWord::Unrecovered => "NONE",
-        OptionWord::From => "FROM",
-        OptionWord::Transid => "TRANSID",
-        OptionWord::Dtimout => "DTIMOUT",
-        OptionWord::Ridfld => "RIDFLD",
-        OptionWord::Length => "LENGTH",
-        OptionWord::Into => "INTO",
-        OptionWord::Generic => "GENERIC",
-        OptionWord::Equal => "EQUAL",
-        OptionWord::Gteq => "GTEQ",
-        OptionWord::Update => "UPDATE",
-        OptionWord::NumRec => "NUMREC",
-        OptionWord::Queue => "QUEUE",
-        OptionWord::Item => "ITEM",
-        OptionWord::Next => "NEXT",
-        OptionWord::Rewrite => "REWRITE",
-        OptionWord::Main => "MAIN",
-        OptionWord::Auxiliary => "AUXILIARY",
-        OptionWord::Resource => "RESOURCE",
-        OptionWord::NoSuspend => "NOSUSPEND",
-        OptionWord::Rollback => "ROLLBACK",
-        OptionWord::AbCode => "ABCODE",
-        OptionWord::Cancel => "CANCEL",
-        OptionWord::NoDump => "NODUMP",
-        OptionWord::Resp => "RESP",
-        OptionWord::Resp2 => "RESP2",
-        OptionWord::NoHandle => "NOHANDLE",
-        OptionWord::EndExec => "END-EXEC",
-    }
 }

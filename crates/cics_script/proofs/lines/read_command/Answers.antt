@@ -8,6 +8,6 @@ pub returns : goal.returns
 returns c =
     let label = c.args.label in
     let same : command_line label (tokens c.args.bytes.now) ≡ issued label (c.placed_command-command.result.0, tokens c.placed_command-command.result.1.now) =
-    ap (λ read. read >>= λ found. issued label (command_at found.0 found.1)) c.in-Ok.ensures
+    ap (λ read. read >>= λ found. issued label (command_at found.0 found.1)) c.in_ok-verb.ensures
     ∙ ap (issued label) c.placed_command-command.ensures in
     rw same c.read_issued.ensures
