@@ -16,32 +16,30 @@ const ABOUT: &str = "\
 Runs a script of CICS commands on a region in memory.
 
 The script comes from standard input: it defines and loads files, attaches
-tasks, issues their commands and sets the clock. What comes of each line, the
-journal, goes to standard output: the answer, and then the waiting commands that
-go on and the tasks that have waited too long. Behind it comes a listing of the
-files and queues and of the tasks that have not ended.";
+tasks, issues their commands and sets the clock. The journal goes to standard
+output: each answer, then the commands that resume and the tasks that time out.
+The program then lists all files and queues, and the tasks that have not ended.";
 
 const MORE: &str = "\
-The replay is the listing again, made by applying the history to what was loaded,
-without what the units that were backed out did to recoverable files and queues.
-It has no tasks.
+The replay is the listing again, without tasks. It applies the history to what
+was loaded, without what backed-out units did to recoverable files and queues.
 
-The serial run is a script that can be run: what was defined and loaded, and what
-the units of work that committed did to recoverable files and queues, one unit
-after the other in the order of the commits; behind them the units that are open.
-It leaves recoverable files and queues as the run has left them.
+The serial run is a script that can be run. It begins with the definitions and
+loads. What committed units of work did to recoverable files and queues follows,
+one unit after the other in commit order, and then the open units. It leaves
+recoverable files and queues as the run has left them.
 
-The picture has a row for each line of the journal and a lane for each of the
-first sixteen tasks, with a mark for each event and an arrow from each wait to
-the task that is waited for. It is written when the whole script is run.
+The picture has a row for each line of the journal, and a lane for each of the
+first sixteen tasks. Each event has a mark. An arrow leads from each wait to the
+task that is waited for. The picture is written when the whole script is run.
 
 Exit status:
   0  the whole script was run, or the help or the version was printed
-  1  a line of the script is at fault: the journal ends with that line's fault
-  2  the arguments are wrong
-  3  there is no memory
+  1  a line or a definition has a fault, which is the journal's last line
+  2  bad arguments
+  3  no memory
   4  a read or a write failed, the script has more than 16,777,216 bytes, or a
-     picture would have more than 100,000 events
+     picture would show more than 100,000 lines of the journal
   5  with --strict: the whole script was run, and an event was refused, a task was
      abended by a condition or a time-out, or a task still waits at the end
 
@@ -54,8 +52,8 @@ Each option, from the root of the repository:
   bin/cicsrun --picture < examples/deadlock.cics > deadlock.svg
 The language of a script: docs/LANGUAGE.md.
 
-Example, from the root of the repository. T2 waits for the record until T1 has
-taken its delete back by a rollback:
+Example, from the root of the repository. T2 waits for the record until T1's
+rollback undoes its delete:
 
 bin/cicsrun <<END
 DEFINE FILE('ACCT') KEYLENGTH(4) RECOVERABLE
@@ -135,10 +133,10 @@ fn flag<'a>(alloc: Global, name: &'a str, help: &'a str) -> Arg<'a> {
 // The command line, with its options in the order of the help. A picture stands alone.
 fn command<'a>(alloc: Global) -> Result<Command<'a>, Error> {
     let no_list = flag(alloc, "no-list", "Leave out the listing");
-    let replay = flag(alloc, "replay", "Print the replay behind the listing");
-    let serial = "Print the serial run behind the listing and the replay";
+    let replay = flag(alloc, "replay", "Print the replay after the listing");
+    let serial = "Print the serial run after the listing and the replay";
     let serial = flag(alloc, "serial", serial);
-    let with_script = "Print each line of the script in front of what it led to";
+    let with_script = "Print each line of the script before what it led to";
     let with_script = flag(alloc, "with-script", with_script).conflicts_with("serial")?;
     let strict = flag(alloc, "strict", "End with status 5 if something is amiss");
     let picture = "Print a picture of the run (SVG) in place of all that";
