@@ -1,0 +1,121 @@
+-- How a script is taken apart: what its lines define, the tasks with their lines, and the clock's lines.
+use Rattle.std.specs.Prelude.{◌≡◌, ℕ, suc, Bool, true, false, if◌then◌else◌, List, [], ◌∷◌, ◌++◌, Option, Some, None, is_some, Result, Ok, Err, IfOk}
+use Rattle.cics_names.specs.Keyed.{Bytes, is_same}
+use Rattle.cics_history.specs.Openings.{OpeningState, nothing_defined}
+use Rattle.cics_units.specs.declared.opening.DefineFault.{DefineFault}
+use Rattle.cics_dispatch.specs.declared.outcomes.Refused.{Refused}
+use Rattle.cics_dispatch.specs.declared.outcomes.Refused.TheVariants.{NoTask, DuplicateLabel}
+use Rattle.cics_script.specs.Lines.{line}
+use Rattle.cics_script.specs.declared.lines.Line.{Line}
+use Rattle.cics_script.specs.declared.lines.Line.TheVariants.{Blank, Attach, Clock, Issue, Shutdown}
+use Rattle.cics_script.specs.declared.faults.LineFault.{LineFault}
+use Rattle.cics_script.specs.declared.faults.LineFault.TheVariants.{DefineTooLate}
+use Rattle.cics_orders.specs.Firsts.{first_place, with_first}
+use Rattle.cics_orders.specs.Giving.{NumberedLine, define_fault, defined_by}
+use Rattle.cics_orders.specs.declared.plans.TaskPlan.{TaskPlan}
+use Rattle.cics_orders.specs.declared.plans.Plan.{Plan}
+use Rattle.cics_orders.specs.declared.planning.ScriptFault.{ScriptFault}
+use Rattle.cics_orders.specs.declared.planning.ScriptFault.TheVariants as fault
+use Rattle.cics_orders.specs.declared.planning.RefusedLine.{RefusedLine}
+use Rattle.cics_orders.specs.declared.planning.Planned.{Planned}
+
+-- the lines so far: what they define, whether none but definitions came, the plan, and the lines that are refused in every
+-- order
+pub record Taken : Type 0 where
+  pub opening : OpeningState
+  pub is_opening : Bool
+  pub plan : Plan
+  pub refused : List RefusedLine
+
+-- the lines so far with one more, or its fault
+pub record Step : Type 0 where
+  pub taken : Taken
+  pub fault : Option ScriptFault
+
+-- before the first line
+abbrev pub nothing_taken : Taken
+nothing_taken = record { opening = nothing_defined; is_opening = true; plan = record { definitions = []; tasks = []; clock = [] }; refused = [] }
+
+-- a line without a fault
+abbrev pub good : Taken → Step
+good t = record { taken = t; fault = None }
+
+-- a line with a fault changes nothing
+abbrev pub faulty : Taken → ScriptFault → Step
+faulty t f = record { taken = t; fault = Some f }
+
+-- a definition is accepted or refused
+abbrev pub accepted : Taken → NumberedLine → Option DefineFault → OpeningState → Step
+accepted t next None o = good (record t { opening = o; plan = record t.plan { definitions = t.plan.definitions ++ next ∷ [] } })
+accepted t next (Some f) o = faulty t (fault.Definition f)
+
+-- no definition stands after a line that is none
+abbrev pub defined : Taken → NumberedLine → Line → Step
+defined t next definition =
+    if t.is_opening then accepted t next (define_fault t.opening definition) (defined_by t.opening (Ok definition)) else faulty t (fault.Line DefineTooLate)
+
+-- a task has a label
+abbrev pub is_task : TaskPlan → Bytes → Bool
+is_task task label = is_same task.label label
+
+-- a line is refused in every order
+abbrev pub with_refused : Taken → ℕ → Bytes → Refused → Taken
+with_refused t number label refusal = record t { is_opening = false; refused = t.refused ++ record { number = number; label = label; refusal = refusal } ∷ [] }
+
+-- a task is attached, unless its label is another's
+abbrev pub attached : Taken → TaskPlan → Option ℕ → Taken
+attached t task None = record t { is_opening = false; plan = record t.plan { tasks = t.plan.tasks ++ task ∷ [] } }
+attached t task (Some place) = with_refused t task.attach.0 task.label DuplicateLabel
+
+-- a task with a line more
+abbrev pub with_line : TaskPlan → NumberedLine → TaskPlan
+with_line task next = record task { lines = task.lines ++ next ∷ [] }
+
+-- a command is its task's line, if the task is attached
+abbrev pub issued : Taken → NumberedLine → Bytes → Option ℕ → Taken
+issued t next label None = with_refused t next.0 label NoTask
+issued t next label (Some place) =
+    record t { is_opening = false; plan = record t.plan { tasks = with_first (λ task. is_task task label) (λ task. with_line task next) t.plan.tasks } }
+
+-- the place of the task of a label
+abbrev pub task_place : Taken → Bytes → Option ℕ
+task_place t label = first_place (λ task. is_task task label) t.plan.tasks
+
+-- a line of the clock
+abbrev pub timed : Taken → NumberedLine → Taken
+timed t next = record t { is_opening = false; plan = record t.plan { clock = t.plan.clock ++ next ∷ [] } }
+
+-- a line that was read
+abbrev pub followed : Taken → NumberedLine → Line → Step
+followed t next Blank = good t
+followed t next (Attach label transaction dtimout) =
+    good (attached t (record { label = label; transaction = transaction; dtimout = dtimout; attach = next; lines = [] }) (task_place t label))
+followed t next (Issue label command) = good (issued t next label (task_place t label))
+followed t next (Clock seconds) = good (timed t next)
+followed t next Shutdown = good (timed t next)
+followed t next definition = defined t next definition
+
+-- a line more
+abbrev pub taken_more : Taken → NumberedLine → Result Line LineFault → Step
+taken_more t next (Ok says) = followed t next says
+taken_more t next (Err f) = faulty t (fault.Line f)
+
+-- a line led to this, and to its fault if it has one, unless memory was refused
+abbrev pub Leads : {E : Type 0} → Step → Taken → Result (Option ScriptFault) E → Type 0
+Leads s now result = IfOk result (λ fault. (now ≡ s.taken) × (fault ≡ s.fault))
+
+-- the lines behind one, unless it has a fault
+abbrev pub behind : ℕ → Option ScriptFault → Taken → (Taken → Result Taken (ℕ × ScriptFault)) → Result Taken (ℕ × ScriptFault)
+behind number None t more = more t
+behind number (Some f) t more = Err (number, f)
+
+-- the lines of a script from a number on are taken apart, until one has a fault
+unfoldable pub taken_apart : Taken → ℕ → List Bytes → Result Taken (ℕ × ScriptFault)
+taken_apart t number [] = Ok t
+taken_apart t number (bytes ∷ rest) =
+    let step = taken_more t (number, bytes) (line bytes) in behind number step.fault step.taken (λ now. taken_apart now (suc number) rest)
+
+-- a script taken apart, or the number of its first line with a fault, and the fault
+abbrev pub planned : Result Taken (ℕ × ScriptFault) → Result Planned (ℕ × ScriptFault)
+planned (Ok t) = Ok (record { plan = t.plan; refused = t.refused })
+planned (Err fault) = Err fault

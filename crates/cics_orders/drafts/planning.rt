@@ -1,0 +1,235 @@
+//! Taking a script apart.
+
+ghost use Rattle.std.specs.Prelude.{◌≡◌, OnOk, IfOk};
+ghost use Rattle.cics_script.specs.Lines.{line};
+ghost use Rattle.cics_orders.specs.Firsts.{first_place};
+ghost use Rattle.cics_orders.specs.Taking.{Leads, nothing_taken, taken_more, followed};
+ghost use Rattle.cics_orders.specs.Taking.{is_task, attached, issued, timed, defined};
+ghost use Rattle.cics_orders.specs.Taking.{task_place, with_refused, taken_apart, planned};
+
+use crate::lanes::is_same;
+use crate::plans::{Plan, TaskPlan};
+use crate::reading::read;
+use crate::starting::define;
+use cics_dispatch::Refused;
+use cics_names::{Items, Name8, NoMemory, Record};
+use cics_script::{Line, LineFault};
+use cics_units::{DefineFault, Opening};
+use std::alloc::Global;
+use std::marker::Model;
+
+/// Why a script can't be taken apart.
+#[derive(Clone, Copy, Debug, PartialEq, Eq)]
+pub enum ScriptFault {
+    /// A line can't be read, or stands where it may not.
+    Line(LineFault),
+    /// A definition or a load is refused.
+    Definition(DefineFault),
+}
+
+/// A line that is refused in every order: the second ATTACH of a label, or a command of a label
+/// that no line before has attached.
+#[derive(Clone, Copy, Debug, PartialEq, Eq)]
+pub struct RefusedLine {
+    pub number: u64,
+    pub label: Name8,
+    pub refusal: Refused,
+}
+
+/// The lines of a script so far, taken apart.
+#[derive(Drop)]
+pub struct Planner {
+    alloc: Global,
+    // What is defined, which tells the faults of definitions.
+    opening: Opening,
+    // Whether no line but definitions came so far.
+    is_opening: bool,
+    definitions: Items<(u64, Record)>,
+    tasks: Vec<TaskPlan>,
+    clock: Items<(u64, Record)>,
+    refused: Items<RefusedLine>,
+}
+
+impl Model for Planner {
+    ghost use Rattle.cics_orders.specs.Taking.{Taken};
+
+    ghost Value = { Taken };
+
+    ghost view = { λ p. record {
+      opening = p.opening;
+      is_opening = p.is_opening;
+      plan = record { definitions = p.definitions; tasks = p.tasks.items; clock = p.clock };
+      refused = p.refused;
+    } };
+}
+
+// The place of the task of a label.
+fn place_of(tasks: &[TaskPlan], label: &Name8) -> Option<usize>
+    ensures { result ≡ first_place (λ task. is_task task label.now) tasks.now }
+{
+    for i in 0..tasks.len() {
+        if is_same(&tasks[i].label, label) {
+            return Some(i);
+        }
+    }
+    None
+}
+
+impl Planner {
+    /// Returns a planner of no line.
+    pub fn new(alloc: Global) -> Planner
+        ensures { result ≡ nothing_taken }
+    {
+        Planner {
+            alloc,
+            opening: Opening::new(alloc),
+            is_opening: true,
+            definitions: Items::new(alloc),
+            tasks: Vec::new(alloc),
+            clock: Items::new(alloc),
+            refused: Items::new(alloc),
+        }
+    }
+
+    /// Takes one line more: its number, and its bytes without its line end. Returns its fault, if
+    /// it has one, and then changes nothing.
+    ///
+    /// Errors: `NoMemory`.
+    pub fn take(&mut self, number: u64, bytes: &[u8]) -> Result<Option<ScriptFault>, NoMemory>
+        ensures { Leads (taken_more self.old (number, bytes.now) (line bytes.now)) self.new result }
+    {
+        match read(self.alloc, bytes)? {
+            Ok(line) => self.follow((number, Record::from_slice(self.alloc, bytes)?), line),
+            Err(fault) => Ok(Some(ScriptFault::Line(fault))),
+        }
+    }
+
+    // Takes a line that was read.
+    fn follow(&mut self, next: (u64, Record), line: Line) -> Result<Option<ScriptFault>, NoMemory>
+        ensures { Leads (followed self.old next line) self.new result }
+    {
+        match line {
+            Line::Blank => {}
+            Line::Attach {
+                label,
+                transaction,
+                dtimout,
+            } => self.attach(TaskPlan {
+                label,
+                transaction,
+                dtimout,
+                attach: next,
+                lines: Items::new(self.alloc),
+            })?,
+            Line::Issue(label, _) => self.issue(next, label)?,
+            Line::Clock(_) | Line::Shutdown => self.time(next)?,
+            definition => return self.define(next, definition),
+        }
+        Ok(None)
+    }
+
+    // Takes a line that defines or loads.
+    fn define(&mut self, next: (u64, Record), line: Line) -> Result<Option<ScriptFault>, NoMemory>
+        ensures { Leads (defined self.old next line) self.new result }
+    {
+        if !self.is_opening {
+            return Ok(Some(ScriptFault::Line(LineFault::DefineTooLate)));
+        }
+        match define(&mut self.opening, line) {
+            Ok(()) => {
+                self.definitions.push(next)?;
+                Ok(None)
+            }
+            Err(DefineFault::NoMemory) => Err(NoMemory),
+            Err(fault) => Ok(Some(ScriptFault::Definition(fault))),
+        }
+    }
+
+    // Keeps a line that is refused in every order.
+    fn refuse(&mut self, number: u64, label: Name8, refusal: Refused) -> Result<(), NoMemory>
+        ensures { OnOk result (self.new ≡ with_refused self.old number label refusal) }
+    {
+        self.is_opening = false;
+        self.refused.push(RefusedLine {
+            number,
+            label,
+            refusal,
+        })
+    }
+
+    // Attaches a task, unless its label is another's.
+    fn attach(&mut self, task: TaskPlan) -> Result<(), NoMemory>
+        ensures { OnOk result (self.new ≡ attached self.old task (task_place self.old task.label)) }
+    {
+        match place_of(self.tasks.as_slice(), &task.label) {
+            Some(_) => self.refuse(task.attach.0, task.label, Refused::DuplicateLabel),
+            None => {
+                self.is_opening = false;
+                self.tasks.push(task)?;
+                Ok(())
+            }
+        }
+    }
+
+    // Keeps a command as a line of its task, if the task is attached.
+    fn issue(&mut self, next: (u64, Record), label: Name8) -> Result<(), NoMemory>
+        ensures { OnOk result (self.new ≡ issued self.old next label (task_place self.old label)) }
+    {
+        match place_of(self.tasks.as_slice(), &label) {
+            Some(at) => {
+                self.is_opening = false;
+                self.tasks[at].lines.push(next)
+            }
+            None => self.refuse(next.0, label, Refused::NoTask),
+        }
+    }
+
+    // Returns what was taken apart.
+    fn finish(self) -> Planned
+        ensures { result ≡ record { plan = self.plan; refused = self.refused } }
+    {
+        Planned {
+            plan: Plan {
+                definitions: self.definitions,
+                tasks: Items::from_vec(self.tasks),
+                clock: self.clock,
+            },
+            refused: self.refused,
+        }
+    }
+
+    // Keeps a line of the clock.
+    fn time(&mut self, next: (u64, Record)) -> Result<(), NoMemory>
+        ensures { OnOk result (self.new ≡ timed self.old next) }
+    {
+        self.is_opening = false;
+        self.clock.push(next)
+    }
+}
+
+/// A script taken apart: its plan, and the lines that are refused in every order.
+#[derive(Drop)]
+pub struct Planned {
+    pub plan: Plan,
+    pub refused: Items<RefusedLine>,
+}
+
+/// Takes a script apart. `lines` are its lines, each without its line end. Returns its plan, or the
+/// number of the first line with a fault, and the fault.
+///
+/// Errors: `NoMemory`.
+pub fn plan_of(
+    alloc: Global,
+    lines: &[Record],
+) -> Result<Result<Planned, (u64, ScriptFault)>, NoMemory>
+    ensures { IfOk result (λ plan. plan ≡ planned (taken_apart nothing_taken 1 lines.now)) }
+{
+    let mut planner = Planner::new(alloc);
+    for i in 0..lines.len() {
+        let number = i as u64 + 1;
+        if let Some(fault) = planner.take(number, lines[i].bytes())? {
+            return Ok(Err((number, fault)));
+        }
+    }
+    Ok(Ok(planner.finish()))
+}
