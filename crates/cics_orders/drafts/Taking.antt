@@ -62,24 +62,31 @@ is_task task label = is_same task.label label
 abbrev pub with_refused : Taken → ℕ → Bytes → Refused → Taken
 with_refused t number label refusal = record t { is_opening = false; refused = t.refused ++ record { number = number; label = label; refusal = refusal } ∷ [] }
 
+-- a label is a task's
+abbrev pub has_task : List TaskPlan → Bytes → Bool
+has_task tasks label = is_some (first_place (λ task. is_task task label) tasks)
+
 -- a task is attached, unless its label is another's
-abbrev pub attached : Taken → TaskPlan → Option ℕ → Taken
-attached t task None = record t { is_opening = false; plan = record t.plan { tasks = t.plan.tasks ++ task ∷ [] } }
-attached t task (Some place) = with_refused t task.attach.0 task.label DuplicateLabel
+abbrev pub attached : Taken → TaskPlan → Taken
+attached t task =
+    if has_task t.plan.tasks task.label
+    then with_refused t task.attach.0 task.label DuplicateLabel
+    else record t { is_opening = false; plan = record t.plan { tasks = t.plan.tasks ++ task ∷ [] } }
 
 -- a task with a line more
 abbrev pub with_line : TaskPlan → NumberedLine → TaskPlan
 with_line task next = record task { lines = task.lines ++ next ∷ [] }
 
--- a command is its task's line, if the task is attached
-abbrev pub issued : Taken → NumberedLine → Bytes → Option ℕ → Taken
-issued t next label None = with_refused t next.0 label NoTask
-issued t next label (Some place) =
-    record t { is_opening = false; plan = record t.plan { tasks = with_first (λ task. is_task task label) (λ task. with_line task next) t.plan.tasks } }
+-- the task of a label with a line more
+abbrev pub line_added : List TaskPlan → Bytes → NumberedLine → List TaskPlan
+line_added tasks label next = with_first (λ task. is_task task label) (λ task. with_line task next) tasks
 
--- the place of the task of a label
-abbrev pub task_place : Taken → Bytes → Option ℕ
-task_place t label = first_place (λ task. is_task task label) t.plan.tasks
+-- a command is its task's line, if the task is attached
+abbrev pub issued : Taken → NumberedLine → Bytes → Taken
+issued t next label =
+    if has_task t.plan.tasks label
+    then record t { is_opening = false; plan = record t.plan { tasks = line_added t.plan.tasks label next } }
+    else with_refused t next.0 label NoTask
 
 -- a line of the clock
 abbrev pub timed : Taken → NumberedLine → Taken
@@ -89,8 +96,8 @@ timed t next = record t { is_opening = false; plan = record t.plan { clock = t.p
 abbrev pub followed : Taken → NumberedLine → Line → Step
 followed t next Blank = good t
 followed t next (Attach label transaction dtimout) =
-    good (attached t (record { label = label; transaction = transaction; dtimout = dtimout; attach = next; lines = [] }) (task_place t label))
-followed t next (Issue label command) = good (issued t next label (task_place t label))
+    good (attached t (record { label = label; transaction = transaction; dtimout = dtimout; attach = next; lines = [] }))
+followed t next (Issue label command) = good (issued t next label)
 followed t next (Clock seconds) = good (timed t next)
 followed t next Shutdown = good (timed t next)
 followed t next definition = defined t next definition

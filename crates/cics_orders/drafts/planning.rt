@@ -4,8 +4,8 @@ ghost use Rattle.std.specs.Prelude.{◌≡◌, OnOk, IfOk};
 ghost use Rattle.cics_script.specs.Lines.{line};
 ghost use Rattle.cics_orders.specs.Firsts.{first_place};
 ghost use Rattle.cics_orders.specs.Taking.{Leads, nothing_taken, taken_more, followed};
-ghost use Rattle.cics_orders.specs.Taking.{is_task, attached, issued, timed, defined};
-ghost use Rattle.cics_orders.specs.Taking.{task_place, with_refused, taken_apart, planned};
+ghost use Rattle.cics_orders.specs.Taking.{is_task, has_task, line_added, attached, issued};
+ghost use Rattle.cics_orders.specs.Taking.{timed, defined, with_refused, taken_apart, planned};
 
 use crate::lanes::is_same;
 use crate::plans::{Plan, TaskPlan};
@@ -73,6 +73,23 @@ fn place_of(tasks: &[TaskPlan], label: &Name8) -> Option<usize>
         }
     }
     None
+}
+
+// Adds a line to the task of a label, if there is one.
+fn add_line(
+    tasks: &mut Vec<TaskPlan>,
+    label: &Name8,
+    next: (u64, Record),
+) -> Result<(), NoMemory>
+    ensures { OnOk result (tasks.new.items ≡ line_added tasks.old.items label.now next) }
+{
+    match place_of(tasks.as_slice(), label) {
+        Some(at) => {
+            tasks[at].add(next)?;
+            Ok(())
+        }
+        None => Ok(()),
+    }
 }
 
 impl Planner {
@@ -157,31 +174,34 @@ impl Planner {
         })
     }
 
+    // Whether a label is a task's.
+    fn has_task(&self, label: &Name8) -> bool
+        ensures { result ≡ has_task self.now.plan.tasks label.now }
+    {
+        place_of(self.tasks.as_slice(), label).is_some()
+    }
+
     // Attaches a task, unless its label is another's.
     fn attach(&mut self, task: TaskPlan) -> Result<(), NoMemory>
-        ensures { OnOk result (self.new ≡ attached self.old task (task_place self.old task.label)) }
+        ensures { OnOk result (self.new ≡ attached self.old task) }
     {
-        match place_of(self.tasks.as_slice(), &task.label) {
-            Some(_) => self.refuse(task.attach.0, task.label, Refused::DuplicateLabel),
-            None => {
-                self.is_opening = false;
-                self.tasks.push(task)?;
-                Ok(())
-            }
+        if self.has_task(&task.label) {
+            return self.refuse(task.attach.0, task.label, Refused::DuplicateLabel);
         }
+        self.is_opening = false;
+        self.tasks.push(task)?;
+        Ok(())
     }
 
     // Keeps a command as a line of its task, if the task is attached.
     fn issue(&mut self, next: (u64, Record), label: Name8) -> Result<(), NoMemory>
-        ensures { OnOk result (self.new ≡ issued self.old next label (task_place self.old label)) }
+        ensures { OnOk result (self.new ≡ issued self.old next label) }
     {
-        match place_of(self.tasks.as_slice(), &label) {
-            Some(at) => {
-                self.is_opening = false;
-                self.tasks[at].lines.push(next)
-            }
-            None => self.refuse(next.0, label, Refused::NoTask),
+        if !self.has_task(&label) {
+            return self.refuse(next.0, label, Refused::NoTask);
         }
+        self.is_opening = false;
+        add_line(&mut self.tasks, &label, next)
     }
 
     // Returns what was taken apart.

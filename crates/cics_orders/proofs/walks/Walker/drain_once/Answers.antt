@@ -10,9 +10,9 @@ returns-in_ok-hear-in-Some c =
     let was : State = record { plan = inside.plan; machine = inside.region.machine; lanes = inside.lanes.items; last = inside.last; is_serial = inside.is_serial } in
     let arm = c.in-Some in
     let step = took was (arm.label, arm.outcome) (sym c.in_ok-drain_step.ensures.0 ∙ arm.is) in
-    subst (λ s. drained_once s ≡ Some (record was { machine = c.drain_step.new.self.machine; lanes = c.hear.new.lanes.items })) c.self.view_is
+    subst (λ s. drained_once s ≡ Some (record was { machine = c.drain_step.new.region.machine; lanes = c.hear.new.lanes.items })) c.self.view_is
     (step ∙ ap (λ m. Some (record was { machine = m; lanes = _ })) (sym c.in_ok-drain_step.ensures.1)
-    ∙ ap (λ xs. Some (record was { machine = c.drain_step.new.self.machine; lanes = xs })) (sym c.in_ok-hear-in-Some.ensures))
+    ∙ ap (λ xs. Some (record was { machine = c.drain_step.new.region.machine; lanes = xs })) (sym c.in_ok-hear-in-Some.ensures))
 
 -- there was no step
 pub returns-in-None : goal.returns-in-None
@@ -21,5 +21,5 @@ returns-in-None c =
     let was : State = record { plan = inside.plan; machine = inside.region.machine; lanes = inside.lanes.items; last = inside.last; is_serial = inside.is_serial } in
     let none = sym c.in_ok-drain_step.ensures.0 ∙ c.in-None.is in
     let same = c.in_ok-drain_step.ensures.1 ∙ drain_none was.machine none in
-    subst (λ s. (drained_once s ≡ None) × (record was { machine = c.drain_step.new.self.machine } ≡ s)) c.self.view_is
+    subst (λ s. (drained_once s ≡ None) × (record was { machine = c.drain_step.new.region.machine } ≡ s)) c.self.view_is
     (took_none was none, ap (λ m. record was { machine = m }) same)
