@@ -50,11 +50,7 @@ fn define_next(alloc: Global, opening: &mut Opening, bytes: &[u8]) -> Result<(),
 }
 
 // Defines and loads what lines say.
-fn define_all(
-    alloc: Global,
-    opening: &mut Opening,
-    lines: &[(u64, Record)],
-) -> Result<(), NoMemory>
+fn define_all(alloc: Global, opening: &mut Opening, lines: &[(u64, Record)]) -> Result<(), NoMemory>
     ensures { OnOk result (opening.new ≡ defined_more opening.old lines.now) }
 {
     for (_, bytes) in lines {
