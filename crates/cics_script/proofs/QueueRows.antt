@@ -435,6 +435,14 @@ row_not_here_recoverable : line (codes "DEFINE TDQUEUE('A') RECOVERABLE") ≡ Er
 unfolding ebcdic.code_of
 row_not_here_recoverable = refl
 
+row_not_here_logical_behind_physical : line (codes "DEFINE TDQUEUE('A') PHYSICAL LOGICAL") ≡ Err OptionNotHere
+unfolding ebcdic.code_of
+row_not_here_logical_behind_physical = refl
+
+row_not_here_physical_behind_none : line (codes "DEFINE TDQUEUE('A') NONE PHYSICAL") ≡ Err OptionNotHere
+unfolding ebcdic.code_of
+row_not_here_physical_behind_none = refl
+
 row_not_here_prefix_logical : line (codes "DEFINE TSPREFIX('A') LOGICAL") ≡ Err OptionNotHere
 unfolding ebcdic.code_of
 row_not_here_prefix_logical = refl

@@ -6,11 +6,15 @@ use Rattle.cics_script.specs.declared.faults.LineFault.TheVariants.{TooLong, Not
 use Rattle.cics_script.specs.declared.lines.Line.TheVariants.{Blank, DefineFile, LoadFile, Attach, Clock, Issue}
 use Rattle.cics_script.specs.declared.literals.Notation.TheVariants.{Quoted, Hexadecimal}
 use Rattle.cics_script.specs.declared.words.CommandWord.TheVariants as command
+use Rattle.cics_script.specs.declared.words.OptionWord.{OptionWord}
 use Rattle.cics_script.specs.declared.words.OptionWord.TheVariants as option
 use Rattle.cics_script.specs.Tokens.{word, number, literal}
 use Rattle.cics_script.specs.Layout.{laid_out}
-use Rattle.cics_script.specs.Spelling.{command_tokens}
+use Rattle.cics_script.specs.Spelling.{command_tokens, is_bare}
+use Rattle.std.specs.Prelude.{map}
+use Rattle.std.specs.List.{filter}
 use Rattle.std.specs.Fmt.{digits}
+use Rattle.cics_script.specs.Words.{excludes, option_words, usual_kind}
 use Rattle.cics_script.specs.Lines.{line}
 use lib.Chars.{codes}
 
@@ -129,6 +133,14 @@ row_resetbr = refl
 row_readnext : line (codes "T1 EXEC CICS READNEXT FILE('ACCT') INTO('A') RIDFLD(KEY) LENGTH(8)") ≡ Ok (Issue t1 (record { verb = ReadNext acct (Some 8); resp = false }))
 unfolding ebcdic.code_of
 row_readnext = refl
+
+row_resetbr_gteq : line (codes "T1 EXEC CICS RESETBR FILE('ACCT') RIDFLD('1') GTEQ") ≡ Ok (Issue t1 (record { verb = ResetBr acct (0xF1 ∷ []) None false false; resp = false }))
+unfolding ebcdic.code_of
+row_resetbr_gteq = refl
+
+row_readprev_into : line (codes "T1 EXEC CICS READPREV FILE('ACCT') INTO(A)") ≡ Ok (Issue t1 (record { verb = ReadPrev acct None; resp = false }))
+unfolding ebcdic.code_of
+row_readprev_into = refl
 
 row_readprev : line (codes "T1 EXEC CICS READPREV RIDFLD(5) FILE('ACCT')") ≡ Ok (Issue t1 (record { verb = ReadPrev acct None; resp = false }))
 unfolding ebcdic.code_of
@@ -574,6 +586,26 @@ row_not_here_excluded_generic : line (codes "T1 EXEC CICS READ UPDATE GENERIC") 
 unfolding ebcdic.code_of
 row_not_here_excluded_generic = refl
 
+row_not_here_excluded_recoverable : line (codes "DEFINE FILE('A') UNRECOVERABLE RECOVERABLE") ≡ Err OptionNotHere
+unfolding ebcdic.code_of
+row_not_here_excluded_recoverable = refl
+
+row_not_here_excluded_gteq_of_update : line (codes "T1 EXEC CICS READ UPDATE GTEQ") ≡ Err OptionNotHere
+unfolding ebcdic.code_of
+row_not_here_excluded_gteq_of_update = refl
+
+row_not_here_excluded_update_of_generic : line (codes "T1 EXEC CICS READ GENERIC UPDATE") ≡ Err OptionNotHere
+unfolding ebcdic.code_of
+row_not_here_excluded_update_of_generic = refl
+
+row_number_keyoffset : line (codes "DEFINE FILE('A') KEYOFFSET('2')") ≡ Err BadNumber
+unfolding ebcdic.code_of
+row_number_keyoffset = refl
+
+row_number_recordsize : line (codes "DEFINE FILE('A') RECORDSIZE(X)") ≡ Err BadNumber
+unfolding ebcdic.code_of
+row_number_recordsize = refl
+
 row_not_here_end_exec : line (codes "ATTACH T1 TRANSID('AAAA') END-EXEC") ≡ Err OptionNotHere
 unfolding ebcdic.code_of
 row_not_here_end_exec = refl
@@ -589,6 +621,24 @@ row_not_here_nosuspend = refl
 row_not_here_return : line (codes "T1 EXEC CICS RETURN ABCODE") ≡ Err OptionNotHere
 unfolding ebcdic.code_of
 row_not_here_return = refl
+
+-- ---- exclusion
+
+-- all options
+abbrev options : List OptionWord
+options = map (λ row. row.1) option_words
+
+-- if an option excludes another one, that one excludes it: the table is the same with rows and columns exchanged
+excludes-symmetric : map (λ first. map (λ second. excludes first second) options) options
+    ≡ map (λ first. map (λ second. excludes second first) options) options
+excludes-symmetric = refl
+
+-- the options that stand alone. A new one that becomes a flag unseen is missing here
+bare-options : filter (λ one. is_bare (usual_kind one)) options
+    ≡ option.Recoverable ∷ option.Unrecoverable ∷ option.Logical ∷ option.Physical ∷ option.Unrecovered ∷ option.Generic ∷ option.Equal
+    ∷ option.Gteq ∷ option.Update ∷ option.Next ∷ option.Rewrite ∷ option.Main ∷ option.Auxiliary ∷ option.NoSuspend ∷ option.Rollback
+    ∷ option.Cancel ∷ option.NoDump ∷ option.NoHandle ∷ option.EndExec ∷ []
+bare-options = refl
 
 -- ---- lines as they are written from their tokens
 

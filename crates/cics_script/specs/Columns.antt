@@ -37,7 +37,7 @@ abbrev pub IsTokenColumn : LineFault → List ℕ → ℕ → Type 0
 IsTokenColumn fault bytes column =
     (front : List Token) × (rest : List Token) × (tokens bytes ≡ front ++ rest) × StandsAt fault front rest × (column ≡ column_behind (length front) bytes)
 
--- the column of a fault: none of a line that is too long, and else the first byte that no line has, or the first token at which the line can't be read on
+-- the column of a fault. TooLong: none. NotAscii: that byte. Else: the first token at which the line can't be read on
 abbrev pub IsColumn : LineFault → List ℕ → Option ℕ → Type 0
 IsColumn TooLong bytes column = column ≡ None
 IsColumn NotAscii bytes column = column ≡ Some (1 + prefix_len is_script_byte bytes)

@@ -114,7 +114,7 @@ abbrev pub replacing : Option ℕ → List (OptionWord × Option Content)
 replacing None = (Rewrite, None) ∷ []
 replacing (Some item) = (Rewrite, Some nothing) ∷ (Item, Some (amount item)) ∷ []
 
--- the options that make a command what it is, each with what it gives, or with nothing where it has to be left out
+-- the options that determine a command: required ones with their content, inapplicable ones absent
 abbrev pub options_of : Verb → List (OptionWord × Option Content)
 options_of (verb.Read file ridfld key_length length generic gteq update) =
     (File, Some (name8 file)) ∷ (Ridfld, Some (text ridfld)) ∷ (KeyLength, option_map amount key_length) ∷ (Length, option_map amount length)

@@ -191,11 +191,12 @@ usual_kind Resp2 = Area
 usual_kind EndExec = Last
 usual_kind option = Flag
 
--- what an option takes where one of them takes something else
+-- this kind for one option, and the usual kind for any other
 abbrev pub kind_but : OptionWord → Kind → OptionWord → Kind
 kind_but other kind option = if same option other then kind else usual_kind option
 
--- what an option takes in a line that has it: RIDFLD of READNEXT and READPREV, and ITEM of WRITEQ TS, are read without effect
+-- what an option of a line takes. Exceptions: RIDFLD of READNEXT and READPREV, and ITEM of WRITEQ TS, are areas;
+-- QUEUE of TD is a name of four bytes
 abbrev pub kind_at : Form → OptionWord → Kind
 kind_at (form.Command command.ReadNext) option = kind_but Ridfld Area option
 kind_at (form.Command command.ReadPrev) option = kind_but Ridfld Area option
@@ -205,7 +206,8 @@ kind_at (form.Command command.ReadqTd) option = kind_but Queue Name4 option
 kind_at (form.Command command.DeleteqTd) option = kind_but Queue Name4 option
 kind_at line option = usual_kind option
 
--- what an option of a line takes, or nothing where the line has no such option
+-- what an option of a line takes, or nothing if the line has no such option. Three tables join here: `own_options`,
+-- `shared_options` and `kind_at`
 abbrev pub kind_in : Form → OptionWord → Option Kind
 kind_in line option =
     if list_any (same option) (own_options line) || list_any (same option) (shared_options line) then Some (kind_at line option) else None

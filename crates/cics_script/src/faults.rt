@@ -3,9 +3,8 @@
 ghost use Rattle.std.specs.Prelude.{◌≡◌};
 ghost use Rattle.cics_script.specs.Faults.{number_of, title_of};
 
-/// Why a line can't be read: what is wrong with the first token that can't stand where it stands,
-/// unless it is one of the whole line (`TooLong`, `NotAscii`, `MissingOption`, `DefineTooLate`) or
-/// `NoMemory`. But for `NoMemory` a journal prints its number and its name.
+/// Why a line can't be read: the fault of its first wrong token, or of the whole line. The order of
+/// the variants is that of the numbers that a journal prints.
 #[derive(Clone, Copy, Debug, PartialEq, Eq)]
 pub enum LineFault {
     /// The line has more than 70,000 bytes.

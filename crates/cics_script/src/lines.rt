@@ -293,8 +293,7 @@ fn read_shutdown(alloc: Global, bytes: &[u8]) -> Result<Line, LineFault>
     Ok(Line::Shutdown)
 }
 
-// The command that a verb and TS or TD are, where the line begins with one of these words in
-// capitals, and the line behind it. `None` says nothing of the line.
+// Reads TS or TD behind a verb, in capitals. `None` says nothing.
 fn common_queue_command(verb: CommandWord, bytes: &[u8]) -> Option<(CommandWord, &[u8])>
     ensures { IfSome result (λ found. IsNamed (queue_words verb) found.0 bytes.entry.now
         found.1.now) }
@@ -346,8 +345,7 @@ fn read_issued(
     Ok(Line::Issue(label, Command { verb, resp }))
 }
 
-// The verb with which the line begins, where it is one that many lines have and is written in
-// capitals, and the line behind it. `None` says nothing of the line.
+// Reads a common verb, in capitals. `None` says nothing.
 fn common_verb(bytes: &[u8]) -> Option<(CommandWord, &[u8])>
     ensures { IfSome result (λ found. IsNamed commands found.0 bytes.entry.now found.1.now) }
 {
@@ -462,8 +460,7 @@ fn few_are_in_script(bytes: &[u8]) -> bool
     all
 }
 
-// Whether a line has no other bytes than a script may have, where the last of its bytes, a block of
-// them, have none.
+// Returns whether a script may have all these bytes, if it may have the last block.
 fn blocks_are_in_script(bytes: &[u8]) -> bool
     requires last { list_all is_script_byte (drop (length bytes.now - 16) bytes.now) ≡ true }
     ensures { result ≡ list_all is_script_byte bytes.now }
@@ -485,8 +482,7 @@ fn blocks_are_in_script(bytes: &[u8]) -> bool
 fn are_in_script(bytes: &[u8]) -> bool
     ensures { result ≡ list_all is_script_byte bytes.now }
 {
-    // The last block is tested first, and then the others from the line's beginning on: so none has
-    // fewer bytes, which would be tested one by one, and those of the last one may be tested twice.
+    // Tests the last 16 bytes first, so the rest are whole blocks. Some bytes are tested twice.
     match bytes.last_chunk::<BLOCK>() {
         Some(last) => few_are_in_script(last) && blocks_are_in_script(bytes),
         None => few_are_in_script(bytes),
@@ -502,12 +498,14 @@ fn is_blank_line(bytes: &[u8]) -> bool
     }
 }
 
-/// What one line of a script says. `bytes` is the line without its LF, and without the CR right
-/// before that. `alloc` gives the memory of the records in the line; `NoMemory` is answered only
-/// where it was refused, and every other answer depends on the bytes alone. Of a line that can't be
-/// read the answer is the one that its first wrong token has, and `MissingOption` where it is read
-/// to its end and lacks an option; a line of more than 70,000 bytes is `TooLong`, and then one with
-/// a byte that is neither a tab nor printable ASCII is `NotAscii`, before all others.
+/// Reads one line, without its LF and the CR before it. `alloc` gives the memory of its records.
+///
+/// Errors: the first of these that applies, and `NoMemory` only if memory was refused.
+///
+/// - `TooLong`: over 70,000 bytes.
+/// - `NotAscii`: another byte than a tab or printable ASCII.
+/// - The fault of the first wrong token.
+/// - `MissingOption`: read to its end, the line lacks an option.
 #[inline(never)]
 pub fn read_line(alloc: Global, bytes: &[u8]) -> Result<Line, LineFault>
     ensures { Reads (line bytes.now) result }

@@ -46,8 +46,7 @@ pub struct Found<'a> {
     pub value: Value<'a>,
 }
 
-// What lies in the places of `Options` that have no option yet: the first variants, so that all
-// places are filled with zeros at once.
+// Fills unused slots: all zeros, the first variants.
 impl Default for Found<'_> {
     fn default() -> Self {
         Found {
@@ -162,8 +161,7 @@ fn put_token<'a>(
     }
 }
 
-// Puts an option with a literal of its kind behind those that were read. The texts and names of
-// which most lines are made are put where they are made: what is handed on is moved each time.
+// Pushes an option with a literal. Texts and names are made in place, as a move costs.
 fn put_literal<'a>(
     alloc: Global,
     kind: Kind,
@@ -374,8 +372,7 @@ fn read_end(bytes: &[u8]) -> Result<(), LineFault>
     }
 }
 
-// The option with which the line begins, where it is one that many lines have and is written in
-// capitals, and the line behind its word. `None` says nothing of the line.
+// Reads a common option's word, in capitals. `None` says nothing.
 fn common_option(bytes: &[u8]) -> Option<(OptionWord, &[u8])>
     ensures { IfSome result (λ found. IsNamed option_words found.0 bytes.entry.now found.1.now) }
 {
@@ -447,9 +444,8 @@ fn next_option(last: Option<Kind>, bytes: &[u8]) -> Result<Option<(OptionWord, &
     }
 }
 
-/// Reads the options of a line behind its fixed part into `found`, which has none yet. At a fault
-/// nothing is said of what it has then. They are no result, which would be moved with all its
-/// places.
+/// Reads the options of a line into `found`, which is empty. On error its content is unspecified.
+/// (A result would be moved whole.)
 pub fn read_options<'a>(
     alloc: Global,
     form: Form,

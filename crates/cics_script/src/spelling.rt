@@ -13,16 +13,13 @@ use crate::lines::Line;
 use crate::words::CommandWord;
 use cics_names::Command;
 
-/// Each command is read from its options in any order: behind EXEC CICS stands the command's word,
-/// right behind that TS or TD where it acts on a queue, of which TS may be left out, and then
-/// options of the command of which none stands twice and no two exclude each other, END-EXEC last
-/// of all if it is there. They say the command: what makes it what it is is among them, what it
-/// does without is not, and RESP or NOHANDLE is there where its conditions are handled. The options
-/// that are read without effect may stand among them or not. That holds of the tokens (`read`), and
-/// of the bytes of a whole line in which each token is written with a blank behind it (`bytes`).
-/// Each command has such options, if those that it needs go together and can be written (`each`),
-/// and is read back from the bytes of the line that it is written out as, if they are no more than
-/// a line may have (`back`).
+/// A command is read from its options in any order. None stands twice, no two exclude each other,
+/// END-EXEC is last. TS may be left out, and so may options that are read without effect.
+///
+/// - `read`: tokens that spell a command are read as that command.
+/// - `bytes`: so are the bytes of a line that has a blank behind each token.
+/// - `each`: a command has a spelling if its options go together and can be written.
+/// - `back`: a line that `write_out` writes is read back as its command, if it isn't too long.
 pub fn commands_in_any_order()
     ensures read { (label : List ℕ) (command : Command)
         (first : CommandWord) (left_out : Bool) (written : List Written) (entries : List Entry)

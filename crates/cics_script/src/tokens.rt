@@ -271,8 +271,7 @@ pub fn either_named<'a, X: Copy>(
     }
 }
 
-/// The next token and the line behind it where it is a word whose first letter is no X, which may
-/// begin a hexadecimal literal. `None` says nothing of the line: then `next_token` tells.
+/// Reads the next token if it is a word that doesn't begin with X. On `None` ask `next_token`.
 pub fn next_word(bytes: &[u8]) -> Option<(&[u8], &[u8])>
     ensures { IfSome result (λ found.
         Takes bytes.entry.now (Ok (Some (Token.Word found.0, found.1)))) }

@@ -18,7 +18,7 @@ use crate::words::OptionWord::{
     TdQueue, Transid, TsPrefix, Unrecoverable, Unrecovered, Update,
 };
 
-/// What the first word of a line makes of it, where the word is no label.
+/// A word that begins a line and is no label.
 #[derive(Clone, Copy, Debug, PartialEq, Eq)]
 pub enum Start {
     Define,
@@ -164,6 +164,7 @@ static LOAD_OBJECTS: [(&str, LoadObject); 3] = [
     ("TDQUEUE", LoadObject::TdQueue),
 ];
 
+// Frequent verbs come first: a search begins at the first row.
 static COMMANDS: [(&str, CommandWord); 18] = [
     ("READ", CommandWord::Read),
     ("WRITE", CommandWord::Write),
@@ -185,6 +186,7 @@ static COMMANDS: [(&str, CommandWord); 18] = [
     ("ABEND", CommandWord::Abend),
 ];
 
+// Frequent words come first, and FILE before DATASET: `option_word` returns the first.
 static OPTIONS: [(&str, OptionWord); 39] = [
     ("FILE", File),
     ("DATASET", File),
@@ -289,8 +291,7 @@ pub fn command_named(word: &[u8]) -> Option<CommandWord>
     find_row(&COMMANDS, word)
 }
 
-/// Whether the verb acts on a queue of temporary storage where nothing else is said, so that TS or
-/// TD may stand right behind it.
+/// Returns whether TS or TD may follow the verb. If false, neither may.
 pub fn is_of_queue(verb: CommandWord) -> bool
     ensures { result ≡ false → queue_words verb ≡ [] }
 {
@@ -300,8 +301,8 @@ pub fn is_of_queue(verb: CommandWord) -> bool
     )
 }
 
-/// What a verb is with this word right behind it, where the word may stand there: TS or TD behind
-/// one that acts on a queue, which is of temporary storage without them.
+/// Returns the command of a verb and TS or TD, or `None` if the word is neither or the verb takes
+/// none.
 pub fn queue_command(verb: CommandWord, word: &[u8]) -> Option<CommandWord>
     ensures { result ≡ lookup (map capital word.now) (queue_words verb) }
 {
@@ -314,7 +315,7 @@ pub fn queue_command(verb: CommandWord, word: &[u8]) -> Option<CommandWord>
     }
 }
 
-/// What a verb is with TS right behind it, where that may stand there.
+/// Returns the command of a verb and TS, or `None` if the verb takes none.
 pub fn ts_command(verb: CommandWord) -> Option<CommandWord>
     ensures { result ≡ lookup (codes "TS") (queue_words verb) }
 {
@@ -324,7 +325,7 @@ pub fn ts_command(verb: CommandWord) -> Option<CommandWord>
     }
 }
 
-/// What a verb is with TD right behind it, where that may stand there.
+/// Returns the command of a verb and TD, or `None` if the verb takes none.
 pub fn td_command(verb: CommandWord) -> Option<CommandWord>
     ensures { result ≡ lookup (codes "TD") (queue_words verb) }
 {
@@ -460,7 +461,7 @@ fn usual_kind(option: OptionWord) -> Kind
     }
 }
 
-// What an option takes where one of them takes something else than in most lines.
+// Returns `kind` for the option `other`, and the usual kind for any other option.
 fn kind_but(other: OptionWord, kind: Kind, option: OptionWord) -> Kind
     ensures { result ≡ kind_but other kind option }
 {
@@ -487,7 +488,8 @@ fn kind_at(form: Form, option: OptionWord) -> Kind
     }
 }
 
-/// What an option of a line takes, or nothing where the line has no such option.
+/// Returns what an option of a line takes, or `None` if the line has no such option. Joins three
+/// tables: `own_options`, `shared_options` and `kind_at`.
 pub fn kind_of(form: Form, option: OptionWord) -> Option<Kind>
     ensures { result ≡ kind_in form option }
 {

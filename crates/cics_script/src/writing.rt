@@ -13,13 +13,12 @@ use crate::texts::{push_name, push_number, push_str, push_text};
 use crate::words::{OptionWord, option_word};
 use cics_names::{Command, Name4, Name8, NoMemory, Record, Verb};
 
-/// Puts the line of a command, without an LF, at the end of `out`: the mirror of `read_line`, which
-/// reads it back as this command of this task (`commands_in_any_order`).
+/// Appends the command's line, without LF, which `read_line` reads back (`commands_in_any_order`).
+/// Appends nothing if no line says it: DELETE with KEYLENGTH or GENERIC but no RIDFLD. On
+/// `NoMemory` part of the line may be there.
 ///
-/// `label` is the label of the task that issues it, as it is to be written. A record is written in
-/// characters where each of its bytes has one, else in hexadecimal, and a name without the blanks
-/// that fill it up. Nothing is put where no line says the command: a DELETE that has KEYLENGTH or
-/// GENERIC without RIDFLD. Where memory is refused a front of the line may have been put.
+/// `label` is written as it is, and a name without the blanks that fill it up. A record is written
+/// in characters if each of its bytes has one, else in hexadecimal.
 pub fn write_out(out: &mut Vec<u8>, label: &[u8], command: &Command) -> Result<(), NoMemory>
     ensures { OnOk result (out.new.items
         ≡ out.old.items ++ written_out label.now command.now) }
