@@ -3,7 +3,7 @@
 ghost use Rattle.std.specs.Prelude.{◌<◌, IfSome};
 
 use crate::lines::{Call, Ending};
-use crate::records::{further, push_all, push_own, push_record};
+use crate::records::{further, push_all, push_own};
 use crate::tries::Lower;
 use cics_images::{Images, Undoable};
 use cics_ksds::{File, FileDef};
@@ -143,12 +143,6 @@ impl Lower for Files {
             "clear" => write!(told, "{}", self.clear(bytes, call.ending)?)?,
             "copy" => self.file = self.file.copy()?,
             "listing" => push_own(told, self.file.listing()?.as_slice(), self.more)?,
-            "read" => push_record(told, self.file.read(bytes))?,
-            "from" => push_record(told, self.file.first_from(bytes, false))?,
-            "after" => push_record(told, self.file.first_from(bytes, true))?,
-            "to" => push_record(told, self.file.last_to(bytes, false))?,
-            "before" => push_record(told, self.file.last_to(bytes, true))?,
-            "count" => write!(told, "{}", self.file.count_prefix(bytes))?,
             "sweep" => self.file.sweep(bytes),
             "commit" => self.images.forget(&mut self.file),
             _ => told.push_str("no call")?,

@@ -178,13 +178,6 @@ impl Holders {
                 self.table.let_go(&ResourceRef::of(&resource), unit);
                 Ok(())
             }
-            "holder" => push_unit(told, self.table.holder(&resource)),
-            "count" => Ok(write!(told, "{}", self.table.count(&resource))?),
-            "over" => push_unit(
-                told,
-                self.table
-                    .holder_over(&ResourceRef::of(&resource), Some(unit)),
-            ),
             _ => Ok(told.push_str("no call")?),
         }
     }

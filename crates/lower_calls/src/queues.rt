@@ -67,7 +67,6 @@ impl Lower for Queue {
             "write" => told.push_str(self.write(given, call.ending)?.name())?,
             "read" => push_read(told, &self.read(is_writer, call.ending)?)?,
             "delete" => told.push_str(self.delete(call.ending).name())?,
-            "first" => push_record(told, self.queue.first(is_writer))?,
             "copy" => self.queue = self.queue.copy()?,
             "listing" => push_own(told, self.queue.listing()?.as_slice(), self.more)?,
             "commit" if is_writer => self.queue.commit_writer(),

@@ -121,7 +121,6 @@ impl Lower for Queues {
                 &self.store.read_item(&name, number_in(given.bytes()))?,
             )?,
             "next" => push_read(told, &self.store.read_next(&name)?)?,
-            "place" => write!(told, "{}", self.store.next_place(&name))?,
             "copy" => self.store = self.store.copy()?,
             "listing" => self.push_listing(told)?,
             "commit" => self.images.forget(&mut self.store),

@@ -1,34 +1,50 @@
-//! Runs of scripts: each call made, once more where memory was refused, and compared.
+//! Runs of scripts: each event with each of its requests for memory refused in turn, and compared.
 
-use crate::calls::{Call, Step, steps_of};
-use crate::guarded_calls::{Told, is_open, make};
+use crate::events::{Came, Event, event_of};
 use crate::memory::{Requests, switch, was_refused};
-use crate::openings::started;
-use crate::states::{listing_of, replay_of, state_of};
-use crate::texts::told_text;
-use cics_enqueue::UnitId;
-use cics_names::NoMemory;
-use cics_units::Units;
-use std::alloc::Global;
+use crate::openings::start;
+use crate::scripts::Step;
+use crate::texts::{push_came, push_name};
+use cics_names::{Name8, NoMemory};
+use cics_units::Opening;
+use std::alloc::{AllocError, Global};
+use std::fmt::Write;
 
-/// Why a run stopped; calls are told by their places in the script.
+/// No event asks for memory as often as this, and no region goes on by itself so often.
+pub(crate) const MOST: u64 = 20_000;
+
+/// What a script runs on.
+pub(crate) trait Target: Sized {
+    /// Starts with an opening, which comes back if memory is refused.
+    fn start(opening: Opening) -> Result<Self, Opening>;
+
+    /// Lets an event happen.
+    fn happen(&mut self, event: Event) -> Result<Came, NoMemory>;
+
+    /// Puts all that is shown at the end of a text, also with regard to an event.
+    fn push_state(&self, text: &mut String, asked: &Event) -> Result<(), NoMemory>;
+
+    /// Returns the labels of the tasks that have a unit of work and don't wait.
+    fn free_tasks(&self, alloc: Global) -> Result<Vec<Name8>, NoMemory>;
+}
+
+/// Why a run stopped, mostly with a line of the script.
 #[derive(Debug, Drop)]
 pub(crate) enum Stop {
-    /// A call was refused memory a second time. All was as before it, and every unit was ended.
-    Refused,
-    /// A definition or the start came out wrongly, or was refused and changed something.
-    Opening,
-    /// A line is no call.
-    NoCall,
-    /// This call came out otherwise than it has to, was refused without want of memory, or wasn't
-    /// refused with it.
-    Otherwise(usize),
-    /// This call was refused, and changed something.
-    Changed(usize),
-    /// Of this event and of what then went on by itself came these lines, and not those that the script says.
-    Came(usize, String),
+    /// The line is none of a script.
+    NoCall(String),
+    /// This came of the line, and it has to be otherwise.
+    Otherwise(String, String),
+    /// The line was refused, and changed something.
+    Changed(String),
+    /// The line was refused without a refused request, or not refused with one.
+    Refused(String),
+    /// The line asks for more memory than any may, or leads to more than any may.
+    Endless(String),
+    /// The start changed something, or was refused without a refused request, or not with one.
+    Start,
     /// What stands at the end isn't what the plain replay gives.
-    NotReplayed,
+    NotReplayed(String),
     /// There was no memory for what is compared.
     NoRoom,
 }
@@ -39,216 +55,204 @@ impl From<NoMemory> for Stop {
     }
 }
 
-/// How the units that are open at the end of a script are ended.
-#[derive(Clone, Copy, Debug, PartialEq, Eq)]
-pub(crate) enum End {
-    BackedOut,
-    Committed,
-    Mixed,
+impl From<AllocError> for Stop {
+    fn from(_refusal: AllocError) -> Stop {
+        Stop::NoRoom
+    }
 }
 
-impl End {
-    // How the unit of a number ends: the mixed end commits each other one.
-    fn of_unit(self, number: u64) -> Call {
-        let commits = match self {
-            End::BackedOut => false,
-            End::Committed => true,
-            End::Mixed => number % 2 == 0,
-        };
-        if commits {
-            Call::Commit(UnitId::new(number))
+/// How a run is made: where `refuses` is true, requests are refused, and states compared.
+#[derive(Clone, Copy)]
+pub(crate) struct Run {
+    pub(crate) alloc: Global,
+    pub(crate) refuses: bool,
+}
+
+impl Run {
+    /// Returns all that is shown; nothing where no request is refused.
+    pub(crate) fn state<T: Target>(&self, target: &T, asked: &Event) -> Result<String, NoMemory> {
+        let mut text = String::new(self.alloc);
+        if self.refuses {
+            target.push_state(&mut text, asked)?;
+        }
+        Ok(text)
+    }
+
+    /// Returns what becomes of the requests of what may make some.
+    pub(crate) fn requests(&self) -> Requests {
+        if self.refuses {
+            Requests::Next
         } else {
-            Call::BackOut(UnitId::new(number))
+            Requests::Granted
         }
     }
-}
 
-// What becomes of the requests of a call: one that answers no want of memory may make none.
-fn requests_of(call: &Call) -> Requests {
-    match call {
-        Call::Execute(_, _) | Call::Submit(_, _) => Requests::Counted,
-        Call::Enqueue(_, _) | Call::ReadTs(_, _) => Requests::Counted,
-        Call::Listing | Call::Replay => Requests::Counted,
-        Call::Dequeue(_, _) | Call::Unlock(_, _) => Requests::Forbidden,
-        Call::Commit(_) | Call::BackOut(_) => Requests::Forbidden,
-    }
-}
-
-// Makes a call while this becomes of its requests for memory, and tells what came of it; None where it answered that there
-// is none.
-fn make_with_requests(
-    units: &mut Units,
-    alloc: Global,
-    call: &Call,
-    requests: Requests,
-) -> Result<Option<Told>, NoMemory> {
-    switch(alloc, requests)?;
-    let told = make(units, alloc, call);
-    switch(alloc, Requests::Granted)?;
-    Ok(told.ok())
-}
-
-// Makes a call, and tells what came of it; None where memory was refused. It is refused where a request
-// was, and nowhere else.
-fn make_once(
-    units: &mut Units,
-    alloc: Global,
-    call: &Call,
-    at: usize,
-) -> Result<Option<Told>, Stop> {
-    let told = make_with_requests(units, alloc, call, requests_of(call))?;
-    if was_refused(alloc) == told.is_none() {
-        Ok(told)
-    } else {
-        Err(Stop::Otherwise(at))
-    }
-}
-
-// Whether a call was told what it has to be told.
-fn is_told(alloc: Global, told: &Told, expected: &[u8]) -> Result<bool, NoMemory> {
-    let text = told_text(alloc, told)?;
-    Ok(text.as_bytes() == expected)
-}
-
-// Whether all is as it was.
-fn is_as_before(
-    units: &Units,
-    alloc: Global,
-    steps: &[Step],
-    before: &str,
-) -> Result<bool, NoMemory> {
-    let after = state_of(alloc, units, steps)?;
-    Ok(after.as_str() == before)
-}
-
-// Makes a call, and says whether it came out as expected; None where memory was refused.
-fn comes_out(
-    units: &mut Units,
-    alloc: Global,
-    call: &Call,
-    at: usize,
-    expected: &[u8],
-) -> Result<Option<bool>, Stop> {
-    match make_once(units, alloc, call, at)? {
-        Some(told) => Ok(Some(is_told(alloc, &told, expected)?)),
-        None => Ok(None),
-    }
-}
-
-// Makes a call twice at the most: once more where memory was refused and all is as before.
-fn come_out_from(
-    units: &mut Units,
-    alloc: Global,
-    steps: &[Step],
-    call: &Call,
-    at: usize,
-    expected: &[u8],
-    before: &str,
-) -> Result<(), Stop> {
-    for _ in 0..2 {
-        match comes_out(units, alloc, call, at, expected)? {
-            Some(true) => return Ok(()),
-            Some(false) => return Err(Stop::Otherwise(at)),
-            None => {}
-        }
-        if !is_as_before(units, alloc, steps, before)? {
-            return Err(Stop::Changed(at));
+    // The event of a step.
+    fn event(&self, step: &Step<'_>) -> Result<Event, Stop> {
+        match event_of(self.alloc, step.line)? {
+            Some(event) => Ok(event),
+            None => Err(Stop::NoCall(step.line.to_string(self.alloc)?)),
         }
     }
-    Err(Stop::Refused)
-}
 
-// Makes a call, once more where memory was refused and all is as before; it has to come out as expected.
-fn come_out(
-    units: &mut Units,
-    alloc: Global,
-    steps: &[Step],
-    call: &Call,
-    at: usize,
-    expected: &[u8],
-) -> Result<(), Stop> {
-    let before = state_of(alloc, units, steps)?;
-    come_out_from(units, alloc, steps, call, at, expected, &before)
-}
-
-// Makes the calls of a script in turn.
-fn run_steps(units: &mut Units, alloc: Global, steps: &[Step]) -> Result<(), Stop> {
-    for (at, step) in steps.iter().enumerate() {
-        come_out(units, alloc, steps, &step.call, at, step.expected.bytes())?;
-    }
-    Ok(())
-}
-
-// Ends each open unit.
-fn end_units(units: &mut Units, alloc: Global, steps: &[Step], end: End) -> Result<(), Stop> {
-    for number in 0..units.outcomes().len() as u64 {
-        if is_open(units, UnitId::new(number)) {
-            come_out(units, alloc, steps, &end.of_unit(number), steps.len(), b"")?;
+    // Lets the event of a step happen once. Returns what came of it; None if it was refused, as it
+    // is exactly if one of its requests was.
+    fn happen<T: Target>(&self, target: &mut T, step: &Step<'_>) -> Result<Option<Came>, Stop> {
+        let event = self.event(step)?;
+        let requests = if event.may_ask(step.answer()) {
+            self.requests()
+        } else {
+            Requests::Forbidden
+        };
+        switch(self.alloc, requests)?;
+        let came = target.happen(event);
+        switch(self.alloc, Requests::Granted)?;
+        match (came, was_refused(self.alloc)) {
+            (Ok(came), false) => Ok(Some(came)),
+            (Err(NoMemory), true) => Ok(None),
+            _ => Err(Stop::Refused(step.line.to_string(self.alloc)?)),
         }
     }
-    Ok(())
-}
 
-// The listing at the end, as the units and the plain replay both have it.
-fn closing(units: &Units, alloc: Global) -> Result<String, Stop> {
-    let replayed = replay_of(alloc, units)?;
-    let listed = listing_of(alloc, units)?;
-    if listed.as_str() == replayed.as_str() {
-        Ok(listed)
-    } else {
-        Err(Stop::NotReplayed)
+    // Lets the event of a step happen until none of its requests is refused. Puts what came of it at
+    // the end, and returns whether anything did. Each time that it is refused all has to be as before.
+    fn come_out<T: Target>(
+        &self,
+        target: &mut T,
+        step: &Step<'_>,
+        text: &mut String,
+    ) -> Result<bool, Stop> {
+        let asked = self.event(step)?;
+        let before = self.state(target, &asked)?;
+        switch(self.alloc, Requests::First)?;
+        for _ in 0..MOST {
+            if let Some(came) = self.happen(target, step)? {
+                return Ok(push_came(text, &came)?);
+            }
+            if self.state(target, &asked)?.as_str() != before.as_str() {
+                return Err(Stop::Changed(step.line.to_string(self.alloc)?));
+            }
+        }
+        Err(Stop::Endless(step.line.to_string(self.alloc)?))
     }
-}
 
-// Makes the calls of a script in turn, and says whether they were stopped by want of memory.
-fn are_refused(units: &mut Units, alloc: Global, steps: &[Step]) -> Result<bool, Stop> {
-    match run_steps(units, alloc, steps) {
-        Ok(()) => Ok(false),
-        Err(Stop::Refused) => Ok(true),
-        Err(stop) => Err(stop),
+    // Lets a region go on by itself until nothing more comes: a waiting command that may resume
+    // comes before a task that has waited too long.
+    fn drain<T: Target>(&self, target: &mut T, text: &mut String) -> Result<(), Stop> {
+        for _ in 0..MOST {
+            if !self.come_out(target, &Step::of(self.alloc, "WAKE"), text)?
+                && !self.come_out(target, &Step::of(self.alloc, "EXPIRE"), text)?
+            {
+                return Ok(());
+            }
+        }
+        Err(Stop::Endless(text.as_str().to_string(self.alloc)?))
     }
-}
 
-// Asks for the listing and for the plain replay, while memory may be refused.
-fn list(units: &mut Units, alloc: Global, steps: &[Step], listed: &[u8]) -> Result<(), Stop> {
-    come_out(units, alloc, steps, &Call::Listing, steps.len(), listed)?;
-    come_out(units, alloc, steps, &Call::Replay, steps.len(), listed)
-}
-
-// Makes the calls of a script, ends what is open, and answers the listing.
-fn run_to_end(units: &mut Units, alloc: Global, steps: &[Step], end: End) -> Result<String, Stop> {
-    let refused = are_refused(units, alloc, steps)?;
-    end_units(units, alloc, steps, end)?;
-    let listed = closing(units, alloc)?;
-    if refused {
-        return Err(Stop::Refused);
+    // Runs a step; what comes of it and by itself then has to be what the script says.
+    fn run_step<T: Target>(&self, target: &mut T, step: &Step<'_>) -> Result<(), Stop> {
+        let mut came = String::new(self.alloc);
+        self.come_out(target, step, &mut came)?;
+        self.drain(target, &mut came)?;
+        if step.is_met_by(&came) {
+            Ok(())
+        } else {
+            Err(Stop::Otherwise(step.line.to_string(self.alloc)?, came))
+        }
     }
-    list(units, alloc, steps, listed.as_bytes())?;
-    Ok(listed)
-}
 
-// Makes these calls of a script on units that start with what it defines and loads.
-fn run_calls(
-    alloc: Global,
-    prelude: &str,
-    script: &str,
-    steps: &[Step],
-    end: End,
-) -> Result<String, Stop> {
-    let mut units = started(alloc, prelude, script)?;
-    run_to_end(&mut units, alloc, steps, end)
-}
+    // Runs the steps that define something, or those that don't.
+    fn run_steps<T: Target>(
+        &self,
+        target: &mut T,
+        steps: &[Step<'_>],
+        defines: bool,
+    ) -> Result<(), Stop> {
+        for step in steps {
+            if self.event(step)?.is_definition() == defines {
+                self.run_step(target, step)?;
+            }
+        }
+        Ok(())
+    }
 
-/// Runs a script, and answers the listing at its end. Also where memory was refused for good, every unit
-/// is ended and the listing is the one of the plain replay.
-pub(crate) fn run_script(
-    alloc: Global,
-    prelude: &str,
-    script: &str,
-    end: End,
-) -> Result<String, Stop> {
-    match steps_of(alloc, script)? {
-        Some(steps) => run_calls(alloc, prelude, script, &steps, end),
-        None => Err(Stop::NoCall),
+    /// Starts with what the steps of a script define and load.
+    pub(crate) fn start<T: Target + Drop>(&self, steps: &[Step<'_>]) -> Result<T, Stop> {
+        let mut opening = Opening::new(self.alloc);
+        self.run_steps(&mut opening, steps, true)?;
+        start(*self, opening)
+    }
+
+    // Ends each of these tasks, in one of two ways in turn, and puts what comes at the end.
+    fn end_tasks<T: Target>(
+        &self,
+        target: &mut T,
+        ends: [&str; 2],
+        text: &mut String,
+    ) -> Result<bool, Stop> {
+        let free = target.free_tasks(self.alloc)?;
+        for (at, label) in free.iter().enumerate() {
+            let mut line = String::new(self.alloc);
+            push_name(&mut line, &label.bytes())?;
+            write!(line, " EXEC CICS {}", ends[at % 2])?;
+            self.come_out(target, &Step::of(self.alloc, &line), text)?;
+            self.drain(target, text)?;
+        }
+        Ok(free.is_empty())
+    }
+
+    /// Ends each task that has a unit of work and doesn't wait, also those that resume by that.
+    /// Returns what came of it, and the listing, which has to be that of the replay.
+    pub(crate) fn end<T: Target>(&self, target: &mut T, ends: [&str; 2]) -> Result<String, Stop> {
+        let mut text = String::new(self.alloc);
+        for _ in 0..MOST {
+            if self.end_tasks(target, ends, &mut text)? {
+                break;
+            }
+        }
+        let (mut listed, mut replayed) = (String::new(self.alloc), String::new(self.alloc));
+        self.come_out(target, &Step::of(self.alloc, "LISTING"), &mut listed)?;
+        self.come_out(target, &Step::of(self.alloc, "REPLAY"), &mut replayed)?;
+        if listed.as_str() != replayed.as_str() {
+            return Err(Stop::NotReplayed(listed));
+        }
+        text.push_str(&listed)?;
+        Ok(text)
+    }
+
+    /// Runs the steps of a script, and ends what is open then.
+    pub(crate) fn run<T: Target + Drop>(
+        &self,
+        steps: &[Step<'_>],
+        ends: [&str; 2],
+    ) -> Result<String, Stop> {
+        let mut target: T = self.start(steps)?;
+        self.run_steps(&mut target, steps, false)?;
+        self.end(&mut target, ends)
+    }
+
+    /// Runs the steps before one that is refused for good, and ends what is open then.
+    pub(crate) fn give_up<T: Target + Drop>(
+        &self,
+        steps: &[Step<'_>],
+        at: usize,
+        ends: [&str; 2],
+    ) -> Result<(), Stop> {
+        let calm = Run {
+            alloc: self.alloc,
+            refuses: false,
+        };
+        let mut target: T = calm.start(steps)?;
+        for (place, step) in steps.iter().enumerate() {
+            if place < at && !self.event(step)?.is_definition() {
+                calm.run_step(&mut target, step)?;
+            }
+            if place == at && !self.event(step)?.is_definition() {
+                switch(self.alloc, Requests::First)?;
+                self.happen(&mut target, step)?;
+            }
+        }
+        calm.end(&mut target, ends)?;
+        Ok(())
     }
 }
