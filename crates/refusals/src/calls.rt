@@ -24,9 +24,9 @@ fn unit_of(label: &Name8) -> Option<UnitId> {
     Some(UnitId::new(u64::from(digit)))
 }
 
-// The label of a unit, by the last digit of its number.
-fn label_of(unit: UnitId) -> Result<Name8, NoMemory> {
-    match Name8::new(&[b'U', b'0' + (unit.number() % 10) as u8]) {
+// The label of the unit of a number, by its last digit.
+fn label_of(number: u64) -> Result<Name8, NoMemory> {
+    match Name8::new(&[b'U', b'0' + (number % 10) as u8]) {
         Ok(label) => Ok(label),
         Err(_) => Err(NoMemory),
     }
@@ -45,10 +45,12 @@ fn queue_op(verb: Verb) -> Option<Op> {
         Verb::WriteqTs {
             queue,
             from,
-            item: Some(item),
+            item,
             ..
-        } => Some(Op::TsRewrite { queue, item, from }),
-        Verb::WriteqTs { queue, from, .. } => Some(Op::TsWrite { queue, from }),
+        } => Some(match item {
+            Some(item) => Op::TsRewrite { queue, item, from },
+            None => Op::TsWrite { queue, from },
+        }),
         Verb::DeleteqTs { queue } => Some(Op::TsDelete { queue }),
         Verb::WriteqTd { queue, from, .. } => Some(Op::TdWrite { queue, from }),
         Verb::ReadqTd { queue, .. } => Some(Op::TdRead { queue }),
@@ -75,15 +77,14 @@ pub(crate) fn op_of(alloc: Global, verb: Verb) -> Result<Option<Op>, NoMemory> {
         Verb::Rewrite { file, from, .. } => Ok(Some(rewrite(alloc, file, from)?)),
         Verb::Delete {
             file,
-            ridfld: Some(prefix),
-            generic: true,
+            ridfld,
+            generic,
             ..
-        } => Ok(Some(Op::DeleteGeneric { file, prefix })),
-        Verb::Delete {
-            file,
-            ridfld: Some(key),
-            ..
-        } => Ok(Some(Op::Delete { file, key })),
+        } => Ok(match ridfld {
+            Some(prefix) if generic => Some(Op::DeleteGeneric { file, prefix }),
+            Some(key) => Some(Op::Delete { file, key }),
+            None => None,
+        }),
         verb => Ok(queue_op(verb)),
     }
 }
@@ -124,27 +125,33 @@ fn made(label: Name8, is_made: bool) -> Came {
 }
 
 // That the task of a label has to wait for a unit.
-fn waits(label: Name8, blocker: UnitId) -> Result<Came, NoMemory> {
+fn waits(label: Name8, blocker: u64) -> Result<Came, NoMemory> {
     Ok(Came::Told(label, Outcome::Waiting(label_of(blocker)?)))
 }
 
 // Executes a command for the task of a label.
 fn run_op(units: &mut Units, label: Name8, op: &Op) -> Result<Came, NoMemory> {
     let counts_records = matches!(op, Op::DeleteGeneric { .. });
-    match execute(units, unit_of(&label), op)? {
-        Some(Done::Answered(unit, answer)) => Ok(told(label_of(unit)?, answer, counts_records)),
-        Some(Done::MustWait(blocker)) => waits(label, blocker),
-        None => Ok(Came::MayNot),
+    let Some(done) = execute(units, unit_of(&label), op)? else {
+        return Ok(Came::MayNot);
+    };
+    match done {
+        Done::Answered(unit, answer) => {
+            Ok(told(label_of(unit.number())?, answer, counts_records))
+        }
+        Done::MustWait(blocker) => waits(label, blocker.number()),
     }
 }
 
 // Enqueues on a value for the task of a label.
 fn run_enq(units: &mut Units, label: Name8, value: &[u8]) -> Result<Came, NoMemory> {
-    match enqueue(units, unit_of(&label), value)? {
-        Some(Enqueued::Taken(unit)) => Ok(told_condition(label_of(unit)?, Condition::Normal)),
-        Some(Enqueued::MustWait(blocker)) => waits(label, blocker),
-        Some(Enqueued::CountFull) => Ok(told_condition(label, Condition::Invreq)),
-        None => Ok(Came::MayNot),
+    let Some(done) = enqueue(units, unit_of(&label), value)? else {
+        return Ok(Came::MayNot);
+    };
+    match done {
+        Enqueued::Taken(unit) => { Ok(told_condition(label_of(unit.number())?, Condition::Normal)) }
+        Enqueued::MustWait(blocker) => waits(label, blocker.number()),
+        Enqueued::CountFull => Ok(told_condition(label, Condition::Invreq)),
     }
 }
 
@@ -206,7 +213,7 @@ impl Target for Units {
         let mut free = Vec::new(alloc);
         for number in 0..self.outcomes().len() as u64 {
             if is_open(self, UnitId::new(number)) {
-                free.push(label_of(UnitId::new(number))?)?;
+                free.push(label_of(number)?)?;
             }
         }
         Ok(free)
