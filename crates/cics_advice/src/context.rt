@@ -24,7 +24,7 @@ pub fn is_one(token: &[u8], words: &str) -> bool {
     words.split(' ').any(|word| is_word(token, word))
 }
 
-// The first token of a text; if that is broken in itself, all that is left.
+// Returns the first token of a text; if that is broken in itself, all that is left.
 fn token_of(text: &[u8]) -> &[u8] {
     let here = skip_blanks(text);
     if here.is_empty() {

@@ -32,8 +32,7 @@ pub fn push_advice(
     push_str(out, "cicsrun: line ")?;
     push_number(out, number)?;
     let Some(column) = column_of(out, line, cause)? else {
-        push_str(out, ": a line has at most 70,000 bytes\n")?;
-        return Ok(());
+        return push_str(out, ": a line has at most 70,000 bytes\n");
     };
     push_str(out, ", column ")?;
     push_number(out, column as u64)?;
@@ -47,7 +46,7 @@ pub fn push_advice(
     push_marked(out, line, column)
 }
 
-// The row of a definition's fault: the words for the caret, and the message.
+// Returns the words for the caret of a definition's fault, and the message.
 fn definition_row(context: &Context<'_>, fault: u64) -> (&'static str, &'static str) {
     for (number, word, carets, text) in &DEFINITIONS {
         if *number == fault && context.has_one(word) {
@@ -69,15 +68,12 @@ fn column_of(out: &Vec<u8>, line: &[u8], cause: Cause) -> Result<Option<usize>, 
     }
 }
 
-// A text of a message, and the option that it speaks of. In the text `%` stands for the token, `$`
+// The text of a message, and the option that it speaks of. In it `%` stands for the token, `$`
 // for the option, `+` for how that is written, `&` for the line's subject, and `!` for a reference.
 type Told<'a> = (&'static str, &'a [u8]);
 
-fn push_filled(
-    out: &mut Vec<u8>,
-    context: &Context<'_>,
-    (text, option): Told<'_>,
-) -> Result<(), NoMemory> {
+fn push_filled(out: &mut Vec<u8>, context: &Context<'_>, told: Told<'_>) -> Result<(), NoMemory> {
+    let (text, option) = told;
     for byte in text.as_bytes() {
         match *byte {
             b'%' => push_capitals(out, context.token)?,
@@ -128,7 +124,7 @@ fn subject_of<'a>(context: &Context<'a>) -> &'a [u8] {
     }
 }
 
-// What a table has to say of a word.
+// Returns the text of a table on a word.
 fn text_on(rows: &[(&str, &'static str)], word: &[u8]) -> Option<&'static str> {
     for (words, text) in rows {
         if is_one(word, words) {
@@ -138,7 +134,7 @@ fn text_on(rows: &[(&str, &'static str)], word: &[u8]) -> Option<&'static str> {
     None
 }
 
-// What is wrong with the token at the column, or what is missing there.
+// Returns what is wrong with the token at the column, or what is missing there.
 fn told_of<'a>(context: &Context<'a>, fault: LineFault) -> Told<'a> {
     let text = match fault {
         LineFault::BadLiteral | LineFault::BadNumber => return of_value(context),
@@ -167,21 +163,19 @@ fn of_missing<'a>(context: &Context<'a>) -> Told<'a> {
     let subject = subject_of(context);
     for (words, options, text) in &NEEDS {
         if is_one(subject, words) && !context.has_one(options) {
-            return (
-                text,
-                options.split(' ').next().unwrap_or(options).as_bytes(),
-            );
+            let option = options.split(' ').next().unwrap_or(options);
+            return (text, option.as_bytes());
         }
     }
     ("& needs another option (docs/LANGUAGE.md)", &[])
 }
 
-// What an option of the line takes.
+// Returns what an option of the line takes.
 fn kind_at(context: &Context<'_>, option: &[u8]) -> Option<Kind> {
     kind_of(context.form()?, option_named(option)?)
 }
 
-// The first option in front that can't stand beside the token's.
+// Returns the first option in front that can't stand beside the token's.
 fn excluding<'a>(context: &Context<'a>) -> Option<&'a [u8]> {
     let option = option_named(context.token)?;
     for (_, word) in &context.front {
@@ -261,22 +255,20 @@ fn of_value<'a>(context: &Context<'a>) -> Told<'a> {
     if is_word(context.before(2), "(") {
         return ("$ takes one value in its parentheses+", context.before(3));
     }
-    let is_closed = is_word(context.before(1), ")");
-    if is_closed && !context.token.is_empty() {
+    if is_word(context.before(1), ")") && !context.token.is_empty() {
         return ("a parenthesis too many after $(..)", context.before(4));
     }
     let option = context.before(1);
     match kind_at(context, option) {
         // The end of a line that could be read is at fault for one cause.
-        Some(Kind::Flag | Kind::Last) if context.token.is_empty() => (ITEM_NUMBER, &[]),
-        _ if is_closed => (ITEM_NUMBER, &[]),
+        None | Some(Kind::Flag | Kind::Last) if context.token.is_empty() => (ITEM_NUMBER, &[]),
         Some(Kind::Flag) => (NO_PARENTHESES, option),
         Some(Kind::Area) => ("$ takes a word in parentheses+", option),
         _ => ("$ takes its value in parentheses+", option),
     }
 }
 
-// Whether a token is there, and broken in itself.
+// Returns whether a token is there, and broken in itself.
 fn is_broken(token: &[u8]) -> bool {
     !token.is_empty() && whole_token(token).is_none()
 }
@@ -291,7 +283,7 @@ fn of_broken(token: &[u8]) -> &'static str {
     }
 }
 
-// Whether a token is a word, and no hexadecimal literal.
+// Returns whether a token is a word, and no hexadecimal literal.
 fn is_data_name(token: &[u8]) -> bool {
     match token.first() {
         Some(first) => first.is_ascii_alphabetic() && !token.contains(&b'\''),
@@ -299,7 +291,7 @@ fn is_data_name(token: &[u8]) -> bool {
     }
 }
 
-// What the option of an opening parenthesis takes.
+// Returns what the option of an opening parenthesis takes.
 fn of_content(context: &Context<'_>, option: &[u8]) -> &'static str {
     let length = context.token.len();
     match (kind_at(context, option), is_data_name(context.token)) {
