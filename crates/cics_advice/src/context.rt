@@ -7,25 +7,24 @@ use cics_script::{
 };
 use std::alloc::Global;
 
-/// The tokens in front of a column, each with how many bytes stand before it, and the token there:
-/// nothing if the line ends.
+/// The tokens before a column, each with its offset, and the token at it: empty at the line's end.
 #[derive(Drop)]
 pub struct Context<'a> {
     pub front: Vec<(usize, &'a [u8])>,
     pub token: &'a [u8],
 }
 
-/// Whether a token is a word, in capitals or small letters.
+/// Returns whether a token is a word, in capitals or small letters.
 pub fn is_word(token: &[u8], word: &str) -> bool {
     token.eq_ignore_ascii_case(word.as_bytes())
 }
 
-/// Whether a token is one of these words, parted by blanks.
+/// Returns whether a token is one of these words, parted by blanks.
 pub fn is_one(token: &[u8], words: &str) -> bool {
     words.split(' ').any(|word| is_word(token, word))
 }
 
-// The token in front of a text, also one that is broken in itself: then all that is left.
+// Returns the first token of a text; if that is broken in itself, all that is left.
 fn token_of(text: &[u8]) -> &[u8] {
     let here = skip_blanks(text);
     if here.is_empty() {
@@ -38,7 +37,7 @@ fn token_of(text: &[u8]) -> &[u8] {
 }
 
 impl<'a> Context<'a> {
-    /// Cuts a line into the tokens in front of a column, counted from 1, and the token there.
+    /// Cuts a line into the tokens before a column, counted from 1, and the token at it.
     pub fn new(alloc: Global, line: &'a [u8], column: usize) -> Result<Context<'a>, NoMemory> {
         let split = column.saturating_sub(1).min(line.len());
         let (before, behind) = line.split_at(split);
@@ -60,7 +59,7 @@ impl<'a> Context<'a> {
         })
     }
 
-    /// The token that stands so many in front of the column; 1 is the last one.
+    /// Returns the `count`-th token before the column.
     pub fn before(&self, count: usize) -> &'a [u8] {
         match self.front.len().checked_sub(count) {
             Some(place) => self.at(place),
@@ -68,7 +67,7 @@ impl<'a> Context<'a> {
         }
     }
 
-    /// The token with this number from the line's beginning, from 0 on.
+    /// Returns the token of this index, from 0.
     pub fn at(&self, place: usize) -> &'a [u8] {
         match self.front.get(place) {
             Some((_, token)) => *token,
@@ -76,12 +75,12 @@ impl<'a> Context<'a> {
         }
     }
 
-    /// Whether one of these words, parted by blanks, stands in front.
+    /// Returns whether one of these words, parted by blanks, stands before the column.
     pub fn has_one(&self, words: &str) -> bool {
         self.front.iter().any(|(_, token)| is_one(token, words))
     }
 
-    /// The column of the first of these words, parted by blanks, that stands in front; else 1.
+    /// Returns the column of the first of these words that stands before the column, or else 1.
     pub fn column_of(&self, words: &str) -> usize {
         for word in words.split(' ') {
             for (before, token) in &self.front {
@@ -93,11 +92,12 @@ impl<'a> Context<'a> {
         1
     }
 
-    /// Whether the line is a command: EXEC CICS stands behind a label.
+    /// Returns whether the line is a command: EXEC CICS stands behind a label.
     pub fn is_command(&self) -> bool {
         is_word(self.at(1), "EXEC") && is_word(self.at(2), "CICS")
     }
-    /// What kind of line it is, as far as that stands in front: by the words of the grammar.
+
+    /// Returns the form of the line, if the tokens before the column show it.
     pub fn form(&self) -> Option<Form> {
         if self.is_command() {
             let verb = command_named(self.at(3))?;

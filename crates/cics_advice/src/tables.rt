@@ -1,95 +1,116 @@
 //! What lines need, and what isn't modelled: the rows of which messages are made.
 
-/// What a line that defines or begins with one of some words, or a command of one of some verbs,
-/// can't do without: the words of which one has to stand there, and how the first is written. The
-/// first row that is not met counts.
+/// Rows of required options: the verbs or objects, the options of which one must stand, and the
+/// text, which may speak of the first option. The first row that the line lacks counts.
 pub static NEEDS: [(&str, &str, &str); 14] = [
-    ("FILE DATASET", "KEYLENGTH", "KEYLENGTH(6)"),
+    ("FILE DATASET", "KEYLENGTH", NEEDED),
     (
         "FILE DATASET",
         "RECOVERABLE UNRECOVERABLE",
-        "RECOVERABLE or UNRECOVERABLE",
+        "& needs RECOVERABLE or UNRECOVERABLE, on this line",
     ),
     (
         "TDQUEUE",
         "LOGICAL PHYSICAL NONE",
-        "LOGICAL, PHYSICAL or NONE",
+        "& needs LOGICAL, PHYSICAL or NONE, on this line",
     ),
-    ("LOAD", "FROM", "FROM('0001 100')"),
-    ("ATTACH", "TRANSID", "TRANSID('MOVE')"),
+    ("LOAD", "FROM", NEEDED),
+    ("ATTACH", "TRANSID", NEEDED),
     (
         "READ WRITE REWRITE DELETE UNLOCK STARTBR RESETBR READNEXT READPREV ENDBR",
         "FILE DATASET",
-        "FILE('ACCT')",
+        NEEDED,
     ),
-    ("READ WRITE STARTBR RESETBR", "RIDFLD", "RIDFLD('0001')"),
-    ("WRITE REWRITE", "FROM", "FROM('0001 100')"),
+    ("READ WRITE STARTBR RESETBR", "RIDFLD", NEEDED),
+    ("WRITE REWRITE", "FROM", NEEDED),
     (
         "DELETE",
         "RIDFLD",
-        "RIDFLD('0001') beside KEYLENGTH, GENERIC and NUMREC",
+        "& with KEYLENGTH, GENERIC or NUMREC needs RIDFLD+",
     ),
-    ("WRITEQ READQ DELETEQ", "QUEUE", "QUEUE('PAD')"),
-    ("WRITEQ", "FROM", "FROM('a line')"),
-    ("WRITEQ", "ITEM", "ITEM(1) beside REWRITE"),
-    ("ENQ DEQ", "RESOURCE", "RESOURCE('PRINTER')"),
-    ("ENQ DEQ", "LENGTH", "LENGTH(7)"),
+    ("WRITEQ READQ DELETEQ", "QUEUE", NEEDED),
+    ("WRITEQ", "FROM", NEEDED),
+    ("WRITEQ", "ITEM", "& with REWRITE needs ITEM+"),
+    ("ENQ DEQ", "RESOURCE", NEEDED),
+    (
+        "ENQ DEQ",
+        "LENGTH",
+        "& needs LENGTH, the number of bytes of its value, as RESOURCE('PRINTER') LENGTH(7)",
+    ),
 ];
 
-/// Commands of CICS that aren't modelled, parted by blanks, and what is said behind their verb.
-pub static NOT_MODELLED: [(&str, &str); 8] = [
+const NEEDED: &str = "& needs $+, on this line";
+
+pub const NO_LINE: &str = "a line begins with DEFINE, LOAD, ATTACH, CLOCK, SHUTDOWN or a task's \
+    label of up to 8 letters and digits";
+
+pub const NO_COMMAND: &str =
+    "a command is one line, written T1 EXEC CICS .., with its task's label in front";
+
+pub const NO_OPTION: &str = "% is no option of the script (docs/LANGUAGE.md)";
+
+pub const NO_VERB: &str = "% is no command of the script (docs/LANGUAGE.md)";
+
+pub const ITEM_NUMBER: &str = "ITEM takes a number beside REWRITE, as ITEM(1)";
+
+pub const NO_PARENTHESES: &str = "$ takes no parentheses";
+
+pub const NAME8_AS: &str = "$ takes a name of 1 to 8 characters in quotes, as $('%')";
+
+pub const NAME4_AS: &str = "$ takes a name of 1 to 4 characters in quotes, as $('%')";
+
+pub const LENGTH_OF: &str = "LENGTH OF isn't modelled: the number is written out+";
+
+/// Options, parted by blanks, and what they take in the examples.
+pub static EXAMPLES: [(&str, &str); 13] = [
+    ("FILE DATASET", "('ACCT')"),
+    ("TSPREFIX", "('R')"),
+    ("TDQUEUE QUEUE", "('WORK')"),
+    ("KEYLENGTH", "(6)"),
+    ("KEYOFFSET", "(0)"),
+    ("RECORDSIZE LENGTH", "(80)"),
+    ("FROM", "('0001 100')"),
+    ("RIDFLD", "('0001')"),
+    ("TRANSID", "('MOVE')"),
+    ("DTIMOUT", "(30)"),
+    ("ITEM", "(1)"),
+    ("RESOURCE", "('PRINTER')"),
+    ("ABCODE", "('BAL9')"),
+];
+
+/// Words that are no verbs of the script, or none, and what to write instead.
+pub static NO_VERBS: [(&str, &str); 8] = [
+    ("", "a verb has to stand here: a command is one line"),
+    ("END-EXEC", "a verb has to stand here"),
+    ("HANDLE IGNORE PUSH POP", "% !: use RESP or NOHANDLE"),
+    ("LINK XCTL LOAD", "% !: write the commands of the program"),
+    ("START RETRIEVE CANCEL", "% !: begin a task by ATTACH"),
     (
-        "HANDLE IGNORE",
-        " CONDITION isn't modelled (docs/RULES.md): use RESP or NOHANDLE",
+        "DELAY WAIT POST ASKTIME FORMATTIME",
+        "% !: move the clock by CLOCK",
     ),
+    ("SUSPEND", "% !: the order of the lines is the schedule"),
     (
-        "LINK XCTL",
-        " isn't modelled (docs/RULES.md): write the commands of the program",
-    ),
-    (
-        "START",
-        " isn't modelled (docs/RULES.md): begin a task by ATTACH",
-    ),
-    (
-        "DELAY",
-        " isn't modelled (docs/RULES.md): move the clock by CLOCK",
-    ),
-    (
-        "SUSPEND",
-        " isn't modelled (docs/RULES.md): the order of the lines is the schedule",
-    ),
-    ("LOAD", " of a program isn't modelled (docs/RULES.md)"),
-    ("PUSH POP", " HANDLE isn't modelled (docs/RULES.md)"),
-    (
-        "RETRIEVE CANCEL WAIT POST ASKTIME FORMATTIME SEND RECEIVE CONVERSE GETMAIN FREEMAIN \
-        ASSIGN ADDRESS RELEASE JOURNAL DUMP",
-        " isn't modelled (docs/RULES.md)",
+        "SEND RECEIVE CONVERSE GETMAIN FREEMAIN ASSIGN ADDRESS RELEASE JOURNAL DUMP",
+        "% !",
     ),
 ];
 
 /// Signs that begin no token, and what to do about them.
-pub static SIGNS: [(u8, &str); 9] = [
-    (
-        b'.',
-        "no period stands in a line: END-EXEC ends a command, or nothing",
-    ),
+pub static SIGNS: [(u8, &str); 10] = [
+    (b'.', "a line has no period at its end"),
     (b',', "options are parted by blanks, not by commas"),
     (b'"', "a literal stands in single quotes, as 'ACCT'"),
     (
         b'_',
-        "a name has letters, digits and hyphens, but no underscore",
+        "outside quotes a word has letters, digits and hyphens, no underscore",
     ),
     (b'-', "no minus stands here: a number is digits alone"),
     (b';', "no semicolon stands in a line"),
-    (
-        b'=',
-        "an option has its value in parentheses, as LENGTH(80)",
-    ),
+    (b'=', "a value stands in parentheses, as LENGTH(80)"),
     (b':', "no colon stands in a line"),
-    (
-        b'/',
-        "no slash stands in a line: a comment begins with an asterisk",
-    ),
+    (b'/', "no slash here: a comment begins with an asterisk"),
+    (b'*', "a comment is a line of its own"),
 ];
 
 /// What has to stand behind the first word of a line.
@@ -103,26 +124,43 @@ pub static SECOND: [(&str, &str); 4] = [
     ("SHUTDOWN", "SHUTDOWN is written SHUTDOWN IMMEDIATE"),
 ];
 
-/// The faults of definitions, by the number that the journal prints: the words of which the first
-/// that stands there is at fault, and the limits that are broken.
-pub static DEFINITIONS: [(u64, &str, &str); 4] = [
+/// Definition faults by number and a word of the line: the words for the caret, best first, and the
+/// message. The first row that fits counts.
+pub static DEFINITIONS: [(u64, &str, &str, &str); 7] = [
     (
         1,
+        "DEFINE",
         "FILE DATASET TSPREFIX TDQUEUE",
-        "it is defined already, or the key is loaded already",
+        "this name is defined already",
+    ),
+    (
+        1,
+        "LOAD",
+        "FROM",
+        "a record with this key is loaded already",
     ),
     (
         2,
+        "DEFINE",
         "KEYLENGTH",
         "KEYLENGTH is from 1 to 255, and KEYOFFSET plus KEYLENGTH is at most RECORDSIZE",
     ),
+    (3, "DEFINE", "RECORDSIZE", "RECORDSIZE is from 1 to 32767"),
     (
         3,
-        "RECORDSIZE FROM",
-        "a record reaches the end of its key, and has at most RECORDSIZE bytes, 1 to 32767",
+        "TDQUEUE",
+        "FROM",
+        "a record of a queue has 1 to 32767 bytes",
+    ),
+    (
+        3,
+        "LOAD",
+        "FROM",
+        "the record ends before its key does, or is longer than RECORDSIZE",
     ),
     (
         4,
+        "LOAD",
         "FILE DATASET TDQUEUE",
         "it isn't defined: its DEFINE has to stand above, with this name",
     ),

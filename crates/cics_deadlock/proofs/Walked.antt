@@ -1,12 +1,13 @@
 -- What a walk finds is a circle, and each circle is found.
-use Rattle.std.specs.Prelude.{◌≡◌, ◌<◌, ◌≤◌, ◌==◌, ◌||◌, ℕ, zero, suc, true, false, nat_lt, Option, Some, None, option_map, unwrap_or, List, [], ◌∷◌, All, Contains, length, slice_get, refl}
+use Rattle.std.specs.Prelude.{◌≡◌, ◌<◌, ◌≤◌, ◌==◌, ◌||◌, ◌+◌, ℕ, zero, suc, true, false, cond, is_some, nat_lt, Option, Some, None, option_map, unwrap_or, List, [], ◌∷◌, All, Contains, length, slice_get, refl}
 use Rattle.std.proofs.Common.{sym, ap, ◌∙◌, subst, eqb, eq-eqb, arith}
 use Rattle.std.specs.List.{list_any, IsDistinct, AllByRecursion}
+use Rattle.std.specs.Cmp.{nat_eq_equiv}
 use Rattle.std.proofs.lemmas.Bool.{false_from_ne_true, eqb-true, lt-ltb, ltb-true, false≢true}
 use Rattle.std.proofs.lemmas.Option.{slice_get_within}
 use Rattle.std.proofs.lemmas.List.Elements.{All-nil, All-cons, All-append, Contains-append_left, Contains-append_right}
-use Rattle.std.proofs.lemmas.Map.Steps.{length-le_from_distinct_below}
-use Rattle.cics_deadlock.specs.Circles.{Graph, next_of, way_back, circle_from, with_circle, circles_below, circles, WaitInTurn, AreAbove, IsNotAmong, AreOnce, IsCircle}
+use Rattle.std.proofs.lemmas.Map.Made.{length-le_from_is_member}
+use Rattle.cics_deadlock.specs.Circles.{Graph, next_of, way_back, waiting_below, waiting_count, circle_from, with_circle, circles_below, circles, WaitInTurn, AreAbove, IsNotAmong, AreOnce, IsCircle}
 use Rattle.cics_deadlock.proofs.Ways.{nobody_next, first_next, lesser_next, greater_next}
 
 -- ---- A way is walked once
@@ -92,7 +93,7 @@ module _ (g : Graph) (first : ℕ) where
 
   pub found_circle : (way : List ℕ) → circle_from g first ≡ Some way → IsCircle (next_of g) way
   found_circle way is =
-      let l = leads (length g) first way is in
+      let l = leads (waiting_count g) first way is in
       subst (IsCircle (next_of g)) (sym l.order) (record { wait = l.wait; least = l.above; once = walked_once (next_of g) first first l.others l.wait l.above })
 
 -- each that is told is one
@@ -114,16 +115,52 @@ next_within g at k is = by (slice_get g at) refl
     by None e = let none : None ≡ Some k = ap (λ p. unwrap_or p None) (sym e) ∙ is in cc
     by (Some p) e = slice_get_within g at p e
 
-waits_within : (g : Graph) (at : ℕ) (xs : List ℕ) (last q : ℕ) → WaitInTurn (next_of g) at xs last → list_any (eqb q) (at ∷ xs) ≡ true → q < length g
-waits_within g at [] last q w among =
-    elim (eqb q at) as (λ b. eqb q at ≡ b → (b || false) ≡ true → q < length g) [
-      | true ↦ λ same t. subst (λ p. p < length g) (sym (eqb-true q at same)) (next_within g at last w)
+-- the tasks below a number that wait
+abbrev waiters : Graph → ℕ → List ℕ
+waiters g zero = []
+waiters g (suc n) = cond (is_some (next_of g n)) (n ∷ waiters g n) (waiters g n)
+
+-- are as many as are counted
+waiters_counted : (g : Graph) (n : ℕ) → length (waiters g n) ≡ waiting_below g n
+waiters_counted g zero = refl
+waiters_counted g (suc n) =
+    let before = waiters_counted g n in
+    elim (is_some (next_of g n)) as (λ b. length (cond b (n ∷ waiters g n) (waiters g n)) ≡ waiting_below g n + cond b 1 0) [
+      | true ↦ omega arith
+      | false ↦ omega arith
+    ]
+
+-- who waits is among them
+waiter_there : (g : Graph) (n q k : ℕ) → q < n → next_of g q ≡ Some k → list_any (eqb q) (waiters g n) ≡ true
+waiter_there g zero q k less is = absurd (omega arith)
+waiter_there g (suc n) q k less is =
+    elim (eqb q n) as (λ b. eqb q n ≡ b → list_any (eqb q) (waiters g (suc n)) ≡ true) [
+      | true ↦ λ same.
+          let waits : is_some (next_of g n) ≡ true = ap (λ m. is_some (next_of g m)) (sym (eqb-true q n same)) ∙ ap is_some is in
+          ap (λ b. list_any (eqb q) (cond b (n ∷ waiters g n) (waiters g n))) waits ∙ ap (λ b. b || list_any (eqb q) (waiters g n)) same
+      | false ↦ λ other.
+          let differs : q ≡ n → ⊥ = λ same. false≢true (sym other ∙ eq-eqb q n same) in
+          let there = waiter_there g n q k (omega arith) is in
+          elim (is_some (next_of g n)) as (λ b. list_any (eqb q) (cond b (n ∷ waiters g n) (waiters g n)) ≡ true) [
+            | true ↦ ap (λ b. b || list_any (eqb q) (waiters g n)) other ∙ there
+            | false ↦ there
+          ]
+    ] refl
+
+-- so is each task on a way
+on_way : (g : Graph) (at : ℕ) (xs : List ℕ) (last q : ℕ) → WaitInTurn (next_of g) at xs last → list_any (eqb q) (at ∷ xs) ≡ true →
+    list_any (eqb q) (waiters g (length g)) ≡ true
+on_way g at [] last q w among =
+    elim (eqb q at) as (λ b. eqb q at ≡ b → (b || false) ≡ true → list_any (eqb q) (waiters g (length g)) ≡ true) [
+      | true ↦ λ same t.
+          subst (λ p. list_any (eqb p) (waiters g (length g)) ≡ true) (sym (eqb-true q at same)) (waiter_there g (length g) at last (next_within g at last w) w)
       | false ↦ λ other t. absurd (false≢true t)
     ] refl among
-waits_within g at (x ∷ xs) last q w among =
-    elim (eqb q at) as (λ b. eqb q at ≡ b → (b || list_any (eqb q) (x ∷ xs)) ≡ true → q < length g) [
-      | true ↦ λ same t. subst (λ p. p < length g) (sym (eqb-true q at same)) (next_within g at x w.0)
-      | false ↦ λ other t. waits_within g x xs last q w.1 t
+on_way g at (x ∷ xs) last q w among =
+    elim (eqb q at) as (λ b. eqb q at ≡ b → (b || list_any (eqb q) (x ∷ xs)) ≡ true → list_any (eqb q) (waiters g (length g)) ≡ true) [
+      | true ↦ λ same t.
+          subst (λ p. list_any (eqb p) (waiters g (length g)) ≡ true) (sym (eqb-true q at same)) (waiter_there g (length g) at x (next_within g at x w.0) w.0)
+      | false ↦ λ other t. on_way g x xs last q w.1 t
     ] refl among
 
 -- no two are one, as a test
@@ -150,9 +187,10 @@ way_there g first (suc n) at (x ∷ xs) w a less =
 -- so from its first task on a circle is found
 circle_there : (g : Graph) (first : ℕ) (others : List ℕ) → IsCircle (next_of g) (first ∷ others) → circle_from g first ≡ Some (first ∷ others)
 circle_there g first others is =
-    let few : suc (length others) ≤ length g = length-le_from_distinct_below (first ∷ others) (length g) (distinct (first ∷ others) (above_apart first others is.least, is.once))
-    (λ q among. waits_within g first others first q is.wait among) in
-    way_there g first (length g) first others is.wait is.least (omega arith)
+    let among_them = length-le_from_is_member nat_eq_equiv (first ∷ others) (waiters g (length g)) (distinct (first ∷ others) (above_apart first others is.least, is.once))
+    (λ q among. on_way g first others first q is.wait among) in
+    let few : suc (length others) ≤ waiting_count g = subst (λ n. suc (length others) ≤ n) (waiters_counted g (length g)) among_them in
+    way_there g first (waiting_count g) first others is.wait is.least (omega arith)
 
 -- and is among the circles
 still_there : (cs : List (List ℕ)) (c : List ℕ) (o : Option (List ℕ)) → Contains cs c → Contains (with_circle cs o) c

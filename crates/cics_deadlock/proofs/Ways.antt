@@ -1,8 +1,8 @@
 -- The way back to the first task, step by step.
-use Rattle.std.specs.Prelude.{◌≡◌, ◌<◌, ◌+◌, ◌-◌, ℕ, suc, length, false, cond, ◌==◌, nat_lt, Option, Some, None, option_map, List, [], ◌∷◌, ◌++◌, refl}
+use Rattle.std.specs.Prelude.{◌≡◌, ◌<◌, ◌+◌, ◌-◌, ℕ, suc, false, cond, ◌==◌, nat_lt, Option, Some, None, option_map, List, [], ◌∷◌, ◌++◌, refl}
 use Rattle.std.proofs.Common.{sym, ap, ◌∙◌, eq-eqb, arith, append_assoc}
 use Rattle.std.proofs.lemmas.Bool.{false_from_ne_true, eqb-true, lt-ltb, ltb-true}
-use Rattle.cics_deadlock.specs.Circles.{Graph, next_of, way_on, way_back, circle_from}
+use Rattle.cics_deadlock.specs.Circles.{Graph, next_of, way_on, way_back}
 
 -- the tasks that were passed, with the way from here on
 abbrev pub passed : List ℕ → Option (List ℕ) → Option (List ℕ)
@@ -46,25 +46,25 @@ module _ (g : Graph) (n first at : ℕ) where
         ∙ ap (λ b. cond b (option_map (λ way. at ∷ way) (way_back g n first next)) None) (lt-ltb first next more)
 
 -- what one more step tells of the whole way
-module _ (g : Graph) (first at step : ℕ) (tasks : List ℕ) (within : step < length g)
-    (whole : passed tasks (way_back g (length g - step) first at) ≡ circle_from g first) where
+module _ (g : Graph) (most first at step : ℕ) (tasks : List ℕ) (within : step < most)
+    (whole : passed tasks (way_back g (most - step) first at) ≡ way_back g most first first) where
   abbrev pub left : ℕ
-  left = length g - (step + 1)
+  left = most - (step + 1)
 
-  from_here : passed tasks (way_back g (suc left) first at) ≡ circle_from g first
-  from_here = ap (λ n. passed tasks (way_back g n first at)) (let one : suc left ≡ length g - step = omega arith in one) ∙ whole
+  from_here : passed tasks (way_back g (suc left) first at) ≡ way_back g most first first
+  from_here = ap (λ n. passed tasks (way_back g n first at)) (let one : suc left ≡ most - step = omega arith in one) ∙ whole
 
-  pub none_by_nobody : next_of g at ≡ None → circle_from g first ≡ None
+  pub none_by_nobody : next_of g at ≡ None → way_back g most first first ≡ None
   none_by_nobody none = sym from_here ∙ ap (passed tasks) (nobody_next g left first at none)
 
-  pub some_by_first : next_of g at ≡ Some first → circle_from g first ≡ Some (tasks ++ at ∷ [])
+  pub some_by_first : next_of g at ≡ Some first → way_back g most first first ≡ Some (tasks ++ at ∷ [])
   some_by_first is = sym from_here ∙ ap (passed tasks) (first_next g left first at is)
 
-  pub none_by_lesser : (next : ℕ) → next_of g at ≡ Some next → next < first → circle_from g first ≡ None
+  pub none_by_lesser : (next : ℕ) → next_of g at ≡ Some next → next < first → way_back g most first first ≡ None
   none_by_lesser next is less = sym from_here ∙ ap (passed tasks) (lesser_next g left first at next is less)
 
   pub on_by_greater : (next : ℕ) (more : List ℕ) → next_of g at ≡ Some next → first < next → more ≡ tasks ++ at ∷ [] →
-      passed more (way_back g left first next) ≡ circle_from g first
+      passed more (way_back g left first next) ≡ way_back g most first first
   on_by_greater next more is greater grown =
       ap (λ ts. passed ts (way_back g left first next)) grown
       ∙ passed_more tasks at (way_back g left first next)

@@ -1,5 +1,5 @@
 -- Circles in a graph of tasks, each of which waits for one other at most.
-use Rattle.std.specs.Prelude.{◌≡◌, ◌<◌, ℕ, zero, suc, ◌==◌, nat_lt, if◌then◌else◌, Option, Some, None, option_map, unwrap_or, slice_get, length, List, [], ◌∷◌, ◌++◌}
+use Rattle.std.specs.Prelude.{◌≡◌, ◌<◌, ◌+◌, ℕ, zero, suc, ◌==◌, nat_lt, if◌then◌else◌, Option, Some, None, option_map, unwrap_or, is_some, slice_get, length, List, [], ◌∷◌, ◌++◌}
 use Rattle.std.specs.List.{list_any}
 
 -- a graph: at the number of each task the number of the one that it waits for, if it waits
@@ -23,9 +23,18 @@ abbrev pub way_back : Graph → ℕ → ℕ → ℕ → Option (List ℕ)
 way_back g zero first at = None
 way_back g (suc n) first at = way_on (way_back g n first) first at (next_of g at)
 
+-- how many of the tasks below a number wait
+abbrev pub waiting_below : Graph → ℕ → ℕ
+waiting_below g zero = 0
+waiting_below g (suc n) = waiting_below g n + (if is_some (next_of g n) then 1 else 0)
+
+-- how many tasks wait
+abbrev pub waiting_count : Graph → ℕ
+waiting_count g = waiting_below g (length g)
+
 -- the circle in which a task has the least number, if there is one
 abbrev pub circle_from : Graph → ℕ → Option (List ℕ)
-circle_from g first = way_back g (length g) first first
+circle_from g first = way_back g (waiting_count g) first first
 
 -- these circles and one more, if there is one
 abbrev pub with_circle : List (List ℕ) → Option (List ℕ) → List (List ℕ)

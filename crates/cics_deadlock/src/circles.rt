@@ -1,29 +1,43 @@
 //! The circles of a graph in which each task waits for one other at most.
 
 ghost use Rattle.std.specs.Prelude.{◌≡◌, ◌<◌, ◌≤◌, ℕ, All, Some, IfOk, length};
-ghost use Rattle.cics_deadlock.specs.Circles.{next_of, circle_from, circles};
+ghost use Rattle.cics_deadlock.specs.Circles.{next_of, waiting_count, way_back, circles};
 
 use cics_names::{Items, NoMemory};
 use std::alloc::Global;
 
-// Whom a task waits for, if it waits.
+// Returns whom a task waits for, if it waits.
 fn next_of(waits_for: &[Option<usize>], at: usize) -> Option<usize>
     ensures { result ≡ next_of waits_for.now at }
 {
     *waits_for.get(at)?
 }
 
-// The circle in which a task has the least number, if there is one.
+// Returns how many tasks wait.
+fn waiting_count(waits_for: &[Option<usize>]) -> usize
+    ensures { result ≡ waiting_count waits_for.now }
+{
+    let mut count = 0;
+    for number in 0..waits_for.len() {
+        if next_of(waits_for, number).is_some() {
+            count += 1;
+        }
+    }
+    count
+}
+
+// Returns the circle whose least number is `first`, if there is one of `most` tasks at most.
 fn circle_from(
     alloc: Global,
     waits_for: &[Option<usize>],
     first: usize,
+    most: usize,
 ) -> Result<Option<Items<usize>>, NoMemory>
-    ensures { IfOk result (λ circle. circle ≡ circle_from waits_for.now first) }
+    ensures { IfOk result (λ circle. circle ≡ way_back waits_for.now most first first) }
 {
     let mut circle = Items::new(alloc);
     let mut at = first;
-    for _step in 0..waits_for.len() {
+    for _step in 0..most {
         let Some(next) = next_of(waits_for, at) else {
             return Ok(None);
         };
@@ -43,13 +57,14 @@ fn circle_from(
 ///
 /// `waits_for` has for each task, by its number, the number of the task that it waits for.
 ///
-/// Cost: O(n * n), n the number of tasks that wait.
+/// Cost: O(w * w), w the number of tasks that wait, beside O(tasks).
 pub fn circles(alloc: Global, waits_for: &[Option<usize>]) -> Result<Items<Items<usize>>, NoMemory>
     ensures circles { IfOk result (λ found. found ≡ circles waits_for.now) }
 {
+    let most = waiting_count(waits_for);
     let mut found = Items::new(alloc);
     for first in 0..waits_for.len() {
-        if let Some(circle) = circle_from(alloc, waits_for, first)? {
+        if let Some(circle) = circle_from(alloc, waits_for, first, most)? {
             found.push(circle)?;
         }
     }

@@ -10,7 +10,7 @@ use cics_dispatch::Region;
 use cics_names::{Items, Name8, NoMemory};
 use std::alloc::Global;
 
-// The number of the task for which the task of a number has to wait now.
+// Returns the number of the task that blocks this one now.
 fn blocker_at(region: &Region, number: usize) -> Option<usize>
     ensures { result ≡ blocker_at region.now.machine number }
 {
