@@ -1,5 +1,5 @@
 -- What is counted of reads and writes, and which line is kept.
-use Rattle.std.proofs.Common.{◌≡◌, ℕ, Bool, true, false, ◌+◌, ◌≤◌, List, length, refl, arith, Option, Some, None, Result, Ok, Err}
+use Rattle.std.proofs.Common.{◌≡◌, ℕ, Bool, true, false, ◌+◌, ◌≤◌, List, refl, arith, Option, Some, None, Ok}
 use Rattle.std.specs.Io.KnownBytes.{Consumes}
 use Rattle.cics_run.specs.Running.{is_faulty}
 use Rattle.cics_run.specs.Streams.{Rises, RisesAtMost}

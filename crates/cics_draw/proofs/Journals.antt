@@ -1,12 +1,12 @@
 -- The rows of a picture show the journal: each text that a line prints is whole lines.
-use Rattle.std.proofs.Common.{◌≡◌, ◌⊎◌, ℕ, zero, suc, Bool, true, false, ◌==◌, ◌+◌, List, [], ◌∷◌, ◌++◌, refl, ap, sym, ◌∙◌, subst, append_assoc, append-nil, length, inl, inr, Option, Some, None, Result, Ok, Err}
+use Rattle.std.proofs.Common.{◌≡◌, ◌⊎◌, ℕ, zero, suc, ◌==◌, ◌+◌, List, [], ◌∷◌, ◌++◌, refl, ap, sym, ◌∙◌, subst, append_assoc, append-nil, length, inl, inr, Option, Some, None, Result, Ok, Err}
 use Rattle.std.specs.Prelude.{⊤}
 use Rattle.std.proofs.lemmas.Bool.{cases_Bool, eqb-true}
 use Rattle.std.proofs.lemmas.Grind.{flat_map-append}
 use Rattle.std.specs.List.{fold}
 use Rattle.std.specs.Fmt.{decimal}
 use lib.Chars.{codes}
-use Rattle.cics_picture.specs.Drawings.{Row, rows_from, rows_of, all_rows, events_of}
+use Rattle.cics_picture.specs.Drawings.{rows_from, rows_of, all_rows, events_of}
 use Rattle.cics_dispatch.specs.Machine.{Machine}
 use Rattle.cics_dispatch.specs.declared.outcomes.Refused.{Refused}
 use Rattle.cics_dispatch.specs.declared.outcomes.Woken.{Woken}
