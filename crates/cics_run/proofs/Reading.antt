@@ -1,5 +1,5 @@
 -- What a read adds to the bytes that were read.
-use Rattle.std.proofs.Common.{◌≡◌, ℕ, false, ◌+◌, ◌≤◌, List, [], ◌∷◌, ◌++◌, length, take, refl, ap, arith, sym, ◌∙◌, subst, append-nil, Option, Some, None, length-append, inl, inr, ◌==◌}
+use Rattle.std.proofs.Common.{◌≡◌, ℕ, false, ◌+◌, ◌≤◌, List, [], ◌∷◌, ◌++◌, length, take, refl, ap, arith, sym, ◌∙◌, subst, append-nil, Option, length-append, inl, inr, ◌==◌}
 use Rattle.std.proofs.lemmas.List.{take-append-le, length-map, length-take-le}
 use Rattle.std.proofs.lemmas.Bool.{cases_Bool}
 use Rattle.std.proofs.Math.Seq.{take-append_seam}
@@ -8,10 +8,10 @@ use Rattle.std.specs.Prelude.{Result, Ok, Err}
 use Rattle.std.specs.Io.KnownBytes.{Appends, Consumes, IsAtEnd}
 use Rattle.std.specs.Io.BufRead.{strip_last}
 use Rattle.cics_run.specs.Lines.{Pieces, pieces, with_first, completed}
-use Rattle.cics_run.specs.Running.{Played, has_fault, next, start, journal, output, is_stopped, WritesFront, Answers, ReadsOn, RunsOver, failed_reads_of, failed_writes_of}
-use Rattle.cics_run.specs.Printing.{AppendsFront, Prints, stopped_writes}
+use Rattle.cics_run.specs.Running.{Played, has_fault, next, start, journal, is_stopped, Answers, ReadsOn, RunsOver}
+use Rattle.cics_run.specs.Printing.{AppendsFront, Prints}
 use Rattle.cics_run.specs.Standing.{IsNew, Stands, Keeps, Stopped, Finishes, KeepsFault, fault_of, ended}
-use Rattle.cics_run.specs.Streams.{Rises, RisesAtMost, Tells}
+use Rattle.cics_run.specs.Streams.{Tells}
 use Rattle.cics_run.specs.declared.writing.Stop.{Stop}
 use Rattle.cics_run.specs.declared.writing.Stop.TheVariants as stops
 use Rattle.cics_run.specs.declared.running.Status.{Status}
@@ -20,8 +20,8 @@ use Rattle.cics_run.specs.declared.running.Wanted.{Wanted}
 use Rattle.cics_run.specs.declared.running.TheConstants.{LIMIT, CHUNK}
 use Rattle.cics_run.specs.declared.session.Session.{Session}
 use Rattle.cics_run.proofs.Known.{consumes-append}
-use Rattle.cics_run.proofs.Printing.{front-longer, prints-all, prints-nothing}
-use Rattle.cics_run.proofs.Playing.{output-front, fault-output, fault-whole, journal-start}
+use Rattle.cics_run.proofs.Printing.{prints-all, prints-nothing}
+use Rattle.cics_run.proofs.Playing.{fault-output, fault-whole, journal-start}
 
 -- there are no more lines than bytes
 with_first-lines : (c : ℕ) (p : Pieces) → length (with_first c p).0 ≡ length p.0

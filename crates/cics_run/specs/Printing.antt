@@ -1,5 +1,5 @@
 -- Text that is printed is gathered, and written when enough of it has come together.
-use Rattle.std.specs.Prelude.{◌≡◌, ℕ, List, ◌++◌, Option, Result, Ok, Err}
+use Rattle.std.specs.Prelude.{◌≡◌, ℕ, List, ◌++◌, Option, Result, Err}
 use Rattle.std.specs.Io.KnownBytes.{Appends}
 use Rattle.cics_run.specs.declared.writing.Stop.{Stop}
 use Rattle.cics_run.specs.declared.writing.Stop.TheVariants as stops

@@ -7,7 +7,6 @@ use Rattle.cics_run.specs.Journal.{script_line}
 use Rattle.cics_run.specs.Stages.{step, Step, first_stage}
 use Rattle.cics_run.specs.Running.{Played, play, has_fault, journal_of, journal, output, is_faulty}
 use Rattle.cics_run.specs.Printing.{AppendsFront, Prints}
-use Rattle.cics_run.specs.declared.stage.Stage.{Stage}
 use Rattle.cics_run.specs.declared.running.RunFault.{RunFault}
 use Rattle.cics_run.specs.declared.running.RunFault.TheVariants as faults
 use Rattle.cics_run.specs.declared.writing.Stop.{Stop}
