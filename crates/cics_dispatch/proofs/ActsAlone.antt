@@ -11,8 +11,9 @@ use Rattle.cics_browse.specs.Positions.{Position, finds_start, start_at, read_ne
 use Rattle.cics_browse.specs.declared.browses.Browsed.{Browsed}
 use Rattle.cics_enqueue.specs.Resources.{most_count}
 use Rattle.cics_history.specs.Store.{apply}
-use Rattle.cics_history.specs.History.{outcome_of, is_open}
-use Rattle.cics_history.specs.Holding.{UnitsState, store_of, awaited, value_holder}
+use Rattle.cics_history.specs.Headline.{outcome_of, is_open}
+use Rattle.cics_history.specs.State.{UnitsState}
+use Rattle.cics_history.specs.Holding.{store_of, awaited, value_holder}
 use Rattle.cics_history.specs.Execution.{unit_or_next, count_at, done_of, state_of, execution, after_execution, enq_of, enqueue, after_enqueued, after_enqueue, after_dequeue, after_unlock, after_ts_reading, item_asked}
 use Rattle.cics_history.specs.Events.{is_live, may_act}
 use Rattle.cics_history.specs.declared.ops.Answer.{Answer}

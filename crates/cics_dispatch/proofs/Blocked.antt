@@ -5,11 +5,11 @@ use Rattle.std.proofs.Common.{◌⊎◌, inl, inr, sym, ap, ◌∙◌}
 use Rattle.std.proofs.lemmas.Bool.{false≢true, true≢false, and_from, or_cases, or_left, or_right, lt-ltb}
 use Rattle.std.proofs.lemmas.List.Elements.{All-nil, All-cons, All-head, All-tail}
 use Rattle.cics_names.specs.Keyed.{Bytes}
-use Rattle.cics_enqueue.specs.Resources.{bytes_of, overlaps, is_other}
+use Rattle.cics_enqueue.specs.Resources.{bytes_of}
 use Rattle.cics_enqueue.specs.declared.resources.Resource.{Resource}
 use Rattle.cics_enqueue.specs.declared.resources.Resource.TheVariants.{TdRead as ReadingEnd, TdWrite as WritingEnd, User}
-use Rattle.cics_history.specs.Openings.{queue_logical}
-use Rattle.cics_history.specs.Holding.{UnitsState, uses_of, held_by, held_table, first_holder, first_some, holder_among, committed_for, is_nothing, writer_awaited, awaited}
+use Rattle.cics_history.specs.State.{queue_logical, UnitsState}
+use Rattle.cics_history.specs.Holding.{uses_of, held_by, conflicts, is_other, owned, blocker_at, first_some, blocker_among, committed_for, is_nothing, writer_awaited, awaited}
 use Rattle.cics_history.specs.Execution.{IsOpenUnit}
 use Rattle.cics_history.specs.Events.{is_live, may_act}
 use Rattle.cics_history.specs.Isolation.{IsSound}
@@ -38,24 +38,24 @@ either_some : {X : Type 0} (x y : Option X) (h : X) → first_some x y ≡ Some 
 either_some None y h is = inr (refl, is)
 either_some (Some x) y h is = inl is
 
-found_among : (s : UnitsState) (u : Option ℕ) (h : ℕ) (rs : List Resource) → holder_among (held_table s) u rs ≡ Some h →
+found_among : (s : UnitsState) (u : Option ℕ) (h : ℕ) (rs : List Resource) → blocker_among (owned s) u rs ≡ Some h →
     (is_other u h ≡ true) × (holds_one s h rs ≡ true)
 found_among s u h [] is = cc
 found_among s u h (r ∷ rs) is =
-    elim (either_some (first_holder (held_table s) u r) (holder_among (held_table s) u rs) h is) [
+    elim (either_some (blocker_at (owned s) u r) (blocker_among (owned s) u rs) h is) [
       | inl first ↦ let found = holder_holds s u r h first in (found.0, or_left _ _ found.1)
       | inr later ↦ let found = found_among s u h rs later.1 in (found.0, or_right _ _ found.1)
     ]
 
 -- a command waits for a unit that holds nothing of what it uses: it is READQ TD, and the unit has written to its queue
-found_writer : (s : UnitsState) (u : Option ℕ) (h : ℕ) (o : Op) → (reads_queue (Some o) ≡ true → IsSound s) → may_act s u ≡ true → holder_among (held_table s) u (uses_of s.opening o) ≡ None →
+found_writer : (s : UnitsState) (u : Option ℕ) (h : ℕ) (o : Op) → (reads_queue (Some o) ≡ true → IsSound s) → may_act s u ≡ true → blocker_among (owned s) u (uses_of s.opening o) ≡ None →
     writer_awaited s u o ≡ Some h → (is_other u h ≡ true) × Starves s u h (Some o)
 found_writer s u h (TdRead q) sound acts free is = by (queue_logical s.opening q) refl (is_nothing (committed_for s u q)) refl is
   where
     by : (logical : Bool) → queue_logical s.opening q ≡ logical → (nothing : Bool) → is_nothing (committed_for s u q) ≡ nothing →
-        (if logical && nothing then first_holder (held_table s) u (WritingEnd q) else None) ≡ Some h → (is_other u h ≡ true) × IsStarved s u h q
+        (if logical && nothing then blocker_at (owned s) u (WritingEnd q) else None) ≡ Some h → (is_other u h ≡ true) × IsStarved s u h q
     by true logical true nothing writer =
-        let reader : holder_among (held_table s) u (ReadingEnd q ∷ []) ≡ None = ap (λ b. holder_among (held_table s) u (if b then ReadingEnd q ∷ [] else [])) (sym logical) ∙ free in
+        let reader : blocker_among (owned s) u (ReadingEnd q ∷ []) ≡ None = ap (λ b. blocker_among (owned s) u (if b then ReadingEnd q ∷ [] else [])) (sym logical) ∙ free in
         ((holder_holds s u (WritingEnd q) h writer).0, is_starved s u h q (sound refl) acts logical nothing (none_either _ _ reader).0 writer)
     by true logical false nothing writer = cc
     by false logical nothing is writer = cc
@@ -64,7 +64,7 @@ found_writer s u h o sound acts free is = let none : None ≡ Some h = is in cc
 found_awaited : (s : UnitsState) (u : Option ℕ) (h : ℕ) (verb : Verb) (o : Op) → (reads_queue (Some o) ≡ true → IsSound s) → may_act s u ≡ true → awaited s u o ≡ Some h →
     (is_other u h ≡ true) × KeepsWaiting s u h verb (Some o)
 found_awaited s u h verb o sound acts is =
-    elim (either_some (holder_among (held_table s) u (uses_of s.opening o)) (writer_awaited s u o) h is) [
+    elim (either_some (blocker_among (owned s) u (uses_of s.opening o)) (writer_awaited s u o) h is) [
       | inl held ↦ let found = found_among s u h (uses_of s.opening o) held in (found.0, inl found.1)
       | inr writer ↦ let found = found_writer s u h o sound acts writer.0 writer.1 in (found.0, inr found.1)
     ]
@@ -75,7 +75,7 @@ found_for : (s : UnitsState) (u : Option ℕ) (h : ℕ) (verb : Verb) (o : Optio
 found_for s u h verb (Some o) sound acts ready is = found_awaited s u h verb o sound acts is
 found_for s u h (Enq value n nosuspend) None sound acts ready is =
     let found = holder_holds s u (User (bytes_of (take n value))) h is in
-    (found.0, inl (or_left (list_any (overlaps (User (bytes_of (take n value)))) (held_by s h)) false found.1))
+    (found.0, inl (or_left (list_any (conflicts (User (bytes_of (take n value)))) (held_by s h)) false found.1))
 found_for s u h verb None sound acts ready is = absurd ready
 
 -- the unit that a waiting command must wait for blocks it
@@ -103,11 +103,11 @@ held_back m u w is no_reader = elim is.keeps [ inl holds ↦ holds | inr starves
 -- ---- What is blocked may not go on
 
 held_among : (s : UnitsState) (u : Option ℕ) (h : ℕ) (rs : List Resource) → is_live s h ≡ true → is_other u h ≡ true → holds_one s h rs ≡ true →
-    holder_among (held_table s) u rs ≡ None → ⊥
+    blocker_among (owned s) u rs ≡ None → ⊥
 held_among s u h [] live other holds none = false≢true holds
 held_among s u h (r ∷ rs) live other holds none =
-    let both = none_either (first_holder (held_table s) u r) (holder_among (held_table s) u rs) none in
-    elim (or_cases (list_any (overlaps r) (held_by s h)) (holds_one s h rs) holds) [
+    let both = none_either (blocker_at (owned s) u r) (blocker_among (owned s) u rs) none in
+    elim (or_cases (list_any (conflicts r) (held_by s h)) (holds_one s h rs) holds) [
       | inl first ↦ held_first s u r h live other first both.0
       | inr later ↦ held_among s u h rs live other later both.1
     ]
@@ -116,9 +116,9 @@ held_for : (s : UnitsState) (u : Option ℕ) (h : ℕ) (verb : Verb) (o : Option
     holds_back s h verb o ≡ true → awaited_by s u verb o ≡ None → ⊥
 held_for s u h verb (Some o) live other holds none =
     held_among s u h (uses_of s.opening o) live other holds
-    (none_either (holder_among (held_table s) u (uses_of s.opening o)) (writer_awaited s u o) none).0
+    (none_either (blocker_among (owned s) u (uses_of s.opening o)) (writer_awaited s u o) none).0
 held_for s u h (Enq value n nosuspend) None live other holds none =
-    elim (or_cases (list_any (overlaps (User (bytes_of (take n value)))) (held_by s h)) false holds) [
+    elim (or_cases (list_any (conflicts (User (bytes_of (take n value)))) (held_by s h)) false holds) [
       | inl first ↦ held_first s u (User (bytes_of (take n value))) h live other first none
       | inr later ↦ absurd (false≢true later)
     ]

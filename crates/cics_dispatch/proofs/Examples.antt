@@ -5,7 +5,8 @@ use Rattle.cics_names.specs.declared.conditions.AbendCode.{AbendCode}
 use Rattle.cics_names.specs.declared.conditions.Condition.{Condition}
 use Rattle.cics_ksds.specs.declared.definition.FileDef.{FileDef}
 use Rattle.cics_transdata.specs.declared.queues.Recovery.TheVariants.{Logical}
-use Rattle.cics_history.specs.Openings.{OpeningState, nothing_defined, with_file, with_record, with_prefix, with_queue}
+use Rattle.cics_history.specs.State.{OpeningState}
+use Rattle.cics_history.specs.Openings.{nothing_defined, with_file, with_record, with_prefix, with_queue}
 use Rattle.cics_dispatch.specs.Replies.{plain}
 use Rattle.cics_names.specs.declared.commands.Verb.{Verb}
 use Rattle.cics_names.specs.declared.commands.Verb.TheVariants.{Read, Write, Delete}

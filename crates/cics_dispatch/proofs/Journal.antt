@@ -3,8 +3,7 @@
 use Rattle.std.specs.Prelude.{ℕ, zero, suc, true, false, Some, None, Result, Ok, Err, List, [], ◌∷◌, ◌++◌}
 use Rattle.cics_names.specs.Keyed.{Bytes}
 use Rattle.cics_names.specs.declared.conditions.AbendCode.{AbendCode}
-use Rattle.cics_history.specs.Openings.{OpeningState}
-use Rattle.cics_history.specs.Store.{Store}
+use Rattle.cics_history.specs.State.{OpeningState, Store}
 use Rattle.cics_history.specs.Holding.{store_of}
 use Rattle.cics_dispatch.specs.Machine.{Machine, beginning_region}
 use Rattle.cics_dispatch.specs.Steps.{Stepped, attached, issued}

@@ -7,10 +7,10 @@ use Rattle.cics_names.specs.Keyed.{Bytes, Map, is_same}
 use Rattle.cics_names.specs.KeyedLaws.{is_same-self}
 use Rattle.cics_browse.specs.Positions.{Position}
 use Rattle.cics_enqueue.specs.Resources.{most_count}
-use Rattle.cics_history.specs.Openings.{OpeningState}
-use Rattle.cics_history.specs.Holding.{UnitsState, store_of, awaited, value_holder}
+use Rattle.cics_history.specs.State.{OpeningState, UnitsState}
+use Rattle.cics_history.specs.Holding.{store_of, awaited, value_holder}
 use Rattle.cics_history.specs.Store.{apply}
-use Rattle.cics_history.specs.History.{outcome_of, is_open}
+use Rattle.cics_history.specs.Headline.{outcome_of, is_open}
 use Rattle.cics_history.specs.Execution.{is_ready_op, has_read, unit_or_next, count_at, counted, done_of, state_of, execution, after_execution, enq_of, enqueue, after_enqueued, after_enqueue, after_dequeue, after_unlock, after_ts_reading, IsOpenUnit, IsOpenOrNone}
 use Rattle.cics_history.specs.Events.{is_live, may_act}
 use Rattle.cics_history.specs.declared.ops.Op.{Op}

@@ -5,9 +5,8 @@ use Rattle.std.proofs.Common.{◌⊎◌, zero, suc, inl, inr, sym, ap, ◌∙◌
 use Rattle.std.proofs.lemmas.Option.{slice_get_within}
 use Rattle.std.proofs.lemmas.Bool.{false≢true, eqb-true, false_from_ne_true}
 use Rattle.std.proofs.lemmas.List.Elements.{All-head, All-tail}
-use Rattle.cics_enqueue.specs.Resources.{is_other, overlaps}
 use Rattle.cics_enqueue.specs.declared.resources.Resource.{Resource}
-use Rattle.cics_history.specs.Holding.{held_by}
+use Rattle.cics_history.specs.Holding.{held_by, conflicts, is_other}
 use Rattle.cics_dispatch.specs.declared.notes.Note.{Note}
 use Rattle.cics_dispatch.specs.Machine.{Machine, Task, Suspended, task_at, is_waiting}
 use Rattle.cics_dispatch.specs.Settled.{needed_by, holds_one, IsBlocked}
@@ -244,7 +243,7 @@ pub only_uses : (m : Machine) (rs : List Resource) (n : Note) (g u : ℕ) (r : R
 only_uses m rs n g u r place blocked only w i there own uses = record {
   resource = r;
   there = place;
-  needed = (only i w there own).only m.units.opening (λ x. list_any (overlaps x) (held_by m.units u)) (held_back m u w (blocked i w there own) (only i w there own).no_reader);
+  needed = (only i w there own).only m.units.opening (λ x. list_any (conflicts x) (held_by m.units u)) (held_back m u w (blocked i w there own) (only i w there own).no_reader);
   no_reader = (only i w there own).no_reader;
 }
 

@@ -5,7 +5,7 @@ use Rattle.std.proofs.lemmas.Bool.{false≢true, true≢false, eq-eqb, false_fro
 use Rattle.cics_names.specs.Keyed.{Bytes, is_same}
 use Rattle.cics_names.specs.KeyedLaws.{is_same-self, is_same-eq}
 use Rattle.cics_enqueue.specs.declared.resources.Resource.{Resource}
-use Rattle.cics_history.specs.Openings.{OpeningState}
+use Rattle.cics_history.specs.State.{OpeningState}
 use Rattle.cics_dispatch.specs.declared.notes.Note.{Note}
 use Rattle.cics_dispatch.specs.Machine.{Machine, Task, Suspended, is_unit, task_at, is_waiting, not_waiting}
 use Rattle.cics_history.specs.Events.{is_live, may_act}

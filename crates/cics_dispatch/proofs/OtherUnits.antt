@@ -8,8 +8,9 @@ use Rattle.cics_names.specs.declared.conditions.Condition.{Condition}
 use Rattle.cics_ksds.specs.Prefixes.{has_prefix}
 use Rattle.cics_tempstor.specs.Queues.{has_item}
 use Rattle.cics_history.specs.Store.{is_normal, ts_queue}
-use Rattle.cics_history.specs.History.{outcome_of, is_open}
-use Rattle.cics_history.specs.Holding.{UnitsState, UpdateRead, EnqCount, store_of}
+use Rattle.cics_history.specs.Headline.{outcome_of, is_open}
+use Rattle.cics_history.specs.State.{UnitsState, UpdateRead, EnqCount}
+use Rattle.cics_history.specs.Holding.{store_of}
 use Rattle.cics_history.specs.Execution.{unit_or_next, outcomes_with, is_read_of, read_at, is_read_before, with_read, covers, opened, reads_after, entered, with_counts, after_unlock, after_dequeue, after_end, after_ts_reading}
 use Rattle.cics_history.specs.Events.{may_act, is_live}
 use Rattle.cics_history.specs.declared.ops.Op.{Op}

@@ -7,10 +7,10 @@ use Rattle.cics_names.specs.declared.conditions.Condition.{Condition}
 use Rattle.cics_enqueue.specs.Resources.{bytes_of}
 use Rattle.cics_enqueue.specs.declared.resources.Resource.{Resource}
 use Rattle.cics_enqueue.specs.declared.resources.Resource.TheVariants.{FileKey, User}
-use Rattle.cics_history.specs.Openings.{OpeningState, file_recoverable}
+use Rattle.cics_history.specs.State.{OpeningState, file_recoverable, UnitsState, UpdateRead, EnqCount}
 use Rattle.cics_history.specs.Store.{is_normal, is_recoverable}
-use Rattle.cics_history.specs.History.{outcome_of, is_open}
-use Rattle.cics_history.specs.Holding.{UnitsState, UpdateRead, EnqCount, uses_of, held_by_entry, held_by_read, held_by_count, held_by}
+use Rattle.cics_history.specs.Headline.{outcome_of, is_open}
+use Rattle.cics_history.specs.Holding.{uses_of, held_by_entry, held_by_read, held_by_count, held_by}
 use Rattle.cics_history.specs.Execution.{unit_or_next, outcomes_with, is_read_of, is_read_before, with_read, covers, opened, reads_after, entered, is_count, counted, uncounted, with_counts, after_unlock, after_dequeue, after_end, after_ts_reading}
 use Rattle.cics_history.specs.Events.{is_live}
 use Rattle.cics_history.specs.declared.ops.Op.{Op}

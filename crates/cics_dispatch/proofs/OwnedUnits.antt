@@ -9,12 +9,11 @@ use Rattle.cics_browse.specs.Positions.{Position}
 use Rattle.cics_tempstor.specs.Queues.{has_item}
 use Rattle.cics_enqueue.specs.Resources.{most_count}
 use Rattle.cics_dispatch.proofs.Elements.{get-set, get-pushed}
-use Rattle.cics_history.specs.Openings.{OpeningState}
+use Rattle.cics_history.specs.State.{OpeningState, UnitsState, beginning}
 use Rattle.cics_history.specs.Store.{ts_queue}
-use Rattle.cics_history.specs.History.{outcome_of, is_open}
-use Rattle.cics_history.specs.Holding.{UnitsState, store_of, awaited, value_holder}
+use Rattle.cics_history.specs.Headline.{outcome_of, is_open}
+use Rattle.cics_history.specs.Holding.{store_of, awaited, value_holder}
 use Rattle.cics_history.specs.Execution.{count_at, after_ts_reading, unit_or_next, outcomes_with, done_of, state_of, execution, after_execution, enq_of, enqueue, after_enqueue, after_enqueued}
-use Rattle.cics_history.specs.Headline.{beginning}
 use Rattle.cics_history.specs.Events.{is_live}
 use Rattle.cics_history.specs.declared.ops.Op.{Op}
 use Rattle.cics_history.specs.declared.ops.Answer.{Answer}

@@ -3,7 +3,8 @@ use Rattle.std.specs.Prelude.{◌≡◌, ℕ, true, false, Option, Some, None, L
 use Rattle.cics_names.specs.Keyed.{Bytes}
 use Rattle.cics_names.specs.declared.conditions.Condition.{Condition}
 use Rattle.cics_names.specs.declared.conditions.Condition.TheVariants.{Normal, Lengerr, Qzero, Qbusy, Itemerr, Qiderr}
-use Rattle.cics_history.specs.Openings.{OpeningState, with_td_record}
+use Rattle.cics_history.specs.State.{OpeningState}
+use Rattle.cics_history.specs.Openings.{with_td_record}
 use Rattle.cics_units.specs.declared.listings.TaskState.TheVariants.{Idle, HasUnit}
 use Rattle.cics_dispatch.specs.Replies.{giving}
 use Rattle.cics_dispatch.specs.Answers.{tasks_listed}

@@ -9,7 +9,8 @@ use Rattle.cics_names.specs.declared.conditions.Condition.{Condition}
 use Rattle.cics_names.specs.declared.conditions.Condition.TheVariants.{Invreq, Lengerr, Qiderr}
 use Rattle.cics_ksds.specs.Files.{key_of as key_in, fits_file}
 use Rattle.cics_ksds.specs.declared.definition.FileDef.{FileDef}
-use Rattle.cics_history.specs.Openings.{FileOpening, is_key}
+use Rattle.cics_history.specs.State.{FileOpening}
+use Rattle.cics_history.specs.Openings.{is_key}
 use Rattle.cics_history.specs.Records.{key_of}
 use Rattle.cics_history.specs.Execution.{is_fit_for, is_item, is_ready_op, is_short_key}
 use Rattle.cics_history.specs.declared.ops.Op.{Op}

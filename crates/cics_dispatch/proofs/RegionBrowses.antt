@@ -7,8 +7,9 @@ use Rattle.cics_names.specs.declared.conditions.Condition.{Condition}
 use Rattle.cics_names.specs.declared.conditions.Condition.TheVariants.{Normal, Notfnd}
 use Rattle.cics_browse.specs.Positions.{Position, finds_start, start_at, reset_condition, after_reset}
 use Rattle.cics_browse.specs.declared.browses.Browsed.{Browsed}
-use Rattle.cics_history.specs.Execution.{UnitsValue}
+use Rattle.cics_history.specs.State.{UnitsValue}
 use Rattle.cics_history.specs.Headline.{IsHeadline}
+use Rattle.cics_history.specs.Serial.{IsSerializable}
 use Rattle.cics_dispatch.specs.Browses.{read_on, after_read_on}
 use Rattle.cics_dispatch.specs.BrowseLoans.{moved, IsMoved}
 use Rattle.cics_dispatch.specs.TasksLoans.{with_browses_of, with_browses_at}
@@ -49,11 +50,11 @@ module _ {units : UnitsValue} {tasks : List Task} {waiting : List Suspended} {cl
   machine = (region_of units tasks waiting clock is_down).machine
 
   -- UNLOCK
-  pub unlocked_kept : (after : UnitsValue) (f : Bytes) → is_waiting waiting t.label ≡ false → with_units machine after.state ≡ unlocked machine t.unit f → IsHeadline after →
+  pub unlocked_kept : (after : UnitsValue) (f : Bytes) → is_waiting waiting t.label ≡ false → with_units machine after.state ≡ unlocked machine t.unit f → IsHeadline after → IsSerializable after →
       IsRegionKept (region_of after tasks waiting clock is_down)
-  unlocked_kept after f awake is headline =
+  unlocked_kept after f awake is headline serializable =
       kept_as (region_of after tasks waiting clock is_down) (unlocked machine t.unit f) is
-      (kept_unlocked machine at t kept.tasks there awake f) (owned_unlocked machine t.unit f kept.owned) (record { headline = headline })
+      (kept_unlocked machine at t kept.tasks there awake f) (owned_unlocked machine t.unit f kept.owned) (record { headline = headline }) (record { serializable = serializable })
 
   pub unlock_answered : (after : UnitsValue) (f : Bytes) (resp : Bool) (r : Reply) → with_units machine after.state ≡ unlocked machine t.unit f → r ≡ plain Normal →
       answered (region_of after tasks waiting clock is_down).machine t resp r ≡ answered (unlocked machine t.unit f) t resp (plain Normal)
@@ -85,7 +86,7 @@ module _ {units : UnitsValue} {tasks : List Task} {waiting : List Suspended} {cl
     browses_kept awake =
         kept_as after (with_task machine owner) after_machine
         (kept_browses machine at t kept.tasks there awake browses) (owned_browses machine t at there kept.tasks.labels kept.owned browses)
-        (record { headline = kept.headline.headline })
+        (record { headline = kept.headline.headline }) (record { serializable = kept.serializable.serializable })
 
     -- once it is told a reply, it has made a step
     pub then_told_so : {new : RegionValue} {x : Outcome} (resp : Bool) (r told : Reply) (f : Task → Stepped Outcome) → is_waiting waiting t.label ≡ false → r ≡ told →

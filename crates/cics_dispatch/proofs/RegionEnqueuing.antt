@@ -4,9 +4,11 @@ use Rattle.std.proofs.Common.{sym, ap, ◌∙◌, subst, arith}
 use Rattle.std.proofs.lemmas.List.{length-take-le}
 use Rattle.cics_names.specs.Keyed.{Bytes}
 use Rattle.cics_names.specs.declared.conditions.Condition.TheVariants.{Normal, Invreq}
-use Rattle.cics_history.specs.Execution.{UnitsValue, unit_or_next, enqueue, enq_of, after_enqueue, after_enqueued}
-use Rattle.cics_history.specs.Holding.{UnitsState, value_holder}
+use Rattle.cics_history.specs.State.{UnitsValue, UnitsState}
+use Rattle.cics_history.specs.Execution.{unit_or_next, enqueue, enq_of, after_enqueue, after_enqueued}
+use Rattle.cics_history.specs.Holding.{value_holder}
 use Rattle.cics_history.specs.Headline.{IsHeadline}
+use Rattle.cics_history.specs.Serial.{IsSerializable}
 use Rattle.cics_history.specs.declared.ops.Enqueued.{Enqueued}
 use Rattle.cics_history.specs.declared.ops.Enqueued.TheVariants.{Taken, CountFull, MustWait as EnqMustWait}
 use Rattle.cics_dispatch.specs.Machine.{Machine, Task, Suspended, replaced, is_waiting, with_units, with_task, with_unit}
@@ -38,10 +40,10 @@ module _ {units : UnitsValue} {tasks : List Task} {waiting : List Suspended} {cl
   machine = (region_of units tasks waiting clock is_down).machine
 
   -- the tasks stay, and each open unit is its task's
-  pub dequeued_kept : is_waiting waiting t.label ≡ false → IsHeadline after → IsRegionKept (region_of after tasks waiting clock is_down)
-  dequeued_kept awake headline =
+  pub dequeued_kept : is_waiting waiting t.label ≡ false → IsHeadline after → IsSerializable after → IsRegionKept (region_of after tasks waiting clock is_down)
+  dequeued_kept awake headline serializable =
       kept_as (region_of after tasks waiting clock is_down) (dequeued machine t.unit value) (λ i. with_units machine (state i))
-      (kept_dequeued machine at t kept.tasks there awake value) (owned_dequeued machine t.unit value kept.owned) (record { headline = headline })
+      (kept_dequeued machine at t kept.tasks there awake value) (owned_dequeued machine t.unit value kept.owned) (record { headline = headline }) (record { serializable = serializable })
 
   -- the task is told that it is done
   pub dequeue_answered : (resp : Bool) (r : Reply) → r ≡ plain Normal →
@@ -97,7 +99,7 @@ enqueues before after t asking n value bytes done own same state comes_to = reco
 }
 
 module _ {units : UnitsValue} {tasks : List Task} {waiting : List Suspended} {clock : ℕ} {is_down : Bool} (kept : IsRegionKept (region_of units tasks waiting clock is_down))
-    (at : ℕ) (t : Task) (there : slice_get tasks at ≡ Some t) {value : Bytes} {after : UnitsValue} {done : Enqueued} (tried : Enqueues units after t value done) (headline : IsHeadline after) where
+    (at : ℕ) (t : Task) (there : slice_get tasks at ≡ Some t) {value : Bytes} {after : UnitsValue} {done : Enqueued} (tried : Enqueues units after t value done) (headline : IsHeadline after) (serializable : IsSerializable after) where
   abbrev m : Machine
   m = (region_of units tasks waiting clock is_down).machine
 
@@ -111,7 +113,7 @@ module _ {units : UnitsValue} {tasks : List Task} {waiting : List Suspended} {cl
     full_machine = ap (with_units m) (tried.state ∙ ap (after_enqueued units.state t.unit value) (tried.comes_to ∙ full))
 
     pub full_kept : IsRegionKept (region_of after tasks waiting clock is_down)
-    full_kept = kept_as (region_of after tasks waiting clock is_down) m full_machine kept.tasks kept.owned (record { headline = headline })
+    full_kept = kept_as (region_of after tasks waiting clock is_down) m full_machine kept.tasks kept.owned (record { headline = headline }) (record { serializable = serializable })
 
     pub full_step : (c : Command) (r : Reply) → r ≡ plain Invreq →
         answered (region_of after tasks waiting clock is_down).machine t c.resp r ≡ enqueued m t c value (enqueue units.state t.unit value)
@@ -134,7 +136,7 @@ module _ {units : UnitsValue} {tasks : List Task} {waiting : List Suspended} {cl
       pub taken_kept : is_waiting waiting t.label ≡ false → IsRegionKept (region_of after ts waiting clock is_down)
       taken_kept awake =
           kept_as (region_of after ts waiting clock is_down) _ taken_machine
-          (kept_enqueued m at t kept.tasks there awake value unit (tried.comes_to ∙ taken)) (owned_enqueued m t at there kept.tasks.labels kept.owned value unit (tried.comes_to ∙ taken)) (record { headline = headline })
+          (kept_enqueued m at t kept.tasks there awake value unit (tried.comes_to ∙ taken)) (owned_enqueued m t at there kept.tasks.labels kept.owned value unit (tried.comes_to ∙ taken)) (record { headline = headline }) (record { serializable = serializable })
 
       -- the task is told that the value is its own
       pub taken_step : (c : Command) (r : Reply) → r ≡ plain Normal →

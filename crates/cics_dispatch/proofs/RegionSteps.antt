@@ -3,19 +3,20 @@ use Rattle.std.specs.Prelude.{◌≡◌, ℕ, ◌<◌, IfNone, IfOk, OnOk, IsErr
 use Rattle.std.proofs.Common.{sym, ap, ◌∙◌, subst, arith, inl, inr, ◌≤◌}
 use Rattle.std.proofs.lemmas.Option.{slice_get_cases, slice_get_within}
 use Rattle.cics_names.specs.Keyed.{Bytes}
-use Rattle.cics_history.specs.Execution.{UnitsValue, unit_or_next, execution, after_execution, done_of, state_of, IsOpenUnit}
-use Rattle.cics_history.specs.Holding.{UnitsState, store_of, awaited}
+use Rattle.cics_history.specs.State.{UnitsValue, UnitsState}
+use Rattle.cics_history.specs.Execution.{unit_or_next, execution, after_execution, done_of, state_of, IsOpenUnit}
+use Rattle.cics_history.specs.Holding.{store_of, awaited}
 use Rattle.cics_history.specs.declared.ops.Op.{Op}
 use Rattle.cics_history.specs.declared.ops.Answer.{Answer}
 use Rattle.cics_history.specs.declared.ops.Done.{Done}
 use Rattle.cics_history.specs.declared.ops.Done.TheVariants.{Answered, MustWait}
-use Rattle.cics_history.specs.Headline.{IsHeadline}
+use Rattle.cics_history.specs.Headline.{IsHeadline, is_open}
+use Rattle.cics_history.specs.Serial.{IsSerializable}
 use Rattle.cics_history.specs.declared.ops.UnitState.{UnitState}
-use Rattle.cics_history.specs.History.{is_open}
 use Rattle.cics_history.specs.declared.ops.UnitState.TheVariants.{Committed, BackedOut}
 use Rattle.std.proofs.lemmas.Bool.{true≢false, false≢true}
 use Rattle.cics_dispatch.specs.Machine.{Machine, Task, Suspended, RegionValue, replaced, is_waiting, not_waiting, units_after, unit_closed, abended, with_unit, with_task, with_units}
-use Rattle.cics_dispatch.specs.Answers.{IsHeadlineRegion}
+use Rattle.cics_dispatch.specs.Answers.{IsHeadlineRegion, IsSerializableRegion}
 use Rattle.cics_dispatch.specs.KeptTasks.{AreTasksKept}
 use Rattle.cics_dispatch.specs.OwnedUnits.{AreUnitsOwned}
 use Rattle.cics_dispatch.specs.Regions.{region_of, IsRegionKept}
@@ -44,8 +45,8 @@ task_there ts at within follows = elim (slice_get_cases ts at).1 [
     never past = omega (arith, within, past)
 
 -- a region whose machine is one that is kept is kept
-pub kept_as : (r : RegionValue) (m : Machine) → r.machine ≡ m → AreTasksKept m → AreUnitsOwned m → IsHeadlineRegion r → IsRegionKept r
-kept_as r m is tasks owned headline = record { tasks = subst AreTasksKept (sym is) tasks; owned = subst AreUnitsOwned (sym is) owned; headline = headline }
+pub kept_as : (r : RegionValue) (m : Machine) → r.machine ≡ m → AreTasksKept m → AreUnitsOwned m → IsHeadlineRegion r → IsSerializableRegion r → IsRegionKept r
+kept_as r m is tasks owned headline serializable = record { tasks = subst AreTasksKept (sym is) tasks; owned = subst AreUnitsOwned (sym is) owned; headline = headline; serializable = serializable }
 
 module _ {units : UnitsValue} {tasks : List Task} {waiting : List Suspended} {clock : ℕ} {is_down : Bool} (kept : IsRegionKept (region_of units tasks waiting clock is_down)) where
   abbrev machine : Machine
@@ -54,18 +55,18 @@ module _ {units : UnitsValue} {tasks : List Task} {waiting : List Suspended} {cl
   -- the unit of a task ends
   pub closed_kept : (after : UnitsValue) (ts : List Task) (at : ℕ) (t : Task) (outcome : UnitState) (has_ended : Bool) → slice_get tasks at ≡ Some t → is_waiting waiting t.label ≡ false →
       is_open outcome ≡ false → after.state ≡ units_after units.state t.unit outcome → ts ≡ replaced tasks (record t { unit = None; browses = []; has_ended = has_ended }) →
-      IsHeadline after → IsRegionKept (region_of after ts waiting clock is_down)
-  closed_kept after ts at t outcome has_ended there awake shut state is headline =
+      IsHeadline after → IsSerializable after → IsRegionKept (region_of after ts waiting clock is_down)
+  closed_kept after ts at t outcome has_ended there awake shut state is headline serializable =
       kept_as (region_of after ts waiting clock is_down) (unit_closed machine t outcome has_ended) (λ i. record { units = state i; tasks = is i; waiting = waiting; clock = clock; is_down = is_down })
-      (kept_closed machine at t kept.tasks there awake outcome has_ended) (owned_closed machine t at there kept.tasks.labels kept.owned outcome has_ended shut) (record { headline = headline })
+      (kept_closed machine at t kept.tasks there awake outcome has_ended) (owned_closed machine t at there kept.tasks.labels kept.owned outcome has_ended shut) (record { headline = headline }) (record { serializable = serializable })
 
   -- a task is abended
   pub abended_kept : (after : UnitsValue) (ts : List Task) (ws : List Suspended) (at : ℕ) (t : Task) → slice_get tasks at ≡ Some t →
       after.state ≡ units_after units.state t.unit BackedOut → ts ≡ replaced tasks (record t { unit = None; browses = []; has_ended = true }) → ws ≡ not_waiting waiting t.label →
-      IsHeadline after → IsRegionKept (region_of after ts ws clock is_down)
-  abended_kept after ts ws at t there state is gone headline =
+      IsHeadline after → IsSerializable after → IsRegionKept (region_of after ts ws clock is_down)
+  abended_kept after ts ws at t there state is gone headline serializable =
       kept_as (region_of after ts ws clock is_down) (abended machine t) (λ i. record { units = state i; tasks = is i; waiting = gone i; clock = clock; is_down = is_down })
-      (kept_abended machine at t kept.tasks there) (owned_abended machine t at there kept.tasks.labels kept.owned) (record { headline = headline })
+      (kept_abended machine at t kept.tasks there) (owned_abended machine t at there kept.tasks.labels kept.owned) (record { headline = headline }) (record { serializable = serializable })
 
 -- a task that stands at its place stays where it is put in its own place
 pub replaced_same : (ts : List Task) (at : ℕ) (t : Task) → IsOwn own_label ts → slice_get ts at ≡ Some t → replaced ts t ≡ ts
@@ -132,7 +133,7 @@ executes before after t asking o done own state comes_to = record {
 
 -- ---- An updating command
 module _ {units : UnitsValue} {tasks : List Task} {waiting : List Suspended} {clock : ℕ} {is_down : Bool} (kept : IsRegionKept (region_of units tasks waiting clock is_down))
-    (at : ℕ) (t : Task) (there : slice_get tasks at ≡ Some t) {o : Op} {after : UnitsValue} {done : Done} (tried : Executes units after t o done) (headline : IsHeadline after) where
+    (at : ℕ) (t : Task) (there : slice_get tasks at ≡ Some t) {o : Op} {after : UnitsValue} {done : Done} (tried : Executes units after t o done) (headline : IsHeadline after) (serializable : IsSerializable after) where
   abbrev m : Machine
   m = (region_of units tasks waiting clock is_down).machine
 
@@ -151,7 +152,7 @@ module _ {units : UnitsValue} {tasks : List Task} {waiting : List Suspended} {cl
 
       pub acted_kept : is_waiting waiting t.label ≡ false → IsRegionKept (region_of after ts waiting clock is_down)
       acted_kept awake = kept_as (region_of after ts waiting clock is_down) _ acted_machine
-          (kept_executed m at t kept.tasks there awake o unit a (tried.comes_to ∙ acts)) (owned_executed m t at there kept.tasks.labels kept.owned o unit a (tried.comes_to ∙ acts)) (record { headline = headline })
+          (kept_executed m at t kept.tasks there awake o unit a (tried.comes_to ∙ acts)) (owned_executed m t at there kept.tasks.labels kept.owned o unit a (tried.comes_to ∙ acts)) (record { headline = headline }) (record { serializable = serializable })
 
       pub owner_there : slice_get ts at ≡ Some (with_unit t unit)
       owner_there = ap (λ l. slice_get l at) is ∙ with_task_placed m at t (with_unit t unit) kept.tasks there refl

@@ -8,11 +8,11 @@ use Rattle.cics_names.specs.Keyed.{Bytes, is_same}
 use Rattle.cics_names.specs.KeyedLaws.{is_same-self}
 use Rattle.cics_enqueue.specs.declared.resources.Resource.{Resource}
 use Rattle.cics_history.specs.Events.{is_live, may_act}
-use Rattle.cics_enqueue.specs.Resources.{overlaps}
 use Rattle.cics_history.specs.declared.ops.Op.{Op}
 use Rattle.cics_history.specs.declared.ops.Op.TheVariants.{TdRead}
 use Rattle.cics_dispatch.proofs.KeptTasks.{begins_now, not_waiting_then}
-use Rattle.cics_history.specs.Holding.{UnitsState, held_by}
+use Rattle.cics_history.specs.State.{UnitsState}
+use Rattle.cics_history.specs.Holding.{held_by, conflicts}
 use Rattle.cics_history.proofs.Waiting.{any_more}
 use Rattle.cics_dispatch.specs.Machine.{Machine, Task, Suspended, RegionValue, task_at, is_waiting, not_waiting, with_waiting}
 use Rattle.cics_dispatch.specs.Checks.{fault_of}
@@ -51,7 +51,7 @@ holds_yet : (s n : UnitsState) (h : ℕ) (verb : Verb) (o : Option Op) → n.ope
     ((p : Resource → Bool) → list_any p (held_by s h) ≡ true → list_any p (held_by n h) ≡ true) → holds_back s h verb o ≡ true → holds_back n h verb o ≡ true
 holds_yet s n h verb o opening holds is =
     (λ i. holds_one n h (needed_by (opening i) verb o))
-    ∙ any_more (λ r. list_any (overlaps r) (held_by s h)) (λ r. list_any (overlaps r) (held_by n h)) (λ r. holds (overlaps r)) (needed_by s.opening verb o) is
+    ∙ any_more (λ r. list_any (conflicts r) (held_by s h)) (λ r. list_any (conflicts r) (held_by n h)) (λ r. holds (conflicts r)) (needed_by s.opening verb o) is
 
 -- a reader that was starved is so yet
 starves_yet : (s n : UnitsState) (own : Option ℕ) (h : ℕ) (o : Option Op) → LeavesStarved s n → is_live s h ≡ true → Starves s own h o → Starves n own h o

@@ -5,13 +5,12 @@ use Rattle.std.proofs.Common.{inl, inr, sym, ap, ◌∙◌, arith}
 use Rattle.std.proofs.lemmas.Bool.{false≢true, true≢false, cases_Bool, and_parts, and_from, eqb-true, eq-eqb}
 use Rattle.cics_names.specs.Keyed.{Bytes, Map, is_same}
 use Rattle.cics_names.specs.KeyedLaws.{is_same-self, is_same-eq}
-use Rattle.cics_enqueue.specs.Resources.{overlaps, is_other}
 use Rattle.cics_enqueue.specs.declared.resources.Resource.{Resource}
 use Rattle.cics_enqueue.specs.declared.resources.Resource.TheVariants.{TdRead as ReadingEnd, TdWrite as WritingEnd}
-use Rattle.cics_history.specs.Openings.{queue_logical}
-use Rattle.cics_history.specs.Store.{apply, is_recoverable, initial_store}
-use Rattle.cics_history.specs.History.{outcome_of, is_open, is_backed_out, replay}
-use Rattle.cics_history.specs.Holding.{UnitsState, UpdateRead, EnqCount, uses_of, held_by, held_table, first_holder, holder_among, is_own, committed_for, is_nothing, writer_awaited, awaited}
+use Rattle.cics_history.specs.State.{queue_logical, initial_store, UnitsState, UpdateRead, EnqCount}
+use Rattle.cics_history.specs.Store.{apply, is_recoverable}
+use Rattle.cics_history.specs.Headline.{outcome_of, is_open, is_backed_out, replay}
+use Rattle.cics_history.specs.Holding.{uses_of, held_by, conflicts, is_other, owned, blocker_at, blocker_among, is_own, committed_for, is_nothing, writer_awaited, awaited}
 use Rattle.cics_history.specs.Execution.{unit_or_next, outcomes_with, entered, with_counts, after_unlock, after_dequeue, after_end, after_ts_reading}
 use Rattle.cics_history.specs.Events.{is_live, may_act}
 use Rattle.cics_history.specs.Cells.{Content, Td, content, touches, effect, Reading, Writing}
@@ -40,18 +39,18 @@ pub record LeavesStarved (old new : UnitsState) : Type 0 where
 -- ---- The writer is found
 
 -- whoever else holds something of a resource is found
-pub held_first : (s : UnitsState) (u : Option ℕ) (r : Resource) (h : ℕ) → is_live s h ≡ true → is_other u h ≡ true → list_any (overlaps r) (held_by s h) ≡ true →
-    first_holder (held_table s) u r ≡ None → ⊥
+pub held_first : (s : UnitsState) (u : Option ℕ) (r : Resource) (h : ℕ) → is_live s h ≡ true → is_other u h ≡ true → list_any (conflicts r) (held_by s h) ≡ true →
+    blocker_at (owned s) u r ≡ None → ⊥
 held_first s u r h live other holds none =
-    true≢false (sym (in_table s (overlaps r) u h (begun s h live) other holds) ∙ none_first (held_table s) u r none)
+    true≢false (sym (in_table s (conflicts r) u h (begun s h live) other holds) ∙ none_first (owned s) u r none)
 
 -- an open unit that wrote to a LOGICAL queue holds its writing end
 holds_end : (s : UnitsState) (h : ℕ) (q : Bytes) → is_open (outcome_of s.outcomes h) ≡ true → queue_logical s.opening q ≡ true → used s.trace h (Td q) Writing ≡ true →
-    list_any (overlaps (WritingEnd q)) (held_by s h) ≡ true
+    list_any (conflicts (WritingEnd q)) (held_by s h) ≡ true
 holds_end s h q began logical writes = end_held s h q Writing ∙ and_from _ _ began (and_from _ _ logical writes)
 
 pub writer_found : (s : UnitsState) (u : Option ℕ) (h : ℕ) (q : Bytes) → is_live s h ≡ true → is_other u h ≡ true → queue_logical s.opening q ≡ true → used s.trace h (Td q) Writing ≡ true →
-    first_holder (held_table s) u (WritingEnd q) ≡ None → ⊥
+    blocker_at (owned s) u (WritingEnd q) ≡ None → ⊥
 writer_found s u h q live other logical writes none =
     held_first s u (WritingEnd q) h live other (holds_end s h q (and_parts (nat_lt h (length s.outcomes)) _ live).1 logical writes) none
 
@@ -87,8 +86,8 @@ module _ (s : UnitsState) (u : Option ℕ) (op : Op) (a : Answer) (free : awaite
   other_writer r d this same differs =
       let one : r ≡ q = is_same-eq r q same in
       let awaits : awaited s u (TdWrite q d) ≡ None = ap (λ x. awaited s u (TdWrite x d)) (sym one) ∙ ap (awaited s u) (sym this) ∙ free in
-      let none : holder_among (held_table s) u (uses_of s.opening (TdWrite q d)) ≡ None = (none_either _ _ awaits).0 in
-      let ends : holder_among (held_table s) u (WritingEnd q ∷ []) ≡ None = ap (λ b. holder_among (held_table s) u (if b then WritingEnd q ∷ [] else [])) (sym is.logical) ∙ none in
+      let none : blocker_among (owned s) u (uses_of s.opening (TdWrite q d)) ≡ None = (none_either _ _ awaits).0 in
+      let ends : blocker_among (owned s) u (WritingEnd q ∷ []) ≡ None = ap (λ b. blocker_among (owned s) u (if b then WritingEnd q ∷ [] else [])) (sym is.logical) ∙ none in
       writer_found s u h q live (other_unit u s.outcomes h differs) is.logical is.writes (none_either _ _ ends).0
 
   module _ (fin : Outcomes) (gone : is_backed_out (fin h) ≡ true) where
@@ -243,7 +242,7 @@ starved_waits s own h q acts live other is none =
     let yet = (and_parts (nat_lt h (length s.outcomes)) (is_open (outcome_of s.outcomes h)) live).1 in
     let gone : is_backed_out (others_gone s own h) ≡ true = rw (yet, other) refl in
     let nothing : is_nothing (committed_for s own q) ≡ true = ap is_nothing (committed_is s own q is.logical ∙ is.nothing (others_gone s own) (others_end s own) gone (own_kept s own acts)) in
-    let writer : writer_awaited s own (TdRead q) ≡ None = (none_either (holder_among (held_table s) own (uses_of s.opening (TdRead q))) (writer_awaited s own (TdRead q)) none).1 in
+    let writer : writer_awaited s own (TdRead q) ≡ None = (none_either (blocker_among (owned s) own (uses_of s.opening (TdRead q))) (writer_awaited s own (TdRead q)) none).1 in
     writer_found s own h q live other is.logical is.writes (rw (is.logical, nothing) at writer)
 
 -- ---- Where a reader is starved
@@ -266,7 +265,7 @@ nothing_is (x ∷ xs) is = cc
 
 -- a task finds nothing to read, nobody else holds the reading end, and another unit holds the writing end
 module _ (s : UnitsState) (own : Option ℕ) (h : ℕ) (q : Bytes) (sound : IsSound s) (acts : may_act s own ≡ true) (logical : queue_logical s.opening q ≡ true)
-    (nothing : is_nothing (committed_for s own q) ≡ true) (free : first_holder (held_table s) own (ReadingEnd q) ≡ None) (writer : first_holder (held_table s) own (WritingEnd q) ≡ Some h) where
+    (nothing : is_nothing (committed_for s own q) ≡ true) (free : blocker_at (owned s) own (ReadingEnd q) ≡ None) (writer : blocker_at (owned s) own (WritingEnd q) ≡ Some h) where
   abbrev out : Outcomes
   out = outcome_of s.outcomes
 

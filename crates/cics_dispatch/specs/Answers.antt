@@ -3,6 +3,7 @@
 use Rattle.std.specs.Prelude.{◌≡◌, Bool, true, false, not, ◌&&◌, if◌then◌else◌, IsTrue, Option, Some, None, is_some, is_none, Result, Ok, Err, map, filter, List, []}
 use Rattle.cics_names.specs.Keyed.{Bytes}
 use Rattle.cics_history.specs.Headline.{IsHeadline}
+use Rattle.cics_history.specs.Serial.{IsSerializable}
 use Rattle.cics_units.specs.Listings.{listing_of}
 use Rattle.cics_history.specs.Holding.{store_of}
 use Rattle.cics_units.specs.declared.listings.Listing.{Listing}
@@ -54,9 +55,13 @@ abbrev pub always : {X : Type 0} → Stepped X → Stepped (Result X Refused)
 always s = record { outcome = Ok s.outcome; machine = s.machine }
 
 -- the headline holds of a region: its store is the replay of the kept history, each kept entry has the answer that its place
--- gives, a backed-out unit whose entries are the last ones left no trace, and the units take turns
+-- gives, and a backed-out unit whose entries are the last ones left no trace
 pub record IsHeadlineRegion (r : RegionValue) : Type 0 where
   pub headline : IsHeadline (record { state = r.machine.units; store = r.store })
+
+-- the committed units of a region are serializable in commit order
+pub record IsSerializableRegion (r : RegionValue) : Type 0 where
+  pub serializable : IsSerializable (record { state = r.machine.units; store = r.store })
 
 -- ---- Listings
 

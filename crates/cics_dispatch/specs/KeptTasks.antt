@@ -2,7 +2,7 @@
 use Rattle.std.specs.Prelude.{◌≡◌, ℕ, true, Option, Some, None, All, is_some, slice_get}
 use Rattle.cics_history.specs.Events.{is_live}
 use Rattle.cics_history.specs.Execution.{is_ready_op}
-use Rattle.cics_history.specs.Holding.{UnitsState}
+use Rattle.cics_history.specs.State.{UnitsState}
 use Rattle.cics_history.specs.declared.ops.Op.{Op}
 use Rattle.cics_names.specs.declared.commands.Verb.{Verb}
 use Rattle.cics_names.specs.declared.commands.Verb.TheVariants.{Enq}

@@ -4,7 +4,7 @@ use Rattle.std.specs.List.{list_any}
 use Rattle.cics_names.specs.Keyed.{Bytes}
 use Rattle.cics_names.specs.declared.commands.Verb.{Verb}
 use Rattle.cics_enqueue.specs.declared.resources.Resource.{Resource}
-use Rattle.cics_history.specs.Openings.{OpeningState}
+use Rattle.cics_history.specs.State.{OpeningState}
 use Rattle.cics_history.specs.Holding.{uses_of}
 use Rattle.cics_history.specs.declared.ops.Op.{Op}
 use Rattle.cics_dispatch.specs.declared.notes.Look.{Look}

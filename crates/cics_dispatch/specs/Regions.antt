@@ -1,8 +1,8 @@
 -- A region as it is kept: its machine, and the store of its units.
 use Rattle.std.specs.Prelude.{ℕ, Bool, List}
-use Rattle.cics_history.specs.Execution.{UnitsValue}
+use Rattle.cics_history.specs.State.{UnitsValue}
 use Rattle.cics_dispatch.specs.Machine.{Task, Suspended, RegionValue}
-use Rattle.cics_dispatch.specs.Answers.{IsHeadlineRegion}
+use Rattle.cics_dispatch.specs.Answers.{IsHeadlineRegion, IsSerializableRegion}
 use Rattle.cics_dispatch.specs.KeptTasks.{AreTasksKept}
 use Rattle.cics_dispatch.specs.OwnedUnits.{AreUnitsOwned}
 
@@ -16,3 +16,4 @@ pub record IsRegionKept (r : RegionValue) : Type 0 where
   pub tasks : AreTasksKept r.machine
   pub owned : AreUnitsOwned r.machine
   pub headline : IsHeadlineRegion r
+  pub serializable : IsSerializableRegion r

@@ -3,12 +3,12 @@ use Rattle.std.specs.Prelude.{◌≡◌, ℕ, ◌==◌, Bool, true, false, not, 
 use Rattle.std.specs.List.{list_any}
 use Rattle.std.proofs.Common.{◌⊎◌}
 use Rattle.cics_names.specs.Keyed.{Bytes, value_at}
-use Rattle.cics_enqueue.specs.Resources.{bytes_of, overlaps, is_other}
+use Rattle.cics_enqueue.specs.Resources.{bytes_of}
 use Rattle.cics_enqueue.specs.declared.resources.Resource.{Resource}
 use Rattle.cics_enqueue.specs.declared.resources.Resource.TheVariants.{User}
-use Rattle.cics_history.specs.Openings.{OpeningState, file_recoverable, queue_logical}
-use Rattle.cics_history.specs.History.{outcome_of, is_backed_out}
-use Rattle.cics_history.specs.Holding.{UnitsState, uses_of, held_by}
+use Rattle.cics_history.specs.State.{OpeningState, file_recoverable, queue_logical, UnitsState}
+use Rattle.cics_history.specs.Headline.{outcome_of, is_backed_out}
+use Rattle.cics_history.specs.Holding.{uses_of, held_by, conflicts, is_other}
 use Rattle.cics_history.specs.Cells.{Td, Writing}
 use Rattle.cics_history.specs.Isolation.{Outcomes, Extends, store_by, used}
 use Rattle.cics_history.specs.Events.{is_live}
@@ -38,7 +38,7 @@ needed_by o verb None = []
 
 -- a unit holds something of this
 abbrev pub holds_one : UnitsState → ℕ → List Resource → Bool
-holds_one s u rs = list_any (λ r. list_any (overlaps r) (held_by s u)) rs
+holds_one s u rs = list_any (λ r. list_any (conflicts r) (held_by s u)) rs
 
 -- a unit holds what keeps a command waiting
 abbrev pub holds_back : UnitsState → ℕ → Verb → Option Op → Bool

@@ -10,7 +10,7 @@ use Rattle.cics_names.specs.declared.conditions.Condition.TheVariants.{Normal, N
 use Rattle.cics_names.specs.declared.conditions.AbendCode.{AbendCode}
 use Rattle.cics_browse.specs.Positions.{Position, finds_start, start_at, read_next, after_next, read_prev, after_prev, reset_condition, after_reset}
 use Rattle.cics_browse.specs.declared.browses.Browsed.{Browsed}
-use Rattle.cics_history.specs.Holding.{UnitsState}
+use Rattle.cics_history.specs.State.{UnitsState}
 use Rattle.cics_history.specs.Execution.{execution, after_execution, enqueue, after_enqueue, after_dequeue, after_unlock, ts_reading, after_ts_reading, item_asked}
 use Rattle.cics_history.specs.declared.ops.Op.{Op}
 use Rattle.cics_history.specs.declared.ops.Op.TheVariants as op

@@ -1,6 +1,7 @@
 -- Waiting commands (chapter on task control): which one goes on, which one's time is over, and the clock.
 use Rattle.std.specs.Prelude.{◌≡◌, ℕ, ◌-◌, Bool, false, ◌&&◌, if◌then◌else◌, Option, Some, None, is_none, Result, nat_le, nat_lt, take, List, [], ◌∷◌}
-use Rattle.cics_history.specs.Holding.{UnitsState, awaited, value_holder}
+use Rattle.cics_history.specs.State.{UnitsState}
+use Rattle.cics_history.specs.Holding.{awaited, value_holder}
 use Rattle.cics_history.specs.declared.ops.Op.{Op}
 use Rattle.cics_dispatch.specs.Machine.{Machine, Task, Suspended, task_at, with_waiting, not_waiting, abended, timed_out}
 use Rattle.cics_dispatch.specs.Steps.{Stepped, by_op, refused_or}

@@ -19,10 +19,11 @@ ghost use Rattle.cics_dispatch.specs.Machine.{unit_closed};
 ghost use Rattle.cics_dispatch.specs.Checks.{fault_of};
 ghost use Rattle.cics_history.specs.Execution.{IsOpenUnit, IsOpenOrNone};
 ghost use Rattle.cics_history.specs.Headline.{IsHeadline};
+ghost use Rattle.cics_history.specs.Serial.{IsSerializable};
 ghost use Rattle.cics_history.specs.Records.{key_of};
 ghost use Rattle.cics_dispatch.specs.Steps.{answered, attached, busy_of, key_read, op_of, suspended};
 ghost use Rattle.cics_dispatch.specs.Waking.{clock_set};
-ghost use Rattle.cics_history.specs.Openings.{file_recoverable};
+ghost use Rattle.cics_history.specs.State.{file_recoverable};
 ghost use Rattle.cics_dispatch.specs.Regions.{IsRegionKept};
 ghost use Rattle.cics_dispatch.specs.Settled.{is_keeping};
 ghost use Rattle.cics_dispatch.specs.Blockers.{unit_of};
@@ -86,9 +87,11 @@ fn busy_condition(verb: &Verb) -> Option<Condition>
 fn end_unit(units: &mut Units, unit: Option<UnitId>, commits: bool)
     requires is_open { IsOpenOrNone units.old.state unit }
     requires headline { IsHeadline units.old }
+    requires serializable { IsSerializable units.old }
     ensures state { units.new.state
         ≡ units_after units.old.state unit (if commits then Committed else BackedOut) }
     ensures headline { IsHeadline units.new }
+    ensures serializable { IsSerializable units.new }
 {
     let Some(unit) = unit else {
         return;

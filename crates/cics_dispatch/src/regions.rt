@@ -4,6 +4,7 @@ ghost use Rattle.std.specs.Prelude.{◌≡◌, ◌&&◌, not, if◌then◌else�
 ghost use Rattle.std.specs.Prelude.{IfOk, IfErr, IfSome, OnOk};
 ghost use Rattle.std.specs.Bool.{OnTrue};
 ghost use Rattle.cics_history.specs.Events.{is_live};
+ghost use Rattle.cics_history.specs.Headline.{HoldsCommitted};
 ghost use Rattle.cics_dispatch.specs.Machine.{beginning_region};
 ghost use Rattle.cics_dispatch.specs.Steps.{attached, issued};
 ghost use Rattle.cics_dispatch.specs.Waking.{clock_set, woken, expired, IsAtRest};
@@ -11,7 +12,8 @@ ghost use Rattle.cics_dispatch.specs.First.{IsFirstToGoOn, IsFirstTooLate};
 ghost use Rattle.cics_dispatch.specs.Answers.{without_tasks};
 ghost use Rattle.cics_dispatch.specs.Shutdown.{IsRegionStep, shut_down};
 ghost use Rattle.cics_dispatch.specs.Answers.{IsStep, always, attach_may_want, may_want};
-ghost use Rattle.cics_dispatch.specs.Answers.{IsHeadlineRegion, region_listing, replayed_listing};
+ghost use Rattle.cics_dispatch.specs.Answers.{IsHeadlineRegion, IsSerializableRegion};
+ghost use Rattle.cics_dispatch.specs.Answers.{region_listing, replayed_listing};
 ghost use Rattle.cics_dispatch.specs.Settled.{goes_on};
 ghost use Rattle.std.specs.Option.{option_copied};
 ghost use Rattle.cics_dispatch.specs.Blockers.{unit_of, blocker_of, label_at, number_of};
@@ -29,13 +31,15 @@ use std::marker::Model;
 /// The tasks of a region, their waiting commands, and the files, queues and units that they share.
 ///
 /// Each call is one step of the region's machine: it returns what the step does, and leaves its
-/// state. After each call, files and queues equal a replay of the surviving entries. Those are the
-/// executed commands without those of backed-out units on recoverable files and queues. Each has in
-/// the replay the answer that it was executed with. LENGTH may have cut what its task was told.
+/// state. After each call two clauses hold:
 ///
-/// Committed units are serializable in commit order. What they did to recoverable files and queues,
-/// unit after unit, gives what would stand there if the open units were backed out. Each of these
-/// commands that was answered NORMAL has in this order the answer that it was executed with.
+/// - `headline`: files and queues equal a replay of the surviving entries. Those are the executed
+///   commands without those of backed-out units on recoverable files and queues. Each has in the
+///   replay the answer that it was executed with. LENGTH may have cut what its task was told.
+/// - `serializable`: committed units are serializable in commit order. What they did to recoverable
+///   files and queues, unit after unit, gives what would stand there if the open units were backed
+///   out. Each of these commands that was answered NORMAL has in this order the answer that it was
+///   executed with.
 ///
 /// The region remembers the blocker of each waiting command. So `wake` looks only at commands that
 /// began to wait since the last look, or whose blocker may have released something since. Commands
@@ -91,6 +95,7 @@ impl Region {
     pub fn new(opening: Opening) -> Result<Region, Opening>
         ensures machine { IfOk result (λ region. region.machine ≡ beginning_region opening) }
         ensures headline { IfOk result IsHeadlineRegion }
+        ensures serializable { IfOk result IsSerializableRegion }
         ensures err { IfErr result (λ back. back ≡ opening) }
     {
         let alloc = opening.allocator();
@@ -124,6 +129,7 @@ impl Region {
         ensures step { IsRegionStep (attach_may_want self.old.machine label) self.old
             (attached self.old.machine label dtimout) result self.new }
         ensures headline { IsHeadlineRegion self.new }
+        ensures serializable { IsSerializableRegion self.new }
     {
         self.refuse_if_down()?;
         self.dispatcher.attach(label, transaction, dtimout)
@@ -137,6 +143,7 @@ impl Region {
         ensures step { IsRegionStep false self.old
             (clock_set self.old.machine now) result self.new }
         ensures headline { IsHeadlineRegion self.new }
+        ensures serializable { IsSerializableRegion self.new }
     {
         self.refuse_if_down()?;
         self.is_in_time = false;
@@ -160,6 +167,7 @@ impl Region {
         ensures step { IsRegionStep (may_want self.old.machine label command) self.old
             (issued self.old.machine label command) result self.new }
         ensures headline { IsHeadlineRegion self.new }
+        ensures serializable { IsSerializableRegion self.new }
     {
         // First of all: after a shutdown a label is told nothing else, not even `NoTask`.
         self.refuse_if_down()?;
@@ -180,6 +188,7 @@ impl Region {
     pub fn is_at_rest(&self) -> bool
         ensures rest { OnTrue result (IsAtRest self.now.machine) }
         ensures headline { IsHeadlineRegion self.now }
+        ensures serializable { IsSerializableRegion self.now }
     {
         self.is_settled && self.is_in_time
     }
@@ -198,6 +207,7 @@ impl Region {
         ensures first { IfOk result (λ woken.
             IfSome woken (λ w. IsFirstToGoOn self.old.machine w.label)) }
         ensures headline { IsHeadlineRegion self.new }
+        ensures serializable { IsSerializableRegion self.new }
     {
         if self.is_settled {
             return Ok(None);
@@ -229,6 +239,7 @@ impl Region {
         ensures machine { self.new.machine ≡ (expired self.old.machine).machine }
         ensures first { IfSome result (λ e. IsFirstTooLate self.old.machine e.label) }
         ensures headline { IsHeadlineRegion self.new }
+        ensures serializable { IsSerializableRegion self.new }
     {
         if self.is_in_time {
             return None;
@@ -250,15 +261,21 @@ impl Region {
     /// No command waits any more. Then each task ends as by an abend, in the order of attach, and
     /// its open unit of work is backed out. From then on `attach`, `issue`, `set_clock` and
     /// `shutdown` return `RegionDown`, and `wake` and `expire` return `None`. The region can be
-    /// read as before. No unit is open, so each recoverable file and queue holds what the committed
-    /// units' commands give. Takes no memory.
+    /// read as before. Takes no memory.
+    ///
+    /// - `none_open`: no unit is open.
+    /// - `committed`: so each recoverable file and queue holds the replay of the committed units'
+    ///   entries alone.
     ///
     /// Errors, which change nothing: `RegionDown` if the region is shut down already.
     pub fn shutdown(&mut self) -> Result<u64, Refused>
         ensures step { IsRegionStep false self.old
             (shut_down self.old.machine) result self.new }
         ensures none_open { OnOk result ((u : ℕ) → is_live self.new.machine.units u ≡ false) }
+        ensures committed { OnOk result (HoldsCommitted
+            (record { state = self.new.machine.units; store = self.new.store })) }
         ensures headline { IsHeadlineRegion self.new }
+        ensures serializable { IsSerializableRegion self.new }
     {
         self.refuse_if_down()?;
         let count = self.dispatcher.shut_down();
@@ -273,6 +290,7 @@ impl Region {
     pub fn unit(&self, label: &Name8) -> Option<UnitId>
         ensures unit { result ≡ unit_of self.now.machine label.now }
         ensures headline { IsHeadlineRegion self.now }
+        ensures serializable { IsSerializableRegion self.now }
     {
         self.dispatcher.unit_of(label)
     }
@@ -284,6 +302,7 @@ impl Region {
     pub fn blocker(&self, label: &Name8) -> Option<Name8>
         ensures blocker { result ≡ blocker_of self.now.machine label.now }
         ensures headline { IsHeadlineRegion self.now }
+        ensures serializable { IsSerializableRegion self.now }
     {
         self.dispatcher.blocker(label)
     }
@@ -293,6 +312,7 @@ impl Region {
     pub fn waiting_command(&self, label: &Name8) -> Option<&Command>
         ensures command { option_copied result ≡ waiting_command self.now.machine label.now }
         ensures headline { IsHeadlineRegion self.now }
+        ensures serializable { IsSerializableRegion self.now }
     {
         self.dispatcher.waiting_command(label)
     }
@@ -301,6 +321,7 @@ impl Region {
     pub fn task_count(&self) -> usize
         ensures count { result ≡ length self.now.machine.tasks }
         ensures headline { IsHeadlineRegion self.now }
+        ensures serializable { IsSerializableRegion self.now }
     {
         self.dispatcher.task_count()
     }
@@ -310,6 +331,7 @@ impl Region {
     pub fn label_at(&self, number: usize) -> Option<Name8>
         ensures label { result ≡ label_at self.now.machine.tasks number }
         ensures headline { IsHeadlineRegion self.now }
+        ensures serializable { IsSerializableRegion self.now }
     {
         self.dispatcher.label_at(number)
     }
@@ -318,6 +340,7 @@ impl Region {
     pub fn number(&self, label: &Name8) -> Option<usize>
         ensures number { result ≡ number_of self.now.machine.tasks label.now }
         ensures headline { IsHeadlineRegion self.now }
+        ensures serializable { IsSerializableRegion self.now }
     {
         self.dispatcher.number(label)
     }
@@ -328,6 +351,7 @@ impl Region {
         ensures units { result.now
             ≡ record { state = self.now.machine.units; store = self.now.store } }
         ensures headline { IsHeadlineRegion self.now }
+        ensures serializable { IsSerializableRegion self.now }
     {
         self.dispatcher.units()
     }
@@ -343,6 +367,7 @@ impl Region {
         ensures replayed { IfOk result (λ listing.
             without_tasks listing ≡ replayed_listing self.now) }
         ensures headline { IsHeadlineRegion self.now }
+        ensures serializable { IsSerializableRegion self.now }
     {
         self.dispatcher.listing()
     }
@@ -357,6 +382,7 @@ impl Region {
     pub fn replayed(&self) -> Result<Listing, NoMemory>
         ensures replayed { IfOk result (λ listing. listing ≡ replayed_listing self.now) }
         ensures headline { IsHeadlineRegion self.now }
+        ensures serializable { IsSerializableRegion self.now }
     {
         self.dispatcher.replayed()
     }

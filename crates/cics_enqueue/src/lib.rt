@@ -8,12 +8,11 @@ mod borrowed;
 mod compact;
 mod enqueues;
 mod keys;
-mod laws;
+pub mod laws;
 mod overlaps;
 mod owned;
 mod resources;
 
 pub use borrowed::ResourceRef;
 pub use enqueues::{Enqueues, TakeFault};
-pub use laws::tables_stay_lawful;
 pub use resources::{Resource, UnitId};

@@ -5,12 +5,12 @@ use Rattle.std.proofs.lemmas.Bool.{cases_Bool, and_parts, ltb-true}
 use Rattle.std.proofs.lemmas.Option.{unwrap_or-slice_get}
 use Rattle.std.proofs.lemmas.List.{get_or-set_same}
 use Rattle.cics_names.specs.Keyed.{value_at}
-use Rattle.cics_history.specs.Openings.{OpeningState, IsOpeningInOrder}
-use Rattle.cics_history.specs.Store.{Store, apply, is_recoverable, initial_store}
-use Rattle.cics_history.specs.History.{outcome_of, is_open, is_backed_out, kept, replay}
+use Rattle.cics_history.specs.State.{OpeningState, Store, initial_store, UnitsValue}
+use Rattle.cics_history.specs.Openings.{IsOpeningInOrder}
+use Rattle.cics_history.specs.Store.{apply, is_recoverable}
+use Rattle.cics_history.specs.Headline.{outcome_of, is_open, is_backed_out, kept, replay, IsSameRecoverable, LeftNoTrace, LeavesNoTrace}
 use Rattle.cics_history.specs.Holding.{store_of}
-use Rattle.cics_history.specs.Execution.{UnitsValue, after_end}
-use Rattle.cics_history.specs.Headline.{IsSameRecoverable, LeftNoTrace, LeavesNoTrace}
+use Rattle.cics_history.specs.Execution.{after_end}
 use Rattle.cics_history.specs.Events.{is_live}
 use Rattle.cics_history.specs.declared.ops.Entry.{Entry}
 use Rattle.cics_history.specs.declared.ops.UnitState.{UnitState}

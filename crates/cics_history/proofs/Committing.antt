@@ -6,10 +6,10 @@ use Rattle.std.proofs.lemmas.Bool.{false≢true, cases_Bool, or_cases, or_left, 
 use Rattle.std.proofs.lemmas.Option.{slice_get_past}
 use Rattle.std.proofs.lemmas.Map.Keys.{IsDistinct-cons}
 use Rattle.std.proofs.lemmas.Map.Steps.{length-le_from_distinct_below}
-use Rattle.cics_history.specs.History.{outcome_of, is_open}
-use Rattle.cics_history.specs.Holding.{UnitsState}
+use Rattle.cics_history.specs.Headline.{outcome_of, is_open, is_committed}
+use Rattle.cics_history.specs.State.{UnitsState}
 use Rattle.cics_history.specs.Events.{is_live}
-use Rattle.cics_history.specs.Serial.{among, is_committed, are_distinct, IsCommitOrder}
+use Rattle.cics_history.specs.Serial.{among, are_distinct, IsCommitOrder}
 use Rattle.cics_history.specs.declared.ops.UnitState.TheVariants.{Open}
 use Rattle.cics_history.proofs.SerialLists.{eqb-turned, or_neither}
 use Rattle.cics_history.proofs.SerialRuns.{open_absent}

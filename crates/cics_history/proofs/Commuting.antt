@@ -3,9 +3,9 @@
 use Rattle.std.proofs.Common.{◌≡◌, Bool, true, false, Some, None, List, [], ◌∷◌, ◌++◌, ◌||◌, refl, ap, sym, subst, ◌∙◌, inl, inr}
 use Rattle.std.proofs.lemmas.Bool.{true≢false, false≢true, cases_Bool, or_cases, or_parts, false_from_ne_true}
 use Rattle.cics_names.specs.Keyed.{Bytes}
-use Rattle.cics_history.specs.Openings.{OpeningState}
-use Rattle.cics_history.specs.Store.{Store, apply, is_recoverable, is_normal}
-use Rattle.cics_history.specs.History.{replay, Agrees}
+use Rattle.cics_history.specs.State.{OpeningState, Store}
+use Rattle.cics_history.specs.Store.{apply, is_recoverable, is_normal}
+use Rattle.cics_history.specs.Headline.{replay, Agrees}
 use Rattle.cics_history.specs.declared.ops.Op.{Op}
 use Rattle.cics_history.specs.declared.ops.Op.TheVariants.{DeleteGeneric, TdWrite, TdRead}
 use Rattle.cics_history.specs.declared.ops.Entry.{Entry}

@@ -9,10 +9,10 @@ use Rattle.cics_enqueue.specs.Resources.{bytes_of, is_one}
 use Rattle.cics_enqueue.specs.ResourceLaws.{same_test}
 use Rattle.cics_enqueue.specs.declared.resources.Resource.{Resource}
 use Rattle.cics_enqueue.specs.declared.resources.Resource.TheVariants.{FileKey, TsQueue, TdRead as ReadingEnd, TdWrite as WritingEnd, User, FilePrefix}
-use Rattle.cics_history.specs.Openings.{OpeningState, queue_logical}
+use Rattle.cics_history.specs.State.{OpeningState, queue_logical, UnitsState}
 use Rattle.cics_history.specs.Store.{is_normal, is_recoverable}
-use Rattle.cics_history.specs.History.{outcome_of, is_open}
-use Rattle.cics_history.specs.Holding.{UnitsState, named_if, uses_of, held_by_entry, held_by_read, held_by_count, held_by, held_table}
+use Rattle.cics_history.specs.Headline.{outcome_of, is_open}
+use Rattle.cics_history.specs.Holding.{named_if, uses_of, held_by_entry, held_by_read, held_by_count, held_by, owned}
 use Rattle.cics_history.specs.Holders.{end_of}
 use Rattle.cics_history.specs.Events.{is_live}
 use Rattle.cics_history.specs.declared.ops.Op.{Op}
@@ -133,7 +133,7 @@ module _ (s : UnitsState) (n : ℕ) (q : Bytes) (end : End) where
 
 -- the table names the open units that have used an end of a LOGICAL queue, and no other
 pub end_in_table : (s : UnitsState) (n : ℕ) (q : Bytes) (end : End) →
-    list_any (λ e. is_one (end_of q end) e.0 && (e.1.unit == n)) (held_table s)
+    list_any (λ e. is_one (end_of q end) e.0 && (e.1 == n)) (owned s)
     ≡ (is_live s n && (queue_logical s.opening q && used s.trace n (Td q) end))
 end_in_table s n q end =
     table_names s (is_one (end_of q end)) n

@@ -9,12 +9,11 @@ use Rattle.cics_enqueue.specs.Resources.{bytes_of, is_one}
 use Rattle.cics_enqueue.specs.declared.resources.Resource.TheVariants.{FileKey, FilePrefix, TdRead as ReadingEnd, TdWrite as WritingEnd, User}
 use Rattle.cics_ksds.specs.declared.definition.FileDef.{FileDef}
 use Rattle.cics_transdata.specs.declared.queues.Recovery.TheVariants.{Logical}
-use Rattle.cics_history.specs.Openings.{OpeningState}
-use Rattle.cics_history.specs.History.{kept}
-use Rattle.cics_history.specs.Holding.{UnitsState, store_of, held_by, awaited, value_holder}
+use Rattle.cics_history.specs.State.{OpeningState, UnitsState, beginning}
+use Rattle.cics_history.specs.Headline.{kept}
+use Rattle.cics_history.specs.Holding.{store_of, held_by, awaited, value_holder}
 use Rattle.cics_history.specs.Execution.{place_at, item_asked}
 use Rattle.cics_history.specs.declared.ops.UnitState.TheVariants.{Open}
-use Rattle.cics_history.specs.Headline.{beginning}
 use Rattle.cics_history.specs.declared.ops.Op.TheVariants.{Write, Rewrite, Delete, DeleteGeneric, ReadUpdate, TsWrite, TsDelete, TdWrite, TdRead, TdDelete}
 use Rattle.cics_history.specs.Cells.{Cell, Key, Ts, Td, Content, content, End, Reading, Writing}
 use Rattle.cics_history.specs.Holders.{end_of}

@@ -2,9 +2,9 @@
 use Rattle.std.proofs.Common.{◌≡◌, ℕ, true, false, ◌&&◌, not, List, refl, ap, sym, subst, ◌∙◌, eqb, ◌⊎◌, inl, inr}
 use Rattle.std.specs.Prelude.{if◌then◌else◌, is_some}
 use Rattle.std.proofs.lemmas.Bool.{true≢false, false≢true, cases_Bool, eqb-true, eq-eqb}
-use Rattle.cics_history.specs.Openings.{OpeningState}
-use Rattle.cics_history.specs.Store.{apply, is_recoverable, initial_store}
-use Rattle.cics_history.specs.History.{is_open, is_backed_out}
+use Rattle.cics_history.specs.State.{OpeningState, initial_store}
+use Rattle.cics_history.specs.Store.{apply, is_recoverable}
+use Rattle.cics_history.specs.Headline.{is_open, is_backed_out}
 use Rattle.cics_history.specs.declared.ops.Op.{Op}
 use Rattle.cics_history.specs.declared.ops.Entry.{Entry}
 use Rattle.cics_history.specs.declared.ops.UnitState.{UnitState}

@@ -8,7 +8,8 @@ use Rattle.cics_names.specs.KeyedLaws.{same_bytes}
 use Rattle.cics_ksds.specs.Prefixes.{has_prefix, under}
 use Rattle.cics_ksds.proofs.UnderPrefix.{prefix_itself}
 use Rattle.cics_history.specs.Openings.{is_in_order}
-use Rattle.cics_history.specs.Store.{Store, is_normal, counted_answer, apply_delete_generic}
+use Rattle.cics_history.specs.State.{Store}
+use Rattle.cics_history.specs.Store.{is_normal, counted_answer, apply_delete_generic}
 use Rattle.cics_history.specs.declared.ops.Op.TheVariants.{DeleteGeneric}
 use Rattle.cics_history.specs.Cells.{listed, record_in, effect}
 use Rattle.cics_history.proofs.Maps.{to_T, of_T, same_map}

@@ -6,14 +6,16 @@ use Rattle.std.proofs.lemmas.Bool.{true≢false, false≢true, cases_Bool, eq-eq
 use Rattle.std.proofs.lemmas.List.Folds.{list_any-append}
 use Rattle.cics_names.specs.Keyed.{Bytes, is_same, is_below}
 use Rattle.cics_names.specs.KeyedLaws.{is_same-eq}
-use Rattle.cics_enqueue.specs.Resources.{Table, Held, bytes_of, begins_with, overlaps, is_other, is_prefix}
+use Rattle.cics_enqueue.specs.Resources.{bytes_of, overlaps, is_prefix}
 use Rattle.cics_enqueue.specs.FreedomLaws.{overlaps-turned}
+use Rattle.cics_enqueue.proofs.Seeking.{starts_with-begins}
+use Rattle.cics_ksds.specs.Prefixes.{has_prefix}
 use Rattle.cics_enqueue.specs.declared.resources.Resource.{Resource}
 use Rattle.cics_enqueue.specs.declared.resources.Resource.TheVariants.{FileKey, TsQueue, TdRead as ReadingEnd, TdWrite as WritingEnd, User, FilePrefix}
-use Rattle.cics_history.specs.Openings.{OpeningState}
+use Rattle.cics_history.specs.State.{OpeningState, UnitsState, UpdateRead, EnqCount}
 use Rattle.cics_history.specs.Store.{is_normal, is_recoverable}
-use Rattle.cics_history.specs.History.{outcome_of, is_open}
-use Rattle.cics_history.specs.Holding.{UnitsState, UpdateRead, EnqCount, uses_of, held_by_entry, held_by_read, held_by_count, held_by, held_table, first_held, first_holder, first_some, holder_among}
+use Rattle.cics_history.specs.Headline.{outcome_of, is_open}
+use Rattle.cics_history.specs.Holding.{uses_of, held_by_entry, held_by_read, held_by_count, held_by, owned, smallest_conflict, blocker_at, first_some, blocker_among, conflicts, Owned, is_other}
 use Rattle.cics_history.specs.Execution.{unit_or_next, outcomes_with, with_read, is_read_before, covers, opened, reads_after, entered, is_count, counted, uncounted, with_counts, after_dequeue, after_unlock, after_end}
 use Rattle.cics_history.specs.declared.ops.Op.{Op}
 use Rattle.cics_history.specs.declared.ops.Op.TheVariants.{ReadUpdate}
@@ -67,13 +69,24 @@ pub any_if : {A : Type 0} (p : A → Bool) (b : Bool) (xs : List A) → list_any
 any_if p true xs h = (refl, h)
 any_if p false xs h = absurd (false≢true h)
 
--- ---- Resources that overlap
+-- ---- Resources that conflict
+
+-- what conflicts is what overlaps in the table of enqueues
+pub conflicts-overlaps : (r s : Resource) → conflicts r s ≡ overlaps r s
+conflicts-overlaps (FileKey f k) (FilePrefix g p) = ap (λ b. is_same f g && b) (starts_with-begins p.items k.items)
+conflicts-overlaps (FilePrefix f p) (FileKey g k) = ap (λ b. is_same f g && b) (starts_with-begins p.items k.items)
+conflicts-overlaps (FilePrefix f p) (FilePrefix g q) =
+    λ i. is_same f g && (starts_with-begins p.items q.items i || starts_with-begins q.items p.items i)
+conflicts-overlaps _ _ = refl
+
+pub conflicts-turned : (r s : Resource) → conflicts r s ≡ true → conflicts s r ≡ true
+conflicts-turned r s h = conflicts-overlaps s r ∙ overlaps-turned r s (sym (conflicts-overlaps r s) ∙ h)
 
 meet-turned : (rs ts : List Resource) → meet rs ts ≡ true → meet ts rs ≡ true
 meet-turned rs ts h =
-    any_more (λ t. list_any (λ r. overlaps r t) rs) (λ t. list_any (overlaps t) rs)
-    (λ t y. any_more (λ r. overlaps r t) (overlaps t) (λ r z. overlaps-turned r t z) rs y) ts
-    (any_swap overlaps rs ts h)
+    any_more (λ t. list_any (λ r. conflicts r t) rs) (λ t. list_any (conflicts t) rs)
+    (λ t y. any_more (λ r. conflicts r t) (conflicts t) (λ r z. conflicts-turned r t z) rs y) ts
+    (any_swap conflicts rs ts h)
 
 joined : (a b c : Bytes) → is_same a b ≡ true → is_same a c ≡ true → is_same b c ≡ true
 joined a b c x y = subst (λ z. is_same z c ≡ true) (is_same-eq a b x) y
@@ -157,23 +170,23 @@ holder_begun s known begun n p h = elim (held_cases s n p h).1 [
 -- ---- Where nobody is awaited, nobody else holds what is used
 
 pub nobody_else : (s : UnitsState) → AreKnown s → HaveBegun s → (u : Option ℕ) (r : Resource) →
-    first_holder (held_table s) u r ≡ None →
-    (n : ℕ) → list_any (overlaps r) (held_by s n) ≡ true → n ≡ unit_or_next u s.outcomes
+    blocker_at (owned s) u r ≡ None →
+    (n : ℕ) → list_any (conflicts r) (held_by s n) ≡ true → n ≡ unit_or_next u s.outcomes
 nobody_else s known begun u r free n h = elim (cases_Bool (eqb n (unit_or_next u s.outcomes))) [
   | inl own ↦ eqb-true _ _ own
   | inr other ↦ absurd (true≢false (
-      sym (in_table s (overlaps r) u n (holder_begun s known begun n (overlaps r) h)
+      sym (in_table s (conflicts r) u n (holder_begun s known begun n (conflicts r) h)
       (other_unit u s.outcomes n other) h)
-      ∙ none_first (held_table s) u r free))
+      ∙ none_first (owned s) u r free))
 ]
 
 pub nobody_among : (s : UnitsState) → AreKnown s → HaveBegun s → (u : Option ℕ) (rs : List Resource) →
-    holder_among (held_table s) u rs ≡ None →
+    blocker_among (owned s) u rs ≡ None →
     (n : ℕ) → meet rs (held_by s n) ≡ true → n ≡ unit_or_next u s.outcomes
 nobody_among s known begun u [] free n h = absurd (false≢true h)
 nobody_among s known begun u (r ∷ rs) free n h =
-    let both = none_either (first_holder (held_table s) u r) (holder_among (held_table s) u rs) free in
-    elim (or_cases (list_any (overlaps r) (held_by s n)) (meet rs (held_by s n)) h) [
+    let both = none_either (blocker_at (owned s) u r) (blocker_among (owned s) u rs) free in
+    elim (or_cases (list_any (conflicts r) (held_by s n)) (meet rs (held_by s n)) h) [
       | inl first ↦ nobody_else s known begun u r both.0 n first
       | inr rest ↦ nobody_among s known begun u rs both.1 n rest
     ]
@@ -186,13 +199,13 @@ pub one-grown : (s t : UnitsState) (v : ℕ) (rs : List Resource) → IsHeldByOn
     ((p : Resource → Bool) (n : ℕ) → list_any p (held_by t n) ≡ true →
     (list_any p (held_by s n) ≡ true) ⊎ ((n ≡ v) × (list_any p rs ≡ true))) →
     IsHeldByOne t
-one-grown s t v rs one free grows u n h = elim (grows (λ r. list_any (overlaps r) (held_by t n)) u h) [
-  | inl old ↦ elim (grows (λ r. list_any (overlaps r) (held_by s u)) n
+one-grown s t v rs one free grows u n h = elim (grows (λ r. list_any (conflicts r) (held_by t n)) u h) [
+  | inl old ↦ elim (grows (λ r. list_any (conflicts r) (held_by s u)) n
       (meet-turned (held_by s u) (held_by t n) old)) [
         | inl both ↦ sym (one n u both)
         | inr new ↦ free u new.1 ∙ sym new.0
       ]
-  | inr new ↦ elim (grows (λ r. list_any (overlaps r) rs) n (meet-turned rs (held_by t n) new.1)) [
+  | inr new ↦ elim (grows (λ r. list_any (conflicts r) rs) n (meet-turned rs (held_by t n) new.1)) [
     | inl old ↦ new.0 ∙ sym (free n (meet-turned (held_by s n) rs old))
     | inr both ↦ new.0 ∙ sym both.0
   ]
@@ -363,7 +376,7 @@ entered-grows s u op a p n h =
     opens _ h = absurd (false≢true h)
 
 pub entered-one : (s : UnitsState) → AreKnown s → HaveBegun s → IsHeldByOne s →
-    (u : Option ℕ) (op : Op) (a : Answer) → holder_among (held_table s) u (uses_of s.opening op) ≡ None →
+    (u : Option ℕ) (op : Op) (a : Answer) → blocker_among (owned s) u (uses_of s.opening op) ≡ None →
     IsHeldByOne (entered s u op a)
 entered-one s known begun one u op a free =
     one-grown s (entered s u op a) (unit_or_next u s.outcomes) (uses_of s.opening op) one
@@ -393,7 +406,7 @@ enqueued-grows s u v p n h =
     ]
 
 pub enqueued-one : (s : UnitsState) → AreKnown s → HaveBegun s → IsHeldByOne s →
-    (u : Option ℕ) (v : Bytes) → first_holder (held_table s) u (User (bytes_of v)) ≡ None →
+    (u : Option ℕ) (v : Bytes) → blocker_at (owned s) u (User (bytes_of v)) ≡ None →
     IsHeldByOne (with_counts s (outcomes_with u s.outcomes) (counted s.counts (unit_or_next u s.outcomes) v))
 enqueued-one s known begun one u v free =
     one-grown s (with_counts s (outcomes_with u s.outcomes) (counted s.counts (unit_or_next u s.outcomes) v))
@@ -451,110 +464,110 @@ ended-one s one u outcome live = one-less s (after_end s u outcome) one (λ p n 
 -- ---- The holder that is found
 
 -- a unit that is found holds what was asked for
-abbrev found_one : Option ℕ → Resource → ℕ → Resource × Held → Bool
-found_one u r m e = overlaps r e.0 && (is_other u e.1.unit && eqb e.1.unit m)
+abbrev found_one : Option ℕ → Resource → ℕ → Resource × ℕ → Bool
+found_one u r m e = conflicts r e.0 && (is_other u e.1 && eqb e.1 m)
 
-found_in : (t : Table) (u : Option ℕ) (r : Resource) (m : ℕ) → first_holder t u r ≡ Some m →
+found_in : (t : Owned) (u : Option ℕ) (r : Resource) (m : ℕ) → blocker_at t u r ≡ Some m →
     list_any (found_one u r m) t ≡ true
 found_in [] u r m h = absurd (none_some m h)
   where
     none_some : (m : ℕ) → None ≡ Some m → ⊥
     none_some m e = cc
-found_in (e ∷ t) u r m h = elim (cases_Bool (overlaps r e.0 && is_other u e.1.unit)) [
+found_in (e ∷ t) u r m h = elim (cases_Bool (conflicts r e.0 && is_other u e.1)) [
   | inl y ↦
-      let both = and_parts (overlaps r e.0) (is_other u e.1.unit) y in
-      lesser_cases e (first_held t u r) (λ d. d.1.unit) m (rw y at h)
+      let both = and_parts (conflicts r e.0) (is_other u e.1) y in
+      lesser_cases e (smallest_conflict t u r) (λ d. d.1) m (rw y at h)
       (λ same. or_left (found_one u r m e) (list_any (found_one u r m) t)
-      (and_from _ _ both.0 (and_from _ _ both.1 (eq-eqb e.1.unit m same))))
+      (and_from _ _ both.0 (and_from _ _ both.1 (eq-eqb e.1 m same))))
       (λ later. or_right _ _ (found_in t u r m later))
   | inr n ↦ or_right _ _ (found_in t u r m (rw n at h))
 ]
 
 pub found_holds : (s : UnitsState) (u : Option ℕ) (r : Resource) (m : ℕ) →
-    first_holder (held_table s) u r ≡ Some m → list_any (overlaps r) (held_by s m) ≡ true
+    blocker_at (owned s) u r ≡ Some m → list_any (conflicts r) (held_by s m) ≡ true
 found_holds s u r m h =
-    table_holds s (overlaps r) m
-    (any_more (found_one u r m) (is_of (overlaps r) m) theirs (held_table s) (found_in (held_table s) u r m h))
+    table_holds s (conflicts r) m
+    (any_more (found_one u r m) (is_of (conflicts r) m) theirs (owned s) (found_in (owned s) u r m h))
   where
-    theirs : (e : Resource × Held) → found_one u r m e ≡ true → is_of (overlaps r) m e ≡ true
+    theirs : (e : Resource × ℕ) → found_one u r m e ≡ true → is_of (conflicts r) m e ≡ true
     theirs e y =
-        let a = and_parts (overlaps r e.0) (is_other u e.1.unit && eqb e.1.unit m) y in
-        and_from _ _ a.0 (and_parts (is_other u e.1.unit) (eqb e.1.unit m) a.1).1
+        let a = and_parts (conflicts r e.0) (is_other u e.1 && eqb e.1 m) y in
+        and_from _ _ a.0 (and_parts (is_other u e.1) (eqb e.1 m) a.1).1
 
--- what overlaps one resource that is no prefix overlaps
-pub overlaps-joined : (r s t : Resource) → is_prefix r ≡ false → overlaps r s ≡ true → overlaps r t ≡ true → overlaps s t ≡ true
-overlaps-joined (FileKey f k) (FileKey g l) (FileKey h m) p a b =
+-- of three the first of which is no prefix, two that conflict with it conflict
+pub conflicts-joined : (r s t : Resource) → is_prefix r ≡ false → conflicts r s ≡ true → conflicts r t ≡ true → conflicts s t ≡ true
+conflicts-joined (FileKey f k) (FileKey g l) (FileKey h m) p a b =
     let c = and_parts (is_same f g) (is_same k.items l.items) a in
     let d = and_parts (is_same f h) (is_same k.items m.items) b in
     and_from _ _ (joined f g h c.0 d.0) (joined k.items l.items m.items c.1 d.1)
-overlaps-joined (FileKey f k) (FileKey g l) (FilePrefix h m) p a b =
+conflicts-joined (FileKey f k) (FileKey g l) (FilePrefix h m) p a b =
     let c = and_parts (is_same f g) (is_same k.items l.items) a in
-    let d = and_parts (is_same f h) (begins_with m.items k.items) b in
+    let d = and_parts (is_same f h) (has_prefix m.items k.items) b in
     and_from _ _ (joined f g h c.0 d.0) (begins_same m.items k.items l.items c.1 d.1)
-overlaps-joined (FileKey f k) (FilePrefix g l) (FileKey h m) p a b =
-    let c = and_parts (is_same f g) (begins_with l.items k.items) a in
+conflicts-joined (FileKey f k) (FilePrefix g l) (FileKey h m) p a b =
+    let c = and_parts (is_same f g) (has_prefix l.items k.items) a in
     let d = and_parts (is_same f h) (is_same k.items m.items) b in
     and_from _ _ (joined f g h c.0 d.0) (begins_same l.items k.items m.items d.1 c.1)
-overlaps-joined (FileKey f k) (FilePrefix g l) (FilePrefix h m) p a b =
-    let c = and_parts (is_same f g) (begins_with l.items k.items) a in
-    let d = and_parts (is_same f h) (begins_with m.items k.items) b in
+conflicts-joined (FileKey f k) (FilePrefix g l) (FilePrefix h m) p a b =
+    let c = and_parts (is_same f g) (has_prefix l.items k.items) a in
+    let d = and_parts (is_same f h) (has_prefix m.items k.items) b in
     and_from _ _ (joined f g h c.0 d.0) (one_begins l.items m.items k.items c.1 d.1)
-overlaps-joined (TsQueue q) (TsQueue r) (TsQueue t) p a b = joined q r t a b
-overlaps-joined (ReadingEnd q) (ReadingEnd r) (ReadingEnd t) p a b = joined q r t a b
-overlaps-joined (WritingEnd q) (WritingEnd r) (WritingEnd t) p a b = joined q r t a b
-overlaps-joined (User v) (User w) (User x) p a b = joined v.items w.items x.items a b
-overlaps-joined (FileKey f k) (FileKey g l) _ p a b = absurd (false≢true b)
-overlaps-joined (FileKey f k) (FilePrefix g l) _ p a b = absurd (false≢true b)
-overlaps-joined (TsQueue q) (TsQueue r) _ p a b = absurd (false≢true b)
-overlaps-joined (ReadingEnd q) (ReadingEnd r) _ p a b = absurd (false≢true b)
-overlaps-joined (WritingEnd q) (WritingEnd r) _ p a b = absurd (false≢true b)
-overlaps-joined (User v) (User w) _ p a b = absurd (false≢true b)
-overlaps-joined (FileKey f k) _ _ p a b = absurd (false≢true a)
-overlaps-joined (TsQueue q) _ _ p a b = absurd (false≢true a)
-overlaps-joined (ReadingEnd q) _ _ p a b = absurd (false≢true a)
-overlaps-joined (WritingEnd q) _ _ p a b = absurd (false≢true a)
-overlaps-joined (User v) _ _ p a b = absurd (false≢true a)
-overlaps-joined (FilePrefix f k) _ _ p a b = absurd (true≢false p)
+conflicts-joined (TsQueue q) (TsQueue r) (TsQueue t) p a b = joined q r t a b
+conflicts-joined (ReadingEnd q) (ReadingEnd r) (ReadingEnd t) p a b = joined q r t a b
+conflicts-joined (WritingEnd q) (WritingEnd r) (WritingEnd t) p a b = joined q r t a b
+conflicts-joined (User v) (User w) (User x) p a b = joined v.items w.items x.items a b
+conflicts-joined (FileKey f k) (FileKey g l) _ p a b = absurd (false≢true b)
+conflicts-joined (FileKey f k) (FilePrefix g l) _ p a b = absurd (false≢true b)
+conflicts-joined (TsQueue q) (TsQueue r) _ p a b = absurd (false≢true b)
+conflicts-joined (ReadingEnd q) (ReadingEnd r) _ p a b = absurd (false≢true b)
+conflicts-joined (WritingEnd q) (WritingEnd r) _ p a b = absurd (false≢true b)
+conflicts-joined (User v) (User w) _ p a b = absurd (false≢true b)
+conflicts-joined (FileKey f k) _ _ p a b = absurd (false≢true a)
+conflicts-joined (TsQueue q) _ _ p a b = absurd (false≢true a)
+conflicts-joined (ReadingEnd q) _ _ p a b = absurd (false≢true a)
+conflicts-joined (WritingEnd q) _ _ p a b = absurd (false≢true a)
+conflicts-joined (User v) _ _ p a b = absurd (false≢true a)
+conflicts-joined (FilePrefix f k) _ _ p a b = absurd (true≢false p)
 
 -- whoever holds a resource that is no prefix, and is another unit than the one that asks, is found
 pub holder-found : (s : UnitsState) → AreKnown s → HaveBegun s → IsHeldByOne s →
     (u : Option ℕ) (r : Resource) (n : ℕ) → is_prefix r ≡ false → is_other u n ≡ true →
-    list_any (overlaps r) (held_by s n) ≡ true → first_holder (held_table s) u r ≡ Some n
+    list_any (conflicts r) (held_by s n) ≡ true → blocker_at (owned s) u r ≡ Some n
 holder-found s known begun one u r n plain other h =
-    elim (first_holder (held_table s) u r) as (λ f. first_holder (held_table s) u r ≡ f → f ≡ Some n) [
+    elim (blocker_at (owned s) u r) as (λ f. blocker_at (owned s) u r ≡ f → f ≡ Some n) [
       | None ↦
           λ e. absurd
-          (true≢false (sym (in_table s (overlaps r) u n (holder_begun s known begun n (overlaps r) h) other h)
-          ∙ none_first (held_table s) u r e))
+          (true≢false (sym (in_table s (conflicts r) u n (holder_begun s known begun n (conflicts r) h) other h)
+          ∙ none_first (owned s) u r e))
       | Some m ↦ λ e. ap Some (one m n (both m (found_holds s u r m e)))
     ] refl
   where
-    both : (m : ℕ) → list_any (overlaps r) (held_by s m) ≡ true → meet (held_by s m) (held_by s n) ≡ true
+    both : (m : ℕ) → list_any (conflicts r) (held_by s m) ≡ true → meet (held_by s m) (held_by s n) ≡ true
     both m g =
-        any_more (overlaps r) (λ y. list_any (overlaps y) (held_by s n))
-        (λ y a. any_more (overlaps r) (overlaps y) (λ z b. overlaps-joined r y z plain a b) (held_by s n) h)
+        any_more (conflicts r) (λ y. list_any (conflicts y) (held_by s n))
+        (λ y a. any_more (conflicts r) (conflicts y) (λ z b. conflicts-joined r y z plain a b) (held_by s n) h)
         (held_by s m) g
 
 -- the unit that is found is another than the one that asks
-pub found_other : (t : Table) (u : Option ℕ) (r : Resource) (m : ℕ) → first_holder t u r ≡ Some m → is_other u m ≡ true
+pub found_other : (t : Owned) (u : Option ℕ) (r : Resource) (m : ℕ) → blocker_at t u r ≡ Some m → is_other u m ≡ true
 found_other t u r m e = is_other_of t (found_in t u r m e)
   where
-    is_other_of : (t : Table) → list_any (found_one u r m) t ≡ true → is_other u m ≡ true
+    is_other_of : (t : Owned) → list_any (found_one u r m) t ≡ true → is_other u m ≡ true
     is_other_of [] g = absurd (false≢true g)
     is_other_of (d ∷ t) g = elim (or_cases (found_one u r m d) (list_any (found_one u r m) t) g) [
       | inl y ↦
-          let a = and_parts (overlaps r d.0) (is_other u d.1.unit && eqb d.1.unit m) y in
-          let b = and_parts (is_other u d.1.unit) (eqb d.1.unit m) a.1 in
-          subst (λ k. is_other u k ≡ true) (eqb-true d.1.unit m b.1) b.0
+          let a = and_parts (conflicts r d.0) (is_other u d.1 && eqb d.1 m) y in
+          let b = and_parts (is_other u d.1) (eqb d.1 m) a.1 in
+          subst (λ k. is_other u k ≡ true) (eqb-true d.1 m b.1) b.0
       | inr y ↦ is_other_of t y
     ]
 
 -- and where no other unit holds it, none is found
 pub none_found : (s : UnitsState) (u : Option ℕ) (r : Resource) →
-    ((n : ℕ) → is_other u n ≡ true → list_any (overlaps r) (held_by s n) ≡ false) →
-    first_holder (held_table s) u r ≡ None
+    ((n : ℕ) → is_other u n ≡ true → list_any (conflicts r) (held_by s n) ≡ false) →
+    blocker_at (owned s) u r ≡ None
 none_found s u r h =
-    elim (first_holder (held_table s) u r) as (λ f. first_holder (held_table s) u r ≡ f → f ≡ None) [
+    elim (blocker_at (owned s) u r) as (λ f. blocker_at (owned s) u r ≡ f → f ≡ None) [
       | None ↦ λ e. refl
-      | Some m ↦ λ e. absurd (true≢false (sym (found_holds s u r m e) ∙ h m (found_other (held_table s) u r m e)))
+      | Some m ↦ λ e. absurd (true≢false (sym (found_holds s u r m e) ∙ h m (found_other (owned s) u r m e)))
     ] refl

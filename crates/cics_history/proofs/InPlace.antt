@@ -7,12 +7,12 @@ use Rattle.cics_names.specs.KeyedLaws.{is_same-self}
 use Rattle.cics_enqueue.specs.declared.resources.Resource.TheVariants.{TdRead as ReadingEnd, TdWrite as WritingEnd}
 use Rattle.cics_enqueue.specs.declared.resources.Resource.{Resource}
 use Rattle.cics_history.specs.declared.ops.Op.TheVariants.{TdRead}
-use Rattle.cics_history.specs.Openings.{OpeningState, IsOpeningInOrder, queue_logical}
-use Rattle.cics_history.specs.Store.{Store, apply, initial_store}
-use Rattle.cics_history.specs.History.{outcome_of, is_open, is_backed_out, kept}
-use Rattle.cics_history.specs.Holding.{UnitsState, store_of, uses_of, held_table, first_holder, holder_among, committed_for, is_nothing, writer_awaited, awaited}
+use Rattle.cics_history.specs.State.{OpeningState, queue_logical, Store, initial_store, UnitsState, beginning}
+use Rattle.cics_history.specs.Openings.{IsOpeningInOrder}
+use Rattle.cics_history.specs.Store.{apply}
+use Rattle.cics_history.specs.Headline.{outcome_of, is_open, is_backed_out, kept}
+use Rattle.cics_history.specs.Holding.{store_of, uses_of, owned, blocker_at, blocker_among, committed_for, is_nothing, writer_awaited, awaited}
 use Rattle.cics_history.specs.Execution.{unit_or_next, entered, state_of, after_execution, after_end, after_enqueue, after_dequeue, after_unlock, after_ts_reading}
-use Rattle.cics_history.specs.Headline.{beginning}
 use Rattle.cics_history.specs.declared.ops.Op.{Op}
 use Rattle.cics_history.specs.declared.ops.Entry.{Entry}
 use Rattle.cics_history.specs.declared.ops.UnitState.TheVariants.{Committed, BackedOut}
@@ -137,7 +137,7 @@ module _ (s : UnitsState) (u : Option ℕ) (p : Marks) (q : Bytes) (i : IsSound 
       ∙ alone-own (outcome_of s.outcomes) asker (ap (λ k. is_open (outcome_of s.outcomes k)) (sym e) ∙ on)
 
   -- an end that nobody else is found to hold is the asking unit's, or no open unit's
-  nobody_else : (end : End) (r : Resource) → covers (Td q) end r ≡ true → first_holder (held_table s) u r ≡ None → (n : ℕ) →
+  nobody_else : (end : End) (r : Resource) → covers (Td q) end r ≡ true → blocker_at (owned s) u r ≡ None → (n : ℕ) →
       is_open (outcome_of s.outcomes n) ≡ true → used s.trace n (Td q) end ≡ true → n ≡ asker
   nobody_else end r c free n on t = elim (free_end s i.known u (Td q) end r l c free n t) [
     | inl e ↦ e
@@ -145,7 +145,7 @@ module _ (s : UnitsState) (u : Option ℕ) (p : Marks) (q : Bytes) (i : IsSound 
   ]
 
   -- what may be read, where the units that wrote are all backed out, or all kept, once no other unit is open
-  committed_if : first_holder (held_table s) u (ReadingEnd q) ≡ None → (gone : Bool) →
+  committed_if : blocker_at (owned s) u (ReadingEnd q) ≡ None → (gone : Bool) →
       AreBackedOut s.trace (outcome_of s.outcomes) (Td q) Writing others_gone gone →
       committed_for s u q ≡ seen false gone (p.queues q)
   committed_if free gone writer =
@@ -169,7 +169,7 @@ module _ (s : UnitsState) (u : Option ℕ) (p : Marks) (q : Bytes) (i : IsSound 
   mine acts y n on t = own n on (one_at_each_end s i.one (Td q) l Writing n asker on (acting_open s u acts) t y)
 
   -- of an open unit, or of a task without one
-  pub committed_in_place : may_act s u ≡ true → first_holder (held_table s) u (ReadingEnd q) ≡ None →
+  pub committed_in_place : may_act s u ≡ true → blocker_at (owned s) u (ReadingEnd q) ≡ None →
       committed_for s u q ≡ seen false (not (used s.trace asker (Td q) Writing)) (p.queues q)
   committed_in_place acts free =
       elim (used s.trace asker (Td q) Writing) as
@@ -199,13 +199,13 @@ module _ (s : UnitsState) (u : Option ℕ) (p : Marks) (q : Bytes) (i : IsSound 
         ]
       ] refl
     where
-      both : (holder_among (held_table s) u (uses_of s.opening (TdRead q)) ≡ None) × (writer_awaited s u (TdRead q) ≡ None)
-      both = none_either (holder_among (held_table s) u (uses_of s.opening (TdRead q))) (writer_awaited s u (TdRead q)) free
+      both : (blocker_among (owned s) u (uses_of s.opening (TdRead q)) ≡ None) × (writer_awaited s u (TdRead q) ≡ None)
+      both = none_either (blocker_among (owned s) u (uses_of s.opening (TdRead q))) (writer_awaited s u (TdRead q)) free
 
-      reading_free : first_holder (held_table s) u (ReadingEnd q) ≡ None
+      reading_free : blocker_at (owned s) u (ReadingEnd q) ≡ None
       reading_free =
           let among = both.0 in
-          (none_either (first_holder (held_table s) u (ReadingEnd q)) None (rw l at among)).0
+          (none_either (blocker_at (owned s) u (ReadingEnd q)) None (rw l at among)).0
 
 -- ---- All that is in place, through every run
 

@@ -3,9 +3,9 @@
 use Rattle.std.proofs.Common.{◌≡◌, ℕ, true, false, ◌&&◌, List, [], ◌∷◌, ◌++◌, refl, ap, sym, subst, ◌∙◌, eqb, inl, inr}
 use Rattle.std.proofs.lemmas.Bool.{eq-eqb, and_from, or_left, or_right}
 use Rattle.std.proofs.lemmas.List.Folds.{list_any-append}
-use Rattle.cics_history.specs.Openings.{OpeningState}
-use Rattle.cics_history.specs.Store.{is_recoverable, initial_store}
-use Rattle.cics_history.specs.History.{is_backed_out}
+use Rattle.cics_history.specs.State.{OpeningState, initial_store}
+use Rattle.cics_history.specs.Store.{is_recoverable}
+use Rattle.cics_history.specs.Headline.{is_backed_out}
 use Rattle.cics_history.specs.declared.ops.Entry.{Entry}
 use Rattle.cics_history.specs.Cells.{Cell, content, End, Reading, Writing, recovers, IsOrdered}
 use Rattle.cics_history.proofs.Effects.{Begins-antisym}

@@ -10,8 +10,8 @@ use Rattle.cics_ksds.specs.Files.{records_after_write, records_after_rewrite, re
 use Rattle.cics_ksds.specs.Prefixes.{has_prefix, under, outside}
 use Rattle.cics_ksds.proofs.UnderPrefix.{prefix_itself}
 use Rattle.cics_tempstor.specs.Queues.{items_after_write, items_after_rewrite}
-use Rattle.cics_history.specs.Openings.{OpeningState, file_recoverable}
-use Rattle.cics_history.specs.Store.{apply_td_write, apply_td_read, apply_td_delete, Store, apply, is_recoverable, answered, with_file, with_ts, with_td, ts_queue, is_normal, apply_write, apply_rewrite, apply_delete, apply_delete_generic, counted_answer}
+use Rattle.cics_history.specs.State.{OpeningState, file_recoverable, Store}
+use Rattle.cics_history.specs.Store.{apply_td_write, apply_td_read, apply_td_delete, apply, is_recoverable, answered, with_file, with_ts, with_td, ts_queue, is_normal, apply_write, apply_rewrite, apply_delete, apply_delete_generic, counted_answer}
 use Rattle.cics_history.specs.declared.ops.Op.{Op}
 use Rattle.cics_history.specs.declared.ops.Op.TheVariants.{Write, Rewrite, Delete, DeleteGeneric, ReadUpdate, TsWrite, TsRewrite, TsDelete, TdWrite, TdRead, TdDelete}
 use Rattle.cics_history.specs.declared.ops.Answer.{Answer}

@@ -6,9 +6,9 @@ use Rattle.std.proofs.lemmas.List.Folds.{list_any-append}
 use Rattle.std.proofs.lemmas.Bool.{true≢false, false≢true, cases_Bool, cond_both, eqb-true, eq-eqb, and_parts, and_left, and_right, or_from, false_from_ne_true}
 use Rattle.cics_names.specs.Keyed.{Bytes, is_same}
 use Rattle.cics_names.specs.KeyedLaws.{is_same-eq}
-use Rattle.cics_history.specs.Openings.{OpeningState, queue_logical}
+use Rattle.cics_history.specs.State.{OpeningState, queue_logical}
 use Rattle.cics_history.specs.Store.{is_recoverable, is_normal}
-use Rattle.cics_history.specs.History.{is_open}
+use Rattle.cics_history.specs.Headline.{is_open}
 use Rattle.cics_history.specs.Holding.{is_nothing}
 use Rattle.cics_history.specs.declared.ops.Op.{Op}
 use Rattle.cics_history.specs.declared.ops.Op.TheVariants.{TdWrite, TdRead, TdDelete}

@@ -3,7 +3,7 @@ use Rattle.std.proofs.Common.{◌≡◌, ◌≢◌, ℕ, Option, Some, None, Lis
 use Rattle.std.specs.Prelude.{slice_set}
 use Rattle.std.proofs.lemmas.Option.{unwrap_or-slice_get}
 use Rattle.std.proofs.lemmas.List.{get_or-set_other}
-use Rattle.cics_history.specs.History.{outcome_of}
+use Rattle.cics_history.specs.Headline.{outcome_of}
 use Rattle.cics_history.specs.Execution.{outcomes_with}
 use Rattle.cics_history.specs.Isolation.{Outcomes}
 use Rattle.cics_history.specs.declared.ops.UnitState.{UnitState}

@@ -5,12 +5,11 @@ use Rattle.std.proofs.lemmas.Bool.{false≢true, cases_Bool, cond_both, eqb-true
 use Rattle.std.proofs.lemmas.Option.{unwrap_or-slice_get}
 use Rattle.std.proofs.lemmas.List.{get_or-set_same}
 use Rattle.cics_names.specs.Keyed.{Bytes}
-use Rattle.cics_history.specs.Openings.{OpeningState}
+use Rattle.cics_history.specs.State.{OpeningState, UnitsState, beginning}
 use Rattle.cics_history.specs.Store.{apply}
-use Rattle.cics_history.specs.History.{outcome_of, is_open, is_backed_out}
-use Rattle.cics_history.specs.Holding.{UnitsState, store_of, awaited}
+use Rattle.cics_history.specs.Headline.{outcome_of, is_open, is_backed_out}
+use Rattle.cics_history.specs.Holding.{store_of, awaited}
 use Rattle.cics_history.specs.Execution.{unit_or_next, entered, state_of, after_execution, after_end, after_enqueue, after_dequeue, after_unlock, after_ts_reading}
-use Rattle.cics_history.specs.Headline.{beginning}
 use Rattle.cics_history.specs.declared.ops.Op.{Op}
 use Rattle.cics_history.specs.declared.ops.Entry.{Entry}
 use Rattle.cics_history.specs.declared.ops.UnitState.{UnitState}

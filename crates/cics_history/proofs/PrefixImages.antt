@@ -11,7 +11,8 @@ use Rattle.cics_names.specs.RisingLaws.{is_same-turned}
 use Rattle.cics_ksds.specs.Prefixes.{has_prefix, under}
 use Rattle.cics_ksds.specs.PrefixLaws.{front, back, less}
 use Rattle.cics_history.specs.Openings.{is_in_order}
-use Rattle.cics_history.specs.Store.{Store, is_normal}
+use Rattle.cics_history.specs.State.{Store}
+use Rattle.cics_history.specs.Store.{is_normal}
 use Rattle.cics_history.specs.declared.ops.Op.{Op}
 use Rattle.cics_history.specs.declared.ops.Op.TheVariants.{DeleteGeneric}
 use Rattle.cics_history.specs.Cells.{Cell, Key, Ts, Td, Content, record_in, content, same_cell, touches, effect, IsOrdered}

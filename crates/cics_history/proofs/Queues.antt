@@ -5,9 +5,9 @@ use Rattle.std.proofs.Math.Seq.{drop-length, drop-nil}
 use Rattle.std.proofs.lemmas.List.{drop-append-le, append_assoc, append-nil, length-append}
 use Rattle.std.proofs.lemmas.Bool.{true≢false, false≢true, cond_both, eqb-true, eq-eqb, and_from, false_from_ne_true}
 use Rattle.cics_names.specs.Keyed.{Bytes, value_at}
-use Rattle.cics_history.specs.Openings.{OpeningState, QueueOpening, queue_logical}
-use Rattle.cics_history.specs.Store.{is_recoverable, is_normal, initial_store}
-use Rattle.cics_history.specs.History.{is_open, is_backed_out}
+use Rattle.cics_history.specs.State.{OpeningState, QueueOpening, queue_logical, initial_store}
+use Rattle.cics_history.specs.Store.{is_recoverable, is_normal}
+use Rattle.cics_history.specs.Headline.{is_open, is_backed_out}
 use Rattle.cics_history.specs.Holding.{is_nothing}
 use Rattle.cics_history.specs.declared.ops.Op.{Op}
 use Rattle.cics_history.specs.declared.ops.Op.TheVariants.{TdWrite, TdRead, TdDelete}

@@ -7,8 +7,8 @@ use Rattle.cics_names.specs.Keyed.{Bytes, value_at, has_key}
 use Rattle.cics_names.specs.KeyedLaws.{is_same-eq}
 use Rattle.cics_ksds.specs.Files.{key_of as key_in, fits_file}
 use Rattle.cics_ksds.specs.declared.definition.FileDef.{FileDef}
-use Rattle.cics_history.specs.Openings.{FileOpening, HasLawfulKeys, is_key}
-use Rattle.cics_history.specs.Holding.{UnitsState}
+use Rattle.cics_history.specs.State.{FileOpening, UnitsState}
+use Rattle.cics_history.specs.Openings.{HasLawfulKeys, is_key}
 use Rattle.cics_history.specs.Records.{key_of}
 use Rattle.cics_history.specs.Execution.{is_fit_for, is_ready_op}
 use Rattle.cics_history.specs.declared.ops.Op.{Op}

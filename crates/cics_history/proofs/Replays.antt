@@ -2,8 +2,9 @@
 use Rattle.std.proofs.Common.{◌≡◌, Bool, true, false, cond, List, [], ◌∷◌, ◌++◌, refl, ap, sym, ◌∙◌, inl, inr}
 use Rattle.std.specs.Prelude.{filter, is_some}
 use Rattle.std.proofs.lemmas.Bool.{true≢false, false≢true, cond_both, cases_Bool}
-use Rattle.cics_history.specs.Store.{Store, apply}
-use Rattle.cics_history.specs.History.{replay, Agrees}
+use Rattle.cics_history.specs.State.{Store}
+use Rattle.cics_history.specs.Store.{apply}
+use Rattle.cics_history.specs.Headline.{replay, Agrees}
 use Rattle.cics_history.specs.declared.ops.Op.{Op}
 use Rattle.cics_history.specs.declared.ops.Entry.{Entry}
 use Rattle.cics_history.specs.Cells.{Cell, content, touches, effect}

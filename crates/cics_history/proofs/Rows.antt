@@ -5,12 +5,12 @@ use Rattle.cics_names.specs.Keyed.{Bytes}
 use Rattle.cics_names.specs.declared.conditions.Condition.TheVariants.{Normal, Duprec, Notfnd, Qzero, Itemerr, Qiderr}
 use Rattle.cics_ksds.specs.declared.definition.FileDef.{FileDef}
 use Rattle.cics_transdata.specs.declared.queues.Recovery.TheVariants.{Logical, Unrecovered}
-use Rattle.cics_history.specs.Openings.{OpeningState, nothing_defined, with_file, with_record, with_queue, with_prefix, with_td_record}
+use Rattle.cics_history.specs.State.{OpeningState, UnitsState, beginning}
+use Rattle.cics_history.specs.Openings.{nothing_defined, with_file, with_record, with_queue, with_prefix, with_td_record}
 use Rattle.cics_history.specs.Store.{only, with_content, numbered}
-use Rattle.cics_history.specs.History.{kept}
-use Rattle.cics_history.specs.Holding.{UnitsState, store_of, committed_for, held_by}
+use Rattle.cics_history.specs.Headline.{kept}
+use Rattle.cics_history.specs.Holding.{store_of, committed_for, held_by}
 use Rattle.cics_history.specs.Execution.{execution, after_execution, after_end, after_unlock, enqueue, after_enqueue, after_dequeue, is_ready_op, place_at, ts_reading, after_ts_reading, item_asked, read_at}
-use Rattle.cics_history.specs.Headline.{beginning}
 use Rattle.cics_history.specs.declared.ops.Op.{Op}
 use Rattle.cics_history.specs.declared.ops.Op.TheVariants.{Write, Rewrite, Delete, DeleteGeneric, ReadUpdate, TsWrite, TsRewrite, TsDelete, TdWrite, TdRead, TdDelete}
 use Rattle.cics_history.specs.declared.ops.Done.TheVariants.{Answered, MustWait}

@@ -5,10 +5,10 @@ use Rattle.std.specs.Prelude.{if◌then◌else◌}
 use Rattle.std.proofs.lemmas.Bool.{cond_both}
 use Rattle.cics_names.specs.Keyed.{Bytes, with_value}
 use Rattle.cics_tempstor.specs.Queues.{has_item}
-use Rattle.cics_history.specs.Openings.{OpeningState}
+use Rattle.cics_history.specs.State.{OpeningState, UnitsState}
 use Rattle.cics_history.specs.Store.{ts_queue}
-use Rattle.cics_history.specs.History.{outcome_of}
-use Rattle.cics_history.specs.Holding.{UnitsState, store_of}
+use Rattle.cics_history.specs.Headline.{outcome_of}
+use Rattle.cics_history.specs.Holding.{store_of}
 use Rattle.cics_history.specs.Execution.{enqueue, after_enqueued, after_enqueue, after_dequeue, after_unlock, after_ts_reading}
 use Rattle.cics_history.specs.Isolation.{Outcomes}
 use Rattle.cics_history.specs.declared.ops.Entry.{Entry}

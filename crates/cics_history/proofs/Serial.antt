@@ -5,9 +5,9 @@ use Rattle.std.proofs.lemmas.Bool.{true≢false, false≢true, cases_Bool, and_f
 use Rattle.std.proofs.lemmas.List.Elements.{filter-append}
 use Rattle.std.proofs.lemmas.List.{append-nil}
 use Rattle.std.proofs.lemmas.List.Concat.{flat_map-append}
-use Rattle.cics_history.specs.Openings.{OpeningState}
-use Rattle.cics_history.specs.Store.{Store, apply, is_recoverable, is_normal, initial_store}
-use Rattle.cics_history.specs.History.{is_open, is_backed_out, replay, Agrees}
+use Rattle.cics_history.specs.State.{OpeningState, Store, initial_store}
+use Rattle.cics_history.specs.Store.{apply, is_recoverable, is_normal}
+use Rattle.cics_history.specs.Headline.{is_open, is_backed_out, replay, Agrees}
 use Rattle.cics_history.specs.declared.ops.Op.{Op}
 use Rattle.cics_history.specs.declared.ops.Entry.{Entry}
 use Rattle.cics_history.specs.declared.ops.UnitState.{UnitState}

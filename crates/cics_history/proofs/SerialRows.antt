@@ -7,10 +7,9 @@ use Rattle.cics_names.specs.declared.conditions.Condition.{Condition}
 use Rattle.cics_names.specs.declared.conditions.Condition.TheVariants.{Normal, Notfnd, Qzero}
 use Rattle.cics_ksds.specs.declared.definition.FileDef.{FileDef}
 use Rattle.cics_transdata.specs.declared.queues.Recovery.TheVariants.{Logical}
-use Rattle.cics_history.specs.Openings.{OpeningState}
-use Rattle.cics_history.specs.Store.{Store, apply, initial_store}
-use Rattle.cics_history.specs.Holding.{UnitsState, store_of}
-use Rattle.cics_history.specs.Headline.{beginning}
+use Rattle.cics_history.specs.State.{OpeningState, Store, initial_store, UnitsState, beginning}
+use Rattle.cics_history.specs.Store.{apply}
+use Rattle.cics_history.specs.Holding.{store_of}
 use Rattle.cics_history.specs.declared.ops.Entry.{Entry}
 use Rattle.cics_history.specs.declared.ops.Op.TheVariants.{Write, Rewrite, Delete, ReadUpdate, TsWrite, TsRewrite, TdWrite, TdRead, TdDelete}
 use Rattle.cics_history.specs.Cells.{Cell, Key, Ts, Td, Content, content}

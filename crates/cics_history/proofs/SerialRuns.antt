@@ -1,5 +1,5 @@
 -- Every call of the units keeps them in serial order, so every run does.
-use Rattle.std.proofs.Common.{arith, ◌≡◌, ℕ, Bool, true, false, not, ◌||◌, Option, Some, None, List, [], ◌∷◌, ◌++◌, length, refl, ap, sym, subst, ◌∙◌, ◌<◌, eqb, ltb, inl, inr, ◌⊎◌}
+use Rattle.std.proofs.Common.{arith, ◌≡◌, ℕ, Bool, true, false, not, ◌&&◌, ◌||◌, Option, Some, None, List, [], ◌∷◌, ◌++◌, length, refl, ap, sym, subst, ◌∙◌, ◌<◌, eqb, ltb, inl, inr, ◌⊎◌}
 use Rattle.std.specs.Prelude.{if◌then◌else◌, unwrap_or, slice_set}
 use Rattle.std.proofs.Math.Bool.{or-false}
 use Rattle.std.proofs.lemmas.Bool.{true≢false, false≢true, cases_Bool, cond_both, and_parts, and_from, not-true, lt-ltb, ltb-true, eqb-true, eq-eqb, or_left, or_right}
@@ -7,12 +7,12 @@ use Rattle.std.proofs.lemmas.Option.{unwrap_or-slice_get, slice_get_past}
 use Rattle.std.proofs.lemmas.List.{get_or-set_same, append-nil, append_assoc}
 use Rattle.std.proofs.lemmas.List.Folds.{list_any-append}
 use Rattle.cics_names.specs.Keyed.{Bytes, value_at}
-use Rattle.cics_history.specs.Openings.{OpeningState, IsOpeningInOrder}
-use Rattle.cics_history.specs.Store.{Store, apply, initial_store}
-use Rattle.cics_history.specs.History.{outcome_of, is_open, is_backed_out, replay, Agrees}
-use Rattle.cics_history.specs.Holding.{UnitsState, store_of, awaited}
-use Rattle.cics_history.specs.Execution.{UnitsValue, unit_or_next, outcomes_with, entered, state_of, after_execution, after_end, after_enqueue, after_dequeue, after_unlock, after_ts_reading}
-use Rattle.cics_history.specs.Headline.{beginning, IsSameRecoverable, TakeTurns}
+use Rattle.cics_history.specs.State.{OpeningState, Store, initial_store, UnitsState, UnitsValue, beginning}
+use Rattle.cics_history.specs.Openings.{IsOpeningInOrder}
+use Rattle.cics_history.specs.Store.{apply, is_recoverable}
+use Rattle.cics_history.specs.Headline.{outcome_of, is_open, is_backed_out, is_committed, is_kept, kept, committed_entries, replay, Agrees, IsSameRecoverable}
+use Rattle.cics_history.specs.Holding.{store_of, awaited}
+use Rattle.cics_history.specs.Execution.{unit_or_next, outcomes_with, entered, state_of, after_execution, after_end, after_enqueue, after_dequeue, after_unlock, after_ts_reading}
 use Rattle.cics_history.specs.declared.ops.Op.{Op}
 use Rattle.cics_history.specs.declared.ops.Entry.{Entry}
 use Rattle.cics_history.specs.declared.ops.UnitState.{UnitState}
@@ -20,9 +20,10 @@ use Rattle.cics_history.specs.declared.ops.UnitState.TheVariants.{Open, Committe
 use Rattle.cics_history.specs.Cells.{Cell, Key, Ts, Td, content, recovers, IsOrdered, IsCanonical}
 use Rattle.cics_history.specs.Events.{Event, Execute, Commit, BackOut, Enqueue, Dequeue, Unlock, ReadItem, is_live, may_act, happens, run}
 use Rattle.cics_history.specs.Isolation.{Outcomes, Extends, left_by, AreKnown, IsSound}
-use Rattle.cics_history.specs.Serial.{among, committed_by, commit_order, is_committed, are_distinct, IsCommitOrder, one_by_one, AreOpen, are_backed_out_but, store_without_others, AreAllOpen, NoneIsOpen, serial_store, IsSerial, OrderIsSerial, EachCanBeLast, IsInOrder}
+use Rattle.cics_history.specs.Serial.{among, committed_by, commit_order, are_distinct, IsCommitOrder, one_by_one, AreOpen, are_backed_out_but, store_without_others, AreAllOpen, NoneIsOpen, serial_store, IsSerializable, IsSerial, OrderIsSerial, EachCanBeLast, IsInOrder}
 use Rattle.cics_history.proofs.Executes.{open_kept}
-use Rattle.cics_history.proofs.Replays.{Each_more}
+use Rattle.cics_history.proofs.Joining.{touches-recovers}
+use Rattle.cics_history.proofs.Replays.{Each_more, replay-at}
 use Rattle.cics_history.proofs.Stores.{same_file, same_queue, initial-canonical, replay-canonical}
 use Rattle.cics_history.proofs.Outcomes.{outcome_of-with, outcome_of-set}
 use Rattle.cics_history.proofs.Waiting.{MayRun_from}
@@ -331,10 +332,31 @@ module _ (s : UnitsState) (i : IsInOrder s) where
         (serial_whole known [] (record { live = λ n y. absurd (false≢true y); once = refl })
         (λ n y. absurd (true≢false (sym y ∙ closed n))))
 
--- units that are kept apart and in the order of their commits take turns, where files and queues hold the replay
-pub turns_of : (v : UnitsValue) → IsInOrder v.state → AreKnown v.state → IsCanonical (initial_store v.state.opening) →
-    v.store ≡ store_of v.state → TakeTurns v
-turns_of v i known c stands =
+    -- and what stands is what those that committed did alone
+    committed_alike : NoneIsOpen s → (e : Entry) → e.unit < length s.outcomes → is_recoverable s.opening e.op ≡ true →
+        is_kept s.opening s.outcomes e ≡ is_committed (outcome_of s.outcomes e.unit)
+    committed_alike closed e begun r = rw r (ended (outcome_of s.outcomes e.unit)
+        (sym (ap (λ b. b && is_open (outcome_of s.outcomes e.unit)) (lt-ltb e.unit (length s.outcomes) begun)) ∙ closed e.unit))
+      where
+        ended : (oc : UnitState) → is_open oc ≡ false → not (is_backed_out oc) ≡ is_committed oc
+        ended Open still = absurd (true≢false still)
+        ended Committed over = refl
+        ended BackedOut over = refl
+
+    stands_committed : AreKnown s → NoneIsOpen s →
+        IsSameRecoverable s.opening (store_of s) (replay (initial_store s.opening) (committed_entries s.trace s.outcomes))
+    stands_committed known closed =
+        whole (store_of s) (replay (initial_store s.opening) (committed_entries s.trace s.outcomes))
+        (replay-canonical (initial_store s.opening) (kept s.opening s.trace s.outcomes) c)
+        (replay-canonical (initial_store s.opening) (committed_entries s.trace s.outcomes) c)
+        (λ x r. replay-at x (is_kept s.opening s.outcomes) (λ e. is_committed (outcome_of s.outcomes e.unit)) s.trace
+        (Each_more _ _ (λ e begun y. committed_alike closed e begun (touches-recovers s.opening e.op x y ∙ r)) s.trace known)
+        (initial_store s.opening) (initial_store s.opening) refl)
+
+-- units that are kept apart and in the order of their commits are serializable, where files and queues hold the replay
+pub serializable_of : (v : UnitsValue) → IsInOrder v.state → AreKnown v.state → IsCanonical (initial_store v.state.opening) →
+    v.store ≡ store_of v.state → IsSerializable v
+serializable_of v i known c stands =
     let s = v.state in
     record {
       order = i.commits;
@@ -346,14 +368,16 @@ turns_of v i known c stands =
           (serial_whole s i c known later a all);
       closed = λ none. subst (λ t. IsSameRecoverable s.opening t (serial_store s s.commits)) (sym stands)
           (serial_closed s i c known none);
+      committed = λ none. subst (λ t. IsSameRecoverable s.opening t (replay (initial_store s.opening) (committed_entries s.trace s.outcomes)))
+          (sym stands) (stands_committed s i c known none);
     }
 
 -- so it is after every run
-pub turns_after : (o : OpeningState) (events : List Event) → IsOpeningInOrder o →
-    let s = run (beginning o) events in TakeTurns (record { state = s; store = store_of s })
-turns_after o events c =
+pub serializable_after : (o : OpeningState) (events : List Event) → IsOpeningInOrder o →
+    let s = run (beginning o) events in IsSerializable (record { state = s; store = store_of s })
+serializable_after o events c =
     let s = run (beginning o) events in
-    turns_of (record { state = s; store = store_of s })
+    serializable_of (record { state = s; store = store_of s })
     (run-IsInOrder (beginning o) events (beginning-IsSound o c) (beginning-IsInOrder o c))
     (run-IsSound (beginning o) events (beginning-IsSound o c)).known
     (subst (λ p. IsCanonical (initial_store p)) (sym (run-opening (beginning o) events)) (initial-canonical o c)) refl

@@ -6,15 +6,13 @@ use Rattle.std.proofs.lemmas.Option.{slice_get_past}
 use Rattle.std.proofs.lemmas.List.{length-set}
 use Rattle.cics_names.specs.Keyed.{Bytes, with_value}
 use Rattle.cics_tempstor.specs.Queues.{has_item}
-use Rattle.cics_history.specs.Store.{ts_queue}
-use Rattle.cics_history.specs.Execution.{count_at, enq_of, after_enqueued, after_enqueue, after_dequeue, after_unlock, after_ts_reading}
+use Rattle.cics_history.specs.Store.{ts_queue, apply}
+use Rattle.cics_history.specs.Execution.{count_at, enq_of, after_enqueued, after_enqueue, after_dequeue, after_unlock, after_ts_reading, unit_or_next, outcomes_with, entered, state_of, after_execution, after_end}
 use Rattle.cics_history.specs.declared.ops.Enqueued.TheVariants.{Taken, CountFull}
-use Rattle.cics_history.specs.Openings.{OpeningState, IsOpeningInOrder}
-use Rattle.cics_history.specs.Store.{apply, initial_store}
-use Rattle.cics_history.specs.History.{outcome_of, is_open, kept, Agrees}
-use Rattle.cics_history.specs.Holding.{UnitsState, store_of, uses_of, held_by, held_table, first_holder, holder_among, writer_awaited, awaited, value_holder}
-use Rattle.cics_history.specs.Execution.{unit_or_next, outcomes_with, entered, state_of, after_execution, after_end}
-use Rattle.cics_history.specs.Headline.{beginning}
+use Rattle.cics_history.specs.State.{OpeningState, initial_store, UnitsState, beginning}
+use Rattle.cics_history.specs.Openings.{IsOpeningInOrder}
+use Rattle.cics_history.specs.Headline.{outcome_of, is_open, kept, Agrees}
+use Rattle.cics_history.specs.Holding.{store_of, uses_of, held_by, owned, blocker_at, blocker_among, writer_awaited, awaited, value_holder, conflicts, is_other}
 use Rattle.cics_history.specs.declared.ops.Op.{Op}
 use Rattle.cics_history.specs.declared.ops.Entry.{Entry}
 use Rattle.cics_history.specs.declared.ops.UnitState.{UnitState}
@@ -26,13 +24,13 @@ use Rattle.cics_history.proofs.Isolated.{Extends-refl}
 use Rattle.cics_history.proofs.Steps.{executes, ends}
 use Rattle.cics_history.proofs.SameHistory.{enqueue-same, ts_reading-same}
 use Rattle.cics_history.specs.Holders.{IsHeldByOne, HaveBegun}
-use Rattle.cics_enqueue.specs.Resources.{overlaps, is_other, is_prefix, most_count}
+use Rattle.cics_enqueue.specs.Resources.{is_prefix, most_count}
 use Rattle.cics_enqueue.specs.declared.resources.Resource.{Resource}
 use Rattle.cics_history.specs.declared.ops.Op.TheVariants.{ReadUpdate}
 use Rattle.cics_history.specs.declared.ops.Answer.{Answer}
 use Rattle.std.specs.List.{list_any}
 use Rattle.cics_history.proofs.Holders.{any_filter, new_read, any_reads_after, any_counted, any_uncounted, found_holds, found_other, holder-found, entered-one, enqueued-one, dequeued-one, unlocked-one, ended-one}
-use Rattle.cics_history.proofs.Waiting.{MayRun_from, any_more, none_either, used-held, covers, covers-overlaps}
+use Rattle.cics_history.proofs.Waiting.{MayRun_from, any_more, none_either, used-held, covers, covers-conflicts}
 use Rattle.cics_history.proofs.Stores.{initial-canonical}
 use Rattle.cics_history.proofs.Outcomes.{outcome_of-with, outcome_of-set}
 use Rattle.cics_history.specs.Isolation.{Each, IsOneAtEachEnd, IsSound}
@@ -96,7 +94,7 @@ entered-IsSound s u op i acts free = record {
   begun = entered-begun s u op (apply (store_of s) op).answer i.begun acts;
   one =
       entered-one s i.known i.begun i.one u op (apply (store_of s) op).answer
-      (none_either (holder_among (held_table s) u (uses_of s.opening op)) (writer_awaited s u op) free).0;
+      (none_either (blocker_among (owned s) u (uses_of s.opening op)) (writer_awaited s u op) free).0;
 }
 
 pub execution-IsSound : (s : UnitsState) (u : Option ℕ) (op : Op) → IsSound s → may_act s u ≡ true →
@@ -275,12 +273,12 @@ pub one_at_each_end : (s : UnitsState) → IsHeldByOne s →
     IsOneAtEachEnd s.opening s.trace (outcome_of s.outcomes)
 one_at_each_end s one x r end u n a b h k =
     one u n
-    (any_more (covers x end) (λ t. list_any (overlaps t) (held_by s n)) met (held_by s u)
+    (any_more (covers x end) (λ t. list_any (conflicts t) (held_by s n)) met (held_by s u)
     (used-held s u x end r a h))
   where
-    met : (t : Resource) → covers x end t ≡ true → list_any (overlaps t) (held_by s n) ≡ true
+    met : (t : Resource) → covers x end t ≡ true → list_any (conflicts t) (held_by s n) ≡ true
     met t c =
-        any_more (covers x end) (overlaps t) (λ w d. covers-overlaps x end t w c d) (held_by s n)
+        any_more (covers x end) (conflicts t) (λ w d. covers-conflicts x end t w c d) (held_by s n)
         (used-held s n x end r b k)
 
 pub one_at_each_end_of : (s : UnitsState) → IsSound s →
@@ -291,11 +289,11 @@ pub one_holder_after : (o : OpeningState) (es : List Event) → IsOpeningInOrder
 one_holder_after o es order = (run-IsSound (beginning o) es (beginning-IsSound o order)).one
 
 pub holder_found : (s : UnitsState) (u : Option ℕ) (r : Resource) (n : ℕ) → IsSound s → is_prefix r ≡ false →
-    is_other u n ≡ true → list_any (overlaps r) (held_by s n) ≡ true →
-    first_holder (held_table s) u r ≡ Some n
+    is_other u n ≡ true → list_any (conflicts r) (held_by s n) ≡ true →
+    blocker_at (owned s) u r ≡ Some n
 holder_found s u r n i plain other h = holder-found s i.known i.begun i.one u r n plain other h
 
--- the unit that is found is another one, and holds what overlaps the resource
-pub holder_holds : (s : UnitsState) (u : Option ℕ) (r : Resource) (n : ℕ) → first_holder (held_table s) u r ≡ Some n →
-    (is_other u n ≡ true) × (list_any (overlaps r) (held_by s n) ≡ true)
-holder_holds s u r n e = (found_other (held_table s) u r n e, found_holds s u r n e)
+-- the unit that is found is another one, and holds what conflicts with the resource
+pub holder_holds : (s : UnitsState) (u : Option ℕ) (r : Resource) (n : ℕ) → blocker_at (owned s) u r ≡ Some n →
+    (is_other u n ≡ true) × (list_any (conflicts r) (held_by s n) ≡ true)
+holder_holds s u r n e = (found_other (owned s) u r n e, found_holds s u r n e)

@@ -1,9 +1,9 @@
 -- One command more, and one end, keep the open units apart.
 use Rattle.std.proofs.Common.{◌≡◌, ℕ, Bool, true, false, cond, not, List, [], ◌∷◌, ◌++◌, refl, ap, sym, subst, ◌∙◌, inl, inr}
 use Rattle.std.proofs.lemmas.Bool.{true≢false, false≢true, cases_Bool, and_from, not-true}
-use Rattle.cics_history.specs.Openings.{OpeningState}
-use Rattle.cics_history.specs.Store.{apply, is_recoverable, is_normal, initial_store}
-use Rattle.cics_history.specs.History.{is_open, is_backed_out}
+use Rattle.cics_history.specs.State.{OpeningState, initial_store}
+use Rattle.cics_history.specs.Store.{apply, is_recoverable, is_normal}
+use Rattle.cics_history.specs.Headline.{is_open, is_backed_out}
 use Rattle.cics_history.specs.declared.ops.Op.{Op}
 use Rattle.cics_history.specs.declared.ops.Entry.{Entry}
 use Rattle.cics_history.specs.Cells.{Cell, Content, content, touches, effect, End, Reading, Writing, uses}

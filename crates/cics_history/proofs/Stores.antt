@@ -2,8 +2,8 @@
 use Rattle.std.proofs.Common.{◌≡◌, Bool, true, false, cond, Option, Some, None, List, [], ◌∷◌, refl, ap, sym, subst, ◌∙◌, inl, inr}
 use Rattle.std.specs.Prelude.{if◌then◌else◌, not, unwrap_or, map, option_map, ◌&&◌}
 use Rattle.std.specs.Ordering.{is_lt}
-use Rattle.cics_history.specs.Openings.{is_in_order, IsOpeningInOrder, OpeningState}
-use Rattle.cics_history.specs.Store.{initial_store}
+use Rattle.cics_history.specs.Openings.{is_in_order, IsOpeningInOrder}
+use Rattle.cics_history.specs.State.{OpeningState, initial_store, Store}
 use Rattle.std.specs.FinMap.Entries.{below_all}
 use Rattle.std.proofs.lemmas.Bool.{cases_Bool}
 use Rattle.cics_names.specs.Keyed.{Bytes, Map, bytes_cmp, value_at, is_same, with_value, without, is_rising}
@@ -11,8 +11,8 @@ use Rattle.cics_names.specs.KeyedLaws.{value_at-with_value, value_at-without}
 use Rattle.cics_ksds.specs.Files.{records_after_write, records_after_rewrite, records_after_delete}
 use Rattle.cics_ksds.specs.Prefixes.{has_prefix, outside}
 use Rattle.cics_tempstor.specs.Queues.{items_after_write, items_after_rewrite}
-use Rattle.cics_history.specs.Store.{Store, apply, is_normal, with_file, with_ts, with_td, ts_queue, apply_write, apply_rewrite, apply_delete, apply_delete_generic, apply_td_write, apply_td_read, apply_td_delete}
-use Rattle.cics_history.specs.History.{replay}
+use Rattle.cics_history.specs.Store.{apply, is_normal, with_file, with_ts, with_td, ts_queue, apply_write, apply_rewrite, apply_delete, apply_delete_generic, apply_td_write, apply_td_read, apply_td_delete}
+use Rattle.cics_history.specs.Headline.{replay}
 use Rattle.cics_history.specs.declared.ops.Op.{Op}
 use Rattle.cics_history.specs.declared.ops.Op.TheVariants.{Write, Rewrite, Delete, DeleteGeneric, ReadUpdate, TsWrite, TsRewrite, TsDelete, TdWrite, TdRead, TdDelete}
 use Rattle.cics_history.specs.declared.ops.Entry.{Entry}

@@ -4,9 +4,9 @@ use Rattle.std.proofs.Common.{◌≡◌, ℕ, true, false, ◌&&◌, not, Some, 
 use Rattle.std.specs.Prelude.{if◌then◌else◌}
 use Rattle.std.proofs.lemmas.List.Folds.{list_any-append}
 use Rattle.std.proofs.lemmas.Bool.{true≢false, false≢true, cases_Bool, cond_both, eqb-true, eq-eqb, and_parts, and_from, and_cases, and_left, and_right, or_parts, or_from, false_from_ne_true, MatchBool-at_true, MatchBool-at_false}
-use Rattle.cics_history.specs.Openings.{OpeningState}
-use Rattle.cics_history.specs.Store.{Store, apply, is_normal, is_recoverable, initial_store}
-use Rattle.cics_history.specs.History.{is_open, is_backed_out}
+use Rattle.cics_history.specs.State.{OpeningState, Store, initial_store}
+use Rattle.cics_history.specs.Store.{apply, is_normal, is_recoverable}
+use Rattle.cics_history.specs.Headline.{is_open, is_backed_out}
 use Rattle.cics_history.specs.declared.ops.Op.{Op}
 use Rattle.cics_history.specs.declared.ops.Op.TheVariants.{DeleteGeneric, ReadUpdate, TdWrite, TdRead, TdDelete}
 use Rattle.cics_history.specs.declared.ops.Entry.{Entry}

@@ -6,16 +6,14 @@ use Rattle.std.proofs.lemmas.Bool.{true≢false, false≢true, cases_Bool, eqb-t
 use Rattle.std.proofs.lemmas.List.Folds.{list_any-append}
 use Rattle.cics_names.specs.Keyed.{Bytes, is_same, is_below}
 use Rattle.cics_names.specs.KeyedLaws.{is_same-self, is_same-eq}
-use Rattle.cics_enqueue.specs.Resources.{Table, Held, begins_with, overlaps, is_other, lesser, place_of}
 use Rattle.cics_enqueue.specs.ResourceLaws.{same_test}
-use Rattle.cics_enqueue.proofs.Seeking.{starts_with-begins}
 use Rattle.cics_ksds.specs.Prefixes.{has_prefix}
 use Rattle.cics_enqueue.specs.declared.resources.Resource.{Resource}
 use Rattle.cics_enqueue.specs.declared.resources.Resource.TheVariants.{FileKey, TsQueue, TdRead as ReadingEnd, TdWrite as WritingEnd, FilePrefix}
-use Rattle.cics_history.specs.Openings.{OpeningState, queue_logical}
-use Rattle.cics_history.specs.Store.{is_recoverable, is_normal, initial_store}
-use Rattle.cics_history.specs.History.{outcome_of, is_open, is_backed_out, replay}
-use Rattle.cics_history.specs.Holding.{UnitsState, uses_of, held_by_entry, held_by_read, held_by_count, held_by, units_from, held_table, first_held, first_holder, first_some, holder_among, is_own, committed_for, is_nothing, writer_awaited, awaited}
+use Rattle.cics_history.specs.State.{OpeningState, queue_logical, initial_store, UnitsState}
+use Rattle.cics_history.specs.Store.{is_recoverable, is_normal}
+use Rattle.cics_history.specs.Headline.{outcome_of, is_open, is_backed_out, replay}
+use Rattle.cics_history.specs.Holding.{uses_of, held_by_entry, held_by_read, held_by_count, held_by, units_from, owned, smallest_conflict, blocker_at, first_some, blocker_among, is_own, committed_for, is_nothing, writer_awaited, awaited, conflicts, bytes_in, Owned, is_other, smaller}
 use Rattle.cics_history.specs.Execution.{unit_or_next}
 use Rattle.cics_history.specs.declared.ops.Op.{Op}
 use Rattle.cics_history.specs.declared.ops.Op.TheVariants.{Write, Rewrite, Delete, DeleteGeneric, ReadUpdate, TsWrite, TsRewrite, TsDelete, TdWrite, TdRead, TdDelete}
@@ -70,7 +68,7 @@ any_both p b (x ∷ xs) h = elim (or_cases (p x && b) (list_any (λ y. p y && b)
 -- the resource takes hold of this end of the cell
 abbrev pub covers : Cell → End → Resource → Bool
 covers (Key g l) end (FileKey f k) = is_same f g && is_same k.items l
-covers (Key g l) end (FilePrefix f p) = is_same f g && begins_with p.items l
+covers (Key g l) end (FilePrefix f p) = is_same f g && has_prefix p.items l
 covers (Ts q) end (TsQueue r) = is_same r q
 covers (Td q) Reading (ReadingEnd r) = is_same r q
 covers (Td q) Writing (WritingEnd r) = is_same r q
@@ -84,47 +82,47 @@ same_turned : (a b : Bytes) → is_same a b ≡ true → is_same b a ≡ true
 same_turned a b x = subst (λ z. is_same z a ≡ true) (is_same-eq a b x) (is_same-self a)
 
 -- of two prefixes of some bytes one begins with the other
-pub one_begins : (p q b : Bytes) → begins_with p b ≡ true → begins_with q b ≡ true → (begins_with p q || begins_with q p) ≡ true
+pub one_begins : (p q b : Bytes) → has_prefix p b ≡ true → has_prefix q b ≡ true → (has_prefix p q || has_prefix q p) ≡ true
 one_begins [] q b m n = refl
 one_begins (x ∷ p) [] b m n = refl
 one_begins (x ∷ p) (y ∷ q) [] m n = absurd (false≢true m)
 one_begins (x ∷ p) (y ∷ q) (z ∷ b) m n =
-    let front = and_parts (eqb x z) (begins_with p b) m in
-    let back = and_parts (eqb y z) (begins_with q b) n in
+    let front = and_parts (eqb x z) (has_prefix p b) m in
+    let back = and_parts (eqb y z) (has_prefix q b) n in
     let same : x ≡ y = eqb-true x z front.0 ∙ sym (eqb-true y z back.0) in
-    elim (or_cases (begins_with p q) (begins_with q p) (one_begins p q b front.1 back.1)) [
+    elim (or_cases (has_prefix p q) (has_prefix q p) (one_begins p q b front.1 back.1)) [
       | inl t ↦ or_left _ _ (and_from _ _ (eq-eqb x y same) t)
       | inr t ↦ or_right _ _ (and_from _ _ (eq-eqb y x (sym same)) t)
     ]
 
 -- bytes that are the same begin with the same
-pub begins_same : (p a b : Bytes) → is_same a b ≡ true → begins_with p a ≡ true → begins_with p b ≡ true
-begins_same p a b same t = subst (λ c. begins_with p c ≡ true) (is_same-eq a b same) t
+pub begins_same : (p a b : Bytes) → is_same a b ≡ true → has_prefix p a ≡ true → has_prefix p b ≡ true
+begins_same p a b same t = subst (λ c. has_prefix p c ≡ true) (is_same-eq a b same) t
 
 -- two resources that take hold of one end overlap
-pub covers-overlaps : (x : Cell) (end : End) (r s : Resource) → covers x end r ≡ true →
-    covers x end s ≡ true → overlaps r s ≡ true
-covers-overlaps (Key g l) end (FileKey f k) (FileKey h m) a b =
+pub covers-conflicts : (x : Cell) (end : End) (r s : Resource) → covers x end r ≡ true →
+    covers x end s ≡ true → conflicts r s ≡ true
+covers-conflicts (Key g l) end (FileKey f k) (FileKey h m) a b =
     let c = and_parts _ _ a in let d = and_parts _ _ b in
     and_from _ _ (same_by_third f h g c.0 d.0) (same_by_third k.items m.items l c.1 d.1)
-covers-overlaps (Key g l) end (FileKey f k) (FilePrefix h q) a b =
+covers-conflicts (Key g l) end (FileKey f k) (FilePrefix h q) a b =
     let c = and_parts _ _ a in let d = and_parts _ _ b in
     and_from _ _ (same_by_third f h g c.0 d.0) (begins_same q.items l k.items (same_turned k.items l c.1) d.1)
-covers-overlaps (Key g l) end (FilePrefix f p) (FileKey h m) a b =
+covers-conflicts (Key g l) end (FilePrefix f p) (FileKey h m) a b =
     let c = and_parts _ _ a in let d = and_parts _ _ b in
     and_from _ _ (same_by_third f h g c.0 d.0) (begins_same p.items l m.items (same_turned m.items l d.1) c.1)
-covers-overlaps (Key g l) end (FilePrefix f p) (FilePrefix h q) a b =
+covers-conflicts (Key g l) end (FilePrefix f p) (FilePrefix h q) a b =
     let c = and_parts _ _ a in let d = and_parts _ _ b in
     and_from _ _ (same_by_third f h g c.0 d.0) (one_begins p.items q.items l c.1 d.1)
-covers-overlaps (Ts q) end (TsQueue r) (TsQueue t) a b = same_by_third r t q a b
-covers-overlaps (Td q) Reading (ReadingEnd r) (ReadingEnd t) a b = same_by_third r t q a b
-covers-overlaps (Td q) Writing (WritingEnd r) (WritingEnd t) a b = same_by_third r t q a b
-covers-overlaps (Key g l) end (FileKey f k) _ a b = absurd (false≢true b)
-covers-overlaps (Key g l) end (FilePrefix f p) _ a b = absurd (false≢true b)
-covers-overlaps (Ts q) end (TsQueue r) _ a b = absurd (false≢true b)
-covers-overlaps (Td q) Reading (ReadingEnd r) _ a b = absurd (false≢true b)
-covers-overlaps (Td q) Writing (WritingEnd r) _ a b = absurd (false≢true b)
-covers-overlaps _ _ _ s a b = absurd (false≢true a)
+covers-conflicts (Ts q) end (TsQueue r) (TsQueue t) a b = same_by_third r t q a b
+covers-conflicts (Td q) Reading (ReadingEnd r) (ReadingEnd t) a b = same_by_third r t q a b
+covers-conflicts (Td q) Writing (WritingEnd r) (WritingEnd t) a b = same_by_third r t q a b
+covers-conflicts (Key g l) end (FileKey f k) _ a b = absurd (false≢true b)
+covers-conflicts (Key g l) end (FilePrefix f p) _ a b = absurd (false≢true b)
+covers-conflicts (Ts q) end (TsQueue r) _ a b = absurd (false≢true b)
+covers-conflicts (Td q) Reading (ReadingEnd r) _ a b = absurd (false≢true b)
+covers-conflicts (Td q) Writing (WritingEnd r) _ a b = absurd (false≢true b)
+covers-conflicts _ _ _ s a b = absurd (false≢true a)
 
 -- a command on a recoverable cell uses a resource that takes hold of each end that it uses
 uses_of-covers : (o : OpeningState) (op : Op) (x : Cell) (end : End) → touches op x ≡ true →
@@ -132,9 +130,7 @@ uses_of-covers : (o : OpeningState) (op : Op) (x : Cell) (end : End) → touches
 uses_of-covers o (Write f k r) (Key g l) end y t rec = or_left _ _ y
 uses_of-covers o (Rewrite f k r) (Key g l) end y t rec = or_left _ _ y
 uses_of-covers o (Delete f k) (Key g l) end y t rec = or_left _ _ y
-uses_of-covers o (DeleteGeneric f p) (Key g l) end y t rec =
-    let b = and_parts (is_same f g) (has_prefix p l) y in
-    or_left _ _ (and_from _ _ b.0 (sym (starts_with-begins p l) ∙ b.1))
+uses_of-covers o (DeleteGeneric f p) (Key g l) end y t rec = or_left _ _ y
 uses_of-covers o (ReadUpdate f k) (Key g l) end y t rec = or_left _ _ y
 uses_of-covers o (TsWrite q d) (Ts r) end y t rec = rw rec (or_left _ _ y)
 uses_of-covers o (TsRewrite q n d) (Ts r) end y t rec = rw rec (or_left _ _ y)
@@ -148,57 +144,57 @@ uses_of-covers o (TdDelete q) (Td r) Writing y t rec = rw rec (or_left _ _ y)
 uses_of-covers o _ _ end y t rec = absurd (false≢true y)
 
 -- a resource of this kind stands in the table, held by another unit
-abbrev pub stands_one : (Resource → Bool) → Option ℕ → Resource × Held → Bool
-stands_one p u e = p e.0 && is_other u e.1.unit
+abbrev pub stands_one : (Resource → Bool) → Option ℕ → Resource × ℕ → Bool
+stands_one p u e = p e.0 && is_other u e.1
 
-abbrev pub stands : (Resource → Bool) → Option ℕ → Table → Bool
+abbrev pub stands : (Resource → Bool) → Option ℕ → Owned → Bool
 stands p u t = list_any (stands_one p u) t
 
--- what the lesser of two says, either says, where the first is there
-pub lesser_cases : {P : Type 0} (e : Resource × Held) (o : Option (Resource × Held)) (f : Resource × Held → ℕ) (m : ℕ) →
-    option_map f (lesser (Some e) o) ≡ Some m → (f e ≡ m → P) → (option_map f o ≡ Some m → P) → P
+-- what the smaller of two says, either says, where the first is there
+pub lesser_cases : {P : Type 0} (e : Resource × ℕ) (o : Option (Resource × ℕ)) (f : Resource × ℕ → ℕ) (m : ℕ) →
+    option_map f (smaller (Some e) o) ≡ Some m → (f e ≡ m → P) → (option_map f o ≡ Some m → P) → P
 lesser_cases e None f m h own rest = own (given h)
   where
     given : Some (f e) ≡ Some m → f e ≡ m
     given h = cc
 lesser_cases {P} e (Some d) f m h own rest =
-    elim (is_below (place_of d.0) (place_of e.0)) as
+    elim (is_below (bytes_in d.0) (bytes_in e.0)) as
     (λ b. option_map f (if b then Some d else Some e) ≡ Some m → P)
     [ true ↦ λ g. rest g | false ↦ λ g. own (given g) ] h
   where
     given : Some (f e) ≡ Some m → f e ≡ m
     given h = cc
 
-lesser_there : (e : Resource × Held) (o : Option (Resource × Held)) → lesser (Some e) o ≡ None → ⊥
+lesser_there : (e : Resource × ℕ) (o : Option (Resource × ℕ)) → smaller (Some e) o ≡ None → ⊥
 lesser_there e None h = absurd (some_none h)
   where
     some_none : Some e ≡ None → ⊥
     some_none h = cc
 lesser_there e (Some d) h =
-    elim (is_below (place_of d.0) (place_of e.0)) as (λ b. (if b then Some d else Some e) ≡ None → ⊥)
+    elim (is_below (bytes_in d.0) (bytes_in e.0)) as (λ b. (if b then Some d else Some e) ≡ None → ⊥)
     [ true ↦ λ g. some_none d g | false ↦ λ g. some_none e g ] h
   where
-    some_none : (x : Resource × Held) → Some x ≡ None → ⊥
+    some_none : (x : Resource × ℕ) → Some x ≡ None → ⊥
     some_none x h = cc
 
 -- nothing found: nothing is there
-pub none_held : (t : Table) (u : Option ℕ) (r : Resource) → first_held t u r ≡ None →
-    list_any (λ e. overlaps r e.0 && is_other u e.1.unit) t ≡ false
+pub none_held : (t : Owned) (u : Option ℕ) (r : Resource) → smallest_conflict t u r ≡ None →
+    list_any (λ e. conflicts r e.0 && is_other u e.1) t ≡ false
 none_held [] u r h = refl
 none_held (e ∷ t) u r h =
-    elim (overlaps r e.0 && is_other u e.1.unit) as
-    (λ b. (if b then lesser (Some e) (first_held t u r) else first_held t u r) ≡ None →
-    (b || list_any (λ d. overlaps r d.0 && is_other u d.1.unit) t) ≡ false)
-    [ true ↦ λ g. absurd (lesser_there e (first_held t u r) g) | false ↦ λ g. none_held t u r g ] h
+    elim (conflicts r e.0 && is_other u e.1) as
+    (λ b. (if b then smaller (Some e) (smallest_conflict t u r) else smallest_conflict t u r) ≡ None →
+    (b || list_any (λ d. conflicts r d.0 && is_other u d.1) t) ≡ false)
+    [ true ↦ λ g. absurd (lesser_there e (smallest_conflict t u r) g) | false ↦ λ g. none_held t u r g ] h
 
 -- nobody found: nobody is there
-pub none_first : (t : Table) (u : Option ℕ) (r : Resource) → first_holder t u r ≡ None →
-    list_any (λ e. overlaps r e.0 && is_other u e.1.unit) t ≡ false
-none_first t u r h = none_held t u r (nothing (first_held t u r) h)
+pub none_first : (t : Owned) (u : Option ℕ) (r : Resource) → blocker_at t u r ≡ None →
+    list_any (λ e. conflicts r e.0 && is_other u e.1) t ≡ false
+none_first t u r h = none_held t u r (nothing (smallest_conflict t u r) h)
   where
-    nothing : (o : Option (Resource × Held)) → option_map (λ e. e.1.unit) o ≡ None → o ≡ None
+    nothing : (o : Option (Resource × ℕ)) → option_map (λ e. e.1) o ≡ None → o ≡ None
     nothing None g = refl
-    nothing (Some e) g = absurd (some_none e.1.unit g)
+    nothing (Some e) g = absurd (some_none e.1 g)
       where
         some_none : (n : ℕ) → Some n ≡ None → ⊥
         some_none n g = cc
@@ -210,20 +206,20 @@ none_either (Some x) y h = absurd (some_none x h)
     some_none : {X : Type 0} (x : X) → Some x ≡ None → ⊥
     some_none x e = cc
 
-abbrev held_there : Table → Option ℕ → Cell → End → Bool
-held_there t u x end = list_any (λ e. covers x end e.0 && is_other u e.1.unit) t
+abbrev held_there : Owned → Option ℕ → Cell → End → Bool
+held_there t u x end = list_any (λ e. covers x end e.0 && is_other u e.1) t
 
-not_there : (t : Table) (u : Option ℕ) (x : Cell) (end : End) (r : Resource) → covers x end r ≡ true →
-    list_any (λ e. overlaps r e.0 && is_other u e.1.unit) t ≡ false → held_there t u x end ≡ false
+not_there : (t : Owned) (u : Option ℕ) (x : Cell) (end : End) (r : Resource) → covers x end r ≡ true →
+    list_any (λ e. conflicts r e.0 && is_other u e.1) t ≡ false → held_there t u x end ≡ false
 not_there t u x end r c n =
-    any_less (λ e. covers x end e.0 && is_other u e.1.unit) (λ e. overlaps r e.0 && is_other u e.1.unit)
-    (λ e y. let both = and_parts _ _ y in and_from _ _ (covers-overlaps x end r e.0 c both.0) both.1) t n
+    any_less (λ e. covers x end e.0 && is_other u e.1) (λ e. conflicts r e.0 && is_other u e.1)
+    (λ e y. let both = and_parts _ _ y in and_from _ _ (covers-conflicts x end r e.0 c both.0) both.1) t n
 
-none_among : (t : Table) (u : Option ℕ) (x : Cell) (end : End) (rs : List Resource) →
-    holder_among t u rs ≡ None → list_any (covers x end) rs ≡ true → held_there t u x end ≡ false
+none_among : (t : Owned) (u : Option ℕ) (x : Cell) (end : End) (rs : List Resource) →
+    blocker_among t u rs ≡ None → list_any (covers x end) rs ≡ true → held_there t u x end ≡ false
 none_among t u x end [] h c = absurd (false≢true c)
 none_among t u x end (r ∷ rs) h c =
-    let both = none_either (first_holder t u r) (holder_among t u rs) h in
+    let both = none_either (blocker_at t u r) (blocker_among t u rs) h in
     elim (or_cases (covers x end r) (list_any (covers x end) rs) c) [
       | inl y ↦ not_there t u x end r y (none_first t u r both.0)
       | inr y ↦ none_among t u x end rs both.1 y
@@ -269,23 +265,23 @@ one_unit P m (k ∷ ks) h = elim (or_cases (P k && eqb k m) (list_any (λ k. P k
 ]
 
 -- an entry is of a resource that passes, and this unit's
-abbrev pub is_of : (Resource → Bool) → ℕ → Resource × Held → Bool
-is_of p m e = p e.0 && eqb e.1.unit m
+abbrev pub is_of : (Resource → Bool) → ℕ → Resource × ℕ → Bool
+is_of p m e = p e.0 && eqb e.1 m
 
 -- the table names a unit that has begun, at what the unit holds
 module _ (s : UnitsState) (p : Resource → Bool) (n : ℕ) where
-  abbrev entries_of : ℕ → Table
-  entries_of m = map (λ r. (r, record { unit = m; count = 1 })) (held_by s m)
+  abbrev entries_of : ℕ → Owned
+  entries_of m = map (λ r. (r, m)) (held_by s m)
 
-  pub table_names : list_any (is_of p n) (held_table s) ≡ (ltb n (length s.outcomes) && list_any p (held_by s n))
-  table_names = same_test (list_any (is_of p n) (held_table s)) (ltb n (length s.outcomes) && list_any p (held_by s n)) there back
+  pub table_names : list_any (is_of p n) (owned s) ≡ (ltb n (length s.outcomes) && list_any p (held_by s n))
+  table_names = same_test (list_any (is_of p n) (owned s)) (ltb n (length s.outcomes) && list_any p (held_by s n)) there back
     where
       of_unit : (m : ℕ) → list_any (is_of p n) (entries_of m) ≡ true → (list_any p (held_by s m) && eqb m n) ≡ true
       of_unit m h =
           any_both p (eqb m n) (held_by s m)
-          (sym (any_map (λ r. (r, record { unit = m; count = 1 })) (is_of p n) (held_by s m)) ∙ h)
+          (sym (any_map (λ r. (r, m)) (is_of p n) (held_by s m)) ∙ h)
 
-      there : list_any (is_of p n) (held_table s) ≡ true → (ltb n (length s.outcomes) && list_any p (held_by s n)) ≡ true
+      there : list_any (is_of p n) (owned s) ≡ true → (ltb n (length s.outcomes) && list_any p (held_by s n)) ≡ true
       there h =
           let found = any_more (λ m. list_any (is_of p n) (entries_of m)) (λ m. list_any p (held_by s m) && eqb m n) of_unit
           (units_from 0 s.outcomes) (sym (any_flat_map entries_of (is_of p n) (units_from 0 s.outcomes)) ∙ h) in
@@ -295,17 +291,17 @@ module _ (s : UnitsState) (p : Resource → Bool) (n : ℕ) where
           let begun : n < length s.outcomes = omega (arith, below) in
           and_from _ _ (lt-ltb n (length s.outcomes) begun) (one_unit (λ m. list_any p (held_by s m)) n (units_from 0 s.outcomes) found)
 
-      back : (ltb n (length s.outcomes) && list_any p (held_by s n)) ≡ true → list_any (is_of p n) (held_table s) ≡ true
+      back : (ltb n (length s.outcomes) && list_any p (held_by s n)) ≡ true → list_any (is_of p n) (owned s) ≡ true
       back h =
           let a = and_parts (ltb n (length s.outcomes)) (list_any p (held_by s n)) h in
           let less : n < length s.outcomes = ltb-true n (length s.outcomes) a.0 in
           any_flat_map entries_of (is_of p n) (units_from 0 s.outcomes)
           ∙ unit_among (λ m. list_any (is_of p n) (entries_of m)) n 0 s.outcomes (omega arith) (omega (arith, less))
-          (any_map (λ r. (r, record { unit = n; count = 1 })) (is_of p n) (held_by s n)
+          (any_map (λ r. (r, n)) (is_of p n) (held_by s n)
           ∙ any_more p (λ r. p r && eqb n n) (λ r y. and_from _ _ y (eq-eqb n n refl)) (held_by s n) a.1)
 
 -- what stands in the table under a unit the unit holds
-pub table_holds : (s : UnitsState) (p : Resource → Bool) (m : ℕ) → list_any (is_of p m) (held_table s) ≡ true →
+pub table_holds : (s : UnitsState) (p : Resource → Bool) (m : ℕ) → list_any (is_of p m) (owned s) ≡ true →
     list_any p (held_by s m) ≡ true
 table_holds s p m h =
     (and_parts (ltb m (length s.outcomes)) (list_any p (held_by s m)) (sym (table_names s p m) ∙ h)).1
@@ -313,15 +309,15 @@ table_holds s p m h =
 -- what a unit that has begun holds stands in the table
 pub in_table : (s : UnitsState) (p : Resource → Bool) (u : Option ℕ) (n : ℕ) → n < length s.outcomes →
     is_other u n ≡ true →
-    list_any p (held_by s n) ≡ true → stands p u (held_table s) ≡ true
+    list_any p (held_by s n) ≡ true → stands p u (owned s) ≡ true
 in_table s p u n less other own =
-    any_more (is_of p n) (stands_one p u) theirs (held_table s)
+    any_more (is_of p n) (stands_one p u) theirs (owned s)
     (table_names s p n ∙ and_from _ _ (lt-ltb n (length s.outcomes) less) own)
   where
-    theirs : (e : Resource × Held) → is_of p n e ≡ true → stands_one p u e ≡ true
+    theirs : (e : Resource × ℕ) → is_of p n e ≡ true → stands_one p u e ≡ true
     theirs e y =
-        let a = and_parts (p e.0) (eqb e.1.unit n) y in
-        and_from _ _ a.0 (subst (λ m. is_other u m ≡ true) (sym (eqb-true e.1.unit n a.1)) other)
+        let a = and_parts (p e.0) (eqb e.1 n) y in
+        and_from _ _ a.0 (subst (λ m. is_other u m ≡ true) (sym (eqb-true e.1 n a.1)) other)
 
 -- an open unit that used an end of a recoverable cell holds a resource that takes hold of this end
 pub used-held : (s : UnitsState) (n : ℕ) (x : Cell) (end : End) → recovers s.opening x ≡ true →
@@ -362,7 +358,7 @@ own_unit (Some w) outcomes n h = not_twice (eqb n w)
 module _ (s : UnitsState) (known : AreKnown s) (u : Option ℕ) where
   -- what nobody else holds is free
   free_from : (x : Cell) (end : End) → recovers s.opening x ≡ true →
-      held_there (held_table s) u x end ≡ false →
+      held_there (owned s) u x end ≡ false →
       IsFree s.trace (outcome_of s.outcomes) (unit_or_next u s.outcomes) x end
   free_from x end r h n t = elim (cases_Bool (eqb n (unit_or_next u s.outcomes))) [
     | inl own ↦ inl (eqb-true _ _ own)
@@ -424,9 +420,9 @@ module _ (s : UnitsState) (known : AreKnown s) (u : Option ℕ) where
 
   -- an end that nobody else is found to hold is free
   pub free_end : (x : Cell) (end : End) (r : Resource) → recovers s.opening x ≡ true → covers x end r ≡ true →
-      first_holder (held_table s) u r ≡ None → IsFree s.trace (outcome_of s.outcomes) (unit_or_next u s.outcomes) x end
+      blocker_at (owned s) u r ≡ None → IsFree s.trace (outcome_of s.outcomes) (unit_or_next u s.outcomes) x end
   free_end x end r rec c free =
-      free_from x end rec (not_there (held_table s) u x end r c (none_first (held_table s) u r free))
+      free_from x end rec (not_there (owned s) u x end r c (none_first (owned s) u r free))
 
   reader_first : (op : Op) → writer_awaited s u op ≡ None → is_recoverable s.opening op ≡ true →
       uses op Writing ≡ false →
@@ -445,11 +441,11 @@ module _ (s : UnitsState) (known : AreKnown s) (u : Option ℕ) where
       is_open (outcome_of s.outcomes (unit_or_next u s.outcomes)) ≡ true →
       MayRun s.opening s.trace (outcome_of s.outcomes) (unit_or_next u s.outcomes) op
   MayRun_from op h live =
-      let both = none_either (holder_among (held_table s) u (uses_of s.opening op)) (writer_awaited s u op) h in
+      let both = none_either (blocker_among (owned s) u (uses_of s.opening op)) (writer_awaited s u op) h in
       let free : (end : End) → is_recoverable s.opening op ≡ true → uses op end ≡ true → (x : Cell) →
       touches op x ≡ true → IsFree s.trace (outcome_of s.outcomes) (unit_or_next u s.outcomes) x end =
       λ end r t x y. free_from x end (sym (touches-recovers s.opening op x y) ∙ r)
-      (none_among (held_table s) u x end (uses_of s.opening op) both.0
+      (none_among (owned s) u x end (uses_of s.opening op) both.0
       (uses_of-covers s.opening op x end y t r)) in
       record {
         is_live = live;

@@ -6,8 +6,9 @@ use Rattle.cics_names.specs.declared.conditions.Condition.TheVariants.{Normal, D
 use Rattle.cics_ksds.specs.Prefixes.{has_prefix}
 use Rattle.cics_tempstor.specs.Queues.{item_condition, items_after_rewrite, has_item, number_if, delete_condition, items_after_write}
 use Rattle.cics_tempstor.specs.Queues as ts
-use Rattle.cics_history.specs.Openings.{OpeningState, is_in_order, file_recoverable, queue_logical, has_prefix_in}
-use Rattle.cics_history.specs.Store.{Store, only, numbered, with_content, counted_answer, is_normal, ts_queue}
+use Rattle.cics_history.specs.State.{OpeningState, file_recoverable, queue_logical, has_prefix_in, Store}
+use Rattle.cics_history.specs.Openings.{is_in_order}
+use Rattle.cics_history.specs.Store.{only, numbered, with_content, counted_answer, is_normal, ts_queue}
 use Rattle.cics_history.specs.declared.ops.Op.{Op}
 use Rattle.cics_history.specs.declared.ops.Op.TheVariants.{Write, Rewrite, Delete, DeleteGeneric, ReadUpdate, TsWrite, TsRewrite, TsDelete, TdWrite, TdRead, TdDelete}
 use Rattle.cics_history.specs.declared.ops.Answer.{Answer}

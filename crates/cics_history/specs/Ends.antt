@@ -3,10 +3,9 @@
 use Rattle.std.specs.Prelude.{◌≡◌, ℕ, ◌+◌, ◌≤◌, ◌==◌, ◌&&◌, Bool, true, false, if◌then◌else◌, Option, Some, List, [], ◌∷◌, ◌++◌, length, MatchBool}
 use Rattle.std.specs.List.{list_any}
 use Rattle.cics_names.specs.Keyed.{Bytes, is_same}
-use Rattle.cics_history.specs.Openings.{OpeningState, queue_logical}
+use Rattle.cics_history.specs.State.{OpeningState, queue_logical, UnitsState}
 use Rattle.cics_history.specs.Store.{is_recoverable}
-use Rattle.cics_history.specs.History.{outcome_of, is_open, is_backed_out}
-use Rattle.cics_history.specs.Holding.{UnitsState}
+use Rattle.cics_history.specs.Headline.{outcome_of, is_open, is_backed_out}
 use Rattle.cics_history.specs.Execution.{unit_or_next}
 use Rattle.cics_history.specs.declared.ops.Op.{Op}
 use Rattle.cics_history.specs.declared.ops.Entry.{Entry}

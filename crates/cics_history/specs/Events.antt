@@ -2,8 +2,8 @@
 -- that read temporary storage.
 use Rattle.std.specs.Prelude.{ℕ, Bool, true, ◌&&◌, if◌then◌else◌, Option, Some, None, nat_lt, length, List, [], ◌∷◌}
 use Rattle.cics_names.specs.Keyed.{Bytes}
-use Rattle.cics_history.specs.History.{outcome_of, is_open}
-use Rattle.cics_history.specs.Holding.{UnitsState}
+use Rattle.cics_history.specs.Headline.{outcome_of, is_open}
+use Rattle.cics_history.specs.State.{UnitsState}
 use Rattle.cics_history.specs.Execution.{after_execution, after_end, after_enqueue, after_dequeue, after_unlock, after_ts_reading}
 use Rattle.cics_history.specs.declared.ops.Op.{Op}
 use Rattle.cics_history.specs.declared.ops.UnitState.TheVariants.{Committed, BackedOut}

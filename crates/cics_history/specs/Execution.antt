@@ -7,10 +7,11 @@ use Rattle.cics_ksds.specs.Files.{key_of, fits_file}
 use Rattle.cics_ksds.specs.Prefixes.{has_prefix}
 use Rattle.cics_tempstor.specs.Queues.{item_condition, has_item, number_if}
 use Rattle.cics_enqueue.specs.Resources.{most_count}
-use Rattle.cics_history.specs.Openings.{FileOpening, is_record_size}
-use Rattle.cics_history.specs.Store.{Store, apply, ts_queue, is_normal}
-use Rattle.cics_history.specs.History.{outcome_of, is_open}
-use Rattle.cics_history.specs.Holding.{UnitsState, UpdateRead, EnqCount, store_of, awaited, value_holder}
+use Rattle.cics_history.specs.State.{FileOpening, Store, UnitsState, UpdateRead, EnqCount}
+use Rattle.cics_history.specs.Openings.{is_record_size}
+use Rattle.cics_history.specs.Store.{apply, ts_queue, is_normal}
+use Rattle.cics_history.specs.Headline.{outcome_of, is_open}
+use Rattle.cics_history.specs.Holding.{store_of, awaited, value_holder}
 use Rattle.cics_history.specs.declared.ops.Op.{Op}
 use Rattle.cics_history.specs.declared.ops.Op.TheVariants.{Write, Rewrite, Delete, DeleteGeneric, ReadUpdate, TsWrite, TsRewrite, TsDelete, TdWrite, TdRead, TdDelete}
 use Rattle.cics_history.specs.declared.ops.Answer.{Answer}
@@ -20,11 +21,6 @@ use Rattle.cics_history.specs.declared.ops.Enqueued.{Enqueued}
 use Rattle.cics_history.specs.declared.ops.Enqueued.TheVariants.{Taken, MustWait as EnqMustWait, CountFull}
 use Rattle.cics_history.specs.declared.ops.UnitState.{UnitState}
 use Rattle.cics_history.specs.declared.ops.UnitState.TheVariants.{Open, Committed, BackedOut}
-
--- the state of the units, and the store that the files and queues themselves hold
-pub record UnitsValue : Type 0 where
-  pub state : UnitsState
-  pub store : Store
 
 -- ---- Units
 

@@ -1,16 +1,62 @@
--- Recovery: after any calls, the store holds what replaying the kept history from the opening
--- gives, and in that replay each kept command has the answer that it was given; where the last
--- commands are all of one backed-out unit, what is recoverable holds what the kept ones before them
--- give; and the units take turns in the order in which they committed.
-use Rattle.std.specs.Prelude.{◌≡◌, ℕ, true, List, [], ◌++◌, All, IsTrue, IsPermutation}
+-- Recovery (chapter on recovery and restart): after any calls, the store holds what replaying the
+-- kept history from the opening gives, and in that replay each kept command has the answer that it
+-- was given. So where the last commands are all of one backed-out unit, what is recoverable holds
+-- what the kept ones before them give.
+use Rattle.std.specs.Prelude.{◌≡◌, ℕ, Bool, true, false, not, ◌&&◌, unwrap_or, filter, slice_get, List, [], ◌∷◌, ◌++◌, All, IsTrue}
 use Rattle.cics_names.specs.Keyed.{Bytes, value_at}
+use Rattle.cics_history.specs.State.{OpeningState, file_recoverable, has_prefix_in, queue_logical, Store, initial_store, UnitsValue}
+use Rattle.cics_history.specs.Store.{apply, is_recoverable}
 use Rattle.cics_history.specs.declared.ops.Entry.{Entry}
-use Rattle.cics_history.specs.Openings.{OpeningState, file_recoverable, has_prefix_in, queue_logical}
-use Rattle.cics_history.specs.Store.{Store, initial_store}
-use Rattle.cics_history.specs.History.{kept, replay, outcome_of, is_backed_out, Agrees}
-use Rattle.cics_history.specs.Holding.{UnitsState}
-use Rattle.cics_history.specs.Execution.{UnitsValue}
-use Rattle.cics_history.specs.Serial.{IsCommitOrder, done_by_any, one_by_one, AreOpen, AreAllOpen, NoneIsOpen, store_without_others, serial_store}
+use Rattle.cics_history.specs.declared.ops.UnitState.{UnitState}
+use Rattle.cics_history.specs.declared.ops.UnitState.TheVariants.{Open, Committed, BackedOut}
+
+-- ---- The history, and its replay
+
+-- how a unit ended; a unit that hasn't begun counts as open
+abbrev pub outcome_of : List UnitState → ℕ → UnitState
+outcome_of outcomes u = unwrap_or (slice_get outcomes u) Open
+
+-- a unit that was rolled back or abended is backed out
+abbrev pub is_backed_out : UnitState → Bool
+is_backed_out Open = false
+is_backed_out Committed = false
+is_backed_out BackedOut = true
+
+-- a unit that hasn't ended is open
+abbrev pub is_open : UnitState → Bool
+is_open Open = true
+is_open Committed = false
+is_open BackedOut = false
+
+-- a unit that committed
+abbrev pub is_committed : UnitState → Bool
+is_committed Open = false
+is_committed Committed = true
+is_committed BackedOut = false
+
+-- an entry is kept unless it acts on a recoverable file or queue and its unit is backed out
+abbrev pub is_kept : OpeningState → List UnitState → Entry → Bool
+is_kept o outcomes e = not (is_recoverable o e.op && is_backed_out (outcome_of outcomes e.unit))
+
+-- the history without what backed-out units did to recoverable files and queues
+abbrev pub kept : OpeningState → List Entry → List UnitState → List Entry
+kept o h outcomes = filter (is_kept o outcomes) h
+
+-- the history without what units did that haven't committed
+abbrev pub committed_entries : List Entry → List UnitState → List Entry
+committed_entries h outcomes = filter (λ e. is_committed (outcome_of outcomes e.unit)) h
+
+-- the store after the commands of the entries, in their order
+abbrev pub replay : Store → List Entry → Store
+replay s [] = s
+replay s (e ∷ es) = replay (apply s e.op).store es
+
+-- each entry has the answer that its command gives at its place
+abbrev pub Agrees : Store → List Entry → Type 0
+Agrees s [] = Unit {0}
+Agrees s (e ∷ es) = (e.answer ≡ (apply s e.op).answer) × Agrees (apply s e.op).store es
+
+-- ---- The headline
 
 -- two stores hold the same in each recoverable file and queue
 pub record IsSameRecoverable (o : OpeningState) (s t : Store) : Type 0 where
@@ -25,38 +71,19 @@ LeftNoTrace v u =
     (before own : List Entry) → v.state.trace ≡ before ++ own → All (λ e. e.unit ≡ u) own →
     IsSameRecoverable v.state.opening v.store (replay (initial_store v.state.opening) (kept v.state.opening before v.state.outcomes))
 
--- the units take turns: those that committed in their order, and behind them open ones in any order
-pub record TakeTurns (v : UnitsValue) : Type 0 where
-  -- each unit that committed has one turn
-  pub order : IsCommitOrder v.state
-  -- no command is lost and none comes twice
-  pub commands : (later : List ℕ) → AreOpen v.state later →
-      IsPermutation (done_by_any v.state.opening v.state.trace (v.state.commits ++ later))
-      (one_by_one v.state.opening v.state.trace (v.state.commits ++ later))
-  -- each command has the answer that its task was given
-  pub answers : (later : List ℕ) → AreOpen v.state later →
-      Agrees (initial_store v.state.opening) (one_by_one v.state.opening v.state.trace (v.state.commits ++ later))
-  -- the turns give what stands once every other open unit is backed out
-  pub stores : (later : List ℕ) → AreOpen v.state later →
-      IsSameRecoverable v.state.opening (store_without_others v.state later) (serial_store v.state (v.state.commits ++ later))
-  -- with all open units behind the others, the turns give what the files and queues hold
-  pub whole : (later : List ℕ) → AreOpen v.state later → AreAllOpen v.state later →
-      IsSameRecoverable v.state.opening v.store (serial_store v.state (v.state.commits ++ later))
-  -- where no unit is open, the turns of those that committed do
-  pub closed : NoneIsOpen v.state → IsSameRecoverable v.state.opening v.store (serial_store v.state v.state.commits)
-
 -- the store of the parts is the replay of the kept history, and each kept entry has the answer that
 -- its place gives; so where the last entries are all of a unit that was backed out, it left no
--- trace; and the units take turns
+-- trace
 pub record IsHeadline (v : UnitsValue) : Type 0 where
   pub store : v.store ≡ replay (initial_store v.state.opening) (kept v.state.opening v.state.trace v.state.outcomes)
   pub agrees : Agrees (initial_store v.state.opening) (kept v.state.opening v.state.trace v.state.outcomes)
   pub alone : (u : ℕ) → is_backed_out (outcome_of v.state.outcomes u) ≡ true → LeftNoTrace v u
-  pub turns : TakeTurns v
 
--- an opening begins with no command executed, no unit, and nothing held
-abbrev pub beginning : OpeningState → UnitsState
-beginning o = record { opening = o; trace = []; outcomes = []; commits = []; reads = []; counts = []; next = [] }
+-- each recoverable file and queue holds the replay of the committed units' entries alone
+abbrev pub HoldsCommitted : UnitsValue → Type 0
+HoldsCommitted v =
+    IsSameRecoverable v.state.opening v.store
+    (replay (initial_store v.state.opening) (committed_entries v.state.trace v.state.outcomes))
 
 -- a unit that ran alone from some entry on and is backed out by a call leaves what the kept entries
 -- before it give

@@ -1,47 +1,39 @@
--- Recovery and task control (chapters on recovery and on task control): what a unit of work holds,
--- read off the history, and when a command must wait for whom. No table is kept of it: a unit holds
--- what its commands have used until it ends, the values of its ENQ until their DEQ, and a record of
--- an unrecoverable file while its update read is open.
+-- Recovery and task control (chapters on recovery and on task control): which unit owns what, read
+-- off the history, what conflicts, and which unit blocks a command. No table is kept of it: a unit
+-- owns what its commands have used until it ends, the values of its ENQ until their DEQ, and a
+-- record of an unrecoverable file while its update read is open.
 use Rattle.std.specs.Prelude.{ℕ, ◌+◌, ◌==◌, Bool, true, false, not, ◌&&◌, ◌||◌, if◌then◌else◌, Option, Some, None, unwrap_or, option_map, filter, map, flat_map, List, [], ◌∷◌, ◌++◌}
-use Rattle.cics_names.specs.Keyed.{Bytes, Map, value_at}
-use Rattle.cics_enqueue.specs.Resources.{Table, Held, bytes_of, overlaps, is_other, lesser}
+use Rattle.cics_names.specs.Keyed.{Bytes, value_at, is_same, is_below}
+use Rattle.cics_ksds.specs.Prefixes.{has_prefix}
+use Rattle.cics_enqueue.specs.Resources.{bytes_of}
 use Rattle.cics_enqueue.specs.declared.resources.Resource.{Resource}
 use Rattle.cics_enqueue.specs.declared.resources.Resource.TheVariants.{FileKey, TsQueue, TdRead as ReadingEnd, TdWrite as WritingEnd, User, FilePrefix}
-use Rattle.cics_history.specs.Openings.{OpeningState, file_recoverable, queue_logical, has_prefix_in}
-use Rattle.cics_history.specs.Store.{Store, is_recoverable, initial_store, is_normal}
-use Rattle.cics_history.specs.History.{outcome_of, is_open, kept, replay}
+use Rattle.cics_history.specs.State.{OpeningState, file_recoverable, queue_logical, has_prefix_in, Store, initial_store, UpdateRead, EnqCount}
+pub use Rattle.cics_history.specs.State.{UnitsState}
+use Rattle.cics_history.specs.Store.{is_recoverable, is_normal}
+use Rattle.cics_history.specs.Headline.{outcome_of, is_open, kept, replay}
 use Rattle.cics_history.specs.declared.ops.Op.{Op}
 use Rattle.cics_history.specs.declared.ops.Op.TheVariants.{Write, Rewrite, Delete, DeleteGeneric, ReadUpdate, TsWrite, TsRewrite, TsDelete, TdWrite, TdRead, TdDelete}
 use Rattle.cics_history.specs.declared.ops.Entry.{Entry}
 use Rattle.cics_history.specs.declared.ops.UnitState.{UnitState}
 
--- a record that a unit has read for update
-pub record UpdateRead : Type 0 where
-  pub unit : ℕ
-  pub file : Bytes
-  pub key : Bytes
-
--- how many times a unit has enqueued on a value
-pub record EnqCount : Type 0 where
-  pub value : Bytes
-  pub unit : ℕ
-  pub count : ℕ
-
--- the units of a region: what it opened with, the executed commands in their order, the outcome of
--- each unit that began, those that committed in the order in which they did, the open update reads
--- by unit and file, the counts of ENQ by value, and the NEXT places that aren't 0 by queue
-pub record UnitsState : Type 0 where
-  pub opening : OpeningState
-  pub trace : List Entry
-  pub outcomes : List UnitState
-  pub commits : List ℕ
-  pub reads : List UpdateRead
-  pub counts : List EnqCount
-  pub next : Map ℕ
-
 -- the store is what replaying the kept history from the opening gives
 abbrev pub store_of : UnitsState → Store
 store_of s = replay (initial_store s.opening) (kept s.opening s.trace s.outcomes)
+
+-- ---- Resources
+
+-- the record of a file under a key, whether it is there or not
+abbrev pub record_at : Bytes → Bytes → Resource
+record_at f k = FileKey f (bytes_of k)
+
+-- the records of a file under every key that begins with a prefix
+abbrev pub records_under : Bytes → Bytes → Resource
+records_under f p = FilePrefix f (bytes_of p)
+
+-- a value of a program's own
+abbrev pub own_value : Bytes → Resource
+own_value v = User (bytes_of v)
 
 -- a resource where it is recoverable, else none
 abbrev pub named_if : Bool → Resource → List Resource
@@ -51,11 +43,11 @@ named_if b r = if b then r ∷ [] else []
 -- temporary storage queue; of a LOGICAL queue the reading end for a read, the writing end for a
 -- write, both for a delete
 abbrev pub uses_of : OpeningState → Op → List Resource
-uses_of o (Write f k r) = FileKey f (bytes_of k) ∷ []
-uses_of o (Rewrite f k r) = FileKey f (bytes_of k) ∷ []
-uses_of o (Delete f k) = FileKey f (bytes_of k) ∷ []
-uses_of o (DeleteGeneric f p) = FilePrefix f (bytes_of p) ∷ []
-uses_of o (ReadUpdate f k) = FileKey f (bytes_of k) ∷ []
+uses_of o (Write f k r) = record_at f k ∷ []
+uses_of o (Rewrite f k r) = record_at f k ∷ []
+uses_of o (Delete f k) = record_at f k ∷ []
+uses_of o (DeleteGeneric f p) = records_under f p ∷ []
+uses_of o (ReadUpdate f k) = record_at f k ∷ []
 uses_of o (TsWrite q d) = named_if (has_prefix_in o.prefixes q) (TsQueue q)
 uses_of o (TsRewrite q n d) = named_if (has_prefix_in o.prefixes q) (TsQueue q)
 uses_of o (TsDelete q) = named_if (has_prefix_in o.prefixes q) (TsQueue q)
@@ -69,11 +61,11 @@ held_by_entry o u e = if (e.unit == u) && (is_normal e.answer.condition && is_re
 
 -- in an unrecoverable file an update read holds its record as long as it is open
 abbrev pub held_by_read : OpeningState → ℕ → UpdateRead → List Resource
-held_by_read o u r = if (r.unit == u) && not (file_recoverable o r.file) then FileKey r.file (bytes_of r.key) ∷ [] else []
+held_by_read o u r = if (r.unit == u) && not (file_recoverable o r.file) then record_at r.file r.key ∷ [] else []
 
 -- a value that is counted is held: no count is 0
 abbrev pub held_by_count : ℕ → EnqCount → List Resource
-held_by_count u c = if c.unit == u then User (bytes_of c.value) ∷ [] else []
+held_by_count u c = if c.unit == u then own_value c.value ∷ [] else []
 
 -- all that a unit holds, as long as it is open
 abbrev pub held_by : UnitsState → ℕ → List Resource
@@ -87,29 +79,71 @@ abbrev pub units_from : ℕ → List UnitState → List ℕ
 units_from n [] = []
 units_from n (x ∷ xs) = n ∷ units_from (n + 1) xs
 
--- who holds what
-abbrev pub held_table : UnitsState → Table
-held_table s = flat_map (λ u. map (λ r. (r, record { unit = u; count = 1 })) (held_by s u)) (units_from 0 s.outcomes)
+-- ---- Conflicts
 
--- the least, in byte order, of what overlaps a resource and is held by another unit than the one
+-- two resources conflict where they are one, and a prefix of keys with all of its file that begins
+-- with it or that it begins with
+abbrev pub conflicts : Resource → Resource → Bool
+conflicts (FileKey f k) (FileKey g l) = is_same f g && is_same k.items l.items
+conflicts (FileKey f k) (FilePrefix g p) = is_same f g && has_prefix p.items k.items
+conflicts (FilePrefix f p) (FileKey g k) = is_same f g && has_prefix p.items k.items
+conflicts (FilePrefix f p) (FilePrefix g q) = is_same f g && (has_prefix p.items q.items || has_prefix q.items p.items)
+conflicts (TsQueue q) (TsQueue r) = is_same q r
+conflicts (ReadingEnd q) (ReadingEnd r) = is_same q r
+conflicts (WritingEnd q) (WritingEnd r) = is_same q r
+conflicts (User v) (User w) = is_same v.items w.items
+conflicts _ _ = false
+
+-- the bytes in whose order resources that conflict stand: the key, the prefix, the name, the value
+abbrev pub bytes_in : Resource → Bytes
+bytes_in (FileKey f k) = k.items
+bytes_in (FilePrefix f p) = p.items
+bytes_in (TsQueue q) = q
+bytes_in (ReadingEnd q) = q
+bytes_in (WritingEnd q) = q
+bytes_in (User v) = v.items
+
+-- ---- Owners and blockers
+
+-- resources, each with its owner
+abbrev pub Owned : Type 0
+Owned = List (Resource × ℕ)
+
+-- which unit owns what
+abbrev pub owned : UnitsState → Owned
+owned s = flat_map (λ u. map (λ r. (r, u)) (held_by s u)) (units_from 0 s.outcomes)
+
+-- a unit is another than the one that asks, which may have begun none yet
+abbrev pub is_other : Option ℕ → ℕ → Bool
+is_other None v = true
+is_other (Some u) v = not (v == u)
+
+-- of two the smaller in byte order, the first where their bytes are the same
+abbrev pub smaller : Option (Resource × ℕ) → Option (Resource × ℕ) → Option (Resource × ℕ)
+smaller None y = y
+smaller (Some x) None = Some x
+smaller (Some x) (Some y) = if is_below (bytes_in y.0) (bytes_in x.0) then Some y else Some x
+
+-- the smallest, in byte order, of what conflicts with a resource and has another owner than the one
 -- that asks
-abbrev pub first_held : Table → Option ℕ → Resource → Option (Resource × Held)
-first_held [] u r = None
-first_held (e ∷ es) u r = if overlaps r e.0 && is_other u e.1.unit then lesser (Some e) (first_held es u r) else first_held es u r
+abbrev pub smallest_conflict : Owned → Option ℕ → Resource → Option (Resource × ℕ)
+smallest_conflict [] u r = None
+smallest_conflict (e ∷ es) u r =
+    if conflicts r e.0 && is_other u e.1 then smaller (Some e) (smallest_conflict es u r) else smallest_conflict es u r
 
--- the unit, other than the one that asks, that holds the least of what overlaps a resource
-abbrev pub first_holder : Table → Option ℕ → Resource → Option ℕ
-first_holder t u r = option_map (λ e. e.1.unit) (first_held t u r)
+-- the blocker at a resource: the other owner of the smallest conflicting resource
+abbrev pub blocker_at : Owned → Option ℕ → Resource → Option ℕ
+blocker_at t u r = option_map (λ e. e.1) (smallest_conflict t u r)
 
 -- the first of two that is there
 abbrev pub first_some : {X : Type 0} → Option X → Option X → Option X
 first_some None y = y
 first_some (Some x) y = Some x
 
--- the holder of the first resource that another unit holds
-abbrev pub holder_among : Table → Option ℕ → List Resource → Option ℕ
-holder_among t u [] = None
-holder_among t u (r ∷ rs) = first_some (first_holder t u r) (holder_among t u rs)
+-- the blocker at the first resource that has one
+abbrev pub blocker_among : Owned → Option ℕ → List Resource → Option ℕ
+blocker_among t u [] = None
+blocker_among t u (r ∷ rs) = first_some (blocker_at t u r) (blocker_among t u rs)
 
 -- a unit is the one that asks
 abbrev pub is_own : Option ℕ → ℕ → Bool
@@ -130,7 +164,7 @@ is_nothing (x ∷ xs) = false
 -- READQ TD that finds no record which it may read waits for another unit at the writing end of the
 -- LOGICAL queue
 abbrev pub writer_awaited : UnitsState → Option ℕ → Op → Option ℕ
-writer_awaited s u (TdRead q) = if queue_logical s.opening q && is_nothing (committed_for s u q) then first_holder (held_table s) u (WritingEnd q) else None
+writer_awaited s u (TdRead q) = if queue_logical s.opening q && is_nothing (committed_for s u q) then blocker_at (owned s) u (WritingEnd q) else None
 writer_awaited s u (TdWrite q d) = None
 writer_awaited s u (TdDelete q) = None
 writer_awaited s u (Write f k r) = None
@@ -142,11 +176,11 @@ writer_awaited s u (TsWrite q d) = None
 writer_awaited s u (TsRewrite q n d) = None
 writer_awaited s u (TsDelete q) = None
 
--- the unit that a command must wait for, if it must: another that holds what it uses, else the
--- writer of what it would read
+-- the blocker of a command, if it must wait: that of what it uses, else the writer of what it would
+-- read
 abbrev pub awaited : UnitsState → Option ℕ → Op → Option ℕ
-awaited s u op = first_some (holder_among (held_table s) u (uses_of s.opening op)) (writer_awaited s u op)
+awaited s u op = first_some (blocker_among (owned s) u (uses_of s.opening op)) (writer_awaited s u op)
 
--- the unit that ENQ must wait for: another that holds the value
+-- the blocker of an ENQ: the other owner of the value
 abbrev pub value_holder : UnitsState → Option ℕ → Bytes → Option ℕ
-value_holder s u v = first_holder (held_table s) u (User (bytes_of v))
+value_holder s u v = blocker_at (owned s) u (own_value v)

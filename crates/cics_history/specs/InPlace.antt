@@ -1,8 +1,8 @@
 -- Recovery: all that the units change in place, through executions, commits, backouts and all other
 -- calls in any order.
 use Rattle.std.specs.Prelude.{ℕ, ◌&&◌, not, if◌then◌else◌, Option, Some, is_some, List, [], ◌∷◌}
-use Rattle.cics_history.specs.Openings.{OpeningState, queue_logical}
-use Rattle.cics_history.specs.Holding.{UnitsState, store_of, awaited}
+use Rattle.cics_history.specs.State.{OpeningState, queue_logical, UnitsState}
+use Rattle.cics_history.specs.Holding.{store_of, awaited}
 use Rattle.cics_history.specs.declared.ops.Op.{Op}
 use Rattle.cics_history.specs.Cells.{Cell, Key, Ts, Td, Content}
 use Rattle.cics_history.specs.Events.{Event, Execute, Commit, BackOut, Enqueue, Dequeue, Unlock, ReadItem, is_live, may_act, happens}

@@ -4,10 +4,9 @@
 use Rattle.std.specs.Prelude.{◌≡◌, ℕ, ◌<◌, Bool, true, false, ◌&&◌, not, Some, None, List, [], ◌∷◌, ◌++◌, length, filter}
 use Rattle.std.specs.List.{list_any}
 use Rattle.std.proofs.Common.{eqb, ◌⊎◌}
-use Rattle.cics_history.specs.Openings.{OpeningState}
-use Rattle.cics_history.specs.Store.{Store, apply, is_normal, is_recoverable, initial_store}
-use Rattle.cics_history.specs.History.{outcome_of, is_open, is_backed_out, replay, Agrees}
-use Rattle.cics_history.specs.Holding.{UnitsState}
+use Rattle.cics_history.specs.State.{OpeningState, Store, initial_store, UnitsState}
+use Rattle.cics_history.specs.Store.{apply, is_normal, is_recoverable}
+use Rattle.cics_history.specs.Headline.{outcome_of, is_open, is_backed_out, replay, Agrees}
 use Rattle.cics_history.specs.Holders.{IsHeldByOne, HaveBegun}
 use Rattle.cics_history.specs.declared.ops.Entry.{Entry}
 use Rattle.cics_history.specs.declared.ops.Op.{Op}

@@ -1,6 +1,6 @@
+pub mod State
 pub mod Openings
 pub mod Store
-pub mod History
 pub mod Holding
 pub mod Execution
 pub mod Headline

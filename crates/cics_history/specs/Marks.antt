@@ -3,9 +3,8 @@
 use Rattle.std.specs.Prelude.{ℕ, ◌+◌, ◌-◌, Bool, true, false, if◌then◌else◌, unwrap_or, List, [], ◌∷◌, ◌++◌, length, take, drop}
 use Rattle.cics_names.specs.Keyed.{Bytes, value_at}
 use Rattle.cics_transdata.specs.Trans.{TransState}
-use Rattle.cics_history.specs.Openings.{OpeningState}
-use Rattle.cics_history.specs.Store.{initial_store}
-use Rattle.cics_history.specs.Holding.{UnitsState, is_nothing}
+use Rattle.cics_history.specs.State.{OpeningState, initial_store, UnitsState}
+use Rattle.cics_history.specs.Holding.{is_nothing}
 use Rattle.cics_history.specs.declared.ops.Op.{Op}
 use Rattle.cics_history.specs.declared.ops.Op.TheVariants.{TdWrite, TdRead, TdDelete}
 use Rattle.cics_history.specs.Cells.{Td, touches, Reading, Writing}

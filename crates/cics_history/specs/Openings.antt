@@ -2,63 +2,17 @@
 -- and the transient data queues, each file and queue with what was loaded into it. The files,
 -- queues and prefixes are this profile's own way to say what the manual leaves to the system's
 -- tables.
-use Rattle.std.specs.Prelude.{◌≡◌, ℕ, ◌+◌, ◌==◌, Bool, true, false, ◌&&◌, ◌||◌, if◌then◌else◌, Option, Some, None, option_map, nat_eq, nat_le, List, [], ◌∷◌, ◌++◌}
-use Rattle.std.specs.List.{starts_with}
+use Rattle.std.specs.Prelude.{◌≡◌, ℕ, ◌+◌, Bool, true, ◌&&◌, Option, Some, None, option_map, nat_le, List, [], ◌∷◌, ◌++◌}
 use Rattle.cics_names.specs.Keyed.{Bytes, Map, value_at, with_value, is_rising}
-use Rattle.cics_names.specs.Names.{blank}
 use Rattle.cics_ksds.specs.Files.{key_of}
 use Rattle.cics_ksds.specs.declared.definition.FileDef.{FileDef}
-use Rattle.cics_transdata.specs.Trans.{is_logical}
 use Rattle.cics_transdata.specs.declared.queues.Recovery.{Recovery}
-
--- a file that is defined: its definition, and the records that were loaded, by key
-pub record FileOpening : Type 0 where
-  pub definition : FileDef
-  pub records : Map Bytes
-
--- a transient data queue that is defined: its recovery, and the records that were loaded, the first
--- first
-pub record QueueOpening : Type 0 where
-  pub recovery : Recovery
-  pub records : List Bytes
-
--- all that is defined: files and transient data queues by name, prefixes in the order of their
--- definitions
-pub record OpeningState : Type 0 where
-  pub files : Map FileOpening
-  pub prefixes : List Bytes
-  pub queues : Map QueueOpening
+use Rattle.cics_history.specs.State.{QueueOpening}
+pub use Rattle.cics_history.specs.State.{OpeningState, FileOpening}
 
 -- nothing is defined at first
 abbrev pub nothing_defined : OpeningState
 nothing_defined = record { files = []; prefixes = []; queues = [] }
-
--- a name without the blanks that fill it up
-abbrev pub unpadded : Bytes → Bytes
-unpadded [] = []
-unpadded (b ∷ bs) = without_blank b (unpadded bs) where
-  without_blank : ℕ → Bytes → Bytes
-  without_blank b [] = if b == blank then [] else b ∷ []
-  without_blank b (c ∷ cs) = b ∷ c ∷ cs
-
--- a temporary storage queue is recoverable where one of the defined prefixes begins its name
-abbrev pub has_prefix_in : List Bytes → Bytes → Bool
-has_prefix_in [] q = false
-has_prefix_in (p ∷ ps) q = starts_with nat_eq q (unpadded p) || has_prefix_in ps q
-
--- a file is recoverable where its definition says so
-abbrev pub file_recoverable : OpeningState → Bytes → Bool
-file_recoverable o f = is_yes (value_at f o.files) where
-  is_yes : Option FileOpening → Bool
-  is_yes None = false
-  is_yes (Some file) = file.definition.recoverable
-
--- a transient data queue is recoverable where it is LOGICAL
-abbrev pub queue_logical : OpeningState → Bytes → Bool
-queue_logical o q = is_yes (value_at q o.queues) where
-  is_yes : Option QueueOpening → Bool
-  is_yes None = false
-  is_yes (Some queue) = is_logical queue.recovery
 
 -- a record size is 1 to 32,767
 abbrev pub is_record_size : ℕ → Bool

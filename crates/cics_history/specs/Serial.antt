@@ -1,17 +1,16 @@
 -- Recovery: what interleaved units did to recoverable files and queues is what they would have done
 -- one after the other, in the order in which they committed.
-use Rattle.std.specs.Prelude.{◌≡◌, ℕ, ◌==◌, Bool, true, false, not, ◌&&◌, if◌then◌else◌, filter, flat_map, List, [], ◌∷◌, ◌++◌}
+use Rattle.std.specs.Prelude.{◌≡◌, ℕ, ◌==◌, Bool, true, false, not, ◌&&◌, if◌then◌else◌, filter, flat_map, List, [], ◌∷◌, ◌++◌, IsPermutation}
 use Rattle.std.specs.List.{list_any}
-use Rattle.cics_history.specs.Openings.{OpeningState}
-use Rattle.cics_history.specs.Store.{Store, is_normal, is_recoverable, initial_store}
-use Rattle.cics_history.specs.History.{outcome_of, is_open, is_backed_out, replay, Agrees}
-use Rattle.cics_history.specs.Holding.{UnitsState}
+use Rattle.cics_history.specs.State.{OpeningState, Store, initial_store, UnitsState, UnitsValue}
+use Rattle.cics_history.specs.Store.{is_normal, is_recoverable}
+use Rattle.cics_history.specs.Headline.{outcome_of, is_open, is_backed_out, is_committed, replay, Agrees, IsSameRecoverable, HoldsCommitted}
 use Rattle.cics_history.specs.Events.{Event, Commit, is_live, happens}
 use Rattle.cics_history.specs.Isolation.{Outcomes, Extends, store_by}
 use Rattle.cics_history.specs.Cells.{Cell, content, recovers, IsOrdered}
 use Rattle.cics_history.specs.declared.ops.Entry.{Entry}
 use Rattle.cics_history.specs.declared.ops.UnitState.{UnitState}
-use Rattle.cics_history.specs.declared.ops.UnitState.TheVariants.{Open, Committed, BackedOut}
+use Rattle.cics_history.specs.declared.ops.UnitState.TheVariants.{BackedOut}
 
 -- ---- The order in which units committed
 
@@ -28,12 +27,6 @@ committed_by s _ = []
 abbrev pub commit_order : UnitsState → List Event → List ℕ
 commit_order s [] = []
 commit_order s (e ∷ events) = committed_by s e ++ commit_order (happens s e) events
-
--- a unit that committed
-abbrev pub is_committed : UnitState → Bool
-is_committed Open = false
-is_committed Committed = true
-is_committed BackedOut = false
 
 -- no unit is there twice
 abbrev pub are_distinct : List ℕ → Bool
@@ -89,6 +82,31 @@ NoneIsOpen s = (unit : ℕ) → is_live s unit ≡ false
 -- the store that these units give one after the other, from the opening
 abbrev pub serial_store : UnitsState → List ℕ → Store
 serial_store s units = replay (initial_store s.opening) (one_by_one s.opening s.trace units)
+
+-- ---- What holds after every call
+
+-- committed units are serializable in the order in which they committed, with open ones behind them
+-- in any order
+pub record IsSerializable (v : UnitsValue) : Type 0 where
+  -- each unit that committed is there once
+  pub order : IsCommitOrder v.state
+  -- no command is lost and none comes twice
+  pub commands : (later : List ℕ) → AreOpen v.state later →
+      IsPermutation (done_by_any v.state.opening v.state.trace (v.state.commits ++ later))
+      (one_by_one v.state.opening v.state.trace (v.state.commits ++ later))
+  -- each command has the answer that its task was given
+  pub answers : (later : List ℕ) → AreOpen v.state later →
+      Agrees (initial_store v.state.opening) (one_by_one v.state.opening v.state.trace (v.state.commits ++ later))
+  -- one after the other they give what stands once every other open unit is backed out
+  pub stores : (later : List ℕ) → AreOpen v.state later →
+      IsSameRecoverable v.state.opening (store_without_others v.state later) (serial_store v.state (v.state.commits ++ later))
+  -- with all open units behind the others, they give what the files and queues hold
+  pub whole : (later : List ℕ) → AreOpen v.state later → AreAllOpen v.state later →
+      IsSameRecoverable v.state.opening v.store (serial_store v.state (v.state.commits ++ later))
+  -- where no unit is open, those that committed do
+  pub closed : NoneIsOpen v.state → IsSameRecoverable v.state.opening v.store (serial_store v.state v.state.commits)
+  -- and so do their entries alone, in the order in which they were executed
+  pub committed : NoneIsOpen v.state → HoldsCommitted v
 
 -- ---- What every step keeps
 

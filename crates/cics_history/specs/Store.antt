@@ -1,6 +1,6 @@
--- Recovery (chapters on file control, temporary storage control, transient data control): the store
--- of files and queues, and what each updating command answers and leaves.
-use Rattle.std.specs.Prelude.{Bool, true, false, if◌then◌else◌, ℕ, Option, Some, None, unwrap_or, List, [], ◌∷◌, ◌++◌, map, length}
+-- Recovery (chapters on file control, temporary storage control, transient data control): what each
+-- updating command answers, and the store of files and queues that it leaves.
+use Rattle.std.specs.Prelude.{Bool, true, false, if◌then◌else◌, ℕ, Option, Some, None, unwrap_or, List, [], ◌∷◌, ◌++◌, length}
 use Rattle.cics_names.specs.Keyed.{Bytes, Map, value_at, with_value, without}
 use Rattle.cics_names.specs.declared.conditions.Condition.{Condition}
 use Rattle.cics_names.specs.declared.conditions.Condition.TheVariants.{Normal, Dsiderr, Notfnd, Qzero, Qiderr}
@@ -8,21 +8,10 @@ use Rattle.cics_ksds.specs.Files.{write_condition, change_condition, records_aft
 use Rattle.cics_ksds.specs.Prefixes.{outside, under}
 use Rattle.cics_tempstor.specs.Queues.{Queue, item_condition, items_after_rewrite, has_item, number_if, delete_condition, items_after_write}
 use Rattle.cics_tempstor.specs.Queues as ts
-use Rattle.cics_history.specs.Openings.{OpeningState, file_recoverable, queue_logical, has_prefix_in}
+use Rattle.cics_history.specs.State.{OpeningState, file_recoverable, queue_logical, has_prefix_in, Store}
 use Rattle.cics_history.specs.declared.ops.Op.{Op}
 use Rattle.cics_history.specs.declared.ops.Op.TheVariants.{Write, Rewrite, Delete, DeleteGeneric, ReadUpdate, TsWrite, TsRewrite, TsDelete, TdWrite, TdRead, TdDelete}
 use Rattle.cics_history.specs.declared.ops.Answer.{Answer}
-
--- the records of each defined file by key, the items of each temporary storage queue that is there,
--- and the records of each defined transient data queue
-pub record Store : Type 0 where
-  pub files : Map (Map Bytes)
-  pub ts : Map Queue
-  pub td : Map (List Bytes)
-
--- the store of an opening is what was loaded, and no temporary storage queue
-abbrev pub initial_store : OpeningState → Store
-initial_store o = record { files = map (λ e. (e.0, e.1.records)) o.files; ts = []; td = map (λ e. (e.0, e.1.records)) o.queues }
 
 -- what a command answers, and the store that it leaves
 pub record Applied : Type 0 where

@@ -4,10 +4,9 @@ use Rattle.std.specs.Prelude.{◌≡◌, ℕ, Bool, true, false, ◌&&◌, not, 
 use Rattle.std.specs.List.{list_any}
 use Rattle.cics_names.specs.Keyed.{Bytes, Map, value_at}
 use Rattle.cics_ksds.specs.Prefixes.{under}
-use Rattle.cics_history.specs.Openings.{OpeningState, queue_logical}
-use Rattle.cics_history.specs.Store.{Store, is_normal, is_recoverable, initial_store}
-use Rattle.cics_history.specs.History.{is_open, is_backed_out, outcome_of}
-use Rattle.cics_history.specs.Holding.{UnitsState}
+use Rattle.cics_history.specs.State.{OpeningState, queue_logical, Store, initial_store, UnitsState}
+use Rattle.cics_history.specs.Store.{is_normal, is_recoverable}
+use Rattle.cics_history.specs.Headline.{is_open, is_backed_out, outcome_of}
 use Rattle.cics_history.specs.Execution.{unit_or_next}
 use Rattle.cics_history.specs.declared.ops.Op.{Op}
 use Rattle.cics_history.specs.declared.ops.Op.TheVariants.{DeleteGeneric, ReadUpdate}

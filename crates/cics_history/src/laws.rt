@@ -20,7 +20,7 @@ ghost use Rattle.std.specs.Prelude.{◌++◌, All};
 ghost use Rattle.std.specs.List.{list_any};
 ghost use Rattle.cics_names.specs.Keyed.{Bytes, Map, value_at};
 ghost use Rattle.cics_ksds.specs.Prefixes.{under};
-ghost use Rattle.cics_enqueue.specs.Resources.{Held, is_one, overlaps, is_other, is_prefix};
+ghost use Rattle.cics_enqueue.specs.Resources.{is_one, is_prefix};
 ghost use Rattle.cics_enqueue.specs.declared.resources.Resource.{Resource};
 ghost use Rattle.cics_enqueue.specs.declared.resources.Resource.TheVariants.{TdRead as ReadingEnd};
 ghost use Rattle.cics_transdata.specs.Trans.{TransState, IsMarked, is_logical, queue_of, first_of};
@@ -29,18 +29,18 @@ ghost use Rattle.cics_transdata.specs.Trans.{reader_committed, writer_committed}
 ghost use Rattle.cics_transdata.specs.Undo.{IsReadyImage, undone as undone_queue, written_image};
 ghost use Rattle.cics_transdata.specs.Undo.{read_image, deleted_image};
 ghost use Rattle.cics_transdata.specs.declared.images.TdImage.{TdImage};
-ghost use Rattle.cics_history.specs.Openings.{OpeningState, IsOpeningInOrder, queue_logical};
-ghost use Rattle.cics_history.specs.Store.{Store, apply, counted_answer, initial_store};
-ghost use Rattle.cics_history.specs.History.{outcome_of, is_open, is_backed_out, kept, replay};
-ghost use Rattle.cics_history.specs.History.{Agrees};
-ghost use Rattle.cics_history.specs.Holding.{UnitsState, store_of, held_by, held_table, first_held};
-ghost use Rattle.cics_history.specs.Holding.{first_holder, committed_for, is_nothing, awaited};
-ghost use Rattle.cics_history.specs.Execution.{UnitsValue, unit_or_next, after_execution};
-ghost use Rattle.cics_history.specs.Execution.{after_end};
+ghost use Rattle.cics_history.specs.State.{OpeningState, queue_logical, Store, initial_store};
+ghost use Rattle.cics_history.specs.State.{UnitsState, UnitsValue, beginning};
+ghost use Rattle.cics_history.specs.Openings.{IsOpeningInOrder};
+ghost use Rattle.cics_history.specs.Store.{apply, counted_answer};
+ghost use Rattle.cics_history.specs.Headline.{outcome_of, is_open, is_backed_out, kept, replay};
+ghost use Rattle.cics_history.specs.Headline.{Agrees, IsSameRecoverable, LeavesNoTrace};
+ghost use Rattle.cics_history.specs.Holding.{store_of, held_by, owned, smallest_conflict};
+ghost use Rattle.cics_history.specs.Holding.{conflicts, is_other, blocker_at, committed_for};
+ghost use Rattle.cics_history.specs.Holding.{is_nothing, awaited};
+ghost use Rattle.cics_history.specs.Execution.{unit_or_next, after_execution, after_end};
 ghost use Rattle.cics_history.specs.Execution.{after_enqueue, after_dequeue, after_unlock};
 ghost use Rattle.cics_history.specs.Execution.{after_ts_reading};
-ghost use Rattle.cics_history.specs.Headline.{beginning, IsSameRecoverable, LeavesNoTrace};
-ghost use Rattle.cics_history.specs.Headline.{TakeTurns};
 ghost use Rattle.cics_history.specs.declared.ops.Op.{Op};
 ghost use Rattle.cics_history.specs.declared.ops.Op.TheVariants.{DeleteGeneric, TdWrite, TdRead};
 ghost use Rattle.cics_history.specs.declared.ops.Op.TheVariants.{TdDelete};
@@ -53,7 +53,7 @@ ghost use Rattle.cics_history.specs.Cells.{End, Reading, Writing, recovers, IsOr
 ghost use Rattle.cics_history.specs.Events.{Event, is_live, may_act, run};
 ghost use Rattle.cics_history.specs.Holders.{end_of, IsHeldByOne, IsLeastHeld};
 ghost use Rattle.cics_history.specs.Isolation.{used, IsOneAtEachEnd, IsSound};
-ghost use Rattle.cics_history.specs.Serial.{commit_order, IsInOrder};
+ghost use Rattle.cics_history.specs.Serial.{commit_order, IsSerializable, IsInOrder};
 ghost use Rattle.cics_history.specs.Undo.{Image, Cells, Leads, AllReady, AreImages, image_of};
 ghost use Rattle.cics_history.specs.Undo.{prefix_images, is_plain, Place, IsPlaceOf, placed};
 ghost use Rattle.cics_history.specs.Undo.{place_executed, place_committed, place_undone};
@@ -128,34 +128,34 @@ pub fn runs_alone()
 {}
 
 /// What interleaved units did to recoverable files and queues is what they would have done one
-/// after the other, in the order in which they committed: each command that a unit was answered
-/// NORMAL there has, in its unit's turn, the very answer that its task was given, and the files and
-/// queues hold what the turns give. A command that was answered otherwise changed nothing and holds
-/// nothing, so it is left out; so is a command on something unrecoverable, which no unit holds.
+/// after the other, in the order in which they committed. Each command that a unit was answered
+/// NORMAL there has then the very answer that its task was given, and the files and queues hold
+/// what this gives. A command that was answered otherwise changed nothing and holds nothing, so it
+/// is left out; so is a command on something unrecoverable, which no unit holds.
 ///
-/// Units that are still open take their turns behind those that committed, in any order; those that
-/// are left out count as backed out.
+/// Units that are still open come behind those that committed, in any order; those that are left
+/// out count as backed out.
 ///
 /// - `order`: the list that the state keeps has the units that committed, in the order in which the
 ///   events commit them.
 /// - `opening`: what was opened stays as it was.
-/// - `turns`: in that order, with any open units behind it, each command has the answer that it was
-///   given, none is lost and none comes twice, and the turns give what stands once every other open
+/// - `serializable`: in that order, with any open units behind it, each command has the answer that
+///   it was given, none is lost and none comes twice. They give what stands once every other open
 ///   unit is backed out: with all open units behind the others, and where no unit is open, what
-///   stands.
-pub fn units_take_turns()
+///   stands. Where no unit is open, so do the entries of those that committed alone.
+pub fn units_are_serializable()
     ensures order { (o : OpeningState) (events : List Event) →
         (run (beginning o) events).commits ≡ commit_order (beginning o) events }
     ensures opening { (o : OpeningState) (events : List Event) →
         (run (beginning o) events).opening ≡ o }
-    ensures turns { (o : OpeningState) (events : List Event) → IsOpeningInOrder o →
+    ensures serializable { (o : OpeningState) (events : List Event) → IsOpeningInOrder o →
         let s = run (beginning o) events in
-        TakeTurns (record { state = s; store = store_of s }) }
+        IsSerializable (record { state = s; store = store_of s }) }
 {}
 
 /// Each call keeps the units in the order in which they committed: a commit adds its unit at the
-/// end, and no other call changes the list. `turns` is what this gives, where files and queues hold
-/// the replay.
+/// end, and no other call changes the list. `serializable` is what this gives, where files and
+/// queues hold the replay.
 pub fn calls_keep_the_order()
     ensures begins { (o : OpeningState) → IsOpeningInOrder o → IsInOrder (beginning o) }
     ensures executes { (s : UnitsState) (unit : Option ℕ) (op : Op) → IsSound s → IsInOrder s →
@@ -172,22 +172,23 @@ pub fn calls_keep_the_order()
         IsInOrder (after_unlock s unit file) }
     ensures reads { (s : UnitsState) (queue : Bytes) (item : ℕ) → IsInOrder s →
         IsInOrder (after_ts_reading s queue item) }
-    ensures turns { (v : UnitsValue) → IsSound v.state → IsInOrder v.state →
-        IsCanonical (initial_store v.state.opening) → v.store ≡ store_of v.state → TakeTurns v }
+    ensures serializable { (v : UnitsValue) → IsSound v.state → IsInOrder v.state →
+        IsCanonical (initial_store v.state.opening) → v.store ≡ store_of v.state →
+        IsSerializable v }
 {}
 
-/// A resource has one holder.
+/// A resource has one owner.
 ///
-/// - `one`: after every run, two units that hold resources which overlap are one unit.
-/// - `ends`: so at most one open unit holds an end of a recoverable cell.
-/// - `found`: whoever holds what overlaps a resource that is no prefix of keys, and isn't the unit
-///   that asks, is the holder that is found.
-/// - `holds`: for any resource, the holder that is found is another unit than the one that asks,
-///   and holds something that overlaps it.
-/// - `least`: what is found is held by another unit and overlaps the resource, and nothing of which
-///   that is so comes before it in byte order.
-/// - `somebody`: where another unit holds what overlaps it, somebody is found.
-/// - `none`: where no other unit holds what overlaps it, none is found.
+/// - `one`: after every run, two units that own resources which conflict are one unit.
+/// - `ends`: so at most one open unit owns an end of a recoverable cell.
+/// - `found`: whoever owns what conflicts with a resource that is no prefix of keys, and isn't the
+///   unit that asks, is the blocker.
+/// - `holds`: for any resource, the blocker is another unit than the one that asks, and owns
+///   something that conflicts with it.
+/// - `least`: the smallest conflict is owned by another unit and conflicts with the resource, and
+///   nothing of which that is so comes before it in byte order.
+/// - `somebody`: where another unit owns what conflicts with it, there is a blocker.
+/// - `none`: where no other unit owns what conflicts with it, there is none.
 pub fn each_resource_has_one_holder()
     ensures one { (o : OpeningState) (events : List Event) → IsOpeningInOrder o →
         IsHeldByOne (run (beginning o) events) }
@@ -195,36 +196,36 @@ pub fn each_resource_has_one_holder()
         IsOneAtEachEnd s.opening s.trace (outcome_of s.outcomes) }
     ensures found { (s : UnitsState) (asking : Option ℕ) (r : Resource) (holder : ℕ) → IsSound s →
         is_prefix r ≡ false →
-        is_other asking holder ≡ true → list_any (overlaps r) (held_by s holder) ≡ true →
-        first_holder (held_table s) asking r ≡ Some holder }
+        is_other asking holder ≡ true → list_any (conflicts r) (held_by s holder) ≡ true →
+        blocker_at (owned s) asking r ≡ Some holder }
     ensures holds { (s : UnitsState) (asking : Option ℕ) (r : Resource) (holder : ℕ) →
-        first_holder (held_table s) asking r ≡ Some holder →
-        (is_other asking holder ≡ true) × (list_any (overlaps r) (held_by s holder) ≡ true) }
-    ensures least { (s : UnitsState) (asking : Option ℕ) (r : Resource) (e : Resource × Held)
+        blocker_at (owned s) asking r ≡ Some holder →
+        (is_other asking holder ≡ true) × (list_any (conflicts r) (held_by s holder) ≡ true) }
+    ensures least { (s : UnitsState) (asking : Option ℕ) (r : Resource) (e : Resource × ℕ)
         → IsSound s →
-        first_held (held_table s) asking r ≡ Some e → IsLeastHeld s asking r e }
+        smallest_conflict (owned s) asking r ≡ Some e → IsLeastHeld s asking r e }
     ensures somebody { (s : UnitsState) (asking : Option ℕ) (r : Resource) (unit : ℕ) → IsSound s →
-        is_other asking unit ≡ true → list_any (overlaps r) (held_by s unit) ≡ true →
-        is_some (first_holder (held_table s) asking r) ≡ true }
+        is_other asking unit ≡ true → list_any (conflicts r) (held_by s unit) ≡ true →
+        is_some (blocker_at (owned s) asking r) ≡ true }
     ensures none { (s : UnitsState) (asking : Option ℕ) (r : Resource) →
         ((unit : ℕ) → is_other asking unit ≡ true →
-        list_any (overlaps r) (held_by s unit) ≡ false) →
-        first_holder (held_table s) asking r ≡ None }
+        list_any (conflicts r) (held_by s unit) ≡ false) →
+        blocker_at (owned s) asking r ≡ None }
 {}
 
 /// A unit holds an end of a LOGICAL queue exactly where it is open and has used that end, and no
-/// unit holds an end of another queue. So what a unit holds, and the table of all that is held,
+/// unit holds an end of another queue. So what a unit holds, and the list of all that is owned,
 /// tell at which ends a commit of the unit has to commit.
 ///
 /// - `held`: so it is of what a unit holds.
-/// - `table`: so it is of the table, which names units that have begun.
+/// - `table`: so it is of the list of owners, which names units that have begun.
 pub fn ends_are_held_by_use()
     ensures held { (s : UnitsState) (unit : ℕ) (queue : Bytes) (end : End) →
         list_any (is_one (end_of queue end)) (held_by s unit)
         ≡ (is_open (outcome_of s.outcomes unit)
         && (queue_logical s.opening queue && used s.trace unit (Td queue) end)) }
     ensures table { (s : UnitsState) (unit : ℕ) (queue : Bytes) (end : End) →
-        list_any (λ e. is_one (end_of queue end) e.0 && (e.1.unit == unit)) (held_table s)
+        list_any (λ e. is_one (end_of queue end) e.0 && (e.1 == unit)) (owned s)
         ≡ (is_live s unit && (queue_logical s.opening queue && used s.trace unit (Td queue) end)) }
 {}
 
@@ -361,7 +362,7 @@ pub fn calls_keep_marks()
     ensures committed { (s : UnitsState) (asking : Option ℕ) (p : Marks) (queue : Bytes) →
         IsSound s → AreMarksOf s p →
         may_act s asking ≡ true → queue_logical s.opening queue ≡ true →
-        first_holder (held_table s) asking (ReadingEnd queue) ≡ None →
+        blocker_at (owned s) asking (ReadingEnd queue) ≡ None →
         committed_for s asking queue
         ≡ seen false (not (used s.trace (unit_or_next asking s.outcomes) (Td queue) Writing))
         (p.queues queue) }

@@ -12,10 +12,10 @@ use Rattle.cics_images.specs.NamedLaws.{same_or_other}
 use Rattle.cics_images.specs.NamedValues.{changed_where}
 use Rattle.cics_images.specs.StoreCells.{temp_cell}
 use Rattle.cics_transdata.specs.Trans.{TransState, is_logical}
-use Rattle.cics_history.specs.Openings.{queue_logical}
+use Rattle.cics_history.specs.State.{queue_logical, UnitsState}
 use Rattle.cics_history.specs.Store.{is_recoverable}
-use Rattle.cics_history.specs.History.{outcome_of, is_open}
-use Rattle.cics_history.specs.Holding.{UnitsState, awaited}
+use Rattle.cics_history.specs.Headline.{outcome_of, is_open}
+use Rattle.cics_history.specs.Holding.{awaited}
 use Rattle.cics_history.specs.Execution.{unit_or_next, after_execution, outcomes_with, state_of}
 use Rattle.cics_history.specs.Records.{is_file_op}
 use Rattle.cics_history.specs.declared.ops.Answer.{Answer}

@@ -2,14 +2,14 @@
 use Rattle.std.proofs.Common.{◌≡◌, ◌≢◌, ℕ, Bool, true, false, ◌&&◌, Option, Some, None, List, [], ◌∷◌, ◌++◌, length, refl, ap, sym, subst, ◌∙◌, inl, inr, ◌<◌}
 use Rattle.std.specs.Prelude.{unwrap_or, IfSome}
 use Rattle.std.proofs.lemmas.Bool.{false≢true, cases_Bool}
-use Rattle.cics_names.specs.Keyed.{value_at, Bytes, Map}
+use Rattle.cics_names.specs.Keyed.{value_at, Map}
 use Rattle.cics_images.specs.Cells.{is_other, is_unnamed}
 use Rattle.cics_images.specs.StoreCells.{file_cell}
 use Rattle.cics_enqueue.specs.Resources.{Table}
 use Rattle.cics_transdata.specs.Trans.{TransState, IsMarked, is_logical}
-use Rattle.cics_history.specs.Openings.{queue_logical}
-use Rattle.cics_history.specs.Store.{Store, apply, is_recoverable, apply_write, apply_rewrite, apply_delete, apply_delete_generic, counted_answer}
-use Rattle.cics_history.specs.Holding.{UnitsState, awaited, store_of}
+use Rattle.cics_history.specs.State.{queue_logical, Store, UnitsState}
+use Rattle.cics_history.specs.Store.{apply, is_recoverable, apply_write, apply_rewrite, apply_delete, apply_delete_generic, counted_answer}
+use Rattle.cics_history.specs.Holding.{awaited, store_of}
 use Rattle.cics_history.specs.Execution.{unit_or_next, after_execution, entered, is_ready_op}
 use Rattle.cics_history.specs.Isolation.{used}
 use Rattle.cics_history.specs.Cells.{Td, Writing}
@@ -53,26 +53,17 @@ counted_none (x ∷ xs) = refl
 -- of the commands on files READ UPDATE alone gives a record
 pub file_content : (s : StoreValue) (own : Bool) (op : Op) → is_file_op op ≡ true → (apply (shown_store s) op).answer.content ≡ given_record s own op
 file_content s own (ReadUpdate f k) file = refl
-file_content s own (Write f k r) file = by (value_at f (shown_store s).files)
-  where
-    by : (o : Option (Map Bytes)) → (apply_write (shown_store s) f k r o).answer.content ≡ None
-    by None = refl
-    by (Some records) = refl
-file_content s own (Rewrite f k r) file = by (value_at f (shown_store s).files)
-  where
-    by : (o : Option (Map Bytes)) → (apply_rewrite (shown_store s) f k r o).answer.content ≡ None
-    by None = refl
-    by (Some records) = refl
-file_content s own (Delete f k) file = by (value_at f (shown_store s).files)
-  where
-    by : (o : Option (Map Bytes)) → (apply_delete (shown_store s) f k o).answer.content ≡ None
-    by None = refl
-    by (Some records) = refl
-file_content s own (DeleteGeneric f p) file = by (value_at f (shown_store s).files)
-  where
-    by : (o : Option (Map Bytes)) → (apply_delete_generic (shown_store s) f p o).answer.content ≡ None
-    by None = refl
-    by (Some records) = counted_none (under p records)
+file_content s own (Write f k r) file =
+    elim (value_at f (shown_store s).files) as (λ o. (apply_write (shown_store s) f k r o).answer.content ≡ None) [ None ↦ refl | Some records ↦ refl ]
+file_content s own (Rewrite f k r) file =
+    elim (value_at f (shown_store s).files) as (λ o. (apply_rewrite (shown_store s) f k r o).answer.content ≡ None) [ None ↦ refl | Some records ↦ refl ]
+file_content s own (Delete f k) file =
+    elim (value_at f (shown_store s).files) as (λ o. (apply_delete (shown_store s) f k o).answer.content ≡ None) [ None ↦ refl | Some records ↦ refl ]
+file_content s own (DeleteGeneric f p) file =
+    elim (value_at f (shown_store s).files) as (λ o. (apply_delete_generic (shown_store s) f p o).answer.content ≡ None) [
+      | None ↦ refl
+      | Some records ↦ counted_none (under p records)
+    ]
 file_content s own _ file = absurd (false≢true file)
 
 -- of those on transient data queues READQ TD alone

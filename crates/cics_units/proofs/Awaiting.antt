@@ -6,9 +6,9 @@ use Rattle.cics_images.specs.Cells.{Kept}
 use Rattle.cics_enqueue.specs.Resources.{Table, holder_over}
 use Rattle.cics_enqueue.specs.declared.resources.Resource.TheVariants.{TdRead as ReadingEnd, TdWrite as WritingEnd}
 use Rattle.cics_transdata.specs.Trans.{TransState, first_of}
-use Rattle.cics_history.specs.Openings.{queue_logical}
+use Rattle.cics_history.specs.State.{queue_logical, UnitsState}
 use Rattle.cics_history.specs.Store.{is_recoverable}
-use Rattle.cics_history.specs.Holding.{UnitsState, held_table, first_holder, first_some, committed_for, is_nothing, uses_of, writer_awaited, awaited}
+use Rattle.cics_history.specs.Holding.{owned, blocker_at, first_some, committed_for, is_nothing, uses_of, writer_awaited, awaited}
 use Rattle.cics_history.specs.Execution.{unit_or_next}
 use Rattle.cics_history.specs.Events.{may_act}
 use Rattle.cics_history.specs.Isolation.{IsSound, used}
@@ -45,7 +45,7 @@ module _ (s : UnitsState) (t : Table) (i : IsSound s) (k : IsTableOf s t) (u : O
 
   module _ (store : StoreValue) (images : List (Kept AnyImage)) (place : AreInPlace s store images) where
     -- where no other unit reads a LOGICAL queue, a unit may read a record just where the queue as it stands gives it one
-    pub committed-first : (q : Bytes) → queue_logical s.opening q ≡ true → first_holder (held_table s) u (ReadingEnd q) ≡ None →
+    pub committed-first : (q : Bytes) → queue_logical s.opening q ≡ true → blocker_at (owned s) u (ReadingEnd q) ≡ None →
         is_nothing (committed_for s u q) ≡ has_none_for (is_writer t acting q) (value_at q store.trans_data)
     committed-first q l free =
         let queue = place.queues q l in
@@ -74,7 +74,7 @@ module _ (s : UnitsState) (t : Table) (i : IsSound s) (k : IsTableOf s t) (u : O
     read_free : (q : Bytes) → queue_logical s.opening q ≡ false → is_logical_in (value_at q store.trans_data) ≡ false →
         writer_awaited s u (TdRead q) ≡ writer_over t store.trans_data u acting (TdRead q)
     read_free q plain stands =
-        ap (λ b. if b && is_nothing (committed_for s u q) then first_holder (held_table s) u (WritingEnd q) else None) plain
+        ap (λ b. if b && is_nothing (committed_for s u q) then blocker_at (owned s) u (WritingEnd q) else None) plain
         ∙ sym (ap (λ b. if b then holder_over (WritingEnd q) u t else None) (none (value_at q store.trans_data) stands))
       where
         none : (o : Option TransState) → is_logical_in o ≡ false → has_none_for (is_writer t acting q) o ≡ false

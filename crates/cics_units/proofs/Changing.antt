@@ -10,7 +10,7 @@ use Rattle.std.specs.FinMap.Entries.{below_all}
 use Rattle.std.specs.BTreeMap.{is_at}
 use Rattle.cics_names.specs.Keyed.{Bytes, Map, bytes_cmp, value_at, with_value, is_rising}
 use Rattle.cics_images.specs.NamedValues.{IsReadyIn, changed_at, changed_where}
-use Rattle.cics_history.proofs.Entries.{lookup-value_at, value_at-looked_up, with_value-same, with_value-set, rising-set}
+use Rattle.cics_history.proofs.Entries.{lookup-value_at, value_at-looked_up, with_value-same, with_value-set}
 
 -- ---- values of any kind
 -- a value that is there is lent
@@ -37,8 +37,8 @@ rises_set is g (e ∷ es) = elim (is e.0) as (λ b. is_rising (cond b ((e.0, g) 
   | false ↦ λ i. below_set is g e.0 es i && rises_set is g es i
 ]
 
-pub still_rising : {M : Type 0} (is : Bytes → Bool) (g : M) (es new : Map M) → new ≡ set_value is es g → T (is_rising es) → T (is_rising new)
-still_rising is g es new set rising = subst (λ m. T (is_rising m)) (sym set) (subst T (sym (rises_set is g es)) rising)
+pub still_rising : {M : Type 0} (name : Bytes) (g : M) (es new : Map M) → new ≡ set_value (is_at (bytes_cmp name)) es g → T (is_rising es) → T (is_rising new)
+still_rising name g es new set rising = subst (λ m. T (is_rising m)) (sym set) (subst T (sym (rises_set (is_at (bytes_cmp name)) g es)) rising)
 
 module _ {M : Type 0} (name : Bytes) (es values : Map M) (f : M) (rising : T (is_rising es)) (found : Some f ≡ lookup (is_at (bytes_cmp name)) es) (view : es ≡ values) where
   -- the value is the one of the name
@@ -53,13 +53,15 @@ module _ {M : Type 0} (name : Bytes) (es values : Map M) (f : M) (rising : T (is
     pub changed : new ≡ with_value name g values
     changed = with_value-set name g f es new rising there_inside set ∙ ap (with_value name g) view
 
-    -- the names rise as before
-    pub risen : T (is_rising new)
-    risen = rising-set name g f es new rising there_inside set
-
     -- the same, by the step that changed the value
     pub stepped : (step : M → M) → g ≡ step f → new ≡ changed_at step name values
     stepped step is = changed ∙ ap (λ x. with_value name x values) is ∙ ap (λ o. changed_where step name o values) (sym there)
+
+-- where a name has no value, no step changes any
+pub not_stepped : {M : Type 0} (name : Bytes) (es values : Map M) → es ≡ values → (step : M → M) → None ≡ lookup (is_at (bytes_cmp name)) es →
+    (new : Map M) → new ≡ es → new ≡ changed_at step name values
+not_stepped name es values view step missing new same =
+    same ∙ view ∙ ap (λ o. changed_where step name o values) (sym (value_at-looked_up name es values None missing view))
 
 -- where the value of a name stays all do
 pub all_stay : {M : Type 0} (name : Bytes) (f g : M) (m : Map M) → T (is_rising m) → value_at name m ≡ Some f → g ≡ f → with_value name g m ≡ m

@@ -7,7 +7,7 @@ use Rattle.cics_names.specs.Keyed.{Bytes}
 use Rattle.cics_enqueue.specs.Resources.{Table}
 use Rattle.cics_enqueue.specs.declared.resources.Resource.{Resource}
 use Rattle.cics_history.specs.Execution.{covers, opened, with_read}
-use Rattle.cics_history.specs.Holding.{UpdateRead}
+use Rattle.cics_history.specs.State.{UpdateRead}
 use Rattle.cics_history.specs.Records.{is_file_op, file_of}
 use Rattle.cics_history.specs.Store.{with_content, found_condition}
 use Rattle.cics_history.specs.declared.ops.Op.{Op}

@@ -13,8 +13,8 @@ use Rattle.cics_transdata.specs.Trans.{TransState}
 use Rattle.cics_transdata.specs.Undo.{content_at as end_content, KeepsEnds}
 use Rattle.cics_transdata.specs.UndoLaws as queue
 use Rattle.cics_history.specs.Openings.{IsOpeningInOrder}
-use Rattle.cics_history.specs.Holding.{UnitsState}
-use Rattle.cics_history.specs.Cells.{Reading, Writing, IsCanonical}
+use Rattle.cics_history.specs.State.{UnitsState}
+use Rattle.cics_history.specs.Cells.{IsCanonical}
 use Rattle.cics_history.specs.Events.{is_live}
 use Rattle.cics_history.specs.Isolation.{IsSound}
 use Rattle.cics_history.specs.declared.ops.UnitState.TheVariants.{Committed}
@@ -22,36 +22,28 @@ use Rattle.cics_history.proofs.Maps.{same_map}
 use Rattle.cics_units.specs.FilesImages.{FilesKeep, cell_of_image, files_swept, definitions_of}
 use Rattle.cics_units.specs.ImageRows.{kept_by, AreOthersKept, AreHeldForImages}
 use Rattle.cics_units.specs.StoreMatching.{StoreValue, AnyImage, shown_store, cell_of_any, any_content, any_swept, AnyKeep, any_holds}
-use Rattle.cics_units.specs.StoreInPlace.{AreInPlace, reader_ended, writer_ended}
-use Rattle.cics_units.specs.StoreEnds.{file_images, ts_images, any_fixed, ends_settled, has_end, IsEnded}
+use Rattle.cics_units.specs.StoreInPlace.{AreInPlace}
+use Rattle.cics_units.specs.StoreEnds.{file_images, ts_images, any_fixed, ends_settled, IsEnded}
 use Rattle.cics_units.proofs.StoreQueues.{all_swept_queue}
-use Rattle.cics_units.proofs.StoreEnds.{swept_files, swept_rows, swept_queues, queues_rise}
+use Rattle.cics_units.proofs.StoreEnds.{swept_of, swept_parts, queues_rise}
 use Rattle.cics_units.proofs.StoreSettled.{ends_files, ends_rows, ends_rising, ends_at, ends_held}
 use Rattle.cics_units.proofs.StoreEnded.{committed_ended, committed_shows}
-
--- to sweep the cells of images leaves the names of the queues rising
-swept_rise : (js : List AnyImage) (m : StoreValue) → is_rising m.trans_data ≡ true → is_rising (all_swept any_swept cell_of_any m js).trans_data ≡ true
-swept_rise js m rising = subst (λ queues. is_rising queues ≡ true) (sym (swept_queues js m)) rising
 
 -- to settle ends and then to sweep is to sweep and then to settle
 pub either_first : (m : StoreValue) (is js : List AnyImage) → is_rising m.trans_data ≡ true →
     all_swept any_swept cell_of_any (ends_settled m is) js ≡ ends_settled (all_swept any_swept cell_of_any m js) is
-either_first m is js rising = λ i. record { files = files i; temp_storage = rows i; trans_data = queues i }
+either_first m is js rising = swept_parts js (ends_settled m is) ∙ parts ∙ ap (λ s. ends_settled s is) (sym (swept_parts js m))
   where
-    files : (all_swept any_swept cell_of_any (ends_settled m is) js).files ≡ (ends_settled (all_swept any_swept cell_of_any m js) is).files
-    files = swept_files js (ends_settled m is) ∙ ap (λ files. all_swept files_swept cell_of_image files (file_images js)) (ends_files m is)
-        ∙ sym (swept_files js m) ∙ sym (ends_files (all_swept any_swept cell_of_any m js) is)
+    queues : (ends_settled m is).trans_data ≡ (ends_settled (swept_of m js) is).trans_data
+    queues = same_map (ends_settled m is).trans_data (ends_settled (swept_of m js) is).trans_data (ends_rising m is rising)
+        (ends_rising (swept_of m js) is rising) (λ q. ends_at m is q ∙ sym (ends_at (swept_of m js) is q))
 
-    rows : (all_swept any_swept cell_of_any (ends_settled m is) js).temp_storage ≡ (ends_settled (all_swept any_swept cell_of_any m js) is).temp_storage
-    rows = swept_rows js (ends_settled m is) ∙ ap (λ rows. all_swept ts_swept name_of_image rows (ts_images js)) (ends_rows m is)
-        ∙ sym (swept_rows js m) ∙ sym (ends_rows (all_swept any_swept cell_of_any m js) is)
-
-    queues : (all_swept any_swept cell_of_any (ends_settled m is) js).trans_data ≡ (ends_settled (all_swept any_swept cell_of_any m js) is).trans_data
-    queues = same_map (all_swept any_swept cell_of_any (ends_settled m is) js).trans_data (ends_settled (all_swept any_swept cell_of_any m js) is).trans_data
-        (swept_rise js (ends_settled m is) (ends_rising m is rising)) (ends_rising (all_swept any_swept cell_of_any m js) is (swept_rise js m rising)) (λ q.
-        all_swept_queue (ends_settled m is) js q ∙ ends_at m is q
-        ∙ ap (λ o. option_map (reader_ended (has_end q Reading is)) (option_map (writer_ended (has_end q Writing is)) o)) (sym (all_swept_queue m js q))
-        ∙ sym (ends_at (all_swept any_swept cell_of_any m js) is q))
+    parts : swept_of (ends_settled m is) js ≡ ends_settled (swept_of m js) is
+    parts = λ i. record {
+      files = (ap (λ files. all_swept files_swept cell_of_image files (file_images js)) (ends_files m is) ∙ sym (ends_files (swept_of m js) is)) i;
+      temp_storage = (ap (λ rows. all_swept ts_swept name_of_image rows (ts_images js)) (ends_rows m is) ∙ sym (ends_rows (swept_of m js) is)) i;
+      trans_data = queues i;
+    }
 
 module _ (s : UnitsState) (m n : StoreValue) (images after_images : List (Kept AnyImage)) (v : ℕ)
     (in_order : IsOpeningInOrder s.opening) (sound : IsSound s) (live : is_live s v ≡ true)

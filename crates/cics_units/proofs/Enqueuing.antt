@@ -11,9 +11,9 @@ use Rattle.cics_enqueue.specs.Resources.{Table, Held, resource_cmp, most_count, 
 use Rattle.cics_enqueue.proofs.TableLaws.{unit_in}
 use Rattle.cics_enqueue.specs.declared.resources.Resource.{Resource}
 use Rattle.cics_enqueue.specs.declared.resources.Resource.TheVariants.{User}
-use Rattle.cics_history.specs.Openings.{OpeningState}
-use Rattle.cics_history.specs.History.{outcome_of, is_open}
-use Rattle.cics_history.specs.Holding.{UnitsState, EnqCount, value_holder}
+use Rattle.cics_history.specs.State.{OpeningState, UnitsState, EnqCount}
+use Rattle.cics_history.specs.Headline.{outcome_of, is_open}
+use Rattle.cics_history.specs.Holding.{value_holder}
 use Rattle.cics_history.specs.Execution.{unit_or_next, outcomes_with, count_at, enq_of, enqueue, after_enqueued, after_enqueue, after_dequeue}
 use Rattle.cics_history.specs.Events.{may_act}
 use Rattle.cics_history.specs.Isolation.{IsSound}

@@ -1,26 +1,29 @@
--- Who is found in the table to hold what overlaps a resource is who is found in the history.
+-- The blocker at a resource is the same by the table of enqueues and by the history.
 use Rattle.std.proofs.Common.{arith, nat_eq, ◌<◌, ◌≡◌, ℕ, Bool, true, false, Option, Some, None, is_some, List, [], ◌∷◌, ◌++◌, length, refl, ap, sym, subst, ◌∙◌, inl, inr}
 use Rattle.std.specs.Prelude.{not, if◌then◌else◌, option_map}
 use Rattle.std.specs.List.{list_any}
-use Rattle.std.specs.Ordering.{is_lt, is_eq, ordering_reverse}
+use Rattle.std.specs.Ordering.{is_lt, is_eq, ordering_reverse, ordering_then}
 use Rattle.std.specs.declared.cmp.Ordering.{Ordering}
 use Rattle.std.specs.declared.cmp.Ordering.TheVariants.{Less, Equal, Greater}
+use Rattle.std.specs.Cmp.{nat_cmp_is}
 use Rattle.std.specs.Cmp.Lexicographic.{nat_list_cmp_total}
 use Rattle.std.proofs.lemmas.Bool.{true≢false, false≢true, eq-eqb, eqb-true, and_parts, and_from, or_cases, or_left, or_right, false_from_ne_true}
-use Rattle.std.proofs.lemmas.List.{append_cancel_left}
 use Rattle.cics_names.specs.Keyed.{Bytes, bytes_cmp, is_below, is_same}
 use Rattle.cics_names.specs.KeyedLaws.{is_same-eq, is_same-self}
-use Rattle.cics_enqueue.specs.Resources.{Table, Held, HoldsLeast, IsFreeFor, begins_with, is_one, overlaps, holder_of, holder_over, other_than, place_of}
+use Rattle.cics_ksds.specs.Prefixes.{has_prefix}
+use Rattle.cics_enqueue.specs.Resources.{Table, HoldsLeast, IsFreeFor, is_one, is_other as other_in_table, holder_of, holder_over, other_than, place_of}
 use Rattle.cics_enqueue.specs.ResourceLaws.{is_one-self, is_one-eq, begins_with-self}
 use Rattle.cics_enqueue.specs.FreedomLaws.{free_where_none, free_for}
 use Rattle.cics_enqueue.specs.declared.resources.Resource.{Resource}
 use Rattle.cics_enqueue.specs.declared.resources.Resource.TheVariants.{FileKey, TsQueue, TdRead as ReadingEnd, TdWrite as WritingEnd, User, FilePrefix}
+use Rattle.cics_enqueue.proofs.Seeking.{starts_with-begins}
 use Rattle.cics_enqueue.proofs.Least.{holder_over-least}
-use Rattle.cics_history.specs.Holding.{UnitsState, held_by, held_table, first_held, first_holder}
+use Rattle.cics_history.specs.State.{UnitsState}
+use Rattle.cics_history.specs.Holding.{held_by, conflicts, bytes_in, is_other, owned, smallest_conflict, blocker_at}
 use Rattle.cics_history.specs.Holders.{IsLeastHeld}
 use Rattle.cics_history.specs.Isolation.{IsSound}
 use Rattle.cics_history.specs.Execution.{unit_or_next, IsOpenUnit}
-use Rattle.cics_history.proofs.Holders.{none_found, overlaps-joined, holder_begun, held_cases}
+use Rattle.cics_history.proofs.Holders.{conflicts-overlaps, none_found, conflicts-joined, holder_begun, held_cases}
 use Rattle.cics_history.proofs.LeastHeld.{least_held, holder_some}
 use Rattle.cics_history.proofs.Waiting.{any_more}
 use Rattle.cics_units.specs.TableInPlace.{is_holder, value_of, IsTableOf}
@@ -36,53 +39,59 @@ same_place a b low high = is_same-eq a b (by (bytes_cmp a b) refl)
     by Equal e = refl
     by Greater e = absurd (true≢false (sym (ap is_lt (nat_list_cmp_total.antisymm b a ∙ ap ordering_reverse e)) ∙ high))
 
--- of one file, with the same bytes behind its name
-same_behind : (f g h : Bytes) (k l : Bytes) → is_same f g ≡ true → is_same f h ≡ true → length g ∷ (g ++ k) ≡ length h ∷ (h ++ l) → (is_same g h ≡ true) × (k ≡ l)
-same_behind f g h k l a b same =
-    let one : f ≡ g = is_same-eq f g a in
-    let two : f ≡ h = is_same-eq f h b in (
-      subst (λ x. is_same g x ≡ true) (sym one ∙ two) (is_same-self g),
-      append_cancel_left g k l (rest same ∙ ap (λ x. x ++ l) (sym two ∙ one)),
+-- behind the same bytes two are in the order in which they are without them
+below_behind : (f k l : Bytes) → is_below (f ++ k) (f ++ l) ≡ is_below k l
+below_behind [] k l = refl
+below_behind (x ∷ f) k l = ap (λ o. is_lt (ordering_then o (bytes_cmp (f ++ k) (f ++ l)))) (sym (nat_cmp_is x x Equal refl)) ∙ below_behind f k l
+
+-- of one file, where neither stands before the other
+same_behind : (f g h : Bytes) (k l : Bytes) → is_same f g ≡ true → is_same f h ≡ true → is_below (length g ∷ (g ++ k)) (length h ∷ (h ++ l)) ≡ false → is_below l k ≡ false → (is_same g h ≡ true) × (k ≡ l)
+same_behind f g h k l a b low high =
+    let same : g ≡ h = sym (is_same-eq f g a) ∙ is_same-eq f h b in (
+      subst (λ x. is_same g x ≡ true) same (is_same-self g),
+      same_place k l (sym (below_behind (length g ∷ g) k l) ∙ ap (λ x. is_below (length g ∷ (g ++ k)) (length x ∷ (x ++ l))) same ∙ low) high,
     )
-  where
-    rest : {m n : ℕ} {x y : Bytes} → m ∷ x ≡ n ∷ y → x ≡ y
-    rest e = cc
 
 -- the same bytes under a prefix
-begins_as : (k l : Bytes) → k ≡ l → begins_with k l ≡ true
-begins_as k l same = subst (λ x. begins_with k x ≡ true) same (begins_with-self k)
+begins_as : (k l : Bytes) → k ≡ l → has_prefix k l ≡ true
+begins_as k l same = subst (λ x. has_prefix k x ≡ true) same (starts_with-begins k k ∙ begins_with-self k)
 
--- two that overlap a resource and stand at one place overlap each other
-pub overlap_there : (r a b : Resource) → overlaps r a ≡ true → overlaps r b ≡ true → place_of a ≡ place_of b → overlaps a b ≡ true
-overlap_there (FilePrefix f p) (FileKey g k) (FileKey h l) a b same =
-    let s = same_behind f g h k.items l.items (and_parts (is_same f g) _ a).0 (and_parts (is_same f h) _ b).0 same in
+-- whether a unit is another than the asker, as the table has it
+other_same : (asking : Option ℕ) (v : ℕ) → is_other asking v ≡ other_in_table asking v
+other_same None v = refl
+other_same (Some u) v = refl
+
+-- two that conflict with a resource, neither of which is smaller in the table or in the history, conflict
+pub conflict_there : (r a b : Resource) → conflicts r a ≡ true → conflicts r b ≡ true → is_below (place_of a) (place_of b) ≡ false → is_below (bytes_in b) (bytes_in a) ≡ false → conflicts a b ≡ true
+conflict_there (FilePrefix f p) (FileKey g k) (FileKey h l) a b low high =
+    let s = same_behind f g h k.items l.items (and_parts (is_same f g) _ a).0 (and_parts (is_same f h) _ b).0 low high in
     and_from _ _ s.0 (subst (λ x. is_same k.items x ≡ true) s.1 (is_same-self k.items))
-overlap_there (FilePrefix f p) (FileKey g k) (FilePrefix h l) a b same =
-    let s = same_behind f g h k.items l.items (and_parts (is_same f g) _ a).0 (and_parts (is_same f h) _ b).0 same in
+conflict_there (FilePrefix f p) (FileKey g k) (FilePrefix h l) a b low high =
+    let s = same_behind f g h k.items l.items (and_parts (is_same f g) _ a).0 (and_parts (is_same f h) _ b).0 low high in
     and_from _ _ s.0 (begins_as l.items k.items (sym s.1))
-overlap_there (FilePrefix f p) (FilePrefix g k) (FileKey h l) a b same =
-    let s = same_behind f g h k.items l.items (and_parts (is_same f g) _ a).0 (and_parts (is_same f h) _ b).0 same in
+conflict_there (FilePrefix f p) (FilePrefix g k) (FileKey h l) a b low high =
+    let s = same_behind f g h k.items l.items (and_parts (is_same f g) _ a).0 (and_parts (is_same f h) _ b).0 low high in
     and_from _ _ s.0 (begins_as k.items l.items s.1)
-overlap_there (FilePrefix f p) (FilePrefix g k) (FilePrefix h l) a b same =
-    let s = same_behind f g h k.items l.items (and_parts (is_same f g) _ a).0 (and_parts (is_same f h) _ b).0 same in
+conflict_there (FilePrefix f p) (FilePrefix g k) (FilePrefix h l) a b low high =
+    let s = same_behind f g h k.items l.items (and_parts (is_same f g) _ a).0 (and_parts (is_same f h) _ b).0 low high in
     and_from _ _ s.0 (or_left _ _ (begins_as k.items l.items s.1))
-overlap_there (FilePrefix f p) (FileKey g k) (TsQueue q) a b same = absurd (false≢true b)
-overlap_there (FilePrefix f p) (FileKey g k) (ReadingEnd q) a b same = absurd (false≢true b)
-overlap_there (FilePrefix f p) (FileKey g k) (WritingEnd q) a b same = absurd (false≢true b)
-overlap_there (FilePrefix f p) (FileKey g k) (User v) a b same = absurd (false≢true b)
-overlap_there (FilePrefix f p) (FilePrefix g k) (TsQueue q) a b same = absurd (false≢true b)
-overlap_there (FilePrefix f p) (FilePrefix g k) (ReadingEnd q) a b same = absurd (false≢true b)
-overlap_there (FilePrefix f p) (FilePrefix g k) (WritingEnd q) a b same = absurd (false≢true b)
-overlap_there (FilePrefix f p) (FilePrefix g k) (User v) a b same = absurd (false≢true b)
-overlap_there (FilePrefix f p) (TsQueue q) x a b same = absurd (false≢true a)
-overlap_there (FilePrefix f p) (ReadingEnd q) x a b same = absurd (false≢true a)
-overlap_there (FilePrefix f p) (WritingEnd q) x a b same = absurd (false≢true a)
-overlap_there (FilePrefix f p) (User v) x a b same = absurd (false≢true a)
-overlap_there (FileKey f k) x y a b same = overlaps-joined (FileKey f k) x y refl a b
-overlap_there (TsQueue q) x y a b same = overlaps-joined (TsQueue q) x y refl a b
-overlap_there (ReadingEnd q) x y a b same = overlaps-joined (ReadingEnd q) x y refl a b
-overlap_there (WritingEnd q) x y a b same = overlaps-joined (WritingEnd q) x y refl a b
-overlap_there (User v) x y a b same = overlaps-joined (User v) x y refl a b
+conflict_there (FilePrefix f p) (FileKey g k) (TsQueue q) a b low high = absurd (false≢true b)
+conflict_there (FilePrefix f p) (FileKey g k) (ReadingEnd q) a b low high = absurd (false≢true b)
+conflict_there (FilePrefix f p) (FileKey g k) (WritingEnd q) a b low high = absurd (false≢true b)
+conflict_there (FilePrefix f p) (FileKey g k) (User v) a b low high = absurd (false≢true b)
+conflict_there (FilePrefix f p) (FilePrefix g k) (TsQueue q) a b low high = absurd (false≢true b)
+conflict_there (FilePrefix f p) (FilePrefix g k) (ReadingEnd q) a b low high = absurd (false≢true b)
+conflict_there (FilePrefix f p) (FilePrefix g k) (WritingEnd q) a b low high = absurd (false≢true b)
+conflict_there (FilePrefix f p) (FilePrefix g k) (User v) a b low high = absurd (false≢true b)
+conflict_there (FilePrefix f p) (TsQueue q) x a b low high = absurd (false≢true a)
+conflict_there (FilePrefix f p) (ReadingEnd q) x a b low high = absurd (false≢true a)
+conflict_there (FilePrefix f p) (WritingEnd q) x a b low high = absurd (false≢true a)
+conflict_there (FilePrefix f p) (User v) x a b low high = absurd (false≢true a)
+conflict_there (FileKey f k) x y a b low high = conflicts-joined (FileKey f k) x y refl a b
+conflict_there (TsQueue q) x y a b low high = conflicts-joined (TsQueue q) x y refl a b
+conflict_there (ReadingEnd q) x y a b low high = conflicts-joined (ReadingEnd q) x y refl a b
+conflict_there (WritingEnd q) x y a b low high = conflicts-joined (WritingEnd q) x y refl a b
+conflict_there (User v) x y a b low high = conflicts-joined (User v) x y refl a b
 
 -- ---- What a unit holds, one by one
 
@@ -110,39 +119,45 @@ module _ (s : UnitsState) (t : Table) (i : IsSound s) (k : IsTableOf s t) where
   there_held q n at = k.holders q n ∙ ap (is_holder n) at ∙ eq-eqb n n refl
 
   -- the unit that holds the least, in the table, is the one that the history gives
-  least_found : (asking : Option ℕ) (r : Resource) (v : ℕ) → HoldsLeast t r asking v → first_holder (held_table s) asking r ≡ Some v
-  least_found asking r v holds = by (first_held (held_table s) asking r) refl
+  least_found : (asking : Option ℕ) (r : Resource) (v : ℕ) → HoldsLeast t r asking v → blocker_at (owned s) asking r ≡ Some v
+  least_found asking r v holds = by (smallest_conflict (owned s) asking r) refl
     where
       q : Resource
       q = holds.0
 
-      -- it is the unit of the least entry
-      same : (e : Resource × Held) → IsLeastHeld s asking r e → e.1.unit ≡ v
-      same e least = i.one e.1.unit v
-          (any_more (is_one e.0) (λ x. list_any (overlaps x) (held_by s v))
-          (λ x one. subst (λ y. list_any (overlaps y) (held_by s v) ≡ true) (is_one-eq e.0 x one)
-          (any_more (is_one q) (overlaps e.0) (λ x one. subst (λ y. overlaps e.0 y ≡ true) (is_one-eq q x one) meets) (held_by s v) (there_held q v holds.1.1)))
-          (held_by s e.1.unit) least.holds)
-        where
-          meets : overlaps e.0 q ≡ true
-          meets = overlap_there r e.0 q least.meets holds.1.0 (same_place (place_of e.0) (place_of q)
-              (holds.2 e.0 e.1.unit (least.meets, held_there e.0 e.1.unit least.holds, least.other))
-              (least.least q v holds.1.0 holds.1.2 (there_held q v holds.1.1)))
+      in_conflict : conflicts r q ≡ true
+      in_conflict = conflicts-overlaps r q ∙ holds.1.0
 
-      by : (o : Option (Resource × Held)) → first_held (held_table s) asking r ≡ o → first_holder (held_table s) asking r ≡ Some v
-      by (Some e) found = ap (option_map (λ e. e.1.unit)) found ∙ ap Some (same e (least_held s asking r e i found))
+      another : is_other asking v ≡ true
+      another = other_same asking v ∙ holds.1.2
+
+      -- it is the unit of the least entry
+      same : (e : Resource × ℕ) → IsLeastHeld s asking r e → e.1 ≡ v
+      same e least = i.one e.1 v
+          (any_more (is_one e.0) (λ x. list_any (conflicts x) (held_by s v))
+          (λ x one. subst (λ y. list_any (conflicts y) (held_by s v) ≡ true) (is_one-eq e.0 x one)
+          (any_more (is_one q) (conflicts e.0) (λ x one. subst (λ y. conflicts e.0 y ≡ true) (is_one-eq q x one) meets) (held_by s v) (there_held q v holds.1.1)))
+          (held_by s e.1) least.holds)
+        where
+          meets : conflicts e.0 q ≡ true
+          meets = conflict_there r e.0 q least.meets in_conflict
+              (holds.2 e.0 e.1 (sym (conflicts-overlaps r e.0) ∙ least.meets, held_there e.0 e.1 least.holds, sym (other_same asking e.1) ∙ least.other))
+              (least.least q v in_conflict another (there_held q v holds.1.1))
+
+      by : (o : Option (Resource × ℕ)) → smallest_conflict (owned s) asking r ≡ o → blocker_at (owned s) asking r ≡ Some v
+      by (Some e) found = ap (option_map (λ e. e.1)) found ∙ ap Some (same e (least_held s asking r e i found))
       by None found = absurd (true≢false (
-          sym (holder_some s asking r v i holds.1.2
-          (any_more (is_one q) (overlaps r) (λ x one. subst (λ y. overlaps r y ≡ true) (is_one-eq q x one) holds.1.0) (held_by s v) (there_held q v holds.1.1)))
-          ∙ ap (λ o. is_some (option_map (λ e. e.1.unit) o)) found))
+          sym (holder_some s asking r v i another
+          (any_more (is_one q) (conflicts r) (λ x one. subst (λ y. conflicts r y ≡ true) (is_one-eq q x one) in_conflict) (held_by s v) (there_held q v holds.1.1)))
+          ∙ ap (λ o. is_some (option_map (λ e. e.1) o)) found))
 
   -- the unit that is found in the history is the one that is found in the table
-  pub table_holder : (asking : Option ℕ) (r : Resource) → first_holder (held_table s) asking r ≡ holder_over r asking t
+  pub table_holder : (asking : Option ℕ) (r : Resource) → blocker_at (owned s) asking r ≡ holder_over r asking t
   table_holder asking r =
-      elim (holder_over r asking t) as (λ h. holder_over r asking t ≡ h → first_holder (held_table s) asking r ≡ h) [
+      elim (holder_over r asking t) as (λ h. holder_over r asking t ≡ h → blocker_at (owned s) asking r ≡ h) [
         | None ↦ λ none. none_found s asking r (λ n other. false_from_ne_true _ (λ any.
-            any_one (overlaps r) (held_by s n) any (λ q meets stands.
-            true≢false (sym other ∙ free_where_none t r asking none q n meets (held_there q n stands)))))
+            any_one (conflicts r) (held_by s n) any (λ q meets stands.
+            true≢false (sym other ∙ other_same asking n ∙ free_where_none t r asking none q n (sym (conflicts-overlaps r q) ∙ meets) (held_there q n stands)))))
         | Some v ↦ λ found. least_found asking r v (holder_over-least t asking k.in_order r v found)
       ] refl
 

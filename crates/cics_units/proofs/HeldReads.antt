@@ -11,9 +11,9 @@ use Rattle.cics_names.specs.RisingLaws.{is_same-turned}
 use Rattle.cics_enqueue.specs.Resources.{is_one}
 use Rattle.cics_enqueue.specs.ResourceLaws.{is_one-eq}
 use Rattle.cics_enqueue.specs.declared.resources.Resource.{Resource}
-use Rattle.cics_history.specs.Openings.{OpeningState, file_recoverable}
+use Rattle.cics_history.specs.State.{OpeningState, file_recoverable, UpdateRead}
 use Rattle.cics_history.specs.Store.{is_recoverable}
-use Rattle.cics_history.specs.Holding.{UpdateRead, uses_of, held_by_read}
+use Rattle.cics_history.specs.Holding.{uses_of, held_by_read}
 use Rattle.cics_history.specs.Execution.{is_read_of, read_at, is_read_before, with_read, covers, opened}
 use Rattle.cics_history.specs.Records.{file_of, key_of}
 use Rattle.cics_units.specs.TableInPlace.{record_of, is_read, AreOnce}

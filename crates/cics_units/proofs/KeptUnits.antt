@@ -12,18 +12,18 @@ use Rattle.cics_enqueue.specs.Resources.{Table, released}
 use Rattle.cics_tempstor.specs.Queues.{places_of}
 use Rattle.cics_tempstor.specs.Places.{AreInOrder}
 use Rattle.cics_transdata.specs.Trans.{TransState, is_logical, queue_of}
-use Rattle.cics_history.specs.Openings.{OpeningState, FileOpening, QueueOpening, file_recoverable, queue_logical, HasLawfulKeys, IsOpeningInOrder}
-use Rattle.cics_history.specs.Store.{apply, initial_store}
-use Rattle.cics_history.specs.History.{is_open, kept}
-use Rattle.cics_history.specs.Holding.{UnitsState, UpdateRead, EnqCount, store_of, awaited}
+use Rattle.cics_history.specs.State.{OpeningState, FileOpening, QueueOpening, file_recoverable, queue_logical, initial_store, UnitsState, UpdateRead, EnqCount, beginning}
+use Rattle.cics_history.specs.Openings.{HasLawfulKeys, IsOpeningInOrder}
+use Rattle.cics_history.specs.Store.{apply}
+use Rattle.cics_history.specs.Headline.{is_open, kept, IsHeadline}
+use Rattle.cics_history.specs.Holding.{store_of, awaited}
 use Rattle.cics_history.proofs.Alone.{left_no_trace}
 use Rattle.cics_history.proofs.Ready.{ready_short}
 use Rattle.cics_history.specs.Execution.{unit_or_next, outcomes_with, entered, state_of, after_execution, after_unlock, after_end, read_at, is_fit_for, is_ready_op}
-use Rattle.cics_history.specs.Headline.{IsHeadline, beginning}
 use Rattle.cics_history.specs.Cells.{IsCanonical}
 use Rattle.cics_history.specs.Events.{may_act, is_live}
 use Rattle.cics_history.specs.Isolation.{IsSound}
-use Rattle.cics_history.specs.Serial.{IsInOrder}
+use Rattle.cics_history.specs.Serial.{IsSerializable, IsInOrder}
 use Rattle.cics_history.specs.declared.ops.Op.{Op}
 use Rattle.cics_history.specs.declared.ops.Op.TheVariants.{Write, Rewrite, Delete, DeleteGeneric, ReadUpdate, TdWrite, TdRead, TdDelete}
 use Rattle.cics_history.specs.declared.ops.Answer.{Answer}
@@ -44,7 +44,7 @@ use Rattle.cics_units.specs.RegionQueues.{opened_queue, opened_queues}
 use Rattle.cics_units.specs.KeptUnits.{AreValid, AreAsDefined, opened_store}
 use Rattle.cics_history.proofs.Stores.{same_store, apply-canonical, replay-canonical, initial-canonical, value_at_each}
 use Rattle.cics_history.proofs.States.{beginning-IsSound, execution-IsSound, unlock-IsSound, end-IsSound, agrees_of}
-use Rattle.cics_history.proofs.SerialRuns.{beginning-IsInOrder, execution-IsInOrder, commit-IsInOrder, backout-IsInOrder, unlock-IsInOrder, turns_of}
+use Rattle.cics_history.proofs.SerialRuns.{beginning-IsInOrder, execution-IsInOrder, commit-IsInOrder, backout-IsInOrder, unlock-IsInOrder, serializable_of}
 use Rattle.cics_units.proofs.StoreInPlace.{shows_history, beginning_in_place}
 use Rattle.cics_units.proofs.StoreEnded.{backed_out_ended}
 use Rattle.cics_units.proofs.EndsFirst.{ends_first_ended, ends_first_shows}
@@ -173,8 +173,11 @@ module _ (s : UnitsState) (st : StoreWithImages) (t : Table) (is : AreValid s st
     store = store_is;
     agrees = agrees_of s is.sound;
     alone = left_no_trace (record { state = s; store = shown_store st.store }) is.in_order store_is;
-    turns = turns_of (record { state = s; store = shown_store st.store }) is.order is.sound.known (initial-canonical s.opening is.in_order) store_is;
   }
+
+  -- and the units that committed are serializable
+  pub kept_serializable : IsSerializable (record { state = s; store = shown_store st.store })
+  kept_serializable = serializable_of (record { state = s; store = shown_store st.store }) is.order is.sound.known (initial-canonical s.opening is.in_order) store_is
 
   -- ---- Room for more images
   -- images in longer lists that keep the same

@@ -12,7 +12,8 @@ use Rattle.cics_ksds.specs.Undo.{Leads as FileLeads}
 use Rattle.cics_tempstor.specs.UndoLaws as rows
 use Rattle.cics_transdata.specs.Undo.{KeepsEnds}
 use Rattle.cics_transdata.specs.UndoLaws as queue
-use Rattle.cics_history.specs.Store.{Store, apply}
+use Rattle.cics_history.specs.State.{Store}
+use Rattle.cics_history.specs.Store.{apply}
 use Rattle.cics_history.specs.Cells.{Cell as OpCell, Key, content, is_generic, cell_of as cell_of_op, effect}
 use Rattle.cics_history.specs.Undo.{Image, Cells, changes, image_of, images_by}
 use Rattle.cics_history.specs.declared.ops.Op.{Op}

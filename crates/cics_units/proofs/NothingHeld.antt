@@ -19,9 +19,8 @@ use Rattle.cics_ksds.specs.Files.{FileValue}
 use Rattle.cics_tempstor.specs.Queues.{is_there, empty_row}
 use Rattle.cics_tempstor.specs.declared.queue_rows.Row.{Row}
 use Rattle.cics_transdata.specs.Trans.{TransState, IsMarked, is_logical}
-use Rattle.cics_history.specs.Openings.{OpeningState, queue_logical}
-use Rattle.cics_history.specs.History.{outcome_of, is_open}
-use Rattle.cics_history.specs.Holding.{UnitsState}
+use Rattle.cics_history.specs.State.{OpeningState, queue_logical, UnitsState}
+use Rattle.cics_history.specs.Headline.{outcome_of, is_open}
 use Rattle.cics_history.specs.Events.{is_live}
 use Rattle.cics_history.specs.Cells.{Cell, Td, End, Reading, Writing, recovers}
 use Rattle.cics_history.specs.Isolation.{used}

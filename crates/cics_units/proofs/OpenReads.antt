@@ -9,7 +9,7 @@ use Rattle.std.specs.List.{slice_get}
 use Rattle.std.specs.Option.{unwrap_or}
 use Rattle.cics_names.specs.Keyed.{Bytes, Map, bytes_cmp, is_same, is_below, value_at, with_value, without}
 use Rattle.cics_names.specs.RisingLaws.{is_same-turned}
-use Rattle.cics_history.specs.Holding.{UpdateRead}
+use Rattle.cics_history.specs.State.{UpdateRead}
 use Rattle.cics_history.specs.Execution.{is_read_of, read_at, with_read}
 use Rattle.cics_units.specs.OpenReads.{reads_of, reads_from}
 

@@ -15,7 +15,8 @@ use Rattle.cics_ksds.specs.declared.definition.FileDef.{FileDef}
 use Rattle.cics_images.specs.NamedValues.{changed_at, changed_where}
 use Rattle.cics_transdata.specs.declared.queues.Recovery.{Recovery}
 use Rattle.cics_transdata.specs.Trans.{TransState, is_logical, holding, trans_written, writer_committed}
-use Rattle.cics_history.specs.Openings.{OpeningState, FileOpening, QueueOpening, with_record, with_queue, with_td_record, loaded_file, is_record_size, is_key, is_in_order, file_recoverable, queue_logical, HasLawfulKeys, IsOpeningInOrder}
+use Rattle.cics_history.specs.State.{OpeningState, FileOpening, QueueOpening, file_recoverable, queue_logical}
+use Rattle.cics_history.specs.Openings.{with_record, with_queue, with_td_record, loaded_file, is_record_size, is_key, is_in_order, HasLawfulKeys, IsOpeningInOrder}
 use Rattle.cics_units.specs.Faults.{file_fault, load_fault, load_td_fault}
 use Rattle.cics_units.specs.declared.opening.DefineFault.{DefineFault}
 use Rattle.cics_units.specs.declared.opening.DefineFault.TheVariants.{Duplicate, BadKey, BadLength, NotThere}

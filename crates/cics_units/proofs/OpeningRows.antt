@@ -3,9 +3,9 @@ use Rattle.std.specs.Prelude.{◌≡◌, true, false, Some, None, [], ◌∷◌,
 use Rattle.cics_names.specs.Keyed.{Bytes, value_at}
 use Rattle.cics_ksds.specs.declared.definition.FileDef.{FileDef}
 use Rattle.cics_transdata.specs.declared.queues.Recovery.TheVariants.{Physical}
-use Rattle.cics_history.specs.Openings.{OpeningState, nothing_defined, with_file, with_record, with_queue, with_td_record, has_prefix_in, file_recoverable, queue_logical, unpadded}
+use Rattle.cics_history.specs.State.{OpeningState, has_prefix_in, file_recoverable, queue_logical, unpadded, initial_store}
+use Rattle.cics_history.specs.Openings.{nothing_defined, with_file, with_record, with_queue, with_td_record}
 use Rattle.cics_units.specs.Faults.{file_fault, load_fault, load_td_fault}
-use Rattle.cics_history.specs.Store.{initial_store}
 use Rattle.cics_units.specs.declared.opening.DefineFault.TheVariants.{Duplicate, BadKey, BadLength, NotThere}
 use lib.Chars.{codes}
 

@@ -6,7 +6,7 @@ use Rattle.std.proofs.lemmas.Bool.{true≢false, cases_Bool, eqb-true, and_parts
 use Rattle.std.proofs.Math.Bool.{or-false}
 use Rattle.cics_names.specs.Keyed.{Bytes, is_same}
 use Rattle.cics_names.specs.KeyedLaws.{is_same-eq}
-use Rattle.cics_history.specs.Holding.{UpdateRead}
+use Rattle.cics_history.specs.State.{UpdateRead}
 use Rattle.cics_history.specs.Execution.{is_read_of, read_at, covers}
 use Rattle.cics_ksds.specs.Prefixes.{has_prefix}
 use Rattle.cics_units.specs.OpenReads.{is_read_key, is_read_under}

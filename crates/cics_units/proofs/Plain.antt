@@ -16,8 +16,9 @@ use Rattle.cics_names.specs.declared.conditions.Condition.TheVariants.{Normal, D
 use Rattle.cics_ksds.specs.Files.{records_after_write, records_after_rewrite, records_after_delete}
 use Rattle.cics_ksds.specs.Prefixes.{has_prefix, under, outside}
 use Rattle.cics_tempstor.specs.Queues.{Queue, most_items, has_item, is_there}
-use Rattle.cics_history.specs.Store.{Store, is_normal, apply_write, apply_rewrite, apply_delete, apply_delete_generic, counted_answer, apply_ts_write, apply_ts_rewrite, apply_ts_delete, apply_td_write, apply_td_read, apply_td_delete, ts_queue, with_ts, with_file}
-use Rattle.cics_history.proofs.Entries.{first, second, value_at-below, value_at-looked_up, with_value-set, rising-set, with_value-same}
+use Rattle.cics_history.specs.State.{Store}
+use Rattle.cics_history.specs.Store.{is_normal, apply_write, apply_rewrite, apply_delete, apply_delete_generic, counted_answer, apply_ts_write, apply_ts_rewrite, apply_ts_delete, apply_td_write, apply_td_read, apply_td_delete, ts_queue, with_ts, with_file}
+use Rattle.cics_history.proofs.Entries.{first, second, value_at-below, value_at-looked_up, with_value-set, with_value-same}
 
 absent : {X : Type 0} (o : Option X) → is_some o ≡ false → o ≡ None
 absent None e = refl
@@ -41,9 +42,6 @@ module _ {X : Type 0} where
   module _ (k : Bytes) (x : X) (es : Map X) (rising : T (is_rising es)) (found : Some x ≡ lookup (is_at (bytes_cmp k)) es) where
     pub here : value_at k es ≡ Some x
     here = value_at-looked_up k es es (Some x) found refl
-
-    pub kept_rising : (y : X) (new : Map X) → new ≡ set_value (is_at (bytes_cmp k)) es y → T (is_rising new)
-    kept_rising y new set = rising-set k y x es new rising here set
 
     pub put_here : (y : X) (new : Map X) → new ≡ set_value (is_at (bytes_cmp k)) es y → new ≡ with_value k y es
     put_here y new set = with_value-set k y x es new rising here set

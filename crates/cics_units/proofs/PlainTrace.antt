@@ -2,8 +2,9 @@
 use Rattle.std.specs.Prelude.{◌≡◌, ℕ, ◌+◌, ◌<◌, Bool, cond, List, [], ◌∷◌, ◌++◌, length, take, filter}
 use Rattle.std.proofs.Common.{sym, ap, ◌∙◌, get_or}
 use Rattle.std.proofs.lemmas.List.{take_more}
-use Rattle.cics_history.specs.History.{replay}
-use Rattle.cics_history.specs.Store.{Store, apply}
+use Rattle.cics_history.specs.Headline.{replay}
+use Rattle.cics_history.specs.State.{Store}
+use Rattle.cics_history.specs.Store.{apply}
 use Rattle.cics_history.specs.declared.ops.Entry.{Entry}
 use Rattle.cics_history.proofs.Replays.{replay-push}
 

@@ -9,8 +9,8 @@ use Rattle.cics_enqueue.specs.Resources.{Table, holder_of}
 use Rattle.cics_transdata.specs.declared.images.TdImage.{TdImage}
 use Rattle.cics_transdata.specs.Trans.{TransState, unread, trans_written, trans_read, trans_deleted}
 use Rattle.cics_transdata.specs.Undo.{reading_end, writing_end, KeepsEnds, IsTransImage, written_image, read_image, deleted_image}
-use Rattle.cics_history.specs.History.{outcome_of, is_open}
-use Rattle.cics_history.specs.Holding.{UnitsState}
+use Rattle.cics_history.specs.Headline.{outcome_of, is_open}
+use Rattle.cics_history.specs.State.{UnitsState}
 use Rattle.cics_history.specs.Holders.{end_of as end_resource}
 use Rattle.cics_history.specs.declared.ops.Op.TheVariants.{TdWrite, TdRead, TdDelete}
 use Rattle.cics_history.specs.Cells.{End}

@@ -1,7 +1,8 @@
 -- Worked examples of update reads and of listings, computed from the definitions.
 use Rattle.std.specs.Prelude.{◌≡◌, true, false, None, List, [], ◌∷◌, ◌++◌, refl}
 use Rattle.cics_transdata.specs.declared.queues.Recovery.TheVariants.{Logical}
-use Rattle.cics_history.specs.Holding.{UpdateRead, store_of}
+use Rattle.cics_history.specs.State.{UpdateRead}
+use Rattle.cics_history.specs.Holding.{store_of}
 use Rattle.cics_history.specs.Execution.{after_execution, read_at, with_read}
 use Rattle.cics_history.specs.declared.ops.Op.TheVariants.{TsWrite}
 use Rattle.cics_history.proofs.Rows.{acct, log, rq, tdq1, k1, k2, defined, written_2}

@@ -7,13 +7,12 @@ use Rattle.std.specs.List.{list_any}
 use Rattle.std.proofs.lemmas.Bool.{cases_Bool, and_parts, or_left, or_right, false≢true, and_from, lt-ltb}
 use Rattle.cics_tempstor.specs.Queues.{places_of}
 use Rattle.cics_enqueue.specs.Resources.{Table, released}
-use Rattle.cics_history.specs.Openings.{OpeningState}
+use Rattle.cics_history.specs.State.{OpeningState, UnitsState, UpdateRead, UnitsValue, beginning}
 use Rattle.cics_history.specs.Store.{apply, is_normal, is_recoverable}
-use Rattle.cics_history.specs.Holding.{UnitsState, UpdateRead, store_of, awaited}
+use Rattle.cics_history.specs.Holding.{store_of, awaited}
 use Rattle.cics_history.specs.Execution.{execution, done_of, state_of, has_read, IsOpenUnit, IsOpenOrNone, unit_or_next, outcomes_with, reads_after, is_read_of, read_at, commits_with, entered, after_execution, after_unlock, after_end, is_ready_op}
-use Rattle.cics_history.specs.Headline.{beginning}
 use Rattle.cics_history.specs.Events.{is_live, may_act}
-use Rattle.cics_units.specs.StoreMatching.{StoreValue}
+use Rattle.cics_units.specs.StoreMatching.{StoreValue, shown_store}
 use Rattle.cics_history.specs.Records.{file_of}
 use Rattle.cics_units.specs.Uses.{uses_if, listed, AreFreeFor}
 use Rattle.cics_units.specs.Cores.{IsBoundFor}
@@ -46,6 +45,11 @@ live_of s u opened = and_from _ _ (lt-ltb u (length s.outcomes) opened.0) opened
 pub acts_of : (s : UnitsState) (u : Option ℕ) → IsOpenOrNone s u → may_act s u ≡ true
 acts_of s None opened = refl
 acts_of s (Some u) opened = live_of s u opened
+
+-- what holds of the units holds of them with lists that have the same
+pub in_lists : (P : UnitsValue → Type 0) (o : OpeningState) (p : CoreValue) {trace es : List Entry} {outcomes outs : List UnitState} {commits cs : List ℕ} → es ≡ trace → outs ≡ outcomes → cs ≡ commits →
+    P (record { state = state_shown o trace outcomes commits p; store = shown_store p.stores.store }) → P (record { state = state_shown o es outs cs p; store = shown_store p.stores.store })
+in_lists P o p es outs cs = subst P (λ i. record { state = state_shown o (sym es i) (sym outs i) (sym cs i) p; store = shown_store p.stores.store })
 
 module _ (o : OpeningState) (trace : List Entry) (outcomes : List UnitState) (commits : List ℕ) (p new : CoreValue)
     (is : AreValid (state_shown o trace outcomes commits p) p.stores p.table) where

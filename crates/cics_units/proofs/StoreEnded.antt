@@ -6,10 +6,10 @@ use Rattle.cics_names.specs.Keyed.{value_at, has_key, Bytes, is_rising}
 use Rattle.cics_images.specs.Cells.{Kept, is_unnamed, LeadBack, images_of, all_swept, Cell as ImageCell, Content as Shown}
 use Rattle.cics_tempstor.specs.Queues.{queues_of, places_of}
 use Rattle.cics_tempstor.specs.Places.{AreInOrder, places_there, in_order_committed, in_order_backed_out, places_of-committed, places_of-there, places_of-backed_out}
-use Rattle.cics_history.specs.Openings.{IsOpeningInOrder, queue_logical}
-use Rattle.cics_history.specs.Store.{initial_store, Store}
-use Rattle.cics_history.specs.History.{kept, outcome_of, is_open}
-use Rattle.cics_history.specs.Holding.{UnitsState, store_of}
+use Rattle.cics_history.specs.Openings.{IsOpeningInOrder}
+use Rattle.cics_history.specs.State.{queue_logical, initial_store, Store, UnitsState}
+use Rattle.cics_history.specs.Headline.{kept, outcome_of, is_open}
+use Rattle.cics_history.specs.Holding.{store_of}
 use Rattle.cics_history.specs.Execution.{after_end}
 use Rattle.cics_transdata.specs.Trans.{queue_of, TransState, IsApart}
 use Rattle.cics_history.specs.Cells.{Cell, Key, Ts, Td, content, IsCanonical, Reading, Writing, recovers}
@@ -28,6 +28,7 @@ use Rattle.cics_units.proofs.StoreQueues.{all_swept_queue, undone_elsewhere, und
 use Rattle.cics_units.proofs.StoreInPlace.{shown_key, shown_ts, shown_td, file_there, shows_history, ready_where, others_unnamed, place_by, ended_in_place, not_so, others_free}
 use Rattle.cics_units.proofs.StoreEnds.{rows_backed_out, rows_committed, queues_rise, canonical_backed_out, canonical_committed}
 use Rattle.cics_units.proofs.StoreSettled.{ends_files, ends_rows, ends_kinds, ends_shown, ends_held, settled_as_held}
+use Rattle.std.proofs.lemmas.Iterator.Adapters.{option_map_id}
 use Rattle.std.proofs.lemmas.Bool.{cases_Bool, and_parts, and_left, true≢false}
 use Rattle.cics_images.specs.StoreLaws as store
 use Rattle.cics_images.specs.Turns.{one_before}
@@ -65,11 +66,7 @@ room_left true m apart within = within
 -- a queue that isn't LOGICAL stays as it is
 stays : (s : UnitsState) (v : ℕ) (q : Bytes) → queue_logical s.opening q ≡ false → (o : Option TransState) → committed_at s v q o ≡ o
 stays s v q plain o =
-    ap (λ b. option_map (ends_committed (b && used s.trace v (Td q) Reading) (b && used s.trace v (Td q) Writing)) o) plain ∙ by o
-  where
-    by : (o : Option TransState) → option_map (ends_committed false false) o ≡ o
-    by None = refl
-    by (Some t) = refl
+    ap (λ b. option_map (ends_committed (b && used s.trace v (Td q) Reading) (b && used s.trace v (Td q) Writing)) o) plain ∙ option_map_id o
 
 module _ (s : UnitsState) (m mid n : StoreValue) (images after_images : List (Kept AnyImage)) (v : ℕ)
     (sound : IsSound s) (place : AreInPlace s m images) (live : is_live s v ≡ true)

@@ -29,80 +29,50 @@ use Rattle.cics_units.specs.StoreEnds.{file_images, ts_images, td_images}
 use Rattle.cics_units.proofs.Opened.{value_at-each, rising-each}
 
 -- ---- the parts
--- the files after images are undone
-pub undone_files : (is : List AnyImage) (m : StoreValue) → (fold any_undone m is).files ≡ fold files_undone m.files (file_images is)
-undone_files [] m = refl
-undone_files (File i ∷ is) m = undone_files is (any_undone m (File i))
-undone_files (TempStorage i ∷ is) m = undone_files is (any_undone m (TempStorage i))
-undone_files (TransData i ∷ is) m = undone_files is (any_undone m (TransData i))
+-- the three with each part undone by the images of its kind
+abbrev undone_of : StoreValue → List AnyImage → StoreValue
+undone_of m is = record {
+  files = fold files_undone m.files (file_images is);
+  temp_storage = fold rows_undone m.temp_storage (ts_images is);
+  trans_data = fold (λ s i. named_undone queue_undone s i) m.trans_data (td_images is);
+}
 
--- the rows of temporary storage
-pub undone_rows : (is : List AnyImage) (m : StoreValue) → (fold any_undone m is).temp_storage ≡ fold rows_undone m.temp_storage (ts_images is)
-undone_rows [] m = refl
-undone_rows (File i ∷ is) m = undone_rows is (any_undone m (File i))
-undone_rows (TempStorage i ∷ is) m = undone_rows is (any_undone m (TempStorage i))
-undone_rows (TransData i ∷ is) m = undone_rows is (any_undone m (TransData i))
+-- the three with each part swept by the images of its kind; of transient data nothing is held back
+abbrev pub swept_of : StoreValue → List AnyImage → StoreValue
+swept_of m is = record {
+  files = all_swept files_swept cell_of_image m.files (file_images is);
+  temp_storage = all_swept ts_swept name_of_image m.temp_storage (ts_images is);
+  trans_data = m.trans_data;
+}
 
--- the transient data queues
-pub undone_queues : (is : List AnyImage) (m : StoreValue) →
-    (fold any_undone m is).trans_data ≡ fold (λ s i. named_undone queue_undone s i) m.trans_data (td_images is)
-undone_queues [] m = refl
-undone_queues (File i ∷ is) m = undone_queues is (any_undone m (File i))
-undone_queues (TempStorage i ∷ is) m = undone_queues is (any_undone m (TempStorage i))
-undone_queues (TransData i ∷ is) m = undone_queues is (any_undone m (TransData i))
+-- the three after images are undone
+undone_parts : (is : List AnyImage) (m : StoreValue) → fold any_undone m is ≡ undone_of m is
+undone_parts [] m = refl
+undone_parts (File i ∷ is) m = undone_parts is (any_undone m (File i))
+undone_parts (TempStorage i ∷ is) m = undone_parts is (any_undone m (TempStorage i))
+undone_parts (TransData i ∷ is) m = undone_parts is (any_undone m (TransData i))
 
--- the files after the cells of images are swept
-pub swept_files : (is : List AnyImage) (m : StoreValue) →
-    (all_swept any_swept cell_of_any m is).files ≡ all_swept files_swept cell_of_image m.files (file_images is)
-swept_files [] m = refl
-swept_files (File i ∷ is) m = swept_files is (any_swept m (cell_of_any (File i)))
-swept_files (TempStorage i ∷ is) m = swept_files is (any_swept m (cell_of_any (TempStorage i)))
-swept_files (TransData i ∷ is) m = swept_files is (any_swept m (cell_of_any (TransData i)))
-
--- the rows of temporary storage
-pub swept_rows : (is : List AnyImage) (m : StoreValue) →
-    (all_swept any_swept cell_of_any m is).temp_storage ≡ all_swept ts_swept name_of_image m.temp_storage (ts_images is)
-swept_rows [] m = refl
-swept_rows (File i ∷ is) m = swept_rows is (any_swept m (cell_of_any (File i)))
-swept_rows (TempStorage i ∷ is) m = swept_rows is (any_swept m (cell_of_any (TempStorage i)))
-swept_rows (TransData i ∷ is) m = swept_rows is (any_swept m (cell_of_any (TransData i)))
-
--- the transient data queues, in which nothing is held back
-pub swept_queues : (is : List AnyImage) (m : StoreValue) → (all_swept any_swept cell_of_any m is).trans_data ≡ m.trans_data
-swept_queues [] m = refl
-swept_queues (File i ∷ is) m = swept_queues is (any_swept m (cell_of_any (File i)))
-swept_queues (TempStorage i ∷ is) m = swept_queues is (any_swept m (cell_of_any (TempStorage i)))
-swept_queues (TransData i ∷ is) m = swept_queues is (any_swept m (cell_of_any (TransData i)))
+-- and after the cells of images are swept
+pub swept_parts : (is : List AnyImage) (m : StoreValue) → all_swept any_swept cell_of_any m is ≡ swept_of m is
+swept_parts [] m = refl
+swept_parts (File i ∷ is) m = swept_parts is (any_swept m (cell_of_any (File i)))
+swept_parts (TempStorage i ∷ is) m = swept_parts is (any_swept m (cell_of_any (TempStorage i)))
+swept_parts (TransData i ∷ is) m = swept_parts is (any_swept m (cell_of_any (TransData i)))
 
 -- ---- after a backout
 module _ (m n : StoreValue) (is : List AnyImage) (whole : n ≡ all_swept any_swept cell_of_any (fold any_undone m is) is) where
-  -- the files
-  pub files_backed_out : n.files ≡ all_swept files_swept cell_of_image (fold files_undone m.files (file_images is)) (file_images is)
-  files_backed_out = ap (λ (x : StoreValue). x.files) whole ∙ swept_files is (fold any_undone m is)
-      ∙ ap (λ files. all_swept files_swept cell_of_image files (file_images is)) (undone_files is m)
+  parts_backed_out : n ≡ swept_of (undone_of m is) is
+  parts_backed_out = whole ∙ ap (λ s. all_swept any_swept cell_of_any s is) (undone_parts is m) ∙ swept_parts is (undone_of m is)
 
   -- the rows of temporary storage
   pub rows_backed_out : n.temp_storage ≡ backed_out m.temp_storage (ts_images is)
-  rows_backed_out = ap (λ (x : StoreValue). x.temp_storage) whole ∙ swept_rows is (fold any_undone m is)
-      ∙ ap (λ rows. all_swept ts_swept name_of_image rows (ts_images is)) (undone_rows is m)
-
-  -- the transient data queues
-  pub queues_backed_out : n.trans_data ≡ fold (λ s i. named_undone queue_undone s i) m.trans_data (td_images is)
-  queues_backed_out = ap (λ (x : StoreValue). x.trans_data) whole ∙ swept_queues is (fold any_undone m is) ∙ undone_queues is m
+  rows_backed_out = ap (λ (x : StoreValue). x.temp_storage) parts_backed_out
 
 -- ---- after a commit, before its ends are settled
-module _ (m n : StoreValue) (is : List AnyImage) (whole : n ≡ all_swept any_swept cell_of_any m is) where
-  -- the files
-  pub files_committed : n.files ≡ all_swept files_swept cell_of_image m.files (file_images is)
-  files_committed = ap (λ (x : StoreValue). x.files) whole ∙ swept_files is m
-
-  -- the rows of temporary storage
-  pub rows_committed : n.temp_storage ≡ committed m.temp_storage (ts_images is)
-  rows_committed = ap (λ (x : StoreValue). x.temp_storage) whole ∙ swept_rows is m
-
-  -- the transient data queues
-  pub queues_committed : n.trans_data ≡ m.trans_data
-  queues_committed = ap (λ (x : StoreValue). x.trans_data) whole ∙ swept_queues is m
+-- the rows of temporary storage
+pub rows_committed : (m n : StoreValue) (is : List AnyImage) → n ≡ all_swept any_swept cell_of_any m is →
+    n.temp_storage ≡ committed m.temp_storage (ts_images is)
+rows_committed m n is whole = ap (λ (x : StoreValue). x.temp_storage) (whole ∙ swept_parts is m)
 
 -- ---- names that rise
 -- to change the value of a name leaves the names rising
@@ -207,21 +177,17 @@ module _ (m : StoreValue) (canonical : IsCanonical (shown_store m)) where
   module _ (rows : AreInOrder m.temp_storage) (n : StoreValue) (is : List AnyImage) where
     -- a backout leaves all in order
     pub canonical_backed_out : n ≡ all_swept any_swept cell_of_any (fold any_undone m is) is → IsCanonical (shown_store n)
-    canonical_backed_out whole = canonical_from n
-        (subst (λ files. is_rising files ≡ true) (sym (files_backed_out m n is whole))
+    canonical_backed_out whole = subst (λ s. IsCanonical (shown_store s)) (sym (parts_backed_out m n is whole)) (canonical_from (swept_of (undone_of m is) is)
         (rising-all_swept swept key_of_image (file_images is) (fold files_undone m.files (file_images is))
-        (rising-all_undone undone (file_images is) m.files files_rise)))
-        (subst AreKeysRising (sym (files_backed_out m n is whole))
-        (keys_swept (file_images is) (fold files_undone m.files (file_images is)) (keys_undone (file_images is) m.files keys_rise)))
-        (subst (λ rows. T (is_rising rows)) (sym (rows_backed_out m n is whole)) (in_order_backed_out m.temp_storage (ts_images is) rows).rising)
-        (subst (λ queues. is_rising queues ≡ true) (sym (queues_backed_out m n is whole))
+        (rising-all_undone undone (file_images is) m.files files_rise))
+        (keys_swept (file_images is) (fold files_undone m.files (file_images is)) (keys_undone (file_images is) m.files keys_rise))
+        (in_order_backed_out m.temp_storage (ts_images is) rows).rising
         (rising-all_undone queue_undone (td_images is) m.trans_data queues_rise))
 
     -- and so does a commit
     pub canonical_committed : n ≡ all_swept any_swept cell_of_any m is → IsCanonical (shown_store n)
-    canonical_committed whole = canonical_from n
-        (subst (λ files. is_rising files ≡ true) (sym (files_committed m n is whole))
-        (rising-all_swept swept key_of_image (file_images is) m.files files_rise))
-        (subst AreKeysRising (sym (files_committed m n is whole)) (keys_swept (file_images is) m.files keys_rise))
-        (subst (λ rows. T (is_rising rows)) (sym (rows_committed m n is whole)) (in_order_committed m.temp_storage (ts_images is) rows).rising)
-        (subst (λ queues. is_rising queues ≡ true) (sym (queues_committed m n is whole)) queues_rise)
+    canonical_committed whole = subst (λ s. IsCanonical (shown_store s)) (sym (whole ∙ swept_parts is m)) (canonical_from (swept_of m is)
+        (rising-all_swept swept key_of_image (file_images is) m.files files_rise)
+        (keys_swept (file_images is) m.files keys_rise)
+        (in_order_committed m.temp_storage (ts_images is) rows).rising
+        queues_rise)

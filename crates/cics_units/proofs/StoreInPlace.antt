@@ -6,7 +6,7 @@ use Rattle.std.specs.Prelude.{is_some, option_map, unwrap_or, slice_set}
 use Rattle.std.specs.List.{list_any}
 use Rattle.std.specs.Option.{option_and_then}
 use Rattle.std.proofs.lemmas.Bool.{true≢false, false≢true, cases_Bool, eqb-true, eqb-false, eq-eqb, and_parts, false_from_ne_true, true_from_ne_false}
-use Rattle.cics_names.specs.Keyed.{Bytes, Map, value_at, is_rising, is_same}
+use Rattle.cics_names.specs.Keyed.{Bytes, Map, value_at, is_rising}
 use Rattle.cics_images.specs.Cells.{Kept, is_unnamed, AreOf, AreReadyInTurn}
 use Rattle.cics_images.specs.Cells as images
 use Rattle.cics_images.specs.NamedValues.{cell_of as value_cell, NamedKeep, IsNamedReady, named_undone}
@@ -23,20 +23,16 @@ use Rattle.cics_tempstor.specs.Shown.{queue_shown, queues_of-shown, value_at-sho
 use Rattle.cics_transdata.specs.Trans.{TransState, queue_of}
 use Rattle.cics_transdata.specs.Undo.{end_of, IsReadyImage as IsEndReady, undone as queue_undone, KeepsEnds}
 use Rattle.cics_transdata.specs.UndoLaws as queue
-use Rattle.cics_history.specs.Openings.{OpeningState, queue_logical}
-use Rattle.cics_history.specs.Store.{initial_store}
-use Rattle.cics_history.specs.History.{outcome_of, is_open}
-use Rattle.cics_history.specs.Holding.{UnitsState, store_of}
+use Rattle.cics_history.specs.State.{OpeningState, queue_logical, initial_store, UnitsState, beginning}
+use Rattle.cics_history.specs.Headline.{outcome_of, is_open}
+use Rattle.cics_history.specs.Holding.{store_of}
 use Rattle.cics_history.specs.Execution.{after_end}
-use Rattle.cics_history.specs.Headline.{beginning}
 use Rattle.cics_history.specs.declared.ops.UnitState.{UnitState}
 use Rattle.cics_history.specs.Cells.{Cell, Key, Ts, Td, content, listed, record_in, End, Reading, Writing, recovers}
 use Rattle.cics_history.specs.Isolation.{used, IsSound}
 use Rattle.cics_history.specs.Undo.{Image, Cells, names, is_plain, IsPlaceOf, without_images}
 use Rattle.cics_history.specs.Marks.{Queues, shown as shown_marks}
-use Rattle.cics_history.specs.MarkImages.{MarkImage, OfReading, OfWriting, queue_of as queue_of_mark}
 use Rattle.cics_history.specs.Ends.{AreMarksOf, marks_opened, mark_images_without}
-use Rattle.cics_history.proofs.Waiting.{any_more}
 use Rattle.cics_history.proofs.States.{one_at_each_end}
 use Rattle.cics_history.proofs.Stores.{value_at_each}
 use Rattle.cics_history.proofs.Outcomes.{outcome_of-set}
@@ -49,7 +45,7 @@ use Rattle.cics_units.specs.FilesImagesLaws.{content_of_cell}
 use Rattle.cics_units.specs.ImageRows.{kept_by}
 use Rattle.cics_units.specs.StoreMatching.{StoreValue, AnyImage, shown_store, shown_records, end_cell, bytes_of, cell_of_any, any_content, IsAnyReady, any_undone, AnyKeep, AreImagesOf}
 use Rattle.cics_units.specs.StoreInPlace.{HasMarks, IsUnmarked, AreInPlace, holds_end, is_free_end, is_free_split, is_free}
-use Rattle.cics_units.proofs.StoreMatched.{is_of_end, each_passes, unnamed_kept, unmarked_kept}
+use Rattle.cics_units.proofs.StoreMatched.{is_of_end, none_of_end, each_passes, unnamed_kept, unmarked_kept}
 
 -- ---- what the three show of a cell
 -- of a key
@@ -127,19 +123,12 @@ module _ (s : UnitsState) (m : StoreValue) (images : List (Kept AnyImage)) (soun
       (queue_logical s.opening q ≡ true) × (used s.trace u (Td q) end ≡ true)
   marked_used u on q end t = elim (cases_Bool (queue_logical s.opening q)) [
     | inl l ↦ (l, true_from_ne_false (used s.trace u (Td q) end) (λ n. true≢false (sym t ∙ none end l n)))
-    | inr plain ↦ absurd (true≢false (sym (any_more (is_of_end q end) (λ i. is_same (queue_of_mark i) q) (of_queue end) (place.marks.images u) t)
-        ∙ place.ends.bare q plain u))
+    | inr plain ↦ absurd (true≢false (sym t ∙ none_of_end q end (place.marks.images u) (place.ends.bare q plain u)))
   ]
     where
       none : (end : End) → queue_logical s.opening q ≡ true → used s.trace u (Td q) end ≡ false → list_any (is_of_end q end) (place.marks.images u) ≡ false
       none Reading l n = (place.ends.images q l u on).none_of_reading n
       none Writing l n = (place.ends.images q l u on).none_of_writing n
-
-      of_queue : (end : End) (i : MarkImage) → is_of_end q end i ≡ true → is_same (queue_of_mark i) q ≡ true
-      of_queue Reading (OfReading r before made) t = t
-      of_queue Reading (OfWriting r before made) t = absurd (false≢true t)
-      of_queue Writing (OfWriting r before made) t = t
-      of_queue Writing (OfReading r before made) t = absurd (false≢true t)
 
   -- two open units that used one end of something recoverable are one
   one_at : (u w : ℕ) (x : Cell) (end : End) → is_open (outcome_of s.outcomes u) ≡ true → is_open (outcome_of s.outcomes w) ≡ true →

@@ -20,10 +20,11 @@ use Rattle.cics_transdata.specs.declared.images.TdImage.TheVariants.{Taken, Writ
 use Rattle.cics_transdata.specs.Undo.{end_of}
 use Rattle.cics_history.specs.Cells.{Cell, Key, Ts, Td, Content, same_cell, End, Reading, Writing}
 use Rattle.cics_history.specs.Undo.{Image, Leads, names}
-use Rattle.cics_history.specs.MarkImages.{MarkImage, OfReading, OfWriting, queue_of}
+use Rattle.cics_history.specs.MarkImages.{MarkImage, OfReading, OfWriting, queue_of, marks_queue}
 use Rattle.cics_history.specs.Ends.{is_of_reading, is_of_writing}
 use Rattle.cics_history.specs.Carried.{Carries}
 use Rattle.cics_history.proofs.Joining.{same_cell-true, same_cell-refl}
+use Rattle.cics_history.proofs.Waiting.{any_more}
 use Rattle.cics_units.specs.FilesImagesLaws.{same_bytes-eq, bytes_eq-turned}
 use Rattle.cics_units.specs.StoreMatching.{AnyImage, QueuesImage, shown_records, bytes_of, end_cell, bytes_of_end, cell_of_any, AnyLeads, IsImageOfChange, IsImageOfMark, AreImagesOf}
 
@@ -130,6 +131,17 @@ queue_apart i x = bytes_eq-turned (cell_of_any (TransData i)) (bytes_of x) ∙ b
 abbrev pub is_of_end : Bytes → End → MarkImage → Bool
 is_of_end q Reading m = is_of_reading q m
 is_of_end q Writing m = is_of_writing q m
+
+-- marks of another queue are of no end of this one
+pub none_of_end : (q : Bytes) (end : End) (ms : List MarkImage) → marks_queue q ms ≡ false → list_any (is_of_end q end) ms ≡ false
+none_of_end q end ms bare = false_from_ne_true (list_any (is_of_end q end) ms)
+    (λ t. true≢false (sym (any_more (is_of_end q end) (λ i. is_same (queue_of i) q) (of_queue end) ms t) ∙ bare))
+  where
+    of_queue : (end : End) (i : MarkImage) → is_of_end q end i ≡ true → is_same (queue_of i) q ≡ true
+    of_queue Reading (OfReading r before made) t = t
+    of_queue Reading (OfWriting r before made) t = absurd (false≢true t)
+    of_queue Writing (OfWriting r before made) t = t
+    of_queue Writing (OfReading r before made) t = absurd (false≢true t)
 
 -- the end that a mark is of
 abbrev pub end_of_mark : MarkImage → End

@@ -6,8 +6,9 @@ use Rattle.cics_tempstor.specs.declared.queue_rows.Row.{Row}
 use Rattle.cics_tempstor.specs.Queues.{Queue, is_there, has_item, queue_at, queues_of, places_of, delete_condition, after_read_item}
 use Rattle.cics_tempstor.specs.Shown.{queue_at-queues_of}
 use Rattle.cics_tempstor.specs.Places.{AreInOrder, has_key-queues_of, places_of-written, places_of-rewritten, places_of-deleted, places_of-read, without-absent_queue, in_order_written, in_order_rewritten, in_order_deleted, in_order_read}
-use Rattle.cics_history.specs.Store.{Store, apply, ts_queue, is_normal}
-use Rattle.cics_history.specs.Holding.{UnitsState, store_of, awaited}
+use Rattle.cics_history.specs.State.{Store, UnitsState}
+use Rattle.cics_history.specs.Store.{apply, ts_queue, is_normal}
+use Rattle.cics_history.specs.Holding.{store_of, awaited}
 use Rattle.cics_history.specs.Execution.{next_after, state_of, after_execution, after_ts_reading}
 use Rattle.cics_history.specs.declared.ops.Op.{Op}
 use Rattle.cics_history.specs.declared.ops.Op.TheVariants.{TsWrite, TsRewrite, TsDelete}

@@ -19,8 +19,8 @@ use Rattle.cics_transdata.specs.declared.images.TdImage.{TdImage}
 use Rattle.cics_transdata.specs.Trans.{TransState}
 use Rattle.cics_transdata.specs.Undo.{end_of as end_of_image, content_at as end_content, Leads as EndLeads, IsReadyImage as IsEndReady, undone as queue_undone, KeepsEnds, IsTransImage}
 use Rattle.cics_transdata.specs.UndoLaws as queue
-use Rattle.cics_history.specs.Openings.{queue_logical}
-use Rattle.cics_history.specs.Holding.{UnitsState, awaited}
+use Rattle.cics_history.specs.State.{queue_logical, UnitsState}
+use Rattle.cics_history.specs.Holding.{awaited}
 use Rattle.cics_history.specs.Execution.{unit_or_next}
 use Rattle.cics_history.specs.declared.ops.Op.{Op}
 use Rattle.cics_history.specs.declared.ops.Op.TheVariants.{TdWrite, TdRead}

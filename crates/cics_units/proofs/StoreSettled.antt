@@ -3,7 +3,7 @@
 use Rattle.std.proofs.Common.{arith, ◌≡◌, ◌≤◌, ℕ, zero, suc, Bool, true, false, ◌&&◌, ◌||◌, if◌then◌else◌, Option, Some, None, List, [], ◌∷◌, length, length-drop, drop, refl, ap, sym, subst, ◌∙◌, inl, inr}
 use Rattle.std.specs.Prelude.{fold, option_map, min}
 use Rattle.std.specs.List.{list_any}
-use Rattle.std.proofs.lemmas.Bool.{true≢false, false≢true, cases_Bool, and_parts, or_parts, false_from_ne_true}
+use Rattle.std.proofs.lemmas.Bool.{true≢false, false≢true, cases_Bool, and_parts, or_parts}
 use Rattle.std.proofs.lemmas.Iterator.Adapters.{option_map_id}
 use Rattle.cics_names.specs.Keyed.{Bytes, value_at, is_same, is_rising}
 use Rattle.cics_names.specs.KeyedLaws.{is_same-self, is_same-other}
@@ -15,26 +15,24 @@ use Rattle.cics_images.specs.StoreCells.{with_trans_data}
 use Rattle.cics_images.specs.declared.stores.StoreImage.TheVariants.{File, TempStorage, TransData}
 use Rattle.cics_transdata.specs.declared.images.TdImage.{TdImage}
 use Rattle.cics_transdata.specs.declared.images.TdImage.TheVariants.{Taken, Written}
-use Rattle.cics_transdata.specs.Trans.{TransState, queue_of}
-use Rattle.cics_history.specs.Openings.{queue_logical}
-use Rattle.cics_history.specs.History.{outcome_of, is_open}
-use Rattle.cics_history.specs.Holding.{UnitsState}
+use Rattle.cics_transdata.specs.Trans.{TransState, queue_of, reader_committed, writer_committed}
+use Rattle.cics_history.specs.State.{queue_logical, UnitsState}
+use Rattle.cics_history.specs.Headline.{outcome_of, is_open}
 use Rattle.cics_history.specs.Cells.{Td, End, Reading, Writing}
 use Rattle.cics_history.specs.Events.{is_live}
 use Rattle.cics_history.specs.Isolation.{used}
 use Rattle.cics_history.specs.Undo.{Image}
 use Rattle.cics_history.specs.Marks.{unwritten}
-use Rattle.cics_history.specs.MarkImages.{MarkImage, OfReading, OfWriting, queue_of as queue_of_mark, marks_queue}
+use Rattle.cics_history.specs.MarkImages.{MarkImage, OfReading, OfWriting, queue_of as queue_of_mark}
 use Rattle.cics_history.specs.Ends.{is_of_reading, is_of_writing, LeadsTaken, LeadsFresh, HasEnds}
 use Rattle.cics_history.specs.Carried.{Carries}
 use Rattle.cics_history.proofs.Maps.{same_map}
-use Rattle.cics_history.proofs.Waiting.{any_more}
 use Rattle.cics_units.specs.ImageRows.{kept_by}
 use Rattle.cics_units.specs.StoreMatching.{StoreValue, AnyImage, QueuesImage, shown_store, cell_of_any, any_swept, AreImagesOf, any_holds}
 use Rattle.cics_units.specs.StoreInPlace.{HasMarks, AreInPlace, writer_ended, reader_ended, committed_at}
 use Rattle.cics_units.specs.StoreEnds.{kind_at, end_committed, is_at_end, end_settled, writers_settled, ends_settled, has_end}
 use Rattle.cics_units.proofs.Opened.{value_at-each, rising-each}
-use Rattle.cics_units.proofs.StoreMatched.{is_of_end}
+use Rattle.cics_units.proofs.StoreMatched.{is_of_end, none_of_end}
 use Rattle.cics_units.proofs.StoreQueues.{all_swept_queue}
 use Rattle.cics_units.proofs.StoreEnds.{rising-changed}
 
@@ -58,19 +56,14 @@ ended_twice end false second (Some t) = refl
 ended_twice end true false (Some t) = refl
 ended_twice end true true (Some t) = ap Some (committed_again end t)
 
--- the end of a commit shows the queue as it was
-shown_ended : (end : End) (b : Bool) (o : Option TransState) → option_map queue_of (option_map (end_ended end b) o) ≡ option_map queue_of o
-shown_ended end b None = refl
-shown_ended end false (Some t) = refl
-shown_ended Reading true (Some t) = refl
-shown_ended Writing true (Some t) = refl
-
--- and leaves its recovery
-kind_ended : (end : End) (b : Bool) (o : Option TransState) → option_map (λ t. t.kind) (option_map (end_ended end b) o) ≡ option_map (λ t. t.kind) o
-kind_ended end b None = refl
-kind_ended end false (Some t) = refl
-kind_ended Reading true (Some t) = refl
-kind_ended Writing true (Some t) = refl
+-- what a commit of each end leaves, the commit of both or of one leaves
+ends_leave : {A : Type 0} (f : TransState → A) → ((t : TransState) → f (reader_committed t) ≡ f t) → ((t : TransState) → f (writer_committed t) ≡ f t) →
+    (reads writes : Bool) (o : Option TransState) → option_map f (option_map (reader_ended reads) (option_map (writer_ended writes) o)) ≡ option_map f o
+ends_leave f reader writer reads writes None = refl
+ends_leave f reader writer false false (Some t) = refl
+ends_leave f reader writer false true (Some t) = ap Some (writer t)
+ends_leave f reader writer true false (Some t) = ap Some (reader t)
+ends_leave f reader writer true true (Some t) = ap Some (reader (writer_committed t) ∙ writer t)
 
 module _ (end : End) where
   -- the three after this end is settled where the images are of it
@@ -101,52 +94,36 @@ module _ (end : End) where
       settled_at is (end_settled end m (TransData i)) q ∙ ap (option_map (end_ended end (has_end q end is))) (one_settled m i q)
       ∙ ended_twice end (is_at_end end i.image && is_same i.name q) (has_end q end is) (value_at q m.trans_data)
 
-  -- the files stay
-  settled_files : (is : List AnyImage) (m : StoreValue) → (settled m is).files ≡ m.files
-  settled_files [] m = refl
-  settled_files (File i ∷ is) m = settled_files is m
-  settled_files (TempStorage i ∷ is) m = settled_files is m
-  settled_files (TransData i ∷ is) m = settled_files is (end_settled end m (TransData i)) ∙ by (is_at_end end i.image)
+  -- what each commit of a queue's end keeps, all of them keep
+  settled_keeps : (P : StoreValue → Type 0) → ((s : StoreValue) (q : Bytes) → P s →
+      P (with_trans_data s (changed_at (λ t. end_committed end t) q s.trans_data))) → (is : List AnyImage) (m : StoreValue) → P m → P (settled m is)
+  settled_keeps P keeps [] m h = h
+  settled_keeps P keeps (File i ∷ is) m h = settled_keeps P keeps is m h
+  settled_keeps P keeps (TempStorage i ∷ is) m h = settled_keeps P keeps is m h
+  settled_keeps P keeps (TransData i ∷ is) m h = settled_keeps P keeps is (end_settled end m (TransData i)) (by (is_at_end end i.image))
     where
-      by : (b : Bool) → (if b then with_trans_data m (changed_at (λ t. end_committed end t) i.name m.trans_data) else m).files ≡ m.files
-      by true = refl
-      by false = refl
-
-  -- and the rows of temporary storage
-  settled_rows : (is : List AnyImage) (m : StoreValue) → (settled m is).temp_storage ≡ m.temp_storage
-  settled_rows [] m = refl
-  settled_rows (File i ∷ is) m = settled_rows is m
-  settled_rows (TempStorage i ∷ is) m = settled_rows is m
-  settled_rows (TransData i ∷ is) m = settled_rows is (end_settled end m (TransData i)) ∙ by (is_at_end end i.image)
-    where
-      by : (b : Bool) → (if b then with_trans_data m (changed_at (λ t. end_committed end t) i.name m.trans_data) else m).temp_storage ≡ m.temp_storage
-      by true = refl
-      by false = refl
-
-  -- the names of the queues go on rising
-  settled_rising : (is : List AnyImage) (m : StoreValue) → is_rising m.trans_data ≡ true → is_rising (settled m is).trans_data ≡ true
-  settled_rising [] m rising = rising
-  settled_rising (File i ∷ is) m rising = settled_rising is m rising
-  settled_rising (TempStorage i ∷ is) m rising = settled_rising is m rising
-  settled_rising (TransData i ∷ is) m rising = settled_rising is (end_settled end m (TransData i)) (by (is_at_end end i.image))
-    where
-      by : (b : Bool) → is_rising (if b then with_trans_data m (changed_at (λ t. end_committed end t) i.name m.trans_data) else m).trans_data ≡ true
-      by true = rising-changed (λ t. end_committed end t) i.name m.trans_data rising
-      by false = rising
+      by : (b : Bool) → P (if b then with_trans_data m (changed_at (λ t. end_committed end t) i.name m.trans_data) else m)
+      by true = keeps m i.name h
+      by false = h
 
 -- ---- both ends
 module _ (m : StoreValue) (is : List AnyImage) where
+  -- what each commit of an end of a queue keeps, both keep
+  ends_keep : (P : StoreValue → Type 0) → ((end : End) (s : StoreValue) (q : Bytes) → P s →
+      P (with_trans_data s (changed_at (λ t. end_committed end t) q s.trans_data))) → P m → P (ends_settled m is)
+  ends_keep P keeps h = settled_keeps Reading P (keeps Reading) is (writers_settled m is) (settled_keeps Writing P (keeps Writing) is m h)
+
   -- the files stay
   pub ends_files : (ends_settled m is).files ≡ m.files
-  ends_files = settled_files Reading is (writers_settled m is) ∙ settled_files Writing is m
+  ends_files = ends_keep (λ s. s.files ≡ m.files) (λ end s q h. h) refl
 
   -- the rows of temporary storage stay
   pub ends_rows : (ends_settled m is).temp_storage ≡ m.temp_storage
-  ends_rows = settled_rows Reading is (writers_settled m is) ∙ settled_rows Writing is m
+  ends_rows = ends_keep (λ s. s.temp_storage ≡ m.temp_storage) (λ end s q h. h) refl
 
   -- the names of the queues go on rising
   pub ends_rising : is_rising m.trans_data ≡ true → is_rising (ends_settled m is).trans_data ≡ true
-  ends_rising rising = settled_rising Reading is (writers_settled m is) (settled_rising Writing is m rising)
+  ends_rising = ends_keep (λ s. is_rising s.trans_data ≡ true) (λ end s q rising. rising-changed (λ t. end_committed end t) q s.trans_data rising)
 
   -- each queue has the ends committed that the images are of
   pub ends_at : (q : Bytes) → value_at q (ends_settled m is).trans_data
@@ -156,8 +133,7 @@ module _ (m : StoreValue) (is : List AnyImage) where
   -- each queue keeps its recovery
   pub ends_kinds : (q : Bytes) → kind_at (ends_settled m is) q ≡ kind_at m q
   ends_kinds q = ap (option_map (λ t. t.kind)) (ends_at q)
-      ∙ kind_ended Reading (has_end q Reading is) (option_map (writer_ended (has_end q Writing is)) (value_at q m.trans_data))
-      ∙ kind_ended Writing (has_end q Writing is) (value_at q m.trans_data)
+      ∙ ends_leave (λ t. t.kind) (λ t. refl) (λ t. refl) (has_end q Reading is) (has_end q Writing is) (value_at q m.trans_data)
 
   -- and shows what it showed, so that the three do
   pub ends_shown : is_rising m.trans_data ≡ true → shown_store (ends_settled m is) ≡ shown_store m
@@ -171,8 +147,8 @@ module _ (m : StoreValue) (is : List AnyImage) where
       queues = same_map (shown_store (ends_settled m is)).td (shown_store m).td
           (rising-each queue_of (ends_settled m is).trans_data ∙ ends_rising rising) (rising-each queue_of m.trans_data ∙ rising) (λ q.
           value_at-each queue_of q (ends_settled m is).trans_data ∙ ap (option_map queue_of) (ends_at q)
-          ∙ shown_ended Reading (has_end q Reading is) (option_map (writer_ended (has_end q Writing is)) (value_at q m.trans_data))
-          ∙ shown_ended Writing (has_end q Writing is) (value_at q m.trans_data) ∙ sym (value_at-each queue_of q m.trans_data))
+          ∙ ends_leave queue_of (λ t. refl) (λ t. refl) (has_end q Reading is) (has_end q Writing is) (value_at q m.trans_data)
+          ∙ sym (value_at-each queue_of q m.trans_data))
 
   -- nothing is held back for a mark, so what is held back stays
   pub ends_held : (c : images.Cell) → any_holds (ends_settled m is) c ≡ any_holds m c
@@ -181,8 +157,6 @@ module _ (m : StoreValue) (is : List AnyImage) where
   ends_held (suc zero ∷ c) = ap (λ rows. any_holds (record m { temp_storage = rows }) (1 ∷ c)) ends_rows
   ends_held (suc (suc zero) ∷ c) = refl
   ends_held (suc (suc (suc n)) ∷ c) = refl
-
--- ---- in which order the images come
 
 -- ---- the ends that the unit holds
 -- the images that are kept are of the ends that the marks are of
@@ -205,17 +179,6 @@ kept_ends q end cs (m ∷ ms) (TransData i ∷ is) kept =
     by Written (OfWriting r before made) Writing carries named = ap (λ x. is_same x q) named
     by (Taken n) (OfWriting r before made) end carries named = absurd carries
     by Written (OfReading r before made) end carries named = absurd carries
-
--- marks of another queue are of no end of this one
-none_of_end : (q : Bytes) (end : End) (ms : List MarkImage) → marks_queue q ms ≡ false → list_any (is_of_end q end) ms ≡ false
-none_of_end q end ms bare = false_from_ne_true (list_any (is_of_end q end) ms)
-    (λ t. true≢false (sym (any_more (is_of_end q end) (λ i. is_same (queue_of_mark i) q) (of_queue end) ms t) ∙ bare))
-  where
-    of_queue : (end : End) (i : MarkImage) → is_of_end q end i ≡ true → is_same (queue_of_mark i) q ≡ true
-    of_queue Reading (OfReading r before made) t = t
-    of_queue Reading (OfWriting r before made) t = absurd (false≢true t)
-    of_queue Writing (OfWriting r before made) t = t
-    of_queue Writing (OfReading r before made) t = absurd (false≢true t)
 
 -- where no image is of the reading end, the images lead from no number of marks to another
 taken_stays : (is : List MarkImage) (q : Bytes) (t to : ℕ) → list_any (is_of_reading q) is ≡ false → LeadsTaken is q t to → t ≡ to

@@ -13,7 +13,8 @@ use Rattle.cics_enqueue.specs.ResourceLaws.{free_own, is_one-eq, same_resources}
 use Rattle.cics_enqueue.proofs.TableLaws.{holder_without, holder_of-taken, holder_of-given_back, holder_of-released, once-taken, once-given_back, once-released, is_in_order-taken, is_in_order-given_back, is_in_order-released}
 use Rattle.cics_enqueue.specs.declared.resources.Resource.{Resource}
 use Rattle.cics_enqueue.specs.declared.resources.Resource.TheVariants.{FileKey, TsQueue, TdRead as ReadingEnd, TdWrite as WritingEnd, User, FilePrefix}
-use Rattle.cics_history.specs.Holding.{UnitsState, EnqCount, held_by}
+use Rattle.cics_history.specs.State.{UnitsState, EnqCount}
+use Rattle.cics_history.specs.Holding.{held_by}
 use Rattle.cics_units.specs.Uses.{taken_all, AreFreeFor}
 use Rattle.cics_units.specs.TableInPlace.{record_of, is_holder, counted_before, counts_in, AreOnce, IsTableOf}
 

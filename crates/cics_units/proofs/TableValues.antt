@@ -16,9 +16,9 @@ use Rattle.cics_enqueue.specs.ResourceLaws.{free_own, is_one-eq, is_one-cmp, is_
 use Rattle.cics_enqueue.proofs.TableLaws.{left_of, right_of, unit_in, held_less, held_below, held_before, freed-absent, held_at-with_holder, held_at-given_back, holder_of-taken, is_in_order-taken, is_in_order-given_back}
 use Rattle.cics_enqueue.specs.declared.resources.Resource.{Resource}
 use Rattle.cics_enqueue.specs.declared.resources.Resource.TheVariants.{FileKey, TsQueue, TdRead as ReadingEnd, TdWrite as WritingEnd, User, FilePrefix}
-use Rattle.cics_history.specs.Openings.{OpeningState}
-use Rattle.cics_history.specs.History.{outcome_of, is_open}
-use Rattle.cics_history.specs.Holding.{UnitsState, UpdateRead, EnqCount, value_holder}
+use Rattle.cics_history.specs.State.{OpeningState, UnitsState, UpdateRead, EnqCount}
+use Rattle.cics_history.specs.Headline.{outcome_of, is_open}
+use Rattle.cics_history.specs.Holding.{value_holder}
 use Rattle.cics_history.specs.Execution.{unit_or_next, outcomes_with, is_count, count_at, counted, uncounted, with_counts, enq_of, enqueue, after_enqueued, after_dequeue}
 use Rattle.cics_history.specs.Events.{may_act}
 use Rattle.cics_history.specs.Isolation.{IsSound}

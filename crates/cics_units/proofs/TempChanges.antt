@@ -22,39 +22,32 @@ use Rattle.cics_units.specs.StoreMatching.{StoreValue, shown_store}
 use Rattle.cics_units.specs.QueueChanges.{is_trans, is_temp, queue_of, rows_after, rows_image, rows_answer}
 
 -- ---- the command and its queue
+-- what holds for each of the three commands holds for all
+temp_each : (P : Op → Type 0) → ((q d : Bytes) → P (TsWrite q d)) → ((q : Bytes) (n : ℕ) (d : Bytes) → P (TsRewrite q n d)) → ((q : Bytes) → P (TsDelete q)) →
+    (op : Op) → is_temp op ≡ true → P op
+temp_each P write rewrite delete (TsWrite q d) is = write q d
+temp_each P write rewrite delete (TsRewrite q n d) is = rewrite q n d
+temp_each P write rewrite delete (TsDelete q) is = delete q
+temp_each P write rewrite delete _ is = absurd (false≢true is)
+
 -- it names the queue
 pub temp_cell_of : (op : Op) → is_temp op ≡ true → cell_of_op op ≡ Ts (queue_of op)
-temp_cell_of (TsWrite q d) is = refl
-temp_cell_of (TsRewrite q n d) is = refl
-temp_cell_of (TsDelete q) is = refl
-temp_cell_of _ is = absurd (false≢true is)
+temp_cell_of = temp_each (λ op. cell_of_op op ≡ Ts (queue_of op)) (λ q d. refl) (λ q n d. refl) (λ q. refl)
 
 -- it acts on it alone
 pub temp_single : (op : Op) → is_temp op ≡ true → is_generic op ≡ false
-temp_single (TsWrite q d) is = refl
-temp_single (TsRewrite q n d) is = refl
-temp_single (TsDelete q) is = refl
-temp_single _ is = absurd (false≢true is)
+temp_single = temp_each (λ op. is_generic op ≡ false) (λ q d. refl) (λ q n d. refl) (λ q. refl)
 
 -- it is on no file, nor on a transient data queue
 pub temp_no_file : (op : Op) → is_temp op ≡ true → is_file_op op ≡ false
-temp_no_file (TsWrite q d) is = refl
-temp_no_file (TsRewrite q n d) is = refl
-temp_no_file (TsDelete q) is = refl
-temp_no_file _ is = absurd (false≢true is)
+temp_no_file = temp_each (λ op. is_file_op op ≡ false) (λ q d. refl) (λ q n d. refl) (λ q. refl)
 
 pub temp_no_trans : (op : Op) → is_temp op ≡ true → is_trans op ≡ false
-temp_no_trans (TsWrite q d) is = refl
-temp_no_trans (TsRewrite q n d) is = refl
-temp_no_trans (TsDelete q) is = refl
-temp_no_trans _ is = absurd (false≢true is)
+temp_no_trans = temp_each (λ op. is_trans op ≡ false) (λ q d. refl) (λ q n d. refl) (λ q. refl)
 
 -- and uses it whole
 pub temp_uses : (op : Op) → is_temp op ≡ true → uses op Writing ≡ true
-temp_uses (TsWrite q d) is = refl
-temp_uses (TsRewrite q n d) is = refl
-temp_uses (TsDelete q) is = refl
-temp_uses _ is = absurd (false≢true is)
+temp_uses = temp_each (λ op. uses op Writing ≡ true) (λ q d. refl) (λ q n d. refl) (λ q. refl)
 
 -- ---- the rows
 -- whether a command is answered NORMAL

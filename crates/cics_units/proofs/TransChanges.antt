@@ -13,7 +13,7 @@ use Rattle.cics_images.specs.StoreCells.{with_trans_data}
 use Rattle.cics_transdata.specs.Trans.{TransState, IsMarked, is_logical, queue_of as records_of, first_of, seen_count, read_condition, trans_written, trans_taken, trans_read, trans_deleted}
 use Rattle.cics_transdata.specs.Undo.{taken_image}
 use Rattle.cics_history.specs.Store.{apply, apply_td_write, apply_td_read, apply_td_delete, with_td, with_content, is_recoverable}
-use Rattle.cics_history.specs.Openings.{OpeningState, queue_logical}
+use Rattle.cics_history.specs.State.{OpeningState, queue_logical}
 use Rattle.cics_history.specs.Holding.{is_nothing}
 use Rattle.cics_history.specs.Records.{is_file_op}
 use Rattle.cics_history.specs.declared.ops.Op.{Op}
@@ -33,13 +33,6 @@ use Rattle.cics_units.proofs.Opened.{value_at-each, with_value-each}
 abbrev pub IsToldEnough : Op → Bool → MarkedQueue → Type 0
 IsToldEnough (TdRead q) own m = is_nothing (seen false (not own) m) ≡ is_nothing (shown m)
 IsToldEnough _ own m = Unit {0}
-
--- a command on a transient data queue is on no file
-pub trans_no_file : (op : Op) → is_trans op ≡ true → is_file_op op ≡ false
-trans_no_file (TdWrite q d) is = refl
-trans_no_file (TdRead q) is = refl
-trans_no_file (TdDelete q) is = refl
-trans_no_file _ is = absurd (false≢true is)
 
 -- ---- the queue itself
 -- of a choice both parts have the recovery
@@ -298,23 +291,26 @@ plain_image (TdDelete q) own t plain = rw plain refl
 plain_image _ own t plain = refl
 
 -- ---- the command and its queue
+-- what holds for each of the three commands holds for all
+trans_each : (P : Op → Type 0) → ((q d : Bytes) → P (TdWrite q d)) → ((q : Bytes) → P (TdRead q)) → ((q : Bytes) → P (TdDelete q)) →
+    (op : Op) → is_trans op ≡ true → P op
+trans_each P write read delete (TdWrite q d) is = write q d
+trans_each P write read delete (TdRead q) is = read q
+trans_each P write read delete (TdDelete q) is = delete q
+trans_each P write read delete _ is = absurd (false≢true is)
+
+-- it is on no file
+pub trans_no_file : (op : Op) → is_trans op ≡ true → is_file_op op ≡ false
+trans_no_file = trans_each (λ op. is_file_op op ≡ false) (λ q d. refl) (λ q. refl) (λ q. refl)
+
 -- it names the queue
 pub trans_cell_of : (op : Op) → is_trans op ≡ true → cell_of_op op ≡ Td (queue_of op)
-trans_cell_of (TdWrite q d) is = refl
-trans_cell_of (TdRead q) is = refl
-trans_cell_of (TdDelete q) is = refl
-trans_cell_of _ is = absurd (false≢true is)
+trans_cell_of = trans_each (λ op. cell_of_op op ≡ Td (queue_of op)) (λ q d. refl) (λ q. refl) (λ q. refl)
 
 -- it acts on it alone
 pub trans_single : (op : Op) → is_trans op ≡ true → is_generic op ≡ false
-trans_single (TdWrite q d) is = refl
-trans_single (TdRead q) is = refl
-trans_single (TdDelete q) is = refl
-trans_single _ is = absurd (false≢true is)
+trans_single = trans_each (λ op. is_generic op ≡ false) (λ q d. refl) (λ q. refl) (λ q. refl)
 
 -- and is recoverable where the queue is LOGICAL
 pub trans_recoverable : (o : OpeningState) (op : Op) → is_trans op ≡ true → is_recoverable o op ≡ queue_logical o (queue_of op)
-trans_recoverable o (TdWrite q d) is = refl
-trans_recoverable o (TdRead q) is = refl
-trans_recoverable o (TdDelete q) is = refl
-trans_recoverable o _ is = absurd (false≢true is)
+trans_recoverable o = trans_each (λ op. is_recoverable o op ≡ queue_logical o (queue_of op)) (λ q d. refl) (λ q. refl) (λ q. refl)

@@ -11,9 +11,10 @@ use Rattle.cics_tempstor.specs.declared.queue_rows.Row.{Row}
 use Rattle.cics_tempstor.specs.Queues.{is_there, has_item, queue_at, queues_of, empty_row, places_of, row_answer, read_item, after_read_item}
 use Rattle.cics_tempstor.specs.Shown.{queue_shown, queues_of-shown, rising-queues_of, rising_read, value_at-shown, queue_at-queues_of, next_place-places_of}
 use Rattle.cics_tempstor.specs.Undo.{KeepsQueues}
-use Rattle.cics_history.specs.Openings.{OpeningState, HasLawfulKeys, IsOpeningInOrder, queue_logical}
-use Rattle.cics_history.specs.Store.{Store, ts_queue}
-use Rattle.cics_history.specs.Holding.{UnitsState, store_of}
+use Rattle.cics_history.specs.State.{OpeningState, queue_logical, Store, UnitsState}
+use Rattle.cics_history.specs.Openings.{HasLawfulKeys, IsOpeningInOrder}
+use Rattle.cics_history.specs.Store.{ts_queue}
+use Rattle.cics_history.specs.Holding.{store_of}
 use Rattle.cics_history.specs.Execution.{place_at, item_asked, ts_reading, after_ts_reading}
 use Rattle.cics_history.specs.Cells.{IsCanonical, Cell, Ts, content}
 use Rattle.cics_history.specs.declared.ops.Answer.{Answer}
@@ -35,7 +36,7 @@ use Rattle.cics_images.specs.NamedLaws as named
 use Rattle.cics_transdata.specs.Trans.{TransState}
 use Rattle.cics_transdata.specs.Undo.{KeepsEnds}
 use Rattle.cics_transdata.specs.UndoLaws as queue
-use Rattle.cics_history.specs.History.{is_open}
+use Rattle.cics_history.specs.Headline.{is_open}
 use Rattle.cics_history.proofs.Places.{ts_reading-IsPlaceOf}
 use Rattle.cics_history.proofs.InPlace.{ts_reading-AreMarksOf}
 use Rattle.cics_units.specs.FilesImagesLaws as files

@@ -7,7 +7,7 @@ use Rattle.std.proofs.lemmas.List.{take_more}
 use Rattle.cics_names.specs.Keyed.{Bytes, is_same, is_key_in}
 use Rattle.cics_names.specs.RisingLaws.{is_same-turned}
 use Rattle.cics_names.specs.Names.{blank}
-use Rattle.cics_history.specs.Openings.{unpadded, has_prefix_in}
+use Rattle.cics_history.specs.State.{unpadded, has_prefix_in}
 
 -- what is left behind a byte is all that tells what is left with it
 same_rest : (b : ℕ) (bs cs : Bytes) → unpadded bs ≡ unpadded cs → unpadded (b ∷ bs) ≡ unpadded (b ∷ cs)

@@ -5,9 +5,9 @@ use Rattle.std.specs.List.{list_any}
 use Rattle.cics_enqueue.specs.Resources.{Table, is_user, holder_over}
 use Rattle.cics_enqueue.specs.declared.resources.Resource.{Resource}
 use Rattle.cics_enqueue.specs.declared.resources.Resource.TheVariants.{TdWrite as WritingEnd}
-use Rattle.cics_history.specs.Openings.{OpeningState, queue_logical}
+use Rattle.cics_history.specs.State.{OpeningState, queue_logical, UnitsState}
 use Rattle.cics_history.specs.Store.{is_recoverable}
-use Rattle.cics_history.specs.Holding.{UnitsState, held_table, first_holder, first_some, committed_for, is_nothing, holder_among, uses_of, awaited, writer_awaited}
+use Rattle.cics_history.specs.Holding.{owned, blocker_at, first_some, committed_for, is_nothing, blocker_among, uses_of, awaited, writer_awaited}
 use Rattle.cics_history.specs.Isolation.{IsSound}
 use Rattle.cics_history.specs.Execution.{unit_or_next, IsOpenUnit}
 use Rattle.cics_history.specs.declared.ops.Op.{Op}
@@ -55,7 +55,7 @@ first_either P (Some v) b h is one other = one is
 
 module _ (s : UnitsState) (t : Table) (i : IsSound s) (k : IsTableOf s t) where
   -- the unit that is found in the history is the one that is found in the table, over each of what is used
-  pub table_holder_all : (asking : Option ℕ) (rs : List Resource) → holder_among (held_table s) asking rs ≡ holder_over_all rs asking t
+  pub table_holder_all : (asking : Option ℕ) (rs : List Resource) → blocker_among (owned s) asking rs ≡ holder_over_all rs asking t
   table_holder_all asking [] = refl
   table_holder_all asking (r ∷ rs) = λ j. first_some (table_holder s t i k asking r j) (table_holder_all asking rs j)
 
@@ -92,7 +92,7 @@ module _ (s : UnitsState) (t : Table) (i : IsSound s) (k : IsTableOf s t) where
 
       writer_open : (op : Op) → writer_awaited s u op ≡ Some h → IsOpenUnit s h
       writer_open (TdRead q) found = elim (queue_logical s.opening q && is_nothing (committed_for s u q)) as
-          (λ b. (if b then first_holder (held_table s) u (WritingEnd q) else None) ≡ Some h → IsOpenUnit s h) [
+          (λ b. (if b then blocker_at (owned s) u (WritingEnd q) else None) ≡ Some h → IsOpenUnit s h) [
             | true ↦ λ writes. holder_open s t i k u (WritingEnd q) h (sym (table_holder s t i k u (WritingEnd q)) ∙ writes)
             | false ↦ λ none. absurd (none_some none)
           ] found

@@ -4,7 +4,8 @@ use Rattle.std.specs.Prelude.{◌≡◌, ℕ, Bool, not, if◌then◌else◌, Op
 use Rattle.cics_names.specs.Keyed.{Bytes, has_key}
 use Rattle.cics_ksds.specs.Files.{key_of, fits_file}
 use Rattle.cics_ksds.specs.declared.definition.FileDef.{FileDef}
-use Rattle.cics_history.specs.Openings.{OpeningState, FileOpening, QueueOpening, is_record_size, is_key}
+use Rattle.cics_history.specs.State.{OpeningState, FileOpening, QueueOpening}
+use Rattle.cics_history.specs.Openings.{is_record_size, is_key}
 use Rattle.cics_units.specs.declared.opening.DefineFault.{DefineFault}
 use Rattle.cics_units.specs.declared.opening.DefineFault.TheVariants.{Duplicate, BadKey, BadLength, NotThere, NoMemory}
 

@@ -4,8 +4,8 @@ use Rattle.cics_names.specs.Keyed.{Bytes, value_at}
 use Rattle.cics_enqueue.specs.Resources.{Table}
 use Rattle.cics_tempstor.specs.Queues.{places_of}
 use Rattle.cics_tempstor.specs.Places.{AreInOrder}
-use Rattle.cics_history.specs.Openings.{OpeningState, IsOpeningInOrder, HasLawfulKeys}
-use Rattle.cics_history.specs.Holding.{UnitsState}
+use Rattle.cics_history.specs.State.{OpeningState, UnitsState}
+use Rattle.cics_history.specs.Openings.{IsOpeningInOrder, HasLawfulKeys}
 use Rattle.cics_history.specs.Cells.{IsCanonical}
 use Rattle.cics_history.specs.Isolation.{IsSound}
 use Rattle.cics_history.specs.Serial.{IsInOrder}

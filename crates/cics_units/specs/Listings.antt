@@ -5,9 +5,8 @@ use Rattle.cics_ksds.specs.Files.{records_of}
 use Rattle.cics_ksds.specs.declared.definition.FileDef.{FileDef}
 use Rattle.cics_transdata.specs.declared.queues.Recovery.{Recovery}
 use Rattle.cics_transdata.specs.declared.queues.Recovery.TheVariants.{Unrecovered}
-use Rattle.cics_history.specs.Openings.{OpeningState, QueueOpening, file_recoverable, has_prefix_in}
-use Rattle.cics_history.specs.Store.{Store, initial_store}
-use Rattle.cics_history.specs.History.{kept, replay}
+use Rattle.cics_history.specs.State.{OpeningState, QueueOpening, file_recoverable, has_prefix_in, Store, initial_store}
+use Rattle.cics_history.specs.Headline.{kept, replay}
 use Rattle.cics_history.specs.declared.ops.Entry.{Entry}
 use Rattle.cics_history.specs.declared.ops.UnitState.{UnitState}
 use Rattle.cics_units.specs.declared.listings.Listing.{Listing}

@@ -3,7 +3,7 @@ use Rattle.std.specs.Prelude.{◌≡◌, ◌<◌, ℕ, suc, Bool, false, if◌th
 use Rattle.std.specs.List.{slice_index_or, remove}
 use Rattle.cics_names.specs.Keyed.{Bytes, Map, value_at, without, is_below, is_same}
 use Rattle.cics_ksds.specs.Prefixes.{has_prefix}
-use Rattle.cics_history.specs.Holding.{UpdateRead}
+use Rattle.cics_history.specs.State.{UpdateRead}
 
 -- the update reads of a unit, by file
 abbrev pub reads_of : ℕ → Map Bytes → List UpdateRead

@@ -3,7 +3,7 @@ use Rattle.std.specs.Prelude.{List}
 use Rattle.cics_names.specs.Keyed.{Bytes, Map}
 use Rattle.cics_ksds.specs.Files.{FileValue}
 use Rattle.cics_transdata.specs.Trans.{TransState}
-use Rattle.cics_history.specs.Openings.{OpeningState}
+use Rattle.cics_history.specs.State.{OpeningState}
 use Rattle.cics_units.specs.RegionFiles.{openings_of}
 use Rattle.cics_units.specs.RegionQueues.{queue_openings}
 

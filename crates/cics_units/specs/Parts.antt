@@ -12,7 +12,7 @@ use Rattle.cics_transdata.specs.Trans.{TransState, first_of}
 use Rattle.cics_ksds.specs.Undo.{ImageValue}
 use Rattle.cics_ksds.specs.Prefixes.{has_prefix, under}
 use Rattle.cics_history.specs.Store.{apply}
-use Rattle.cics_history.specs.Holding.{UpdateRead}
+use Rattle.cics_history.specs.State.{UpdateRead}
 use Rattle.cics_units.specs.RegionFiles.{IsThere, key_in}
 use Rattle.cics_units.specs.FilesImages.{cell_of}
 use Rattle.cics_units.specs.StoreMatching.{StoreValue, AnyImage, StoreWithImages, shown_store, cell_of_any, any_holds}

@@ -18,7 +18,7 @@ use Rattle.cics_transdata.specs.declared.images.TdImage.{TdImage}
 use Rattle.cics_transdata.specs.Trans.{TransState, first_of, read_condition, trans_written, trans_read, trans_deleted}
 use Rattle.cics_transdata.specs.Undo.{reading_end, writing_end, KeepsEnds, IsTransImage}
 use Rattle.cics_transdata.specs.Undo as td
-use Rattle.cics_history.specs.Openings.{OpeningState}
+use Rattle.cics_history.specs.State.{OpeningState}
 use Rattle.cics_history.specs.Store.{only, numbered, with_content}
 use Rattle.cics_history.specs.declared.ops.Answer.{Answer}
 use Rattle.cics_history.specs.declared.ops.Op.{Op}

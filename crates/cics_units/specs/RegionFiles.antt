@@ -2,7 +2,8 @@
 use Rattle.std.specs.Prelude.{◌≡◌, true, IsTrue, T, All, Option, Some, None, [], map, fold}
 use Rattle.cics_names.specs.Keyed.{Bytes, Map, with_value, is_rising}
 use Rattle.cics_ksds.specs.Files.{FileValue, IsContent, key_of, fits_file, written}
-use Rattle.cics_history.specs.Openings.{FileOpening, is_key}
+use Rattle.cics_history.specs.State.{FileOpening}
+use Rattle.cics_history.specs.Openings.{is_key}
 
 -- a record can be written to a file that is there and that it fits
 abbrev pub IsFitFor : Option FileValue → Bytes → Type 0

@@ -2,7 +2,7 @@
 use Rattle.std.specs.Prelude.{◌≡◌, T, All, ◌∷◌, [], ◌++◌, map}
 use Rattle.cics_names.specs.Keyed.{Bytes, Map, is_rising}
 use Rattle.cics_transdata.specs.Trans.{TransState, holding}
-use Rattle.cics_history.specs.Openings.{QueueOpening}
+use Rattle.cics_history.specs.State.{QueueOpening}
 
 -- a queue of which no unit of work has written a record, with a record more
 abbrev pub loaded_with : TransState → Bytes → TransState

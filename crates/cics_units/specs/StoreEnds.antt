@@ -14,7 +14,8 @@ use Rattle.cics_transdata.specs.declared.images.TdImage.{TdImage}
 use Rattle.cics_transdata.specs.declared.images.TdImage.TheVariants.{Taken, Written}
 use Rattle.cics_transdata.specs.declared.queues.Recovery.{Recovery}
 use Rattle.cics_transdata.specs.Trans.{TransState, reader_committed, writer_committed}
-use Rattle.cics_history.specs.Holding.{UnitsState, store_of}
+use Rattle.cics_history.specs.State.{UnitsState}
+use Rattle.cics_history.specs.Holding.{store_of}
 use Rattle.cics_history.specs.Execution.{after_end}
 use Rattle.cics_history.specs.declared.ops.UnitState.{UnitState}
 use Rattle.cics_history.specs.Cells.{End, Reading, Writing, IsCanonical}

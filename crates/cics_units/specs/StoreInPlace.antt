@@ -10,9 +10,8 @@ use Rattle.cics_images.specs.NamedValues.{split}
 use Rattle.cics_images.specs.StoreCells.{by_part}
 use Rattle.cics_transdata.specs.Trans.{TransState, IsMarked, is_logical, reader_committed, writer_committed}
 use Rattle.cics_transdata.specs.Undo.{reading_end, writing_end}
-use Rattle.cics_history.specs.Openings.{queue_logical}
-use Rattle.cics_history.specs.History.{outcome_of, is_open}
-use Rattle.cics_history.specs.Holding.{UnitsState}
+use Rattle.cics_history.specs.State.{queue_logical, UnitsState}
+use Rattle.cics_history.specs.Headline.{outcome_of, is_open}
 use Rattle.cics_history.specs.Cells.{content, Td, End, Reading, Writing}
 use Rattle.cics_history.specs.Isolation.{used}
 use Rattle.cics_history.specs.Undo.{Image, IsPlaceOf}

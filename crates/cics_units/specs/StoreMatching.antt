@@ -20,7 +20,7 @@ use Rattle.cics_tempstor.specs.Undo.{content_at as queue_content, name_of_image,
 use Rattle.cics_transdata.specs.declared.images.TdImage.{TdImage}
 use Rattle.cics_transdata.specs.Trans.{TransState, queue_of}
 use Rattle.cics_transdata.specs.Undo.{reading_end, writing_end, end_of, content_at as end_content, Leads as EndLeads, IsReadyImage as IsEndReady, undone as queue_undone, KeepsEnds}
-use Rattle.cics_history.specs.Store.{Store}
+use Rattle.cics_history.specs.State.{Store}
 use Rattle.cics_history.specs.Cells.{Cell, Key, Ts, Td, Content, End, Reading, Writing}
 use Rattle.cics_history.specs.Undo.{Image}
 use Rattle.cics_history.specs.MarkImages.{MarkImage, queue_of as queue_of_mark}

@@ -4,7 +4,7 @@ use Rattle.cics_names.specs.Keyed.{Bytes, Map}
 use Rattle.cics_tempstor.specs.declared.queue_rows.Row.{Row}
 use Rattle.cics_tempstor.specs.Queues.{next_place, places_of}
 use Rattle.cics_tempstor.specs.Places.{AreInOrder}
-use Rattle.cics_history.specs.Holding.{UnitsState}
+use Rattle.cics_history.specs.State.{UnitsState}
 
 -- the rows are in order, and their NEXT places are those that the history gives
 pub record HavePlaces (s : UnitsState) (rows : Map Row) : Type 0 where

@@ -6,9 +6,9 @@ use Rattle.cics_names.specs.declared.conditions.Condition.{Condition}
 use Rattle.cics_enqueue.specs.Resources.{Table, Held, bytes_of, is_one, is_user, is_in_order, holder_of, count_of, given_back}
 use Rattle.cics_enqueue.specs.declared.resources.Resource.{Resource}
 use Rattle.cics_enqueue.specs.declared.resources.Resource.TheVariants.{FileKey, User}
-use Rattle.cics_history.specs.Openings.{OpeningState, file_recoverable}
+use Rattle.cics_history.specs.State.{OpeningState, file_recoverable, UnitsState, UpdateRead, EnqCount}
 use Rattle.cics_history.specs.Store.{is_normal, is_recoverable}
-use Rattle.cics_history.specs.Holding.{UnitsState, UpdateRead, EnqCount, held_by}
+use Rattle.cics_history.specs.Holding.{held_by}
 use Rattle.cics_history.specs.Execution.{is_read_of, read_at, covers}
 use Rattle.cics_history.specs.Records.{file_of}
 use Rattle.cics_units.specs.Uses.{uses_if, taken_all}

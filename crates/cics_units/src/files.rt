@@ -1,8 +1,6 @@
 //! The files of a region by name.
 
-ghost use Rattle.std.specs.Prelude.{◌≡◌, T, IfOk};
-ghost use Rattle.cics_names.specs.Keyed.{is_rising};
-ghost use Rattle.cics_units.specs.RegionFiles.{refilled};
+ghost use Rattle.std.specs.Prelude.{◌≡◌, IfOk};
 
 use crate::named::Named;
 use cics_images::NamedImage;
@@ -19,23 +17,15 @@ pub(crate) type Files = Named<File>;
 pub(crate) type FilesImage = NamedImage<FileImage>;
 
 impl Named<File> {
-    // The files one after the other, each put among those before it. Their names rise.
-    fn refill(&self) -> Result<Files, NoMemory>
-        ensures files { IfOk result (λ files. files ≡ refilled self.now) }
-        ensures in_order { T (is_rising self.now) }
+    /// Returns files with the same names, definitions and contents. It takes memory for each
+    /// record. The only error is `NoMemory`.
+    pub(crate) fn copy(&self) -> Result<Files, NoMemory>
+        ensures { IfOk result (λ files. files ≡ self.now) }
     {
         let mut files = Named::new(self.alloc);
         for (name, original) in &self.rows {
             files.insert(*name, original.copy()?)?;
         }
         Ok(files)
-    }
-
-    /// Files of their own with the same names, definitions and contents. It takes memory for each
-    /// record, and an `Err` comes only where memory is refused.
-    pub(crate) fn copy(&self) -> Result<Files, NoMemory>
-        ensures { IfOk result (λ files. files ≡ self.now) }
-    {
-        self.refill()
     }
 }

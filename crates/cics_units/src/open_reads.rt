@@ -28,7 +28,7 @@ pub(crate) struct OpenReads {
 
 impl Model for OpenReads {
     ghost use Rattle.std.specs.Prelude.{List};
-    ghost use Rattle.cics_history.specs.Holding.{UpdateRead};
+    ghost use Rattle.cics_history.specs.State.{UpdateRead};
     ghost use Rattle.cics_units.specs.OpenReads.{reads_from};
 
     ghost Value = { List UpdateRead };

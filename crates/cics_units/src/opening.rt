@@ -1,6 +1,6 @@
 //! What a region opens with.
 
-ghost use Rattle.std.specs.Prelude.{◌≡◌, true, OnOk, OnErr, IfOk, map, IsSome};
+ghost use Rattle.std.specs.Prelude.{◌≡◌, true, OnOk, OnErr, IsSome};
 ghost use Rattle.cics_units.specs.QueueChanges.{is_temp};
 ghost use Rattle.cics_names.specs.Keyed.{value_at};
 ghost use Rattle.cics_images.specs.NamedValues.{changed_at};
@@ -8,8 +8,6 @@ ghost use Rattle.cics_history.specs.Openings.{is_record_size, is_key};
 ghost use Rattle.cics_units.specs.Faults.{fault_number};
 ghost use Rattle.cics_units.specs.RegionFiles.{IsFitFor, written_in};
 ghost use Rattle.cics_units.specs.RegionQueues.{loaded_with};
-ghost use Rattle.cics_ksds.specs.Files.{records_of};
-ghost use Rattle.cics_transdata.specs.Trans.{queue_of};
 
 use crate::files::Files;
 use crate::prefixes::{has_prefix_in, is_defined};
@@ -106,36 +104,6 @@ fn add_loaded(queues: &mut Queues, name: &Name4, content: Record) -> Result<(), 
     Ok(())
 }
 
-// Each file in the order of the names, with its definition and copies of its records.
-fn listed_files(
-    alloc: Global,
-    files: &Files,
-) -> Result<Items<(Name8, FileDef, Items<Record>)>, NoMemory>
-    ensures { IfOk result (λ listed. listed
-        ≡ map (λ e. (e.0, e.1.definition, records_of e.1.records)) files.now) }
-{
-    let mut listed = Items::new(alloc);
-    for (name, file) in files.iter() {
-        listed.push((*name, file.definition(), file.listing()?))?;
-    }
-    Ok(listed)
-}
-
-// Each transient data queue in the order of the names, with its recovery and copies of its records.
-fn listed_queues(
-    alloc: Global,
-    queues: &Queues,
-) -> Result<Items<(Name4, Recovery, Items<Record>)>, NoMemory>
-    ensures { IfOk result (λ listed. listed
-        ≡ map (λ e. (e.0, e.1.kind, queue_of e.1)) queues.now) }
-{
-    let mut listed = Items::new(alloc);
-    for (name, queue) in queues.iter() {
-        listed.push((*name, queue.recovery(), queue.listing()?))?;
-    }
-    Ok(listed)
-}
-
 /// The definitions that a region opens with, and the records that were loaded into them.
 ///
 /// Contracts see the files by name, each with its definition and its records by key. They see the
@@ -150,7 +118,7 @@ pub struct Opening {
 }
 
 impl Model for Opening {
-    ghost use Rattle.cics_history.specs.Openings.{OpeningState};
+    ghost use Rattle.cics_history.specs.State.{OpeningState};
     ghost use Rattle.cics_units.specs.RegionFiles.{AreLoaded};
     ghost use Rattle.cics_units.specs.RegionQueues.{AreLoadedQueues};
     ghost use Rattle.cics_units.specs.Opened.{opened_with};
@@ -168,7 +136,7 @@ impl Opening {
     ghost use Rattle.cics_history.specs.Openings.{with_prefix, with_queue, with_td_record};
     ghost use Rattle.cics_history.specs.Openings.{HasLawfulKeys, IsOpeningInOrder};
     ghost use Rattle.cics_history.specs.Store.{is_recoverable};
-    ghost use Rattle.cics_history.specs.Openings.{file_recoverable, has_prefix_in, queue_logical};
+    ghost use Rattle.cics_history.specs.State.{file_recoverable, has_prefix_in, queue_logical};
     ghost use Rattle.cics_units.specs.Faults.{AnswersFault, file_fault, load_fault};
     ghost use Rattle.cics_units.specs.Faults.{fault_if, load_td_fault};
     ghost use Rattle.cics_units.specs.RegionFiles.{opened_files, AreLoaded};
@@ -324,7 +292,11 @@ impl Opening {
     pub fn defined_files(&self) -> Result<Items<(Name8, FileDef, Items<Record>)>, NoMemory>
         ensures { IfOk result (λ files. files ≡ defined_files self.now) }
     {
-        listed_files(self.alloc, self.files())
+        let mut listed = Items::new(self.alloc);
+        for (name, file) in self.files().iter() {
+            listed.push((*name, file.definition(), file.listing()?))?;
+        }
+        Ok(listed)
     }
 
     /// Returns the defined transient data queues in the order of their names. Each has its recovery
@@ -332,7 +304,11 @@ impl Opening {
     pub fn defined_queues(&self) -> Result<Items<(Name4, Recovery, Items<Record>)>, NoMemory>
         ensures { IfOk result (λ queues. queues ≡ defined_queues self.now) }
     {
-        listed_queues(self.alloc, self.queues())
+        let mut listed = Items::new(self.alloc);
+        for (name, queue) in self.queues().iter() {
+            listed.push((*name, queue.recovery(), queue.listing()?))?;
+        }
+        Ok(listed)
     }
 
     /// Returns whether a file is defined as recoverable.

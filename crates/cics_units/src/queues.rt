@@ -9,7 +9,6 @@ ghost use Rattle.cics_names.specs.Keyed.{has_key, value_at, with_value, is_risin
 ghost use Rattle.cics_images.specs.NamedValues.{changed_at};
 ghost use Rattle.cics_transdata.specs.Trans.{reader_committed, writer_committed};
 ghost use Rattle.cics_transdata.specs.contracts.queues.TransQueue.{the_row as queue_row};
-ghost use Rattle.cics_units.specs.RegionFiles.{refilled};
 ghost use Rattle.cics_units.specs.contracts.queues.Queues.{the_row};
 
 use cics_images::Undoable;
@@ -152,24 +151,16 @@ impl Queues {
         self.rows.iter()
     }
 
-    // The queues one after the other, each put among those before it. Their names rise.
-    fn refill(&self) -> Result<Queues, NoMemory>
-        ensures queues { IfOk result (λ queues. queues ≡ refilled self.now) }
-        ensures in_order { T (is_rising self.now) }
+    /// Returns queues with the same names, recoveries, records and marks. It takes memory for each
+    /// record.
+    pub(crate) fn copy(&self) -> Result<Queues, NoMemory>
+        ensures { IfOk result (λ queues. queues ≡ self.now) }
     {
         let mut queues = Queues::new(self.alloc);
         for (name, original) in &self.rows {
             queues.insert(*name, original.copy()?)?;
         }
         Ok(queues)
-    }
-
-    /// Returns queues with the same names, recoveries, records and marks. It takes memory for each
-    /// record.
-    pub(crate) fn copy(&self) -> Result<Queues, NoMemory>
-        ensures { IfOk result (λ queues. queues ≡ self.now) }
-    {
-        self.refill()
     }
 }
 

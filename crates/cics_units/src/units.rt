@@ -6,16 +6,17 @@ ghost use Rattle.std.specs.Prelude.{OnErr};
 ghost use Rattle.std.specs.Option.{option_copied};
 ghost use Rattle.cics_names.specs.Keyed.{value_at};
 ghost use Rattle.cics_history.specs.Openings.{IsOpeningInOrder, is_key};
-ghost use Rattle.cics_history.specs.History.{outcome_of};
+ghost use Rattle.cics_history.specs.Headline.{outcome_of, IsHeadline, LeavesNoTrace};
 ghost use Rattle.cics_history.specs.Holding.{awaited, value_holder};
 ghost use Rattle.cics_history.specs.Execution.{IfMustWait, IfEnqMustWait, unit_or_next};
 ghost use Rattle.cics_history.specs.Execution.{outcomes_with, IsOpenUnit, IsOpenOrNone};
-ghost use Rattle.cics_history.specs.Execution.{is_ready_op};
-ghost use Rattle.cics_history.specs.Execution.{execution, after_execution, enqueue, after_enqueue};
-ghost use Rattle.cics_history.specs.Execution.{after_dequeue, after_unlock, read_at, after_end};
-ghost use Rattle.cics_history.specs.Execution.{place_at, item_asked, ts_reading, after_ts_reading};
-ghost use Rattle.cics_history.specs.Headline.{IsHeadline, LeavesNoTrace, beginning};
+ghost use Rattle.cics_history.specs.Execution.{is_ready_op, execution, after_execution, enqueue};
+ghost use Rattle.cics_history.specs.Execution.{after_enqueue, after_dequeue, after_unlock, read_at};
+ghost use Rattle.cics_history.specs.Execution.{after_end, place_at, item_asked, ts_reading};
+ghost use Rattle.cics_history.specs.Execution.{after_ts_reading};
+ghost use Rattle.cics_history.specs.State.{beginning};
 ghost use Rattle.cics_history.specs.Isolation.{IsSound};
+ghost use Rattle.cics_history.specs.Serial.{IsSerializable};
 ghost use Rattle.cics_units.specs.Listings.{listing_of, replayed_listing};
 ghost use Rattle.cics_units.specs.Submitting.{as_done, IsBackIfItWaits};
 ghost use Rattle.cics_units.specs.StorePlaces.{number_asked};
@@ -53,13 +54,15 @@ pub enum Submitted {
 /// of units and the commit order. It also has the open update reads, the counts of ENQ and the
 /// NEXT cursors. `store` is read off the files and queues themselves.
 ///
-/// After every call `headline` holds, which says two things of them:
+/// After every call two clauses hold:
 ///
-/// - The store equals a replay of the surviving entries: the trace without what backed-out units
-///   did to recoverable files and queues. Each entry has in the replay the answer that it has here.
-/// - Committed units are serializable in commit order. Run so, their NORMAL commands on recoverable
-///   files and queues give what would stand if the open units were backed out. With the open units
-///   after them, in any order, they give what stands. Each of them has the same answer.
+/// - `headline`: the store equals a replay of the surviving entries, the trace without what
+///   backed-out units did to recoverable files and queues. Each entry has in the replay the answer
+///   that it has here.
+/// - `serializable`: committed units are serializable in commit order. Run so, their NORMAL
+///   commands on recoverable files and queues give what would stand if the open units were backed
+///   out. With the open units after them, in any order, they give what stands. Each of them has the
+///   same answer.
 ///
 /// The invariant behind it is `AreValid`: it ties store, images, locks and reads to the history. By
 /// its `place`, undoing an open unit's images leaves what the others did. By its `table`, the locks
@@ -75,7 +78,7 @@ pub struct Units {
 }
 
 impl Model for Units {
-    ghost use Rattle.cics_history.specs.Execution.{UnitsValue};
+    ghost use Rattle.cics_history.specs.State.{UnitsValue};
     ghost use Rattle.cics_units.specs.StoreMatching.{shown_store};
     ghost use Rattle.cics_units.specs.Cores.{core_value};
     ghost use Rattle.cics_units.specs.KeptUnits.{state_shown, AreValid};
@@ -179,6 +182,7 @@ impl Units {
         ensures state { IfOk result (λ units. units.state ≡ beginning opening) }
         ensures in_order { IfOk result (λ units. IsOpeningInOrder units.state.opening) }
         ensures headline { IfOk result IsHeadline }
+        ensures serializable { IfOk result IsSerializable }
         ensures err { IfErr result (λ back. back ≡ opening) }
     {
         let alloc = opening.allocator();
@@ -215,6 +219,7 @@ impl Units {
         ensures is_open { IfSome result (IsOpenUnit self.now.state) }
         ensures sound { IsSound self.now.state }
         ensures headline { IsHeadline self.now }
+        ensures serializable { IsSerializable self.now }
     {
         // A copy for each call that the unit is handed to.
         let acts = asking;
@@ -231,6 +236,7 @@ impl Units {
         ensures holder_open { IfOk result (λ done. IfMustWait done (IsOpenUnit self.old.state)) }
         ensures state { OnOk result (self.new.state ≡ after_execution self.old.state unit op.now) }
         ensures headline { IsHeadline self.new }
+        ensures serializable { IsSerializable self.new }
         ensures err { OnErr result (self.new ≡ self.old) }
     {
         // The invariant is known once a field is used.
@@ -259,6 +265,7 @@ impl Units {
             IfMustWait (as_done done) (IsOpenUnit self.old.state)) }
         ensures state { OnOk result (self.new.state ≡ after_execution self.old.state unit op) }
         ensures headline { IsHeadline self.new }
+        ensures serializable { IsSerializable self.new }
         ensures err { OnErr result (self.new ≡ self.old) }
     {
         // A copy for each call that the unit is handed to.
@@ -299,6 +306,7 @@ impl Units {
         ensures holder_open { IfOk result (λ done. IfEnqMustWait done (IsOpenUnit self.old.state)) }
         ensures state { OnOk result (self.new.state ≡ after_enqueue self.old.state unit value.now) }
         ensures headline { IsHeadline self.new }
+        ensures serializable { IsSerializable self.new }
         ensures store { self.new.store ≡ self.old.store }
         ensures err { OnErr result (self.new ≡ self.old) }
     {
@@ -338,6 +346,7 @@ impl Units {
         requires most { length value.now ≤ 255 }
         ensures state { self.new.state ≡ after_dequeue self.old.state unit value.now }
         ensures headline { IsHeadline self.new }
+        ensures serializable { IsSerializable self.new }
         ensures store { self.new.store ≡ self.old.store }
     {
         self.core.locks.let_go(&ResourceRef::value(value), unit);
@@ -358,6 +367,7 @@ impl Units {
         requires is_open { IsOpenUnit self.old.state unit }
         ensures state { self.new.state ≡ after_unlock self.old.state unit file.now }
         ensures headline { IsHeadline self.new }
+        ensures serializable { IsSerializable self.new }
         ensures store { self.new.store ≡ self.old.store }
     {
         let recoverable = self.opening.is_recoverable_file(file);
@@ -377,6 +387,7 @@ impl Units {
             ≡ after_ts_reading self.old.state queue.now
             (item_asked self.old.state queue.now item)) }
         ensures headline { IsHeadline self.new }
+        ensures serializable { IsSerializable self.new }
         ensures store { self.new.store ≡ self.old.store }
         ensures err { OnErr result (self.new ≡ self.old) }
     {
@@ -414,6 +425,7 @@ impl Units {
         requires is_open { IsOpenUnit self.old.state unit }
         ensures state { self.new.state ≡ after_end self.old.state unit Committed }
         ensures headline { IsHeadline self.new }
+        ensures serializable { IsSerializable self.new }
         ensures store { self.new.store ≡ self.old.store }
     {
         let mut images = take_images(&mut self.core.rows, self.alloc, unit);
@@ -434,6 +446,7 @@ impl Units {
         requires is_open { IsOpenUnit self.old.state unit }
         ensures state { self.new.state ≡ after_end self.old.state unit BackedOut }
         ensures headline { IsHeadline self.new }
+        ensures serializable { IsSerializable self.new }
         ensures alone { LeavesNoTrace self.old self.new unit }
     {
         let mut images = take_images(&mut self.core.rows, self.alloc, unit);
@@ -467,6 +480,7 @@ impl Units {
     pub fn trace(&self) -> &[Entry]
         ensures trace { result.now ≡ self.now.state.trace }
         ensures headline { IsHeadline self.now }
+        ensures serializable { IsSerializable self.now }
     {
         self.trace.as_slice()
     }
@@ -488,11 +502,12 @@ impl Units {
 
     /// Returns the units that committed, in commit order.
     ///
-    /// - `headline`: run in this order, what they did gives what would stand in recoverable files
-    ///   and queues if the open units were backed out.
+    /// - `serializable`: run in this order, what they did gives what would stand in recoverable
+    ///   files and queues if the open units were backed out.
     pub fn commits(&self) -> &[UnitId]
         ensures commits { result.now ≡ self.now.state.commits }
         ensures headline { IsHeadline self.now }
+        ensures serializable { IsSerializable self.now }
     {
         self.commits.as_slice()
     }
@@ -507,6 +522,7 @@ impl Units {
         ensures replayed { IfOk result (λ listing. listing ≡ replayed_listing self.now.state.opening
             self.now.state.trace self.now.state.outcomes) }
         ensures headline { IsHeadline self.now }
+        ensures serializable { IsSerializable self.now }
     {
         Listing::of_store(self.alloc, &self.opening, &self.core.store)
     }

@@ -5,6 +5,7 @@ ghost use Rattle.cics_names.specs.Keyed.{value_at};
 ghost use Rattle.cics_names.specs.declared.conditions.Condition.TheVariants.{Normal};
 ghost use Rattle.cics_history.specs.Execution.{IsOpenOrNone};
 ghost use Rattle.cics_history.specs.Headline.{IsHeadline};
+ghost use Rattle.cics_history.specs.Serial.{IsSerializable};
 ghost use Rattle.cics_dispatch.specs.Machine.{Machine, definition_of, with_units};
 ghost use Rattle.cics_dispatch.specs.Replies.{plain};
 ghost use Rattle.cics_dispatch.specs.Steps.{answered, unlocked, started, reset, browse_ended};
@@ -25,9 +26,11 @@ use cics_units::Units;
 fn unlock_file(units: &mut Units, unit: Option<UnitId>, name: &Name8)
     requires is_open { IsOpenOrNone units.old.state unit }
     requires headline { IsHeadline units.old }
+    requires serializable { IsSerializable units.old }
     ensures state { (m : Machine) → with_units m units.new.state
         ≡ unlocked (with_units m units.old.state) unit name.now }
     ensures headline { IsHeadline units.new }
+    ensures serializable { IsSerializable units.new }
 {
     let Some(unit) = unit else {
         return;

@@ -4,6 +4,7 @@ ghost use Rattle.std.specs.Prelude.{◌≡◌, ◌<◌, ◌≤◌, None, length}
 ghost use Rattle.cics_names.specs.declared.conditions.Condition.TheVariants.{Normal};
 ghost use Rattle.cics_history.specs.Execution.{IsOpenOrNone};
 ghost use Rattle.cics_history.specs.Headline.{IsHeadline};
+ghost use Rattle.cics_history.specs.Serial.{IsSerializable};
 ghost use Rattle.cics_dispatch.specs.Replies.{plain};
 ghost use Rattle.cics_dispatch.specs.Steps.{answered, dequeued, units_dequeued};
 ghost use Rattle.cics_dispatch.specs.Calls.{IsAwake, HasReady, IsStepOf, IsStepOrRefused};
@@ -21,8 +22,10 @@ fn free_value(units: &mut Units, unit: Option<UnitId>, value: &[u8])
     requires is_open { IsOpenOrNone units.old.state unit }
     requires most { length value.now ≤ 255 }
     requires headline { IsHeadline units.old }
+    requires serializable { IsSerializable units.old }
     ensures state { units.new.state ≡ units_dequeued units.old.state unit value.now }
     ensures headline { IsHeadline units.new }
+    ensures serializable { IsSerializable units.new }
 {
     let Some(unit) = unit else {
         return;

@@ -4,10 +4,11 @@ ghost use Rattle.std.specs.Prelude.{◌≡◌, [], ◌∷◌, IfOk, OnOk};
 ghost use Rattle.cics_names.specs.Keyed.{value_at, with_value};
 ghost use Rattle.cics_tempstor.specs.Queues.{has_item};
 ghost use Rattle.cics_units.specs.Listings.{listing_of};
-ghost use Rattle.cics_history.specs.Store.{initial_store, apply, apply_write, apply_rewrite};
-ghost use Rattle.cics_history.specs.Store.{apply_delete, apply_delete_generic, apply_ts_write};
-ghost use Rattle.cics_history.specs.Store.{apply_ts_rewrite, apply_ts_delete, ts_queue, with_ts};
-ghost use Rattle.cics_history.specs.Store.{apply_td_write, apply_td_read, apply_td_delete};
+ghost use Rattle.cics_history.specs.State.{initial_store};
+ghost use Rattle.cics_history.specs.Store.{apply, apply_write, apply_rewrite, apply_delete};
+ghost use Rattle.cics_history.specs.Store.{apply_delete_generic, apply_ts_write, apply_ts_rewrite};
+ghost use Rattle.cics_history.specs.Store.{apply_ts_delete, ts_queue, with_ts, apply_td_write};
+ghost use Rattle.cics_history.specs.Store.{apply_td_read, apply_td_delete};
 
 use super::queues::PlainQueue;
 use super::records::PlainRecords;
@@ -35,7 +36,7 @@ pub(crate) struct PlainStore {
 impl Model for PlainStore {
     ghost use Rattle.std.specs.Prelude.{T};
     ghost use Rattle.cics_names.specs.Keyed.{is_rising};
-    ghost use Rattle.cics_history.specs.Store.{Store};
+    ghost use Rattle.cics_history.specs.State.{Store};
 
     ghost Value = { Store };
 

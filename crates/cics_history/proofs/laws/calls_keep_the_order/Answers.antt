@@ -1,4 +1,4 @@
-use Rattle.cics_history.proofs.SerialRuns.{beginning-IsInOrder, execution-IsInOrder, commit-IsInOrder, backout-IsInOrder, enqueue-IsInOrder, dequeue-IsInOrder, unlock-IsInOrder, ts_reading-IsInOrder, turns_of}
+use Rattle.cics_history.proofs.SerialRuns.{beginning-IsInOrder, execution-IsInOrder, commit-IsInOrder, backout-IsInOrder, enqueue-IsInOrder, dequeue-IsInOrder, unlock-IsInOrder, ts_reading-IsInOrder, serializable_of}
 use Rattle.cics_history.proofs.laws.calls_keep_the_order.Goals as goal
 
 pub returns : goal.returns
@@ -11,5 +11,5 @@ returns c = record {
   dequeues = λ s u v i. dequeue-IsInOrder s i u v;
   unlocks = λ s u f i. unlock-IsInOrder s i u f;
   reads = λ s q n i. ts_reading-IsInOrder s i q n;
-  turns = λ v sound i c stands. turns_of v i sound.known c stands;
+  serializable = λ v sound i c stands. serializable_of v i sound.known c stands;
 }

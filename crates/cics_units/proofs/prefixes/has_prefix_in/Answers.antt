@@ -1,6 +1,6 @@
 use Rattle.std.proofs.Common.{◌+◌, ◌∙◌, ap, sym, drop, ◌||◌}
 use Rattle.std.proofs.Math.ListN.{drop_of_length-le}
-use Rattle.cics_history.specs.Openings.{has_prefix_in}
+use Rattle.cics_history.specs.State.{has_prefix_in}
 use Rattle.cics_units.proofs.Unpadded.{next_prefix}
 use Rattle.cics_units.proofs.prefixes.has_prefix_in.Goals as goal
 

@@ -1,5 +1,5 @@
 use Rattle.std.proofs.Common.{◌≡◌, drop}
-use Rattle.cics_history.specs.Openings.{has_prefix_in}
+use Rattle.cics_history.specs.State.{has_prefix_in}
 use Rattle.cics_units.proofs.prefixes.has_prefix_in.Given as goal
 
 -- whether the name begins with one is told by those that are left

@@ -1,5 +1,5 @@
 use Rattle.std.proofs.Common.{◌≡◌, ◌≤◌, length, take}
-use Rattle.cics_history.specs.Openings.{unpadded}
+use Rattle.cics_history.specs.State.{unpadded}
 use Rattle.cics_units.proofs.prefixes.unpadded.Given as goal
 
 -- what is cut off is blank

@@ -1,7 +1,8 @@
 use Rattle.std.proofs.Common.{◌∙◌, ap, sym}
 use Rattle.std.specs.Prelude.{if◌then◌else◌}
-use Rattle.cics_history.specs.History.{is_kept}
-use Rattle.cics_history.specs.Store.{initial_store, apply}
+use Rattle.cics_history.specs.Headline.{is_kept}
+use Rattle.cics_history.specs.State.{initial_store}
+use Rattle.cics_history.specs.Store.{apply}
 use Rattle.cics_units.proofs.PlainTrace.{replayed_more}
 use Rattle.cics_units.proofs.replay.replayed.Goals as goal
 

@@ -1,6 +1,6 @@
 use Rattle.std.proofs.Common.{◌≡◌, take}
-use Rattle.cics_history.specs.History.{kept, replay}
-use Rattle.cics_history.specs.Store.{initial_store}
+use Rattle.cics_history.specs.Headline.{kept, replay}
+use Rattle.cics_history.specs.State.{initial_store}
 use Rattle.cics_units.proofs.replay.replayed.Given as goal
 
 -- the entries that were passed are replayed

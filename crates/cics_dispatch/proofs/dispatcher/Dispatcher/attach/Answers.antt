@@ -12,7 +12,7 @@ invariant_of-self-2 c =
     let m = (region_of u.units u.tasks u.waits u.clock u.is_down).machine in
     kept_as (region_of u.units c.attach.new.self u.waits u.clock u.is_down) (with_new_task m c.args.label c.args.dtimout) (λ i. record m { tasks = c.in_ok-attach.ensures.ok i })
     (kept_attached m c.args.label c.args.dtimout c.self.invariant.tasks (none_found c.find.result (sym c.if-is_some.ensures) c.find.ensures.none))
-    (owned_attached m c.args.label c.args.dtimout c.self.invariant.owned) (record { headline = c.self.invariant.headline.headline })
+    (owned_attached m c.args.label c.args.dtimout c.self.invariant.owned) (record { headline = c.self.invariant.headline.headline }) (record { serializable = c.self.invariant.serializable.serializable })
 
 pub returns-clause-kept : goal.returns-clause-kept
 returns-clause-kept c = λ was.
@@ -20,4 +20,4 @@ returns-clause-kept c = λ was.
     let m = (region_of u.units u.tasks u.waits u.clock u.is_down).machine in
     kept_as (region_of u.units c.attach.new.self u.waits u.clock u.is_down) (with_new_task m c.args.label c.args.dtimout) (λ i. record m { tasks = c.in_ok-attach.ensures.ok i })
     (kept_attached m c.args.label c.args.dtimout c.self.invariant.tasks (none_found c.find.result (sym c.if-is_some.ensures) c.find.ensures.none))
-    (owned_attached m c.args.label c.args.dtimout c.self.invariant.owned) (record { headline = c.self.invariant.headline.headline })
+    (owned_attached m c.args.label c.args.dtimout c.self.invariant.owned) (record { headline = c.self.invariant.headline.headline }) (record { serializable = c.self.invariant.serializable.serializable })

@@ -22,7 +22,7 @@ invariant_of-self c =
     closed_kept c.self.invariant c.end_unit.new.units c.close_unit-unit.new.self c.args.at t (if c.args.commits then Committed else BackedOut) c.args.has_ended there
     (seen_awake c.args.at c.self.view_is c.requires.awake t there)
     (end_shut c.args.commits) (c.end_unit.ensures.state ∙ ap (λ o. units_after u.units.state o (if c.args.commits then Committed else BackedOut)) (c.close_unit-unit.ensures.unit t there))
-    (c.close_unit-unit.ensures.task t there) c.end_unit.ensures.headline)
+    (c.close_unit-unit.ensures.task t there) c.end_unit.ensures.headline c.end_unit.ensures.serializable)
 
 pub returns-clause-kept : goal.returns-clause-kept
 returns-clause-kept c = λ was.
@@ -31,4 +31,4 @@ returns-clause-kept c = λ was.
     closed_kept c.self.invariant c.end_unit.new.units c.close_unit-unit.new.self c.args.at t (if c.args.commits then Committed else BackedOut) c.args.has_ended there
     (seen_awake c.args.at c.self.view_is c.requires.awake t there)
     (end_shut c.args.commits) (c.end_unit.ensures.state ∙ ap (λ o. units_after u.units.state o (if c.args.commits then Committed else BackedOut)) (c.close_unit-unit.ensures.unit t there))
-    (c.close_unit-unit.ensures.task t there) c.end_unit.ensures.headline)
+    (c.close_unit-unit.ensures.task t there) c.end_unit.ensures.headline c.end_unit.ensures.serializable)

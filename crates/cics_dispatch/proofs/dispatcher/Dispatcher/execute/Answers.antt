@@ -17,7 +17,7 @@ pub invariant_of-self-in-MustWait : goal.invariant_of-self-in-MustWait
 invariant_of-self-in-MustWait c =
     let tried = executes c.self.inside.units c.submit.new.self c.get.result.now c.unit-unit.result c.args.op (as_done c.in_ok-holder.field-0)
     c.unit-unit.ensures c.in_ok-holder.ensures.state c.in_ok-holder.ensures.done in
-    subst IsRegionKept (sym (waits_same c.self.invariant c.args.at c.get.result.now c.get.ensures tried c.submit.ensures.headline c.in-MustWait.holder (ap as_done c.in-MustWait.is))) c.self.invariant
+    subst IsRegionKept (sym (waits_same c.self.invariant c.args.at c.get.result.now c.get.ensures tried c.submit.ensures.headline c.submit.ensures.serializable c.in-MustWait.holder (ap as_done c.in-MustWait.is))) c.self.invariant
 
 pub returns-in-MustWait : goal.returns-in-MustWait
 returns-in-MustWait c =
@@ -35,7 +35,7 @@ returns-in-MustWait c =
         ),
         (
           subst (λ d. IfMustWait (as_done d) (IsOpenUnit u.units.state)) c.in-MustWait.is c.in_ok-holder.ensures.holder_open,
-          waits_same c.self.invariant c.args.at t c.get.ensures tried c.submit.ensures.headline holder (ap as_done c.in-MustWait.is),
+          waits_same c.self.invariant c.args.at t c.get.ensures tried c.submit.ensures.headline c.submit.ensures.serializable holder (ap as_done c.in-MustWait.is),
         ),
       );
     }
@@ -44,7 +44,7 @@ pub own_unit-requires-clause-free : goal.own_unit-requires-clause-free
 own_unit-requires-clause-free c = λ s there none.
     let tried = executes c.self.inside.units c.submit.new.self c.get.result.now c.unit-unit.result c.args.op (as_done c.in_ok-holder.field-0)
     c.unit-unit.ensures c.in_ok-holder.ensures.state c.in_ok-holder.ensures.done in
-    owner_free c.self.invariant c.args.at c.get.result.now c.get.ensures tried c.submit.ensures.headline c.in-Answered.unit c.in-Answered.answer (ap as_done c.in-Answered.is)
+    owner_free c.self.invariant c.args.at c.get.result.now c.get.ensures tried c.submit.ensures.headline c.submit.ensures.serializable c.in-Answered.unit c.in-Answered.answer (ap as_done c.in-Answered.is)
     (ap (λ x. x.unit) (one_task c.self.inside.tasks c.args.at c.get.ensures there) ∙ none)
 
 pub invariant_of-self-in-Answered : goal.invariant_of-self-in-Answered
@@ -52,7 +52,7 @@ invariant_of-self-in-Answered c =
     let t = c.get.result.now in
     let tried = executes c.self.inside.units c.submit.new.self c.get.result.now c.unit-unit.result c.args.op (as_done c.in_ok-holder.field-0)
     c.unit-unit.ensures c.in_ok-holder.ensures.state c.in_ok-holder.ensures.done in
-    acted_kept c.self.invariant c.args.at t c.get.ensures tried c.submit.ensures.headline c.in-Answered.unit c.in-Answered.answer (ap as_done c.in-Answered.is) c.own_unit.new.self
+    acted_kept c.self.invariant c.args.at t c.get.ensures tried c.submit.ensures.headline c.submit.ensures.serializable c.in-Answered.unit c.in-Answered.answer (ap as_done c.in-Answered.is) c.own_unit.new.self
     (c.own_unit.ensures t c.get.ensures) (seen_awake c.args.at c.self.view_is c.requires.awake t c.get.ensures)
 
 pub answer-requires : goal.answer-requires
@@ -62,7 +62,7 @@ answer-requires c =
     c.unit-unit.ensures c.in_ok-holder.ensures.state c.in_ok-holder.ensures.done in
     record {
       within = placed_within c.own_unit.new.self c.args.at (with_unit t c.in-Answered.unit)
-          (owner_there c.self.invariant c.args.at t c.get.ensures tried c.submit.ensures.headline c.in-Answered.unit c.in-Answered.answer (ap as_done c.in-Answered.is) c.own_unit.new.self
+          (owner_there c.self.invariant c.args.at t c.get.ensures tried c.submit.ensures.headline c.submit.ensures.serializable c.in-Answered.unit c.in-Answered.answer (ap as_done c.in-Answered.is) c.own_unit.new.self
           (c.own_unit.ensures t c.get.ensures));
     }
 
@@ -81,9 +81,9 @@ returns-in-Answered c =
       attempt = subst (λ v. IsAttempt v c.args.at command (Some c.args.op) (Ok (Told c.answer.result)) c.answer.new.self) c.self.view_is
           (then_told c.args.at t (with_unit t unit) command.resp c.reply_of_answer-reply.result
           (going_on (region_of u.units u.tasks u.waits u.clock u.is_down).machine command (Some c.args.op)) c.get.ensures
-          (owner_there c.self.invariant c.args.at t c.get.ensures tried c.submit.ensures.headline unit a acts c.own_unit.new.self owned)
-          (acted_kept c.self.invariant c.args.at t c.get.ensures tried c.submit.ensures.headline unit a acts c.own_unit.new.self owned
+          (owner_there c.self.invariant c.args.at t c.get.ensures tried c.submit.ensures.headline c.submit.ensures.serializable unit a acts c.own_unit.new.self owned)
+          (acted_kept c.self.invariant c.args.at t c.get.ensures tried c.submit.ensures.headline c.submit.ensures.serializable unit a acts c.own_unit.new.self owned
           (seen_awake c.args.at c.self.view_is c.requires.awake t c.get.ensures))
-          (acted_step c.self.invariant c.args.at t c.get.ensures tried c.submit.ensures.headline unit a acts c.own_unit.new.self owned command c.reply_of_answer-reply.result
+          (acted_step c.self.invariant c.args.at t c.get.ensures tried c.submit.ensures.headline c.submit.ensures.serializable unit a acts c.own_unit.new.self owned command c.reply_of_answer-reply.result
           c.reply_of_answer-reply.ensures) c.answer.ensures.step);
     }

@@ -1,8 +1,6 @@
 use Rattle.std.specs.Prelude.{◌≡◌, false, List, []}
 use Rattle.std.proofs.Common.{ap, ◌∙◌}
-use Rattle.cics_history.specs.Openings.{OpeningState}
-use Rattle.cics_history.specs.Execution.{UnitsValue}
-use Rattle.cics_history.specs.Headline.{beginning}
+use Rattle.cics_history.specs.State.{OpeningState, UnitsValue, beginning}
 use Rattle.cics_dispatch.specs.Machine.{Task, Suspended, beginning_region}
 use Rattle.cics_dispatch.specs.Regions.{region_of}
 use Rattle.cics_dispatch.proofs.KeptTasks.{kept_begins}
@@ -23,11 +21,11 @@ invariant_of-result c =
     let o = c.args.opening in
     kept_as (region_of c.in_ok-units.units c.new.result c.new-2.result 0 false) (beginning_region o)
     (begun o c.in_ok-units.units c.new.result c.new-2.result c.in_ok-units.ensures.state c.new.ensures c.new-2.ensures) (kept_begins o)
-    (owned_begins o) (record { headline = c.in_ok-units.ensures.headline })
+    (owned_begins o) (record { headline = c.in_ok-units.ensures.headline }) (record { serializable = c.in_ok-units.ensures.serializable })
 
 pub returns-clause-kept : goal.returns-clause-kept
 returns-clause-kept c =
     let o = c.args.opening in
     kept_as (region_of c.in_ok-units.units c.new.result c.new-2.result 0 false) (beginning_region o)
     (begun o c.in_ok-units.units c.new.result c.new-2.result c.in_ok-units.ensures.state c.new.ensures c.new-2.ensures) (kept_begins o)
-    (owned_begins o) (record { headline = c.in_ok-units.ensures.headline })
+    (owned_begins o) (record { headline = c.in_ok-units.ensures.headline }) (record { serializable = c.in_ok-units.ensures.serializable })

@@ -15,7 +15,7 @@ invariant_of-self-2 c =
     let q = c.args.queue.now in
     seen_task c.args.at c.self.view_is c.requires.within (λ t there.
     item_read_kept c.self.invariant c.args.at t there q (item_asked u.units.state q c.args.item) c.read_ts.new.self c.in_ok-answer.ensures.state
-    (seen_awake c.args.at c.self.view_is c.requires.awake t there) c.in_ok-answer.ensures.headline)
+    (seen_awake c.args.at c.self.view_is c.requires.awake t there) c.in_ok-answer.ensures.headline c.in_ok-answer.ensures.serializable)
 
 pub returns : goal.returns
 returns c =
@@ -30,6 +30,6 @@ returns c =
           seen_step c.args.at (λ k. reading_item k c.args.resp q c.args.limit c.args.item) c.self.view_is
           (then_told c.args.at t t c.args.resp c.reply_of_item.result (reading_item m c.args.resp q c.args.limit c.args.item) there there
           (item_read_kept c.self.invariant c.args.at t there q asked c.read_ts.new.self c.in_ok-answer.ensures.state
-          (seen_awake c.args.at c.self.view_is c.requires.awake t there) c.in_ok-answer.ensures.headline)
+          (seen_awake c.args.at c.self.view_is c.requires.awake t there) c.in_ok-answer.ensures.headline c.in_ok-answer.ensures.serializable)
           (λ i. answered (machine i) t c.args.resp (told i)) c.answer.ensures.step));
     }

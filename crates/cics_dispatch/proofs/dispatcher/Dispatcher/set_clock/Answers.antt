@@ -7,4 +7,4 @@ pub invariant_of-self : goal.invariant_of-self
 invariant_of-self c =
     let u = c.self.inside in
     let m = (region_of u.units u.tasks u.waits u.clock u.is_down).machine in
-    record { tasks = kept_clock m c.args.now c.self.invariant.tasks; owned = owned_clock m c.args.now c.self.invariant.owned; headline = record { headline = c.self.invariant.headline.headline } }
+    record { tasks = kept_clock m c.args.now c.self.invariant.tasks; owned = owned_clock m c.args.now c.self.invariant.owned; headline = record { headline = c.self.invariant.headline.headline }; serializable = record { serializable = c.self.invariant.serializable.serializable } }

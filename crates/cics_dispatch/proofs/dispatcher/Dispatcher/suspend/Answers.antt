@@ -20,14 +20,14 @@ invariant_of-self-2 c =
     let began = c.in_ok-begin.ensures.ok ∙ ap (λ l. u.waits ++ begins_now l m c.args.command c.args.op ∷ []) c.label-label.ensures in
     kept_as (region_of u.units u.tasks c.begin.new.self u.clock u.is_down) (with_waiting m (m.waiting ++ begins_now t.label m c.args.command c.args.op ∷ []))
     (λ i. record m { waiting = began i }) (kept_suspended m c.args.at t c.args.command c.args.op c.self.invariant.tasks c.get.ensures ready)
-    (owned_suspended m _ c.self.invariant.owned) (record { headline = c.self.invariant.headline.headline })
+    (owned_suspended m _ c.self.invariant.owned) (record { headline = c.self.invariant.headline.headline }) (record { serializable = c.self.invariant.serializable.serializable })
 
 pub invariant_of-self : goal.invariant_of-self
 invariant_of-self c =
     let u = c.self.inside in
     let m = (region_of u.units u.tasks u.waits u.clock u.is_down).machine in
     kept_as (region_of u.units u.tasks c.begin.new.self u.clock u.is_down) m (λ i. record m { waiting = c.in_err-begin.ensures.err i })
-    c.self.invariant.tasks c.self.invariant.owned (record { headline = c.self.invariant.headline.headline })
+    c.self.invariant.tasks c.self.invariant.owned (record { headline = c.self.invariant.headline.headline }) (record { serializable = c.self.invariant.serializable.serializable })
 
 pub returns : goal.returns
 returns c =
@@ -44,6 +44,6 @@ returns c =
       step = subst (λ v. IsStepOrRefused v c.args.at (λ s. suspended v.machine s command op c.args.holder) (Ok (Waiting c.in-Some.owner)) new) c.self.view_is (
         (λ s other. (λ i. with_outcome (Waiting (owner i)) (with_waiting m (began i))) ∙ ap (λ x. suspended m x command op c.args.holder) (one_task u.tasks c.args.at c.get.ensures other)),
         λ was. kept_as new (with_waiting m (m.waiting ++ begins_now t.label m command op ∷ [])) (λ i. record m { waiting = began i })
-            (kept_suspended m c.args.at t command op c.self.invariant.tasks c.get.ensures ready) (owned_suspended m _ c.self.invariant.owned) (record { headline = c.self.invariant.headline.headline }),
+            (kept_suspended m c.args.at t command op c.self.invariant.tasks c.get.ensures ready) (owned_suspended m _ c.self.invariant.owned) (record { headline = c.self.invariant.headline.headline }) (record { serializable = c.self.invariant.serializable.serializable }),
       );
     }

@@ -29,7 +29,7 @@ pub invariant_of-self-in-MustWait : goal.invariant_of-self-in-MustWait
 invariant_of-self-in-MustWait c =
     let tried = enqueues c.self.inside.units c.enq.new.self c.get.result.now c.unit-unit.result c.in-Enq.length c.in-Enq.resource c.bytes.result.now c.in_ok-holder.field-0
     c.unit-unit.ensures c.bytes.ensures c.in_ok-holder.ensures.state c.in_ok-holder.ensures.done in
-    subst IsRegionKept (sym (waits_same c.self.invariant c.args.at c.get.result.now c.get.ensures tried c.enq.ensures.headline c.in-MustWait.holder c.in-MustWait.is)) c.self.invariant
+    subst IsRegionKept (sym (waits_same c.self.invariant c.args.at c.get.result.now c.get.ensures tried c.enq.ensures.headline c.enq.ensures.serializable c.in-MustWait.holder c.in-MustWait.is)) c.self.invariant
 
 pub returns-in-MustWait : goal.returns-in-MustWait
 returns-in-MustWait c =
@@ -47,7 +47,7 @@ returns-in-MustWait c =
         ),
         (
           subst (λ d. IfEnqMustWait d (IsOpenUnit u.units.state)) c.in-MustWait.is c.in_ok-holder.ensures.holder_open,
-          waits_same c.self.invariant c.args.at t c.get.ensures tried c.enq.ensures.headline holder c.in-MustWait.is,
+          waits_same c.self.invariant c.args.at t c.get.ensures tried c.enq.ensures.headline c.enq.ensures.serializable holder c.in-MustWait.is,
         ),
       );
     }
@@ -56,7 +56,7 @@ pub invariant_of-self-in-CountFull : goal.invariant_of-self-in-CountFull
 invariant_of-self-in-CountFull c =
     let tried = enqueues c.self.inside.units c.enq.new.self c.get.result.now c.unit-unit.result c.in-Enq.length c.in-Enq.resource c.bytes.result.now c.in_ok-holder.field-0
     c.unit-unit.ensures c.bytes.ensures c.in_ok-holder.ensures.state c.in_ok-holder.ensures.done in
-    full_kept c.self.invariant c.args.at c.get.result.now c.get.ensures tried c.enq.ensures.headline c.in-CountFull.is
+    full_kept c.self.invariant c.args.at c.get.result.now c.get.ensures tried c.enq.ensures.headline c.enq.ensures.serializable c.in-CountFull.is
 
 pub returns-in-CountFull : goal.returns-in-CountFull
 returns-in-CountFull c =
@@ -69,8 +69,8 @@ returns-in-CountFull c =
     record {
       attempt = subst (λ v. IsAttempt v c.args.at command None (Ok (Told c.answer.result)) c.answer.new.self) c.self.view_is
           (then_told c.args.at t t command.resp c.plain_reply-reply.result (going_on m command None) c.get.ensures c.get.ensures
-          (full_kept c.self.invariant c.args.at t c.get.ensures tried c.enq.ensures.headline c.in-CountFull.is)
-          (full_step c.self.invariant c.args.at t c.get.ensures tried c.enq.ensures.headline c.in-CountFull.is command c.plain_reply-reply.result c.plain_reply-reply.ensures
+          (full_kept c.self.invariant c.args.at t c.get.ensures tried c.enq.ensures.headline c.enq.ensures.serializable c.in-CountFull.is)
+          (full_step c.self.invariant c.args.at t c.get.ensures tried c.enq.ensures.headline c.enq.ensures.serializable c.in-CountFull.is command c.plain_reply-reply.result c.plain_reply-reply.ensures
           ∙ ap (other_command m t command) (sym c.in-Enq.is)) c.answer.ensures.step);
     }
 
@@ -78,7 +78,7 @@ pub own_unit-requires-clause-free : goal.own_unit-requires-clause-free
 own_unit-requires-clause-free c = λ s there none.
     let tried = enqueues c.self.inside.units c.enq.new.self c.get.result.now c.unit-unit.result c.in-Enq.length c.in-Enq.resource c.bytes.result.now c.in_ok-holder.field-0
     c.unit-unit.ensures c.bytes.ensures c.in_ok-holder.ensures.state c.in_ok-holder.ensures.done in
-    owner_free c.self.invariant c.args.at c.get.result.now c.get.ensures tried c.enq.ensures.headline c.in-Taken.unit c.in-Taken.is
+    owner_free c.self.invariant c.args.at c.get.result.now c.get.ensures tried c.enq.ensures.headline c.enq.ensures.serializable c.in-Taken.unit c.in-Taken.is
     (ap (λ x. x.unit) (one_task c.self.inside.tasks c.args.at c.get.ensures there) ∙ none)
 
 pub invariant_of-self-in-Taken : goal.invariant_of-self-in-Taken
@@ -86,7 +86,7 @@ invariant_of-self-in-Taken c =
     let t = c.get.result.now in
     let tried = enqueues c.self.inside.units c.enq.new.self c.get.result.now c.unit-unit.result c.in-Enq.length c.in-Enq.resource c.bytes.result.now c.in_ok-holder.field-0
     c.unit-unit.ensures c.bytes.ensures c.in_ok-holder.ensures.state c.in_ok-holder.ensures.done in
-    taken_kept c.self.invariant c.args.at t c.get.ensures tried c.enq.ensures.headline c.in-Taken.unit c.in-Taken.is c.own_unit.new.self (c.own_unit.ensures t c.get.ensures)
+    taken_kept c.self.invariant c.args.at t c.get.ensures tried c.enq.ensures.headline c.enq.ensures.serializable c.in-Taken.unit c.in-Taken.is c.own_unit.new.self (c.own_unit.ensures t c.get.ensures)
     (seen_awake c.args.at c.self.view_is c.requires.awake t c.get.ensures)
 
 pub answer-requires-in-Taken : goal.answer-requires-in-Taken
@@ -96,7 +96,7 @@ answer-requires-in-Taken c =
     c.unit-unit.ensures c.bytes.ensures c.in_ok-holder.ensures.state c.in_ok-holder.ensures.done in
     record {
       within = placed_within c.own_unit.new.self c.args.at (with_unit t c.in-Taken.unit)
-          (owner_there c.self.invariant c.args.at t c.get.ensures tried c.enq.ensures.headline c.in-Taken.unit c.in-Taken.is c.own_unit.new.self (c.own_unit.ensures t c.get.ensures));
+          (owner_there c.self.invariant c.args.at t c.get.ensures tried c.enq.ensures.headline c.enq.ensures.serializable c.in-Taken.unit c.in-Taken.is c.own_unit.new.self (c.own_unit.ensures t c.get.ensures));
     }
 
 pub returns-in-Taken : goal.returns-in-Taken
@@ -112,9 +112,9 @@ returns-in-Taken c =
     record {
       attempt = subst (λ v. IsAttempt v c.args.at command None (Ok (Told c.answer-in-Taken.result)) c.answer-in-Taken.new.self) c.self.view_is
           (then_told c.args.at t (with_unit t unit) command.resp c.plain_reply-reply-in-Taken.result (going_on m command None) c.get.ensures
-          (owner_there c.self.invariant c.args.at t c.get.ensures tried c.enq.ensures.headline unit c.in-Taken.is c.own_unit.new.self owned)
-          (taken_kept c.self.invariant c.args.at t c.get.ensures tried c.enq.ensures.headline unit c.in-Taken.is c.own_unit.new.self owned
+          (owner_there c.self.invariant c.args.at t c.get.ensures tried c.enq.ensures.headline c.enq.ensures.serializable unit c.in-Taken.is c.own_unit.new.self owned)
+          (taken_kept c.self.invariant c.args.at t c.get.ensures tried c.enq.ensures.headline c.enq.ensures.serializable unit c.in-Taken.is c.own_unit.new.self owned
           (seen_awake c.args.at c.self.view_is c.requires.awake t c.get.ensures))
-          (taken_step c.self.invariant c.args.at t c.get.ensures tried c.enq.ensures.headline unit c.in-Taken.is c.own_unit.new.self owned command c.plain_reply-reply-in-Taken.result
+          (taken_step c.self.invariant c.args.at t c.get.ensures tried c.enq.ensures.headline c.enq.ensures.serializable unit c.in-Taken.is c.own_unit.new.self owned command c.plain_reply-reply-in-Taken.result
           c.plain_reply-reply-in-Taken.ensures ∙ ap (other_command m t command) (sym c.in-Enq.is)) c.answer-in-Taken.ensures.step);
     }

@@ -39,7 +39,7 @@ module _ (c : After-remove) where
       let p = c.self-2.inside in
       kept_as (region_of p.units p.tasks c.remove.new.self p.clock p.is_down) (with_waiting performed c.remove.new.self) refl
       (subst AreTasksKept (sym (ap (λ s. s.machine) back)) (woken_kept before c.self.invariant.tasks))
-      (owned_suspended performed c.remove.new.self c.self-2.invariant.owned) (record { headline = c.self-2.invariant.headline.headline })
+      (owned_suspended performed c.remove.new.self c.self-2.invariant.owned) (record { headline = c.self-2.invariant.headline.headline }) (record { serializable = c.self-2.invariant.serializable.serializable })
 
 pub invariant_of-self-in-Ok : goal.invariant_of-self-in-Ok
 invariant_of-self-in-Ok c = kept (goal.at.invariant_of-self-in-Ok c).After-remove

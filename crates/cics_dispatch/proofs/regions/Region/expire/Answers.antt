@@ -3,7 +3,7 @@ use Rattle.cics_dispatch.specs.Notes.{given_up, forgotten, without, without_dead
 use Rattle.cics_dispatch.specs.Waking.{expired, first_late}
 use Rattle.cics_dispatch.proofs.Deadlines.{due_dropped}
 use Rattle.cics_dispatch.proofs.Noted.{noted_dropped}
-use Rattle.cics_dispatch.specs.Answers.{IsHeadlineRegion}
+use Rattle.cics_dispatch.specs.Answers.{IsHeadlineRegion, IsSerializableRegion}
 use Rattle.cics_dispatch.proofs.RegionSteps.{task_there}
 use Rattle.cics_dispatch.proofs.RegionRemembers.{expired_in_time, remembered_early, remembered_expired, note_at}
 use Rattle.cics_dispatch.specs.First.{IsFirstTooLate}
@@ -24,6 +24,9 @@ returns-then-self-clause-machine c =
 
 pub returns-then-self-clause-headline : goal.returns-then-self-clause-headline
 returns-then-self-clause-headline c = subst IsHeadlineRegion c.self.view_is c.self.invariant.0.headline
+
+pub returns-then-self-clause-serializable : goal.returns-then-self-clause-serializable
+returns-then-self-clause-serializable c = subst IsSerializableRegion c.self.view_is c.self.invariant.0.serializable
 
 pub invariant_of-self : goal.invariant_of-self
 invariant_of-self c =

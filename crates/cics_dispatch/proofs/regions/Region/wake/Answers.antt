@@ -2,7 +2,7 @@ use Rattle.std.proofs.Common.{◌∙◌, sym, ap, subst, IfSome, IfNone, Ok}
 use Rattle.cics_dispatch.specs.declared.notes.Free.{Free}
 use Rattle.cics_dispatch.specs.Notes.{IsFreeAt, AreSettled}
 use Rattle.cics_dispatch.specs.Waking.{woken}
-use Rattle.cics_dispatch.specs.Answers.{IsHeadlineRegion}
+use Rattle.cics_dispatch.specs.Answers.{IsHeadlineRegion, IsSerializableRegion}
 use Rattle.cics_dispatch.specs.Tasks.{had_by, own_unit}
 use Rattle.cics_dispatch.proofs.Deadlines.{due_within}
 use Rattle.cics_dispatch.proofs.FirstWaits.{first_woken}
@@ -19,6 +19,9 @@ returns-then-self-clause-step c =
 
 pub returns-then-self-clause-headline : goal.returns-then-self-clause-headline
 returns-then-self-clause-headline c = subst IsHeadlineRegion c.self.view_is c.self.invariant.0.headline
+
+pub returns-then-self-clause-serializable : goal.returns-then-self-clause-serializable
+returns-then-self-clause-serializable c = subst IsSerializableRegion c.self.view_is c.self.invariant.0.serializable
 
 pub returns-in_default-clause-step : goal.returns-in_default-clause-step
 returns-in_default-clause-step c =
@@ -43,6 +46,7 @@ returns c =
       step = (sym (ap (λ s. Ok s.outcome) step), ap (λ s. s.machine) step);
       first = first_woken c.args.self.now.machine c.wake.new.self.machine c.in_ok-woken.woken step;
       headline = (c.in_ok-woken.ensures.kept c.self.invariant.0).headline;
+      serializable = (c.in_ok-woken.ensures.kept c.self.invariant.0).serializable;
     }
 
 pub invariant_of-self-2 : goal.invariant_of-self-2

@@ -10,7 +10,7 @@ pub unwrap-requires : goal.unwrap-requires
 unwrap-requires g c = is_lent c.args.name.now c.self.inside.rows.entries c.args.self.now c.get_mut.result c.get_mut.ensures.value c.self.view_is c.requires
 
 pub invariant_of-self-lent : goal.invariant_of-self-lent
-invariant_of-self-lent g c = λ w. still_rising (is_at (bytes_cmp c.args.name.now)) w c.self.inside.rows.entries _ (c.get_mut.follows.holds w).0 c.self.invariant
+invariant_of-self-lent g c = λ w. still_rising c.args.name.now w c.self.inside.rows.entries _ (c.get_mut.follows.holds w).0 c.self.invariant
 
 pub returns : goal.returns
 returns g c =

@@ -2,7 +2,7 @@ use Rattle.std.proofs.Common.{◌≡◌, true, arith, ◌∙◌, sym, ap, subst}
 use Rattle.std.specs.Prelude.{◌&&◌, slice_set, fold}
 use Rattle.std.proofs.lemmas.List.{length-set}
 use Rattle.cics_enqueue.specs.Resources.{released}
-use Rattle.cics_history.specs.Holding.{UnitsState}
+use Rattle.cics_history.specs.State.{UnitsState}
 use Rattle.cics_history.specs.Execution.{IsOpenUnit, after_end}
 use Rattle.cics_history.specs.Events.{is_live}
 use Rattle.cics_history.specs.Headline.{LeavesNoTrace}
@@ -15,7 +15,7 @@ use Rattle.cics_units.specs.ImageRows.{kept_by}
 use Rattle.cics_units.specs.ImageRowsLaws.{held_after_end}
 use Rattle.cics_units.specs.Cores.{core_value}
 use Rattle.cics_units.specs.KeptUnits.{state_shown, AreValid}
-use Rattle.cics_units.proofs.KeptUnits.{store_is, kept_headline, kept_backed_out}
+use Rattle.cics_units.proofs.KeptUnits.{store_is, kept_headline, kept_serializable, kept_backed_out}
 use Rattle.cics_units.proofs.ShownUnits.{live_of, ended_state, ended_kept}
 use Rattle.cics_units.proofs.units.Units.back_out.Goals as goal
 use Rattle.cics_units.proofs.units.Units.back_out.Goals.{After-end}
@@ -80,6 +80,11 @@ pub returns-clause-headline : goal.returns-clause-headline
 returns-clause-headline c =
     let at = (goal.at.returns-clause-headline c).After-end in
     rw c.number.ensures (kept_headline (after at) (left at).stores (left at).table (kept at))
+
+pub returns-clause-serializable : goal.returns-clause-serializable
+returns-clause-serializable c =
+    let at = (goal.at.returns-clause-serializable c).After-end in
+    rw c.number.ensures (kept_serializable (after at) (left at).stores (left at).table (kept at))
 
 pub returns-clause-alone : goal.returns-clause-alone
 returns-clause-alone c =

@@ -3,7 +3,7 @@ use Rattle.std.specs.Prelude.{◌&&◌, slice_set}
 use Rattle.std.proofs.lemmas.List.{length-set, reverse-reverse}
 use Rattle.std.specs.Vec.{vec_capacity}
 use Rattle.cics_enqueue.specs.Resources.{released}
-use Rattle.cics_history.specs.Holding.{UnitsState}
+use Rattle.cics_history.specs.State.{UnitsState}
 use Rattle.cics_history.specs.Execution.{IsOpenUnit, after_end}
 use Rattle.cics_history.specs.Events.{is_live}
 use Rattle.cics_history.proofs.Committing.{room_for_one}
@@ -16,7 +16,7 @@ use Rattle.cics_units.specs.StoreEnds.{any_fixed, ends_settled}
 use Rattle.cics_units.specs.StoreMatching.{StoreValue, AnyImage, cell_of_any, any_content, any_swept, any_holds, AnyKeep}
 use Rattle.cics_units.specs.ImageRows.{kept_by, AreHeldForImages}
 use Rattle.cics_units.specs.ImageRowsLaws.{held_after_end}
-use Rattle.cics_units.proofs.KeptUnits.{kept_headline, kept_committed, committed_store}
+use Rattle.cics_units.proofs.KeptUnits.{kept_headline, kept_serializable, kept_committed, committed_store}
 use Rattle.cics_units.proofs.ShownUnits.{live_of, ended_state, ended_kept}
 use Rattle.cics_units.proofs.units.Units.commit.Goals as goal
 use Rattle.cics_units.proofs.units.Units.commit.Goals.{After-end}
@@ -105,6 +105,11 @@ pub returns-clause-headline : goal.returns-clause-headline
 returns-clause-headline c =
     let at = (goal.at.returns-clause-headline c).After-end in
     rw (c.push_reserved.ensures.items, c.number.ensures) (kept_headline (after at) (left at).stores (left at).table (kept at))
+
+pub returns-clause-serializable : goal.returns-clause-serializable
+returns-clause-serializable c =
+    let at = (goal.at.returns-clause-serializable c).After-end in
+    rw (c.push_reserved.ensures.items, c.number.ensures) (kept_serializable (after at) (left at).stores (left at).table (kept at))
 
 pub returns-clause-store : goal.returns-clause-store
 returns-clause-store c =

@@ -1,12 +1,11 @@
 use Rattle.std.proofs.Common.{subst}
 use Rattle.cics_history.specs.Headline.{IsHeadline}
-use Rattle.cics_units.specs.Cores.{core_value}
-use Rattle.cics_units.specs.KeptUnits.{state_shown}
-use Rattle.cics_units.proofs.KeptUnits.{kept_headline}
+use Rattle.cics_history.specs.Serial.{IsSerializable}
+use Rattle.cics_units.proofs.KeptUnits.{kept_headline, kept_serializable}
 use Rattle.cics_units.proofs.units.Units.commits.Goals as goal
 
 pub returns-clause-headline : goal.returns-clause-headline
-returns-clause-headline c =
-    let u = c.self.inside in
-    let s = state_shown u.opening u.trace.items u.outcomes.items u.commits.items (core_value u.core) in
-    subst IsHeadline c.self.view_is (kept_headline s (core_value u.core).stores u.core.locks c.self.invariant.0)
+returns-clause-headline c = subst IsHeadline c.self.view_is (kept_headline _ _ _ c.self.invariant.0)
+
+pub returns-clause-serializable : goal.returns-clause-serializable
+returns-clause-serializable c = subst IsSerializable c.self.view_is (kept_serializable _ _ _ c.self.invariant.0)

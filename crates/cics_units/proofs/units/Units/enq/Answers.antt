@@ -1,18 +1,18 @@
 use Rattle.std.specs.Prelude.{IfNone, if◌then◌else◌}
 use Rattle.std.proofs.Common.{arith, ℕ, Option, List, ◌≡◌, ◌∙◌, sym, ap, subst, refl, true, false, Some, None, is_some, length}
 use Rattle.cics_enqueue.specs.Resources.{Table, holder_over, is_full, taken}
-use Rattle.cics_history.specs.Holding.{UnitsState}
+use Rattle.cics_history.specs.State.{UnitsState}
 use Rattle.cics_history.specs.Execution.{IsOpenUnit, IsOpenOrNone, unit_or_next, outcomes_with, enqueue, after_enqueued, after_enqueue}
 use Rattle.cics_history.specs.Events.{may_act}
 use Rattle.cics_history.specs.Headline.{IsHeadline}
+use Rattle.cics_history.specs.Serial.{IsSerializable}
 use Rattle.cics_units.specs.Cores.{core_value}
 use Rattle.cics_units.specs.KeptUnits.{state_shown, AreValid}
-use Rattle.cics_units.specs.StoreMatching.{shown_store}
 use Rattle.cics_units.specs.Parts.{CoreValue, AreRoomier, AreEnqueued, IsCoreAsBefore}
 use Rattle.cics_units.specs.TableInPlace.{value_of}
 use Rattle.cics_history.specs.declared.ops.Enqueued.TheVariants.{Taken, MustWait, CountFull}
-use Rattle.cics_units.proofs.KeptUnits.{kept_headline}
-use Rattle.cics_units.proofs.ShownUnits.{acts_of, refused_kept, with_len}
+use Rattle.cics_units.proofs.KeptUnits.{kept_headline, kept_serializable}
+use Rattle.cics_units.proofs.ShownUnits.{acts_of, in_lists, refused_kept, with_len}
 use Rattle.cics_units.proofs.Enqueuing.{value_over, enqueue-waits, enqueue-takes, enqueue-full, enqueued_shown, enqueued_kept, refused_shown}
 use Rattle.cics_units.proofs.HeldOver.{holder_open}
 use Rattle.cics_units.proofs.units.Units.enq.Goals as goal
@@ -46,9 +46,6 @@ module _ (c : After-reserve_images) where
       refused_kept u.opening u.trace.items u.outcomes.items u.commits.items core (left locks) c.self.invariant.0 (same locks is) u.trace.items c.reserve_unit.new.outcomes.items c.reserve_unit.new.commits.items refl
       c.reserve_unit.ensures.outcomes c.reserve_unit.ensures.commits
 
-  headline_same : (locks : Table) → locks ≡ core.table → IsHeadline (record { state = after locks; store = shown_store core.stores.store })
-  headline_same locks is = kept_headline (after locks) (left locks).stores locks (kept_same locks is)
-
   -- who holds the value is asked for the unit that acts
   over : holder_over (value_of c.args.value.now) (Some c.unit_or_next-acting.result) core.table ≡ holder_over (value_of c.args.value.now) c.args.unit core.table
   over = value_over before core.stores core.table c.self.invariant.0 c.args.unit c.args.value.now c.unit_or_next-acting.result (c.unit_or_next-acting.ensures ∙ ap (unit_or_next c.args.unit) c.as_slice.ensures.value)
@@ -56,10 +53,11 @@ module _ (c : After-reserve_images) where
 -- ---- memory is refused
 pub returns-in_err-reserve_unit-clause-headline : goal.returns-in_err-reserve_unit-clause-headline
 returns-in_err-reserve_unit-clause-headline c =
-    let u = c.self.inside in
-    subst (λ s. IsHeadline (record { state = s; store = shown_store u.core.store }))
-    (λ i. state_shown u.opening u.trace.items (sym c.reserve_unit.ensures.outcomes i) (sym c.reserve_unit.ensures.commits i) (core_value u.core))
-    (kept_headline (state_shown u.opening u.trace.items u.outcomes.items u.commits.items (core_value u.core)) (core_value u.core).stores u.core.locks c.self.invariant.0)
+    in_lists IsHeadline c.self.inside.opening (core_value c.self.inside.core) refl c.reserve_unit.ensures.outcomes c.reserve_unit.ensures.commits (kept_headline _ _ _ c.self.invariant.0)
+
+pub returns-in_err-reserve_unit-clause-serializable : goal.returns-in_err-reserve_unit-clause-serializable
+returns-in_err-reserve_unit-clause-serializable c =
+    in_lists IsSerializable c.self.inside.opening (core_value c.self.inside.core) refl c.reserve_unit.ensures.outcomes c.reserve_unit.ensures.commits (kept_serializable _ _ _ c.self.invariant.0)
 
 pub invariant_of-self-in_err-reserve_images : goal.invariant_of-self-in_err-reserve_images
 invariant_of-self-in_err-reserve_images c = (
@@ -68,10 +66,16 @@ invariant_of-self-in_err-reserve_images c = (
 )
 
 pub returns-in_err-reserve_images-clause-headline : goal.returns-in_err-reserve_images-clause-headline
-returns-in_err-reserve_images-clause-headline c = headline_same (goal.at.returns-in_err-reserve_images-clause-headline c).After-reserve_images c.self.inside.core.locks refl
+returns-in_err-reserve_images-clause-headline c = kept_headline _ _ _ (kept_same (goal.at.returns-in_err-reserve_images-clause-headline c).After-reserve_images c.self.inside.core.locks refl)
+
+pub returns-in_err-reserve_images-clause-serializable : goal.returns-in_err-reserve_images-clause-serializable
+returns-in_err-reserve_images-clause-serializable c = kept_serializable _ _ _ (kept_same (goal.at.returns-in_err-reserve_images-clause-serializable c).After-reserve_images c.self.inside.core.locks refl)
 
 pub returns-in-Err-NoMemory-clause-headline : goal.returns-in-Err-NoMemory-clause-headline
-returns-in-Err-NoMemory-clause-headline c = headline_same (goal.at.returns-in-Err-NoMemory-clause-headline c).After-reserve_images c.enq.new.self c.in-Err-NoMemory.ensures.err
+returns-in-Err-NoMemory-clause-headline c = kept_headline _ _ _ (kept_same (goal.at.returns-in-Err-NoMemory-clause-headline c).After-reserve_images c.enq.new.self c.in-Err-NoMemory.ensures.err)
+
+pub returns-in-Err-NoMemory-clause-serializable : goal.returns-in-Err-NoMemory-clause-serializable
+returns-in-Err-NoMemory-clause-serializable c = kept_serializable _ _ _ (kept_same (goal.at.returns-in-Err-NoMemory-clause-serializable c).After-reserve_images c.enq.new.self c.in-Err-NoMemory.ensures.err)
 
 -- ---- another unit holds the value
 -- whom ENQ is asked for is the unit that acts
@@ -116,7 +120,12 @@ returns-in-Ok-Some-clause-state c =
 pub returns-in-Ok-Some-clause-headline : goal.returns-in-Ok-Some-clause-headline
 returns-in-Ok-Some-clause-headline c =
     let at = goal.at.returns-in-Ok-Some-clause-headline c in
-    headline_same at.After-reserve_images c.enq.new.self (untaken at.In-Ok-Some)
+    kept_headline _ _ _ (kept_same at.After-reserve_images c.enq.new.self (untaken at.In-Ok-Some))
+
+pub returns-in-Ok-Some-clause-serializable : goal.returns-in-Ok-Some-clause-serializable
+returns-in-Ok-Some-clause-serializable c =
+    let at = goal.at.returns-in-Ok-Some-clause-serializable c in
+    kept_serializable _ _ _ (kept_same at.After-reserve_images c.enq.new.self (untaken at.In-Ok-Some))
 
 -- ---- the unit holds it the most times
 full : (c : In-Err-Full) → IsOver c.unit_or_next-acting.result c.args.unit c.args.value.now c.self.inside.core.locks →
@@ -141,7 +150,10 @@ returns-in-Err-Full-clause-state c =
     ∙ ap (λ w. after_enqueue w.state c.args.unit c.args.value.now) c.self.view_is
 
 pub returns-in-Err-Full-clause-headline : goal.returns-in-Err-Full-clause-headline
-returns-in-Err-Full-clause-headline c = headline_same (goal.at.returns-in-Err-Full-clause-headline c).After-reserve_images c.enq.new.self c.in-Err-Full.ensures.err
+returns-in-Err-Full-clause-headline c = kept_headline _ _ _ (kept_same (goal.at.returns-in-Err-Full-clause-headline c).After-reserve_images c.enq.new.self c.in-Err-Full.ensures.err)
+
+pub returns-in-Err-Full-clause-serializable : goal.returns-in-Err-Full-clause-serializable
+returns-in-Err-Full-clause-serializable c = kept_serializable _ _ _ (kept_same (goal.at.returns-in-Err-Full-clause-serializable c).After-reserve_images c.enq.new.self c.in-Err-Full.ensures.err)
 
 -- ---- it is taken
 none : (c : In-Ok-None) → IsOver c.unit_or_next-acting.result c.args.unit c.args.value.now c.self.inside.core.locks → holder_over (value_of c.args.value.now) c.args.unit c.self.inside.core.locks ≡ None
@@ -217,4 +229,10 @@ pub returns-clause-headline : goal.returns-clause-headline
 returns-clause-headline c =
     let at = goal.at.returns-clause-headline c in
     let room = at.After-reserve_images in
-    kept_headline _ (new at.After-begin (roomier room) (none at.In-Ok-None (over room))).stores c.enq.new.self (kept at.After-begin (roomier room) (none at.In-Ok-None (over room)))
+    kept_headline _ _ _ (kept at.After-begin (roomier room) (none at.In-Ok-None (over room)))
+
+pub returns-clause-serializable : goal.returns-clause-serializable
+returns-clause-serializable c =
+    let at = goal.at.returns-clause-serializable c in
+    let room = at.After-reserve_images in
+    kept_serializable _ _ _ (kept at.After-begin (roomier room) (none at.In-Ok-None (over room)))

@@ -2,14 +2,15 @@ use Rattle.std.proofs.Common.{◌∙◌, ℕ, sym, ap, subst}
 use Rattle.cics_tempstor.specs.Queues.{places_of}
 use Rattle.cics_history.specs.Execution.{item_asked, ts_reading, after_ts_reading}
 use Rattle.cics_history.specs.Headline.{IsHeadline}
-use Rattle.cics_history.specs.Holding.{UnitsState}
+use Rattle.cics_history.specs.Serial.{IsSerializable}
+use Rattle.cics_history.specs.State.{UnitsState}
 use Rattle.cics_images.specs.StoreCells.{with_temp_storage}
 use Rattle.cics_units.specs.Cores.{core_value}
 use Rattle.cics_units.specs.KeptUnits.{state_shown, AreValid}
 use Rattle.cics_units.specs.Parts.{CoreValue}
 use Rattle.cics_units.specs.StoreMatching.{shown_store}
 use Rattle.cics_units.specs.StorePlaces.{number_asked}
-use Rattle.cics_units.proofs.KeptUnits.{kept_headline}
+use Rattle.cics_units.proofs.KeptUnits.{kept_headline, kept_serializable}
 use Rattle.cics_units.proofs.TsReadings.{asked_told, reading_told, read_state, read_kept, read_store}
 use Rattle.cics_units.proofs.units.Units.read_ts.Goals as goal
 use Rattle.cics_units.proofs.units.Units.read_ts.Goals.{In_ok-read}
@@ -17,11 +18,16 @@ use Rattle.cics_units.proofs.units.Units.read_ts.Goals.{In_ok-read}
 pub returns-in_err-read-clause-headline : goal.returns-in_err-read-clause-headline
 returns-in_err-read-clause-headline c =
     let u = c.self.inside in
-    subst (λ rows. IsHeadline (record {
-      state = record (state_shown u.opening u.trace.items u.outcomes.items u.commits.items (core_value u.core)) { next = places_of rows };
-      store = shown_store (with_temp_storage u.core.store rows);
-    })) (sym c.in_err-read.ensures.err)
-    (kept_headline (state_shown u.opening u.trace.items u.outcomes.items u.commits.items (core_value u.core)) (core_value u.core).stores u.core.locks c.self.invariant.0)
+    let s = state_shown u.opening u.trace.items u.outcomes.items u.commits.items (core_value u.core) in
+    subst (λ rows. IsHeadline (record { state = record s { next = places_of rows }; store = shown_store (with_temp_storage u.core.store rows) }))
+    (sym c.in_err-read.ensures.err) (kept_headline s (core_value u.core).stores u.core.locks c.self.invariant.0)
+
+pub returns-in_err-read-clause-serializable : goal.returns-in_err-read-clause-serializable
+returns-in_err-read-clause-serializable c =
+    let u = c.self.inside in
+    let s = state_shown u.opening u.trace.items u.outcomes.items u.commits.items (core_value u.core) in
+    subst (λ rows. IsSerializable (record { state = record s { next = places_of rows }; store = shown_store (with_temp_storage u.core.store rows) }))
+    (sym c.in_err-read.ensures.err) (kept_serializable s (core_value u.core).stores u.core.locks c.self.invariant.0)
 
 -- what is known once the item is read
 module _ (c : In_ok-read) where
@@ -66,9 +72,10 @@ returns-clause-state c =
     ∙ ap (λ v. after_ts_reading v.state q (item_asked v.state q c.args.item)) c.self.view_is
 
 pub returns-clause-headline : goal.returns-clause-headline
-returns-clause-headline c =
-    let at = (goal.at.returns-clause-headline c).In_ok-read in
-    kept_headline (after at) (left at).stores (left at).table (kept at)
+returns-clause-headline c = kept_headline _ _ _ (kept (goal.at.returns-clause-headline c).In_ok-read)
+
+pub returns-clause-serializable : goal.returns-clause-serializable
+returns-clause-serializable c = kept_serializable _ _ _ (kept (goal.at.returns-clause-serializable c).In_ok-read)
 
 pub returns-clause-store : goal.returns-clause-store
 returns-clause-store c =

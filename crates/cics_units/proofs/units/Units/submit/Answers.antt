@@ -1,7 +1,8 @@
-use Rattle.std.proofs.Common.{arith, ◌≡◌, ◌∙◌, sym, ap, subst, true, None, [], ◌∷◌, ◌++◌, length}
+use Rattle.std.proofs.Common.{arith, ◌≡◌, ◌∙◌, refl, sym, ap, subst, true, None, [], ◌∷◌, ◌++◌, length}
 use Rattle.cics_history.specs.Execution.{execution, after_execution, unit_or_next, read_at, outcomes_with, IsOpenUnit, IsOpenOrNone, is_ready_op}
 use Rattle.cics_history.specs.Headline.{IsHeadline}
-use Rattle.cics_history.specs.Holding.{UnitsState}
+use Rattle.cics_history.specs.Serial.{IsSerializable}
+use Rattle.cics_history.specs.State.{UnitsState}
 use Rattle.cics_history.proofs.Ready.{ready_short}
 use Rattle.cics_history.specs.Records.{file_of}
 use Rattle.cics_history.specs.Store.{is_recoverable}
@@ -15,8 +16,8 @@ use Rattle.cics_units.specs.Uses.{uses_if, AreFreeFor}
 use Rattle.cics_units.specs.Parts.{CoreValue}
 use Rattle.cics_units.specs.Executed.{IsExecuted}
 use Rattle.cics_units.proofs.AppliedKept.{given_own, seen_own}
-use Rattle.cics_units.proofs.KeptUnits.{kept_headline, ready_fits}
-use Rattle.cics_units.proofs.ShownUnits.{acts_of, none_open_of, refused_kept, with_len, in_way, waits, waits_unchanged, waits_open, free_way, seen_way, parts_state, parts_kept, record_given, answered, IsAsked, asked as asked_of}
+use Rattle.cics_units.proofs.KeptUnits.{kept_headline, kept_serializable, ready_fits}
+use Rattle.cics_units.proofs.ShownUnits.{acts_of, in_lists, none_open_of, refused_kept, with_len, in_way, waits, waits_unchanged, waits_open, free_way, seen_way, parts_state, parts_kept, record_given, answered, IsAsked, asked as asked_of}
 use Rattle.cics_units.proofs.units.Units.submit.Goals as goal
 use Rattle.cics_units.proofs.units.Units.submit.Goals.{After-blocker, After-enter, In_err-answer}
 
@@ -44,6 +45,9 @@ module _ (c : After-blocker) where
   headline : IsHeadline (record { state = before; store = shown_store core.stores.store })
   headline = kept_headline before core.stores core.table c.self.invariant.0
 
+  serializable : IsSerializable (record { state = before; store = shown_store core.stores.store })
+  serializable = kept_serializable before core.stores core.table c.self.invariant.0
+
 -- ---- it has to wait
 pub returns-in-Some-clause-done : goal.returns-in-Some-clause-done
 returns-in-Some-clause-done c =
@@ -70,22 +74,33 @@ returns-in-Some-clause-state c =
 pub returns-in-Some-clause-headline : goal.returns-in-Some-clause-headline
 returns-in-Some-clause-headline c = subst IsHeadline c.self.view_is (headline (goal.at.returns-in-Some-clause-headline c).After-blocker)
 
+pub returns-in-Some-clause-serializable : goal.returns-in-Some-clause-serializable
+returns-in-Some-clause-serializable c = subst IsSerializable c.self.view_is (serializable (goal.at.returns-in-Some-clause-serializable c).After-blocker)
+
 -- ---- memory is refused
 pub returns-in_err-content-clause-headline : goal.returns-in_err-content-clause-headline
 returns-in_err-content-clause-headline c = subst IsHeadline c.self.view_is (headline (goal.at.returns-in_err-content-clause-headline c).After-blocker)
 
+pub returns-in_err-content-clause-serializable : goal.returns-in_err-content-clause-serializable
+returns-in_err-content-clause-serializable c = subst IsSerializable c.self.view_is (serializable (goal.at.returns-in_err-content-clause-serializable c).After-blocker)
+
 pub returns-in_err-reserve-clause-headline : goal.returns-in_err-reserve-clause-headline
 returns-in_err-reserve-clause-headline c =
-    let u = c.self.inside in
-    subst (λ entries. IsHeadline (record { state = state_shown u.opening entries u.outcomes.items u.commits.items (core_value u.core); store = shown_store u.core.store })) (sym c.reserve.ensures.items)
-    (headline (goal.at.returns-in_err-reserve-clause-headline c).After-blocker)
+    in_lists IsHeadline c.self.inside.opening (core_value c.self.inside.core) c.reserve.ensures.items refl refl (headline (goal.at.returns-in_err-reserve-clause-headline c).After-blocker)
+
+pub returns-in_err-reserve-clause-serializable : goal.returns-in_err-reserve-clause-serializable
+returns-in_err-reserve-clause-serializable c =
+    in_lists IsSerializable c.self.inside.opening (core_value c.self.inside.core) c.reserve.ensures.items refl refl (serializable (goal.at.returns-in_err-reserve-clause-serializable c).After-blocker)
 
 pub returns-in_err-reserve_unit-clause-headline : goal.returns-in_err-reserve_unit-clause-headline
 returns-in_err-reserve_unit-clause-headline c =
-    let u = c.self.inside in
-    subst (λ s. IsHeadline (record { state = s; store = shown_store u.core.store }))
-    (λ i. state_shown u.opening (sym c.reserve.ensures.items i) (sym c.reserve_unit.ensures.outcomes i) (sym c.reserve_unit.ensures.commits i) (core_value u.core))
+    in_lists IsHeadline c.self.inside.opening (core_value c.self.inside.core) c.reserve.ensures.items c.reserve_unit.ensures.outcomes c.reserve_unit.ensures.commits
     (headline (goal.at.returns-in_err-reserve_unit-clause-headline c).After-blocker)
+
+pub returns-in_err-reserve_unit-clause-serializable : goal.returns-in_err-reserve_unit-clause-serializable
+returns-in_err-reserve_unit-clause-serializable c =
+    in_lists IsSerializable c.self.inside.opening (core_value c.self.inside.core) c.reserve.ensures.items c.reserve_unit.ensures.outcomes c.reserve_unit.ensures.commits
+    (serializable (goal.at.returns-in_err-reserve_unit-clause-serializable c).After-blocker)
 
 refused : (c : In_err-answer) → AreValid (state_shown c.self.inside.opening c.reserve.new.self.items c.reserve_unit.new.outcomes.items c.reserve_unit.new.commits.items (core_value c.execute.new.self)) (core_value c.execute.new.self).stores c.execute.new.self.locks
 refused c =
@@ -101,6 +116,9 @@ invariant_of-self-in_err-answer c = (
 
 pub returns-in_err-answer-clause-headline : goal.returns-in_err-answer-clause-headline
 returns-in_err-answer-clause-headline c = kept_headline _ (core_value c.execute.new.self).stores c.execute.new.self.locks (refused (goal.at.returns-in_err-answer-clause-headline c).In_err-answer)
+
+pub returns-in_err-answer-clause-serializable : goal.returns-in_err-answer-clause-serializable
+returns-in_err-answer-clause-serializable c = kept_serializable _ (core_value c.execute.new.self).stores c.execute.new.self.locks (refused (goal.at.returns-in_err-answer-clause-serializable c).In_err-answer)
 
 -- ---- what the calls require
 pub bind-bound-requires : goal.bind-bound-requires
@@ -229,3 +247,8 @@ pub returns-clause-headline : goal.returns-clause-headline
 returns-clause-headline c =
     let at = goal.at.returns-clause-headline c in
     kept_headline _ (core_value c.execute.new.self).stores c.execute.new.self.locks (kept at.After-enter (known at.After-blocker))
+
+pub returns-clause-serializable : goal.returns-clause-serializable
+returns-clause-serializable c =
+    let at = goal.at.returns-clause-serializable c in
+    kept_serializable _ (core_value c.execute.new.self).stores c.execute.new.self.locks (kept at.After-enter (known at.After-blocker))

@@ -1,7 +1,7 @@
 use Rattle.std.proofs.Common.{◌≡◌, map}
 use Rattle.cics_names.specs.Keyed.{value_at}
 use Rattle.cics_ksds.specs.Files.{records_of}
-use Rattle.cics_history.specs.Openings.{file_recoverable, has_prefix_in}
+use Rattle.cics_history.specs.State.{file_recoverable, has_prefix_in}
 use Rattle.cics_units.specs.Listings.{recovery_in}
 use Rattle.cics_units.proofs.replay.store.PlainStore.into_listing.Given as goal
 

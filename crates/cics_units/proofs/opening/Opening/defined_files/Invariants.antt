@@ -1,7 +1,7 @@
 use Rattle.std.proofs.Common.{◌≡◌, map}
 use Rattle.std.specs.Map.Iter.{deref_pair}
 use Rattle.cics_ksds.specs.Files.{records_of}
-use Rattle.cics_units.proofs.opening.listed_files.Given as goal
+use Rattle.cics_units.proofs.opening.Opening.defined_files.Given as goal
 
 -- the files that were passed are listed
 abbrev pub invariant-loop-name : goal.invariant-loop-name

@@ -1,0 +1,107 @@
+-- The state of the units of a region, and the store of files and queues that they change. And what
+-- of both is recoverable.
+use Rattle.std.specs.Prelude.{ℕ, ◌==◌, Bool, false, ◌||◌, if◌then◌else◌, Option, Some, None, nat_eq, List, [], ◌∷◌, map}
+use Rattle.std.specs.List.{starts_with}
+use Rattle.cics_names.specs.Keyed.{Bytes, Map, value_at}
+use Rattle.cics_names.specs.Names.{blank}
+use Rattle.cics_ksds.specs.declared.definition.FileDef.{FileDef}
+use Rattle.cics_tempstor.specs.Queues.{Queue}
+use Rattle.cics_transdata.specs.Trans.{is_logical}
+use Rattle.cics_transdata.specs.declared.queues.Recovery.{Recovery}
+use Rattle.cics_history.specs.declared.ops.Entry.{Entry}
+use Rattle.cics_history.specs.declared.ops.UnitState.{UnitState}
+
+-- ---- What a region opens with
+
+-- a file that is defined: its definition, and the records that were loaded, by key
+pub record FileOpening : Type 0 where
+  pub definition : FileDef
+  pub records : Map Bytes
+
+-- a transient data queue that is defined: its recovery, and the records that were loaded, the first
+-- first
+pub record QueueOpening : Type 0 where
+  pub recovery : Recovery
+  pub records : List Bytes
+
+-- all that is defined: files and transient data queues by name, prefixes in the order of their
+-- definitions
+pub record OpeningState : Type 0 where
+  pub files : Map FileOpening
+  pub prefixes : List Bytes
+  pub queues : Map QueueOpening
+
+-- a name without the blanks that fill it up
+abbrev pub unpadded : Bytes → Bytes
+unpadded [] = []
+unpadded (b ∷ bs) = without_blank b (unpadded bs) where
+  without_blank : ℕ → Bytes → Bytes
+  without_blank b [] = if b == blank then [] else b ∷ []
+  without_blank b (c ∷ cs) = b ∷ c ∷ cs
+
+-- a temporary storage queue is recoverable where one of the defined prefixes begins its name
+abbrev pub has_prefix_in : List Bytes → Bytes → Bool
+has_prefix_in [] q = false
+has_prefix_in (p ∷ ps) q = starts_with nat_eq q (unpadded p) || has_prefix_in ps q
+
+-- a file is recoverable where its definition says so
+abbrev pub file_recoverable : OpeningState → Bytes → Bool
+file_recoverable o f = is_yes (value_at f o.files) where
+  is_yes : Option FileOpening → Bool
+  is_yes None = false
+  is_yes (Some file) = file.definition.recoverable
+
+-- a transient data queue is recoverable where it is LOGICAL
+abbrev pub queue_logical : OpeningState → Bytes → Bool
+queue_logical o q = is_yes (value_at q o.queues) where
+  is_yes : Option QueueOpening → Bool
+  is_yes None = false
+  is_yes (Some queue) = is_logical queue.recovery
+
+-- ---- Files and queues
+
+-- the records of each defined file by key, the items of each temporary storage queue that is there,
+-- and the records of each defined transient data queue
+pub record Store : Type 0 where
+  pub files : Map (Map Bytes)
+  pub ts : Map Queue
+  pub td : Map (List Bytes)
+
+-- the store of an opening is what was loaded, and no temporary storage queue
+abbrev pub initial_store : OpeningState → Store
+initial_store o = record { files = map (λ e. (e.0, e.1.records)) o.files; ts = []; td = map (λ e. (e.0, e.1.records)) o.queues }
+
+-- ---- The units
+
+-- a record that a unit has read for update
+pub record UpdateRead : Type 0 where
+  pub unit : ℕ
+  pub file : Bytes
+  pub key : Bytes
+
+-- how many times a unit has enqueued on a value
+pub record EnqCount : Type 0 where
+  pub value : Bytes
+  pub unit : ℕ
+  pub count : ℕ
+
+-- the units of a region: what it opened with, the executed commands in their order, the outcome of
+-- each unit that began, those that committed in the order in which they did, the open update reads
+-- by unit and file, the counts of ENQ by value, and the NEXT places that aren't 0 by queue
+pub record UnitsState : Type 0 where
+  pub opening : OpeningState
+  pub trace : List Entry
+  pub outcomes : List UnitState
+  pub commits : List ℕ
+  pub reads : List UpdateRead
+  pub counts : List EnqCount
+  pub next : Map ℕ
+
+-- the state of the units, and the store that the files and queues themselves hold
+pub record UnitsValue : Type 0 where
+  pub state : UnitsState
+  pub store : Store
+
+-- an opening begins with no command executed, no unit, and nothing held
+abbrev pub beginning : OpeningState → UnitsState
+beginning o = record { opening = o; trace = []; outcomes = []; commits = []; reads = []; counts = []; next = [] }
