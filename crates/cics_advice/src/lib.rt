@@ -1,8 +1,9 @@
 //! What a faulty line of a script needs, told to a person: a message, the line, and a caret.
 //!
-//! `push_advice` puts three lines behind what was printed. The fault and its column are those of
-//! `cics_script::find_fault`; what is to be mended stands in tables, by what stands in front of the
-//! column (`tables`, `messages`). The words are tested, and no clause says them.
+//! `push_advice` puts three lines behind what was printed. `specs/Advice` says them to the byte,
+//! but for the words of the message. The fault and its column are those of
+//! `cics_script::find_fault`. What is to be mended stands in tables, by what stands in front of the
+//! column (`tables`, `messages`). These words are tested, and no clause says them.
 #![tactic(auto)]
 
 mod context;

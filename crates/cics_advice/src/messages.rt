@@ -1,16 +1,19 @@
 //! What is at fault, and how it is mended.
 
+ghost use Rattle.std.specs.Prelude.{OnOk, IfOk};
+ghost use Rattle.cics_advice.specs.Advice.{Advises, IsColumnOf};
+
 use crate::context::{Context, is_one, is_word};
-use crate::showing::push_marked;
+use crate::showing::{push_marked, push_message, push_too_long};
 use crate::tables::{
     DEFINITIONS, EXAMPLES, ITEM_NUMBER, LENGTH_OF, NAME4_AS, NAME8_AS, NEEDS, NO_COMMAND, NO_LINE,
     NO_OPTION, NO_PARENTHESES, NO_VERB, NO_VERBS, SECOND, SIGNS,
 };
 use cics_names::NoMemory;
 use cics_script::{
-    Kind, LineFault, Placed, is_excluded, kind_of, option_named, push_number, push_str, start_of,
-    whole_token,
+    Kind, LineFault, Placed, is_excluded, kind_of, option_named, push_str, start_of, whole_token,
 };
+use std::alloc::Global;
 
 /// Why a line ended the run.
 #[derive(Clone, Copy, Debug)]
@@ -22,28 +25,39 @@ pub enum Cause {
 }
 
 /// Puts what a person needs to mend a line: `cicsrun: line 3, column 31: ..`, the line, a caret.
-/// Without a column, for a line that is too long, the message alone.
+/// Without a column, for a line that is too long, it puts the message alone.
 pub fn push_advice(
     out: &mut Vec<u8>,
     number: u64,
     line: &[u8],
     cause: Cause,
-) -> Result<(), NoMemory> {
-    push_str(out, "cicsrun: line ")?;
-    push_number(out, number)?;
-    let Some(column) = column_of(out, line, cause)? else {
-        return push_str(out, ": a line has at most 70,000 bytes\n");
+) -> Result<(), NoMemory>
+    ensures { OnOk result (Advises number line.now cause out.old.items out.new.items) }
+{
+    let Some(column) = column_of(*out.allocator(), line, cause)? else {
+        return push_too_long(out, number);
     };
-    push_str(out, ", column ")?;
-    push_number(out, column as u64)?;
-    push_str(out, ": ")?;
-    let context = Context::new(*out.allocator(), line, column)?;
-    match cause {
-        Cause::Line(placed) => push_filled(out, &context, told_of(&context, placed.fault))?,
-        Cause::Definition(fault) => push_str(out, definition_row(&context, fault).1)?,
-    }
-    push_str(out, "\n")?;
+    let message = message_at(*out.allocator(), line, cause, column)?;
+    push_message(out, number, column, &message)?;
     push_marked(out, line, column)
+}
+
+// Returns what a person is told at a column.
+fn message_at(
+    alloc: Global,
+    line: &[u8],
+    cause: Cause,
+    column: usize,
+) -> Result<Vec<u8>, NoMemory> {
+    let mut message = Vec::new(alloc);
+    let context = Context::new(alloc, line, column)?;
+    match cause {
+        Cause::Line(placed) => {
+            push_filled(&mut message, &context, told_of(&context, placed.fault))?
+        }
+        Cause::Definition(fault) => push_str(&mut message, definition_row(&context, fault).1)?,
+    }
+    Ok(message)
 }
 
 // Returns the words for the caret of a definition's fault, and the message.
@@ -58,11 +72,13 @@ fn definition_row(context: &Context<'_>, fault: u64) -> (&'static str, &'static 
 
 // Returns the caret's column; of a definition fault that of the first word of its row that the line
 // has.
-fn column_of(out: &Vec<u8>, line: &[u8], cause: Cause) -> Result<Option<usize>, NoMemory> {
+fn column_of(alloc: Global, line: &[u8], cause: Cause) -> Result<Option<usize>, NoMemory>
+    ensures { IfOk result (IsColumnOf cause) }
+{
     match cause {
         Cause::Line(placed) => Ok(placed.column),
         Cause::Definition(fault) => {
-            let whole = Context::new(*out.allocator(), line, line.len().saturating_add(1))?;
+            let whole = Context::new(alloc, line, line.len().saturating_add(1))?;
             Ok(Some(whole.column_of(definition_row(&whole, fault).0)))
         }
     }

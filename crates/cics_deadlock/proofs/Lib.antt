@@ -2,4 +2,3 @@ mod Rows
 pub mod Ways
 pub mod Walked
 pub mod Told
-pub mod Sought

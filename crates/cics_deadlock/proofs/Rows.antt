@@ -6,7 +6,7 @@ use Rattle.cics_history.specs.Openings.{nothing_defined}
 use Rattle.cics_dispatch.specs.Machine.{Machine, beginning_region}
 use Rattle.cics_dispatch.specs.Steps.{attached, issued}
 use Rattle.cics_deadlock.specs.Circles.{circles}
-use Rattle.cics_deadlock.specs.Deadlocks.{deadlocks, deadlock_of}
+use Rattle.cics_deadlock.specs.Deadlocks.{deadlocks}
 
 -- the labels T1, T2, T3
 abbrev t1 : Bytes
@@ -54,15 +54,9 @@ chain = refl
 pair : deadlocks two ≡ (t1 ∷ t2 ∷ []) ∷ []
 pair = refl
 
-pair_of_second : deadlock_of two t2 ≡ Some (t1 ∷ t2 ∷ [])
-pair_of_second = refl
-
 -- a third one that waits for them isn't in it
 third_waits : deadlocks behind ≡ (t1 ∷ t2 ∷ []) ∷ []
 third_waits = refl
-
-none_of_third : deadlock_of behind t3 ≡ None
-none_of_third = refl
 
 -- three tasks, from the first on in the order of their waits
 all_three : deadlocks three ≡ (t1 ∷ t3 ∷ t2 ∷ []) ∷ []

@@ -21,7 +21,7 @@ contains_map f (y ∷ ys) x (suc k) less is =
     (suc rest.0, omega arith, rest.2)
 
 module _ (m : Machine) where
-  long : (n : ℕ) → length (waits_below m n) ≡ n
+  pub long : (n : ℕ) → length (waits_below m n) ≡ n
   long zero = refl
   long (suc n) = length-append_one (waits_below m n) (blocker_at m n) ∙ ap suc (long n)
     where
@@ -41,7 +41,7 @@ module _ (m : Machine) where
             next_below n i (omega arith)
       ] refl
 
-  next_is : (i : ℕ) → next_of (waits_of m) i ≡ blocker_at m i
+  pub next_is : (i : ℕ) → next_of (waits_of m) i ≡ blocker_at m i
   next_is i =
       elim (nat_lt i (length m.tasks)) as (λ b. nat_lt i (length m.tasks) ≡ b → next_of (waits_of m) i ≡ blocker_at m i) [
         | true ↦ λ less. next_below (length m.tasks) i (ltb-true i (length m.tasks) less)

@@ -1,6 +1,5 @@
 -- Circles in a graph of tasks, each of which waits for one other at most.
 use Rattle.std.specs.Prelude.{◌≡◌, ◌<◌, ◌+◌, ℕ, zero, suc, ◌==◌, nat_lt, if◌then◌else◌, Option, Some, None, option_map, unwrap_or, is_some, slice_get, length, List, [], ◌∷◌, ◌++◌}
-use Rattle.std.specs.List.{list_any}
 
 -- a graph: at the number of each task the number of the one that it waits for, if it waits
 abbrev pub Graph : Type 0
@@ -49,11 +48,6 @@ circles_below g (suc n) = with_circle (circles_below g n) (circle_from g n)
 -- all circles
 abbrev pub circles : Graph → List (List ℕ)
 circles g = circles_below g (length g)
-
--- the first of these circles that has a task
-abbrev pub circle_with : List (List ℕ) → ℕ → Option (List ℕ)
-circle_with [] at = None
-circle_with (c ∷ cs) at = if list_any (λ k. k == at) c then Some c else circle_with cs at
 
 -- ---- What a circle is, without a walk
 

@@ -1,10 +1,10 @@
 -- The deadlocks of a region: circles of its tasks, each of which waits for the one that blocks it.
-use Rattle.std.specs.Prelude.{◌≡◌, ℕ, zero, suc, Option, option_map, option_and_then, map, length, List, [], ◌∷◌, ◌++◌}
+use Rattle.std.specs.Prelude.{◌≡◌, ℕ, zero, suc, Option, option_and_then, map, length, List, [], ◌∷◌, ◌++◌}
 use Rattle.std.specs.List.{filter_map}
 use Rattle.cics_names.specs.Keyed.{Bytes}
 use Rattle.cics_dispatch.specs.Machine.{Machine}
 use Rattle.cics_dispatch.specs.Blockers.{blocker_of, label_at, number_of}
-use Rattle.cics_deadlock.specs.Circles.{Graph, circles, circle_with, IsCircle}
+use Rattle.cics_deadlock.specs.Circles.{Graph, circles, IsCircle}
 
 -- the number of the task for which the task of a number has to wait now
 abbrev pub blocker_at : Machine → ℕ → Option ℕ
@@ -27,12 +27,6 @@ labels_of m numbers = filter_map (label_at m.tasks) numbers
 -- the labels of the tasks of each circle
 abbrev pub deadlocks : Machine → List (List Bytes)
 deadlocks m = map (labels_of m) (circles (waits_of m))
-
--- those of the circle that the task of a label is in, if it is in one
-abbrev pub deadlock_of : Machine → Bytes → Option (List Bytes)
-deadlock_of m label =
-    let circle = option_and_then (circle_with (circles (waits_of m))) (number_of m.tasks label) in
-    option_map (labels_of m) circle
 
 -- labels are those of tasks that wait for each other in a circle, by the task that blocks each
 pub record IsDeadlock (m : Machine) (labels : List Bytes) : Type 0 where

@@ -1,6 +1,6 @@
 //! The circles of a graph in which each task waits for one other at most.
 
-ghost use Rattle.std.specs.Prelude.{◌≡◌, ◌<◌, ◌≤◌, ℕ, All, Some, IfOk, length};
+ghost use Rattle.std.specs.Prelude.{◌≡◌, IfOk};
 ghost use Rattle.cics_deadlock.specs.Circles.{next_of, waiting_count, way_back, circles};
 
 use cics_names::{Items, NoMemory};
@@ -11,19 +11,6 @@ fn next_of(waits_for: &[Option<usize>], at: usize) -> Option<usize>
     ensures { result ≡ next_of waits_for.now at }
 {
     *waits_for.get(at)?
-}
-
-// Returns how many tasks wait.
-fn waiting_count(waits_for: &[Option<usize>]) -> usize
-    ensures { result ≡ waiting_count waits_for.now }
-{
-    let mut count = 0;
-    for number in 0..waits_for.len() {
-        if next_of(waits_for, number).is_some() {
-            count += 1;
-        }
-    }
-    count
 }
 
 // Returns the circle whose least number is `first`, if there is one of `most` tasks at most.
@@ -55,13 +42,18 @@ fn circle_from(
 
 /// Returns the circles of a graph, each once, in the order of their first tasks.
 ///
-/// `waits_for` has for each task, by its number, the number of the task that it waits for.
+/// `waits_for` has for each task, by its number, the number of the task that it waits for, and
+/// `most` is the number of tasks that wait.
 ///
 /// Cost: O(w * w), w the number of tasks that wait, beside O(tasks).
-pub fn circles(alloc: Global, waits_for: &[Option<usize>]) -> Result<Items<Items<usize>>, NoMemory>
+pub fn circles(
+    alloc: Global,
+    waits_for: &[Option<usize>],
+    most: usize,
+) -> Result<Items<Items<usize>>, NoMemory>
+    requires most { most ≡ waiting_count waits_for.now }
     ensures circles { IfOk result (λ found. found ≡ circles waits_for.now) }
 {
-    let most = waiting_count(waits_for);
     let mut found = Items::new(alloc);
     for first in 0..waits_for.len() {
         if let Some(circle) = circle_from(alloc, waits_for, first, most)? {

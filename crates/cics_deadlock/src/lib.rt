@@ -7,4 +7,4 @@
 mod circles;
 mod waiting;
 
-pub use waiting::{deadlock_of, deadlocks};
+pub use waiting::{deadlocks, waiting_count};

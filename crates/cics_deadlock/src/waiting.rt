@@ -1,9 +1,9 @@
 //! The deadlocks of a region.
 
-ghost use Rattle.std.specs.Prelude.{◌≡◌, ℕ, List, map, All, Contains, IfOk};
-ghost use Rattle.cics_deadlock.specs.Circles.{circles, IsCircle};
+ghost use Rattle.std.specs.Prelude.{◌≡◌, ℕ, List, map, All, Contains, IfOk, is_some};
+ghost use Rattle.cics_deadlock.specs.Circles.{next_of, waiting_count, circles, IsCircle};
 ghost use Rattle.cics_deadlock.specs.Deadlocks.{blocker_at, waits_of, labels_of, deadlocks};
-ghost use Rattle.cics_deadlock.specs.Deadlocks.{deadlock_of, IsDeadlock};
+ghost use Rattle.cics_deadlock.specs.Deadlocks.{IsDeadlock};
 
 use crate::circles::circles;
 use cics_dispatch::Region;
@@ -17,6 +17,29 @@ fn blocker_at(region: &Region, number: usize) -> Option<usize>
     let label = region.label_at(number)?;
     let blocker = region.blocker(&label)?;
     region.number(&blocker)
+}
+
+// Whether the task of a number waits for another one.
+#[tactic(auto, using(crate::proofs::Told::next_is))]
+fn is_blocked(region: &Region, number: usize) -> bool
+    ensures { result ≡ is_some (next_of (waits_of region.now.machine) number) }
+{
+    blocker_at(region, number).is_some()
+}
+
+/// Returns how many tasks of a region wait for another one.
+///
+/// Cost: O(tasks).
+pub fn waiting_count(region: &Region) -> usize
+    ensures { result ≡ waiting_count (waits_of region.now.machine) }
+{
+    let mut count = 0;
+    for number in 0..region.task_count() {
+        if is_blocked(region, number) {
+            count += 1;
+        }
+    }
+    count
 }
 
 // For each task, by its number, the number of the one for which it has to wait now.
@@ -35,7 +58,7 @@ fn circles_of(alloc: Global, region: &Region) -> Result<Items<Items<usize>>, NoM
     ensures { IfOk result (λ found. found ≡ circles (waits_of region.now.machine)) }
 {
     let waits = waits_of(alloc, region)?;
-    circles(alloc, waits.as_slice())
+    circles(alloc, waits.as_slice(), waiting_count(region))
 }
 
 // The labels of tasks.
@@ -80,27 +103,4 @@ pub fn deadlocks(alloc: Global, region: &Region) -> Result<Items<Items<Name8>>, 
 {
     let all = circles_of(alloc, region)?;
     all_labels_of(alloc, region, all.as_slice())
-}
-
-/// Returns the deadlock that the task of a label is in, if it is in one. A task that only waits for
-/// one of its tasks isn't in it.
-///
-/// Errors: `NoMemory`. Cost: that of `deadlocks`.
-pub fn deadlock_of(
-    alloc: Global,
-    region: &Region,
-    label: &Name8,
-) -> Result<Option<Items<Name8>>, NoMemory>
-    ensures deadlock { IfOk result (λ found. found ≡ deadlock_of region.now.machine label.now) }
-{
-    let Some(number) = region.number(label) else {
-        return Ok(None);
-    };
-    let all = circles_of(alloc, region)?;
-    for circle in all.as_slice() {
-        if circle.as_slice().contains(&number) {
-            return Ok(Some(labels_of(alloc, region, circle.as_slice())?));
-        }
-    }
-    Ok(None)
 }

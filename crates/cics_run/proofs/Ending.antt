@@ -8,8 +8,10 @@ use Rattle.std.specs.Io.KnownBytes.{Appends}
 use Rattle.cics_run.specs.Lines.{completed, unfinished, last_line, all_lines}
 use Rattle.cics_run.specs.Printing.{AppendsFront, Prints}
 use Rattle.cics_run.specs.Running.{Played, has_fault, next, play, start, stepped, journal_of, journal, whole, ending, output, is_faulty}
-use Rattle.cics_run.specs.Standing.{next_step, next_text, Ran, Stands, Keeps, IsClosed, Closes}
+use Rattle.cics_run.specs.Stages.{region_of}
+use Rattle.cics_run.specs.Standing.{next_step, next_text, Ran, Stands, Keeps, IsClosed, Closes, final_stage}
 use Rattle.cics_run.specs.declared.stage.Stage.{Stage}
+use Rattle.cics_run.specs.declared.stage.Stage.TheVariants.{Running}
 use Rattle.cics_run.specs.declared.running.Wanted.{Wanted}
 use Rattle.cics_run.specs.declared.session.Session.{Session}
 use Rattle.cics_run.proofs.Printing.{prints-prints, prints-all, prints-front, prints-written, front-longer}
@@ -43,7 +45,7 @@ module _ (wanted : Wanted) (bytes : List ℕ) (before old : Option (List ℕ)) (
   journal-last : journal_of wanted (play (all_lines bytes)) ≡ journal wanted bytes ++ next_text s s.line.items
   journal-last = ap (journal_of wanted) play-last ∙ rw at.shows (journal-stepped wanted (play (completed bytes)) s.line.items (next_step s s.line.items))
 
-  pub closed-last : (now : Option (List ℕ)) (t : Session) (fault : Bool) → Ran s s.line.items t → t.line.items ≡ s.line.items → fault ≡ is_some t.fault
+  pub closed-last : (now : Option (List ℕ)) (t : Session) (fault : Bool) → Ran s s.line.items t → t.line.items ≡ cond fault s.line.items [] → fault ≡ is_some t.fault
       → Prints old now s.pending.items t.pending.items (next_text s s.line.items)
       → IsClosed wanted bytes before now t fault
   closed-last now t fault ran line is_fault text =
@@ -52,8 +54,8 @@ module _ (wanted : Wanted) (bytes : List ℕ) (before old : Option (List ℕ)) (
         stage = ap (λ p. p.stage) play-last ∙ sym ran.stage;
         printed = subst (Prints before now [] t.pending.items) (sym journal-last)
             (prints-prints before old now [] s.pending.items t.pending.items (journal wanted bytes) (next_text s s.line.items) at.printed text);
-        kept = λ _. record {
-          line = line ∙ sym (ap (λ p. p.line) play-last);
+        kept = λ is. record {
+          line = line ∙ ap (λ b. cond b s.line.items []) is ∙ sym (ap (λ p. p.line) play-last);
           number = ran.number ∙ ap (λ n. n + 1) at.number ∙ sym (ap (λ p. p.number) play-last);
           fault = ran.fault ∙ sym (ap (λ p. p.fault) play-last);
         };
@@ -67,7 +69,7 @@ module _ (wanted : Wanted) (bytes : List ℕ) (before old : Option (List ℕ)) (
   -- what running it gave
   pub closes-at : {E : Type 0} (now : Option (List ℕ)) (t : Session) (result : Result Bool E)
       → OnOk result (Ran s s.line.items t)
-      → OnOk result (t.line.items ≡ s.line.items)
+      → IfOk result (λ fault. t.line.items ≡ cond fault s.line.items [])
       → IfOk result (λ fault. fault ≡ is_some t.fault)
       → OnOk result (Prints old now s.pending.items t.pending.items (next_text s s.line.items))
       → OnErr result (AppendsFront old now (s.pending.items ++ next_text s s.line.items))
@@ -102,13 +104,15 @@ output-going : (wanted : Wanted) (bytes : List ℕ) (stage : Stage) → has_faul
 output-going wanted bytes stage going same =
     whole-going wanted (play (all_lines bytes)) going ∙ ap (λ s. journal_of wanted (play (all_lines bytes)) ++ ending wanted s) same
 
-pub end-written : (wanted : Wanted) (bytes : List ℕ) (before old now : Option (List ℕ)) (s : Session) → IsClosed wanted bytes before old s false
-    → Appends old now (s.pending.items ++ ending wanted s.stage) → Appends before now (output wanted bytes) × (is_faulty bytes ≡ false)
-end-written wanted bytes before old now s closed took =
+pub end-written : (wanted : Wanted) (bytes : List ℕ) (before old now : Option (List ℕ)) (s : Session) (left : Stage) → IsClosed wanted bytes before old s false
+    → Appends old now (s.pending.items ++ ending wanted s.stage) → left ≡ Running (region_of s.stage)
+    → Appends before now (output wanted bytes) × (is_faulty bytes ≡ false) × (left ≡ final_stage (play (all_lines bytes)))
+end-written wanted bytes before old now s left closed took opened =
     let j = journal_of wanted (play (all_lines bytes)) in
     let all = prints-prints before old now [] s.pending.items [] j (ending wanted s.stage) closed.printed (prints-written old now s.pending.items (ending wanted s.stage) took) in (
       subst (Appends before now) (sym (output-going wanted bytes s.stage closed.fault closed.stage)) (prints-all before now [] (j ++ ending wanted s.stage) all),
       closed.fault,
+      opened ∙ ap (λ stage. Running (region_of stage)) (sym closed.stage),
     )
 
 pub end-front : (wanted : Wanted) (bytes : List ℕ) (before old now : Option (List ℕ)) (s : Session) → IsClosed wanted bytes before old s false

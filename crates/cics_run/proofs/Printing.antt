@@ -1,6 +1,6 @@
 -- What is printed, one text further.
 use Rattle.std.proofs.Common.{ℕ, List, [], ◌++◌, refl, ap, sym, ◌∙◌, append_assoc, append-nil, Option, subst}
-use Rattle.std.specs.Prelude.{Result, Ok, Err, OnErr}
+use Rattle.std.specs.Prelude.{Result, Ok, Err, OnOk, OnErr}
 use Rattle.std.specs.Io.KnownBytes.{Appends}
 use Rattle.cics_run.specs.Printing.{IsFront, AppendsFront, Prints}
 use Rattle.cics_run.proofs.Known.{appends-append, appends-nothing}
@@ -46,7 +46,11 @@ pub front-longer : (a b : Option (List ℕ)) (text longer : List ℕ) → IsFron
 front-longer a b text longer (more, e) (front, (rest, f), took) =
     (front, (rest ++ more, e ∙ ap (λ x. x ++ more) f ∙ append_assoc front rest more), took)
 
--- what is so is so of an error
+-- what is so is so of an answer, and of an error
+pub on-ok : {A E : Type 0} (P : Type 0) (r : Result A E) → P → OnOk r P
+on-ok P (Ok x) p = p
+on-ok P (Err e) p = tt
+
 pub on-err : {A E : Type 0} (P : Type 0) (r : Result A E) → P → OnErr r P
 on-err P (Ok x) p = tt
 on-err P (Err e) p = p

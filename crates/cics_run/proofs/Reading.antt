@@ -10,7 +10,7 @@ use Rattle.std.specs.Io.BufRead.{strip_last}
 use Rattle.cics_run.specs.Lines.{Pieces, pieces, with_first, completed}
 use Rattle.cics_run.specs.Running.{Played, has_fault, next, start, journal, is_stopped, Answers, ReadsOn, RunsOver}
 use Rattle.cics_run.specs.Printing.{AppendsFront, Prints}
-use Rattle.cics_run.specs.Standing.{IsNew, Stands, Keeps, Stopped, Finishes, KeepsFault, fault_of, ended}
+use Rattle.cics_run.specs.Standing.{IsNew, Stands, Keeps, Stopped, Finishes, KeepsEnd, fault_of, ended}
 use Rattle.cics_run.specs.Streams.{Tells}
 use Rattle.cics_run.specs.declared.writing.Stop.{Stop}
 use Rattle.cics_run.specs.declared.writing.Stop.TheVariants as stops
@@ -70,14 +70,14 @@ stopped-output wanted bytes rest before now s stop =
     (subst (λ t. Appends before now t) (sym same) stop.written, faulty, inl stop.fault)
 
 -- the line at which they stopped is kept
-pub stopped-keeps : (wanted : Wanted) (bytes : List ℕ) (input rest before now : Option (List ℕ)) (s : Session) → Consumes input rest bytes → Stopped wanted bytes before now s → KeepsFault input rest s (Ok status.LineFault)
+pub stopped-keeps : (wanted : Wanted) (bytes : List ℕ) (input rest before now : Option (List ℕ)) (s : Session) → Consumes input rest bytes → Stopped wanted bytes before now s → KeepsEnd input rest s (Ok status.LineFault)
 stopped-keeps wanted bytes input rest before now s read stop =
     let same = fault-whole bytes stop.fault in
     (bytes, read, ap has_fault same ∙ stop.fault, subst (Keeps s) (sym same) stop.kept)
 
--- a run that came to the input's end keeps the last line, where that is a fault
-pub ended-keeps : (wanted : Wanted) (bytes : List ℕ) (input rest before now : Option (List ℕ)) (s : Session) (answer : Result Status Stop) → Consumes input rest bytes → Finishes wanted bytes before now s answer → KeepsFault input rest s (ended answer)
-ended-keeps wanted bytes input rest before now s (Ok status.Done) read end = tt
+-- a run that came to the input's end keeps its final region, or the last line, where that is a fault
+pub ended-keeps : (wanted : Wanted) (bytes : List ℕ) (input rest before now : Option (List ℕ)) (s : Session) (answer : Result Status Stop) → Consumes input rest bytes → Finishes wanted bytes before now s answer → KeepsEnd input rest s (ended answer)
+ended-keeps wanted bytes input rest before now s (Ok status.Done) read (wrote, going, stage) = (bytes, read, going, stage)
 ended-keeps wanted bytes input rest before now s (Ok status.LineFault) read (wrote, faulty, kept) = (bytes, read, faulty, kept)
 ended-keeps wanted bytes input rest before now s (Err stops.NoMemory) read end = tt
 ended-keeps wanted bytes input rest before now s (Err stops.WriteFault) read end = tt
@@ -120,7 +120,7 @@ runs-stop wanted bytes input rest last before now stops.WriteFault read within o
 -- a run that came to the input's end
 pub runs-ended : (wanted : Wanted) (bytes : List ℕ) (input rest last before now : Option (List ℕ)) (s : Session) (answer : Result Status Stop) → Consumes input rest bytes → length bytes ≤ LIMIT → ReadsOn bytes last
     → IsAtEnd rest → Finishes wanted bytes before now s answer → RunsOver wanted input rest last before now (ended answer)
-runs-ended wanted bytes input rest last before now s (Ok status.Done) read within on end (wrote, going) = (bytes, read, within, on, (wrote, going, end))
+runs-ended wanted bytes input rest last before now s (Ok status.Done) read within on end (wrote, going, stage) = (bytes, read, within, on, (wrote, going, end))
 runs-ended wanted bytes input rest last before now s (Ok status.LineFault) read within on end (wrote, faulty, kept) = (bytes, read, within, on, (wrote, faulty, inr end))
 runs-ended wanted bytes input rest last before now s (Err stops.NoMemory) read within on end front = (bytes, read, within, on, inr (end, front))
 runs-ended wanted bytes input rest last before now s (Err stops.WriteFault) read within on end front = (bytes, read, within, on, inr (end, front))

@@ -5,6 +5,7 @@ use Rattle.std.proofs.lemmas.List.{map-append}
 use Rattle.std.proofs.Math.Numerals.{one-add}
 use Rattle.std.proofs.lemmas.List.Sums.{fold-append}
 use Rattle.std.specs.Prelude.{is_some}
+use Rattle.std.specs.Global.{Vec}
 use Rattle.std.specs.List.{list_all, prefix_len}
 use Rattle.std.specs.Io.BufRead.{strip_last}
 use Rattle.std.specs.Io.KnownBytes.{Appends}
@@ -51,6 +52,25 @@ stands-bytes wanted bytes more before now s t all at stage number line pending s
       shows = shows ∙ at.shows;
       printed = subst (λ j. Prints before now [] t.pending.items j) (sym (ap (journal_of wanted) same)) (subst (λ x. Prints before now [] x (journal wanted bytes)) (sym pending) at.printed);
     }
+
+-- A session runs its line without the CR right before the LF: this is what it does next.
+module _ (s : Session) (line : Vec ℕ) (cut : line.items ≡ ended_line s) (t : Session) where
+  pub ran-cut : Ran (record s { line = line }) line.items t → Ran s (ended_line s) t
+  ran-cut ran =
+      record {
+        stage = ran.stage ∙ ap (λ l. (next_step s l).stage) cut;
+        number = ran.number;
+        fault = ran.fault ∙ ap (λ l. (next_step s l).fault) cut;
+        shows = ran.shows;
+      }
+
+  pub prints-cut : (old now : Option (List ℕ)) (left : List ℕ) → Prints old now s.pending.items left (next_text (record s { line = line }) line.items)
+      → Prints old now s.pending.items left (next_text s (ended_line s))
+  prints-cut old now left = subst (λ l. Prints old now s.pending.items left (next_text s l)) cut
+
+  pub front-cut : (old now : Option (List ℕ)) → AppendsFront old now (s.pending.items ++ next_text (record s { line = line }) line.items)
+      → AppendsFront old now (s.pending.items ++ next_text s (ended_line s))
+  front-cut old now = subst (λ l. AppendsFront old now (s.pending.items ++ next_text s l)) cut
 
 -- what a session has printed that ran a line more
 printed-line : (wanted : Wanted) (bytes : List ℕ) (before old now : Option (List ℕ)) (s t : Session) → Stands wanted bytes before old s

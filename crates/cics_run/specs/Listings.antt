@@ -32,15 +32,18 @@ heading kind name recovery counted count = line (kind ++ (codes " " ++ (name_tex
 abbrev pub record_line : List ℕ → List ℕ
 record_line bytes = line (codes "  " ++ text_of bytes)
 
--- a file: its heading, and its records in the order of their keys
-abbrev pub file_text : List ℕ × Bool × List (List ℕ) → List ℕ
-file_text (name, recoverable, records) =
-    heading (codes "FILE") name (recoverable_title recoverable) (codes "RECORDS") (length records) ++ flat_map record_line records
+-- a file or a temporary storage queue: its heading, and its records
+abbrev pub kept_text : List ℕ → List ℕ → List ℕ × Bool × List (List ℕ) → List ℕ
+kept_text kind counted (name, recoverable, records) =
+    heading kind name (recoverable_title recoverable) counted (length records) ++ flat_map record_line records
 
--- a temporary storage queue: its heading, and its items, the first first
+-- a file, with its records in the order of their keys
+abbrev pub file_text : List ℕ × Bool × List (List ℕ) → List ℕ
+file_text = kept_text (codes "FILE") (codes "RECORDS")
+
+-- a temporary storage queue, with its items, the first first
 abbrev pub storage_text : List ℕ × Bool × List (List ℕ) → List ℕ
-storage_text (name, recoverable, items) =
-    heading (codes "TSQUEUE") name (recoverable_title recoverable) (codes "ITEMS") (length items) ++ flat_map record_line items
+storage_text = kept_text (codes "TSQUEUE") (codes "ITEMS")
 
 -- a transient data queue: its heading, and its records, the first first
 abbrev pub transient_text : List ℕ × Recovery × List (List ℕ) → List ℕ

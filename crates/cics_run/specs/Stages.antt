@@ -3,7 +3,8 @@ use Rattle.std.specs.Prelude.{◌≡◌, ℕ, List, [], ◌++◌, length, Option
 use Rattle.cics_names.specs.Keyed.{Bytes, value_at, has_key, is_key_in}
 use Rattle.cics_transdata.specs.declared.queues.Recovery.{Recovery}
 use Rattle.cics_ksds.specs.declared.definition.FileDef.{FileDef}
-use Rattle.cics_history.specs.Openings.{OpeningState, nothing_defined, with_file, with_record, with_prefix, with_queue, with_td_record}
+use Rattle.cics_history.specs.State.{OpeningState}
+use Rattle.cics_history.specs.Openings.{nothing_defined, with_file, with_record, with_prefix, with_queue, with_td_record}
 use Rattle.cics_units.specs.Faults.{file_fault, load_fault, load_td_fault, fault_if}
 use Rattle.cics_units.specs.declared.opening.DefineFault.{DefineFault}
 use Rattle.cics_dispatch.specs.Machine.{Machine, RegionValue, beginning_region}

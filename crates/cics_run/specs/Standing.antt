@@ -4,7 +4,7 @@ use Rattle.std.specs.Io.BufRead.{strip_last}
 use Rattle.std.specs.Io.KnownBytes.{Appends, Consumes}
 use Rattle.cics_run.specs.Lines.{completed, unfinished, all_lines}
 use Rattle.cics_run.specs.Journal.{script_line}
-use Rattle.cics_run.specs.Stages.{step, Step, first_stage}
+use Rattle.cics_run.specs.Stages.{step, Step, first_stage, region_of}
 use Rattle.cics_run.specs.Running.{Played, play, has_fault, journal_of, journal, output, is_faulty}
 use Rattle.cics_run.specs.Printing.{AppendsFront, Prints}
 use Rattle.cics_run.specs.declared.running.RunFault.{RunFault}
@@ -15,6 +15,8 @@ use Rattle.cics_run.specs.declared.running.Wanted.{Wanted}
 use Rattle.cics_run.specs.declared.running.Status.{Status}
 use Rattle.cics_run.specs.declared.running.Status.TheVariants as status
 use Rattle.cics_run.specs.declared.session.Session.{Session}
+use Rattle.cics_run.specs.declared.stage.Stage.{Stage}
+use Rattle.cics_run.specs.declared.stage.Stage.TheVariants.{Running}
 
 -- A session before its first byte.
 pub record IsNew (s : Session) : Type 0 where
@@ -96,18 +98,25 @@ abbrev pub Closes : {E : Type 0} → Wanted → List ℕ → Option (List ℕ) �
 Closes wanted bytes before now session result =
     MatchResult result (IsClosed wanted bytes before now session) (λ _. AppendsFront before now (journal_of wanted (play (all_lines bytes))))
 
+-- the region in which these lines end, made of the definitions where there is none yet
+abbrev pub final_stage : Played → Stage
+final_stage p = Running (region_of p.stage)
+
 -- the input's end came
 abbrev pub Finishes : {E : Type 0} → Wanted → List ℕ → Option (List ℕ) → Option (List ℕ) → Session → Result Status E → Type 0
-Finishes wanted bytes before now session (Ok status.Done) = Appends before now (output wanted bytes) × (is_faulty bytes ≡ false)
+Finishes wanted bytes before now session (Ok status.Done) =
+    Appends before now (output wanted bytes) × (is_faulty bytes ≡ false) × (session.stage ≡ final_stage (play (all_lines bytes)))
 Finishes wanted bytes before now session (Ok status.LineFault) =
     Appends before now (output wanted bytes) × (is_faulty bytes ≡ true) × Keeps session (play (all_lines bytes))
 Finishes wanted bytes before now session (Err e) = AppendsFront before now (output wanted bytes)
 
--- Where a run over some bytes ended in a fault, the session keeps the line that has it.
-abbrev pub KeepsFault : Option (List ℕ) → Option (List ℕ) → Session → Result Status RunFault → Type 0
-KeepsFault input rest session (Ok status.LineFault) =
+-- What a run over some bytes leaves in its session: the region in which their lines end, or the line that has a fault.
+abbrev pub KeepsEnd : Option (List ℕ) → Option (List ℕ) → Session → Result Status RunFault → Type 0
+KeepsEnd input rest session (Ok status.Done) =
+    (bytes : List ℕ) × Consumes input rest bytes × (is_faulty bytes ≡ false) × (session.stage ≡ final_stage (play (all_lines bytes)))
+KeepsEnd input rest session (Ok status.LineFault) =
     (bytes : List ℕ) × Consumes input rest bytes × (is_faulty bytes ≡ true) × Keeps session (play (all_lines bytes))
-KeepsFault input rest session _ = ⊤
+KeepsEnd input rest session _ = ⊤
 
 -- the fault of a run that stopped
 abbrev pub fault_of : Stop → RunFault

@@ -33,3 +33,8 @@ abbrev pub failed_writes : {E : Type 0} → Result ℕ E → List ℕ → ℕ
 failed_writes (Ok n) [] = 0
 failed_writes (Ok n) (c ∷ bytes) = if n == 0 then 1 else 0
 failed_writes (Err e) bytes = 1
+
+-- none failed, unless this is why a call stopped
+abbrev pub failures : {A F : Type 0} → (F → ℕ) → Result A F → ℕ
+failures count (Ok _) = 0
+failures count (Err fault) = count fault

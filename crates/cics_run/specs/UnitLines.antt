@@ -1,7 +1,7 @@
 -- Lines that were gathered for each unit of work, by the unit's number.
 use Rattle.std.specs.Prelude.{ℕ, if◌then◌else◌, Option, None, Some, List, [], slice_get}
 use Rattle.std.specs.Global.{Vec}
-use Rattle.cics_history.specs.Openings.{OpeningState}
+use Rattle.cics_history.specs.State.{OpeningState}
 use Rattle.cics_history.specs.Serial.{is_done_by}
 use Rattle.cics_history.specs.declared.ops.Entry.{Entry}
 use Rattle.cics_run.specs.Serial.{entry_lines}

@@ -5,6 +5,7 @@ ghost use Rattle.cics_run.specs.Statuses.{status_of, strict_status_of};
 
 use crate::running::{Options, RunFault, Status, Wanted};
 use cics_names::NoMemory;
+use clap::builder::ValueParser;
 use clap::error::ErrorKind;
 use clap::{Arg, ArgAction, Command, Error};
 use std::alloc::Global;
@@ -30,13 +31,19 @@ one unit after the other in commit order, and then the open units. It leaves
 recoverable files and queues as the run has left them.
 
 The picture has a row for each line of the journal, and a lane for each of the
-first sixteen tasks. Each event has a mark. An arrow leads from each wait to the
-task that is waited for. The picture is written when the whole script is run.
+first sixteen tasks. Each event has a mark, and a unit of work has a bar. An arrow
+goes from each wait to the task that is waited for, if both have lanes. The
+picture is written when the whole script is run.
+
+The report on the orders tells each ending that they lead to: how many orders and
+serial orders do, the first order that does, and what not each ending has. In a
+serial order each task gives the lines of a unit of work one after the other. The
+script of an ending can be run: it gives the lines in its first order.
 
 Exit status:
   0  the whole script was run, or the help or the version was printed
   1  a line or a definition has a fault, which is the journal's last line
-  2  bad arguments
+  2  bad arguments, or no ending has this number
   3  no memory
   4  a read or a write failed, the script has more than 16,777,216 bytes, or a
      picture would show more than 100,000 lines of the journal
@@ -48,8 +55,11 @@ Each option, from the root of the repository:
   bin/cicsrun --no-list < examples/lost-update.cics
   bin/cicsrun --replay < examples/rollback.cics
   bin/cicsrun --serial < examples/turns.cics
+  bin/cicsrun --with-script < examples/turns.cics
   bin/cicsrun --strict < examples/deadlock.cics
   bin/cicsrun --picture < examples/deadlock.cics > deadlock.svg
+  bin/cicsrun --orders --told < examples/race.cics
+  bin/cicsrun --orders --told --ending 2 < examples/race.cics
 The language of a script: docs/LANGUAGE.md.
 
 Example, from the root of the repository. T2 waits for the record until T1's
@@ -65,11 +75,27 @@ T2 EXEC CICS READ FILE('ACCT') RIDFLD('0001') UPDATE
 T1 EXEC CICS SYNCPOINT ROLLBACK
 END";
 
+/// What is wanted of the orders in which a script's tasks may give their lines.
+///
+/// - `told`: whether endings with different answers are different.
+/// - `limit`: how many orders are followed at most.
+/// - `ending`: the number of the ending that is wanted as a script, if one is.
+#[derive(Clone, Copy, Debug, PartialEq, Eq)]
+pub struct Orders {
+    pub told: bool,
+    pub limit: u64,
+    pub ending: Option<u64>,
+}
+
+/// How many orders are followed at most, if the command line doesn't say.
+const ORDERS: u64 = 20_000;
+
 /// What a command line asks for.
 ///
 /// - `Run`: a run of a script.
 /// - `Strict`: a run that ends with a status of its own if something is amiss (`strict_status`).
 /// - `Picture`: the picture of a run.
+/// - `Orders`: a report on the orders of a script's lines, or one of them as a script.
 /// - `Help`: the help or the version, which is to go to standard output.
 /// - `Bad`: nothing that the program knows. The text says what is wrong, and is to go to standard
 ///   error.
@@ -78,6 +104,7 @@ pub enum Asked {
     Run(Wanted),
     Strict(Wanted),
     Picture,
+    Orders(Orders),
     Help(String),
     Bad(String),
 }
@@ -88,6 +115,8 @@ pub enum Asked {
 ///
 /// - an option that is given twice;
 /// - `--serial` beside `--with-script`, and any option beside `--picture`;
+/// - `--told`, `--limit` and `--ending` without `--orders`, any other option beside it, and a number
+///   that isn't from 1 on;
 /// - each other word but a `--`, after which no option may stand.
 ///
 /// The only error is `NoMemory`.
@@ -130,6 +159,36 @@ fn flag<'a>(alloc: Global, name: &'a str, help: &'a str) -> Arg<'a> {
         .help(help)
 }
 
+// An option with a number from 1 on, which belongs to the orders.
+fn number<'a>(alloc: Global, name: &'a str, help: &'a str) -> Result<Arg<'a>, Error> {
+    Ok(
+        Arg::new(alloc, name)
+            .long(name)
+            .value_name("N")
+            .value_parser(ValueParser::unsigned(1, u64::MAX))
+            .requires_arg("orders")?
+            .help(help),
+    )
+}
+
+// The options of a report on orders.
+fn with_orders<'a>(alloc: Global, command: Command<'a>) -> Result<Command<'a>, Error> {
+    let others = ["no-list", "replay", "serial", "with-script", "strict"];
+    let orders = "Print a report on every order of the tasks' lines instead";
+    let orders = flag(alloc, "orders", orders).conflicts_with_all(&others)?;
+    let told = "Tell endings apart by what tasks are told too";
+    let told = flag(alloc, "told", told).requires_arg("orders")?;
+    let limit = "Follow at most N orders (20000)";
+    let ending = "Print the first order of ending N as a script";
+    Ok(
+        command
+            .arg(orders)?
+            .arg(told)?
+            .arg(number(alloc, "limit", limit)?)?
+            .arg(number(alloc, "ending", ending)?)?,
+    )
+}
+
 // The command line, with its options in the order of the help. A picture stands alone.
 fn command<'a>(alloc: Global) -> Result<Command<'a>, Error> {
     let no_list = flag(alloc, "no-list", "Leave out the listing");
@@ -141,24 +200,30 @@ fn command<'a>(alloc: Global) -> Result<Command<'a>, Error> {
     let strict = flag(alloc, "strict", "End with status 5 if something is amiss");
     let picture = "Print a picture of the run (SVG) in place of all that";
     let picture = flag(alloc, "picture", picture).exclusive(true);
-    Ok(
-        Command::new(alloc, "cicsrun")
-            .version(VERSION)
-            .about(ABOUT)
-            .after_help(MORE)
-            .arg(no_list)?
-            .arg(replay)?
-            .arg(serial)?
-            .arg(with_script)?
-            .arg(strict)?
-            .arg(picture)?,
-    )
+    let runs = Command::new(alloc, "cicsrun")
+        .version(VERSION)
+        .about(ABOUT)
+        .after_help(MORE)
+        .arg(no_list)?
+        .arg(replay)?
+        .arg(serial)?
+        .arg(with_script)?
+        .arg(strict)?
+        .arg(picture)?;
+    with_orders(alloc, runs)
 }
 
 fn asked_run(alloc: Global, words: &[String]) -> Result<Asked, Error> {
     let matches = command(alloc)?.try_get_matches_from(words)?;
     if matches.get_flag("picture") {
         return Ok(Asked::Picture);
+    }
+    if matches.get_flag("orders") {
+        return Ok(Asked::Orders(Orders {
+            told: matches.get_flag("told"),
+            limit: matches.get_one("limit").unwrap_or(ORDERS),
+            ending: matches.get_one("ending"),
+        }));
     }
     let options = Options {
         replay: matches.get_flag("replay"),

@@ -14,9 +14,9 @@ mod undefined;
 mod unit_lines;
 mod writing;
 
-pub use command_line::{Asked, arguments, exit_status, strict_status};
+pub use command_line::{Asked, Orders, arguments, exit_status, strict_status};
 pub use running::{CHUNK, LIMIT, Options, RunFault, Status, Wanted, run, run_over};
 pub use session::Session;
 pub use streams::{Failed, Sink, Source};
 pub use undefined::{Named, keep_undefined};
-pub use writing::{Stop, write_pending};
+pub use writing::{Stop, write_all, write_pending};

@@ -3,7 +3,7 @@
 ghost use Rattle.std.specs.Prelude.{◌≡◌, ◌++◌, OnOk};
 ghost use Rattle.std.specs.List.{flat_map};
 ghost use Rattle.cics_run.specs.Listings.{heading, recoverable_title, recovery_title, record_line};
-ghost use Rattle.cics_run.specs.Listings.{file_text, storage_text, transient_text, state_title};
+ghost use Rattle.cics_run.specs.Listings.{kept_text, transient_text, state_title};
 ghost use Rattle.cics_run.specs.Listings.{task_text, listing_text, replay_text, count_text};
 ghost use Rattle.cics_run.specs.Listings.{parts_text};
 
@@ -32,44 +32,27 @@ pub fn push_replay(out: &mut Vec<u8>, listing: &Listing) -> Result<(), NoMemory>
 fn push_parts(out: &mut Vec<u8>, listing: &Listing) -> Result<(), NoMemory>
     ensures { OnOk result (out.new.items ≡ out.old.items ++ parts_text listing.now) }
 {
-    push_files(out, listing.files.as_slice())?;
-    push_storage(out, listing.ts.as_slice())?;
+    push_kept(out, "FILE", "RECORDS", listing.files.as_slice())?;
+    push_kept(out, "TSQUEUE", "ITEMS", listing.ts.as_slice())?;
     push_transient(out, listing.td.as_slice())?;
     push_tasks(out, listing.tasks.as_slice())
 }
 
-fn push_files(out: &mut Vec<u8>, files: &[(Name8, bool, Items<Record>)]) -> Result<(), NoMemory>
-    ensures { OnOk result (out.new.items ≡ out.old.items ++ flat_map file_text files.now) }
+// Files or temporary storage queues: what they are called, what is counted of each, and their rows.
+fn push_kept(
+    out: &mut Vec<u8>,
+    kind: &str,
+    counted: &str,
+    rows: &[(Name8, bool, Items<Record>)],
+) -> Result<(), NoMemory>
+    ensures { OnOk result (out.new.items
+        ≡ out.old.items ++ flat_map (kept_text kind.now counted.now) rows.now) }
 {
-    for (name, recoverable, records) in files {
+    for (name, recoverable, records) in rows {
         let records = records.as_slice();
-        push_heading(
-            out,
-            "FILE",
-            &name.bytes(),
-            recoverable_title(*recoverable),
-            "RECORDS",
-            records.len(),
-        )?;
+        let recovery = recoverable_title(*recoverable);
+        push_heading(out, kind, &name.bytes(), recovery, counted, records.len())?;
         push_records(out, records)?;
-    }
-    Ok(())
-}
-
-fn push_storage(out: &mut Vec<u8>, queues: &[(Name8, bool, Items<Record>)]) -> Result<(), NoMemory>
-    ensures { OnOk result (out.new.items ≡ out.old.items ++ flat_map storage_text queues.now) }
-{
-    for (name, recoverable, items) in queues {
-        let items = items.as_slice();
-        push_heading(
-            out,
-            "TSQUEUE",
-            &name.bytes(),
-            recoverable_title(*recoverable),
-            "ITEMS",
-            items.len(),
-        )?;
-        push_records(out, items)?;
     }
     Ok(())
 }
@@ -82,11 +65,12 @@ fn push_transient(
 {
     for (name, recovery, records) in queues {
         let records = records.as_slice();
+        let recovery = recovery_title(*recovery);
         push_heading(
             out,
             "TDQUEUE",
             &name.bytes(),
-            recovery_title(*recovery),
+            recovery,
             "RECORDS",
             records.len(),
         )?;

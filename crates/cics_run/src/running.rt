@@ -4,7 +4,7 @@ ghost use Rattle.std.specs.Prelude.{◌≡◌, None};
 ghost use Rattle.cics_run.specs.Streams.{Rises, RisesAtMost};
 ghost use Rattle.cics_run.specs.Running.{RunsOver, without_serial, most_reads, failed_reads_of};
 ghost use Rattle.cics_run.specs.Running.{failed_writes_of};
-ghost use Rattle.cics_run.specs.Standing.{IsNew, KeepsFault, ended, fault_of};
+ghost use Rattle.cics_run.specs.Standing.{IsNew, KeepsEnd, ended, fault_of};
 
 use crate::session::Session;
 use crate::streams::{Sink, Source};
@@ -95,8 +95,9 @@ pub fn run<R: Read, W: Write>(
 /// Returns how the run ended, or why it stopped: `Status` and `RunFault` say what is written then.
 /// It returns a read or a write fault only if that very call failed, and tries none again.
 ///
-/// The session is a new one, and is left to its owner, who drops it. After a fault it keeps the
-/// line that has it. A process that ends right after the run may forget it.
+/// The session is a new one, and is left to its owner, who drops it. At the end it has the region
+/// in which the lines ended, and after a fault the line that has it. A process that ends right
+/// after the run may forget it.
 pub fn run_over<S: Source, K: Sink>(
     session: &mut Session,
     source: &mut S,
@@ -109,8 +110,7 @@ pub fn run_over<S: Source, K: Sink>(
     ensures write_faults { Rises (K.failed sink.old) (K.failed sink.new)
         (failed_writes_of result) }
     ensures asked { RisesAtMost (S.asked source.old) (S.asked source.new) most_reads }
-    ensures kept { KeepsFault (S.remaining source.old) (S.remaining source.new) session.new
-        result }
+    ensures kept { KeepsEnd (S.remaining source.old) (S.remaining source.new) session.new result }
     ensures whole_run { RunsOver wanted (S.remaining source.old) (S.remaining source.new)
         (S.last source.new) (K.contents sink.old) (K.contents sink.new) result }
 {

@@ -7,13 +7,13 @@ ghost use Rattle.std.specs.List.{prefix_len, list_all};
 ghost use Rattle.std.specs.Io.BufRead.{strip_last};
 ghost use Rattle.cics_run.specs.Lines.{is_in_line};
 ghost use Rattle.cics_run.specs.Journal.{script_line};
-ghost use Rattle.cics_run.specs.Stages.{listing_at, replay_at, serial_at};
+ghost use Rattle.cics_run.specs.Stages.{region_of, listing_at, replay_at, serial_at};
 ghost use Rattle.cics_run.specs.declared.stage.Stage.TheVariants.{Running};
 ghost use Rattle.cics_run.specs.Printing.{AppendsFront, Prints, stopped_writes};
 ghost use Rattle.cics_run.specs.Streams.{Rises};
 ghost use Rattle.std.specs.Io.KnownBytes.{Appends};
 ghost use Rattle.cics_run.specs.Running.{ending};
-ghost use Rattle.cics_run.specs.Standing.{IsNew, Ran, ended_line, next_text, WhereverStands};
+ghost use Rattle.cics_run.specs.Standing.{IsNew, Ran, next_text, WhereverStands};
 ghost use Rattle.cics_run.specs.Standing.{Feeds, Writes, Closes, Finishes};
 ghost use Rattle.cics_run.specs.declared.running.Wanted.{Wanted};
 
@@ -136,11 +136,12 @@ impl Session {
     }
 
     // Runs the line that is kept, prints what comes of it, and tells whether it has a fault. A
-    // fault is written at once.
+    // fault is written at once, and its line stays, to be told to a person.
     fn run_kept<K: Sink>(&mut self, sink: &mut K) -> Result<bool, Stop>
         requires { self.old.number + 1 < 2 ^ 64 }
         ensures ran { OnOk result (Ran self.old self.old.line.items self.new) }
-        ensures line { OnOk result (self.new.line.items ≡ self.old.line.items) }
+        ensures line { IfOk result (λ fault. self.new.line.items
+            ≡ (if fault then self.old.line.items else [])) }
         ensures fault { IfOk result (λ fault. fault ≡ is_some self.new.fault) }
         ensures printed { OnOk result (Prints (K.contents sink.old)
             (K.contents sink.new) self.old.pending.items self.new.pending.items
@@ -160,27 +161,7 @@ impl Session {
         keep_undefined(&mut self.undefined, &self.line, &self.pending, before);
         let is_fault = self.fault.is_some();
         write_printed(&mut self.pending, sink, is_fault)?;
-        Ok(is_fault)
-    }
-
-    // Runs the line whose LF came. A line with a fault is kept, to be told to a person.
-    fn end_line<K: Sink>(&mut self, sink: &mut K) -> Result<bool, Stop>
-        requires { self.old.number + 1 < 2 ^ 64 }
-        ensures ran { OnOk result (Ran self.old (ended_line self.old) self.new) }
-        ensures line { IfOk result (λ fault. self.new.line.items
-            ≡ (if fault then ended_line self.old else [])) }
-        ensures fault { IfOk result (λ fault. fault ≡ is_some self.new.fault) }
-        ensures printed { OnOk result (Prints (K.contents sink.old)
-            (K.contents sink.new) self.old.pending.items self.new.pending.items
-            (next_text self.old (ended_line self.old))) }
-        ensures left { IfOk result (λ fault. fault ≡ true → self.new.pending.items ≡ []) }
-        ensures err { OnErr result
-            (AppendsFront (K.contents sink.old) (K.contents sink.new)
-            (self.old.pending.items ++ next_text self.old (ended_line self.old))) }
-        ensures failed { Rises (K.failed sink.old) (K.failed sink.new) (stopped_writes result) }
-    {
-        drop_cr(&mut self.line);
-        if self.run_kept(sink)? {
+        if is_fault {
             return Ok(true);
         }
         self.line.clear();
@@ -206,7 +187,8 @@ impl Session {
             let Some((_, after)) = behind.split_first() else {
                 return Ok(false);
             };
-            match self.end_line(sink) {
+            drop_cr(&mut self.line);
+            match self.run_kept(sink) {
                 Ok(false) => rest = after,
                 Ok(true) => return Ok(true),
                 Err(stop) => return Err(stop),
@@ -278,6 +260,7 @@ fn write_end<K: Sink>(
     pending: &mut Vec<u8>,
     sink: &mut K,
 ) -> Result<(), Stop>
+    ensures stage { OnOk result (stage.new ≡ Running (region_of stage.old)) }
     ensures ok { OnOk result (Appends (K.contents sink.old) (K.contents sink.new)
         (pending.old.items ++ ending wanted stage.old)) }
     ensures err { OnErr result
@@ -294,13 +277,15 @@ fn write_end<K: Sink>(
 // Prints what is asked for of the listing, the replay and the serial run. Where no line has made
 // the region yet, it is made here.
 fn push_ending(stage: &mut Stage, wanted: Wanted, out: &mut Vec<u8>) -> Result<(), NoMemory>
-    ensures { OnOk result (out.new.items ≡ out.old.items ++ ending wanted stage.old) }
+    ensures stage { OnOk result (stage.new ≡ Running (region_of stage.old)) }
+    ensures text { OnOk result (out.new.items ≡ out.old.items ++ ending wanted stage.old) }
 {
     stage.open()?;
     match stage {
-        Stage::Running(region) => push_all_wanted(region, wanted, out),
+        Stage::Running(region) => push_all_wanted(region, wanted, out)?,
         Stage::Opening(_) => unreachable!(),
     }
+    Ok(())
 }
 
 // Prints the listing of a region, unless it is left out.

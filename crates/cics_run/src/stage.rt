@@ -1,14 +1,13 @@
 //! What the lines of a script lead to.
 
 ghost use Rattle.std.specs.Prelude.{◌≡◌, ◌++◌, List, ℕ, OnOk, OnErr, IfOk, Ok, Option, Some};
-ghost use Rattle.cics_history.specs.Openings.{OpeningState};
+ghost use Rattle.cics_history.specs.State.{OpeningState};
 ghost use Rattle.cics_units.specs.Faults.{AnswersFault};
 ghost use Rattle.cics_units.specs.declared.opening.DefineFault.{DefineFault};
 ghost use Rattle.cics_run.specs.Journal.{attached_line, outcome_line};
 ghost use Rattle.cics_run.specs.Journal.{refused_line, clock_line, clock_refused_line};
 ghost use Rattle.cics_run.specs.Journal.{shutdown_line, shutdown_refused_line};
-ghost use Rattle.cics_run.specs.Stages.{first_stage, region_of, file_defined, prefix_defined};
-ghost use Rattle.cics_run.specs.Stages.{queue_defined, file_loaded, queue_loaded, event};
+ghost use Rattle.cics_run.specs.Stages.{first_stage, region_of, event};
 ghost use Rattle.cics_run.specs.Stages.{task_attached, clock_moved, command_issued, region_shut};
 ghost use Rattle.cics_run.specs.Stages.{fault_line, followed, step};
 ghost use Rattle.cics_run.specs.Stages.{defined, told_line, IsAnswered, Leads, Happens};
@@ -20,10 +19,8 @@ use crate::journal::{
 };
 use crate::settling::settle;
 use cics_dispatch::{Outcome, Refused, Region};
-use cics_ksds::FileDef;
-use cics_names::{Command, Name4, Name8, NoMemory, Record};
+use cics_names::{Command, Name4, Name8, NoMemory};
 use cics_script::{Line, LineFault, read_line};
-use cics_transdata::Recovery;
 use cics_units::{DefineFault, Opening};
 use std::alloc::Global;
 use std::mem::replace;
@@ -71,22 +68,32 @@ impl Stage {
     }
 
     // Runs a line that was read.
-    fn follow(
-        &mut self,
-        number: u64,
-        line: Line,
-        out: &mut Vec<u8>,
-    ) -> Result<Option<Fault>, NoMemory>
-        ensures { Leads (followed number self.old (Ok line)) self.new out.old.items
-            out.new.items result }
+    fn follow(&mut self, at: u64, line: Line, out: &mut Vec<u8>) -> Result<Option<Fault>, NoMemory>
+        ensures { Leads (followed at self.old (Ok line)) self.new out.old.items out.new.items
+            result }
     {
         match line {
             Line::Blank => Ok(None),
-            Line::DefineFile(name, definition) => self.define_file(number, name, definition, out),
-            Line::DefineTsPrefix(prefix) => self.define_prefix(number, prefix, out),
-            Line::DefineTd(name, recovery) => self.define_queue(number, name, recovery, out),
-            Line::LoadFile(name, content) => self.load_file(number, name, content, out),
-            Line::LoadTd(name, content) => self.load_queue(number, name, content, out),
+            Line::DefineFile(name, file) => match self {
+                Stage::Opening(opening) => tell_defined(at, opening.define_file(name, file), out),
+                Stage::Running(_) => print_fault(at, Fault::Line(LineFault::DefineTooLate), out),
+            },
+            Line::DefineTsPrefix(prefix) => match self {
+                Stage::Opening(opening) => tell_defined(at, opening.define_ts_prefix(prefix), out),
+                Stage::Running(_) => print_fault(at, Fault::Line(LineFault::DefineTooLate), out),
+            },
+            Line::DefineTd(name, recovery) => match self {
+                Stage::Opening(opening) => tell_defined(at, opening.define_td(name, recovery), out),
+                Stage::Running(_) => print_fault(at, Fault::Line(LineFault::DefineTooLate), out),
+            },
+            Line::LoadFile(name, content) => match self {
+                Stage::Opening(opening) => tell_defined(at, opening.load_file(name, content), out),
+                Stage::Running(_) => print_fault(at, Fault::Line(LineFault::DefineTooLate), out),
+            },
+            Line::LoadTd(name, content) => match self {
+                Stage::Opening(opening) => tell_defined(at, opening.load_td(name, content), out),
+                Stage::Running(_) => print_fault(at, Fault::Line(LineFault::DefineTooLate), out),
+            },
             Line::Attach {
                 label,
                 transaction,
@@ -95,95 +102,6 @@ impl Stage {
             Line::Clock(seconds) => self.set_clock(seconds, out),
             Line::Issue(label, command) => self.issue(label, command, out),
             Line::Shutdown => self.shutdown(out),
-        }
-    }
-
-    fn define_file(
-        &mut self,
-        number: u64,
-        name: Name8,
-        definition: FileDef,
-        out: &mut Vec<u8>,
-    ) -> Result<Option<Fault>, NoMemory>
-        ensures { Leads (file_defined number self.old name definition) self.new out.old.items
-            out.new.items result }
-    {
-        match self {
-            Stage::Opening(opening) => {
-                print_definition(number, opening.define_file(name, definition), out)
-            }
-            Stage::Running(_) => print_fault(number, Fault::Line(LineFault::DefineTooLate), out),
-        }
-    }
-
-    fn define_prefix(
-        &mut self,
-        number: u64,
-        prefix: Name8,
-        out: &mut Vec<u8>,
-    ) -> Result<Option<Fault>, NoMemory>
-        ensures { Leads (prefix_defined number self.old prefix) self.new out.old.items out.new.items
-            result }
-    {
-        match self {
-            Stage::Opening(opening) => {
-                print_definition(number, opening.define_ts_prefix(prefix), out)
-            }
-            Stage::Running(_) => print_fault(number, Fault::Line(LineFault::DefineTooLate), out),
-        }
-    }
-
-    fn define_queue(
-        &mut self,
-        number: u64,
-        name: Name4,
-        recovery: Recovery,
-        out: &mut Vec<u8>,
-    ) -> Result<Option<Fault>, NoMemory>
-        ensures { Leads (queue_defined number self.old name recovery) self.new out.old.items
-            out.new.items result }
-    {
-        match self {
-            Stage::Opening(opening) => {
-                print_definition(number, opening.define_td(name, recovery), out)
-            }
-            Stage::Running(_) => print_fault(number, Fault::Line(LineFault::DefineTooLate), out),
-        }
-    }
-
-    fn load_file(
-        &mut self,
-        number: u64,
-        name: Name8,
-        content: Record,
-        out: &mut Vec<u8>,
-    ) -> Result<Option<Fault>, NoMemory>
-        ensures { Leads (file_loaded number self.old name content) self.new out.old.items
-            out.new.items result }
-    {
-        match self {
-            Stage::Opening(opening) => {
-                print_definition(number, opening.load_file(name, content), out)
-            }
-            Stage::Running(_) => print_fault(number, Fault::Line(LineFault::DefineTooLate), out),
-        }
-    }
-
-    fn load_queue(
-        &mut self,
-        number: u64,
-        name: Name4,
-        content: Record,
-        out: &mut Vec<u8>,
-    ) -> Result<Option<Fault>, NoMemory>
-        ensures { Leads (queue_loaded number self.old name content) self.new out.old.items
-            out.new.items result }
-    {
-        match self {
-            Stage::Opening(opening) => {
-                print_definition(number, opening.load_td(name, content), out)
-            }
-            Stage::Running(_) => print_fault(number, Fault::Line(LineFault::DefineTooLate), out),
         }
     }
 
@@ -297,7 +215,7 @@ fn print_fault(number: u64, fault: Fault, out: &mut Vec<u8>) -> Result<Option<Fa
 
 // Prints the fault of a definition, if it has one, and returns it. The clause speaks of the opening
 // that the definition left, `now`.
-fn print_definition(
+fn tell_defined(
     number: u64,
     answer: Result<(), DefineFault>,
     out: &mut Vec<u8>,

@@ -9,7 +9,7 @@ const ENOUGH: usize = 64;
 const BLANK: u8 = 0x40;
 
 // How a line of the journal goes on behind its label if a file or a queue isn't defined.
-static UNDEFINED: [&[u8]; 4] = [b"DSIDERR ", b"QIDERR ", b"ABEND AEIL ", b"ABEND AEYH "];
+static UNDEFINED: [&[u8]; 4] = [b" DSIDERR ", b" QIDERR ", b" ABEND AEIL ", b" ABEND AEYH "];
 
 /// The name of a file or of a queue of transient data.
 #[derive(Clone, Copy, Debug, PartialEq, Eq)]
@@ -35,10 +35,9 @@ impl Named {
 
 // Whether what a line printed tells of a file or a queue that isn't defined.
 fn is_undefined(printed: &[u8]) -> bool {
-    let Some(told) = printed.splitn(2, |byte| *byte == b' ').nth(1) else {
-        return false;
-    };
-    match told.first() {
+    let label_len = printed.iter().take_while(|byte| **byte != b' ').count();
+    let told = &printed[label_len.min(printed.len())..];
+    match told.get(1) {
         Some(b'D' | b'Q' | b'A') => UNDEFINED.iter().any(|words| told.starts_with(words)),
         _ => false,
     }

@@ -3,10 +3,10 @@
 ghost use Rattle.std.specs.Prelude.{◌≡◌, ◌++◌, [], true, OnOk, OnErr};
 ghost use Rattle.std.specs.Io.KnownBytes.{Appends};
 ghost use Rattle.cics_run.specs.Printing.{AppendsFront, Prints, stopped_writes};
-ghost use Rattle.cics_run.specs.Streams.{Rises};
+ghost use Rattle.cics_run.specs.Streams.{Rises, failures};
 ghost use Rattle.cics_run.specs.declared.writing.Stop.TheVariants as stops;
 
-use crate::streams::Sink;
+use crate::streams::{Failed, Sink};
 use cics_names::NoMemory;
 
 /// How many bytes come together before they are written.
@@ -29,9 +29,11 @@ impl From<NoMemory> for Stop {
     }
 }
 
-// Writes all the bytes. A write of no byte is a fault, and nothing is tried again.
-fn write_all<K: Sink>(sink: &mut K, bytes: &[u8]) -> Result<(), Stop>
-    ensures failed { Rises (K.failed sink.old) (K.failed sink.new) (stopped_writes result) }
+/// Writes all the bytes. A write of no byte is a fault, and nothing is tried again.
+///
+/// Errors: `Failed` if a write failed. Then a front of the bytes is written.
+pub fn write_all<K: Sink>(sink: &mut K, bytes: &[u8]) -> Result<(), Failed>
+    ensures failed { Rises (K.failed sink.old) (K.failed sink.new) (failures (λ _. 1) result) }
     ensures ok { OnOk result (Appends (K.contents sink.old) (K.contents sink.new) bytes.now) }
     ensures err { OnErr result
         (AppendsFront (K.contents sink.old) (K.contents sink.new) bytes.now) }
@@ -39,9 +41,9 @@ fn write_all<K: Sink>(sink: &mut K, bytes: &[u8]) -> Result<(), Stop>
     let mut at = 0;
     while at < bytes.len() {
         match sink.write(&bytes[at..]) {
-            Ok(0) => return Err(Stop::WriteFault),
+            Ok(0) => return Err(Failed),
             Ok(n) => at += n,
-            Err(_) => return Err(Stop::WriteFault),
+            Err(_) => return Err(Failed),
         }
     }
     Ok(())
@@ -61,7 +63,7 @@ pub fn write_pending<K: Sink>(pending: &mut Vec<u8>, sink: &mut K) -> Result<(),
             pending.clear();
             Ok(())
         }
-        Err(stop) => Err(stop),
+        Err(_) => Err(Stop::WriteFault),
     }
 }
 

@@ -1,2 +1,5 @@
 mod AmissRows
 pub mod Put
+pub mod InLine
+pub mod Finding
+pub mod Journal

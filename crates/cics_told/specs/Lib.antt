@@ -1,3 +1,5 @@
 pub mod Amiss
 pub mod Deadlocked
+pub mod Strict
+pub mod Told
 pub mod Waiting

@@ -4,6 +4,7 @@ use cics_dispatch::Region;
 use cics_names::{Name4, Name8, NoMemory};
 use cics_run::Named;
 use cics_script::{push_bare, push_name, push_str};
+use std::alloc::Global;
 
 fn has_file(region: &Region, characters: &[u8]) -> bool {
     match Name8::new(characters) {
@@ -44,10 +45,11 @@ fn push_hint(out: &mut Vec<u8>, region: &Region, named: &Named) -> Result<(), No
     push_str(out, " is\n")
 }
 
-/// Puts a line for each of the names whose capitals are defined.
-pub fn push_hints(out: &mut Vec<u8>, region: &Region, names: &[Named]) -> Result<(), NoMemory> {
+/// Returns a line for each of the names whose capitals are defined.
+pub fn hints_of(alloc: Global, region: &Region, names: &[Named]) -> Result<Vec<u8>, NoMemory> {
+    let mut hints = Vec::new(alloc);
     for named in names {
-        push_hint(out, region, named)?;
+        push_hint(&mut hints, region, named)?;
     }
-    Ok(())
+    Ok(hints)
 }

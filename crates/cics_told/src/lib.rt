@@ -9,6 +9,6 @@ mod told;
 mod waiting;
 
 pub use deadlocked::push_deadlocks;
-pub use strict::Watched;
+pub use strict::{Watched, finds_what_the_journal_tells};
 pub use told::{told_at_end, told_of};
 pub use waiting::is_left_waiting;

@@ -1,13 +1,23 @@
 //! What a strict run finds amiss.
 
-ghost use Rattle.std.specs.Prelude.{◌≡◌, ◌≤◌, [], false, length};
+ghost use Rattle.std.specs.Prelude.{◌≡◌, ◌≤◌, ℕ, List, [], true, false, length};
 ghost use Rattle.std.specs.Prelude.{if◌then◌else◌, take, IfOk};
 ghost use Rattle.std.specs.Io.{WritesAtMost};
 ghost use Rattle.std.specs.Io.KnownBytes.{WriteAppends};
-ghost use Rattle.std.specs.List.{prefix_len, fold};
+ghost use Rattle.std.specs.List.{prefix_len, fold, list_all};
+ghost use Rattle.cics_dispatch.specs.declared.outcomes.Outcome.{Outcome};
+ghost use Rattle.cics_dispatch.specs.declared.outcomes.Woken.{Woken};
+ghost use Rattle.cics_dispatch.specs.declared.outcomes.Expired.{Expired};
+ghost use Rattle.cics_dispatch.specs.declared.outcomes.Refused.{Refused};
+ghost use Rattle.cics_run.specs.Lines.{is_in_line};
+ghost use Rattle.cics_run.specs.Journal.{attached_line, outcome_line, woken_line, expired_line};
+ghost use Rattle.cics_run.specs.Journal.{refused_line, clock_line, clock_refused_line};
+ghost use Rattle.cics_run.specs.Journal.{shutdown_line, shutdown_refused_line, script_line};
 ghost use Rattle.cics_told.specs.Amiss.{is_in_label, behind_label, without_woken};
 ghost use Rattle.cics_told.specs.Amiss.{is_refusal, is_abend, is_told_amiss};
 ghost use Rattle.cics_told.specs.Amiss.{is_of_script, is_amiss, seen_by, with_byte};
+ghost use Rattle.cics_told.specs.Strict.{IsLabel, IsCode, HasCode, Finds, is_time_out};
+ghost use Rattle.cics_told.specs.Strict.{is_abended_amiss};
 
 use arrayvec::ArrayVec;
 use std::io::{Result, Write};
@@ -92,6 +102,31 @@ fn is_amiss(line: &[u8]) -> bool
 {
     !is_of_script(line) && is_told_amiss(without_woken(behind_label(line)))
 }
+
+/// Says what a strict run finds amiss, in the journal's terms:
+///
+/// - an event that was refused;
+/// - an abend by a condition, as a task issued a command or was woken;
+/// - an abend with the code of a time-out.
+///
+/// The line of any other event isn't amiss, and no line of the script is.
+pub fn finds_what_the_journal_tells()
+    ensures outcome { (label : List ℕ) (o : Outcome) → IsLabel label → HasCode o
+        → Finds (outcome_line label o) (is_abended_amiss o) }
+    ensures woken { (w : Woken) → IsLabel w.label → HasCode w.outcome
+        → Finds (woken_line w) (is_abended_amiss w.outcome) }
+    ensures timed_out { (e : Expired) → IsLabel e.label → IsCode e.code
+        → Finds (expired_line e) (is_time_out e.code) }
+    ensures refused { (label : List ℕ) (r : Refused) → IsLabel label
+        → Finds (refused_line label r) true }
+    ensures others_refused { (r : Refused)
+        → Finds (clock_refused_line r) true × Finds (shutdown_refused_line r) true }
+    ensures attached { (label transaction : List ℕ) → IsLabel label
+        → Finds (attached_line label transaction) false }
+    ensures others { (n : ℕ) → Finds (clock_line n) false × Finds (shutdown_line n) false }
+    ensures script { (bytes : List ℕ) → list_all is_in_line bytes ≡ true
+        → Finds (script_line bytes) false }
+{}
 
 impl<W: Write> Watched<W> {
     /// Returns a writer that hands on to this one.

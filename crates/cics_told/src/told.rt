@@ -1,12 +1,17 @@
 //! What is told to a person of a run when it has ended.
 
+ghost use Rattle.std.specs.Prelude.{◌≡◌, ◌++◌, OnOk, IfOk};
+ghost use Rattle.cics_told.specs.Told.{first_column, IsCauseOf, IsToldOf, few_deadlock_lines};
+ghost use Rattle.cics_told.specs.Told.{IsToldOfRegion, IsToldAtEnd};
+
 use crate::deadlocked::push_deadlocks;
-use crate::hints::push_hints;
-use crate::waiting::waiting_count;
+use crate::hints::hints_of;
 use cics_advice::{Cause, push_advice};
+use cics_deadlock::waiting_count;
+use cics_dispatch::Region;
 use cics_names::NoMemory;
-use cics_run::Session;
 use cics_run::stage::{Fault, Stage};
+use cics_run::{Named, Session};
 use cics_script::{Placed, find_fault, skip_blanks};
 use std::alloc::Global;
 
@@ -15,14 +20,18 @@ use std::alloc::Global;
 const MOST_WAITING: usize = 10_000;
 
 // The column of the first byte that is no blank.
-fn first_column(line: &[u8]) -> usize {
+fn first_column(line: &[u8]) -> usize
+    ensures { result ≡ first_column line.now }
+{
     line.len()
         .saturating_sub(skip_blanks(line).len())
         .saturating_add(1)
 }
 
 // A fault of a line, with its column. A line that can be read is at fault as a whole.
-fn cause_of(alloc: Global, line: &[u8], fault: Fault) -> Result<Cause, NoMemory> {
+fn cause_of(alloc: Global, line: &[u8], fault: Fault) -> Result<Cause, NoMemory>
+    ensures { IfOk result (IsCauseOf line.now fault) }
+{
     match fault {
         Fault::Definition(fault) => Ok(Cause::Definition(fault.number())),
         Fault::Line(fault) => match find_fault(alloc, line)? {
@@ -38,27 +47,52 @@ fn cause_of(alloc: Global, line: &[u8], fault: Fault) -> Result<Cause, NoMemory>
 /// Returns what is to be told of the line at which a run ended with `Status::LineFault`: a message,
 /// the line, and a caret (`cics_advice`). The session is the one that was run: clause `kept` of
 /// `run_over` says that it keeps that line, its number and its fault. Else returns nothing.
-pub fn told_of(alloc: Global, session: &Session) -> Result<Vec<u8>, NoMemory> {
+pub fn told_of(alloc: Global, session: &Session) -> Result<Vec<u8>, NoMemory>
+    ensures told { IfOk result (λ text. IsToldOf session.now session.now.fault text.items) }
+{
     let mut text = Vec::new(alloc);
-    if let Some(fault) = session.fault {
-        let cause = cause_of(alloc, &session.line, fault)?;
-        push_advice(&mut text, session.number, &session.line, cause)?;
+    let Some(fault) = session.fault else {
+        return Ok(text);
+    };
+    let cause = cause_of(alloc, &session.line, fault)?;
+    push_advice(&mut text, session.number, &session.line, cause)?;
+    Ok(text)
+}
+
+// Puts a line for each deadlock of a region, unless too many tasks wait.
+fn push_few_deadlocks(out: &mut Vec<u8>, region: &Region) -> Result<(), NoMemory>
+    ensures { OnOk result (out.new.items
+        ≡ out.old.items ++ few_deadlock_lines region.now.machine) }
+{
+    let waiting = waiting_count(region);
+    if waiting == 0 || waiting > MOST_WAITING {
+        return Ok(());
     }
+    push_deadlocks(out, region)
+}
+
+// What is told of a region.
+fn told_of_region(alloc: Global, region: &Region, names: &[Named]) -> Result<Vec<u8>, NoMemory>
+    ensures { IfOk result (λ text. IsToldOfRegion region.now.machine text.items) }
+{
+    let mut text = Vec::new(alloc);
+    push_few_deadlocks(&mut text, region)?;
+    let hints = hints_of(alloc, region, names)?;
+    text.extend_from_slice(&hints)?;
     Ok(text)
 }
 
 /// Returns what is to be told at the end of a run that ended with `Status::Done`. That is a line
 /// for each deadlock, if at most 10,000 tasks wait, and one for each undefined name whose capitals
-/// are defined. The session is the one that was run.
+/// are defined. The session is the one that was run: clause `kept` of `run_over` says that its
+/// region is the one in which the script's lines ended.
 ///
 /// Errors: `NoMemory`, if a task waits or a name is undefined. Cost: that of `deadlocks`.
-pub fn told_at_end(alloc: Global, session: &Session) -> Result<Vec<u8>, NoMemory> {
-    let mut text = Vec::new(alloc);
-    if let Stage::Running(region) = &session.stage {
-        if (1..=MOST_WAITING).contains(&waiting_count(region)) {
-            push_deadlocks(&mut text, region)?;
-        }
-        push_hints(&mut text, region, &session.undefined)?;
+pub fn told_at_end(alloc: Global, session: &Session) -> Result<Vec<u8>, NoMemory>
+    ensures told { IfOk result (λ text. IsToldAtEnd session.now.stage text.items) }
+{
+    match &session.stage {
+        Stage::Running(region) => told_of_region(alloc, region, &session.undefined),
+        Stage::Opening(_) => Ok(Vec::new(alloc)),
     }
-    Ok(text)
 }

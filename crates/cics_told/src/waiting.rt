@@ -1,7 +1,7 @@
-//! The tasks of a region that wait.
+//! Whether a run leaves a task waiting.
 
-ghost use Rattle.std.specs.Prelude.{◌≡◌, ◌≤◌, length};
-ghost use Rattle.cics_told.specs.Waiting.{waits_at, waiting_count, is_left_waiting};
+ghost use Rattle.std.specs.Prelude.{◌≡◌, length};
+ghost use Rattle.cics_told.specs.Waiting.{waits_at, one_waits_below, is_left_waiting};
 
 use cics_dispatch::Region;
 use cics_run::Session;
@@ -17,19 +17,15 @@ fn waits_at(region: &Region, number: usize) -> bool
     }
 }
 
-/// Returns how many tasks of a region wait.
-///
-/// Cost: O(tasks).
-pub fn waiting_count(region: &Region) -> usize
-    ensures { result ≡ waiting_count region.now.machine }
+// Whether one of the tasks of a region waits.
+fn one_waits(region: &Region) -> bool
+    ensures { result ≡ one_waits_below region.now.machine (length region.now.machine.tasks) }
 {
-    let mut count = 0;
+    let mut waits = false;
     for number in 0..region.task_count() {
-        if waits_at(region, number) {
-            count += 1;
-        }
+        waits |= waits_at(region, number);
     }
-    count
+    waits
 }
 
 /// Returns whether a task still waits at the end of a run. The session is the one that was run.
@@ -39,7 +35,7 @@ pub fn is_left_waiting(session: &Session) -> bool
     ensures { result ≡ is_left_waiting session.now.stage }
 {
     match &session.stage {
-        Stage::Running(region) => waiting_count(region) > 0,
+        Stage::Running(region) => one_waits(region),
         Stage::Opening(_) => false,
     }
 }

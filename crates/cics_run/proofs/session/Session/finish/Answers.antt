@@ -10,7 +10,7 @@ returns-in-Err-clause-finishes g c bytes before at = front-output c.args.wanted 
 
 pub returns-in-Ok-clause-finishes : goal.returns-in-Ok-clause-finishes
 returns-in-Ok-clause-finishes g c bytes before at =
-    end-written c.args.wanted bytes before _ _ _ (rw c.in-Ok-false.field-0-test at (c.in-Ok-false.ensures.closes c.args.wanted bytes before at)) c.in-Ok.ensures.ok
+    end-written c.args.wanted bytes before _ _ _ _ (rw c.in-Ok-false.field-0-test at (c.in-Ok-false.ensures.closes c.args.wanted bytes before at)) c.in-Ok.ensures.ok c.in-Ok.ensures.stage
 
 pub returns-in-Err-write_end-clause-finishes : goal.returns-in-Err-write_end-clause-finishes
 returns-in-Err-write_end-clause-finishes g c bytes before at =

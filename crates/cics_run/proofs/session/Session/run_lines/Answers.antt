@@ -2,7 +2,7 @@ use Rattle.std.proofs.Common.{arith, [], ◌∷◌, ◌++◌, ◌+◌, ◌≤◌
 use Rattle.cics_run.specs.Running.{journal}
 use Rattle.cics_run.specs.Printing.{AppendsFront}
 use Rattle.cics_run.specs.Standing.{Stands, Stopped}
-use Rattle.cics_run.proofs.Steps.{cut-line, stands-bytes, stands-line, stopped-line, front-line, front-here, all-came, line-came, some-came, behind-line}
+use Rattle.cics_run.proofs.Steps.{cut-line, stands-bytes, stands-line, stopped-line, ran-cut, prints-cut, front-cut, front-line, front-here, all-came, line-came, some-came, behind-line}
 use Rattle.cics_run.proofs.Counting.{rises-first}
 use Rattle.cics_run.proofs.session.Session.run_lines.Goals as goal
 
@@ -28,8 +28,12 @@ returns-in-Ok-true-clause-feeds g c wanted bytes before at =
     let first = c.in-Some.ensures.cases.0 in
     let came = stands-bytes wanted (bytes ++ done) c.split_at.result.0.now before (g.K.Sink.contents c.lines.sink) c.lines.self (record c.lines.self { line = c.extend_from_slice.new.self }) cut.in_line (stands wanted bytes before at) refl refl c.in-Ok.ensures.items refl refl in
     let e = line-came bytes done c.split_at.result.0.now c.split_at.result.1.now c.in-Some.after.now c.lines.rest.now c.args.chunk.now c.in-Some.field-0-0.now cut.whole whole first (cut.lf _ _ first) in
-    subst (λ b. Stopped wanted b before (g.K.Sink.contents c.end_line.new.sink) c.end_line.new.self) e
-    (stopped-line wanted ((bytes ++ done) ++ c.split_at.result.0.now) c.in-Some.after.now before _ _ _ c.end_line.new.self came c.in-Ok-true.ensures.ran (rw c.in-Ok-true.field-0-test at c.in-Ok-true.ensures.line) c.in-Ok-true.ensures.printed (c.in-Ok-true.ensures.left c.in-Ok-true.field-0-test) (sym c.in-Ok-true.field-0-test ∙ c.in-Ok-true.ensures.fault))
+    let s = record c.lines.self { line = c.extend_from_slice.new.self } in
+    let t = c.run_kept.new.self in
+    let line = c.drop_cr.new.line in
+    subst (λ b. Stopped wanted b before (g.K.Sink.contents c.run_kept.new.sink) t) e
+    (stopped-line wanted ((bytes ++ done) ++ c.split_at.result.0.now) c.in-Some.after.now before _ _ s t came (ran-cut s line c.drop_cr.ensures t c.in-Ok-true.ensures.ran) ((rw c.in-Ok-true.field-0-test at c.in-Ok-true.ensures.line) ∙ c.drop_cr.ensures)
+    (prints-cut s line c.drop_cr.ensures t _ _ _ c.in-Ok-true.ensures.printed) (c.in-Ok-true.ensures.left c.in-Ok-true.field-0-test) (sym c.in-Ok-true.field-0-test ∙ c.in-Ok-true.ensures.fault))
 
 pub lines-preserved : goal.lines-preserved
 lines-preserved g c =
@@ -38,23 +42,29 @@ lines-preserved g c =
     let first = c.in-Some.ensures.cases.0 in
     let fewer = c.in-Some.ensures.cases.1 in
     let number = c.in-Ok-false.ensures.ran.number in
-    let within : c.end_line.new.self.number + length c.in-Some.after.now ≤ c.args.self.now.number + length c.args.chunk.now = omega (arith, number, fewer, bound, c.split_at.ensures.back_len) in (
+    let within : c.run_kept.new.self.number + length c.in-Some.after.now ≤ c.args.self.now.number + length c.args.chunk.now = omega (arith, number, fewer, bound, c.split_at.ensures.back_len) in (
       (done ++ c.split_at.result.0.now) ++ 10 ∷ [],
       line-came [] done c.split_at.result.0.now c.split_at.result.1.now c.in-Some.after.now c.lines.rest.now c.args.chunk.now c.in-Some.field-0-0.now cut.whole whole first (cut.lf _ _ first),
       within,
       rises-first _ _ _ 0 counted c.in-Ok-false.ensures.failed,
       λ wanted bytes before at.
+          let s = record c.lines.self { line = c.extend_from_slice.new.self } in
+          let t = c.run_kept.new.self in
+          let line = c.drop_cr.new.line in
           let came = stands-bytes wanted (bytes ++ done) c.split_at.result.0.now before (g.K.Sink.contents c.lines.sink) c.lines.self (record c.lines.self { line = c.extend_from_slice.new.self }) cut.in_line (stands wanted bytes before at) refl refl c.in-Ok.ensures.items refl refl in
           rw (behind-line bytes done c.split_at.result.0.now (10 ∷ []))
-          (stands-line wanted _ _ _ _ _ _ came c.in-Ok-false.ensures.ran (rw c.in-Ok-false.field-0-test at c.in-Ok-false.ensures.line) c.in-Ok-false.ensures.printed (sym c.in-Ok-false.field-0-test ∙ c.in-Ok-false.ensures.fault)),
+          (stands-line wanted _ _ _ _ s t came (ran-cut s line c.drop_cr.ensures t c.in-Ok-false.ensures.ran) (rw c.in-Ok-false.field-0-test at c.in-Ok-false.ensures.line)
+          (prints-cut s line c.drop_cr.ensures t _ _ _ c.in-Ok-false.ensures.printed) (sym c.in-Ok-false.field-0-test ∙ c.in-Ok-false.ensures.fault)),
     )
 
-pub returns-in-Err-end_line-clause-feeds : goal.returns-in-Err-end_line-clause-feeds
-returns-in-Err-end_line-clause-feeds g c wanted bytes before at =
+pub returns-in-Err-run_kept-clause-feeds : goal.returns-in-Err-run_kept-clause-feeds
+returns-in-Err-run_kept-clause-feeds g c wanted bytes before at =
     let cut = cut-line c.lines.rest.now c.split_at.result.0.now c.split_at.result.1.now _ c.line_len.ensures.value c.split_at.ensures.front c.split_at.ensures.back in
     let (done, whole, bound, counted, stands) = c.lines.invariant in
     let first = c.in-Some.ensures.cases.0 in
     let came = stands-bytes wanted (bytes ++ done) c.split_at.result.0.now before (g.K.Sink.contents c.lines.sink) c.lines.self (record c.lines.self { line = c.extend_from_slice.new.self }) cut.in_line (stands wanted bytes before at) refl refl c.in-Ok.ensures.items refl refl in
     let e = line-came bytes done c.split_at.result.0.now c.split_at.result.1.now c.in-Some.after.now c.lines.rest.now c.args.chunk.now c.in-Some.field-0-0.now cut.whole whole first (cut.lf _ _ first) in
-    subst (λ b. AppendsFront before (g.K.Sink.contents c.end_line.new.sink) (journal wanted b)) e
-    (front-line wanted ((bytes ++ done) ++ c.split_at.result.0.now) c.in-Some.after.now before _ _ _ came c.in-Err-end_line.ensures.err)
+    let s = record c.lines.self { line = c.extend_from_slice.new.self } in
+    subst (λ b. AppendsFront before (g.K.Sink.contents c.run_kept.new.sink) (journal wanted b)) e
+    (front-line wanted ((bytes ++ done) ++ c.split_at.result.0.now) c.in-Some.after.now before _ _ s came
+    (front-cut s c.drop_cr.new.line c.drop_cr.ensures c.run_kept.new.self _ _ c.in-Err-run_kept.ensures.err))
