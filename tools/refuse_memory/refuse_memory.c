@@ -4,11 +4,10 @@
  * the file REFUSE_REPORT.
  *
  * A program may say what becomes of its requests by one of a size that it asks for nowhere else:
- * 70,001 bytes, they are counted (as at the start); 70,002, they are granted, uncounted; 70,003, a
- * single one ends the program with status 70. 70,004 bytes are refused if a request was refused
- * since this was asked last. 70,006 bytes: they are counted, and the Nth from here on is refused,
- * N being 1 the first time after 70,005 bytes were asked for, and one more each time. So a program
- * refuses each request of a call in turn by itself.
+ * 70,002 bytes, they are granted, uncounted; 70,003, a single one ends the program with status 70.
+ * 70,004 bytes are refused if a request was refused since this was asked last. 70,006 bytes: they
+ * are counted, and the Nth from here on is refused, N being 1 the first time after 70,005 bytes were
+ * asked for, and one more each time. So a program refuses each request of a call in turn by itself.
  */
 #include <errno.h>
 #include <fcntl.h>
@@ -48,8 +47,8 @@ static int is_refused(size_t size)
 {
     static const char why[] = "refuse_memory: a request for memory where none may be made\n";
     int answer = was_refused;
-    if (size >= 70001 && size <= 70003) {
-        becomes = (int)(size - 70001);
+    if (size == 70002 || size == 70003) {
+        becomes = size == 70002 ? GRANTED : FORBIDDEN;
         return 0;
     }
     if (size == 70004) {

@@ -133,8 +133,8 @@ impl Holders {
         Ok(())
     }
 
-    // Holds a resource, unless another unit is in the way or it is a value, and tells whether it was
-    // free.
+    // Holds a resource, unless another unit is in the way or it is a value, and tells whether it
+    // was free.
     fn hold(
         &mut self,
         resource: &Resource,

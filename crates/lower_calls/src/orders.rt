@@ -102,7 +102,9 @@ fn delete_kept(file: &mut File, images: &mut Images<File>, key: &[u8]) -> Result
 }
 
 // Deletes every third key, keeping each image; looks at the listing; undoes all, and looks again.
+// No interval comes or goes by that.
 fn is_undone(alloc: Global, file: &mut File, order: Order) -> Result<bool, NoMemory> {
+    let intervals = file.interval_count();
     let mut images = Images::new(alloc);
     for place in 0..KEYS {
         if place % 3 == 2 {
@@ -112,14 +114,20 @@ fn is_undone(alloc: Global, file: &mut File, order: Order) -> Result<bool, NoMem
     }
     let are_gone = lists(alloc, file, &sorted(alloc, order, false)?)?;
     images.back_out(file);
-    Ok(are_gone && lists(alloc, file, &sorted(alloc, order, true)?)?)
+    let are_back = lists(alloc, file, &sorted(alloc, order, true)?)?;
+    Ok(are_gone && are_back && file.interval_count() == intervals)
 }
 
-// Deletes so many keys without images, and says whether nothing is left, no interval either.
+// Deletes so many keys, and commits that. Says whether nothing is left, no interval either.
 fn is_emptied(alloc: Global, file: &mut File, count: u64) -> Result<bool, NoMemory> {
+    let mut images = Images::new(alloc);
     for number in 0..count {
-        file.delete(key_of(alloc, number)?.bytes(), false)?;
+        images.make_room(1)?;
+        if let Some(image) = file.delete(key_of(alloc, number)?.bytes(), true)?.image {
+            images.store(image);
+        }
     }
+    images.forget(file);
     Ok(file.listing()?.is_empty() && file.interval_count() == 0)
 }
 

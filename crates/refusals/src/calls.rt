@@ -1,248 +1,276 @@
-//! Calls on units of work, read from lines as `0 write ACCT 0001aa = NORMAL 0`: the unit, or `-` for a
-//! task without one, the call, what it names, and what is to come of it. A command behind `hand` is handed
-//! over, and comes back where it has to wait. Lines that begin with `+` or `#` are no calls: those define
-//! and load, and these are read by people.
+//! Scripts on units of work: a command of the label U0 is a call for unit 0, one of NEW for a task
+//! without a unit. A command of H0, or of HNEW, is handed over.
 
-use crate::texts::cut;
+use crate::events::{Came, Event};
+use crate::guarded_calls::{dequeue, end, enqueue, execute, hand_over, is_open, unlock};
+use crate::runs::Target;
+use crate::scripts::Step;
+use crate::states::push_units;
+use cics_dispatch::{Number, Outcome, Reply};
 use cics_enqueue::UnitId;
-use cics_names::{Name4, Name8, NoMemory, Record};
-use cics_units::Op;
+use cics_names::{Condition, Name8, NoMemory, Record, Verb};
+use cics_script::Line;
+use cics_units::{Answer, Done, Enqueued, Listing, Op, Opening, Units, plain_replay};
 use std::alloc::Global;
 
-/// The length of the keys of each file: a record begins with its key.
-pub(crate) const KEY_LENGTH: usize = 4;
+// The length of the keys of each file: a record begins with its key.
+const KEY_LENGTH: usize = 4;
 
-/// A call on units of work.
-#[derive(Drop)]
-pub(crate) enum Call {
-    Execute(Option<UnitId>, Op),
-    /// A command that is handed over.
-    Submit(Option<UnitId>, Op),
-    Enqueue(Option<UnitId>, Record),
-    ReadTs(Name8, Option<u64>),
-    Listing,
-    Replay,
-    Dequeue(UnitId, Record),
-    Unlock(UnitId, Name8),
-    Commit(UnitId),
-    BackOut(UnitId),
+// The codes of the digit 0 and of the letter H.
+const ZERO: u8 = 0xF0;
+
+const H: u8 = 0xC8;
+
+// The unit of a label, by the digit that stands second in it; None for a task without a unit.
+fn unit_of(label: &Name8) -> Option<UnitId> {
+    let digit = label.bytes()[1].checked_sub(ZERO)?;
+    Some(UnitId::new(u64::from(digit)))
 }
 
-/// A line of a script: its call, and what is to come of it.
-#[derive(Drop)]
-pub(crate) struct Step {
-    pub(crate) call: Call,
-    pub(crate) expected: Record,
-}
-
-// The key with which a record begins.
-fn key_of(from: &[u8]) -> &[u8] {
-    &from[..from.len().min(KEY_LENGTH)]
-}
-
-// A WRITE of a record under the key with which it begins.
-fn write(alloc: Global, file: Name8, from: &[u8]) -> Result<Op, NoMemory> {
-    Ok(Op::Write {
-        file,
-        key: Record::from_slice(alloc, key_of(from))?,
-        from: Record::from_slice(alloc, from)?,
-    })
+// The label of the unit of a number, by its last digit.
+fn label_of(number: u64) -> Result<Name8, NoMemory> {
+    match Name8::new(&[b'U', b'0' + (number % 10) as u8]) {
+        Ok(label) => Ok(label),
+        Err(_) => Err(NoMemory),
+    }
 }
 
 // A REWRITE with a record of the one whose key it begins with.
-fn rewrite(alloc: Global, file: Name8, from: &[u8]) -> Result<Op, NoMemory> {
+fn rewrite(alloc: Global, file: Name8, from: &Record) -> Result<Op, NoMemory> {
+    let bytes = from.bytes();
     Ok(Op::Rewrite {
         file,
-        key: Record::from_slice(alloc, key_of(from))?,
-        from: Record::from_slice(alloc, from)?,
+        key: Record::from_slice(alloc, &bytes[..bytes.len().min(KEY_LENGTH)])?,
+        from: from.copy()?,
     })
 }
 
-// The command on a file of a word, if it is one; `clear` is DELETE GENERIC.
-fn on_file(alloc: Global, word: &str, file: Name8, rest: &[u8]) -> Result<Option<Op>, NoMemory> {
-    Ok(Some(match word {
-        "write" => write(alloc, file, rest)?,
-        "rewrite" => rewrite(alloc, file, rest)?,
-        "delete" => Op::Delete {
-            file,
-            key: Record::from_slice(alloc, key_of(rest))?,
-        },
-        "read" => Op::ReadUpdate {
-            file,
-            key: Record::from_slice(alloc, key_of(rest))?,
-        },
-        "clear" => Op::DeleteGeneric {
-            file,
-            prefix: Record::from_slice(alloc, rest)?,
-        },
-        _ => return Ok(None),
-    }))
-}
-
-// A REWRITE of an item with the text behind its number; None where no number stands first.
-fn item_rewrite(alloc: Global, queue: Name8, rest: &str) -> Result<Option<Op>, NoMemory> {
-    let (item, new) = cut(rest);
-    match item.parse::<u64>() {
-        Ok(item) => Ok(Some(Op::TsRewrite {
-            queue,
-            item,
-            from: Record::from_slice(alloc, new.as_bytes())?,
-        })),
-        Err(_) => Ok(None),
-    }
-}
-
-// The command on a temporary storage queue of a word, if it is one.
-fn on_ts(alloc: Global, word: &str, queue: Name8, rest: &str) -> Result<Option<Op>, NoMemory> {
-    match word {
-        "ts-write" => Ok(Some(Op::TsWrite {
-            queue,
-            from: Record::from_slice(alloc, rest.as_bytes())?,
-        })),
-        "ts-rewrite" => item_rewrite(alloc, queue, rest),
-        "ts-delete" => Ok(Some(Op::TsDelete { queue })),
-        _ => Ok(None),
-    }
-}
-
-// The command on a transient data queue of a word, if it is one.
-fn on_td(alloc: Global, word: &str, queue: Name4, rest: &[u8]) -> Result<Option<Op>, NoMemory> {
-    match word {
-        "td-write" => Ok(Some(Op::TdWrite {
-            queue,
-            from: Record::from_slice(alloc, rest)?,
-        })),
-        "td-read" => Ok(Some(Op::TdRead { queue })),
-        "td-delete" => Ok(Some(Op::TdDelete { queue })),
-        _ => Ok(None),
-    }
-}
-
-// The updating command of a text, if it is one: a word, the name of a file or of a queue, and the rest.
-fn command(alloc: Global, text: &str) -> Result<Option<Op>, NoMemory> {
-    let (word, rest) = cut(text);
-    let (name, rest) = cut(rest);
-    if word.starts_with("td-") {
-        return match Name4::new(name.as_bytes()) {
-            Ok(queue) => on_td(alloc, word, queue, rest.as_bytes()),
-            Err(_) => Ok(None),
-        };
-    }
-    let Ok(name) = Name8::new(name.as_bytes()) else {
-        return Ok(None);
-    };
-    if word.starts_with("ts-") {
-        on_ts(alloc, word, name, rest)
+// A DELETE of a key, or with GENERIC of all keys under it.
+fn delete(file: Name8, key: Record, generic: bool) -> Op {
+    if generic {
+        Op::DeleteGeneric { file, prefix: key }
     } else {
-        on_file(alloc, word, name, rest.as_bytes())
+        Op::Delete { file, key }
     }
 }
 
-// The unit of a word; None for a task without one.
-fn unit_of(word: &str) -> Option<UnitId> {
-    word.parse::<u64>().ok().map(UnitId::new)
+// The updating command on a queue that is asked for, if one is.
+fn queue_op(verb: &Verb) -> Result<Option<Op>, NoMemory> {
+    let op = match verb {
+        Verb::WriteqTs {
+            queue,
+            from,
+            item: None,
+            ..
+        } => Op::TsWrite {
+            queue: *queue,
+            from: from.copy()?,
+        },
+        Verb::WriteqTs {
+            queue,
+            from,
+            item: Some(item),
+            ..
+        } => Op::TsRewrite {
+            queue: *queue,
+            item: *item,
+            from: from.copy()?,
+        },
+        Verb::DeleteqTs { queue } => Op::TsDelete { queue: *queue },
+        Verb::WriteqTd { queue, from, .. } => Op::TdWrite {
+            queue: *queue,
+            from: from.copy()?,
+        },
+        Verb::ReadqTd { queue, .. } => Op::TdRead { queue: *queue },
+        Verb::DeleteqTd { queue } => Op::TdDelete { queue: *queue },
+        _ => return Ok(None),
+    };
+    Ok(Some(op))
 }
 
-// The call on a value of a word, if it is one.
-fn on_value(
-    alloc: Global,
-    unit: Option<UnitId>,
-    word: &str,
-    value: &[u8],
-) -> Result<Option<Call>, NoMemory> {
-    match (word, unit) {
-        ("enq", unit) => Ok(Some(Call::Enqueue(unit, Record::from_slice(alloc, value)?))),
-        ("deq", Some(unit)) => Ok(Some(Call::Dequeue(unit, Record::from_slice(alloc, value)?))),
-        _ => Ok(None),
+/// Returns the updating command that is asked for, if one is.
+pub(crate) fn op_of(alloc: Global, verb: &Verb) -> Result<Option<Op>, NoMemory> {
+    let op = match verb {
+        Verb::Read {
+            file,
+            ridfld,
+            update: true,
+            ..
+        } => Op::ReadUpdate {
+            file: *file,
+            key: ridfld.copy()?,
+        },
+        Verb::Write {
+            file,
+            ridfld,
+            from,
+            ..
+        } => Op::Write {
+            file: *file,
+            key: ridfld.copy()?,
+            from: from.copy()?,
+        },
+        Verb::Rewrite { file, from, .. } => rewrite(alloc, *file, from)?,
+        Verb::Delete {
+            file,
+            ridfld: Some(key),
+            generic,
+            ..
+        } => delete(*file, key.copy()?, *generic),
+        _ => return queue_op(verb),
+    };
+    Ok(Some(op))
+}
+
+// That the task of a label was answered so.
+fn told(label: Name8, answer: Answer, counts_records: bool) -> Came {
+    let number = match answer.number {
+        Some(records) if counts_records => Some(Number::Numrec(records)),
+        Some(item) => Some(Number::Item(item)),
+        None => None,
+    };
+    let reply = Reply {
+        condition: answer.condition,
+        key: None,
+        content: answer.content,
+        number,
+    };
+    Came::Told(label, Outcome::Replied(reply))
+}
+
+// That the task of a label was answered this condition, and nothing else.
+fn told_condition(label: Name8, condition: Condition) -> Came {
+    let answer = Answer {
+        condition,
+        content: None,
+        number: None,
+    };
+    told(label, answer, false)
+}
+
+// That the task of a label has to wait for a unit.
+fn waits(label: Name8, blocker: u64) -> Result<Came, NoMemory> {
+    Ok(Came::Told(label, Outcome::Waiting(label_of(blocker)?)))
+}
+
+// Executes a command for the task of a label, or hands it over.
+fn run_op(units: &mut Units, label: &Name8, op: &Op) -> Result<Came, NoMemory> {
+    let counts_records = matches!(op, Op::DeleteGeneric { .. });
+    let done = if label.bytes()[0] == H {
+        hand_over(units, unit_of(label), op)?
+    } else {
+        execute(units, unit_of(label), op)?
+    };
+    let Some(done) = done else {
+        return Ok(Came::MayNot);
+    };
+    match done {
+        Done::Answered(unit, answer) => {
+            Ok(told(label_of(unit.number())?, answer, counts_records))
+        }
+        Done::MustWait(blocker) => waits(*label, blocker.number()),
     }
 }
 
-// The call of a word on a name alone, if it is one: of a file, or of a queue, with an item or without.
-fn on_name(unit: Option<UnitId>, word: &str, rest: &str) -> Option<Call> {
-    let (name, item) = cut(rest);
-    match (word, unit, Name8::new(name.as_bytes())) {
-        ("unlock", Some(unit), Ok(file)) => Some(Call::Unlock(unit, file)),
-        ("ts-read", _, Ok(queue)) => Some(Call::ReadTs(queue, item.parse::<u64>().ok())),
+// Enqueues on a value for the task of a label.
+fn run_enq(units: &mut Units, label: &Name8, value: &[u8]) -> Result<Came, NoMemory> {
+    let Some(done) = enqueue(units, unit_of(label), value)? else {
+        return Ok(Came::MayNot);
+    };
+    match done {
+        Enqueued::Taken(unit) => { Ok(told_condition(label_of(unit.number())?, Condition::Normal)) }
+        Enqueued::MustWait(blocker) => waits(*label, blocker.number()),
+        Enqueued::CountFull => Ok(told_condition(*label, Condition::Invreq)),
+    }
+}
+
+// Makes the call that takes no memory, if the command of a unit asks for one, and returns whether
+// it may be made.
+fn run_ending(units: &mut Units, unit: Option<UnitId>, verb: &Verb) -> Option<bool> {
+    let unit = unit?;
+    match verb {
+        Verb::Unlock { file } => Some(unlock(units, unit, file)),
+        Verb::Deq { resource, .. } => Some(dequeue(units, unit, resource.bytes())),
+        Verb::Syncpoint => Some(end(units, unit, true)),
+        Verb::Rollback | Verb::Abend { .. } => Some(end(units, unit, false)),
         _ => None,
     }
 }
 
-// The call that is no updating command of a word, if it is one.
-fn other_call(
-    alloc: Global,
-    unit: Option<UnitId>,
-    word: &str,
-    rest: &str,
-) -> Result<Option<Call>, NoMemory> {
-    match (word, unit) {
-        ("enq" | "deq", _) => on_value(alloc, unit, word, rest.as_bytes()),
-        ("commit", Some(unit)) => Ok(Some(Call::Commit(unit))),
-        ("backout", Some(unit)) => Ok(Some(Call::BackOut(unit))),
-        _ => Ok(on_name(unit, word, rest)),
-    }
-}
-
-// The call that hands over the command of a text, if it is one.
-fn handed_over(alloc: Global, unit: Option<UnitId>, text: &str) -> Result<Option<Call>, NoMemory> {
-    match command(alloc, text)? {
-        Some(op) => Ok(Some(Call::Submit(unit, op))),
-        None => Ok(None),
-    }
-}
-
-// The call of a line; None for a text that is no call.
-fn call_of(alloc: Global, text: &str) -> Result<Option<Call>, NoMemory> {
-    let (unit, call) = cut(text);
-    let (word, rest) = cut(call);
-    let unit = unit_of(unit);
-    if word == "hand" {
-        return handed_over(alloc, unit, rest);
-    }
-    match command(alloc, call)? {
-        Some(op) => Ok(Some(Call::Execute(unit, op))),
-        None => other_call(alloc, unit, word, rest),
-    }
-}
-
-// The step of a line; None for a text that is no call.
-fn step_of(alloc: Global, line: &str) -> Result<Option<Step>, NoMemory> {
-    let (text, expected) = line.split_once(" = ").unwrap_or((line, ""));
-    match call_of(alloc, text)? {
-        Some(call) => Ok(Some(Step {
-            call,
-            expected: Record::from_slice(alloc, expected.as_bytes())?,
-        })),
-        None => Ok(None),
-    }
-}
-
-// Puts the step of a line at the end, unless the line is marked as no call. Says whether it is one of a script.
-fn put_step(steps: &mut Vec<Step>, alloc: Global, line: &str) -> Result<bool, NoMemory> {
-    if line.starts_with("+") || line.starts_with("#") {
-        return Ok(true);
-    }
-    match step_of(alloc, line)? {
-        Some(step) => {
-            steps.push(step)?;
-            Ok(true)
+// Makes the call that a command of the task of a label asks for, if it may be made.
+fn run_command(units: &mut Units, label: &Name8, verb: &Verb) -> Result<Came, NoMemory> {
+    match verb {
+        Verb::Enq { resource, .. } => return run_enq(units, label, resource.bytes()),
+        Verb::ReadqTs { queue, item, .. } => {
+            return Ok(told(*label, units.read_ts(queue, *item)?, false));
         }
-        None => Ok(false),
+        _ => {}
+    }
+    match run_ending(units, unit_of(label), verb) {
+        Some(true) => return Ok(told_condition(*label, Condition::Normal)),
+        Some(false) => return Ok(Came::MayNot),
+        None => {}
+    }
+    match op_of(units.opening().allocator(), verb)? {
+        Some(op) => run_op(units, label, &op),
+        None => Ok(Came::MayNot),
     }
 }
 
-// Puts the steps of a script at the end, and says whether each line is one of a script.
-fn put_steps(steps: &mut Vec<Step>, alloc: Global, script: &str) -> Result<bool, NoMemory> {
-    for line in script.lines() {
-        if !put_step(steps, alloc, line)? {
-            return Ok(false);
+/// Returns how many control intervals the files of units have.
+pub(crate) fn intervals(units: &Units) -> Result<u64, NoMemory> {
+    let mut count: u64 = 0;
+    for (name, _, _) in units.listing()?.files.as_slice() {
+        if let Some(file) = units.file(name) {
+            count = count.saturating_add(file.interval_count());
         }
     }
-    Ok(true)
+    Ok(count)
 }
 
-/// The steps of a script; None where a line is no call and isn't marked as such.
-pub(crate) fn steps_of(alloc: Global, script: &str) -> Result<Option<Vec<Step>>, NoMemory> {
-    let mut steps = Vec::new(alloc);
-    let are_all = put_steps(&mut steps, alloc, script)?;
-    Ok(if are_all { Some(steps) } else { None })
+// The listing of the plain replay of what was executed.
+fn replayed(units: &Units) -> Result<Listing, NoMemory> {
+    let (trace, outcomes) = (units.trace(), units.outcomes());
+    plain_replay(
+        units.opening().allocator(),
+        units.opening(),
+        trace,
+        outcomes,
+    )
+}
+
+// Lets an event happen.
+fn happen(units: &mut Units, event: &Event) -> Result<Came, NoMemory> {
+    match event {
+        Event::Line(Line::Issue(label, command)) => run_command(units, label, &command.verb),
+        Event::Listing => Ok(Came::Listed(units.listing()?)),
+        Event::Replay => Ok(Came::Listed(replayed(units)?)),
+        Event::Intervals => Ok(Came::Intervals(intervals(units)?)),
+        Event::Wake | Event::Expire => Ok(Came::Nothing),
+        Event::Line(_) => Ok(Came::MayNot),
+    }
+}
+
+impl Target for Units {
+    fn start(opening: Opening) -> Result<Units, Opening> {
+        Units::start(opening)
+    }
+
+    fn happen(&mut self, event: Event) -> Result<Came, NoMemory> {
+        happen(self, &event)
+    }
+
+    fn push_state(&self, out: &mut Vec<u8>, asked: &[Step]) -> Result<(), NoMemory> {
+        push_units(out, self, &self.listing()?, asked)
+    }
+
+    fn free_tasks(&self, alloc: Global) -> Result<Vec<Name8>, NoMemory> {
+        let mut free = Vec::new(alloc);
+        for number in 0..self.outcomes().len() as u64 {
+            if is_open(self, UnitId::new(number)) {
+                free.push(label_of(number)?)?;
+            }
+        }
+        Ok(free)
+    }
 }

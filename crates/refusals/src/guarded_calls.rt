@@ -1,4 +1,4 @@
-//! Calls on units, each of which sees to what it needs first, and tells what came of it.
+//! Calls on units, each of which sees to what it needs first.
 
 ghost use Rattle.std.specs.Prelude.{◌≡◌, true};
 ghost use Rattle.std.specs.Option.{option_copied};
@@ -7,35 +7,19 @@ ghost use Rattle.cics_history.specs.Execution.{has_read, is_fit_for, is_item, is
 ghost use Rattle.cics_history.specs.Execution.{is_short_key, IsOpenUnit, IsOpenOrNone};
 ghost use Rattle.cics_units.specs.OpenReads.{is_read_key};
 
-use crate::calls::Call;
 use cics_enqueue::UnitId;
 use cics_names::{Name4, Name8, NoMemory, Record};
-use cics_units::{Answer, Done, Enqueued, Listing, Op, Submitted, UnitState, Units, plain_replay};
-use std::alloc::Global;
+use cics_units::{Done, Enqueued, Op, Submitted, UnitState, Units};
 
-/// What came of a call.
-#[derive(Drop)]
-pub(crate) enum Told {
-    Executed(Done),
-    Submitted(Submitted),
-    Enqueued(Enqueued),
-    Read(Answer),
-    Listed(Listing),
-    /// What answers nothing was done.
-    Nothing,
-    /// The call may not be made here, and wasn't.
-    MayNot,
-}
-
-/// Whether a unit has begun and not ended.
+/// Returns whether a unit has begun and not ended.
 pub(crate) fn is_open(units: &Units, unit: UnitId) -> bool
     ensures { result ≡ true → IsOpenUnit units.now.state unit }
 {
     unit.number() < units.outcomes().len() as u64 && units.outcome(unit) == UnitState::Open
 }
 
-/// Whether a task has an open unit or none.
-pub(crate) fn is_open_or_none(units: &Units, unit: Option<UnitId>) -> bool
+// Whether a task has an open unit or none.
+fn is_open_or_none(units: &Units, unit: Option<UnitId>) -> bool
     ensures { result ≡ true → IsOpenOrNone units.now.state unit }
 {
     match unit {
@@ -106,8 +90,8 @@ fn is_short(key: &Record) -> bool
     key.len() <= 255
 }
 
-/// Whether a command may be executed for a unit, or for the next one.
-pub(crate) fn is_ready(units: &Units, unit: Option<UnitId>, op: &Op) -> bool
+// Whether a command may be executed for a unit, or for the next one.
+fn is_ready(units: &Units, unit: Option<UnitId>, op: &Op) -> bool
     ensures { result ≡ is_ready_op units.now.state unit op.now }
 {
     match op {
@@ -127,84 +111,114 @@ pub(crate) fn is_ready(units: &Units, unit: Option<UnitId>, op: &Op) -> bool
     }
 }
 
-fn execute(units: &mut Units, unit: Option<UnitId>, op: &Op) -> Result<Told, NoMemory> {
+/// Executes a command; None if that may not be done.
+pub(crate) fn execute(
+    units: &mut Units,
+    unit: Option<UnitId>,
+    op: &Op,
+) -> Result<Option<Done>, NoMemory> {
     if !is_open_or_none(units, unit) || !is_ready(units, unit, op) {
-        return Ok(Told::MayNot);
+        return Ok(None);
     }
-    Ok(Told::Executed(units.execute(unit, op)?))
+    Ok(Some(units.execute(unit, op)?))
 }
 
-// Hands a copy of a command over.
-fn submit(units: &mut Units, unit: Option<UnitId>, op: &Op) -> Result<Told, NoMemory> {
-    if !is_open_or_none(units, unit) || !is_ready(units, unit, op) {
-        return Ok(Told::MayNot);
-    }
-    Ok(Told::Submitted(units.submit(unit, op.copy()?)?))
+/// Returns the key and the record of a command, each empty if it has none.
+pub(crate) fn parts(op: &Op) -> (&[u8], &[u8]) {
+    let key: &[u8] = match op.record() {
+        Some((_, key)) => key.bytes(),
+        None => b"",
+    };
+    let from: &[u8] = match op {
+        Op::Write { from, .. } | Op::Rewrite { from, .. } | Op::TsWrite { from, .. } => {
+            from.bytes()
+        }
+        Op::TsRewrite { from, .. } | Op::TdWrite { from, .. } => from.bytes(),
+        _ => b"",
+    };
+    (key, from)
 }
 
-fn enqueue(units: &mut Units, unit: Option<UnitId>, value: &[u8]) -> Result<Told, NoMemory> {
+/// Hands a copy of a command over; None if that may not be done, or another one comes back.
+pub(crate) fn hand_over(
+    units: &mut Units,
+    unit: Option<UnitId>,
+    op: &Op,
+) -> Result<Option<Done>, NoMemory> {
+    if !is_open_or_none(units, unit) || !is_ready(units, unit, op) {
+        return Ok(None);
+    }
+    match units.submit(unit, op.copy()?)? {
+        Submitted::Answered(unit, answer) => Ok(Some(Done::Answered(unit, answer))),
+        Submitted::MustWait(blocker, back) => {
+            let ((key, from), (old_key, old_from)) = (parts(&back), parts(op));
+            if key == old_key && from == old_from {
+                Ok(Some(Done::MustWait(blocker)))
+            } else {
+                Ok(None)
+            }
+        }
+    }
+}
+
+/// Enqueues on a value; None if that may not be done.
+pub(crate) fn enqueue(
+    units: &mut Units,
+    unit: Option<UnitId>,
+    value: &[u8],
+) -> Result<Option<Enqueued>, NoMemory> {
     if value.len() > 255 || !is_open_or_none(units, unit) {
-        return Ok(Told::MayNot);
+        return Ok(None);
     }
-    Ok(Told::Enqueued(units.enq(unit, value)?))
+    Ok(Some(units.enq(unit, value)?))
 }
 
-fn dequeue(units: &mut Units, unit: UnitId, value: &[u8]) -> Told {
+/// Dequeues from a value, and returns whether that may be done.
+pub(crate) fn dequeue(units: &mut Units, unit: UnitId, value: &[u8]) -> bool {
     if value.len() > 255 || !is_open(units, unit) {
-        return Told::MayNot;
+        return false;
     }
     units.deq(unit, value);
-    Told::Nothing
+    true
 }
 
-fn unlock(units: &mut Units, unit: UnitId, file: &Name8) -> Told {
+/// Unlocks a file, and returns whether that may be done.
+pub(crate) fn unlock(units: &mut Units, unit: UnitId, file: &Name8) -> bool {
     if !is_open(units, unit) {
-        return Told::MayNot;
+        return false;
     }
     units.unlock(unit, file);
-    Told::Nothing
+    true
 }
 
-fn end(units: &mut Units, unit: UnitId, commits: bool) -> Told {
+/// Ends a unit, and returns whether that may be done.
+pub(crate) fn end(units: &mut Units, unit: UnitId, commits: bool) -> bool {
     if !is_open(units, unit) {
-        return Told::MayNot;
+        return false;
     }
     if commits {
         units.commit(unit);
     } else {
         units.back_out(unit);
     }
-    Told::Nothing
+    true
 }
 
-// READQ TS of an item, or of the next one.
-fn read_ts(units: &mut Units, queue: &Name8, item: Option<u64>) -> Result<Told, NoMemory> {
-    Ok(Told::Read(units.read_ts(queue, item)?))
-}
-
-// What the files and queues list.
-fn list(units: &Units) -> Result<Told, NoMemory> {
-    Ok(Told::Listed(units.listing()?))
-}
-
-// The listing of the plain replay of what was executed.
-fn replay(units: &Units, alloc: Global) -> Result<Told, NoMemory> {
-    let (trace, outcomes) = (units.trace(), units.outcomes());
-    Ok(Told::Listed(plain_replay(alloc, units.opening(), trace, outcomes)?))
-}
-
-/// Makes a call where it may be made, and tells what came of it.
-pub(crate) fn make(units: &mut Units, alloc: Global, call: &Call) -> Result<Told, NoMemory> {
-    match call {
-        Call::Execute(unit, op) => execute(units, *unit, op),
-        Call::Submit(unit, op) => submit(units, *unit, op),
-        Call::Enqueue(unit, value) => enqueue(units, *unit, value.bytes()),
-        Call::ReadTs(queue, item) => read_ts(units, queue, *item),
-        Call::Listing => list(units),
-        Call::Replay => replay(units, alloc),
-        Call::Dequeue(unit, value) => Ok(dequeue(units, *unit, value.bytes())),
-        Call::Unlock(unit, file) => Ok(unlock(units, *unit, file)),
-        Call::Commit(unit) => Ok(end(units, *unit, true)),
-        Call::BackOut(unit) => Ok(end(units, *unit, false)),
+/// Returns the unit that a command would have to wait for, if it may be executed.
+pub(crate) fn blocker(units: &Units, asking: Option<UnitId>, op: &Op) -> Option<UnitId> {
+    // A copy for each call that the unit is handed to.
+    let asks = asking;
+    let acts = asking;
+    if !is_open_or_none(units, asking) || !is_ready(units, acts, op) {
+        return None;
     }
+    units.awaited(asks, op)
+}
+
+/// Returns the unit that a task without one would have to wait for to enqueue on a value.
+pub(crate) fn value_holder(units: &Units, value: &[u8]) -> Option<UnitId> {
+    if value.len() > 255 {
+        return None;
+    }
+    units.value_holder(None, value)
 }

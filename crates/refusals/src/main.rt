@@ -1,120 +1,123 @@
-//! Scripts of calls on units of work, each compared with itself where memory is refused, ended in three
-//! ways, and held against its plain replay.
+//! Scripts on units of work and on regions, each event of which is refused memory.
 //!
-//! The scripts come from standard input, with a blank line between them; the first text has what every
-//! script defines and loads. `tools/refuse_memory` runs the program with each request for memory refused
-//! in turn. It prints what stands at the end of each script; the exit status is 0 where all came out as
-//! it has to, 3 where memory was refused for good, and 1 for anything else, with the reason on standard
-//! error.
+//! The scripts come from standard input, with a blank line between them; the first text stands
+//! before each of them (`scripts`). Where `tools/refuse_memory` is loaded, each request of each
+//! event is refused in turn, and all that is shown compared (`runs`). In further runs an event
+//! stays refused, and the open units of work are ended. With ample memory a script runs alone and
+//! among 300 more of everything, and no request is refused.
+//!
+//! Prints what stands at the end of each script. The exit status is 0 if all came out as it has to,
+//! and 1 otherwise, with the line on standard error.
 #![tactic(auto)]
 
 mod calls;
 mod events;
 mod guarded_calls;
-mod kinds;
 mod memory;
 mod openings;
-mod region_runs;
-mod region_scripts;
-mod region_states;
-mod region_texts;
+mod regions;
 mod runs;
+mod scripts;
 mod states;
 mod texts;
 
-use crate::kinds::Kind;
-use crate::memory::{Requests, switch};
-use crate::region_runs::{TaskEnd, run_on_region};
-use crate::runs::{End, Stop, run_script};
+use crate::memory::{Requests, are_refused, switch};
+use crate::runs::{Run, Stop, Target};
+use crate::scripts::{Kind, steps_of, written_out};
+use cics_dispatch::Region;
+use cics_names::NoMemory;
+use cics_units::Units;
+use std::alloc::Global;
 use std::io;
 use std::process::ExitCode;
 
-const NO_MEMORY: u8 = 3;
-
-// The ends, each with its name.
-const ENDS: [(End, &str); 3] = [
-    (End::BackedOut, "backed out"),
-    (End::Committed, "committed"),
-    (End::Mixed, "mixed"),
+// How the open units of work end, every other one by the second command, and what that is called.
+const ENDS: [([&str; 2], &str); 4] = [
+    (["SYNCPOINT ROLLBACK", "SYNCPOINT ROLLBACK"], "rolled back"),
+    (["SYNCPOINT", "SYNCPOINT"], "committed"),
+    (["SYNCPOINT", "SYNCPOINT ROLLBACK"], "mixed"),
+    (["ABEND", "ABEND"], "abended"),
 ];
 
-// How the tasks of a region end, each with its name.
-const TASK_ENDS: [(TaskEnd, &str); 3] = [
-    (TaskEnd::Rollback, "rolled back"),
-    (TaskEnd::Syncpoint, "committed"),
-    (TaskEnd::Abend, "abended"),
-];
-
-// How many further records and items there are in a run with ample memory, and what it is called then.
+// How many further records and items there are in a run with ample memory, and what it is called.
 const FURTHER: [(u64, &str); 2] = [(0, "alone"), (300, "among 300 more")];
-
-// Says on standard error why a run stopped, and answers with the exit status for that.
-fn stopped(rt: &HostRuntime, name: &str, end: &str, stop: &Stop) -> ExitCode {
-    let _ = eprintln!(rt; "refusals: {name}, {end}: {stop:?}");
-    match stop {
-        Stop::Refused => ExitCode::from(NO_MEMORY),
-        _ => ExitCode::FAILURE,
-    }
-}
 
 // Prints what came of a run, or says why it stopped.
 fn tell(
     rt: &HostRuntime,
     script: &str,
-    end: &str,
-    listed: Result<String, Stop>,
+    word: &str,
+    came: Result<String, Stop>,
 ) -> Result<(), ExitCode> {
     let name = script.lines().next().unwrap_or("");
-    match listed {
-        Ok(listed) => println!(rt; "{name}, {end}:{listed}").map_err(|_| ExitCode::FAILURE),
-        Err(stop) => Err(stopped(rt, name, end, &stop)),
+    match came {
+        Ok(text) => println!(rt; "{name}, {word}:{text}").map_err(|_| ExitCode::FAILURE),
+        Err(stop) => {
+            let _ = eprintln!(rt; "refusals: {name}, {word}: {stop:?}");
+            Err(ExitCode::FAILURE)
+        }
     }
 }
 
-// Runs a script of calls on units with each end.
-fn run_on_units(rt: &HostRuntime, prelude: &str, script: &str) -> Result<(), ExitCode> {
-    for (end, word) in ENDS {
-        tell(
-            rt,
-            script,
-            word,
-            run_script(rt.alloc(), prelude, script, end),
-        )?;
+// Runs a script with an end of its units of work, and with each of its events refused for good if
+// any is refused.
+fn run_with_end<T: Target + Drop>(mut run: Run<'_>, ends: [&str; 2]) -> Result<String, Stop> {
+    run.give_up_each::<T>(ends)?;
+    run.run::<T>(ends)
+}
+
+// Puts lines into one.
+fn joined(alloc: Global, lines: &str) -> Result<String, NoMemory> {
+    let mut text = String::new(alloc);
+    for line in lines.lines() {
+        text.push_str(if text.is_empty() { " " } else { "; " })?;
+        text.push_str(line.trim_start())?;
+    }
+    Ok(text)
+}
+
+// Runs a script behind the first text, among so many further records and items, with an end of its
+// units of work.
+fn run_script(
+    alloc: Global,
+    texts: [&str; 2],
+    further: u64,
+    ends: [&str; 2],
+) -> Result<String, Stop> {
+    let [first, script] = texts;
+    let kind = Kind::of(script);
+    let text = written_out(alloc, first, script, further)?;
+    let steps = steps_of(alloc, &text)?;
+    let run = Run::new(alloc, &steps, are_refused(alloc)? && !kind.is_ample);
+    let came = if kind.on_units {
+        run_with_end::<Units>(run, ends)?
+    } else {
+        run_with_end::<Region>(run, ends)?
+    };
+    Ok(joined(alloc, if kind.is_ample { "" } else { &came })?)
+}
+
+// Runs a script behind the first text in each way that is meant for its kind.
+fn run_each(rt: &HostRuntime, texts: [&str; 2]) -> Result<(), ExitCode> {
+    let [_, script] = texts;
+    if Kind::of(script).is_ample {
+        for (further, word) in FURTHER {
+            let came = run_script(rt.alloc(), texts, further, ENDS[0].0);
+            tell(rt, script, word, came)?;
+        }
+        return Ok(());
+    }
+    for (ends, word) in ENDS {
+        tell(rt, script, word, run_script(rt.alloc(), texts, 0, ends))?;
     }
     Ok(())
 }
 
-// Runs a script on a region with each end of its tasks.
-fn run_with_each_end(rt: &HostRuntime, prelude: &str, script: &str) -> Result<(), ExitCode> {
-    for (end, word) in TASK_ENDS {
-        let listed = run_on_region(rt.alloc(), prelude, script, 0, end);
-        tell(rt, script, word, listed)?;
-    }
-    Ok(())
-}
-
-// Runs a script with ample memory, alone and among further records and items.
-fn run_amply(rt: &HostRuntime, prelude: &str, script: &str) -> Result<(), ExitCode> {
-    for (further, word) in FURTHER {
-        let listed = run_on_region(rt.alloc(), prelude, script, further, TaskEnd::Rollback);
-        tell(rt, script, word, listed.map(|_| String::new(rt.alloc())))?;
-    }
-    Ok(())
-}
-
-fn run_each(rt: &HostRuntime, prelude: &str, script: &str) -> Result<(), ExitCode> {
-    match Kind::of(script) {
-        Kind::Units => run_on_units(rt, prelude, script),
-        Kind::Region => run_with_each_end(rt, prelude, script),
-        Kind::Ample => run_amply(rt, prelude, script),
-    }
-}
-
-// Runs the scripts of a text, each behind what its first text defines and loads.
+// Runs the scripts of a text, each behind its first text.
 fn run_text(rt: &HostRuntime, text: &str) -> Result<(), ExitCode> {
-    let (prelude, scripts) = text.split_once("\n\n").unwrap_or((text, ""));
+    let (first, scripts) = text.trim_end().split_once("\n\n").unwrap_or((text, ""));
     for script in scripts.split("\n\n") {
-        run_each(rt, prelude, script)?;
+        run_each(rt, [first, script])?;
     }
     Ok(())
 }
@@ -124,10 +127,12 @@ fn main(rt: HostRuntime) -> ExitCode {
         return ExitCode::FAILURE;
     }
     match io::read_to_string(rt.alloc(), rt.stdin()) {
-        Ok(text) => match run_text(&rt, &text) {
-            Ok(()) => ExitCode::SUCCESS,
-            Err(status) => status,
-        },
+        Ok(text) => {
+            match run_text(&rt, &text) {
+                Ok(()) => ExitCode::SUCCESS,
+                Err(status) => status,
+            }
+        }
         Err(_) => ExitCode::FAILURE,
     }
 }

@@ -1,186 +1,110 @@
-//! All that units and openings show, as texts: two states are told apart by them.
+//! All that units show: two states are told apart by it.
 
-use crate::calls::{Call, Step};
-use crate::guarded_calls::{is_open, is_open_or_none, is_ready};
-use crate::texts::{
-    Letters, listing_text, outcome_word, push_bytes, push_entry, push_listing, push_name,
-};
+use crate::calls::op_of;
+use crate::events::{Event, event_of};
+use crate::guarded_calls::{blocker, parts, value_holder};
+use crate::scripts::Step;
 use cics_enqueue::UnitId;
-use cics_names::{Name8, NoMemory};
-use cics_units::{Listing, Op, Opening, Units, plain_replay};
-use std::alloc::Global;
-use std::fmt::Write;
+use cics_names::{NoMemory, Verb};
+use cics_run::listing::push_listing;
+use cics_script::{Line, push_number, push_str, push_text};
+use cics_units::{Entry, Listing, Op, UnitState, Units};
 
-// The unit that a call would have to wait for, if any, made by an open unit or by a task without one. A
-// command that may not be executed now is not asked for.
-fn awaited(units: &Units, asking: Option<UnitId>, call: &Call) -> Option<UnitId> {
-    // A copy for each call that the unit is handed to.
-    let asks = asking;
-    let acts = asking;
-    if !is_open_or_none(units, asking) {
-        return None;
-    }
-    match call {
-        Call::Execute(_, op) | Call::Submit(_, op) if is_ready(units, acts, op) => {
-            units.awaited(asks, op)
-        }
-        Call::Enqueue(_, value) if value.len() <= 255 => units.value_holder(asks, value.bytes()),
-        _ => None,
+// Puts a unit at the end, or that there is none.
+fn push_unit(out: &mut Vec<u8>, unit: Option<UnitId>) -> Result<(), NoMemory> {
+    match unit {
+        Some(unit) => push_number(out, unit.number()),
+        None => push_str(out, "-"),
     }
 }
 
-// The temporary storage queue that a command changes, if it does.
-fn changed_ts_queue(op: &Op) -> Option<&Name8> {
-    match op {
-        Op::TsWrite { queue, .. } => Some(queue),
-        Op::TsRewrite { queue, .. } => Some(queue),
-        Op::TsDelete { queue } => Some(queue),
-        _ => None,
-    }
-}
-
-// The temporary storage queue that a call names, if it does.
-fn ts_queue(call: &Call) -> Option<&Name8> {
-    match call {
-        Call::ReadTs(queue, _) => Some(queue),
-        Call::Execute(_, op) | Call::Submit(_, op) => changed_ts_queue(op),
-        _ => None,
-    }
-}
-
-// Puts at the end whom a call of a task without a unit would have to wait for.
-fn push_awaited_without_unit(
-    text: &mut String,
-    units: &Units,
-    call: &Call,
-) -> Result<(), NoMemory> {
-    match awaited(units, None, call) {
-        Some(holder) => Ok(write!(text, " - waits {}", holder.number())?),
-        None => Ok(()),
-    }
-}
-
-// Puts at the end whom a call of the unit of a number would have to wait for.
-fn push_awaited_by_unit(
-    text: &mut String,
-    units: &Units,
-    number: u64,
-    call: &Call,
-) -> Result<(), NoMemory> {
-    match awaited(units, Some(UnitId::new(number)), call) {
-        Some(holder) => Ok(write!(text, " {number} waits {}", holder.number())?),
-        None => Ok(()),
-    }
-}
-
-/// Puts the NEXT place of a temporary storage queue at the end.
-pub(crate) fn push_next_place(
-    text: &mut String,
-    units: &Units,
-    queue: &Name8,
-) -> Result<(), NoMemory> {
-    Ok(write!(text, " next {}", units.next_place(queue))?)
-}
-
-// Puts at the end whom a call would have to wait for, of whatever unit, and the NEXT place that it names.
-fn push_call(text: &mut String, units: &Units, call: &Call) -> Result<(), NoMemory> {
-    text.push('\n')?;
-    push_awaited_without_unit(text, units, call)?;
+// Puts at the end whom a command of a task without a unit, and of each unit, would have to wait
+// for.
+fn push_blockers(out: &mut Vec<u8>, units: &Units, op: &Op) -> Result<(), NoMemory> {
+    push_unit(out, blocker(units, None, op))?;
     for number in 0..units.outcomes().len() as u64 {
-        push_awaited_by_unit(text, units, number, call)?;
-    }
-    match ts_queue(call) {
-        Some(queue) => push_next_place(text, units, queue),
-        None => Ok(()),
-    }
-}
-
-// Puts at the end how a unit stands, and what it has read for update in each file.
-fn push_unit(
-    text: &mut String,
-    units: &Units,
-    number: u64,
-    listing: &Listing,
-) -> Result<(), NoMemory> {
-    let unit = UnitId::new(number);
-    text.push_str(if is_open(units, unit) {
-        "\nopen"
-    } else {
-        "\nended"
-    })?;
-    for (file, _, _) in listing.files.as_slice() {
-        if let Some(key) = units.open_read(unit, file) {
-            push_name(text, &file.bytes())?;
-            push_bytes(text, key, Letters::Ascii)?;
-        }
+        push_unit(out, blocker(units, Some(UnitId::new(number)), op))?;
     }
     Ok(())
 }
 
-/// Puts at the end the files and queues of a listing, the executed commands with their answers, and how each unit stands,
-/// with what it has read for update.
-pub(crate) fn push_units(
-    text: &mut String,
+// Puts an executed command at the end: what it names, its unit, and its answer.
+fn push_entry(out: &mut Vec<u8>, entry: &Entry) -> Result<(), NoMemory> {
+    let (key, from) = parts(&entry.op);
+    push_text(out, key)?;
+    push_text(out, from)?;
+    push_number(out, entry.unit.number())?;
+    let answer = &entry.answer;
+    push_str(out, answer.condition.name())?;
+    push_number(out, answer.number.unwrap_or(0))?;
+    match &answer.content {
+        Some(content) => push_text(out, content.bytes()),
+        None => Ok(()),
+    }
+}
+
+// Puts at the end whom a command would have to wait for, or the cursor of the queue that it reads.
+fn push_asked(out: &mut Vec<u8>, units: &Units, event: &Event) -> Result<(), NoMemory> {
+    let Event::Line(Line::Issue(_, command)) = event else {
+        return Ok(());
+    };
+    match &command.verb {
+        Verb::Enq { resource, .. } => push_unit(out, value_holder(units, resource.bytes())),
+        Verb::ReadqTs { queue, .. } => push_number(out, u64::from(units.next_place(queue))),
+        verb => {
+            match op_of(units.opening().allocator(), verb)? {
+                Some(op) => push_blockers(out, units, &op),
+                None => Ok(()),
+            }
+        }
+    }
+}
+
+// Puts at the end what a unit has read for update in each file.
+fn push_reads(
+    out: &mut Vec<u8>,
     units: &Units,
+    unit: UnitId,
     listing: &Listing,
 ) -> Result<(), NoMemory> {
-    push_listing(text, listing, Letters::Ascii)?;
+    for (file, _, _) in listing.files.as_slice() {
+        push_text(out, units.open_read(unit, file).unwrap_or(b""))?;
+    }
+    Ok(())
+}
+
+/// Puts at the end what is listed, the NEXT cursors, the executed commands with their answers, and
+/// how each unit stands, with its update reads. Of each command of these steps it also puts whom it
+/// would have to wait for, of whatever unit.
+pub(crate) fn push_units(
+    out: &mut Vec<u8>,
+    units: &Units,
+    listing: &Listing,
+    asked: &[Step],
+) -> Result<(), NoMemory> {
+    push_listing(out, listing)?;
+    for (queue, _, _) in listing.ts.as_slice() {
+        push_number(out, u64::from(units.next_place(queue)))?;
+        push_str(out, " ")?;
+    }
     for entry in units.trace() {
-        text.push('\n')?;
-        push_entry(text, entry)?;
+        push_entry(out, entry)?;
     }
     for (number, outcome) in units.outcomes().iter().enumerate() {
-        push_unit(text, units, number as u64, listing)?;
-        text.push_str(outcome_word(*outcome))?;
+        push_str(
+            out,
+            match outcome {
+                UnitState::Open => "\nopen",
+                UnitState::Committed => "\ncommitted",
+                UnitState::BackedOut => "\nbacked out",
+            },
+        )?;
+        push_reads(out, units, UnitId::new(number as u64), listing)?;
+    }
+    for step in asked {
+        if let Some(event) = event_of(units.opening().allocator(), step.line())? {
+            push_asked(out, units, &event)?;
+        }
     }
     Ok(())
-}
-
-// Puts all that units show at the end.
-fn push_state(text: &mut String, units: &Units, steps: &[Step]) -> Result<(), NoMemory> {
-    push_units(text, units, &units.listing()?)?;
-    for step in steps {
-        push_call(text, units, &step.call)?;
-    }
-    Ok(())
-}
-
-/// All that units show: the files and queues, the executed commands with their answers, the outcomes, the
-/// update reads, and of each of these calls who would wait for whom, and the NEXT place.
-pub(crate) fn state_of(alloc: Global, units: &Units, steps: &[Step]) -> Result<String, NoMemory> {
-    let mut text = String::new(alloc);
-    push_state(&mut text, units, steps)?;
-    Ok(text)
-}
-
-/// The listing of what units hold.
-pub(crate) fn listing_of(alloc: Global, units: &Units) -> Result<String, NoMemory> {
-    listing_text(alloc, &units.listing()?, Letters::Ascii)
-}
-
-/// The listing of the plain replay of what units executed.
-pub(crate) fn replay_of(alloc: Global, units: &Units) -> Result<String, NoMemory> {
-    let listing = plain_replay(alloc, units.opening(), units.trace(), units.outcomes())?;
-    listing_text(alloc, &listing, Letters::Ascii)
-}
-
-// The listing of what an opening has loaded.
-fn loaded_of(alloc: Global, opening: &Opening) -> Result<String, NoMemory> {
-    let listing = plain_replay(alloc, opening, &[], &[])?;
-    listing_text(alloc, &listing, Letters::Ascii)
-}
-
-// Puts each prefix that an opening defines at the end.
-fn push_prefixes(text: &mut String, opening: &Opening) -> Result<(), NoMemory> {
-    for prefix in opening.prefixes() {
-        push_name(text, &prefix.bytes())?;
-    }
-    Ok(())
-}
-
-/// All that an opening shows: what is defined, and what was loaded.
-pub(crate) fn opening_of(alloc: Global, opening: &Opening) -> Result<String, NoMemory> {
-    let mut text = loaded_of(alloc, opening)?;
-    push_prefixes(&mut text, opening)?;
-    Ok(text)
 }

@@ -4,7 +4,7 @@ use Rattle.cics_names.specs.Keyed.{Bytes, is_same, value_at}
 use Rattle.cics_names.specs.KeyedLaws.{pointwise-is_same}
 use Rattle.cics_ksds.specs.Files.{fits_file, key_of}
 use Rattle.cics_ksds.specs.declared.definition.FileDef.{FileDef}
-use Rattle.cics_history.specs.Openings.{FileOpening}
+use Rattle.cics_history.specs.State.{FileOpening}
 use Rattle.cics_history.specs.Execution.{is_fit_for}
 use Rattle.refusals.proofs.guarded_calls.is_fit.Goals as goal
 

@@ -1,0 +1,155 @@
+//! Scripts in the language of `cicsrun`. Behind a line stand lines that begin with `= `: what is to
+//! come of it, and of what the region then does by itself. If none stands there, the line is
+//! answered NORMAL, or attaches its task, or defines something.
+//!
+//! Lines of one word ask for the listing, the replay, or how many intervals the files of units of
+//! work have (`events`). In a script on units the labels U0 to U9 are of units by their numbers,
+//! and NEW of a task without one. H in place of U, and HNEW, hand the command over. What has to
+//! wait is told so, and doesn't wait.
+//!
+//! A line `+ LINE` stands as often as the run says, each with its number of three digits for `nnn`.
+//! A line `xCOUNT LINE` stands so often. The lines of the first text are put before each script:
+//! those behind `* ` only before scripts on a region, those behind `** ` only if memory is ample
+//! too.
+
+use cics_names::NoMemory;
+use std::alloc::Global;
+use std::fmt::Write;
+
+/// What a script runs on, as its first line tells.
+#[derive(Clone, Copy)]
+pub(crate) struct Kind {
+    /// It runs on units of work: `units: ` stands behind its stars. Others run on a region.
+    pub(crate) on_units: bool,
+    /// Its memory is ample: it begins with two stars.
+    pub(crate) is_ample: bool,
+}
+
+/// A line of a script, and the lines that are to come of it.
+#[derive(Drop)]
+pub(crate) struct Step {
+    line: String,
+    expected: String,
+}
+
+impl Kind {
+    /// Returns the kind of a script.
+    pub(crate) fn of(script: &str) -> Kind {
+        Kind {
+            on_units: script.trim_start_matches('*').starts_with(" units: "),
+            is_ample: script.starts_with("** "),
+        }
+    }
+
+    // The line that one of the first text puts before a script of this kind, if it puts one there.
+    fn head(self, line: &str) -> Option<&str> {
+        if let Some(line) = line.strip_prefix("** ") {
+            return if self.is_ample && !self.on_units {
+                Some(line)
+            } else {
+                None
+            };
+        }
+        match line.strip_prefix("* ") {
+            Some(line) if !self.on_units => Some(line),
+            Some(_) => None,
+            None => Some(line),
+        }
+    }
+}
+
+impl Step {
+    /// Returns the line.
+    pub(crate) fn line(&self) -> &str {
+        self.line.as_str()
+    }
+
+    /// Returns the answer that the line is to have, if the script says it.
+    pub(crate) fn answer(&self) -> &str {
+        self.expected.lines().next().unwrap_or("")
+    }
+
+    /// Returns whether this is what is to come of the line.
+    pub(crate) fn is_met_by(&self, came: &str) -> bool {
+        if !self.expected.is_empty() {
+            return came == self.expected.as_str();
+        }
+        came.lines().count() == 1
+            && (came.contains(" NORMAL 0") || came.contains(" ATTACHED ") || came == "defined\n")
+    }
+}
+
+// Puts a line at the end, with a number in place of each `nnn` that stands in it.
+fn push_numbered(text: &mut String, line: &str, number: u64) -> Result<(), NoMemory> {
+    for (at, part) in line.split("nnn").enumerate() {
+        if at > 0 {
+            write!(text, "{number:03}")?;
+        }
+        text.push_str(part)?;
+    }
+    text.push('\n')?;
+    Ok(())
+}
+
+// How often a line stands, and the line itself.
+fn times(line: &str, further: u64) -> (u64, &str) {
+    if let Some(line) = line.strip_prefix("+ ") {
+        return (further, line);
+    }
+    if let Some((count, line)) = line.split_once(' ') {
+        if let Some(digits) = count.strip_prefix("x") {
+            return (digits.parse::<u64>().unwrap_or(0), line);
+        }
+    }
+    (1, line)
+}
+
+// Puts a line at the end, as often as it stands.
+fn push_line(text: &mut String, line: &str, further: u64) -> Result<(), NoMemory> {
+    let (count, line) = times(line, further);
+    for number in 0..count {
+        push_numbered(text, line, number)?;
+    }
+    Ok(())
+}
+
+/// Returns the lines of a script behind those of the first text, each as often as it stands.
+pub(crate) fn written_out(
+    alloc: Global,
+    first: &str,
+    script: &str,
+    further: u64,
+) -> Result<String, NoMemory> {
+    let mut text = String::new(alloc);
+    let kind = Kind::of(script);
+    for line in first.lines() {
+        if let Some(line) = kind.head(line) {
+            push_line(&mut text, line, further)?;
+        }
+    }
+    for line in script.lines() {
+        push_line(&mut text, line, further)?;
+    }
+    Ok(text)
+}
+
+/// Returns the steps of a script that is written out. A line that is to come of nothing is a step,
+/// which no reader of lines takes.
+pub(crate) fn steps_of(alloc: Global, text: &str) -> Result<Vec<Step>, NoMemory> {
+    let mut steps: Vec<Step> = Vec::new(alloc);
+    for line in text.lines() {
+        if line.starts_with("*") {
+            continue;
+        }
+        if let (Some(expected), Some(last)) = (line.strip_prefix("= "), steps.last_mut()) {
+            last.expected.push_str(expected)?;
+            last.expected.push('\n')?;
+            continue;
+        }
+        steps.push(Step {
+            line: line.to_string(alloc)?,
+            expected: String::new(alloc),
+        })?;
+    }
+    Ok(steps)
+}
