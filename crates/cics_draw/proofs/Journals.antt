@@ -11,7 +11,7 @@ use Rattle.cics_dispatch.specs.Machine.{Machine}
 use Rattle.cics_dispatch.specs.declared.outcomes.Refused.{Refused}
 use Rattle.cics_dispatch.specs.declared.outcomes.Woken.{Woken}
 use Rattle.cics_dispatch.specs.declared.outcomes.Expired.{Expired}
-use Rattle.cics_history.specs.Openings.{OpeningState}
+use Rattle.cics_history.specs.State.{OpeningState}
 use Rattle.cics_units.specs.Faults.{fault_number}
 use Rattle.cics_units.specs.declared.opening.DefineFault.{DefineFault}
 use Rattle.cics_script.specs.Lines as reading

@@ -1,4 +1,5 @@
-pub mod Cutting
 pub mod Playing
 pub mod Counting
 pub mod Journals
+pub mod Marking
+pub mod Outcomes

@@ -1,6 +1,5 @@
 -- The lines that a run plays, one after the other.
 use Rattle.std.proofs.Common.{◌≡◌, ℕ, true, false, cond, ◌+◌, ◌<◌, List, [], ◌∷◌, length, refl, ap, sym, ◌∙◌, subst, arith}
-use Rattle.std.proofs.lemmas.List.Sums.{fold-append}
 use Rattle.std.specs.Prelude.{is_some}
 use Rattle.std.specs.List.{fold}
 use Rattle.cics_run.specs.Lines.{all_lines}
@@ -10,17 +9,13 @@ use Rattle.cics_run.specs.Standing.{Ran, Keeps, next_step}
 use Rattle.cics_run.specs.declared.session.Session.{Session}
 use Rattle.cics_run.proofs.Playing.{next-going, fault-fold}
 use Rattle.cics_picture.specs.Lanes.{most_rows}
-use Rattle.cics_picture.specs.Drawings.{Drawn, Row, with_row, rows_of, all_rows}
+use Rattle.cics_picture.specs.Drawings.{Drawn, rows_of, with_line}
+use Rattle.cics_picture.proofs.Counted.{line-counted, lines-counted}
 use Rattle.cics_draw.specs.Pictures.{printed, next_printed, printed_from, drawing_of, HasTooMany}
 
 -- what is drawn of the lines that a run plays from where it stands
 abbrev pub drawn_from : Drawn → Played → List (List ℕ) → Drawn
-drawn_from d p lines = fold with_row d (all_rows (printed_from p lines))
-
--- so many rows are drawn
-rows-counted : (rows : List Row) (d : Drawn) → (fold with_row d rows).rows ≡ d.rows + length rows
-rows-counted [] d = omega arith
-rows-counted (r ∷ rows) d = omega (arith, rows-counted rows (with_row d r))
+drawn_from d p lines = fold with_line d (printed_from p lines)
 
 -- what a line prints, and what the lines behind it print
 pub printed-first : (p : Played) (line : List ℕ) (lines : List (List ℕ)) → has_fault p ≡ false
@@ -36,24 +31,22 @@ printed-none p (line ∷ lines) fault =
     let all = printed (p.number + 1) line (step (p.number + 1) p.stage line) ∷ printed_from (next p line) lines in
     subst (λ b. cond b [] all ≡ []) (sym fault) refl
 
--- the rows of a line, and those of the lines behind it
+-- a line is drawn, and then the lines behind it
 line-drawn : (d : Drawn) (p : Played) (line : List ℕ) (lines : List (List ℕ)) → has_fault p ≡ false
-    → drawn_from d p (line ∷ lines) ≡ drawn_from (fold with_row d (rows_of (printed (p.number + 1) line (step (p.number + 1) p.stage line)))) (next p line) lines
-line-drawn d p line lines going =
-    ap (λ l. fold with_row d (all_rows l)) (printed-first p line lines going)
-    ∙ fold-append with_row d (rows_of (printed (p.number + 1) line (step (p.number + 1) p.stage line))) (all_rows (printed_from (next p line) lines))
+    → drawn_from d p (line ∷ lines) ≡ drawn_from (with_line d (printed (p.number + 1) line (step (p.number + 1) p.stage line))) (next p line) lines
+line-drawn d p line lines going = ap (fold with_line d) (printed-first p line lines going)
 
 -- behind a fault nothing is drawn
 fault-drawn : (d : Drawn) (p : Played) (lines : List (List ℕ)) → has_fault p ≡ true → drawn_from d p lines ≡ d
-fault-drawn d p lines fault = ap (λ l. fold with_row d (all_rows l)) (printed-none p lines fault)
+fault-drawn d p lines fault = ap (fold with_line d) (printed-none p lines fault)
 
 -- too many rows of a line are too many of all
 too-many : (d : Drawn) (p : Played) (line : List ℕ) (lines : List (List ℕ)) → has_fault p ≡ false
     → most_rows < d.rows + length (rows_of (printed (p.number + 1) line (step (p.number + 1) p.stage line)))
     → most_rows < (drawn_from d p (line ∷ lines)).rows
 too-many d p line lines going over =
-    let rows = rows_of (printed (p.number + 1) line (step (p.number + 1) p.stage line)) in
-    rw (line-drawn d p line lines going) (omega (arith, over, rows-counted rows d, rows-counted (all_rows (printed_from (next p line) lines)) (fold with_row d rows)))
+    let first = printed (p.number + 1) line (step (p.number + 1) p.stage line) in
+    rw (line-drawn d p line lines going) (omega (arith, over, line-counted d first, lines-counted (printed_from (next p line) lines) (with_line d first)))
 
 -- Where a run stands in front of the rest of a script, none of whose lines was a fault, with what was drawn.
 pub record Stands (d : Drawn) (s : Session) (rest script : List ℕ) : Type 0 where
@@ -79,16 +72,16 @@ module _ (d e : Drawn) (s t : Session) (rest line after script : List ℕ) (at :
   same-fault : is_some t.fault ≡ has_fault (next at.played line)
   same-fault = ap is_some ran.fault ∙ sym (ap has_fault going-on)
 
-  first-drawn : e ≡ fold with_row d (rows_of (next_printed s line)) → drawn_from e (next at.played line) (all_lines after) ≡ drawing_of script
+  first-drawn : e ≡ with_line d (next_printed s line) → drawn_from e (next at.played line) (all_lines after) ≡ drawing_of script
   first-drawn is =
-      ap (λ x. drawn_from x (next at.played line) (all_lines after)) (is ∙ ap (λ p. fold with_row d (rows_of p)) same)
+      ap (λ x. drawn_from x (next at.played line) (all_lines after)) (is ∙ ap (with_line d) same)
       ∙ sym (line-drawn d at.played line (all_lines after) at.going) ∙ ap (drawn_from d at.played) (sym lines) ∙ at.drawn
 
   first-ends : fold next (next at.played line) (all_lines after) ≡ play (all_lines script)
   first-ends = ap (fold next at.played) (sym lines) ∙ at.ends
 
   -- the line was no fault
-  pub stands-next : e ≡ fold with_row d (rows_of (next_printed s line)) → t.line.items ≡ [] → false ≡ is_some t.fault → Stands e t after script
+  pub stands-next : e ≡ with_line d (next_printed s line) → t.line.items ≡ [] → false ≡ is_some t.fault → Stands e t after script
   stands-next is none passed =
       record {
         played = next at.played line;
@@ -101,8 +94,8 @@ module _ (d e : Drawn) (s t : Session) (rest line after script : List ℕ) (at :
       }
 
   -- the line was a fault
-  pub stands-stopped : e ≡ fold with_row d (rows_of (next_printed s line)) → t.line.items ≡ line → true ≡ is_some t.fault
-      → (e ≡ drawing_of script) × (is_faulty script ≡ true) × Keeps t (play (all_lines script))
+  pub stands-stopped : e ≡ with_line d (next_printed s line) → t.line.items ≡ line → true ≡ is_some t.fault
+      → (e ≡ drawing_of script) × (is_faulty script ≡ true) × Keeps t (play (all_lines script)) × (t.stage ≡ (play (all_lines script)).stage)
   stands-stopped is kept failed =
       let stopped : has_fault (next at.played line) ≡ true = sym (failed ∙ same-fault) in
       let last : play (all_lines script) ≡ next at.played line = sym first-ends ∙ fault-fold (all_lines after) (next at.played line) stopped in
@@ -110,6 +103,7 @@ module _ (d e : Drawn) (s t : Session) (rest line after script : List ℕ) (at :
         sym (fault-drawn e (next at.played line) (all_lines after) stopped) ∙ first-drawn is,
         ap has_fault last ∙ stopped,
         subst (Keeps t) (sym (last ∙ going-on)) keeps,
+        ran.stage ∙ sym (ap (λ p. p.stage) (last ∙ going-on)),
       )
 
 -- a line had too many rows
@@ -121,8 +115,10 @@ stands-over d s rest line after script at lines over =
     (too-many d at.played line (all_lines after) at.going (subst (λ p. most_rows < d.rows + length (rows_of p)) same over))
 
 -- no line was left
-pub stands-ended : (d : Drawn) (s : Session) (rest script : List ℕ) → Stands d s rest script → all_lines rest ≡ [] → (d ≡ drawing_of script) × (is_faulty script ≡ false)
+pub stands-ended : (d : Drawn) (s : Session) (rest script : List ℕ) → Stands d s rest script → all_lines rest ≡ []
+    → (d ≡ drawing_of script) × (is_faulty script ≡ false) × (s.stage ≡ (play (all_lines script)).stage)
 stands-ended d s rest script at none = (
   ap (drawn_from d at.played) (sym none) ∙ at.drawn,
   sym (ap has_fault at.ends) ∙ ap (λ l. has_fault (fold next at.played l)) none ∙ at.going,
+  at.at_stage ∙ sym (ap (λ l. (fold next at.played l).stage) none) ∙ ap (λ p. p.stage) at.ends,
 )

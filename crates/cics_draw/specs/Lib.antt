@@ -1,2 +1,3 @@
 pub mod Titles
+pub mod Standings
 pub mod Pictures

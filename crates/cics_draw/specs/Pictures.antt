@@ -16,13 +16,16 @@ use Rattle.cics_picture.specs.Drawings.{Printed, Drawn, drawn}
 use Rattle.cics_picture.specs.Sheets.{sheet}
 use Rattle.cics_picture.specs.declared.drawing.Undrawn.{Undrawn}
 use Rattle.cics_picture.specs.declared.drawing.Undrawn.TheVariants as undrawns
+use Rattle.cics_history.specs.declared.ops.UnitState.{UnitState}
 use Rattle.cics_draw.specs.Titles.{title_of}
+use Rattle.cics_picture.specs.declared.bars.Look.{Look}
+use Rattle.cics_draw.specs.Standings.{standings_at, outcomes_at, looks_at}
 use Rattle.cics_draw.specs.declared.picture.NoPicture.{NoPicture}
 use Rattle.cics_draw.specs.declared.picture.NoPicture.TheVariants.{Stopped, TooManyEvents}
 
--- a line and what its step printed
+-- a line, what its step printed, and how the tasks stand behind it
 abbrev pub printed : ℕ → List ℕ → Step → Printed
-printed number line s = record { number = number; line = line; text = s.text }
+printed number line s = record { number = number; line = line; text = s.text; standings = standings_at s.stage }
 
 -- the line that a session runs next, and what it prints
 abbrev pub next_printed : Session → List ℕ → Printed
@@ -42,9 +45,17 @@ printed_lines script = printed_from start (all_lines script)
 abbrev pub drawing_of : List ℕ → Drawn
 drawing_of script = drawn (printed_lines script)
 
+-- how the bars of the units look behind a script
+abbrev pub looks_of : List ℕ → List Look
+looks_of script = looks_at (play (all_lines script)).stage
+
+-- the outcomes of the units behind a script
+abbrev pub outcomes_of : List ℕ → List UnitState
+outcomes_of script = outcomes_at (play (all_lines script)).stage
+
 -- the picture of a script
 abbrev pub picture_of : List ℕ → List ℕ
-picture_of script = sheet (drawing_of script) (title_of script)
+picture_of script = sheet (drawing_of script) (looks_of script) (title_of script)
 
 -- A session ran a line, which it keeps if that is a fault.
 abbrev pub RunsLine : {E : Type 0} → Session → List ℕ → Session → Result Bool E → Type 0
@@ -58,18 +69,6 @@ KeepsLast script session false = ⊤
 -- a script has more events than a picture may have rows
 abbrev pub HasTooMany : List ℕ → Type 0
 HasTooMany script = most_rows < (drawing_of script).rows
-
--- What was read when reading stopped: more than a script may have, or a part of what there is. Reading never fails to write.
-abbrev pub StopsBehind : List ℕ → RunFault → Type 0
-StopsBehind bytes faults.InputTooLong = length bytes ≡ most_bytes + 1
-StopsBehind bytes faults.ReadFault = length bytes ≤ most_bytes
-StopsBehind bytes faults.NoMemory = length bytes ≤ most_bytes + 1
-StopsBehind bytes faults.WriteFault = ⊥
-
--- a script was read to its end, or reading stopped
-abbrev pub Reads : Option (List ℕ) → Option (List ℕ) → List ℕ → Result (Unit {0}) RunFault → Type 0
-Reads input rest script (Ok _) = Consumes input rest script × IsAtEnd rest × (length script ≤ most_bytes)
-Reads input rest script (Err fault) = (bytes : List ℕ) × Consumes input rest bytes × StopsBehind bytes fault
 
 -- What stands in the sink at each answer, where bytes are the bytes that were read:
 -- - Done and LineFault: the whole picture of the script, without a fault or up to its first one;
@@ -93,21 +92,6 @@ abbrev pub KeepsFault : Option (List ℕ) → Option (List ℕ) → Session → 
 KeepsFault input rest session (Ok status.LineFault) =
     (bytes : List ℕ) × Consumes input rest bytes × (is_faulty bytes ≡ true) × Keeps session (play (all_lines bytes))
 KeepsFault input rest session _ = ⊤
-
--- how many reads failed, where this is why it stopped
-abbrev pub read_failures : RunFault → ℕ
-read_failures faults.ReadFault = 1
-read_failures _ = 0
-
--- how many writes failed, where this is why it stopped
-abbrev pub write_failures : RunFault → ℕ
-write_failures faults.WriteFault = 1
-write_failures _ = 0
-
--- none failed, unless reading or writing stopped
-abbrev pub failures : {A F : Type 0} → (F → ℕ) → Result A F → ℕ
-failures count (Ok _) = 0
-failures count (Err fault) = count fault
 
 -- none failed, unless this is why there is no picture
 abbrev pub failures_of : (RunFault → ℕ) → NoPicture → ℕ

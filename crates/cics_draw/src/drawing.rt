@@ -1,29 +1,42 @@
 //! The lines of a script, run and drawn.
 
-ghost use Rattle.std.specs.Prelude.{◌≡◌, ◌++◌, ◌<◌, ◌+◌, ◌^◌, [], List, ℕ, IfOk};
+ghost use Rattle.std.specs.Prelude.{◌≡◌, ◌↔◌, ◌++◌, ◌<◌, ◌+◌, ◌^◌, [], List, ℕ, IfOk};
 ghost use Rattle.std.specs.Prelude.{IfErr, OnOk, length};
-ghost use Rattle.std.specs.List.{fold};
 ghost use Rattle.cics_run.specs.Standing.{IsNew, next_step};
 ghost use Rattle.cics_run.specs.Lines.{all_lines};
 ghost use Rattle.cics_run.specs.Running.{is_faulty, play};
 ghost use Rattle.cics_picture.specs.Lanes.{most_rows};
-ghost use Rattle.cics_picture.specs.Drawings.{drawn_of, nothing_drawn, with_row, rows_of};
+ghost use Rattle.cics_picture.specs.Drawings.{drawn_of, nothing_drawn, with_line, rows_of};
 ghost use Rattle.cics_picture.specs.Drawings.{all_rows, events_of};
 ghost use Rattle.cics_picture.specs.declared.drawing.Undrawn.TheVariants.{TooManyRows};
 ghost use Rattle.cics_draw.specs.Pictures.{next_printed, printed_lines, drawing_of, picture_of};
-ghost use Rattle.cics_draw.specs.Pictures.{RunsLine, KeepsLast};
+ghost use Rattle.cics_draw.specs.Pictures.{RunsLine, KeepsLast, looks_of, outcomes_of};
+ghost use Rattle.cics_history.specs.Headline.{outcome_of};
+ghost use Rattle.cics_history.specs.declared.ops.UnitState.TheVariants.{Committed, BackedOut};
+ghost use Rattle.cics_picture.specs.Bars.{bar_text, filled, hollow};
+ghost use Rattle.cics_picture.specs.declared.bars.Bar.{Bar};
 
-use crate::lines::next_line;
+use crate::standings::{looks_at, standings_at};
 use crate::titles::title_of;
 use cics_names::NoMemory;
 use cics_picture::{Drawing, Undrawn, push_sheet};
 use cics_run::{Session, keep_undefined};
+use cics_whole::next_line;
 
 /// The rows of a picture show what the run prints, in order: their events, each with its LF, are
 /// the journal.
 pub fn rows_are_the_journal()
     ensures { (script : List ℕ)
         → events_of (all_rows (printed_lines script)) ≡ (play (all_lines script)).journal }
+{}
+
+/// In the picture of a script the bar of a unit is filled exactly if the unit's outcome is
+/// Committed, and hollow exactly if it is BackedOut.
+pub fn bars_tell_outcomes()
+    ensures filled { (script : List ℕ) (b : Bar) → (bar_text (looks_of script) b ≡ filled b)
+        ↔ (outcome_of (outcomes_of script) b.unit ≡ Committed) }
+    ensures hollow { (script : List ℕ) (b : Bar) → (bar_text (looks_of script) b ≡ hollow b)
+        ↔ (outcome_of (outcomes_of script) b.unit ≡ BackedOut) }
 {}
 
 // Runs a line and tells whether it is a fault. What it prints is pending then, and a line with a
@@ -53,7 +66,7 @@ fn draw_line(session: &mut Session, drawing: &mut Drawing, line: &[u8]) -> Resul
     requires none { session.old.line.items ≡ [] }
     ensures runs { RunsLine session.old line.now session.new result }
     ensures drawn { OnOk result (drawn_of drawing.new
-        ≡ fold with_row (drawn_of drawing.old) (rows_of (next_printed session.old line.now))) }
+        ≡ with_line (drawn_of drawing.old) (next_printed session.old line.now)) }
     ensures too_many { IfErr result (λ e. e ≡ TooManyRows
         → most_rows < drawing.old.rows + length (rows_of (next_printed session.old line.now))) }
 {
@@ -61,7 +74,12 @@ fn draw_line(session: &mut Session, drawing: &mut Drawing, line: &[u8]) -> Resul
         Ok(is_fault) => is_fault,
         Err(_) => return Err(Undrawn::NoMemory),
     };
-    match drawing.push_line(session.number, line, &session.pending) {
+    let alloc = *session.pending.allocator();
+    let standings = match standings_at(alloc, &session.stage) {
+        Ok(standings) => standings,
+        Err(_) => return Err(Undrawn::NoMemory),
+    };
+    match drawing.push_line(session.number, line, &session.pending, standings.as_slice()) {
         Ok(()) => {}
         Err(undrawn) => return Err(undrawn),
     }
@@ -76,6 +94,7 @@ fn draw_lines(session: &mut Session, drawing: &mut Drawing, script: &[u8]) -> Re
     ensures drawn { OnOk result (drawn_of drawing.new ≡ drawing_of script.now) }
     ensures fault { IfOk result (λ fault. is_faulty script.now ≡ fault) }
     ensures kept { IfOk result (KeepsLast script.now session.new) }
+    ensures stage { OnOk result (session.new.stage ≡ (play (all_lines script.now)).stage) }
     ensures too_many { IfErr result (λ e. e ≡ TooManyRows
         → most_rows < (drawing_of script.now).rows) }
 {
@@ -109,7 +128,11 @@ pub fn draw_script(session: &mut Session, script: &[u8], out: &mut Vec<u8>) -> R
         Ok(is_faulty) => is_faulty,
         Err(undrawn) => return Err(undrawn),
     };
-    match push_sheet(out, &drawing, title_of(script)) {
+    let looks = match looks_at(*out.allocator(), &session.stage) {
+        Ok(looks) => looks,
+        Err(_) => return Err(Undrawn::NoMemory),
+    };
+    match push_sheet(out, &mut drawing, looks.as_slice(), title_of(script)) {
         Ok(()) => Ok(is_faulty),
         Err(_) => Err(Undrawn::NoMemory),
     }

@@ -6,9 +6,10 @@
 #![tactic(auto)]
 
 mod drawing;
-mod lines;
 mod picture;
+mod standings;
 mod titles;
 
-pub use drawing::{draw_script, rows_are_the_journal};
+pub use drawing::{bars_tell_outcomes, draw_script, rows_are_the_journal};
 pub use picture::{NoPicture, run_picture};
+pub use standings::deadlocks_are_marked;

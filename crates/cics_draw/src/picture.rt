@@ -1,18 +1,16 @@
 //! A script that is read and its picture that is written.
 
-ghost use Rattle.std.specs.Prelude.{◌≡◌, OnOk, OnErr, [], ◌++◌};
-ghost use Rattle.std.specs.Io.KnownBytes.{Appends};
-ghost use Rattle.cics_run.specs.Printing.{AppendsFront};
+ghost use Rattle.std.specs.Prelude.{◌≡◌};
 ghost use Rattle.cics_run.specs.Running.{most_reads};
 ghost use Rattle.cics_run.specs.Standing.{IsNew};
-ghost use Rattle.cics_run.specs.Streams.{Rises, RisesAtMost};
-ghost use Rattle.cics_draw.specs.Pictures.{Pictures, Reads, KeepsFault, undrawn, run_status};
-ghost use Rattle.cics_draw.specs.Pictures.{failures, failures_of, read_failures, write_failures};
+ghost use Rattle.cics_run.specs.Streams.{Rises, RisesAtMost, failures};
+ghost use Rattle.cics_whole.specs.Reads.{read_failures, write_failures};
+ghost use Rattle.cics_draw.specs.Pictures.{Pictures, KeepsFault, failures_of, undrawn, run_status};
 
 use crate::drawing::draw_script;
-use cics_names::NoMemory;
 use cics_picture::Undrawn;
-use cics_run::{CHUNK, Failed, LIMIT, RunFault, Session, Sink, Source, Status};
+use cics_run::{RunFault, Session, Sink, Source, Status, write_all};
+use cics_whole::read_script;
 use thiserror::Error;
 
 /// Why a script has no picture.
@@ -24,39 +22,6 @@ pub enum NoPicture {
     /// The run has more events than a picture may have: nothing was written.
     #[error("a picture has at most 100000 events")]
     TooManyEvents,
-}
-
-// Puts the bytes that a source gives at the end of a text.
-fn push_chunk(script: &mut Vec<u8>, chunk: &[u8]) -> Result<(), NoMemory>
-    ensures { OnOk result (script.new.items ≡ script.old.items ++ chunk.now) }
-{
-    script.extend_from_slice(chunk)?;
-    Ok(())
-}
-
-// Reads a script to its end.
-fn read_script<S: Source>(source: &mut S, script: &mut Vec<u8>) -> Result<(), RunFault>
-    requires { script.old.items ≡ [] }
-    ensures reads { Reads (S.remaining source.old) (S.remaining source.new) script.new.items
-        result }
-    ensures failed { Rises (S.failed source.old) (S.failed source.new)
-        (failures read_failures result) }
-    ensures asked { RisesAtMost (S.asked source.old) (S.asked source.new) most_reads }
-{
-    let mut buffer = [0u8; CHUNK];
-    let mut room = LIMIT;
-    'reads: loop {
-        let size = room.min(CHUNK).max(1);
-        match source.read(&mut buffer[..size]) {
-            Ok(0) => return Ok(()),
-            Ok(_) if room == 0 => return Err(RunFault::InputTooLong),
-            Ok(n) => match push_chunk(script, &buffer[..n]) {
-                Ok(()) => room -= n,
-                Err(_) => return Err(RunFault::NoMemory),
-            },
-            Err(_) => return Err(RunFault::ReadFault),
-        }
-    }
 }
 
 fn undrawn(error: Undrawn) -> NoPicture
@@ -76,25 +41,6 @@ fn run_status(is_faulty: bool) -> Status
     } else {
         Status::Done
     }
-}
-
-// Writes all the bytes. A write of no byte is a fault, and nothing is tried again.
-fn write_all<K: Sink>(sink: &mut K, bytes: &[u8]) -> Result<(), Failed>
-    ensures failed { Rises (K.failed sink.old) (K.failed sink.new)
-        (failures (λ _. 1) result) }
-    ensures ok { OnOk result (Appends (K.contents sink.old) (K.contents sink.new) bytes.now) }
-    ensures err { OnErr result
-        (AppendsFront (K.contents sink.old) (K.contents sink.new) bytes.now) }
-{
-    let mut at = 0;
-    while at < bytes.len() {
-        match sink.write(&bytes[at..]) {
-            Ok(0) => return Err(Failed),
-            Ok(n) => at += n,
-            Err(_) => return Err(Failed),
-        }
-    }
-    Ok(())
 }
 
 /// Runs the script that a source gives, and writes its picture, when all is read and run.

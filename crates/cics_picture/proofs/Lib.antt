@@ -1,4 +1,6 @@
 pub mod Chains
 pub mod Markup
 pub mod WellFormed
+pub mod Counted
 pub mod Waits
+pub mod Kept

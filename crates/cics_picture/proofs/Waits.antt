@@ -12,6 +12,7 @@ use Rattle.cics_picture.specs.Lanes.{lane_of, lane_x, row_y, with_task, tasks_be
 use Rattle.cics_picture.specs.Elements.{mark, arrow}
 use Rattle.cics_picture.specs.Drawings.{Drawn, nothing_drawn, Row, with_row, row_number, row_marks, marks_of, lane_marks, beside, arrow_to}
 use Rattle.cics_picture.specs.Arrows.{attached, rows_drawn, awaited, TellsWait, DrawsArrow}
+use Rattle.cics_picture.proofs.Counted.{rows-counted}
 
 -- a task is attached where there is room
 one-task : (tasks : List (List ℕ)) (label : List ℕ) (k : Kind) → length tasks + length (with_task [] label k) ≤ 16 → with_task tasks label k ≡ tasks ++ with_task [] label k
@@ -38,11 +39,6 @@ tasks-drawn (r ∷ rows) d few =
     let count : length (d.tasks ++ one) ≡ length d.tasks + length one = length-append d.tasks one in
     let more : length (tasks_behind d.tasks r.event) + length (attached rows) ≤ 16 = omega (arith, few, both, count, ap length first) in
     tasks-drawn rows (with_row d r) more ∙ ap (λ t. t ++ attached rows) first ∙ append_assoc d.tasks one (attached rows)
-
--- each row is counted
-rows-counted : (rows : List Row) (d : Drawn) → (fold with_row d rows).rows ≡ d.rows + length rows
-rows-counted [] d = omega arith
-rows-counted (r ∷ rows) d = omega (arith, rows-counted rows (with_row d r))
 
 -- the marks of a wait between two lanes
 wait-marks : (tasks : List (List ℕ)) (y : ℕ) (event : List ℕ) (from to : ℕ) → kind_of event ≡ kind.Waiting

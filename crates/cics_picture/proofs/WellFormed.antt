@@ -1,6 +1,7 @@
 -- Every picture is the text of a document.
-use Rattle.std.proofs.Common.{◌≡◌, ℕ, zero, suc, Bool, true, false, cond, ◌==◌, ◌+◌, ◌*◌, ◌/◌, List, [], ◌∷◌, ◌++◌, ap, sym, ◌∙◌, append_assoc, length, map, Option, Some, None}
-use Rattle.std.specs.List.{fold}
+use Rattle.std.proofs.Common.{◌≡◌, ℕ, zero, suc, Bool, true, false, cond, ◌==◌, ◌+◌, ◌-◌, ◌*◌, ◌/◌, List, [], ◌∷◌, ◌++◌, ap, sym, ◌∙◌, append_assoc, length, map, Option, Some, None}
+use Rattle.std.specs.List.{fold, flat_map}
+use Rattle.cics_picture.specs.declared.bars.Look.{Look}
 use Rattle.cics_markup.specs.declared.names.Tag.{Tag}
 use Rattle.cics_markup.specs.declared.names.Tag.TheVariants as tag
 use Rattle.cics_markup.specs.declared.names.Key.TheVariants as key
@@ -12,9 +13,12 @@ use Rattle.cics_picture.specs.declared.events.Kind.{Kind}
 use Rattle.cics_picture.specs.declared.events.Kind.TheVariants as kind
 use Rattle.cics_picture.specs.Events.{first_word, behind_word, kind_of, class_of, shape_of}
 use Rattle.cics_picture.specs.Lanes.{lane_of, tasks_behind, lane_x, row_y}
-use Rattle.cics_picture.specs.Elements.{class, words, number_words, shape, stroke, field, spoken, namespace, picture_start, moved_start, tip, head, cut}
-use Rattle.cics_picture.specs.Drawings.{Drawn, nothing_drawn, arrow_to, beside, lane_marks, marks_of, row_number, row_texts, Row, with_row, Printed, all_rows, drawn}
-use Rattle.cics_picture.specs.Sheets.{style_text, bands, lane_lines, headings, legend_item, answers_legend, ways_legend, region_legend, heading, ground, moved_texts, sheet, width_of, height_of}
+use Rattle.cics_picture.specs.declared.bars.Standing.{Standing}
+use Rattle.cics_picture.specs.declared.bars.Bar.{Bar}
+use Rattle.cics_picture.specs.Bars.{nobodies, lane_at, is_caught, look_of, look_class, bar_text}
+use Rattle.cics_picture.specs.Elements.{bar_shape, ring_shape, class, words, number_words, shape, stroke, field, spoken, namespace, picture_start, moved_start, tip, head, cut}
+use Rattle.cics_picture.specs.Drawings.{Drawn, nothing_drawn, arrow_to, beside, lane_marks, marks_of, row_number, row_texts, Row, with_row, rows_of, Printed, drawn, ring_if, turned, turned_from, any_caught, word_if, with_text, with_end, with_line, finished}
+use Rattle.cics_picture.specs.Sheets.{style_text, bands, lane_lines, headings, legend_item, answers_legend, ways_legend, region_legend, bar_item, ring_item, units_legend, heading, ground, bars_text, moved_texts, whole_sheet, sheet, width_of, height_of}
 use Rattle.cics_picture.specs.declared.style.TheConstants.{STYLE}
 use Rattle.cics_picture.proofs.Markup.{IsMarkup, nothing, itself, behind, within}
 use lib.Chars.{codes}
@@ -35,9 +39,9 @@ stroke-there : (name : List ℕ) (x1 y1 x2 y2 : ℕ) → IsMarkup (stroke name x
 unfolding stroke
 stroke-there name x1 y1 x2 y2 = itself (element tag.Line (class name ∷ number_of key.X1 x1 ∷ number_of key.Y1 y1 ∷ number_of key.X2 x2 ∷ number_of key.Y2 y2 ∷ []) Empty)
 
-field-there : (name : List ℕ) (y width height : ℕ) → IsMarkup (field name y width height)
+field-there : (name : List ℕ) (x y width height : ℕ) → IsMarkup (field name x y width height)
 unfolding field
-field-there name y width height = itself (element tag.Rect (class name ∷ number_of key.Y y ∷ number_of key.Width width ∷ number_of key.Height height ∷ []) Empty)
+field-there name x y width height = itself (element tag.Rect (class name ∷ number_of key.X x ∷ number_of key.Y y ∷ number_of key.Width width ∷ number_of key.Height height ∷ []) Empty)
 
 alone : (name : Tag) (bytes : List ℕ) → IsMarkup (spoken name bytes)
 unfolding spoken
@@ -53,7 +57,7 @@ arrow-to lane y (Some holder) =
     behind _ _ (stroke-there (codes "aw") (lane_x lane) y (tip lane holder) y) (shape-there (codes "fw") (head lane holder) (tip lane holder) y)
 
 at-side : (tasks : List (List ℕ)) (lane y : ℕ) (event : List ℕ) (k : Kind) → IsMarkup (beside tasks lane y event k)
-at-side tasks lane y event kind.Attached = at-place (codes "b m") (lane_x lane) 76 (first_word event)
+at-side tasks lane y event kind.Attached = at-place (codes "b m") (lane_x lane) 98 (first_word event)
 at-side tasks lane y event kind.Waiting = arrow-to lane y (lane_of tasks (behind_word (behind_word event)))
 at-side tasks lane y event kind.Normal = nothing
 at-side tasks lane y event kind.Woken = nothing
@@ -101,15 +105,33 @@ rows-drawn : (rows : List Row) (d : Drawn) → IsDrawn d → IsDrawn (fold with_
 rows-drawn [] d p = p
 rows-drawn (r ∷ rows) d p = rows-drawn rows (with_row d r) (row-drawn d r p)
 
+ring : (caught : Bool) (lane y : ℕ) → IsMarkup (ring_if caught lane y)
+ring caught lane y = either caught _ _ (shape-there (codes "dl") ring_shape (lane_x lane) y) nothing
+
+turns-drawn : (standings : List Standing) (first lane : ℕ) (d : Drawn) → IsDrawn d → IsDrawn (turned_from first lane standings d)
+turns-drawn [] first lane d p = p
+turns-drawn (s ∷ standings) first lane d p =
+    turns-drawn standings first (lane + 1) (turned first lane s d) (behind _ _ p.0 (ring (is_caught (lane_at d.lanes lane) s) lane (row_y (d.rows - 1))), p.1)
+
+end-drawn : (first : ℕ) (standings : List Standing) (d : Drawn) → IsDrawn d → IsDrawn (with_end first standings d)
+end-drawn first standings d p =
+    let caught = any_caught d.lanes 0 standings in
+    let y = row_y (d.rows - 1) + 4 in
+    turns-drawn standings first 0 (with_text d (word_if caught y)) (p.0, behind _ _ p.1 (either caught _ _ (at-place (codes "ma e") 1264 y _) nothing))
+
+lines-drawn : (lines : List Printed) (d : Drawn) → IsDrawn d → IsDrawn (fold with_line d lines)
+lines-drawn [] d p = p
+lines-drawn (l ∷ lines) d p = lines-drawn lines (with_line d l) (end-drawn (row_y d.rows) l.standings (fold with_row d (rows_of l)) (rows-drawn (rows_of l) d p))
+
 lanes : (height n : ℕ) → IsMarkup (lane_lines height n)
 unfolding lane_lines
 lanes height zero = nothing
-lanes height (suc n) = behind _ _ (lanes height n) (stroke-there (codes "life") (lane_x n) 84 (lane_x n) height)
+lanes height (suc n) = behind _ _ (lanes height n) (stroke-there (codes "life") (lane_x n) 106 (lane_x n) height)
 
 shades : (width n : ℕ) → IsMarkup (bands width n)
 unfolding bands
 shades width zero = nothing
-shades width (suc n) = behind _ _ (shades width n) (field-there (codes "band") (87 + 44 * n) width 22)
+shades width (suc n) = behind _ _ (shades width n) (field-there (codes "band") 0 (109 + 44 * n) width 22)
 
 style : IsMarkup style_text
 unfolding style_text
@@ -117,7 +139,7 @@ style = alone tag.Style STYLE.now
 
 columns : IsMarkup headings
 unfolding headings
-columns = behind _ _ (at-place (codes "d s") 78 76 _) (at-place (codes "d s") 744 76 _)
+columns = behind _ _ (at-place (codes "d s") 78 98 _) (at-place (codes "d s") 744 98 _)
 
 meaning : (x : ℕ) (k : Kind) (text : List ℕ) → IsMarkup (legend_item x k text)
 unfolding legend_item
@@ -135,13 +157,25 @@ region : IsMarkup region_legend
 unfolding region_legend
 region = behind _ _ (meaning 854 kind.Clock _) (meaning 934 kind.Down _)
 
+bar-meaning : (x : ℕ) (name text : List ℕ) → IsMarkup (bar_item x name text)
+unfolding bar_item
+bar-meaning x name text = behind _ _ (shape-there name bar_shape x 74) (at-place (codes "d s") (x + 16) 78 text)
+
+ring-meaning : IsMarkup ring_item
+unfolding ring_item
+ring-meaning = behind _ _ (shape-there (codes "dl") ring_shape 484 74) (at-place (codes "d s") 500 78 _)
+
+units : IsMarkup units_legend
+unfolding units_legend
+units = behind _ _ (bar-meaning 24 _ _) (behind _ _ (bar-meaning 224 _ _) (behind _ _ (bar-meaning 344 _ _) ring-meaning))
+
 head-there : (title : List ℕ) → IsMarkup (heading title)
 unfolding heading
-head-there title = behind _ _ (at-place (codes "h1") 16 30 (cut 96 title)) (behind _ _ answers (behind _ _ ways region))
+head-there title = behind _ _ (at-place (codes "h1") 16 30 (cut 96 title)) (behind _ _ answers (behind _ _ ways (behind _ _ region units)))
 
 under : (d : Drawn) (title : List ℕ) → IsMarkup (ground d title)
 under d title =
-    behind _ _ (alone tag.Title title) (behind _ _ style (behind _ _ (field-there (codes "paper") 0 (width_of d) (height_of d))
+    behind _ _ (alone tag.Title title) (behind _ _ style (behind _ _ (field-there (codes "paper") 0 0 (width_of d) (height_of d))
     (behind _ _ (shades (width_of d) ((d.rows + 1) / 2)) (behind _ _ (head-there title) (lanes (height_of d) (length d.tasks))))))
 
 moved : (d : Drawn) → IsMarkup d.texts → IsMarkup (moved_texts d)
@@ -150,16 +184,23 @@ moved d p =
     let q = within tag.G (moved_to (60 * length d.tasks) 0 ∷ []) (headings ++ d.texts) (behind _ _ columns p) in
     (q.0, ap (λ t. moved_start (60 * length d.tasks) ++ t) (sym (append_assoc headings d.texts (end_text tag.G))) ∙ q.1)
 
-whole : (d : Drawn) (title : List ℕ) → IsDrawn d → IsMarkup (sheet d title)
+all-bars : (looks : List Look) (bars : List Bar) → IsMarkup (flat_map (bar_text looks) bars)
+all-bars looks [] = nothing
+all-bars looks (b ∷ bars) = behind _ _ (field-there (look_class (look_of looks b.unit)) b.x b.y 14 b.height) (all-bars looks bars)
+
+whole : (d : Drawn) (looks : List Look) (title : List ℕ) → IsDrawn d → IsMarkup (whole_sheet d looks title)
 unfolding picture_start
-whole d title p =
-    let inside = behind _ _ (under d title) (behind _ _ p.0 (moved d p.1)) in
+whole d looks title p =
+    let bars = bars_text looks d in
+    let inside = behind _ _ (under d title) (behind _ _ (all-bars looks d.bars) (behind _ _ p.0 (moved d p.1))) in
     let q = within tag.Svg (namespace ∷ number_of key.Width (width_of d) ∷ number_of key.Height (height_of d) ∷ [])
-    (ground d title ++ (d.marks ++ moved_texts d)) inside in
-    let tail = append_assoc (ground d title) (d.marks ++ moved_texts d) (end_text tag.Svg) ∙ ap (λ t. ground d title ++ t) (append_assoc d.marks (moved_texts d) (end_text tag.Svg)) in
+    (ground d title ++ (bars ++ (d.marks ++ moved_texts d))) inside in
+    let tail = append_assoc (ground d title) (bars ++ (d.marks ++ moved_texts d)) (end_text tag.Svg)
+    ∙ ap (λ t. ground d title ++ t) (append_assoc bars (d.marks ++ moved_texts d) (end_text tag.Svg) ∙ ap (λ t. bars ++ t) (append_assoc d.marks (moved_texts d) (end_text tag.Svg))) in
     (q.0, ap (λ t. picture_start (width_of d) (height_of d) ++ t) (sym tail) ∙ q.1)
 
-pub sheet_read : (lines : List Printed) (title : List ℕ) → (d : Document) × (document_of (sheet (drawn lines) title) ≡ Some d)
-sheet_read lines title =
-    let p = whole (drawn lines) title (rows-drawn (all_rows lines) nothing_drawn (nothing, nothing)) in
+pub sheet_read : (lines : List Printed) (looks : List Look) (title : List ℕ) → (d : Document) × (document_of (sheet (drawn lines) looks title) ≡ Some d)
+sheet_read lines looks title =
+    let d = drawn lines in
+    let p = whole (finished d) looks title (end-drawn (row_y d.rows) nobodies d (lines-drawn lines nothing_drawn (nothing, nothing))) in
     (p.0, ap document_of p.1 ∙ read_back p.0)

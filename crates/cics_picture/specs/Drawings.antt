@@ -1,28 +1,35 @@
 -- What the rows of a picture draw: one row for each event, in order.
-use Rattle.std.specs.Prelude.{ℕ, ◌==◌, ◌+◌, ◌*◌, if◌then◌else◌, List, [], ◌∷◌, ◌++◌, length, Option, Some, None}
+use Rattle.std.specs.Prelude.{ℕ, ◌==◌, ◌+◌, ◌-◌, ◌*◌, max, Bool, true, false, if◌then◌else◌, List, [], ◌∷◌, ◌++◌, length, slice_set, Option, Some, None}
 use Rattle.std.specs.List.{fold, flat_map}
 use Rattle.cics_picture.specs.declared.events.Kind.{Kind}
 use Rattle.cics_picture.specs.declared.events.Kind.TheVariants.{Attached, Waiting, Clock, Down}
 use Rattle.cics_picture.specs.declared.drawing.Drawing.{Drawing}
+use Rattle.cics_picture.specs.declared.bars.Standing.{Standing}
+use Rattle.cics_picture.specs.declared.bars.Lane.{Lane}
+use Rattle.cics_picture.specs.declared.bars.Bar.{Bar}
 use Rattle.cics_picture.specs.Events.{first_word, behind_word, kind_of, class_of}
 use Rattle.cics_picture.specs.Lanes.{lane_of, tasks_behind, lane_x, row_y}
-use Rattle.cics_picture.specs.Elements.{words, number_words, mark, stroke, arrow, cut}
+use Rattle.cics_picture.specs.Elements.{words, number_words, shape, ring_shape, mark, stroke, arrow, cut}
+use Rattle.cics_picture.specs.Bars.{new_lanes, nobodies, lane_at, lanes_behind, gone, lane_behind, ended, is_caught}
 use lib.Chars.{codes}
 
--- the number of rows, the tasks that have lanes, and the texts of what stands in the lanes and to the right of them
+-- the number of rows, the tasks that have lanes, the texts of what stands in the lanes and to the right of them, the lanes, and
+-- the bars of units that have ended
 pub record Drawn : Type 0 where
   pub rows : ℕ
   pub tasks : List (List ℕ)
   pub marks : List ℕ
   pub texts : List ℕ
+  pub lanes : List Lane
+  pub bars : List Bar
 
 -- what a drawing has drawn
 abbrev pub drawn_of : Drawing → Drawn
-drawn_of d = record { rows = d.rows; tasks = d.tasks; marks = d.marks.items; texts = d.texts.items }
+drawn_of d = record { rows = d.rows; tasks = d.tasks; marks = d.marks.items; texts = d.texts.items; lanes = d.lanes; bars = d.bars }
 
 -- before the first row
 abbrev pub nothing_drawn : Drawn
-nothing_drawn = record { rows = 0; tasks = []; marks = []; texts = [] }
+nothing_drawn = record { rows = 0; tasks = []; marks = []; texts = []; lanes = new_lanes; bars = [] }
 
 -- an arrow to the task that is waited for, if it has a lane
 abbrev pub arrow_to : ℕ → Option ℕ → ℕ → List ℕ
@@ -31,7 +38,7 @@ arrow_to lane (Some holder) y = arrow lane holder y
 
 -- beside its mark an attached task has a heading, and a wait an arrow
 abbrev pub beside : List (List ℕ) → ℕ → ℕ → List ℕ → Kind → List ℕ
-beside tasks lane y event Attached = words (codes "b m") (lane_x lane) 76 (first_word event)
+beside tasks lane y event Attached = words (codes "b m") (lane_x lane) 98 (first_word event)
 beside tasks lane y event Waiting = arrow_to lane (lane_of tasks (behind_word (behind_word event))) y
 beside tasks lane y event kind = []
 
@@ -76,6 +83,8 @@ with_row d r =
       tasks = tasks_behind d.tasks r.event;
       marks = d.marks ++ (row_number (row_y d.rows + 4) r.number ++ row_marks (tasks_behind d.tasks r.event) (row_y d.rows) r.event);
       texts = d.texts ++ row_texts (row_y d.rows + 4) r.line r.event;
+      lanes = lanes_behind d.lanes (row_y d.rows) (lane_of (tasks_behind d.tasks r.event) (first_word r.event));
+      bars = d.bars;
     }
 
 -- a row of these
@@ -87,11 +96,16 @@ abbrev pub rows_from : ℕ → List ℕ → List ℕ → List ℕ → List Row
 rows_from number line event [] = []
 rows_from number line event (c ∷ text) = if c == 10 then row number line event ∷ rows_from 0 [] [] text else rows_from number line (event ++ (c ∷ [])) text
 
--- a line of a script: its number, its text, and what it printed
+-- a line of a script: its number, its text, what it printed, and how the task of each lane stands behind it
 pub record Printed : Type 0 where
   pub number : ℕ
   pub line : List ℕ
   pub text : List ℕ
+  pub standings : List Standing
+
+-- a line of these
+abbrev pub printed : ℕ → List ℕ → List ℕ → List Standing → Printed
+printed number line text standings = record { number = number; line = line; text = text; standings = standings }
 
 -- the rows of a line
 abbrev pub rows_of : Printed → List Row
@@ -101,9 +115,58 @@ rows_of p = rows_from p.number p.line [] p.text
 abbrev pub all_rows : List Printed → List Row
 all_rows lines = flat_map rows_of lines
 
+-- a ring round the lane of a task that is caught in a deadlock
+abbrev pub ring_if : Bool → ℕ → ℕ → List ℕ
+ring_if caught lane y = if caught then shape (codes "dl") ring_shape (lane_x lane) y else []
+
+-- A lane turns to how its task stands behind a line whose first row has this height: the bar of a unit that its task has no more
+-- is done, and the ring stands in the line's last row.
+abbrev pub turned : ℕ → ℕ → Standing → Drawn → Drawn
+turned first lane s d =
+    let l = lane_at d.lanes lane in
+    let y = max l.last first in
+    record {
+      rows = d.rows;
+      tasks = d.tasks;
+      marks = d.marks ++ ring_if (is_caught l s) lane (row_y (d.rows - 1));
+      texts = d.texts;
+      lanes = slice_set d.lanes lane (lane_behind l y s);
+      bars = d.bars ++ ended lane l.top y (gone l.standing.unit s.unit);
+    }
+
+-- the lanes from one on turn
+abbrev pub turned_from : ℕ → ℕ → List Standing → Drawn → Drawn
+turned_from first lane [] d = d
+turned_from first lane (s ∷ standings) d = turned_from first (lane + 1) standings (turned first lane s d)
+
+-- whether a task is caught in a deadlock, from a lane on
+abbrev pub any_caught : List Lane → ℕ → List Standing → Bool
+any_caught lanes lane [] = false
+any_caught lanes lane (s ∷ standings) = if is_caught (lane_at lanes lane) s then true else any_caught lanes (lane + 1) standings
+
+-- the word at the row that closes a deadlock
+abbrev pub word_if : Bool → ℕ → List ℕ
+word_if caught y = if caught then words (codes "ma e") 1264 y (codes "deadlock") else []
+
+-- what is drawn with this text behind the texts
+abbrev pub with_text : Drawn → List ℕ → Drawn
+with_text d text = record { rows = d.rows; tasks = d.tasks; marks = d.marks; texts = d.texts ++ text; lanes = d.lanes; bars = d.bars }
+
+-- a line ends whose first row has this height
+abbrev pub with_end : ℕ → List Standing → Drawn → Drawn
+with_end first standings d = turned_from first 0 standings (with_text d (word_if (any_caught d.lanes 0 standings) (row_y (d.rows - 1) + 4)))
+
+-- one line more
+abbrev pub with_line : Drawn → Printed → Drawn
+with_line d p = with_end (row_y d.rows) p.standings (fold with_row d (rows_of p))
+
 -- what is drawn of some lines
 abbrev pub drawn : List Printed → Drawn
-drawn lines = fold with_row nothing_drawn (all_rows lines)
+drawn lines = fold with_line nothing_drawn lines
+
+-- the run is over: the bars of the units that are open end below the last row
+abbrev pub finished : Drawn → Drawn
+finished d = with_end (row_y d.rows) nobodies d
 
 -- the events of rows, each with its LF
 abbrev pub events_of : List Row → List ℕ

@@ -36,10 +36,10 @@ unfoldable pub stroke : List ℕ → ℕ → ℕ → ℕ → ℕ → List ℕ
 stroke name x1 y1 x2 y2 =
     document_text (element tag.Line (class name ∷ number_of key.X1 x1 ∷ number_of key.Y1 y1 ∷ number_of key.X2 x2 ∷ number_of key.Y2 y2 ∷ []) Empty)
 
--- a rectangle from the left edge on
-unfoldable pub field : List ℕ → ℕ → ℕ → ℕ → List ℕ
-field name y width height =
-    document_text (element tag.Rect (class name ∷ number_of key.Y y ∷ number_of key.Width width ∷ number_of key.Height height ∷ []) Empty)
+-- a rectangle at a place
+unfoldable pub field : List ℕ → ℕ → ℕ → ℕ → ℕ → List ℕ
+field name x y width height =
+    document_text (element tag.Rect (class name ∷ number_of key.X x ∷ number_of key.Y y ∷ number_of key.Width width ∷ number_of key.Height height ∷ []) Empty)
 
 -- an element that has a text alone
 unfoldable pub spoken : Tag → List ℕ → List ℕ
@@ -69,6 +69,13 @@ tip from to = if nat_lt from to then lane_x to - 10 else lane_x to + 10
 -- the head of an arrow to the right, or to the left
 abbrev pub head : ℕ → ℕ → List ℕ
 head from to = if nat_lt from to then codes "M0 0l-8 -4v8z" else codes "M0 0l8 -4v8z"
+
+-- the mark of a unit's bar in the legend, and the ring of a deadlock
+abbrev pub bar_shape : List ℕ
+bar_shape = codes "M-7 -7h14v14h-14z"
+
+abbrev pub ring_shape : List ℕ
+ring_shape = codes "M-10 0a10 10 0 1 0 20 0a10 10 0 1 0 -20 0z"
 
 -- the arrow of a wait, from a lane to another
 abbrev pub arrow : ℕ → ℕ → ℕ → List ℕ

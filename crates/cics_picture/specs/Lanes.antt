@@ -37,4 +37,4 @@ lane_x lane = 96 + 60 * lane
 
 -- the middle of a row
 abbrev pub row_y : ℕ → ℕ
-row_y row = 98 + 22 * row
+row_y row = 120 + 22 * row

@@ -1,12 +1,15 @@
 -- The whole picture of what was drawn.
 use Rattle.std.specs.Prelude.{ℕ, zero, suc, ◌+◌, ◌*◌, ◌/◌, List, [], ◌++◌, length}
+use Rattle.std.specs.List.{flat_map}
+use Rattle.cics_picture.specs.declared.bars.Look.{Look}
 use Rattle.cics_markup.specs.declared.names.Tag.TheVariants as tag
 use Rattle.cics_markup.specs.Documents.{end_text}
 use Rattle.cics_picture.specs.declared.events.Kind.{Kind}
 use Rattle.cics_picture.specs.declared.events.Kind.TheVariants as kind
 use Rattle.cics_picture.specs.Lanes.{lane_x, row_y}
-use Rattle.cics_picture.specs.Elements.{words, cut, mark, stroke, field, spoken, picture_start, moved_start}
-use Rattle.cics_picture.specs.Drawings.{Drawn}
+use Rattle.cics_picture.specs.Elements.{words, cut, mark, shape, bar_shape, ring_shape, stroke, field, spoken, picture_start, moved_start}
+use Rattle.cics_picture.specs.Bars.{bar_text}
+use Rattle.cics_picture.specs.Drawings.{Drawn, finished}
 use Rattle.cics_picture.specs.declared.style.TheConstants.{STYLE}
 use lib.Chars.{codes}
 
@@ -25,16 +28,16 @@ style_text = spoken tag.Style STYLE.now
 -- so many rows are shaded, every other one
 unfoldable pub bands : ℕ → ℕ → List ℕ
 bands width zero = []
-bands width (suc n) = bands width n ++ field (codes "band") (87 + 44 * n) width 22
+bands width (suc n) = bands width n ++ field (codes "band") 0 (109 + 44 * n) width 22
 
 -- the lines of so many lanes
 unfoldable pub lane_lines : ℕ → ℕ → List ℕ
 lane_lines height zero = []
-lane_lines height (suc lanes) = lane_lines height lanes ++ stroke (codes "life") (lane_x lanes) 84 (lane_x lanes) height
+lane_lines height (suc lanes) = lane_lines height lanes ++ stroke (codes "life") (lane_x lanes) 106 (lane_x lanes) height
 
 -- the headings of the columns of texts
 unfoldable pub headings : List ℕ
-headings = words (codes "d s") 78 76 (codes "script") ++ words (codes "d s") 744 76 (codes "journal")
+headings = words (codes "d s") 78 98 (codes "script") ++ words (codes "d s") 744 98 (codes "journal")
 
 -- what a mark means
 unfoldable pub legend_item : ℕ → Kind → List ℕ → List ℕ
@@ -60,16 +63,30 @@ ways_legend =
 unfoldable pub region_legend : List ℕ
 region_legend = legend_item 854 kind.Clock (codes "clock") ++ legend_item 934 kind.Down (codes "shutdown or fault")
 
+-- what a bar means
+unfoldable pub bar_item : ℕ → List ℕ → List ℕ → List ℕ
+bar_item x name text = shape name bar_shape x 74 ++ words (codes "d s") (x + 16) 78 text
+
+-- what a ring means
+unfoldable pub ring_item : List ℕ
+ring_item = shape (codes "dl") ring_shape 484 74 ++ words (codes "d s") 500 78 (codes "caught in a deadlock")
+
+-- what bars and rings mean
+unfoldable pub units_legend : List ℕ
+units_legend =
+    bar_item 24 (codes "uf") (codes "unit of work, committed")
+    ++ (bar_item 224 (codes "uh") (codes "backed out") ++ (bar_item 344 (codes "uo") (codes "open at the end") ++ ring_item))
+
 -- the title, and the legend below it
 unfoldable pub heading : List ℕ → List ℕ
-heading title = words (codes "h1") 16 30 (cut 96 title) ++ (answers_legend ++ (ways_legend ++ region_legend))
+heading title = words (codes "h1") 16 30 (cut 96 title) ++ (answers_legend ++ (ways_legend ++ (region_legend ++ units_legend)))
 
 -- what stands under the rows: title, style, paper, shades, heading, and the lines of the lanes
 abbrev pub ground : Drawn → List ℕ → List ℕ
 ground d title =
     spoken tag.Title title
     ++ (style_text
-    ++ (field (codes "paper") 0 (width_of d) (height_of d)
+    ++ (field (codes "paper") 0 0 (width_of d) (height_of d)
     ++ (bands (width_of d) ((d.rows + 1) / 2)
     ++ (heading title
     ++ lane_lines (height_of d) (length d.tasks)))))
@@ -78,6 +95,15 @@ ground d title =
 abbrev pub moved_texts : Drawn → List ℕ
 moved_texts d = moved_start (60 * length d.tasks) ++ (headings ++ (d.texts ++ end_text tag.G))
 
--- the picture
-abbrev pub sheet : Drawn → List ℕ → List ℕ
-sheet d title = picture_start (width_of d) (height_of d) ++ (ground d title ++ (d.marks ++ (moved_texts d ++ end_text tag.Svg)))
+-- the bars of units
+abbrev pub bars_text : List Look → Drawn → List ℕ
+bars_text looks d = flat_map (bar_text looks) d.bars
+
+-- the picture of what is finished
+abbrev pub whole_sheet : Drawn → List Look → List ℕ → List ℕ
+whole_sheet d looks title =
+    picture_start (width_of d) (height_of d) ++ (ground d title ++ (bars_text looks d ++ (d.marks ++ (moved_texts d ++ end_text tag.Svg))))
+
+-- the picture of a run whose units' bars look so
+abbrev pub sheet : Drawn → List Look → List ℕ → List ℕ
+sheet d looks title = whole_sheet (finished d) looks title

@@ -3,19 +3,24 @@
 ghost use Rattle.std.specs.Prelude.{◌≤◌, length};
 ghost use Rattle.cics_picture.specs.Lanes.{most_lanes, most_rows};
 
+use crate::bars::{Bar, Lane};
+use crate::lanes::MOST_LANES;
 use cics_names::{Items, Record};
 
 /// How many rows a picture has at most.
 pub const LIMIT: u64 = 100_000;
 
 /// The rows so far: how many there are, the tasks that have lanes, the text of what stands in the
-/// lanes and to the left of them, and the text of what stands to the right.
+/// lanes and to the left of them, and the text of what stands to the right. Beside them the lanes,
+/// and the bars of units that have ended.
 #[derive(Drop)]
 pub struct Drawing {
     pub rows: u64,
     pub tasks: Items<Record>,
     pub marks: Vec<u8>,
     pub texts: Vec<u8>,
+    pub lanes: [Lane; MOST_LANES],
+    pub bars: Items<Bar>,
     ghost few: { length tasks ≤ most_lanes },
     ghost within: { rows ≤ most_rows },
 }

@@ -121,13 +121,20 @@ pub fn push_stroke(
     Ok(())
 }
 
-/// Puts a rectangle from the left edge on.
-pub fn push_field(out: &mut Vec<u8>, class: &[u8], y: u64, size: (u64, u64)) -> Result<(), NoMemory>
-    ensures { OnOk result (out.new.items ≡ out.old.items ++ field class.now y size.0 size.1) }
+/// Puts a rectangle at a place.
+pub fn push_field(
+    out: &mut Vec<u8>,
+    class: &[u8],
+    place: (u64, u64),
+    size: (u64, u64),
+) -> Result<(), NoMemory>
+    ensures { OnOk result (out.new.items
+        ≡ out.old.items ++ field class.now place.0 place.1 size.0 size.1) }
 {
     push_start(out, Tag::Rect)?;
     push_attribute(out, Key::Class, class)?;
-    push_number_attribute(out, Key::Y, y)?;
+    push_number_attribute(out, Key::X, place.0)?;
+    push_number_attribute(out, Key::Y, place.1)?;
     push_number_attribute(out, Key::Width, size.0)?;
     push_number_attribute(out, Key::Height, size.1)?;
     push_inside(out)?;

@@ -40,6 +40,15 @@ pub fn give_lane(tasks: &mut Items<Record>, alloc: Global, event: &[u8]) -> Resu
     }
 }
 
+/// Returns the middle of a row.
+pub fn row_y(row: u64) -> u64
+    requires { row ≤ 100000 }
+    ensures value { result ≡ row_y row }
+    ensures within { result ≤ 2200120 }
+{
+    120 + 22 * row
+}
+
 /// Returns the middle of a lane.
 pub fn lane_x(lane: usize) -> u64
     requires { lane < most_lanes }

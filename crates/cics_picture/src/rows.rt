@@ -3,34 +3,26 @@
 ghost use Rattle.std.specs.Prelude.{◌≡◌, ◌++◌, ◌<◌, ◌≤◌, ◌+◌, ◌*◌, [], length, IfSome, OnOk};
 ghost use Rattle.std.specs.Prelude.{IfErr};
 ghost use Rattle.std.specs.List.{fold};
-ghost use Rattle.cics_picture.specs.Lanes.{most_lanes, most_rows, row_y, lane_of};
+ghost use Rattle.cics_picture.specs.Lanes.{most_lanes, most_rows, lane_of};
 ghost use Rattle.cics_picture.specs.Drawings.{drawn_of, nothing_drawn, arrow_to, beside};
 ghost use Rattle.cics_picture.specs.Drawings.{lane_marks};
 ghost use Rattle.cics_picture.specs.Elements.{stroke};
 ghost use Rattle.cics_picture.specs.Events.{behind_word, first_word, kind_of, class_of};
 ghost use Rattle.cics_picture.specs.Drawings.{row_marks, row_number, row_texts, with_row};
-ghost use Rattle.cics_picture.specs.Drawings.{row, rows_from};
+ghost use Rattle.cics_picture.specs.Drawings.{row, rows_from, printed, with_line};
 ghost use Rattle.cics_picture.specs.declared.drawing.Undrawn.TheVariants.{TooManyRows};
 
+use crate::bars::{Standing, new_lanes, note_row};
 use crate::drawing::{Drawing, LIMIT, Undrawn};
 use crate::elements::{
     cut, push_arrow, push_cut_words, push_mark, push_number_words, push_stroke, push_words,
 };
 use crate::events::{Kind, behind_word, first_word, kind_of};
-use crate::lanes::{give_lane, lane_of, lane_x};
+use crate::lanes::{give_lane, lane_of, lane_x, row_y};
 use cics_names::{Items, NoMemory, Record};
 use std::alloc::Global;
 
 const LF: u8 = 10;
-
-// The middle of a row.
-fn row_y(row: u64) -> u64
-    requires { row ≤ 100000 }
-    ensures value { result ≡ row_y row }
-    ensures within { result ≤ 2200098 }
-{
-    98 + 22 * row
-}
 
 // Puts an arrow to the task that is waited for, if it has a lane.
 fn push_arrow_to(
@@ -74,7 +66,7 @@ fn push_beside(
         Kind::Attached => push_words(
             out,
             "b m".as_bytes(),
-            (lane_x(place.0), 76),
+            (lane_x(place.0), 98),
             first_word(event),
         ),
         Kind::Waiting => push_arrow_to(out, place.0, holder_of(tasks, event), place.1),
@@ -161,6 +153,8 @@ impl Drawing {
             tasks: Items::new(alloc),
             marks: Vec::new(alloc),
             texts: Vec::new(alloc),
+            lanes: new_lanes(),
+            bars: Items::new(alloc),
         }
     }
 
@@ -177,16 +171,15 @@ impl Drawing {
         push_row_number(&mut self.marks, y + 4, number)?;
         push_marks(&mut self.marks, self.tasks.as_slice(), y, event)?;
         push_texts(&mut self.texts, y + 4, line, event)?;
+        let lane = lane_of(self.tasks.as_slice(), first_word(event));
+        note_row(&mut self.lanes, lane, y);
         self.rows += 1;
         Ok(())
     }
 
-    /// Draws a row for each line of the journal in a text that a line of the script printed. The
-    /// first row has the line's number and its text.
-    ///
-    /// Errors: `TooManyRows` if that is more rows than a picture may have; `NoMemory`. A picture
-    /// that was refused a row is of no use.
-    pub fn push_line(&mut self, number: u64, line: &[u8], text: &[u8]) -> Result<(), Undrawn>
+    // Draws a row for each line of the journal in a text that a line of the script printed. The
+    // first row has the line's number and its text.
+    fn push_rows(&mut self, number: u64, line: &[u8], text: &[u8]) -> Result<(), Undrawn>
         ensures drawn { OnOk result (drawn_of self.new
             ≡ fold with_row (drawn_of self.old) (rows_from number line.now [] text.now)) }
         ensures too_many { IfErr result (λ e. e ≡ TooManyRows
@@ -215,5 +208,35 @@ impl Drawing {
             }
         }
         Ok(())
+    }
+
+    /// Draws a row for each line of the journal in a text that a line of the script printed, and
+    /// how the task of each lane stands behind it. The first row has the line's number and its
+    /// text.
+    ///
+    /// Errors: `TooManyRows` if that is more rows than a picture may have; `NoMemory`. A picture
+    /// that was refused a row is of no use.
+    pub fn push_line(
+        &mut self,
+        number: u64,
+        line: &[u8],
+        text: &[u8],
+        standings: &[Standing],
+    ) -> Result<(), Undrawn>
+        requires { length standings.now ≤ most_lanes }
+        ensures drawn { OnOk result (drawn_of self.new ≡ with_line (drawn_of self.old)
+            (printed number line.now text.now standings.now)) }
+        ensures too_many { IfErr result (λ e. e ≡ TooManyRows
+            → most_rows < self.old.rows + length (rows_from number line.now [] text.now)) }
+    {
+        let first = row_y(self.rows);
+        match self.push_rows(number, line, text) {
+            Ok(()) => {}
+            Err(undrawn) => return Err(undrawn),
+        }
+        match self.end_line(first, standings) {
+            Ok(()) => Ok(()),
+            Err(_) => Err(Undrawn::NoMemory),
+        }
     }
 }

@@ -1,19 +1,26 @@
 //! The whole picture of what was drawn.
 
-ghost use Rattle.std.specs.Prelude.{◌≡◌, ◌++◌, ◌<◌, ◌≤◌, ◌^◌, List, ℕ, Some, length, OnOk};
+ghost use Rattle.std.specs.Prelude.{◌≡◌, ◌++◌, ◌∷◌, ◌<◌, ◌≤◌, List, ℕ, true, Some, length, slice_get};
+ghost use Rattle.std.specs.Prelude.{OnOk};
+ghost use Rattle.cics_picture.specs.declared.bars.Look.{Look};
 ghost use Rattle.cics_markup.specs.Documents.{Document};
 ghost use Rattle.cics_markup.specs.Reading.{document_of};
 ghost use Rattle.cics_picture.specs.Lanes.{most_lanes};
-ghost use Rattle.cics_picture.specs.Drawings.{drawn_of, Printed, Row, drawn};
+ghost use Rattle.cics_picture.specs.Drawings.{drawn_of, Printed, Row, drawn, finished};
 ghost use Rattle.cics_picture.specs.Arrows.{TellsWait, DrawsArrow};
 ghost use Rattle.cics_picture.specs.Sheets.{style_text, bands, lane_lines, headings, ground, heading};
 ghost use Rattle.cics_picture.specs.Sheets.{legend_item, answers_legend, ways_legend};
-ghost use Rattle.cics_picture.specs.Sheets.{region_legend, width_of, height_of, moved_texts, sheet};
+ghost use Rattle.cics_picture.specs.Sheets.{region_legend, bar_item, ring_item, units_legend};
+ghost use Rattle.cics_picture.specs.Sheets.{width_of, height_of, moved_texts, whole_sheet, sheet};
+ghost use Rattle.cics_picture.specs.Bars.{is_bar_of};
+ghost use Rattle.cics_picture.specs.declared.bars.Standing.{Standing};
+ghost use Rattle.std.specs.List.{list_any};
 
+use crate::bars::{Look, push_bars};
 use crate::drawing::Drawing;
 use crate::elements::{
-    cut, push_cut_words, push_field, push_mark, push_moved_start, push_picture_start, push_spoken,
-    push_stroke, push_words,
+    cut, push_cut_words, push_field, push_mark, push_moved_start, push_picture_start, push_shape,
+    push_spoken, push_stroke, push_words,
 };
 use crate::events::Kind;
 use crate::lanes::lane_x;
@@ -23,14 +30,21 @@ use cics_names::NoMemory;
 
 /// Every picture is well formed: it is read back as a document, whatever the lines and texts are.
 pub fn sheets_are_documents()
-    ensures { (lines : List Printed) (title : List ℕ)
-        → (d : Document) × (document_of (sheet (drawn lines) title) ≡ Some d) }
+    ensures { (lines : List Printed) (looks : List Look) (title : List ℕ)
+        → (d : Document) × (document_of (sheet (drawn lines) looks title) ≡ Some d) }
 {}
 
 /// If at most sixteen tasks are attached, each event WAITING has exactly one arrow: from the lane
 /// of its task to the lane of the task that it names.
 pub fn waits_have_arrows()
     ensures { (before : List Row) (r : Row) → TellsWait before r → DrawsArrow before r }
+{}
+
+/// A task with a lane has a bar in it for each unit of work that it has behind a line of the script.
+pub fn units_have_bars()
+    ensures { (before after : List Printed) (p : Printed) (lane unit : ℕ) (s : Standing)
+        → lane < most_lanes → slice_get p.standings lane ≡ Some s → s.unit ≡ Some unit
+        → list_any (is_bar_of lane unit) (finished (drawn (before ++ p ∷ after))).bars ≡ true }
 {}
 
 fn push_style(out: &mut Vec<u8>) -> Result<(), NoMemory>
@@ -46,7 +60,7 @@ fn push_bands(out: &mut Vec<u8>, width: u64, count: u64) -> Result<(), NoMemory>
     ensures { OnOk result (out.new.items ≡ out.old.items ++ bands width count) }
 {
     for n in 0..count {
-        push_field(out, "band".as_bytes(), 87 + 44 * n, (width, 22))?;
+        push_field(out, "band".as_bytes(), (0, 109 + 44 * n), (width, 22))?;
     }
     Ok(())
 }
@@ -61,7 +75,7 @@ fn push_lane_lines(out: &mut Vec<u8>, height: u64, lanes: usize) -> Result<(), N
         push_stroke(
             out,
             "life".as_bytes(),
-            (lane_x(lane), 84),
+            (lane_x(lane), 106),
             (lane_x(lane), height),
         )?;
     }
@@ -73,8 +87,8 @@ fn push_lane_lines(out: &mut Vec<u8>, height: u64, lanes: usize) -> Result<(), N
 fn push_headings(out: &mut Vec<u8>) -> Result<(), NoMemory>
     ensures { OnOk result (out.new.items ≡ out.old.items ++ headings) }
 {
-    push_words(out, "d s".as_bytes(), (78, 76), "script".as_bytes())?;
-    push_words(out, "d s".as_bytes(), (744, 76), "journal".as_bytes())
+    push_words(out, "d s".as_bytes(), (78, 98), "script".as_bytes())?;
+    push_words(out, "d s".as_bytes(), (744, 98), "journal".as_bytes())
 }
 
 // Puts what a mark means.
@@ -118,6 +132,39 @@ fn push_region_legend(out: &mut Vec<u8>) -> Result<(), NoMemory>
     push_legend_item(out, 934, Kind::Down, "shutdown or fault")
 }
 
+// Puts what a bar means.
+#[tactic(auto, unfolding(crate::specs::Sheets::bar_item))]
+fn push_bar_item(out: &mut Vec<u8>, x: u64, class: &str, text: &str) -> Result<(), NoMemory>
+    requires { x < 1000 }
+    ensures { OnOk result (out.new.items ≡ out.old.items ++ bar_item x class.now text.now) }
+{
+    let bar = "M-7 -7h14v14h-14z";
+    push_shape(out, class.as_bytes(), bar.as_bytes(), (x, 74))?;
+    push_words(out, "d s".as_bytes(), (x + 16, 78), text.as_bytes())
+}
+
+// Puts what a ring means.
+#[tactic(auto, unfolding(crate::specs::Sheets::ring_item))]
+fn push_ring_item(out: &mut Vec<u8>) -> Result<(), NoMemory>
+    ensures { OnOk result (out.new.items ≡ out.old.items ++ ring_item) }
+{
+    let ring = "M-10 0a10 10 0 1 0 20 0a10 10 0 1 0 -20 0z";
+    push_shape(out, "dl".as_bytes(), ring.as_bytes(), (484, 74))?;
+    let text = "caught in a deadlock";
+    push_words(out, "d s".as_bytes(), (500, 78), text.as_bytes())
+}
+
+// Puts what bars and rings mean.
+fn push_units_legend(out: &mut Vec<u8>) -> Result<(), NoMemory>
+    ensures { OnOk result (out.new.items ≡ out.old.items ++ units_legend) }
+{
+    push_bar_item(out, 24, "uf", "unit of work, committed")?;
+    push_bar_item(out, 224, "uh", "backed out")?;
+    push_bar_item(out, 344, "uo", "open at the end")?;
+    push_ring_item(out)?;
+    Ok(())
+}
+
 // Puts the title, and the legend below it.
 #[tactic(auto, unfolding(crate::specs::Sheets::heading))]
 fn push_heading(out: &mut Vec<u8>, title: &[u8]) -> Result<(), NoMemory>
@@ -126,7 +173,8 @@ fn push_heading(out: &mut Vec<u8>, title: &[u8]) -> Result<(), NoMemory>
     push_cut_words(out, "h1".as_bytes(), (16, 30), cut(title, 96))?;
     push_answers_legend(out)?;
     push_ways_legend(out)?;
-    push_region_legend(out)
+    push_region_legend(out)?;
+    push_units_legend(out)
 }
 
 // How wide a picture is.
@@ -140,7 +188,7 @@ fn width_of(drawing: &Drawing) -> u64
 fn height_of(drawing: &Drawing) -> u64
     ensures { result ≡ height_of (drawn_of drawing.now) }
 {
-    98 + 22 * drawing.rows
+    120 + 22 * drawing.rows
 }
 
 // Puts what stands under the rows.
@@ -153,7 +201,7 @@ fn push_ground(out: &mut Vec<u8>, drawing: &Drawing, title: &[u8]) -> Result<(),
     push_field(
         out,
         "paper".as_bytes(),
-        0,
+        (0, 0),
         (width_of(drawing), height_of(drawing)),
     )?;
     push_bands(out, width_of(drawing), (drawing.rows + 1) / 2)?;
@@ -171,14 +219,35 @@ fn push_moved_texts(out: &mut Vec<u8>, drawing: &Drawing) -> Result<(), NoMemory
     push_end(out, Tag::G)
 }
 
-/// Puts the whole picture of what was drawn, with a title.
-pub fn push_sheet(out: &mut Vec<u8>, drawing: &Drawing, title: &[u8]) -> Result<(), NoMemory>
+// Puts the whole picture of what is finished.
+fn push_whole_sheet(
+    out: &mut Vec<u8>,
+    drawing: &Drawing,
+    looks: &[Look],
+    title: &[u8],
+) -> Result<(), NoMemory>
     ensures { OnOk result (out.new.items
-        ≡ out.old.items ++ sheet (drawn_of drawing.now) title.now) }
+        ≡ out.old.items ++ whole_sheet (drawn_of drawing.now) looks.now title.now) }
 {
     push_picture_start(out, width_of(drawing), height_of(drawing))?;
     push_ground(out, drawing, title)?;
+    push_bars(out, looks, drawing.bars.as_slice())?;
     out.extend_from_slice(&drawing.marks)?;
     push_moved_texts(out, drawing)?;
     push_end(out, Tag::Svg)
+}
+
+/// Puts the whole picture of what was drawn, with a title. `looks` has that of each unit's bar, by
+/// the unit's number. The bars of open units end here, so nothing more may be drawn.
+pub fn push_sheet(
+    out: &mut Vec<u8>,
+    drawing: &mut Drawing,
+    looks: &[Look],
+    title: &[u8],
+) -> Result<(), NoMemory>
+    ensures { OnOk result (out.new.items
+        ≡ out.old.items ++ sheet (drawn_of drawing.old) looks.now title.now) }
+{
+    drawing.finish()?;
+    push_whole_sheet(out, drawing, looks, title)
 }

@@ -37,6 +37,12 @@ returns-in-Ok-true-clause-kept c =
     (stands-stopped _ _ _ _ _ _ c.in-Some.after.now _ c.lines.invariant.0 c.in-Some.ensures.some ran c.in-Ok-true.ensures.drawn
     (line ∙ ap (λ b. cond b c.in-Some.line.now []) c.in-Ok-true.field-0-test) (sym c.in-Ok-true.field-0-test ∙ fault)).2
 
+pub returns-in-Ok-true-clause-stage : goal.returns-in-Ok-true-clause-stage
+returns-in-Ok-true-clause-stage c =
+    let (ran, fault, line) = c.in-Ok-true.ensures.runs in
+    (stands-stopped _ _ _ _ _ _ c.in-Some.after.now _ c.lines.invariant.0 c.in-Some.ensures.some ran c.in-Ok-true.ensures.drawn
+    (line ∙ ap (λ b. cond b c.in-Some.line.now []) c.in-Ok-true.field-0-test) (sym c.in-Ok-true.field-0-test ∙ fault)).3
+
 pub lines-preserved : goal.lines-preserved
 lines-preserved c =
     let (ran, fault, line) = c.in-Ok-false.ensures.runs in (

@@ -1,0 +1,154 @@
+//! How the tasks of a region stand that have lanes: their units and their deadlocks.
+
+ghost use Rattle.std.specs.Prelude.{◌≡◌, ◌↔◌, ◌≤◌, ℕ, true, Some, length, IfOk};
+ghost use Rattle.std.specs.List.{list_any};
+ghost use Rattle.cics_names.specs.Keyed.{Bytes, is_same, is_key_in};
+ghost use Rattle.cics_dispatch.specs.Machine.{Machine};
+ghost use Rattle.cics_dispatch.specs.Blockers.{label_at, unit_of};
+ghost use Rattle.cics_picture.specs.Lanes.{most_lanes};
+ghost use Rattle.cics_draw.specs.Standings.{shown_deadlocks, standing_of, standing_at, standings_of};
+ghost use Rattle.cics_draw.specs.Standings.{standings_at, outcomes_at, look_of, looks_at, IsInDeadlock};
+
+use cics_deadlock::deadlocks;
+use cics_dispatch::Region;
+use cics_history::UnitState;
+use cics_names::{Items, Name8, NoMemory};
+use cics_picture::{Look, MOST_LANES, NOBODY, Standing};
+use cics_run::stage::Stage;
+use std::alloc::Global;
+
+/// If each task has a lane, a lane is marked exactly if its task is in a deadlock: one of tasks that
+/// wait for each other in a circle, each for the task that blocks it.
+pub fn deadlocks_are_marked()
+    ensures { (m : Machine) (number : ℕ) (label : Bytes) → length m.tasks ≤ most_lanes
+        → label_at m.tasks number ≡ Some label
+        → ((standing_at m (shown_deadlocks m) number).is_deadlocked ≡ true)
+        ↔ IsInDeadlock m label }
+{}
+
+// Whether two labels are the same.
+fn is_same(label: &Name8, other: &Name8) -> bool
+    ensures { result ≡ is_same label.now other.now }
+{
+    *label == *other
+}
+
+fn has_label(labels: &[Name8], label: &Name8) -> bool
+    ensures { result ≡ is_key_in label.now labels.now }
+{
+    for own in labels {
+        if is_same(label, own) {
+            return true;
+        }
+    }
+    false
+}
+
+// Whether one of these deadlocks has the task of a label.
+fn is_in_one(deadlocks: &[Items<Name8>], label: &Name8) -> bool
+    ensures { result ≡ list_any (is_key_in label.now) deadlocks.now }
+{
+    for labels in deadlocks {
+        if has_label(labels.as_slice(), label) {
+            return true;
+        }
+    }
+    false
+}
+
+// The deadlocks of a region, if each of its tasks has a lane. To look for them among many tasks
+// after each line would take long.
+#[tactic(auto, unfolding(crate::specs::Standings::shown_deadlocks))]
+fn shown_deadlocks(alloc: Global, region: &Region) -> Result<Items<Items<Name8>>, NoMemory>
+    ensures { IfOk result (λ found. found ≡ shown_deadlocks region.now.machine) }
+{
+    if region.task_count() > MOST_LANES {
+        return Ok(Items::new(alloc));
+    }
+    deadlocks(alloc, region)
+}
+
+fn unit_of(region: &Region, label: &Name8) -> Option<u64>
+    ensures { result ≡ unit_of region.now.machine label.now }
+{
+    match region.unit(label) {
+        Some(unit) => Some(unit.number()),
+        None => None,
+    }
+}
+
+// How the task of a number stands.
+fn standing_at(region: &Region, deadlocks: &[Items<Name8>], number: usize) -> Standing
+    ensures { result ≡ standing_at region.now.machine deadlocks.now number }
+{
+    match region.label_at(number) {
+        Some(label) => Standing {
+            unit: unit_of(region, &label),
+            is_deadlocked: is_in_one(deadlocks, &label),
+        },
+        None => NOBODY,
+    }
+}
+
+// How the tasks that have lanes stand.
+#[tactic(auto, unfolding(crate::specs::Standings::standings_of))]
+fn standings_of(alloc: Global, region: &Region) -> Result<Items<Standing>, NoMemory>
+    ensures value { IfOk result (λ standings. standings ≡ standings_of region.now.machine) }
+    ensures few { IfOk result (λ standings. length standings ≤ most_lanes) }
+{
+    let deadlocks = shown_deadlocks(alloc, region)?;
+    let mut standings = Items::new(alloc);
+    for number in 0..MOST_LANES {
+        standings.push(standing_at(region, deadlocks.as_slice(), number))?;
+    }
+    Ok(standings)
+}
+
+/// Returns how the tasks that have lanes stand behind the last line. Without a region there are
+/// none.
+///
+/// Errors: `NoMemory`. Cost: O(w * w), w the number of waiting tasks, which is at most sixteen.
+pub fn standings_at(alloc: Global, stage: &Stage) -> Result<Items<Standing>, NoMemory>
+    ensures value { IfOk result (λ standings. standings ≡ standings_at stage.now) }
+    ensures few { IfOk result (λ standings. length standings ≤ most_lanes) }
+{
+    match stage {
+        Stage::Running(region) => standings_of(alloc, region),
+        Stage::Opening(_) => Ok(Items::new(alloc)),
+    }
+}
+
+// The outcome of each unit, by its number.
+fn outcomes_at(stage: &Stage) -> &[UnitState]
+    ensures { result.now ≡ outcomes_at stage.now }
+{
+    match stage {
+        Stage::Running(region) => region.units().outcomes(),
+        Stage::Opening(_) => &[],
+    }
+}
+
+// How the bar of a unit looks.
+fn look_of(outcome: UnitState) -> Look
+    ensures { result ≡ look_of outcome }
+{
+    match outcome {
+        UnitState::Open => Look::Open,
+        UnitState::Committed => Look::Filled,
+        UnitState::BackedOut => Look::Hollow,
+    }
+}
+
+/// Returns how the bar of each unit looks, by its number.
+///
+/// Errors: `NoMemory`. Cost: O(units).
+pub fn looks_at(alloc: Global, stage: &Stage) -> Result<Items<Look>, NoMemory>
+    ensures { IfOk result (λ looks. looks ≡ looks_at stage.now) }
+{
+    let outcomes = outcomes_at(stage);
+    let mut looks = Items::new(alloc);
+    for outcome in outcomes {
+        looks.push(look_of(*outcome))?;
+    }
+    Ok(looks)
+}

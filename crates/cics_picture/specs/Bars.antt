@@ -1,0 +1,87 @@
+-- The bars of units of work: each stands in the lane of its task, from the row at which the unit begins to that at which it ends.
+use Rattle.std.specs.Prelude.{ℕ, ◌-◌, ◌==◌, Bool, true, false, not, ◌&&◌, if◌then◌else◌, Option, Some, None, unwrap_or, slice_get, slice_set, replicate, List, [], ◌∷◌}
+use Rattle.cics_picture.specs.declared.bars.Look.{Look}
+use Rattle.cics_picture.specs.declared.bars.Look.TheVariants.{Open, Filled, Hollow}
+use Rattle.cics_picture.specs.declared.bars.Standing.{Standing}
+use Rattle.cics_picture.specs.declared.bars.Lane.{Lane}
+use Rattle.cics_picture.specs.declared.bars.Bar.{Bar}
+use Rattle.cics_picture.specs.Lanes.{lane_x}
+use Rattle.cics_picture.specs.Elements.{field}
+use lib.Chars.{codes}
+
+-- no unit and no deadlock
+abbrev pub nobody : Standing
+nobody = record { unit = None; is_deadlocked = false }
+
+-- a lane before the first event
+abbrev pub new_lane : Lane
+new_lane = record { last = 0; top = 0; standing = nobody }
+
+-- all lanes before the first event, and nobody in any of them
+unfoldable pub new_lanes : List Lane
+new_lanes = replicate 16 new_lane
+
+unfoldable pub nobodies : List Standing
+nobodies = replicate 16 nobody
+
+-- the lane of a number
+abbrev pub lane_at : List Lane → ℕ → Lane
+lane_at lanes lane = unwrap_or (slice_get lanes lane) new_lane
+
+-- the lanes behind an event of one of them, or of none, at a row of this height
+abbrev pub lanes_behind : List Lane → ℕ → Option ℕ → List Lane
+lanes_behind lanes y None = lanes
+lanes_behind lanes y (Some lane) = slice_set lanes lane (record (lane_at lanes lane) { last = y })
+
+-- whether a task has the same unit as before, or none as before
+abbrev pub has_same : Option ℕ → Option ℕ → Bool
+has_same None None = true
+has_same None (Some unit) = false
+has_same (Some before) None = false
+has_same (Some before) (Some unit) = before == unit
+
+-- the unit that a task has no more
+abbrev pub gone : Option ℕ → Option ℕ → Option ℕ
+gone before now = if has_same before now then None else before
+
+-- A lane whose task stands so behind a line, its last event at a row of this height. The bar of a unit begins a little above the row.
+abbrev pub lane_behind : Lane → ℕ → Standing → Lane
+lane_behind l y s = record { last = l.last; top = if has_same l.standing.unit s.unit then l.top else y - 8; standing = s }
+
+-- the bar of a unit that has ended, from its top to a row of this height
+abbrev pub ended : ℕ → ℕ → ℕ → Option ℕ → List Bar
+ended lane top y None = []
+ended lane top y (Some unit) = record { unit = unit; x = lane_x lane - 7; y = top; height = y - top } ∷ []
+
+-- whether a bar is that of a unit, in a lane
+abbrev pub is_bar_of : ℕ → ℕ → Bar → Bool
+is_bar_of lane unit b = (b.unit == unit) && (b.x == lane_x lane - 7)
+
+-- whether a task is in a deadlock that wasn't there before
+abbrev pub is_caught : Lane → Standing → Bool
+is_caught l s = s.is_deadlocked && not l.standing.is_deadlocked
+
+-- the look of a unit's bar
+abbrev pub look_of : List Look → ℕ → Look
+look_of looks unit = unwrap_or (slice_get looks unit) Open
+
+-- the class of a look
+abbrev pub look_class : Look → List ℕ
+look_class Open = codes "uo"
+look_class Filled = codes "uf"
+look_class Hollow = codes "uh"
+
+-- a bar of a class
+abbrev pub bar_of : List ℕ → Bar → List ℕ
+bar_of name b = field name b.x b.y 14 b.height
+
+-- the bar of a unit
+abbrev pub bar_text : List Look → Bar → List ℕ
+bar_text looks b = bar_of (look_class (look_of looks b.unit)) b
+
+-- a filled bar, and a hollow one
+abbrev pub filled : Bar → List ℕ
+filled b = bar_of (codes "uf") b
+
+abbrev pub hollow : Bar → List ℕ
+hollow b = bar_of (codes "uh") b

@@ -1,0 +1,300 @@
+//! The bars of units of work in the lanes, and the rings of deadlocks.
+
+ghost use Rattle.std.specs.Prelude.{◌≡◌, ◌++◌, ◌-◌, ◌<◌, ◌≤◌, length, IfSome, OnOk};
+ghost use Rattle.std.specs.List.{flat_map};
+ghost use Rattle.cics_picture.specs.Lanes.{most_lanes, row_y};
+ghost use Rattle.cics_picture.specs.Bars.{new_lanes, nobodies, lane_at, lanes_behind, has_same};
+ghost use Rattle.cics_picture.specs.Bars.{gone, lane_behind, ended, is_caught, look_of, look_class, bar_text};
+ghost use Rattle.cics_picture.specs.Drawings.{drawn_of, ring_if, turned, turned_from, any_caught};
+ghost use Rattle.cics_picture.specs.Drawings.{word_if, with_end, finished};
+
+use crate::drawing::Drawing;
+use crate::elements::{push_field, push_shape, push_words};
+use crate::lanes::{MOST_LANES, lane_x, row_y};
+use cics_names::{Items, NoMemory};
+
+/// How the task of a lane stands behind a line of the script.
+#[derive(Clone, Copy, Debug, PartialEq, Eq)]
+pub struct Standing {
+    /// The number of its open unit of work, if it has one.
+    pub unit: Option<u64>,
+    /// Whether it is in a deadlock.
+    pub is_deadlocked: bool,
+}
+
+/// A lane so far: the height of the row of its last event, the top of the bar of its open unit, and
+/// how its task stands.
+#[derive(Clone, Copy, Debug, PartialEq, Eq)]
+pub struct Lane {
+    pub last: u64,
+    pub top: u64,
+    pub standing: Standing,
+}
+
+/// The bar of a unit.
+#[derive(Clone, Copy, Debug, PartialEq, Eq)]
+pub struct Bar {
+    pub unit: u64,
+    pub x: u64,
+    pub y: u64,
+    pub height: u64,
+}
+
+/// How the bar of a unit looks: light for one that is open, filled for one that stays, hollow for
+/// one that is undone.
+#[derive(Clone, Copy, Debug, PartialEq, Eq)]
+pub enum Look {
+    Open,
+    Filled,
+    Hollow,
+}
+
+/// No unit and no deadlock.
+pub const NOBODY: Standing = Standing {
+    unit: None,
+    is_deadlocked: false,
+};
+
+/// A lane before the first event.
+pub const NEW_LANE: Lane = Lane {
+    last: 0,
+    top: 0,
+    standing: NOBODY,
+};
+
+fn lane_at(lanes: &[Lane], lane: usize) -> Lane
+    ensures { result ≡ lane_at lanes.now lane }
+{
+    match lanes.get(lane) {
+        Some(lane) => *lane,
+        None => NEW_LANE,
+    }
+}
+
+/// Notes the row of an event in its lane, if it has one.
+pub fn note_row(lanes: &mut [Lane; MOST_LANES], lane: Option<usize>, y: u64)
+    requires { IfSome lane (λ l. l < most_lanes) }
+    ensures { lanes.new ≡ lanes_behind lanes.old y lane }
+{
+    if let Some(lane) = lane {
+        let before = lane_at(lanes, lane);
+        lanes[lane] = Lane {
+            last: y,
+            top: before.top,
+            standing: before.standing,
+        };
+    }
+}
+
+// Whether a task has the same unit as before, or none as before.
+fn has_same(before: Option<u64>, now: Option<u64>) -> bool
+    ensures { result ≡ has_same before now }
+{
+    match (before, now) {
+        (None, None) => true,
+        (Some(before), Some(now)) => before == now,
+        _ => false,
+    }
+}
+
+// The unit that a task has no more.
+fn gone(before: Option<u64>, now: Option<u64>) -> Option<u64>
+    ensures { result ≡ gone before now }
+{
+    if has_same(before, now) { None } else { before }
+}
+
+// The lane of a task that stands so behind a line, its last event at a row of this height.
+fn lane_behind(before: Lane, y: u64, standing: Standing) -> Lane
+    ensures { result ≡ lane_behind before y standing }
+{
+    let top = if has_same(before.standing.unit, standing.unit) {
+        before.top
+    } else {
+        y.saturating_sub(8)
+    };
+    Lane {
+        last: before.last,
+        top,
+        standing,
+    }
+}
+
+// Adds the bar of a unit that has ended, from its top to a row.
+fn push_ended(
+    bars: &mut Items<Bar>,
+    lane: usize,
+    ends: (u64, u64),
+    unit: Option<u64>,
+) -> Result<(), NoMemory>
+    requires { lane < most_lanes }
+    ensures { OnOk result (bars.new ≡ bars.old ++ ended lane ends.0 ends.1 unit) }
+{
+    match unit {
+        Some(unit) => bars.push(Bar {
+            unit,
+            x: lane_x(lane) - 7,
+            y: ends.0,
+            height: ends.1.saturating_sub(ends.0),
+        }),
+        None => Ok(()),
+    }
+}
+
+// Whether a task is in a deadlock that wasn't there before.
+fn is_caught(before: Lane, standing: Standing) -> bool
+    ensures { result ≡ is_caught before standing }
+{
+    standing.is_deadlocked && !before.standing.is_deadlocked
+}
+
+// Puts a ring round the lane of a task that is caught in a deadlock.
+fn push_ring_if(out: &mut Vec<u8>, caught: bool, lane: usize, y: u64) -> Result<(), NoMemory>
+    requires { lane < most_lanes }
+    ensures { OnOk result (out.new.items ≡ out.old.items ++ ring_if caught lane y) }
+{
+    if !caught {
+        return Ok(());
+    }
+    push_shape(
+        out,
+        "dl".as_bytes(),
+        "M-10 0a10 10 0 1 0 20 0a10 10 0 1 0 -20 0z".as_bytes(),
+        (lane_x(lane), y),
+    )
+}
+
+// Whether a task is caught in a deadlock.
+fn any_caught(lanes: &[Lane], standings: &[Standing]) -> bool
+    ensures { result ≡ any_caught lanes.now 0 standings.now }
+{
+    for (lane, standing) in standings.iter().enumerate() {
+        if is_caught(lane_at(lanes, lane), *standing) {
+            return true;
+        }
+    }
+    false
+}
+
+// Puts the word at the row that closes a deadlock.
+fn push_word_if(out: &mut Vec<u8>, caught: bool, y: u64) -> Result<(), NoMemory>
+    ensures { OnOk result (out.new.items ≡ out.old.items ++ word_if caught y) }
+{
+    if !caught {
+        return Ok(());
+    }
+    push_words(out, "ma e".as_bytes(), (1264, y), "deadlock".as_bytes())
+}
+
+/// Returns lanes before the first event.
+#[tactic(auto, unfolding(crate::specs::Bars::new_lanes))]
+pub fn new_lanes() -> [Lane; MOST_LANES]
+    ensures { result ≡ new_lanes }
+{
+    [NEW_LANE; MOST_LANES]
+}
+
+// Returns nobody in any lane.
+#[tactic(auto, unfolding(crate::specs::Bars::nobodies))]
+fn nobodies() -> [Standing; MOST_LANES]
+    ensures value { result ≡ nobodies }
+    ensures few { length result ≤ most_lanes }
+{
+    [NOBODY; MOST_LANES]
+}
+
+impl Drawing {
+    // The height of the last row.
+    fn last_y(&self) -> u64
+        ensures value { result ≡ row_y (self.now.rows - 1) }
+        ensures within { result ≤ 2200120 }
+    {
+        row_y(self.rows.saturating_sub(1))
+    }
+
+    // Turns a lane to how its task stands behind a line whose first row has this height.
+    fn turn(&mut self, lane: usize, first: u64, standing: Standing) -> Result<(), NoMemory>
+        requires { lane < most_lanes }
+        ensures { OnOk result (drawn_of self.new
+            ≡ turned first lane standing (drawn_of self.old)) }
+    {
+        let before = lane_at(&self.lanes, lane);
+        let y = before.last.max(first);
+        let last_y = self.last_y();
+        let unit = gone(before.standing.unit, standing.unit);
+        push_ended(&mut self.bars, lane, (before.top, y), unit)?;
+        push_ring_if(&mut self.marks, is_caught(before, standing), lane, last_y)?;
+        self.lanes[lane] = lane_behind(before, y, standing);
+        Ok(())
+    }
+
+    fn turn_all(&mut self, first: u64, standings: &[Standing]) -> Result<(), NoMemory>
+        requires { length standings.now ≤ most_lanes }
+        ensures { OnOk result (drawn_of self.new
+            ≡ turned_from first 0 standings.now (drawn_of self.old)) }
+    {
+        for (lane, standing) in standings.iter().enumerate() {
+            self.turn(lane, first, *standing)?;
+        }
+        Ok(())
+    }
+
+    /// Ends a line of the script whose first row has this height: how the task of each lane stands
+    /// behind it.
+    pub fn end_line(&mut self, first: u64, standings: &[Standing]) -> Result<(), NoMemory>
+        requires { length standings.now ≤ most_lanes }
+        ensures { OnOk result (drawn_of self.new
+            ≡ with_end first standings.now (drawn_of self.old)) }
+    {
+        let y = self.last_y() + 4;
+        push_word_if(&mut self.texts, any_caught(&self.lanes, standings), y)?;
+        self.turn_all(first, standings)
+    }
+
+    /// Ends the bars of the units that are open, below the last row.
+    pub fn finish(&mut self) -> Result<(), NoMemory>
+        ensures { OnOk result (drawn_of self.new ≡ finished (drawn_of self.old)) }
+    {
+        self.end_line(row_y(self.rows), &nobodies())
+    }
+}
+
+// Returns the look of a unit's bar.
+fn look_of(looks: &[Look], unit: u64) -> Look
+    ensures { result ≡ look_of looks.now unit }
+{
+    match looks.get(unit as usize) {
+        Some(look) => *look,
+        None => Look::Open,
+    }
+}
+
+// Returns the class of a look.
+fn look_class(look: Look) -> &'static str
+    ensures { result.now ≡ look_class look }
+{
+    match look {
+        Look::Open => "uo",
+        Look::Filled => "uf",
+        Look::Hollow => "uh",
+    }
+}
+
+// Puts the bar of a unit.
+fn push_bar(out: &mut Vec<u8>, looks: &[Look], bar: Bar) -> Result<(), NoMemory>
+    ensures { OnOk result (out.new.items ≡ out.old.items ++ bar_text looks.now bar) }
+{
+    let class = look_class(look_of(looks, bar.unit));
+    push_field(out, class.as_bytes(), (bar.x, bar.y), (14, bar.height))
+}
+
+/// Puts the bars of units. `looks` has that of each unit's bar, by the unit's number.
+pub fn push_bars(out: &mut Vec<u8>, looks: &[Look], bars: &[Bar]) -> Result<(), NoMemory>
+    ensures { OnOk result (out.new.items
+        ≡ out.old.items ++ flat_map (bar_text looks.now) bars.now) }
+{
+    for bar in bars {
+        push_bar(out, looks, *bar)?;
+    }
+    Ok(())
+}
