@@ -7,8 +7,9 @@ use Rattle.cics_dispatch.specs.Machine.{records_in}
 use Rattle.cics_dispatch.specs.declared.outcomes.Outcome.{Outcome}
 use Rattle.cics_dispatch.specs.declared.outcomes.Outcome.TheVariants.{Replied}
 use Rattle.cics_lanes.specs.Orders.{Order, orders, after}
-use Rattle.cics_orders.specs.Giving.{lanes, initial_state, given, turn, settled}
-use Rattle.cics_orders.specs.declared.plans.Plan.{Plan}
+use Rattle.cics_plans.specs.Defining.{defined_by}
+use Rattle.cics_orders.specs.Giving.{lanes, initial_state, given, drain_step, drained_once, drained_within, drained, issuing, timing, shutting, attaching, with_task}
+use Rattle.cics_plans.specs.declared.plans.Plan.{Plan}
 use Rattle.cics_orders.specs.declared.lanes.Lane.{Lane}
 
 abbrev t1 : Bytes
@@ -31,7 +32,7 @@ deadlock = record {
 -- The orders of a deadlock: where a task has both values, the other waits for its first; else each waits for the other.
 deadlock_orders : orders lanes 4 (initial_state deadlock) ≡
     (0 ∷ 0 ∷ 1 ∷ []) ∷ (0 ∷ 1 ∷ 0 ∷ 1 ∷ []) ∷ (0 ∷ 1 ∷ 1 ∷ 0 ∷ []) ∷ (1 ∷ 0 ∷ 0 ∷ 1 ∷ []) ∷ (1 ∷ 0 ∷ 1 ∷ 0 ∷ []) ∷ (1 ∷ 1 ∷ 0 ∷ []) ∷ []
-unfolding initial_state given turn settled code_of
+unfolding initial_state given drain_step drained_once drained_within drained issuing timing shutting attaching defined_by with_task code_of
 deadlock_orders = refl
 
 -- two tasks look at a record, and each then writes what it made of what it saw
@@ -84,11 +85,11 @@ lost : (records_in (after lanes (initial_state lost_update) between).machine a_f
     × ((after lanes (initial_state lost_update) between).is_serial ≡ false)
     × (seen (slice_get (after lanes (initial_state lost_update) between).lanes 0) ≡ Some (k ∷ 0xF0 ∷ []) ∷ Some (k ∷ 0xF0 ∷ []) ∷ None ∷ None ∷ [])
     × (seen (slice_get (after lanes (initial_state lost_update) between).lanes 1) ≡ Some (k ∷ 0xF0 ∷ []) ∷ Some (k ∷ 0xF1 ∷ []) ∷ None ∷ None ∷ [])
-unfolding initial_state given turn settled code_of
+unfolding initial_state given drain_step drained_once drained_within drained issuing timing shutting attaching defined_by with_task code_of
 lost = (refl, refl, refl, refl)
 
 -- There are as many orders as there are ways to put the lines of the second task between those of the first, but where it has
 -- to wait.
 how_many : length (orders lanes 8 (initial_state lost_update)) ≡ 24
-unfolding initial_state given turn settled code_of
+unfolding initial_state given drain_step drained_once drained_within drained issuing timing shutting attaching defined_by with_task code_of
 how_many = refl

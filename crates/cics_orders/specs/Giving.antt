@@ -2,11 +2,13 @@
 use Rattle.std.specs.Prelude.{◌≡◌, ◌<◌, ℕ, zero, suc, ◌+◌, Bool, true, false, ◌&&◌, ◌||◌, not, ◌==◌, if◌then◌else◌, List, [], ◌∷◌, ◌++◌, map, length, Option, Some, None, option_map, option_and_then, is_none, is_some, Result, Ok, Err, slice_get, slice_set}
 use Rattle.std.specs.List.{fold}
 use Rattle.cics_names.specs.Keyed.{Bytes, is_same}
+use Rattle.cics_names.specs.declared.commands.Command.{Command}
 use Rattle.cics_names.specs.declared.commands.Verb.{Verb}
 use Rattle.cics_names.specs.declared.commands.Verb.TheVariants.{Syncpoint, Rollback, Return, Abend}
-use Rattle.cics_history.specs.Openings.{OpeningState, nothing_defined, with_file, with_record, with_prefix, with_queue, with_td_record}
+use Rattle.cics_history.specs.State.{OpeningState}
+use Rattle.cics_history.specs.Openings.{nothing_defined}
 use Rattle.cics_dispatch.specs.Machine.{Machine, beginning_region}
-use Rattle.cics_dispatch.specs.Steps.{attached, issued}
+use Rattle.cics_dispatch.specs.Steps.{Stepped, attached, issued}
 use Rattle.cics_dispatch.specs.Blockers.{waiting_command}
 use Rattle.cics_dispatch.specs.Waking.{clock_set, woken, expired}
 use Rattle.cics_dispatch.specs.Shutdown.{unless_down, shut_down}
@@ -18,17 +20,15 @@ use Rattle.cics_dispatch.specs.declared.outcomes.Refused.{Refused}
 use Rattle.cics_dispatch.specs.declared.outcomes.Refused.TheVariants.{NoMemory}
 use Rattle.cics_script.specs.Lines.{line}
 use Rattle.cics_script.specs.declared.lines.Line.{Line}
-use Rattle.cics_script.specs.declared.lines.Line.TheVariants.{DefineFile, DefineTsPrefix, DefineTd, LoadFile, LoadTd, Clock, Issue, Shutdown}
+use Rattle.cics_script.specs.declared.lines.Line.TheVariants.{Clock, Issue, Shutdown}
 use Rattle.cics_script.specs.declared.faults.LineFault.{LineFault}
 use Rattle.cics_lanes.specs.Orders.{Lanes, numbered_from}
-use Rattle.cics_orders.specs.Firsts.{with_first}
-use Rattle.cics_orders.specs.declared.plans.Plan.{Plan}
-use Rattle.cics_orders.specs.declared.plans.TaskPlan.{TaskPlan}
+use Rattle.cics_plans.specs.Firsts.{with_first}
+use Rattle.cics_plans.specs.Defining.{defined_by}
+use Rattle.cics_plans.specs.Taking.{NumberedLine}
+use Rattle.cics_plans.specs.declared.plans.Plan.{Plan}
+use Rattle.cics_plans.specs.declared.plans.TaskPlan.{TaskPlan}
 use Rattle.cics_orders.specs.declared.lanes.Lane.{Lane}
-
--- a line of a script: its number, and its bytes
-abbrev pub NumberedLine : Type 0
-NumberedLine = ℕ × Bytes
 
 -- a script's plan, the machine of its region, the lanes that give to it, which task's lane gave last, and whether the order so
 -- far is serial: no task within a turn gave a line behind another task's
@@ -78,6 +78,27 @@ abbrev pub IsAnswered : {X : Type 0} → Result X Refused → Type 0
 IsAnswered (Err NoMemory) = ⊥
 IsAnswered _ = Unit {0}
 
+-- an event was answered, or it was refused and changed nothing
+abbrev pub Happens : {X : Type 0} → Machine → Stepped (Result X Refused) → Option X → Machine → Type 0
+Happens m step (Some x) n = (step.outcome ≡ Ok x) × (n ≡ step.machine)
+Happens m step None n = (e : Refused) × (step.outcome ≡ Err e) × (n ≡ m)
+
+-- the step of a command
+unfoldable pub issuing : Machine → Bytes → Command → Stepped (Result Outcome Refused)
+issuing m label command = unless_down m (issued m label command)
+
+-- that of the clock
+unfoldable pub timing : Machine → ℕ → Stepped (Result (Unit {0}) Refused)
+timing m seconds = unless_down m (clock_set m seconds)
+
+-- that of the shutdown
+unfoldable pub shutting : Machine → Stepped (Result ℕ Refused)
+shutting m = unless_down m (shut_down m)
+
+-- that of an attach
+unfoldable pub attaching : Machine → Bytes → ℕ → Stepped (Result (Unit {0}) Refused)
+attaching m label dtimout = unless_down m (attached m label dtimout)
+
 -- an event that is answered leaves its step's machine; one that is refused changes nothing
 abbrev pub left_by : {X : Type 0} → State → (X → List Lane) → Result X Refused → Machine → State
 left_by s lanes (Ok x) m = record s { machine = m; lanes = lanes x }
@@ -86,47 +107,61 @@ left_by s lanes (Err e) m = s
 -- a command, the clock and the shutdown are events; no other line is one
 abbrev pub after_line : State → Result Line LineFault → State
 after_line s (Ok (Issue label command)) =
-    let step = unless_down s.machine (issued s.machine label command) in left_by s (hearing s.lanes label) step.outcome step.machine
+    let step = issuing s.machine label command in left_by s (hearing s.lanes label) step.outcome step.machine
 after_line s (Ok (Clock seconds)) =
-    let step = unless_down s.machine (clock_set s.machine seconds) in left_by s (λ _. s.lanes) step.outcome step.machine
+    let step = timing s.machine seconds in left_by s (λ _. s.lanes) step.outcome step.machine
 after_line s (Ok Shutdown) =
-    let step = unless_down s.machine (shut_down s.machine) in left_by s (λ _. map shut s.lanes) step.outcome step.machine
+    let step = shutting s.machine in left_by s (λ _. map shut s.lanes) step.outcome step.machine
 after_line s _ = s
 
 -- ---- What goes on by itself
 
--- a task whose time is over is abended
-abbrev pub expiry_turn : State → Option Expired → Machine → Option State
-expiry_turn s None m = None
-expiry_turn s (Some e) m = Some (record s { machine = m; lanes = with_told s.lanes e.label (Abended e.code None) })
+-- a task that has waited too long is abended
+abbrev pub late : Machine → Option Expired → Machine → Stepped (Option (Bytes × Outcome))
+late m None next = record { outcome = None; machine = m }
+late m (Some e) next = record { outcome = Some (e.label, Abended e.code None); machine = next }
 
--- a command that may go on comes before that
-abbrev pub waking_turn : State → Option Woken → Machine → Option State → Option State
-waking_turn s None m expiry = expiry
-waking_turn s (Some w) m expiry = Some (record s { machine = m; lanes = hearing s.lanes w.label w.outcome })
+-- a command that may resume comes before that
+abbrev pub resumed : Option Woken → Machine → Stepped (Option (Bytes × Outcome)) → Stepped (Option (Bytes × Outcome))
+resumed None next expiry = expiry
+resumed (Some w) next expiry = record { outcome = Some (w.label, w.outcome); machine = next }
 
--- a task whose time is over, if there is one
-abbrev pub expiry : State → Option State
-expiry s = expiry_turn s (expired s.machine).outcome (expired s.machine).machine
+-- one step of draining, if there is one: which task is told an outcome
+unfoldable pub drain_step : Machine → Stepped (Option (Bytes × Outcome))
+drain_step m = resumed (woken m).outcome (woken m).machine (late m (expired m).outcome (expired m).machine)
 
--- one turn, if there is one to take
-unfoldable pub turn : State → Option State
-turn s = waking_turn s (woken s.machine).outcome (woken s.machine).machine (expiry s)
+-- a step of draining: its outcome, and the machine after it
+abbrev pub Drains : Machine → Option (Bytes × Outcome) → Machine → Type 0
+Drains m told new = (told ≡ (drain_step m).outcome) × (new ≡ (drain_step m).machine)
 
--- a turn was taken, or there was none to take
+-- the state after a step, if there was one
+abbrev pub told_by : State → Option (Bytes × Outcome) → Machine → Option State
+told_by s None m = None
+told_by s (Some told) m = Some (record s { machine = m; lanes = hearing s.lanes told.0 told.1 })
+
+-- the state after the next step of draining, if there is one
+unfoldable pub drained_once : State → Option State
+drained_once s = told_by s (drain_step s.machine).outcome (drain_step s.machine).machine
+
+-- a step was taken, or there was none
 abbrev pub Takes : Option State → State → State → Bool → Type 0
-Takes t s new true = t ≡ Some new
-Takes t s new false = (t ≡ None) × (new ≡ s)
+Takes next s new true = next ≡ Some new
+Takes next s new false = (next ≡ None) × (new ≡ s)
 
--- the turns behind one, if there was one
-abbrev pub behind_turn : State → Option State → (State → State) → State
-behind_turn s None more = s
-behind_turn s (Some t) more = more t
+-- the steps after one, if there was one
+abbrev pub after_step : State → Option State → (State → State) → State
+after_step s None more = s
+after_step s (Some next) more = more next
 
--- So many turns at most. A task waits for one command at most, so as many turns as lanes are enough.
-unfoldable pub settled : ℕ → State → State
-settled zero s = s
-settled (suc turns) s = behind_turn s (turn s) (settled turns)
+-- so many steps at most
+unfoldable pub drained_within : ℕ → State → State
+drained_within zero s = s
+drained_within (suc steps) s = after_step s (drained_once s) (drained_within steps)
+
+-- The region drains: it takes steps until there is none. Each ends the wait of a command, so as many steps as commands wait are
+-- enough. After them nothing goes on by itself (`drained_rests` of proofs/Draining).
+unfoldable pub drained : State → State
+drained s = drained_within (length s.machine.waiting) s
 
 -- ---- Which lanes may give
 
@@ -181,10 +216,10 @@ IsGivable lanes l = (lane : Lane) × (slice_get lanes l ≡ Some lane) × (lane.
 abbrev pub next_says : List Lane → ℕ → Option (Result Line LineFault)
 next_says lanes l = option_map (λ next. line next.1) (option_and_then (λ lane. slice_get lane.lines lane.given) (slice_get lanes l))
 
--- a lane gives a line, and the region settles
+-- a lane gives a line, and the region drains
 abbrev pub given_line : State → ℕ → Lane → Option NumberedLine → State
 given_line s l lane None = s
-given_line s l lane (Some next) = settled (length s.lanes) (after_line (counted s l lane (ends_turn (line next.1))) (line next.1))
+given_line s l lane (Some next) = drained (after_line (counted s l lane (ends_turn (line next.1))) (line next.1))
 
 -- the lane of a number gives its next line
 abbrev pub given_by : State → ℕ → Option Lane → State
@@ -201,18 +236,13 @@ lanes = record { givers = givers; given = given }
 
 -- ---- The start
 
--- what is defined, with a line more
-abbrev pub defined_by : OpeningState → Result Line LineFault → OpeningState
-defined_by o (Ok (DefineFile name d)) = with_file o name d
-defined_by o (Ok (DefineTsPrefix prefix)) = with_prefix o prefix
-defined_by o (Ok (DefineTd name recovery)) = with_queue o name recovery
-defined_by o (Ok (LoadFile name content)) = with_record o name content
-defined_by o (Ok (LoadTd name content)) = with_td_record o name content
-defined_by o _ = o
+-- what is defined, with these lines more
+abbrev pub defined_more : OpeningState → List NumberedLine → OpeningState
+defined_more o lines = fold (λ o next. defined_by o (line next.1)) o lines
 
 -- what these lines define and load
 abbrev pub opened : List NumberedLine → OpeningState
-opened lines = fold (λ o next. defined_by o (line next.1)) nothing_defined lines
+opened lines = defined_more nothing_defined lines
 
 -- an event that is refused changes nothing
 abbrev pub unless_refused : {X : Type 0} → Machine → Result X Refused → Machine → Machine
@@ -220,8 +250,8 @@ unless_refused m (Ok x) next = next
 unless_refused m (Err e) next = m
 
 -- a task is attached
-abbrev pub with_task : Machine → TaskPlan → Machine
-with_task m t = let step = unless_down m (attached m t.label t.dtimout) in unless_refused m step.outcome step.machine
+unfoldable pub with_task : Machine → TaskPlan → Machine
+with_task m t = let step = attaching m t.label t.dtimout in unless_refused m step.outcome step.machine
 
 -- the machine before the first order's first line: each task is attached
 abbrev pub initial_machine : Plan → Machine

@@ -1,3 +1,3 @@
-pub mod Firsts
+pub mod Ended
 pub mod Giving
 pub mod OrderLaws

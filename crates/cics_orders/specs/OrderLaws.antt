@@ -1,16 +1,12 @@
 -- The lines that are left: each line that is given leaves one fewer, and nothing else takes or adds any.
 use Rattle.std.proofs.Common.{◌≡◌, ◌<◌, ◌≤◌, ℕ, zero, suc, ◌+◌, ◌-◌, Bool, true, false, ◌&&◌, List, [], ◌∷◌, ◌++◌, map, length, drop, Option, None, Some, Result, Ok, Err, refl, ap, sym, ◌∙◌, arith, subst}
+use Rattle.std.proofs.lemmas.Option.{slice_get_within}
 use Rattle.std.specs.Prelude.{All, is_some, slice_get, slice_set, if◌then◌else◌}
 use Rattle.std.specs.List.{fold}
 use Rattle.cics_names.specs.Keyed.{Bytes}
 use Rattle.cics_dispatch.specs.Machine.{Machine}
-use Rattle.cics_dispatch.specs.Steps.{issued}
-use Rattle.cics_dispatch.specs.Waking.{clock_set, woken, expired}
-use Rattle.cics_dispatch.specs.Shutdown.{unless_down, shut_down}
 use Rattle.cics_dispatch.specs.declared.outcomes.Outcome.{Outcome}
 use Rattle.cics_dispatch.specs.declared.outcomes.Outcome.TheVariants.{Replied, Waiting, Abended, Ended}
-use Rattle.cics_dispatch.specs.declared.outcomes.Woken.{Woken}
-use Rattle.cics_dispatch.specs.declared.outcomes.Expired.{Expired}
 use Rattle.cics_dispatch.specs.declared.outcomes.Refused.{Refused}
 use Rattle.cics_script.specs.Lines.{line}
 use Rattle.cics_script.specs.declared.lines.Line.{Line}
@@ -18,9 +14,10 @@ use Rattle.cics_script.specs.declared.lines.Line.TheVariants as says
 use Rattle.cics_script.specs.declared.faults.LineFault.{LineFault}
 use Rattle.cics_lanes.specs.Orders.{Order, after, orders, led_by, led_by_any, numbered, IsOrdered}
 use Rattle.cics_lanes.proofs.Givers.{givers_ordered}
-use Rattle.cics_orders.specs.Giving.{NumberedLine, State, is_of, told_more, with_told, hearing, shut, left_by, after_line, expiry_turn, waking_turn, turn, behind_turn, settled, may_give, is_ready, givers, with_given, counted, ends_turn, given_line, given_by, given, lanes, task_lane, fresh_lane, initial_lanes, initial_state, line_count}
-use Rattle.cics_orders.specs.declared.plans.Plan.{Plan}
-use Rattle.cics_orders.specs.declared.plans.TaskPlan.{TaskPlan}
+use Rattle.cics_plans.specs.Taking.{NumberedLine}
+use Rattle.cics_orders.specs.Giving.{issuing, timing, shutting, State, is_of, told_more, with_told, hearing, shut, left_by, after_line, told_by, drain_step, drained_once, after_step, drained_within, drained, may_give, is_ready, givers, with_given, counted, ends_turn, given_line, given_by, given, lanes, task_lane, fresh_lane, initial_lanes, initial_state, line_count}
+use Rattle.cics_plans.specs.declared.plans.Plan.{Plan}
+use Rattle.cics_plans.specs.declared.plans.TaskPlan.{TaskPlan}
 use Rattle.cics_orders.specs.declared.lanes.Lane.{Lane}
 
 -- how many lines the lanes have left
@@ -67,11 +64,11 @@ kept_by s told (Err e) m same = kept s
 
 kept_line : (s : State) (r : Result Line LineFault) → Keeps s (after_line s r)
 kept_line s (Ok (says.Issue label command)) =
-    let step = unless_down s.machine (issued s.machine label command) in kept_by s (hearing s.lanes label) step.outcome step.machine (λ o. left_hearing s.lanes label o)
+    let step = issuing s.machine label command in kept_by s (hearing s.lanes label) step.outcome step.machine (λ o. left_hearing s.lanes label o)
 kept_line s (Ok (says.Clock seconds)) =
-    let step = unless_down s.machine (clock_set s.machine seconds) in kept_by s (λ _. s.lanes) step.outcome step.machine (λ _. refl)
+    let step = timing s.machine seconds in kept_by s (λ _. s.lanes) step.outcome step.machine (λ _. refl)
 kept_line s (Ok says.Shutdown) =
-    let step = unless_down s.machine (shut_down s.machine) in kept_by s (λ _. map shut s.lanes) step.outcome step.machine (λ _. left_shut s.lanes)
+    let step = shutting s.machine in kept_by s (λ _. map shut s.lanes) step.outcome step.machine (λ _. left_shut s.lanes)
 kept_line s (Ok says.Blank) = kept s
 kept_line s (Ok (says.DefineFile name d)) = kept s
 kept_line s (Ok (says.DefineTsPrefix prefix)) = kept s
@@ -81,27 +78,28 @@ kept_line s (Ok (says.LoadTd name content)) = kept s
 kept_line s (Ok (says.Attach label transaction dtimout)) = kept s
 kept_line s (Err fault) = kept s
 
-kept_turn : (s t : State) → turn s ≡ Some t → Keeps s t
-unfolding turn
-kept_turn s t = by (woken s.machine).outcome (expired s.machine).outcome
+kept_step : (s t : State) → drained_once s ≡ Some t → Keeps s t
+unfolding drained_once
+kept_step s t = by (drain_step s.machine).outcome
   where
-    by : (w : Option Woken) (e : Option Expired) → waking_turn s w (woken s.machine).machine (expiry_turn s e (expired s.machine).machine) ≡ Some t → Keeps s t
-    by (Some w) e is =
-        let same : record s { machine = (woken s.machine).machine; lanes = hearing s.lanes w.label w.outcome } ≡ t = cc in
-        subst (Keeps s) same (record { plan = refl; lines = left_hearing s.lanes w.label w.outcome })
-    by None (Some e) is =
-        let same : record s { machine = (expired s.machine).machine; lanes = with_told s.lanes e.label (Abended e.code None) } ≡ t = cc in
-        subst (Keeps s) same (record { plan = refl; lines = left_told s.lanes e.label (Abended e.code None) })
-    by None None is = cc
+    by : (o : Option (Bytes × Outcome)) → told_by s o (drain_step s.machine).machine ≡ Some t → Keeps s t
+    by (Some told) is =
+        let same : record s { machine = (drain_step s.machine).machine; lanes = hearing s.lanes told.0 told.1 } ≡ t = cc in
+        subst (Keeps s) same (record { plan = refl; lines = left_hearing s.lanes told.0 told.1 })
+    by None is = cc
 
-kept_settled : (n : ℕ) (s : State) → Keeps s (settled n s)
-unfolding settled
-kept_settled zero s = kept s
-kept_settled (suc n) s = by (kept_settled n) (turn s) refl
+kept_within : (n : ℕ) (s : State) → Keeps s (drained_within n s)
+unfolding drained_within
+kept_within zero s = kept s
+kept_within (suc n) s = by (kept_within n) (drained_once s) refl
   where
-    by : ((t : State) → Keeps t (settled n t)) → (o : Option State) → turn s ≡ o → Keeps s (behind_turn s o (settled n))
+    by : ((t : State) → Keeps t (drained_within n t)) → (o : Option State) → drained_once s ≡ o → Keeps s (after_step s o (drained_within n))
     by rest None is = kept s
-    by rest (Some t) is = kept_then s t (settled n t) (kept_turn s t is) (rest t)
+    by rest (Some t) is = kept_then s t (drained_within n t) (kept_step s t is) (rest t)
+
+kept_drained : (s : State) → Keeps s (drained s)
+unfolding drained
+kept_drained s = kept_within (length s.machine.waiting) s
 
 -- ---- A line is given
 
@@ -112,12 +110,6 @@ left_given (y ∷ ys) zero x ends at short =
     subst (λ z. suc ((length x.lines - (x.given + 1)) + left ys) ≡ (length z.lines - z.given) + left ys) (sym same) (omega (arith, short))
 left_given (y ∷ ys) (suc l) x ends at short = omega (arith, left_given ys l x ends at short)
 
--- a line that is there, by its number
-line_short : (xs : List NumberedLine) (n : ℕ) (next : NumberedLine) → slice_get xs n ≡ Some next → n < length xs
-line_short [] n next at = cc
-line_short (x ∷ xs) zero next at = omega arith
-line_short (x ∷ xs) (suc n) next at = omega (arith, line_short xs n next at)
-
 -- the plan stays, whatever lane gives
 plan_stays : (s : State) (l : ℕ) → (given s l).plan ≡ s.plan
 unfolding given
@@ -127,7 +119,7 @@ plan_stays s l = by (slice_get s.lanes l)
     more x None = refl
     more x (Some next) =
         let c = counted s l x (ends_turn (line next.1)) in
-        (kept_settled (length s.lanes) (after_line c (line next.1))).plan ∙ (kept_line c (line next.1)).plan
+        (kept_drained (after_line c (line next.1))).plan ∙ (kept_line c (line next.1)).plan
 
     by : (o : Option Lane) → (given_by s l o).plan ≡ s.plan
     by None = refl
@@ -142,8 +134,8 @@ given_fewer s l x at may = ap (λ o. suc (left (given_by s l o).lanes)) at ∙ b
     by None is ready = cc
     by (Some next) is ready =
         let c = counted s l x (ends_turn (line next.1)) in
-        ap suc ((kept_settled (length s.lanes) (after_line c (line next.1))).lines ∙ (kept_line c (line next.1)).lines)
-        ∙ left_given s.lanes l x (ends_turn (line next.1)) at (line_short x.lines x.given next is)
+        ap suc ((kept_drained (after_line c (line next.1))).lines ∙ (kept_line c (line next.1)).lines)
+        ∙ left_given s.lanes l x (ends_turn (line next.1)) at (slice_get_within x.lines x.given next is)
 
 -- ---- No line left
 
@@ -153,7 +145,7 @@ none_left m (x ∷ xs) l none = by (none_left m xs (suc l) (omega (arith, none))
   where
     by : numbered (may_give m) (suc l) xs ≡ [] → (o : Option NumberedLine) → slice_get x.lines x.given ≡ o → numbered (may_give m) l (x ∷ xs) ≡ []
     by rest None is = ap (λ o. if is_some o && is_ready m x.has_ended x.label then l ∷ numbered (may_give m) (suc l) xs else numbered (may_give m) (suc l) xs) is ∙ rest
-    by rest (Some next) is = absurd (omega (arith, none, line_short x.lines x.given next is))
+    by rest (Some next) is = absurd (omega (arith, none, slice_get_within x.lines x.given next is))
 
 -- ---- The numbers of lanes that may give
 

@@ -1,14 +1,13 @@
 //! Lanes, and what their tasks are told.
 
 ghost use Rattle.std.specs.Prelude.{◌≡◌, ◌<◌, IfOk, OnOk, length, map};
-ghost use Rattle.cics_names.specs.Keyed.{is_same};
 ghost use Rattle.cics_orders.specs.Giving.{fresh_lane, initial_lanes, is_of, is_last};
-ghost use Rattle.cics_orders.specs.Firsts.{first_place};
+ghost use Rattle.cics_plans.specs.Firsts.{first_place};
 ghost use Rattle.cics_orders.specs.Giving.{told_more, with_told, hearing, with_given, shut};
 
-use crate::plans::Plan;
 use cics_dispatch::Outcome;
 use cics_names::{Items, Name8, NoMemory, Record};
+use cics_plans::{Plan, is_same};
 use std::alloc::Global;
 
 /// The lines of a task or of the clock, and how far they are given.
@@ -26,13 +25,6 @@ pub struct Lane {
     pub has_ended: bool,
     /// Whether its task is within a turn: its last line didn't end its unit of work.
     pub is_in_turn: bool,
-}
-
-// Whether two labels are the same.
-fn is_same(own: &Name8, label: &Name8) -> bool
-    ensures { result ≡ is_same own.now label.now }
-{
-    *own == *label
 }
 
 // Whether a task has ended that is told this.
@@ -145,6 +137,14 @@ pub(crate) fn hear(lanes: &mut Vec<Lane>, label: &Name8, outcome: Outcome) -> Re
         Outcome::Waiting(_) => Ok(()),
         told => tell(lanes, label, told),
     }
+}
+
+/// Tells a task the outcome of a step of draining: its label, and the outcome.
+pub(crate) fn hear_step(lanes: &mut Vec<Lane>, told: (Name8, Outcome)) -> Result<(), NoMemory>
+    ensures { OnOk result (lanes.new.items ≡ hearing lanes.old.items told.0 told.1) }
+{
+    let (label, outcome) = told;
+    hear(lanes, &label, outcome)
 }
 
 /// Ends each task: the region is shut down.

@@ -1,9 +1,14 @@
-//! Every order in which the tasks of a script may give their lines.
+//! Every order in which the tasks of a plan may give their lines.
 #![tactic(auto)]
 
+mod events;
+mod following;
 mod lanes;
-mod plans;
-mod reading;
+mod laws;
+mod starting;
+mod walks;
 
+pub use following::{Tells, explore_script};
 pub use lanes::Lane;
-pub use plans::{Plan, TaskPlan};
+pub use laws::{lanes_tell_ended_tasks, orders_rest};
+pub use walks::Walker;

@@ -1,11 +1,13 @@
-//! Runs the script on standard input, and prints its journal and listing, or a picture of it, on
-//! standard output.
+//! Runs the script on standard input, and prints its journal and listing, a picture of it, or what
+//! the orders of its lines lead to, on standard output.
 #![tactic(auto)]
 
 use cics_draw::{NoPicture, run_picture};
 use cics_run::{
-    Asked, RunFault, Session, Status, Wanted, arguments, exit_status, run_over, strict_status,
+    Asked, Orders, RunFault, Session, Status, Wanted, arguments, exit_status, run_over,
+    strict_status,
 };
+use cics_survey::{Surveyed, run_orders};
 use cics_told::{Watched, is_left_waiting, told_at_end, told_of};
 use std::io::ErrorKind;
 use std::mem;
@@ -27,6 +29,7 @@ fn main(rt: HostRuntime) -> ExitCode {
             Err(NoPicture::Stopped(fault)) => stopped(rt, fault),
             Ok(status) => ExitCode::from(exit_status(&Ok(status))),
         },
+        Ok(Asked::Orders(wanted)) => follow_orders(rt, wanted),
         Ok(Asked::Help(text)) => match print!(rt; "{text}") {
             Ok(()) => ExitCode::SUCCESS,
             Err(_) => stopped(rt, RunFault::WriteFault),
@@ -62,6 +65,19 @@ fn draw_to_the_end(rt: HostRuntime) -> Result<Status, NoPicture> {
     }
     mem::forget(session);
     answer
+}
+
+// Follows the orders of the script on standard input.
+fn follow_orders(rt: HostRuntime, wanted: Orders) -> ExitCode {
+    match run_orders(rt.alloc(), &mut rt.stdin(), &mut rt.stdout(), wanted) {
+        Ok(Surveyed::Done) => ended(rt, Ok(exit_status(&Ok(Status::Done)))),
+        Ok(Surveyed::LineFault) => ended(rt, Ok(exit_status(&Ok(Status::LineFault)))),
+        Ok(Surveyed::NoEnding(count)) => {
+            let _ = eprintln!(rt; "cicsrun: there are {count} endings");
+            ExitCode::from(BAD_ARGUMENTS)
+        }
+        Err(fault) => stopped(rt, fault),
+    }
 }
 
 // Says on standard error what a run leaves a person to know: what its faulty line needs, or its

@@ -1,7 +1,7 @@
 use Rattle.std.proofs.Common.{arith, ◌≡◌, ◌∙◌, ap, sym, Some, None, [], slice_set, get_or}
-use Rattle.cics_orders.specs.Firsts.{first_place}
+use Rattle.cics_plans.specs.Firsts.{first_place}
 use Rattle.cics_orders.specs.Giving.{is_of, told_more, fresh_lane}
-use Rattle.cics_orders.proofs.Changed.{first_at, first_none}
+use Rattle.cics_plans.proofs.Changed.{first_at, first_none}
 use Rattle.cics_orders.proofs.lanes.tell.Goals as goal
 
 -- the place that was found is in range

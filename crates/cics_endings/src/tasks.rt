@@ -1,0 +1,123 @@
+//! The lines of tasks.
+
+ghost use Rattle.std.specs.Prelude.{◌≡◌, ◌++◌, ◌-◌, OnOk, IfOk, length, slice_get};
+ghost use Rattle.cics_dispatch.specs.Blockers.{blocker_of, waiting_command};
+ghost use Rattle.cics_plans.specs.Taking.{NumberedLine};
+ghost use Rattle.cics_endings.specs.Telling.{end_text, blocker_text, number_text, stand_text};
+ghost use Rattle.cics_endings.specs.Telling.{state_text, task_text, told_text};
+
+use cics_dispatch::{Outcome, Region};
+use cics_names::{Name8, NoMemory, Record};
+use cics_orders::Lane;
+use cics_run::journal::push_outcome;
+use cics_script::{push_bare, push_number, push_str};
+use std::alloc::Global;
+
+// Puts how a task has ended at the end.
+fn push_end(out: &mut Vec<u8>, told: &[Outcome]) -> Result<(), NoMemory>
+    ensures { OnOk result (out.new.items
+        ≡ out.old.items ++ end_text (slice_get told.now (length told.now - 1))) }
+{
+    match told.last() {
+        Some(Outcome::Ended) => push_str(out, " ENDED"),
+        Some(Outcome::Abended(code, _)) => {
+            push_str(out, " ABEND ")?;
+            push_bare(out, &code.0.bytes())
+        }
+        _ => push_str(out, " SHUTDOWN"),
+    }
+}
+
+// Puts the task that another one waits for at the end.
+fn push_blocker(out: &mut Vec<u8>, region: &Region, label: &Name8) -> Result<(), NoMemory>
+    ensures { OnOk result (out.new.items
+        ≡ out.old.items ++ blocker_text (blocker_of region.now.machine label.now)) }
+{
+    match region.blocker(label) {
+        Some(blocker) => push_bare(out, &blocker.bytes()),
+        None => Ok(()),
+    }
+}
+
+// Puts the number of the line that a lane gave last at the end.
+fn push_last_number(out: &mut Vec<u8>, lane: &Lane) -> Result<(), NoMemory>
+    ensures { OnOk result (out.new.items
+        ≡ out.old.items ++ number_text (slice_get lane.now.lines (lane.now.given - 1))) }
+{
+    match lane.lines.as_slice().get(lane.given.saturating_sub(1)) {
+        Some((number, _)) => push_number(out, *number),
+        None => Ok(()),
+    }
+}
+
+// Puts at the end what a task does that has not ended.
+fn push_stand(
+    out: &mut Vec<u8>,
+    region: &Region,
+    label: &Name8,
+    lane: &Lane,
+) -> Result<(), NoMemory>
+    ensures { OnOk result (out.new.items ≡ out.old.items ++ stand_text region.now.machine label.now
+        (slice_get lane.now.lines (lane.now.given - 1))
+        (waiting_command region.now.machine label.now)) }
+{
+    if region.waiting_command(label).is_none() {
+        let is_open = region.unit(label).is_some();
+        return push_str(out, if is_open { " OPEN" } else { " IDLE" });
+    }
+    push_str(out, " WAITING ")?;
+    push_blocker(out, region, label)?;
+    push_str(out, " LINE ")?;
+    push_last_number(out, lane)
+}
+
+// Puts at the end what a task does.
+fn push_state(
+    out: &mut Vec<u8>,
+    region: &Region,
+    label: &Name8,
+    lane: &Lane,
+) -> Result<(), NoMemory>
+    ensures { OnOk result (out.new.items
+        ≡ out.old.items ++ state_text region.now.machine label.now lane.now) }
+{
+    if lane.has_ended {
+        push_end(out, lane.told.as_slice())
+    } else {
+        push_stand(out, region, label, lane)
+    }
+}
+
+/// The line of a task.
+pub(crate) fn task_part(
+    alloc: Global,
+    region: &Region,
+    label: &Name8,
+    lane: &Lane,
+) -> Result<Record, NoMemory>
+    ensures { IfOk result (λ part. part ≡ task_text region.now.machine label.now lane.now) }
+{
+    let mut text = Vec::new(alloc);
+    push_str(&mut text, "TASK ")?;
+    push_bare(&mut text, &label.bytes())?;
+    push_state(&mut text, region, label, lane)?;
+    push_str(&mut text, "\n")?;
+    Ok(Record::new(text))
+}
+
+/// What a task was told of a line.
+pub(crate) fn told_part(
+    alloc: Global,
+    label: &Name8,
+    number: u64,
+    outcome: &Outcome,
+) -> Result<Record, NoMemory>
+    ensures { IfOk result (λ part. part ≡ told_text label.now number outcome.now) }
+{
+    let mut text = Vec::new(alloc);
+    push_str(&mut text, "LINE ")?;
+    push_number(&mut text, number)?;
+    push_str(&mut text, " ")?;
+    push_outcome(&mut text, *label, outcome)?;
+    Ok(Record::new(text))
+}

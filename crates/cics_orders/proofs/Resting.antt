@@ -1,0 +1,67 @@
+-- After each line of an order nothing goes on by itself.
+use Rattle.std.proofs.Common.{◌≡◌, ℕ, Bool, true, false, List, [], ◌∷◌, Option, None, Some, Result, Err, refl, ap, ◌∙◌}
+use Rattle.std.specs.Prelude.{slice_get, if◌then◌else◌}
+use Rattle.std.specs.List.{fold}
+use Rattle.cics_dispatch.specs.Machine.{Machine, beginning_region}
+use Rattle.cics_dispatch.specs.Steps.{Stepped, attach_refusal, with_new_task, refused_or}
+use Rattle.cics_dispatch.specs.Waking.{woken_first, first_free, expired_task, first_late, IsAtRest}
+use Rattle.cics_dispatch.specs.declared.outcomes.Refused.{Refused}
+use Rattle.cics_dispatch.specs.declared.outcomes.Refused.TheVariants.{RegionDown}
+use Rattle.cics_script.specs.Lines.{line}
+use Rattle.cics_lanes.specs.Orders.{Order, after}
+use Rattle.cics_plans.specs.Taking.{NumberedLine}
+use Rattle.cics_plans.specs.declared.plans.Plan.{Plan}
+use Rattle.cics_plans.specs.declared.plans.TaskPlan.{TaskPlan}
+use Rattle.cics_orders.specs.Giving.{State, attaching, after_line, ends_turn, counted, given_line, given_by, given, lanes, opened, unless_refused, with_task, initial_machine, initial_state}
+use Rattle.cics_orders.specs.declared.lanes.Lane.{Lane}
+use Rattle.cics_orders.proofs.Draining.{drained_rests}
+
+-- ---- The start
+
+-- an attach makes no command wait
+attach_waits : (m : Machine) (t : TaskPlan) → (with_task m t).waiting ≡ m.waiting
+unfolding with_task attaching
+attach_waits m t = by m.is_down (attach_refusal m t.label)
+  where
+    step : Bool → Option Refused → Machine
+    step down refusal =
+        let next : Stepped (Result (Unit {0}) Refused)
+        = if down then record { outcome = Err RegionDown; machine = m } else refused_or m refusal (record { outcome = tt; machine = with_new_task m t.label t.dtimout }) in
+        unless_refused m next.outcome next.machine
+
+    by : (down : Bool) (refusal : Option Refused) → (step down refusal).waiting ≡ m.waiting
+    by true refusal = refl
+    by false (Some e) = refl
+    by false None = refl
+
+pub attaches_wait : (m : Machine) (ts : List TaskPlan) → (fold with_task m ts).waiting ≡ m.waiting
+attaches_wait m [] = refl
+attaches_wait m (t ∷ ts) = attaches_wait (with_task m t) ts ∙ attach_waits m t
+
+-- if no command waits, nothing goes on by itself
+none_waits : (m : Machine) → m.waiting ≡ [] → IsAtRest m
+none_waits m none = (ap (λ ws. (woken_first m (first_free m ws)).outcome) none, ap (λ ws. (expired_task m (first_late m ws)).outcome) none)
+
+pub start_rests : (p : Plan) → IsAtRest (initial_state p).machine
+unfolding initial_state
+start_rests p = none_waits (initial_machine p) (attaches_wait (beginning_region (opened p.definitions)) p.tasks)
+
+-- ---- A line
+
+given_rests : (s : State) (l : ℕ) → IsAtRest s.machine → IsAtRest (given s l).machine
+unfolding given
+given_rests s l rests = by (slice_get s.lanes l)
+  where
+    more : (x : Lane) (o : Option NumberedLine) → IsAtRest (given_line s l x o).machine
+    more x None = rests
+    more x (Some next) = drained_rests (after_line (counted s l x (ends_turn (line next.1))) (line next.1))
+
+    by : (o : Option Lane) → IsAtRest (given_by s l o).machine
+    by None = rests
+    by (Some x) = more x (slice_get x.lines x.given)
+
+-- ---- An order
+
+pub after_rests : (s : State) (o : Order) → IsAtRest s.machine → IsAtRest (after lanes s o).machine
+after_rests s [] rests = rests
+after_rests s (l ∷ o) rests = after_rests (given s l) o (given_rests s l rests)

@@ -1,0 +1,13 @@
+use Rattle.cics_dispatch.specs.Steps.{attached}
+use Rattle.cics_dispatch.specs.Shutdown.{unless_down}
+use Rattle.cics_orders.specs.Giving.{attaching}
+use Rattle.cics_orders.proofs.Steps.{happened}
+use Rattle.cics_orders.proofs.events.attach.Goals as goal
+
+-- the call is the event's step
+pub returns : goal.returns
+unfolding attaching
+returns c =
+    let old = c.args.region.now in
+    happened _ old (unless_down old.machine (attached old.machine c.args.task.now.label c.args.task.now.dtimout)) c.attach-answer.new.self c.attach-answer.result c.in_ok-told.told
+    c.attach-answer.ensures.step c.in_ok-told.ensures.answered c.in_ok-told.ensures.told

@@ -1,0 +1,13 @@
+use Rattle.cics_dispatch.specs.Steps.{issued}
+use Rattle.cics_dispatch.specs.Shutdown.{unless_down}
+use Rattle.cics_orders.specs.Giving.{issuing}
+use Rattle.cics_orders.proofs.Steps.{happened}
+use Rattle.cics_orders.proofs.events.issue.Goals as goal
+
+-- the call is the event's step
+pub returns : goal.returns
+unfolding issuing
+returns c =
+    let old = c.args.region.now in
+    happened _ old (unless_down old.machine (issued old.machine c.args.label c.args.command)) c.issue-answer.new.self c.issue-answer.result c.in_ok-told.told
+    c.issue-answer.ensures.step c.in_ok-told.ensures.answered c.in_ok-told.ensures.told

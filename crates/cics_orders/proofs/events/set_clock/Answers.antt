@@ -1,0 +1,13 @@
+use Rattle.cics_dispatch.specs.Waking.{clock_set}
+use Rattle.cics_dispatch.specs.Shutdown.{unless_down}
+use Rattle.cics_orders.specs.Giving.{timing}
+use Rattle.cics_orders.proofs.Steps.{happened}
+use Rattle.cics_orders.proofs.events.set_clock.Goals as goal
+
+-- the call is the event's step
+pub returns : goal.returns
+unfolding timing
+returns c =
+    let old = c.args.region.now in
+    happened _ old (unless_down old.machine (clock_set old.machine c.args.seconds)) c.set_clock-answer.new.self c.set_clock-answer.result c.in_ok-told.told
+    c.set_clock-answer.ensures.step c.in_ok-told.ensures.answered c.in_ok-told.ensures.told

@@ -1,0 +1,12 @@
+use Rattle.cics_dispatch.specs.Shutdown.{shut_down, unless_down}
+use Rattle.cics_orders.specs.Giving.{shutting}
+use Rattle.cics_orders.proofs.Steps.{happened}
+use Rattle.cics_orders.proofs.events.shut_down.Goals as goal
+
+-- the call is the event's step
+pub returns : goal.returns
+unfolding shutting
+returns c =
+    let old = c.args.region.now in
+    happened _ old (unless_down old.machine (shut_down old.machine)) c.shutdown-answer.new.self c.shutdown-answer.result c.in_ok-told.told
+    c.shutdown-answer.ensures.step c.in_ok-told.ensures.answered c.in_ok-told.ensures.told

@@ -1,0 +1,5 @@
+use Rattle.cics_orders.proofs.EndedLanes.{orders_agree}
+use Rattle.cics_orders.proofs.laws.lanes_tell_ended_tasks.Goals as goal
+
+pub returns : goal.returns
+returns c = orders_agree

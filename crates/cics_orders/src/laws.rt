@@ -1,0 +1,20 @@
+//! The laws of orders.
+//!
+//! The contract of each function is a law, and its body is empty.
+
+ghost use Rattle.cics_dispatch.specs.Waking.{IsAtRest};
+ghost use Rattle.cics_lanes.specs.Orders.{Order, after};
+ghost use Rattle.cics_plans.specs.declared.plans.Plan.{Plan};
+ghost use Rattle.cics_orders.specs.Giving.{lanes, initial_state};
+ghost use Rattle.cics_orders.specs.Ended.{Agrees};
+
+/// After each line of an order nothing goes on by itself: no waiting command may resume, and no
+/// task has waited too long.
+pub fn orders_rest()
+    ensures { (p : Plan) (o : Order) → IsAtRest (after lanes (initial_state p) o).machine }
+{}
+
+/// After every order the lanes and the region agree on which tasks have ended.
+pub fn lanes_tell_ended_tasks()
+    ensures { (p : Plan) (o : Order) → Agrees (after lanes (initial_state p) o) }
+{}

@@ -1,0 +1,91 @@
+//! The region that each order of a plan starts from.
+
+ghost use Rattle.std.specs.Prelude.{◌≡◌, IfOk, OnOk};
+ghost use Rattle.cics_script.specs.Lines.{line};
+ghost use Rattle.cics_dispatch.specs.Machine.{beginning_region};
+ghost use Rattle.std.specs.List.{fold};
+ghost use Rattle.cics_plans.specs.Defining.{defined_by};
+ghost use Rattle.cics_orders.specs.Giving.{defined_more, opened};
+ghost use Rattle.cics_orders.specs.Giving.{with_task, initial_machine};
+
+use crate::events;
+use cics_dispatch::Region;
+use cics_names::{NoMemory, Record};
+use cics_plans::{Plan, TaskPlan, define, read};
+use cics_units::Opening;
+use std::alloc::Global;
+
+// Defines or loads what a line says.
+#[tactic(auto, unfolding(cics_plans::specs::Defining::defined_by))]
+fn define_next(alloc: Global, opening: &mut Opening, bytes: &[u8]) -> Result<(), NoMemory>
+    ensures { OnOk result (opening.new ≡ defined_by opening.old (line bytes.now)) }
+{
+    match read(alloc, bytes)? {
+        Ok(line) => match define(opening, line) {
+            Ok(()) => Ok(()),
+            // No definition of a plan has a fault, so memory was refused.
+            Err(_) => Err(NoMemory),
+        },
+        Err(_) => Ok(()),
+    }
+}
+
+// Defines and loads what lines say.
+fn define_all(alloc: Global, opening: &mut Opening, lines: &[(u64, Record)]) -> Result<(), NoMemory>
+    ensures { OnOk result (opening.new ≡ defined_more opening.old lines.now) }
+{
+    for (_, bytes) in lines {
+        define_next(alloc, opening, bytes.bytes())?;
+    }
+    Ok(())
+}
+
+// Returns what lines define and load.
+fn opened(alloc: Global, lines: &[(u64, Record)]) -> Result<Opening, NoMemory>
+    ensures { IfOk result (λ opening. opening ≡ opened lines.now) }
+{
+    let mut opening = Opening::new(alloc);
+    define_all(alloc, &mut opening, lines)?;
+    Ok(opening)
+}
+
+// Attaches a task, unless that is refused.
+#[tactic(auto, unfolding(crate::specs::Giving::with_task))]
+fn attach(region: &mut Region, task: &TaskPlan) -> Result<(), NoMemory>
+    ensures { OnOk result (region.new.machine ≡ with_task region.old.machine task.now) }
+{
+    events::attach(region, task)?;
+    Ok(())
+}
+
+// Returns the region of an opening.
+fn region_of(opening: Opening) -> Result<Region, NoMemory>
+    ensures { IfOk result (λ region. region.machine ≡ beginning_region opening) }
+{
+    match Region::new(opening) {
+        Ok(region) => Ok(region),
+        Err(_) => Err(NoMemory),
+    }
+}
+
+// Attaches tasks.
+fn attach_all(region: &mut Region, tasks: &[TaskPlan]) -> Result<(), NoMemory>
+    ensures { OnOk result (region.new.machine ≡ fold with_task region.old.machine tasks.now) }
+{
+    for task in tasks {
+        attach(region, task)?;
+    }
+    Ok(())
+}
+
+/// Returns the region before the first line: what the plan defines and loads is there, and its
+/// tasks are attached.
+///
+/// Errors: `NoMemory`.
+pub(crate) fn initial_region(alloc: Global, plan: &Plan) -> Result<Region, NoMemory>
+    ensures { IfOk result (λ region. region.machine ≡ initial_machine plan.now) }
+{
+    let mut region = region_of(opened(alloc, plan.definitions.as_slice())?)?;
+    attach_all(&mut region, plan.tasks.as_slice())?;
+    Ok(region)
+}

@@ -1,0 +1,350 @@
+//! The region of a script, and the lanes that give their lines to it.
+
+ghost use Rattle.std.specs.Prelude.{◌≡◌, suc, Some, Ok, IfOk, OnOk, slice_get};
+ghost use Rattle.cics_dispatch.specs.Waking.{IsAtRest};
+ghost use Rattle.cics_script.specs.declared.lines.Line.TheVariants.{Issue, Clock, Shutdown};
+ghost use Rattle.cics_lanes.specs.Orders.{IsFirst, numbered_from};
+ghost use Rattle.cics_orders.specs.Giving.{State, initial_state, line_count, is_ready, may_give};
+ghost use Rattle.cics_orders.specs.Giving.{ends_turn, is_end, is_lane, counted, after_line};
+ghost use Rattle.cics_orders.specs.Giving.{drained, drained_once, givers, given};
+ghost use Rattle.cics_orders.specs.Giving.{Takes, IsGivable, next_says};
+
+use crate::events;
+use crate::lanes::{Lane, hear, hear_step, initial_lanes, shut_all};
+use crate::starting::initial_region;
+use cics_dispatch::Region;
+use cics_names::{Command, Name8, NoMemory, Verb};
+use cics_plans::{Plan, read};
+use cics_script::{Line, LineFault};
+use std::alloc::Global;
+use std::marker::Model;
+
+/// The region of a plan, and the lanes that give their lines to it, one after the other.
+///
+/// After an error its state is unspecified.
+#[derive(Drop)]
+pub struct Walker {
+    alloc: Global,
+    plan: Plan,
+    // How many lines an order has at most.
+    most: usize,
+    region: Region,
+    lanes: Vec<Lane>,
+    // The task's lane that gave last.
+    last: Option<usize>,
+    // Whether the order so far is serial.
+    is_serial: bool,
+}
+
+impl Model for Walker {
+    ghost use Rattle.std.specs.Prelude.{◌≡◌};
+    ghost use Rattle.cics_orders.specs.Giving.{State, line_count};
+
+    ghost Value = { State };
+
+    ghost view = { λ w. record {
+      plan = w.plan;
+      machine = w.region.machine;
+      lanes = w.lanes.items;
+      last = w.last;
+      is_serial = w.is_serial;
+    } };
+
+    ghost invariant = { λ w. w.most ≡ line_count w.plan };
+}
+
+// Returns how many lines the lanes of a plan have.
+fn line_count(plan: &Plan) -> Result<usize, NoMemory>
+    ensures { IfOk result (λ count. count ≡ line_count plan.now) }
+{
+    let mut count = plan.clock.len();
+    for task in plan.tasks.as_slice() {
+        let Some(more) = count.checked_add(task.lines.len()) else {
+            return Err(NoMemory);
+        };
+        count = more;
+    }
+    Ok(count)
+}
+
+// Returns whether a lane is ready: it is the clock's, or its task has not ended and doesn't wait.
+fn is_ready(region: &Region, lane: &Lane) -> bool
+    ensures { result ≡ is_ready region.now.machine lane.now.has_ended lane.now.label }
+{
+    match &lane.label {
+        Some(label) => !lane.has_ended && region.waiting_command(label).is_none(),
+        None => true,
+    }
+}
+
+// Returns whether a lane may give: it has a line left and is ready.
+fn may_give(region: &Region, lane: &Lane) -> bool
+    ensures { result ≡ may_give region.now.machine lane.now }
+{
+    lane.given < lane.lines.len() && is_ready(region, lane)
+}
+
+// Returns the first lane that may give, from a number on.
+fn giver_from(region: &Region, lanes: &[Lane], from: usize) -> Option<usize>
+    ensures { IsFirst result (numbered_from (may_give region.now.machine) lanes.now from) }
+{
+    for i in from..lanes.len() {
+        if may_give(region, &lanes[i]) {
+            return Some(i);
+        }
+    }
+    None
+}
+
+// Returns whether a verb ends a unit of work.
+fn is_end(verb: &Verb) -> bool
+    ensures { result ≡ is_end verb.now }
+{
+    matches!(
+        verb,
+        Verb::Syncpoint | Verb::Rollback | Verb::Return | Verb::Abend { .. }
+    )
+}
+
+// Returns whether a line ends its task's turn.
+fn ends_turn(says: &Result<Line, LineFault>) -> bool
+    ensures { result ≡ ends_turn says.now }
+{
+    match says {
+        Ok(Line::Issue(_, command)) => is_end(&command.verb),
+        _ => false,
+    }
+}
+
+// Returns whether the lane of a number gave last.
+fn is_lane(last: Option<usize>, number: usize) -> bool
+    ensures { result ≡ is_lane last number }
+{
+    match last {
+        Some(own) => own == number,
+        None => false,
+    }
+}
+
+// Reads the next line of the lane of a number. `None` if it has none left.
+fn read_next(
+    alloc: Global,
+    lanes: &[Lane],
+    number: usize,
+) -> Result<Option<Result<Line, LineFault>>, NoMemory>
+    ensures { IfOk result (λ says. says ≡ next_says lanes.now number) }
+{
+    if number >= lanes.len() {
+        return Ok(None);
+    }
+    let lane = &lanes[number];
+    let lines = lane.lines.as_slice();
+    if lane.given >= lines.len() {
+        return Ok(None);
+    }
+    let says = read(alloc, lines[lane.given].1.bytes())?;
+    Ok(Some(says))
+}
+
+impl Walker {
+    /// Returns the walker of a plan in the initial state.
+    ///
+    /// Errors: `NoMemory`.
+    #[tactic(auto, unfolding(crate::specs::Giving::initial_state))]
+    pub fn new(alloc: Global, plan: Plan) -> Result<Walker, NoMemory>
+        ensures { IfOk result (λ walker. walker ≡ initial_state plan) }
+    {
+        let most = line_count(&plan)?;
+        let lanes = initial_lanes(alloc, &plan)?;
+        let region = initial_region(alloc, &plan)?;
+        Ok(Walker {
+            alloc,
+            plan,
+            most,
+            region,
+            lanes,
+            last: None,
+            is_serial: true,
+        })
+    }
+
+    /// Returns the plan.
+    pub fn plan(&self) -> &Plan
+        ensures { result.now ≡ self.now.plan }
+    {
+        &self.plan
+    }
+
+    /// Returns the region.
+    pub fn region(&self) -> &Region
+        ensures { result.now.machine ≡ self.now.machine }
+    {
+        &self.region
+    }
+
+    /// Returns the lanes: those of tasks in the order of attach, the clock's last.
+    pub fn lanes(&self) -> &[Lane]
+        ensures { result.now ≡ self.now.lanes }
+    {
+        self.lanes.as_slice()
+    }
+
+    /// Goes back to the initial state.
+    ///
+    /// Errors: `NoMemory`.
+    #[tactic(auto, unfolding(crate::specs::Giving::initial_state))]
+    pub fn restart(&mut self) -> Result<(), NoMemory>
+        ensures { OnOk result (self.new ≡ initial_state self.old.plan) }
+    {
+        self.lanes = initial_lanes(self.alloc, &self.plan)?;
+        self.region = initial_region(self.alloc, &self.plan)?;
+        self.last = None;
+        self.is_serial = true;
+        Ok(())
+    }
+
+    /// Returns how many lines an order has at most.
+    pub fn line_count(&self) -> usize
+        ensures { result ≡ line_count self.now.plan }
+    {
+        self.most
+    }
+
+    /// Returns the first lane that may give.
+    pub fn first_giver(&self) -> Option<usize>
+        ensures { IsFirst result (givers self.now 0) }
+    {
+        giver_from(&self.region, &self.lanes, 0)
+    }
+
+    /// Returns the first lane after another that may give.
+    pub fn giver_after(&self, number: usize) -> Option<usize>
+        ensures { IsFirst result (givers self.now (suc number)) }
+    {
+        if number < self.lanes.len() {
+            giver_from(&self.region, &self.lanes, number + 1)
+        } else {
+            None
+        }
+    }
+
+    /// Returns whether the order so far is serial: no task within a turn gave a line after another
+    /// task's.
+    pub fn is_serial(&self) -> bool
+        ensures { result ≡ self.now.is_serial }
+    {
+        self.is_serial
+    }
+
+    // Counts the next line of a lane as given, which may end its task's turn.
+    fn count(&mut self, number: usize, ends_turn: bool)
+        requires { IsGivable self.old.lanes number }
+        ensures { (lane : Lane) → slice_get self.old.lanes number ≡ Some lane →
+            self.new ≡ counted self.old number lane ends_turn }
+    {
+        let lane = &self.lanes[number];
+        self.is_serial = self.is_serial && (!lane.is_in_turn || is_lane(self.last, number));
+        if lane.label.is_some() {
+            self.last = Some(number);
+        }
+        self.lanes[number].give(ends_turn);
+    }
+
+    // Gives a command to the region.
+    fn issue(&mut self, label: Name8, command: Command) -> Result<(), NoMemory>
+        ensures { OnOk result (self.new ≡ after_line self.old (Ok (Issue label command))) }
+    {
+        match events::issue(&mut self.region, label, command)? {
+            Some(outcome) => {
+                hear(&mut self.lanes, &label, outcome)?;
+                Ok(())
+            }
+            None => Ok(()),
+        }
+    }
+
+    // Sets the clock of the region.
+    fn set_clock(&mut self, seconds: u64) -> Result<(), NoMemory>
+        ensures { OnOk result (self.new ≡ after_line self.old (Ok (Clock seconds))) }
+    {
+        match events::set_clock(&mut self.region, seconds)? {
+            Some(()) => Ok(()),
+            None => Ok(()),
+        }
+    }
+
+    // Shuts the region down.
+    fn shut_down(&mut self) -> Result<(), NoMemory>
+        ensures { OnOk result (self.new ≡ after_line self.old (Ok Shutdown)) }
+    {
+        match events::shut_down(&mut self.region)? {
+            Some(_) => {
+                shut_all(&mut self.lanes);
+                Ok(())
+            }
+            None => Ok(()),
+        }
+    }
+
+    // Does what a line says: a command, the clock and the shutdown are events, and no other line is
+    // one.
+    fn follow(&mut self, line: Line) -> Result<(), NoMemory>
+        ensures { OnOk result (self.new ≡ after_line self.old (Ok line)) }
+    {
+        match line {
+            Line::Issue(label, command) => self.issue(label, command),
+            Line::Clock(seconds) => self.set_clock(seconds),
+            Line::Shutdown => self.shut_down(),
+            _ => Ok(()),
+        }
+    }
+
+    // Does what a line says. A line that can't be read does nothing.
+    fn follow_read(&mut self, says: Result<Line, LineFault>) -> Result<(), NoMemory>
+        ensures { OnOk result (self.new ≡ after_line self.old says) }
+    {
+        match says {
+            Ok(line) => self.follow(line),
+            Err(_) => Ok(()),
+        }
+    }
+
+    // Takes one step of draining. Returns whether there was one.
+    fn drain_once(&mut self) -> Result<bool, NoMemory>
+        ensures { IfOk result (Takes (drained_once self.old) self.old self.new) }
+    {
+        match events::drain_step(&mut self.region)? {
+            Some(told) => {
+                hear_step(&mut self.lanes, told)?;
+                Ok(true)
+            }
+            None => Ok(false),
+        }
+    }
+
+    // Drains the region: takes steps until there is none.
+    fn drain(&mut self) -> Result<(), NoMemory>
+        ensures drained { OnOk result (self.new ≡ drained self.old) }
+        ensures rest { OnOk result (IsAtRest self.new.machine) }
+    {
+        while self.drain_once()? {}
+        Ok(())
+    }
+
+    /// Gives the next line of a lane, if it has one left, and drains the region.
+    ///
+    /// Errors: `NoMemory`.
+    pub fn give(&mut self, number: usize) -> Result<(), NoMemory>
+        ensures { OnOk result (self.new ≡ given self.old number) }
+    {
+        let lanes = self.lanes.as_slice();
+        let next = read_next(self.alloc, lanes, number)?;
+        let Some(says) = next else {
+            return Ok(());
+        };
+        self.count(number, ends_turn(&says));
+        self.follow_read(says)?;
+        self.drain()?;
+        Ok(())
+    }
+}

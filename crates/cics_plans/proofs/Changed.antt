@@ -1,0 +1,40 @@
+-- The first element of a list that is one is changed; each element is.
+use Rattle.std.proofs.Common.{◌≡◌, ◌<◌, ℕ, zero, suc, Bool, true, false, List, [], ◌∷◌, ◌++◌, map, length, take, drop, get_or, Option, None, Some, option_map, refl, ap, ◌∙◌, arith}
+use Rattle.std.specs.Prelude.{slice_set, if◌then◌else◌}
+use Rattle.cics_plans.specs.Firsts.{first_place, with_first}
+
+-- where none is one, nothing is changed
+pub first_none : {X : Type 0} (is : X → Bool) (change : X → X) (xs : List X) → first_place is xs ≡ None → with_first is change xs ≡ xs
+first_none is change [] none = refl
+first_none {X} is change (x ∷ xs) none = by (first_none is change xs) (is x) (first_place is xs) refl none
+  where
+    by : (first_place is xs ≡ None → with_first is change xs ≡ xs) → (b : Bool) (p : Option ℕ) → first_place is xs ≡ p →
+        (if b then Some 0 else option_map suc p) ≡ None → (if b then change x ∷ xs else x ∷ with_first is change xs) ≡ x ∷ xs
+    by rest true p at none = absurd (grind (arith, none))
+    by rest false None at none = ap (λ ys. x ∷ ys) (rest at)
+    by rest false (Some n) at none = absurd (grind (arith, none))
+
+-- else the one at that place is
+pub first_at : {X : Type 0} (is : X → Bool) (change : X → X) (xs : List X) (n : ℕ) (d : X) → first_place is xs ≡ Some n →
+    (n < length xs) × (with_first is change xs ≡ slice_set xs n (change (get_or xs n d)))
+first_at is change [] n d place = absurd (grind (arith, place))
+first_at {X} is change (x ∷ xs) n d place = by (first_at is change xs) (is x) (first_place is xs) n refl place
+  where
+    by : ((n : ℕ) (d : X) → first_place is xs ≡ Some n → (n < length xs) × (with_first is change xs ≡ slice_set xs n (change (get_or xs n d)))) →
+        (b : Bool) (p : Option ℕ) (n : ℕ) → first_place is xs ≡ p → (if b then Some 0 else option_map suc p) ≡ Some n →
+        (n < length (x ∷ xs)) × ((if b then change x ∷ xs else x ∷ with_first is change xs) ≡ slice_set (x ∷ xs) n (change (get_or (x ∷ xs) n d)))
+    by rest true p zero at place = (omega arith, refl)
+    by rest true p (suc n) at place = absurd (grind (arith, place))
+    by rest false None n at place = absurd (grind (arith, place))
+    by rest false (Some k) zero at place = absurd (grind (arith, place))
+    by rest false (Some k) (suc n) at place =
+        let same : k ≡ n = grind (arith, place) in
+        let tail = rest n d (at ∙ ap Some same) in
+        (omega (arith, tail.0), ap (λ ys. x ∷ ys) tail.1)
+
+-- a list whose elements are changed one after the other, a step further
+pub map_step : {X : Type 0} (f : X → X) (xs : List X) (i : ℕ) (d : X) → i < length xs →
+    slice_set (map f (take i xs) ++ drop i xs) i (f (get_or (map f (take i xs) ++ drop i xs) i d)) ≡ map f (take (suc i) xs) ++ drop (suc i) xs
+map_step f [] i d short = absurd (omega (arith, short))
+map_step f (x ∷ xs) zero d short = refl
+map_step f (x ∷ xs) (suc i) d short = ap (λ ys. f x ∷ ys) (map_step f xs i d (omega (arith, short)))

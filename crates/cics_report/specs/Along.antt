@@ -1,0 +1,35 @@
+-- The lines of an order: each lane gives the next of its own.
+use Rattle.std.specs.Prelude.{ℕ, ◌+◌, List, [], ◌∷◌, ◌++◌, length, replicate, get_or, Option, Some, None, slice_get, slice_set}
+use Rattle.std.specs.List.{fold}
+use Rattle.cics_lanes.specs.Orders.{Order}
+use Rattle.cics_plans.specs.Taking.{NumberedLine}
+use Rattle.cics_plans.specs.declared.plans.Plan.{Plan}
+use Rattle.cics_plans.specs.declared.plans.TaskPlan.{TaskPlan}
+
+-- how many lines each lane has given, and these lines
+abbrev pub Along : Type 0
+Along = List ℕ × List NumberedLine
+
+-- the lines of a lane: those of its task, or behind the tasks the clock's
+abbrev pub lane_lines : Plan → ℕ → List NumberedLine
+lane_lines p l = by (slice_get p.tasks l) where
+  by : Option TaskPlan → List NumberedLine
+  by (Some task) = task.lines
+  by None = p.clock
+
+-- a lane gives a line, if it has one left
+abbrev pub with_given : Along → ℕ → Option NumberedLine → Along
+with_given a l None = a
+with_given a l (Some next) = (slice_set a.0 l (get_or a.0 l 0 + 1), a.1 ++ next ∷ [])
+
+-- a lane gives its next line
+abbrev pub given_more : Plan → Along → ℕ → Along
+given_more p a l = with_given a l (slice_get (lane_lines p l) (get_or a.0 l 0))
+
+-- no lane has given a line
+abbrev pub nothing_given : Plan → Along
+nothing_given p = (replicate (length p.tasks + 1) 0, [])
+
+-- the lines of an order
+abbrev pub lines_along : Plan → Order → List NumberedLine
+lines_along p o = (fold (given_more p) (nothing_given p) o).1

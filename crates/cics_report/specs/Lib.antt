@@ -1,0 +1,4 @@
+pub mod Along
+pub mod Parts
+pub mod Reporting
+pub mod PlainFaults

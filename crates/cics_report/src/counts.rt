@@ -1,0 +1,103 @@
+//! The numbers of a report.
+
+ghost use Rattle.std.specs.Prelude.{◌≡◌, ◌++◌, OnOk};
+ghost use Rattle.cics_report.specs.Reporting.{bound_text, count_text, both_text, heading_text};
+ghost use Rattle.cics_report.specs.Reporting.{serial_orders, serial_endings, limit_text};
+ghost use Rattle.cics_report.specs.Reporting.{totals_text};
+
+use crate::parts::mark_in;
+use cics_lanes::{Ending, Report};
+use cics_names::NoMemory;
+use cics_script::{push_number, push_str};
+
+// How a number is told that is too low if orders were left out.
+fn bound_text(is_whole: bool) -> &'static str
+    ensures { result.now ≡ bound_text is_whole }
+{
+    if is_whole { "" } else { "AT LEAST " }
+}
+
+/// Puts a number at the end, which is too low if orders were left out.
+pub(crate) fn push_count(out: &mut Vec<u8>, is_whole: bool, count: u64) -> Result<(), NoMemory>
+    ensures { OnOk result (out.new.items ≡ out.old.items ++ count_text is_whole count) }
+{
+    push_str(out, bound_text(is_whole))?;
+    push_number(out, count)
+}
+
+// Puts two numbers at the end: of all, and of the serial ones.
+fn push_both(out: &mut Vec<u8>, is_whole: bool, all: u64, serial: u64) -> Result<(), NoMemory>
+    ensures { OnOk result (out.new.items ≡ out.old.items ++ both_text is_whole all serial) }
+{
+    push_count(out, is_whole, all)?;
+    push_str(out, " SERIAL ")?;
+    push_count(out, is_whole, serial)
+}
+
+/// Puts at the end how many orders lead to an ending, and its mark.
+pub(crate) fn push_heading(
+    out: &mut Vec<u8>,
+    is_whole: bool,
+    ending: &Ending,
+) -> Result<(), NoMemory>
+    ensures { OnOk result (out.new.items ≡ out.old.items ++ heading_text is_whole ending.now) }
+{
+    push_str(out, " ORDERS ")?;
+    push_both(out, is_whole, ending.orders(), ending.serial())?;
+    out.extend_from_slice(mark_in(ending.parts()))?;
+    push_str(out, "\n")
+}
+
+// How many serial orders lead to endings.
+fn serial_orders(endings: &[Ending]) -> u64
+    ensures { result ≡ serial_orders endings.now }
+{
+    let mut count = 0u64;
+    for i in 0..endings.len() {
+        count = count.saturating_add(endings[i].serial());
+    }
+    count
+}
+
+// To how many endings a serial order leads.
+fn serial_endings(endings: &[Ending]) -> usize
+    ensures { result ≡ serial_endings endings.now }
+{
+    let mut count = 0;
+    for i in 0..endings.len() {
+        if endings[i].serial() > 0 {
+            count += 1;
+        }
+    }
+    count
+}
+
+/// Puts the line on a limit at the end, if it left orders out.
+pub(crate) fn push_limit(out: &mut Vec<u8>, is_whole: bool, limit: u64) -> Result<(), NoMemory>
+    ensures { OnOk result (out.new.items ≡ out.old.items ++ limit_text is_whole limit) }
+{
+    if is_whole {
+        return Ok(());
+    }
+    push_str(out, "LIMIT ")?;
+    push_number(out, limit)?;
+    push_str(out, " REACHED\n")
+}
+
+/// Puts the numbers of orders and endings at the end.
+pub(crate) fn push_totals(out: &mut Vec<u8>, report: &Report) -> Result<(), NoMemory>
+    ensures { OnOk result (out.new.items ≡ out.old.items ++ totals_text report.now) }
+{
+    let endings = report.endings.as_slice();
+    let is_whole = report.is_whole;
+    push_str(out, "ORDERS ")?;
+    push_both(out, is_whole, report.orders, serial_orders(endings))?;
+    push_str(out, "\nENDINGS ")?;
+    push_both(
+        out,
+        is_whole,
+        endings.len() as u64,
+        serial_endings(endings) as u64,
+    )?;
+    push_str(out, "\n")
+}

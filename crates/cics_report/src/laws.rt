@@ -1,0 +1,9 @@
+//! What holds of every script.
+
+ghost use Rattle.cics_report.specs.PlainFaults.{FaultsAreThoseOfRuns};
+
+/// A script is taken apart exactly if its plain run has no fault. Else it has the fault of that
+/// run, at the same line.
+pub fn faults_are_those_of_runs()
+    ensures { FaultsAreThoseOfRuns }
+{}

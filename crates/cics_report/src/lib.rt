@@ -1,0 +1,13 @@
+//! The report on the orders of a script's lines, and each order as a script: their bytes.
+#![tactic(auto)]
+
+mod along;
+mod counts;
+mod laws;
+mod parts;
+mod report;
+mod scripts;
+
+pub use laws::faults_are_those_of_runs;
+pub use report::{push_fault, push_report};
+pub use scripts::push_script;

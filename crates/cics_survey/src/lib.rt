@@ -1,0 +1,9 @@
+//! Every order of a script's lines: the script taken apart, and the report on its orders.
+#![tactic(auto)]
+
+mod running;
+mod surveys;
+mod tellers;
+
+pub use running::{Surveyed, run_orders};
+pub use surveys::{Survey, survey_script};

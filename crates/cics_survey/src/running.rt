@@ -1,0 +1,102 @@
+//! A script that is read, and what is written of its orders.
+
+ghost use Rattle.std.specs.Prelude.{◌≡◌, ◌++◌, [], IfOk};
+ghost use Rattle.cics_run.specs.Running.{most_reads};
+ghost use Rattle.cics_run.specs.Streams.{Rises, RisesAtMost, failures};
+ghost use Rattle.cics_whole.specs.Reads.{read_failures, write_failures};
+ghost use Rattle.cics_survey.specs.Written.{ending_of, Writes, IsPrinted, Surveys};
+
+use crate::surveys::{Survey, survey_script};
+use cics_names::NoMemory;
+use cics_report::{push_fault, push_report, push_script};
+use cics_run::{Orders, RunFault, Sink, Source, write_all};
+use cics_whole::{lines_of, read_script};
+use std::alloc::Global;
+
+/// How the orders of a script were told.
+#[derive(Clone, Copy, Debug, PartialEq, Eq)]
+pub enum Surveyed {
+    /// The report is written, or the order that is wanted.
+    Done,
+    /// The line with the script's first fault is written.
+    LineFault,
+    /// No ending has the number that is wanted: there are so many. Nothing is written.
+    NoEnding(u64),
+}
+
+// How a script was told of an ending, if there is one.
+fn ending_of(survey: &Survey, is_there: bool) -> Surveyed
+    ensures { result ≡ ending_of survey.now is_there }
+{
+    if is_there {
+        Surveyed::Done
+    } else {
+        Surveyed::NoEnding(survey.report.endings.len() as u64)
+    }
+}
+
+// Puts at the end what is wanted of a survey.
+fn push_survey(out: &mut Vec<u8>, survey: &Survey, wanted: Orders) -> Result<Surveyed, NoMemory>
+    ensures { IfOk result (Writes wanted survey.now out.old.items out.new.items) }
+{
+    let Some(number) = wanted.ending else {
+        push_report(out, &survey.planned, wanted.limit, &survey.report)?;
+        return Ok(Surveyed::Done);
+    };
+    let is_there = push_script(out, &survey.planned.plan, &survey.report, number)?;
+    Ok(ending_of(survey, is_there))
+}
+
+// Puts at the end of a text what is wanted of a script's orders.
+fn push_orders(out: &mut Vec<u8>, script: &[u8], wanted: Orders) -> Result<Surveyed, NoMemory>
+    requires { out.old.items ≡ [] }
+    ensures { IfOk result (IsPrinted script.now wanted out.new.items) }
+{
+    let alloc = *out.allocator();
+    let lines = lines_of(alloc, script)?;
+    match survey_script(alloc, lines.as_slice(), wanted.told, wanted.limit)? {
+        Ok(survey) => push_survey(out, &survey, wanted),
+        Err((number, fault)) => {
+            push_fault(out, number, fault)?;
+            Ok(Surveyed::LineFault)
+        }
+    }
+}
+
+/// Follows the orders of the script that a source gives, and writes a report on them, or the first
+/// order of an ending as a script.
+///
+/// It reads at most `LIMIT` bytes, and one more to see whether there are more, and writes when all
+/// orders are followed. Of a script with a fault it writes the line that a run writes of it.
+///
+/// Errors: those of `run_over`. It returns a read or a write fault only if that very call failed,
+/// and tries none again. Cost: O(orders * (lines + endings)).
+pub fn run_orders<S: Source, K: Sink>(
+    alloc: Global,
+    source: &mut S,
+    sink: &mut K,
+    wanted: Orders,
+) -> Result<Surveyed, RunFault>
+    ensures read_faults { Rises (S.failed source.old) (S.failed source.new)
+        (failures read_failures result) }
+    ensures write_faults { Rises (K.failed sink.old) (K.failed sink.new)
+        (failures write_failures result) }
+    ensures asked { RisesAtMost (S.asked source.old) (S.asked source.new) most_reads }
+    ensures whole { Surveys wanted (S.remaining source.old) (S.remaining source.new)
+        (K.contents sink.old) (K.contents sink.new) result }
+{
+    let mut script = Vec::new(alloc);
+    match read_script(source, &mut script) {
+        Ok(()) => {}
+        Err(fault) => return Err(fault),
+    }
+    let mut text = Vec::new(alloc);
+    let status = match push_orders(&mut text, &script, wanted) {
+        Ok(status) => status,
+        Err(_) => return Err(RunFault::NoMemory),
+    };
+    match write_all(sink, &text) {
+        Ok(()) => Ok(status),
+        Err(_) => Err(RunFault::WriteFault),
+    }
+}

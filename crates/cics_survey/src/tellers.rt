@@ -1,0 +1,42 @@
+//! Tellers of endings.
+
+ghost use Rattle.std.specs.Prelude.{◌≡◌, IfOk};
+
+use cics_endings::parts_of;
+use cics_names::{Items, NoMemory, Record};
+use cics_orders::{Tells, Walker};
+use std::alloc::Global;
+
+/// Tells an ending without what tasks were told.
+#[derive(Drop)]
+pub(crate) struct States {
+    pub(crate) alloc: Global,
+}
+
+/// Tells an ending with what tasks were told.
+#[derive(Drop)]
+pub(crate) struct Answers {
+    pub(crate) alloc: Global,
+}
+
+impl Tells for States {
+    ghost use Rattle.std.specs.Prelude.{false};
+    ghost use Rattle.cics_survey.specs.Surveys.{told_of};
+
+    ghost told = { told_of false };
+
+    fn tell(&self, walker: &Walker) -> Result<Items<Record>, NoMemory> {
+        parts_of(self.alloc, walker.region(), false, walker.lanes())
+    }
+}
+
+impl Tells for Answers {
+    ghost use Rattle.std.specs.Prelude.{true};
+    ghost use Rattle.cics_survey.specs.Surveys.{told_of};
+
+    ghost told = { told_of true };
+
+    fn tell(&self, walker: &Walker) -> Result<Items<Record>, NoMemory> {
+        parts_of(self.alloc, walker.region(), true, walker.lanes())
+    }
+}
