@@ -161,12 +161,14 @@ fn flag<'a>(alloc: Global, name: &'a str, help: &'a str) -> Arg<'a> {
 
 // An option with a number from 1 on, which belongs to the orders.
 fn number<'a>(alloc: Global, name: &'a str, help: &'a str) -> Result<Arg<'a>, Error> {
+    let others = ["no-list", "replay", "serial", "with-script", "strict"];
     Ok(
         Arg::new(alloc, name)
             .long(name)
             .value_name("N")
             .value_parser(ValueParser::unsigned(1, u64::MAX))
             .requires_arg("orders")?
+            .conflicts_with_all(&others)?
             .help(help),
     )
 }
@@ -177,7 +179,9 @@ fn with_orders<'a>(alloc: Global, command: Command<'a>) -> Result<Command<'a>, E
     let orders = "Print a report on every order of the tasks' lines instead";
     let orders = flag(alloc, "orders", orders).conflicts_with_all(&others)?;
     let told = "Tell endings apart by what tasks are told too";
-    let told = flag(alloc, "told", told).requires_arg("orders")?;
+    let told = flag(alloc, "told", told)
+        .requires_arg("orders")?
+        .conflicts_with_all(&others)?;
     let limit = "Follow at most N orders (20000)";
     let ending = "Print the first order of ending N as a script";
     Ok(
