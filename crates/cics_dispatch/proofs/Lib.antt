@@ -4,6 +4,7 @@ mod FileRows
 mod QueueRows
 mod TaskRows
 pub mod Ready
+mod Emptied
 mod Browsing
 mod TaskTable
 pub mod TaskOwners

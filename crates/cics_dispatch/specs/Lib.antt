@@ -3,6 +3,7 @@ pub mod Replies
 pub mod Machine
 pub mod Checks
 pub mod Steps
+pub mod Emptied
 pub mod Calls
 pub mod Waking
 pub mod Answers

@@ -32,6 +32,8 @@ ghost use Rattle.cics_names.specs.Commands.{file_named};
 ghost use Rattle.cics_dispatch.specs.Calls.{OfTask, IsAwake, HasReady, MayPerform};
 ghost use Rattle.cics_dispatch.specs.Calls.{KeepsRegion, IsStepOf};
 ghost use Rattle.cics_dispatch.specs.Calls.{IsStepOrRefused, IsAttempt, going_on, waiting_for};
+ghost use Rattle.cics_dispatch.specs.Emptied.{whole, AreToldAlike};
+ghost use Rattle.cics_names.specs.declared.commands.Verb.{Verb as VerbValue};
 ghost use Rattle.cics_history.specs.Openings.{is_key};
 
 use crate::faults::file_fault;
@@ -39,6 +41,7 @@ use crate::outcomes::{Attempt, Outcome, Refused, Reply};
 use crate::reads::plain_reply;
 use crate::replies::reply_of_answer;
 use crate::tasks::Tasks;
+use crate::updates::refill;
 use crate::waits::Waits;
 use cics_enqueue::UnitId;
 use cics_ksds::FileDef;
@@ -361,13 +364,14 @@ impl Dispatcher {
         }
     }
 
-    // Executes an updating command that a command of the task at a place asks for, unless it has to wait; then it comes
-    // back.
+    // Executes an updating command that a command of the task at a place asks for. If it has to
+    // wait, returns it. The command may be without what the updating command took out of it.
     fn execute(&mut self, at: usize, command: &Command, op: Op) -> Result<Attempt, NoMemory>
         requires within { at < length self.old.machine.tasks }
         requires awake { IsAwake self.old.machine at }
         requires ready { HasReady self.old.machine at command.now.verb (Some op) }
-        ensures attempt { IsAttempt self.old at command.now (Some op) result self.new }
+        ensures attempt { (verb : VerbValue) → AreToldAlike command.now.verb verb
+            → IsAttempt self.old at (record command.now { verb = verb }) (Some op) result self.new }
     {
         let unit = self.tasks.get(at).unit();
         match self.units.submit(unit, op)? {
@@ -380,18 +384,22 @@ impl Dispatcher {
         }
     }
 
-    // Executes the updating command that a command of the task at a place asks for, or makes it wait.
+    // Executes the updating command that was taken out of a command of the task at a place, or makes
+    // the command wait, whole again.
     fn update(&mut self, at: usize, command: Command, op: Op) -> Result<Outcome, NoMemory>
         requires within { at < length self.old.machine.tasks }
-        requires may { MayPerform self.old.machine at command.verb }
+        requires may { MayPerform self.old.machine at (whole command (Some op)).verb }
         requires asked { OfTask self.old.machine.tasks at
-            (λ t. op_of self.old.machine t command.verb ≡ Some op) }
+            (λ t. op_of self.old.machine t (whole command (Some op)).verb ≡ Some op) }
         ensures step { IsStepOrRefused self.old at
-            (going_on self.old.machine command (Some op)) result self.new }
+            (going_on self.old.machine (whole command (Some op)) (Some op)) result self.new }
     {
         match self.execute(at, &command, op)? {
             Attempt::Told(outcome) => Ok(outcome),
-            Attempt::MustWait(holder, op) => self.make_wait(at, command, op, holder),
+            Attempt::MustWait(holder, op) => {
+                let command = refill(self.alloc, command, &op)?;
+                self.make_wait(at, command, op, holder)
+            }
         }
     }
 }

@@ -1,66 +1,47 @@
 //! The updating commands that the commands of a task ask for.
 
-ghost use Rattle.std.specs.Prelude.{◌≡◌, IsTrue, IfOk, OnErr, option_map};
+ghost use Rattle.std.specs.Prelude.{◌≡◌, [], IsTrue, IfOk, OnOk, OnErr, Some};
 ghost use Rattle.cics_dispatch.specs.Answers.{is_growing};
+ghost use Rattle.cics_dispatch.specs.Emptied.{content_of, put_back, refilled, whole};
+ghost use Rattle.cics_history.specs.Records.{key_of};
 ghost use Rattle.std.specs.Option.{option_copied};
 ghost use Rattle.cics_dispatch.specs.Lengths.{used_of};
 ghost use Rattle.cics_dispatch.specs.Steps.{asked_op, queue_op};
 
-use cics_names::{Name8, NoMemory, Record, Verb};
+use cics_names::{Command, NoMemory, Record, Verb};
 use cics_units::Op;
 use std::alloc::Global;
+use std::mem::replace;
 
-// A copy of the bytes of FROM that LENGTH uses. A LENGTH above their count, which the checks refuse, uses
-// them all.
-fn used_copy(from: &Record, length: Option<u64>) -> Result<Record, NoMemory>
-    ensures { IfOk result (λ content. content ≡ used_of from.now length) }
+// Takes the bytes out of a record.
+fn take(alloc: Global, record: &mut Record) -> Record
+    ensures taken { result ≡ record.old }
+    ensures left { record.new ≡ [] }
+{
+    replace(record, Record::new(Vec::new(alloc)))
+}
+
+// Takes out the bytes of FROM that LENGTH uses. If it uses fewer than there are, it copies them. If
+// LENGTH is above their count, which the checks refuse, it takes them all.
+fn take_used(
+    alloc: Global,
+    from: &mut Record,
+    length: Option<u64>,
+) -> Result<Record, NoMemory>
+    ensures content { IfOk result (λ content. content ≡ used_of from.old length) }
+    ensures back { IfOk result (λ content. put_back from.new content ≡ from.old) }
 {
     match length {
         Some(length) if length < from.len() as u64 => from.part(0, length as usize),
-        _ => from.copy(),
+        _ => Ok(take(alloc, from)),
     }
 }
 
-// A REWRITE of the record of a key, None without one.
-fn rewrite_op(
-    alloc: Global,
-    file: Name8,
-    key: Option<&[u8]>,
-    from: &Record,
-    length: Option<u64>,
-) -> Result<Option<Op>, NoMemory>
-    ensures { IfOk result (λ op. op
-        ≡ option_map (λ key. Op.Rewrite file key (used_of from.now length))
-        (option_copied key.entry)) }
-{
-    let Some(key) = key else {
-        return Ok(None);
-    };
-    Ok(Some(Op::Rewrite {
-        file,
-        key: Record::from_slice(alloc, key)?,
-        from: used_copy(from, length)?,
-    }))
-}
-
-// A DELETE of the record of a key, None without one.
-fn delete_op(alloc: Global, file: Name8, key: Option<&[u8]>) -> Result<Option<Op>, NoMemory>
-    ensures { IfOk result (λ op. op
-        ≡ option_map (λ key. Op.Delete file key) (option_copied key.entry)) }
-{
-    let Some(key) = key else {
-        return Ok(None);
-    };
-    Ok(Some(Op::Delete {
-        file,
-        key: Record::from_slice(alloc, key)?,
-    }))
-}
-
-// The updating command on a queue that a command asks for.
-fn queue_op(verb: &Verb) -> Result<Option<Op>, NoMemory>
-    ensures op { IfOk result (λ op. op ≡ queue_op verb.now) }
-    ensures growing { OnErr result (IsTrue (is_growing verb.now)) }
+// Takes out the updating command on a queue that a verb asks for.
+fn take_queue_op(alloc: Global, verb: &mut Verb) -> Result<Option<Op>, NoMemory>
+    ensures op { IfOk result (λ op. op ≡ queue_op verb.old) }
+    ensures back { IfOk result (λ op. refilled verb.new op ≡ verb.old) }
+    ensures growing { OnErr result (IsTrue (is_growing verb.old)) }
 {
     let op = match verb {
         Verb::WriteqTs {
@@ -70,7 +51,7 @@ fn queue_op(verb: &Verb) -> Result<Option<Op>, NoMemory>
             item: None,
         } => Op::TsWrite {
             queue: *queue,
-            from: used_copy(from, *length)?,
+            from: take_used(alloc, from, *length)?,
         },
         Verb::WriteqTs {
             queue,
@@ -80,7 +61,7 @@ fn queue_op(verb: &Verb) -> Result<Option<Op>, NoMemory>
         } => Op::TsRewrite {
             queue: *queue,
             item: *item,
-            from: used_copy(from, *length)?,
+            from: take_used(alloc, from, *length)?,
         },
         Verb::DeleteqTs { queue } => Op::TsDelete { queue: *queue },
         Verb::WriteqTd {
@@ -89,7 +70,7 @@ fn queue_op(verb: &Verb) -> Result<Option<Op>, NoMemory>
             length,
         } => Op::TdWrite {
             queue: *queue,
-            from: used_copy(from, *length)?,
+            from: take_used(alloc, from, *length)?,
         },
         Verb::ReadqTd { queue, .. } => Op::TdRead { queue: *queue },
         Verb::DeleteqTd { queue } => Op::TdDelete { queue: *queue },
@@ -98,58 +79,151 @@ fn queue_op(verb: &Verb) -> Result<Option<Op>, NoMemory>
     Ok(Some(op))
 }
 
-/// The updating command that a command asks for, with copies of its key and of the bytes of FROM that it
-/// uses; None of a command that updates nothing.
+/// Takes the updating command that a verb asks for out of the verb, with its key and the bytes of
+/// FROM that it uses, so that they aren't copied. Returns `None` for a verb that updates nothing.
+/// `refill` puts back what was taken.
 ///
-/// `open_key` is the key of the task's open update read of the file that the command names, None where it
-/// has none. REWRITE changes the record of that key, and so does DELETE without RIDFLD: without it both are
-/// None. `alloc` gives the memory for a copy of that key; `NoMemory` only where the memory for a copy is
-/// refused.
-pub(crate) fn asked_op(
+/// `open_key` is the key of the task's open update read of the file that the verb names, `None` if
+/// there is none. REWRITE changes the record of that key, and so does DELETE without RIDFLD.
+/// `alloc` gives the memory for a copy of that key, and for FROM if LENGTH cuts it.
+pub(crate) fn take_op(
     alloc: Global,
-    verb: &Verb,
+    verb: &mut Verb,
     open_key: Option<&[u8]>,
 ) -> Result<Option<Op>, NoMemory>
-    ensures op { IfOk result (λ op. op ≡ asked_op (option_copied open_key.entry) verb.now) }
-    ensures growing { OnErr result (IsTrue (is_growing verb.now)) }
+    ensures op { IfOk result (λ op. op ≡ asked_op (option_copied open_key.entry) verb.old) }
+    ensures back { IfOk result (λ op. refilled verb.new op ≡ verb.old) }
+    ensures growing { OnErr result (IsTrue (is_growing verb.old)) }
 {
-    match verb {
+    let op = match verb {
         Verb::Read {
             file,
             ridfld,
             update: true,
             ..
-        } => Ok(Some(Op::ReadUpdate {
+        } => Op::ReadUpdate {
             file: *file,
-            key: ridfld.copy()?,
-        })),
+            key: take(alloc, ridfld),
+        },
         Verb::Write {
             file,
             ridfld,
             from,
             length,
             ..
-        } => Ok(Some(Op::Write {
+        } => Op::Write {
             file: *file,
-            key: ridfld.copy()?,
-            from: used_copy(from, *length)?,
-        })),
-        Verb::Rewrite { file, from, length } => rewrite_op(alloc, *file, open_key, from, *length),
+            from: take_used(alloc, from, *length)?,
+            key: take(alloc, ridfld),
+        },
+        Verb::Rewrite { file, from, length } => {
+            let Some(key) = open_key else {
+                return Ok(None);
+            };
+            Op::Rewrite {
+                file: *file,
+                key: Record::from_slice(alloc, key)?,
+                from: take_used(alloc, from, *length)?,
+            }
+        }
         Verb::Delete {
             file,
             ridfld: Some(prefix),
             generic: true,
             ..
-        } => Ok(Some(Op::DeleteGeneric {
+        } => Op::DeleteGeneric {
             file: *file,
-            prefix: prefix.copy()?,
-        })),
+            prefix: take(alloc, prefix),
+        },
         Verb::Delete {
             file,
             ridfld: Some(key),
             ..
-        } => delete_op(alloc, *file, Some(key.bytes())),
-        Verb::Delete { file, .. } => delete_op(alloc, *file, open_key),
-        _ => queue_op(verb),
+        } => Op::Delete {
+            file: *file,
+            key: take(alloc, key),
+        },
+        Verb::Delete { file, .. } => {
+            let Some(key) = open_key else {
+                return Ok(None);
+            };
+            Op::Delete {
+                file: *file,
+                key: Record::from_slice(alloc, key)?,
+            }
+        }
+        _ => return take_queue_op(alloc, verb),
+    };
+    Ok(Some(op))
+}
+
+// Returns the key that an updating command names, without bytes if it names none.
+fn key_of(op: &Op) -> &[u8]
+    ensures { result.now ≡ key_of op.now }
+{
+    match op.record() {
+        Some((_, key)) => key.bytes(),
+        None => &[],
     }
+}
+
+// Returns what an updating command writes, without bytes if it writes nothing.
+fn content_of(op: &Op) -> &[u8]
+    ensures { result.now ≡ content_of op.now }
+{
+    match op {
+        Op::Write { from, .. }
+        | Op::Rewrite { from, .. }
+        | Op::TsWrite { from, .. }
+        | Op::TsRewrite { from, .. }
+        | Op::TdWrite { from, .. } => from.bytes(),
+        _ => &[],
+    }
+}
+
+// Puts bytes back into the record that they were taken out of.
+fn put_back(alloc: Global, record: &mut Record, taken: &[u8]) -> Result<(), NoMemory>
+    ensures { OnOk result (record.new ≡ put_back record.old taken.now) }
+{
+    if record.is_empty() {
+        *record = Record::from_slice(alloc, taken)?;
+    }
+    Ok(())
+}
+
+// Puts back what an updating command took out of its verb.
+fn refill_verb(alloc: Global, verb: &mut Verb, op: &Op) -> Result<(), NoMemory>
+    ensures { OnOk result (verb.new ≡ refilled verb.old (Some op.now)) }
+{
+    match verb {
+        Verb::Read { ridfld, .. }
+        | Verb::Delete {
+            ridfld: Some(ridfld),
+            ..
+        } => put_back(alloc, ridfld, key_of(op)),
+        Verb::Write { ridfld, from, .. } => {
+            put_back(alloc, ridfld, key_of(op))?;
+            put_back(alloc, from, content_of(op))
+        }
+        Verb::Rewrite { from, .. } | Verb::WriteqTs { from, .. } | Verb::WriteqTd { from, .. } => {
+            put_back(alloc, from, content_of(op))
+        }
+        _ => Ok(()),
+    }
+}
+
+/// Returns a command with what `take_op` took out of it for its updating command, if it has one.
+#[cold]
+pub(crate) fn refill(
+    alloc: Global,
+    command: Command,
+    op: &Option<Op>,
+) -> Result<Command, NoMemory>
+    ensures { IfOk result (λ filled. filled ≡ whole command op.now) }
+{
+    let mut filled = command;
+    if let Some(op) = op {
+        refill_verb(alloc, &mut filled.verb, op)?;
+    }
+    Ok(filled)
 }

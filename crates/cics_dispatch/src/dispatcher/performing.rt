@@ -12,12 +12,13 @@ ghost use Rattle.cics_dispatch.specs.declared.outcomes.Outcome.TheVariants.{Repl
 ghost use Rattle.cics_history.specs.declared.ops.UnitState.TheVariants.{Committed, BackedOut};
 ghost use Rattle.cics_dispatch.specs.Calls.{OfTask, IsAwake, MayPerform, KeepsRegion};
 ghost use Rattle.cics_dispatch.specs.Calls.{IsStepOrRefused, going_on};
+ghost use Rattle.cics_dispatch.specs.Emptied.{whole};
 
 use crate::browses::Direction;
 use crate::dispatcher::Dispatcher;
 use crate::outcomes::{Outcome, Refused};
 use crate::reads::plain_reply;
-use crate::updates::asked_op;
+use crate::updates::take_op;
 use cics_names::{AbendCode, Command, Condition, Name4, Name8, NoMemory, Verb};
 use cics_units::Op;
 
@@ -149,15 +150,15 @@ impl Dispatcher {
     }
 
     // Performs a command of the task at a place whose checks have passed. `op` is the updating
-    // command that it asks for.
+    // command that it asks for, taken out of it.
     fn perform(&mut self, at: usize, command: Command, op: Option<Op>) -> Result<Outcome, NoMemory>
         requires within { at < length self.old.machine.tasks }
-        requires may { MayPerform self.old.machine at command.verb }
+        requires may { MayPerform self.old.machine at (whole command op).verb }
         requires asked { OfTask self.old.machine.tasks at
-            (λ t. op ≡ op_of self.old.machine t command.verb) }
+            (λ t. op ≡ op_of self.old.machine t (whole command op).verb) }
         ensures step { IsStepOrRefused self.old at
-            (λ t. performed self.old.machine t command) result self.new }
-        ensures growing { OnErr result (IsTrue (is_growing command.verb)) }
+            (λ t. performed self.old.machine t (whole command op)) result self.new }
+        ensures growing { OnErr result (IsTrue (is_growing (whole command op).verb)) }
     {
         match op {
             Some(op) => self.update(at, command, op),
@@ -190,7 +191,8 @@ impl Dispatcher {
         match self.fault(at, &command.verb, open_key) {
             Some(fault) => Ok(self.answer(at, command.resp, plain_reply(fault))),
             None => {
-                let op = asked_op(self.alloc, &command.verb, open_key)?;
+                let mut command = command;
+                let op = take_op(self.alloc, &mut command.verb, open_key)?;
                 Ok(self.perform(at, command, op)?)
             }
         }

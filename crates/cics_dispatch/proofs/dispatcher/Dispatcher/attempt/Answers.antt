@@ -1,4 +1,4 @@
-use Rattle.std.proofs.Common.{◌∙◌, sym, ap, Some, None}
+use Rattle.std.proofs.Common.{◌∙◌, sym, ap, refl, Some, None}
 use Rattle.std.specs.Option.{option_copied}
 use Rattle.cics_dispatch.proofs.RegionSteps.{ready_again, attempt_again}
 use Rattle.cics_dispatch.proofs.dispatcher.Dispatcher.attempt.Goals as goal
@@ -11,7 +11,7 @@ execute-requires-clause-ready c =
 pub returns-in_ok-copy-in-Some : goal.returns-in_ok-copy-in-Some
 returns-in_ok-copy-in-Some c = record {
   attempt = attempt_again c.args.at c.args.wait.now.command c.command.result.now c.args.wait.now.op (Some c.in_ok-copy-in-Some.field-0) c.command.ensures
-      (sym c.op.ensures ∙ ap option_copied c.in-Some.is ∙ ap Some (sym c.in_ok-copy-in-Some.ensures)) c.args.self.now c.execute.result c.execute.new.self c.execute.ensures.attempt;
+      (sym c.op.ensures ∙ ap option_copied c.in-Some.is ∙ ap Some (sym c.in_ok-copy-in-Some.ensures)) c.args.self.now c.execute.result c.execute.new.self (c.execute.ensures.attempt c.command.result.now.verb (λ a. refl));
 }
 
 pub take_value-requires-clause-ready : goal.take_value-requires-clause-ready

@@ -27,7 +27,7 @@ returns-in-MustWait c =
     let tried = executes c.self.inside.units c.submit.new.self c.get.result.now c.unit-unit.result c.args.op (as_done c.in_ok-holder.field-0)
     c.unit-unit.ensures c.in_ok-holder.ensures.state c.in_ok-holder.ensures.done in
     record {
-      attempt = subst (λ v. IsAttempt v c.args.at c.args.command.now (Some c.args.op) (Ok (MustWait holder (Some c.in-MustWait.op))) (region_of c.submit.new.self u.tasks u.waits u.clock u.is_down)) c.self.view_is (
+      attempt = λ verb alike. subst (λ v. IsAttempt v c.args.at (record c.args.command.now { verb = verb }) (Some c.args.op) (Ok (MustWait holder (Some c.in-MustWait.op))) (region_of c.submit.new.self u.tasks u.waits u.clock u.is_down)) c.self.view_is (
         (
           λ s other. ap (λ x. awaited u.units.state x.unit c.args.op) (one_task u.tasks c.args.at other c.get.ensures)
               ∙ holder_awaited u.units.state t.unit c.args.op holder (tried.comes_to ∙ ap as_done c.in-MustWait.is),
@@ -78,12 +78,13 @@ returns-in-Answered c =
     let tried = executes c.self.inside.units c.submit.new.self c.get.result.now c.unit-unit.result c.args.op (as_done c.in_ok-holder.field-0)
     c.unit-unit.ensures c.in_ok-holder.ensures.state c.in_ok-holder.ensures.done in
     record {
-      attempt = subst (λ v. IsAttempt v c.args.at command (Some c.args.op) (Ok (Told c.answer.result)) c.answer.new.self) c.self.view_is
+      attempt = λ verb alike. let told = record command { verb = verb } in
+          subst (λ v. IsAttempt v c.args.at told (Some c.args.op) (Ok (Told c.answer.result)) c.answer.new.self) c.self.view_is
           (then_told c.args.at t (with_unit t unit) command.resp c.reply_of_answer-reply.result
-          (going_on (region_of u.units u.tasks u.waits u.clock u.is_down).machine command (Some c.args.op)) c.get.ensures
+          (going_on (region_of u.units u.tasks u.waits u.clock u.is_down).machine told (Some c.args.op)) c.get.ensures
           (owner_there c.self.invariant c.args.at t c.get.ensures tried c.submit.ensures.headline c.submit.ensures.serializable unit a acts c.own_unit.new.self owned)
           (acted_kept c.self.invariant c.args.at t c.get.ensures tried c.submit.ensures.headline c.submit.ensures.serializable unit a acts c.own_unit.new.self owned
           (seen_awake c.args.at c.self.view_is c.requires.awake t c.get.ensures))
-          (acted_step c.self.invariant c.args.at t c.get.ensures tried c.submit.ensures.headline c.submit.ensures.serializable unit a acts c.own_unit.new.self owned command c.reply_of_answer-reply.result
-          c.reply_of_answer-reply.ensures) c.answer.ensures.step);
+          (acted_step c.self.invariant c.args.at t c.get.ensures tried c.submit.ensures.headline c.submit.ensures.serializable unit a acts c.own_unit.new.self owned told c.reply_of_answer-reply.result
+          (c.reply_of_answer-reply.ensures ∙ alike a)) c.answer.ensures.step);
     }

@@ -1,10 +1,11 @@
 use Rattle.std.proofs.Common.{◌≡◌, ◌∙◌, ℕ, slice_get, sym, ap, subst, refl, true, false, None, Some}
-use Rattle.std.specs.Prelude.{◌≤◌, length, IfNone, IfSome}
+use Rattle.std.specs.Prelude.{◌≤◌, length, IfNone, IfSome, IsTrue}
 use Rattle.cics_names.specs.Keyed.{Bytes}
 use Rattle.cics_history.specs.Records.{key_of}
 use Rattle.cics_dispatch.specs.Machine.{RegionValue, task_at}
-use Rattle.cics_dispatch.specs.Calls.{OfTask}
-use Rattle.cics_dispatch.specs.Steps.{answered, asked_op, op_of}
+use Rattle.cics_dispatch.specs.Answers.{is_growing}
+use Rattle.cics_dispatch.specs.Calls.{OfTask, MayPerform}
+use Rattle.cics_dispatch.specs.Steps.{answered, asked_op, op_of, performed}
 use Rattle.cics_dispatch.proofs.RegionPerforming.{issued_to, issued_waiting, issued_awake, issued_told, wants_memory, refused_memory}
 use Rattle.cics_dispatch.proofs.dispatcher.Dispatcher.issue.Goals as goal
 
@@ -24,14 +25,16 @@ perform-requires-clause-may c =
     let m = c.args.self.now.machine in
     let to = issued_to c.args.self.now c.args.label c.args.at c.get.result.now false c.self.view_is (found_before c.args.at c.args.label c.self.view_is c.requires.task) c.get.ensures
     (sym c.has_ended.ensures ∙ c.if-has_ended.false) (sym c.is_waiting.ensures.waiting ∙ c.if-is_waiting.false) in
-    record {
+    subst (MayPerform m c.args.at) (sym c.in_ok-op-in-None.ensures.back) (record {
       awake = issued_awake m c.args.label c.args.at c.get.result.now to;
       passed = λ s here. sym (c.fault.ensures.fault s here) ∙ c.in-None.is;
       short = subst (λ fault. IfNone fault (OfTask m.tasks c.args.at (λ t. IfSome (op_of m t c.args.command.verb) (λ o. length (key_of o) ≤ 255)))) c.in-None.is c.fault.ensures.short;
-    }
+    })
 
 pub perform-requires-clause-asked : goal.perform-requires-clause-asked
-perform-requires-clause-asked c = λ t there. c.in_ok-op-in-None.ensures.op ∙ ap (λ o. asked_op o c.args.command.verb) (c.open_key-open_key.ensures.key t there)
+perform-requires-clause-asked c = λ t there.
+    c.in_ok-op-in-None.ensures.op ∙ ap (λ o. asked_op o c.args.command.verb) (c.open_key-open_key.ensures.key t there)
+    ∙ ap (op_of c.args.self.now.machine t) (sym c.in_ok-op-in-None.ensures.back)
 
 pub returns-in_err-op-in-None-clause-step : goal.returns-in_err-op-in-None-clause-step
 returns-in_err-op-in-None-clause-step c =
@@ -47,7 +50,8 @@ returns-in_err-perform-in-None-clause-step c =
     (sym c.has_ended.ensures ∙ c.if-has_ended.false) (sym c.is_waiting.ensures.waiting ∙ c.if-is_waiting.false) in
     refused_memory _ _ _ c.from_residual-in_err-perform-in-None.result _ c.from_residual-in_err-perform-in-None.ensures
     (wants_memory c.args.self.now.machine c.args.label c.args.command c.get.result.now to.of_label to.goes_on to.waiting
-    (sym (c.fault.ensures.fault c.get.result.now to.there) ∙ c.in-None.is) c.in_err-perform-in-None.ensures.growing) c.in_err-perform-in-None.ensures.step
+    (sym (c.fault.ensures.fault c.get.result.now to.there) ∙ c.in-None.is) (subst (λ v. IsTrue (is_growing v)) c.in_ok-op-in-None.ensures.back c.in_err-perform-in-None.ensures.growing))
+    c.in_err-perform-in-None.ensures.step
 
 pub returns-in-Some-clause-step : goal.returns-in-Some-clause-step
 returns-in-Some-clause-step c =
@@ -64,4 +68,4 @@ returns-in_ok-perform-in-None-clause-step c =
     let to = issued_to c.args.self.now c.args.label c.args.at c.get.result.now false c.self.view_is (found_before c.args.at c.args.label c.self.view_is c.requires.task) c.get.ensures
     (sym c.has_ended.ensures ∙ c.if-has_ended.false) (sym c.is_waiting.ensures.waiting ∙ c.if-is_waiting.false) in
     issued_told c.args.self.now.machine c.args.label c.args.command c.args.at t None c.in_ok-perform-in-None.field-0 c.perform.new.self.machine to
-    (sym (c.fault.ensures.fault t to.there) ∙ c.in-None.is) (c.in_ok-perform-in-None.ensures.step.0 t to.there)
+    (sym (c.fault.ensures.fault t to.there) ∙ c.in-None.is) (c.in_ok-perform-in-None.ensures.step.0 t to.there ∙ ap (λ v. performed c.args.self.now.machine t (record c.args.command { verb = v })) c.in_ok-op-in-None.ensures.back)
