@@ -33,12 +33,25 @@ impl Named {
     }
 }
 
-// Whether what a line printed tells of a file or a queue that isn't defined.
+// Returns how many of eight bytes stand before the first blank.
+fn count_before_blank(bytes: [u8; 8]) -> usize {
+    // A blank becomes 0, and of the bytes up to the first 0 that one alone gets its highest bit set.
+    let others = u64::from_le_bytes(bytes) ^ 0x2020_2020_2020_2020;
+    let blanks = others.wrapping_sub(0x0101_0101_0101_0101) & !others & 0x8080_8080_8080_8080;
+    blanks.trailing_zeros() as usize / 8
+}
+
+// Whether what a line printed tells of a file or a queue that isn't defined. Its second letter
+// tells that of nearly every other line apart.
 fn is_undefined(printed: &[u8]) -> bool {
-    let label_len = printed.iter().take_while(|byte| **byte != b' ').count();
-    let told = &printed[label_len.min(printed.len())..];
-    match told.get(1) {
-        Some(b'D' | b'Q' | b'A') => UNDEFINED.iter().any(|words| told.starts_with(words)),
+    let Some((label, _)) = printed.split_first_chunk::<8>() else {
+        return false;
+    };
+    let Some(told) = printed.get(count_before_blank(*label)..) else {
+        return false;
+    };
+    match told.get(2) {
+        Some(b'S' | b'I' | b'B') => UNDEFINED.iter().any(|words| told.starts_with(words)),
         _ => false,
     }
 }
