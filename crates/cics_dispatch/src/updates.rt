@@ -1,39 +1,56 @@
 //! The updating commands that the commands of a task ask for.
 
-ghost use Rattle.std.specs.Prelude.{◌≡◌, [], IsTrue, IfOk, OnOk, OnErr, Some};
+ghost use Rattle.std.specs.Prelude.{◌≡◌, [], IsTrue, IfOk, OnOk, OnErr, Some, if◌then◌else◌};
 ghost use Rattle.cics_dispatch.specs.Answers.{is_growing};
 ghost use Rattle.cics_dispatch.specs.Emptied.{content_of, put_back, refilled, whole};
 ghost use Rattle.cics_history.specs.Records.{key_of};
 ghost use Rattle.std.specs.Option.{option_copied};
 ghost use Rattle.cics_dispatch.specs.Lengths.{used_of};
-ghost use Rattle.cics_dispatch.specs.Steps.{asked_op, queue_op};
+ghost use Rattle.cics_dispatch.specs.Steps.{asked_op, queue_op, ts_write_op};
 
-use cics_names::{Command, NoMemory, Record, Verb};
+use cics_names::{Command, Name8, NoMemory, Record, Verb};
 use cics_units::Op;
 use std::alloc::Global;
 use std::mem::replace;
 
 // Takes the bytes out of a record.
-fn take(alloc: Global, record: &mut Record) -> Record
-    ensures taken { result ≡ record.old }
-    ensures left { record.new ≡ [] }
+fn take(alloc: Global, own: &mut Record) -> Record
+    ensures taken { result ≡ own.old }
+    ensures left { own.new ≡ [] }
 {
-    replace(record, Record::new(Vec::new(alloc)))
+    replace(own, Record::new(Vec::new(alloc)))
 }
 
 // Takes out the bytes of FROM that LENGTH uses. If it uses fewer than there are, it copies them. If
 // LENGTH is above their count, which the checks refuse, it takes them all.
-fn take_used(
-    alloc: Global,
-    from: &mut Record,
-    length: Option<u64>,
-) -> Result<Record, NoMemory>
+fn take_used(alloc: Global, from: &mut Record, length: Option<u64>) -> Result<Record, NoMemory>
     ensures content { IfOk result (λ content. content ≡ used_of from.old length) }
     ensures back { IfOk result (λ content. put_back from.new content ≡ from.old) }
 {
     match length {
         Some(length) if length < from.len() as u64 => from.part(0, length as usize),
         _ => Ok(take(alloc, from)),
+    }
+}
+
+// A DELETE of the record of a key, or of each whose key begins with it.
+fn delete_op(file: Name8, key: Record, generic: bool) -> Op
+    ensures { result ≡ (if generic then Op.DeleteGeneric file key else Op.Delete file key) }
+{
+    if generic {
+        Op::DeleteGeneric { file, prefix: key }
+    } else {
+        Op::Delete { file, key }
+    }
+}
+
+// A WRITEQ TS of an item, or with REWRITE in place of the item of a number.
+fn ts_write_op(queue: Name8, from: Record, item: Option<u64>) -> Op
+    ensures { result ≡ ts_write_op queue from item }
+{
+    match item {
+        None => Op::TsWrite { queue, from },
+        Some(item) => Op::TsRewrite { queue, item, from },
     }
 }
 
@@ -48,21 +65,8 @@ fn take_queue_op(alloc: Global, verb: &mut Verb) -> Result<Option<Op>, NoMemory>
             queue,
             from,
             length,
-            item: None,
-        } => Op::TsWrite {
-            queue: *queue,
-            from: take_used(alloc, from, *length)?,
-        },
-        Verb::WriteqTs {
-            queue,
-            from,
-            length,
-            item: Some(item),
-        } => Op::TsRewrite {
-            queue: *queue,
-            item: *item,
-            from: take_used(alloc, from, *length)?,
-        },
+            item,
+        } => ts_write_op(*queue, take_used(alloc, from, *length)?, *item),
         Verb::DeleteqTs { queue } => Op::TsDelete { queue: *queue },
         Verb::WriteqTd {
             queue,
@@ -128,30 +132,14 @@ pub(crate) fn take_op(
         }
         Verb::Delete {
             file,
-            ridfld: Some(prefix),
-            generic: true,
+            ridfld,
+            generic,
             ..
-        } => Op::DeleteGeneric {
-            file: *file,
-            prefix: take(alloc, prefix),
+        } => match (ridfld, open_key) {
+            (Some(key), _) => delete_op(*file, take(alloc, key), *generic),
+            (None, Some(key)) => delete_op(*file, Record::from_slice(alloc, key)?, false),
+            (None, None) => return Ok(None),
         },
-        Verb::Delete {
-            file,
-            ridfld: Some(key),
-            ..
-        } => Op::Delete {
-            file: *file,
-            key: take(alloc, key),
-        },
-        Verb::Delete { file, .. } => {
-            let Some(key) = open_key else {
-                return Ok(None);
-            };
-            Op::Delete {
-                file: *file,
-                key: Record::from_slice(alloc, key)?,
-            }
-        }
         _ => return take_queue_op(alloc, verb),
     };
     Ok(Some(op))
@@ -182,11 +170,11 @@ fn content_of(op: &Op) -> &[u8]
 }
 
 // Puts bytes back into the record that they were taken out of.
-fn put_back(alloc: Global, record: &mut Record, taken: &[u8]) -> Result<(), NoMemory>
-    ensures { OnOk result (record.new ≡ put_back record.old taken.now) }
+fn put_back(alloc: Global, own: &mut Record, taken: &[u8]) -> Result<(), NoMemory>
+    ensures { OnOk result (own.new ≡ put_back own.old taken.now) }
 {
-    if record.is_empty() {
-        *record = Record::from_slice(alloc, taken)?;
+    if own.is_empty() {
+        *own = Record::from_slice(alloc, taken)?;
     }
     Ok(())
 }
@@ -214,11 +202,7 @@ fn refill_verb(alloc: Global, verb: &mut Verb, op: &Op) -> Result<(), NoMemory>
 
 /// Returns a command with what `take_op` took out of it for its updating command, if it has one.
 #[cold]
-pub(crate) fn refill(
-    alloc: Global,
-    command: Command,
-    op: &Option<Op>,
-) -> Result<Command, NoMemory>
+pub(crate) fn refill(alloc: Global, command: Command, op: &Option<Op>) -> Result<Command, NoMemory>
     ensures { IfOk result (λ filled. filled ≡ whole command op.now) }
 {
     let mut filled = command;
