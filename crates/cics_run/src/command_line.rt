@@ -200,7 +200,7 @@ fn command<'a>(alloc: Global) -> Result<Command<'a>, Error> {
     let replay = flag(alloc, "replay", "Print the replay after the listing");
     let serial = "Print the serial run after the listing and the replay";
     let serial = flag(alloc, "serial", serial);
-    let with_script = "Print each line of the script before its lines of the journal";
+    let with_script = "Print each line of the script before its journal lines";
     let with_script = flag(alloc, "with-script", with_script).conflicts_with("serial")?;
     let strict = flag(alloc, "strict", "End with status 5 if something is amiss");
     let picture = "Print a picture of the run (SVG) in place of all that";
