@@ -31,18 +31,19 @@ one unit after the other in commit order, and then the open units. It leaves
 recoverable files and queues as the run has left them.
 
 The picture has a row for each line of the journal, and a lane for each of the
-first sixteen tasks. Each event has a mark, and a unit of work has a bar. An arrow
-goes from each wait to the task that is waited for, if both have lanes. The
-picture is written when the whole script is run.
+first sixteen tasks. Marks in a lane show events of its task, and bars show its
+units of work. An arrow goes from each wait to the task that is waited for, if
+both have lanes. The picture is written at the end of the run.
 
-The report on the orders tells each ending that they lead to: how many orders and
-serial orders do, the first order that does, and what not each ending has. In a
-serial order each task gives the lines of a unit of work one after the other. The
-script of an ending can be run: it gives the lines in its first order.
+The report on the orders has what all endings share, and then each ending: how
+many orders and serial orders lead to it, the first of these orders, and the rest
+of the ending. In a serial order a task gives its lines up to each SYNCPOINT,
+RETURN or ABEND with no line of another task between them. The script of an
+ending can be run: it gives the lines in its first order.
 
 Exit status:
   0  the whole script was run, or the help or the version was printed
-  1  a line or a definition has a fault, which is the journal's last line
+  1  a line or a definition has a fault: the output ends with it
   2  bad arguments, or no ending has this number
   3  no memory
   4  a read or a write failed, the script has more than 16,777,216 bytes, or a
@@ -178,7 +179,7 @@ fn with_orders<'a>(alloc: Global, command: Command<'a>) -> Result<Command<'a>, E
     let others = ["no-list", "replay", "serial", "with-script", "strict"];
     let orders = "Print a report on every order of the tasks' lines instead";
     let orders = flag(alloc, "orders", orders).conflicts_with_all(&others)?;
-    let told = "Tell endings apart by what tasks are told too";
+    let told = "Tell endings apart by what tasks are answered too";
     let told = flag(alloc, "told", told)
         .requires_arg("orders")?
         .conflicts_with_all(&others)?;
@@ -199,7 +200,7 @@ fn command<'a>(alloc: Global) -> Result<Command<'a>, Error> {
     let replay = flag(alloc, "replay", "Print the replay after the listing");
     let serial = "Print the serial run after the listing and the replay";
     let serial = flag(alloc, "serial", serial);
-    let with_script = "Print each line of the script before what it led to";
+    let with_script = "Print each line of the script before its journal lines";
     let with_script = flag(alloc, "with-script", with_script).conflicts_with("serial")?;
     let strict = flag(alloc, "strict", "End with status 5 if something is amiss");
     let picture = "Print a picture of the run (SVG) in place of all that";
