@@ -184,8 +184,8 @@ fn refill_verb(alloc: Global, verb: &mut Verb, op: &Op) -> Result<(), NoMemory>
     ensures { OnOk result (verb.new ≡ refilled verb.old (Some op.now)) }
 {
     match verb {
-        Verb::Read { ridfld, .. }
-        | Verb::Delete {
+        Verb::Read { ridfld, .. } => put_back(alloc, ridfld, key_of(op)),
+        Verb::Delete {
             ridfld: Some(ridfld),
             ..
         } => put_back(alloc, ridfld, key_of(op)),
@@ -193,9 +193,9 @@ fn refill_verb(alloc: Global, verb: &mut Verb, op: &Op) -> Result<(), NoMemory>
             put_back(alloc, ridfld, key_of(op))?;
             put_back(alloc, from, content_of(op))
         }
-        Verb::Rewrite { from, .. } | Verb::WriteqTs { from, .. } | Verb::WriteqTd { from, .. } => {
-            put_back(alloc, from, content_of(op))
-        }
+        Verb::Rewrite { from, .. } => put_back(alloc, from, content_of(op)),
+        Verb::WriteqTs { from, .. } => put_back(alloc, from, content_of(op)),
+        Verb::WriteqTd { from, .. } => put_back(alloc, from, content_of(op)),
         _ => Ok(()),
     }
 }

@@ -162,33 +162,30 @@ fn flag<'a>(alloc: Global, name: &'a str, help: &'a str) -> Arg<'a> {
 
 // An option with a number from 1 on, which belongs to the orders.
 fn number<'a>(alloc: Global, name: &'a str, help: &'a str) -> Result<Arg<'a>, Error> {
-    let others = ["no-list", "replay", "serial", "with-script", "strict"];
-    Ok(
-        Arg::new(alloc, name)
-            .long(name)
-            .value_name("N")
-            .value_parser(ValueParser::unsigned(1, u64::MAX))
-            .requires_arg("orders")?
-            .conflicts_with_all(&others)?
-            .help(help),
-    )
+    let number = Arg::new(alloc, name)
+        .long(name)
+        .value_name("N")
+        .value_parser(ValueParser::unsigned(1, u64::MAX))
+        .requires_arg("orders")?
+        .help(help);
+    apart_from_runs(number)
+}
+
+// An option that goes with no option of a run.
+fn apart_from_runs<'a>(arg: Arg<'a>) -> Result<Arg<'a>, Error> {
+    Ok(arg.conflicts_with_all(&["no-list", "replay", "serial", "with-script", "strict"])?)
 }
 
 // The options of a report on orders.
 fn with_orders<'a>(alloc: Global, command: Command<'a>) -> Result<Command<'a>, Error> {
-    let others = ["no-list", "replay", "serial", "with-script", "strict"];
     let orders = "Print a report on every order of the tasks' lines instead";
-    let orders = flag(alloc, "orders", orders).conflicts_with_all(&others)?;
     let told = "Tell endings apart by what tasks are answered too";
-    let told = flag(alloc, "told", told)
-        .requires_arg("orders")?
-        .conflicts_with_all(&others)?;
     let limit = "Follow at most N orders (20000)";
     let ending = "Print the first order of ending N as a script";
     Ok(
         command
-            .arg(orders)?
-            .arg(told)?
+            .arg(apart_from_runs(flag(alloc, "orders", orders))?)?
+            .arg(apart_from_runs(flag(alloc, "told", told).requires_arg("orders")?)?)?
             .arg(number(alloc, "limit", limit)?)?
             .arg(number(alloc, "ending", ending)?)?,
     )
@@ -196,25 +193,19 @@ fn with_orders<'a>(alloc: Global, command: Command<'a>) -> Result<Command<'a>, E
 
 // The command line, with its options in the order of the help. A picture stands alone.
 fn command<'a>(alloc: Global) -> Result<Command<'a>, Error> {
-    let no_list = flag(alloc, "no-list", "Leave out the listing");
-    let replay = flag(alloc, "replay", "Print the replay after the listing");
     let serial = "Print the serial run after the listing and the replay";
-    let serial = flag(alloc, "serial", serial);
     let with_script = "Print each line of the script before its journal lines";
-    let with_script = flag(alloc, "with-script", with_script).conflicts_with("serial")?;
-    let strict = flag(alloc, "strict", "End with status 5 if something is amiss");
     let picture = "Print a picture of the run (SVG) in place of all that";
-    let picture = flag(alloc, "picture", picture).exclusive(true);
     let runs = Command::new(alloc, "cicsrun")
         .version(VERSION)
         .about(ABOUT)
         .after_help(MORE)
-        .arg(no_list)?
-        .arg(replay)?
-        .arg(serial)?
-        .arg(with_script)?
-        .arg(strict)?
-        .arg(picture)?;
+        .arg(flag(alloc, "no-list", "Leave out the listing"))?
+        .arg(flag(alloc, "replay", "Print the replay after the listing"))?
+        .arg(flag(alloc, "serial", serial))?
+        .arg(flag(alloc, "with-script", with_script).conflicts_with("serial")?)?
+        .arg(flag(alloc, "strict", "End with status 5 if something is amiss"))?
+        .arg(flag(alloc, "picture", picture).exclusive(true))?;
     with_orders(alloc, runs)
 }
 

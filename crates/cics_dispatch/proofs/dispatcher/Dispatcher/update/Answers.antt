@@ -49,12 +49,20 @@ returns-in_err-command-in-MustWait c =
     let filled = whole c.args.command (Some c.args.op) in
     let tried = c.in_ok-outcome.ensures.attempt filled.verb (told_refilled c.args.command.verb c.args.op) in
     record {
-      step = refused_as_was c.args.self.now c.execute.new.self c.from_residual.result c.args.at (going_on c.args.self.now.machine filled (Some c.args.op)) c.from_residual.ensures.0
+      step = refused_as_was c.args.self.now c.execute.new.self c.from_residual-in_err-command-in-MustWait.result c.args.at (going_on c.args.self.now.machine filled (Some c.args.op)) c.from_residual-in_err-command-in-MustWait.ensures.0
           (tried_waits c.args.self.now c.execute.new.self c.args.at filled (Some c.args.op) c.in_ok-outcome.field-0 c.in-MustWait.holder c.in-MustWait.op c.in-MustWait.is tried).1.1;
     }
 
-pub returns-in-MustWait : goal.returns-in-MustWait
-returns-in-MustWait c =
+pub returns-in_err-outcome : goal.returns-in_err-outcome
+returns-in_err-outcome c =
+    let filled = whole c.args.command (Some c.args.op) in
+    record {
+      step = refused_as_was c.args.self.now c.execute.new.self c.from_residual.result c.args.at (going_on c.args.self.now.machine filled (Some c.args.op)) c.from_residual.ensures.0
+          (c.in_err-outcome.ensures.attempt filled.verb (told_refilled c.args.command.verb c.args.op));
+    }
+
+pub returns-in_ok-command-in-MustWait : goal.returns-in_ok-command-in-MustWait
+returns-in_ok-command-in-MustWait c =
     let filled = whole c.args.command (Some c.args.op) in
     let tried = c.in_ok-outcome.ensures.attempt filled.verb (told_refilled c.args.command.verb c.args.op) in
     let back = (tried_waits c.args.self.now c.execute.new.self c.args.at filled (Some c.args.op) c.in_ok-outcome.field-0 c.in-MustWait.holder c.in-MustWait.op c.in-MustWait.is tried).0.1 in
