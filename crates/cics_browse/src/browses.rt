@@ -75,6 +75,9 @@ impl Browse {
     /// be there, or with `generic` a key that begins with it; without `equal` any key that isn't
     /// below it will do. A key that isn't generic and has nothing but bytes X'FF' means the end of
     /// the file: without `equal` it is found in every file.
+    ///
+    /// Without `generic` a region hands in keys of the file's length. No record has any other key:
+    /// reads then begin where its bytes would stand. An empty key means the end of the file too.
     pub fn start<F: Ordered>(file: &F, key: Record, generic: bool, equal: bool) -> Option<Browse>
         ensures { result
             ≡ (if finds_start (F.file_records file.now) key generic equal

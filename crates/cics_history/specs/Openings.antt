@@ -2,13 +2,12 @@
 -- and the transient data queues, each file and queue with what was loaded into it. The files,
 -- queues and prefixes are this profile's own way to say what the manual leaves to the system's
 -- tables.
-use Rattle.std.specs.Prelude.{◌≡◌, ℕ, ◌+◌, Bool, true, ◌&&◌, Option, Some, None, option_map, nat_le, List, [], ◌∷◌, ◌++◌}
+use Rattle.std.specs.Prelude.{◌≡◌, ℕ, ◌+◌, Bool, true, ◌&&◌, Option, Some, None, option_map, nat_le, [], ◌∷◌, ◌++◌}
 use Rattle.cics_names.specs.Keyed.{Bytes, Map, value_at, with_value, is_rising}
 use Rattle.cics_ksds.specs.Files.{key_of}
 use Rattle.cics_ksds.specs.declared.definition.FileDef.{FileDef}
 use Rattle.cics_transdata.specs.declared.queues.Recovery.{Recovery}
-use Rattle.cics_history.specs.State.{QueueOpening}
-pub use Rattle.cics_history.specs.State.{OpeningState, FileOpening}
+use Rattle.cics_history.specs.State.{OpeningState, FileOpening, QueueOpening}
 
 -- nothing is defined at first
 abbrev pub nothing_defined : OpeningState

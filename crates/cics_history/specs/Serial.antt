@@ -9,7 +9,6 @@ use Rattle.cics_history.specs.Events.{Event, Commit, is_live, happens}
 use Rattle.cics_history.specs.Isolation.{Outcomes, Extends, store_by}
 use Rattle.cics_history.specs.Cells.{Cell, content, recovers, IsOrdered}
 use Rattle.cics_history.specs.declared.ops.Entry.{Entry}
-use Rattle.cics_history.specs.declared.ops.UnitState.{UnitState}
 use Rattle.cics_history.specs.declared.ops.UnitState.TheVariants.{BackedOut}
 
 -- ---- The order in which units committed

@@ -1,13 +1,12 @@
 -- The state of the units of a region, and the store of files and queues that they change. And what
--- of both is recoverable.
-use Rattle.std.specs.Prelude.{ℕ, ◌==◌, Bool, false, ◌||◌, if◌then◌else◌, Option, Some, None, nat_eq, List, [], ◌∷◌, map}
+-- of both is recoverable. Of a file's definition it reads `recoverable` alone, which says what
+-- DEFINE FILE asked for.
+use Rattle.std.specs.Prelude.{ℕ, ◌==◌, Bool, true, false, ◌||◌, if◌then◌else◌, Option, Some, None, nat_eq, List, [], ◌∷◌, map}
 use Rattle.std.specs.List.{starts_with}
 use Rattle.cics_names.specs.Keyed.{Bytes, Map, value_at}
-use Rattle.cics_names.specs.Names.{blank}
 use Rattle.cics_ksds.specs.declared.definition.FileDef.{FileDef}
-use Rattle.cics_tempstor.specs.Queues.{Queue}
-use Rattle.cics_transdata.specs.Trans.{is_logical}
 use Rattle.cics_transdata.specs.declared.queues.Recovery.{Recovery}
+use Rattle.cics_transdata.specs.declared.queues.Recovery.TheVariants.{Logical, Physical, Unrecovered}
 use Rattle.cics_history.specs.declared.ops.Entry.{Entry}
 use Rattle.cics_history.specs.declared.ops.UnitState.{UnitState}
 
@@ -31,12 +30,12 @@ pub record OpeningState : Type 0 where
   pub prefixes : List Bytes
   pub queues : Map QueueOpening
 
--- a name without the blanks that fill it up
+-- a name without the blanks that fill it up, X'40'
 abbrev pub unpadded : Bytes → Bytes
 unpadded [] = []
 unpadded (b ∷ bs) = without_blank b (unpadded bs) where
   without_blank : ℕ → Bytes → Bytes
-  without_blank b [] = if b == blank then [] else b ∷ []
+  without_blank b [] = if b == 0x40 then [] else b ∷ []
   without_blank b (c ∷ cs) = b ∷ c ∷ cs
 
 -- a temporary storage queue is recoverable where one of the defined prefixes begins its name
@@ -51,6 +50,12 @@ file_recoverable o f = is_yes (value_at f o.files) where
   is_yes None = false
   is_yes (Some file) = file.definition.recoverable
 
+-- backout undoes the changes of LOGICAL queues alone
+abbrev pub is_logical : Recovery → Bool
+is_logical Logical = true
+is_logical Physical = false
+is_logical Unrecovered = false
+
 -- a transient data queue is recoverable where it is LOGICAL
 abbrev pub queue_logical : OpeningState → Bytes → Bool
 queue_logical o q = is_yes (value_at q o.queues) where
@@ -64,7 +69,7 @@ queue_logical o q = is_yes (value_at q o.queues) where
 -- and the records of each defined transient data queue
 pub record Store : Type 0 where
   pub files : Map (Map Bytes)
-  pub ts : Map Queue
+  pub ts : Map (List Bytes)
   pub td : Map (List Bytes)
 
 -- the store of an opening is what was loaded, and no temporary storage queue

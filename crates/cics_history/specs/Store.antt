@@ -1,13 +1,10 @@
 -- Recovery (chapters on file control, temporary storage control, transient data control): what each
 -- updating command answers, and the store of files and queues that it leaves.
-use Rattle.std.specs.Prelude.{Bool, true, false, if◌then◌else◌, ℕ, Option, Some, None, unwrap_or, List, [], ◌∷◌, ◌++◌, length}
-use Rattle.cics_names.specs.Keyed.{Bytes, Map, value_at, with_value, without}
+use Rattle.std.specs.Prelude.{Bool, true, false, not, ◌&&◌, if◌then◌else◌, ℕ, ◌+◌, ◌-◌, nat_lt, nat_le, nat_eq, Option, Some, None, unwrap_or, List, [], ◌∷◌, ◌++◌, length, slice_set}
+use Rattle.std.specs.List.{filter, starts_with}
+use Rattle.cics_names.specs.Keyed.{Bytes, Map, value_at, has_key, with_value, without}
 use Rattle.cics_names.specs.declared.conditions.Condition.{Condition}
-use Rattle.cics_names.specs.declared.conditions.Condition.TheVariants.{Normal, Dsiderr, Notfnd, Qzero, Qiderr}
-use Rattle.cics_ksds.specs.Files.{write_condition, change_condition, records_after_write, records_after_rewrite, records_after_delete}
-use Rattle.cics_ksds.specs.Prefixes.{outside, under}
-use Rattle.cics_tempstor.specs.Queues.{Queue, item_condition, items_after_rewrite, has_item, number_if, delete_condition, items_after_write}
-use Rattle.cics_tempstor.specs.Queues as ts
+use Rattle.cics_names.specs.declared.conditions.Condition.TheVariants.{Normal, Dsiderr, Notfnd, Duprec, Qzero, Itemerr, Qiderr}
 use Rattle.cics_history.specs.State.{OpeningState, file_recoverable, queue_logical, has_prefix_in, Store}
 use Rattle.cics_history.specs.declared.ops.Op.{Op}
 use Rattle.cics_history.specs.declared.ops.Op.TheVariants.{Write, Rewrite, Delete, DeleteGeneric, ReadUpdate, TsWrite, TsRewrite, TsDelete, TdWrite, TdRead, TdDelete}
@@ -44,17 +41,19 @@ abbrev pub with_file : Store → Bytes → Map Bytes → Store
 with_file s f records = record { files = with_value f records s.files; ts = s.ts; td = s.td }
 
 -- the items of a temporary storage queue, none where it is absent
-abbrev pub ts_queue : Store → Bytes → Queue
+abbrev pub ts_queue : Store → Bytes → List Bytes
 ts_queue s q = unwrap_or (value_at q s.ts) []
 
 -- the store with these items in a temporary storage queue, which with no item is absent
-abbrev pub with_ts : Store → Bytes → Queue → Store
+abbrev pub with_ts : Store → Bytes → List Bytes → Store
 with_ts s q [] = record { files = s.files; ts = without q s.ts; td = s.td }
 with_ts s q (d ∷ ds) = record { files = s.files; ts = with_value q (d ∷ ds) s.ts; td = s.td }
 
 -- the store with these records in a transient data queue
 abbrev pub with_td : Store → Bytes → List Bytes → Store
 with_td s q records = record { files = s.files; ts = s.ts; td = with_value q records s.td }
+
+-- ---- Files
 
 -- a record that isn't found is NOTFND
 abbrev pub found_condition : Option Bytes → Condition
@@ -64,17 +63,25 @@ found_condition (Some r) = Normal
 -- WRITE adds a record; a key that is there is DUPREC, and a file that isn't defined DSIDERR
 abbrev pub apply_write : Store → Bytes → Bytes → Bytes → Option (Map Bytes) → Applied
 apply_write s f k r None = answered s (only Dsiderr) s
-apply_write s f k r (Some records) = answered s (only (write_condition records k)) (with_file s f (records_after_write records k r))
+apply_write s f k r (Some records) = answered s (only (if has_key k records then Duprec else Normal)) (with_file s f (if has_key k records then records else with_value k r records))
+
+-- a key that has no record is NOTFND
+abbrev pub change_condition : Map Bytes → Bytes → Condition
+change_condition records k = if has_key k records then Normal else Notfnd
 
 -- REWRITE replaces the record of its key
 abbrev pub apply_rewrite : Store → Bytes → Bytes → Bytes → Option (Map Bytes) → Applied
 apply_rewrite s f k r None = answered s (only Dsiderr) s
-apply_rewrite s f k r (Some records) = answered s (only (change_condition records k)) (with_file s f (records_after_rewrite records k r))
+apply_rewrite s f k r (Some records) = answered s (only (change_condition records k)) (with_file s f (if has_key k records then with_value k r records else records))
 
 -- DELETE takes the record of its key away; an absent key is NOTFND
 abbrev pub apply_delete : Store → Bytes → Bytes → Option (Map Bytes) → Applied
 apply_delete s f k None = answered s (only Dsiderr) s
-apply_delete s f k (Some records) = answered s (only (change_condition records k)) (with_file s f (records_after_delete records k))
+apply_delete s f k (Some records) = answered s (only (change_condition records k)) (with_file s f (without k records))
+
+-- whether a key begins with a prefix
+abbrev pub has_prefix : Bytes → Bytes → Bool
+has_prefix p k = starts_with nat_eq k p
 
 -- as many as there are under a prefix; where there is none it is NOTFND
 abbrev pub counted_answer : {X : Type 0} → List X → Answer
@@ -85,25 +92,50 @@ counted_answer (x ∷ xs) = numbered Normal (Some (length (x ∷ xs)))
 -- were; none is NOTFND
 abbrev pub apply_delete_generic : Store → Bytes → Bytes → Option (Map Bytes) → Applied
 apply_delete_generic s f p None = answered s (only Dsiderr) s
-apply_delete_generic s f p (Some records) = answered s (counted_answer (under p records)) (with_file s f (outside p records))
+apply_delete_generic s f p (Some records) = answered s (counted_answer (filter (λ e. has_prefix p e.0) records)) (with_file s f (filter (λ e. not (has_prefix p e.0)) records))
 
 -- READ UPDATE gives the record of its key and changes nothing; an absent key is NOTFND
 abbrev pub apply_read : Store → Bytes → Option (Map Bytes) → Applied
 apply_read s k None = answered s (only Dsiderr) s
 apply_read s k (Some records) = answered s (with_content (found_condition (value_at k records)) (value_at k records)) s
 
+-- ---- Temporary storage
+
+-- a queue has room for one more item, of 32,767
+abbrev pub has_room : List Bytes → Bool
+has_room items = nat_lt (length items) 32767
+
+-- a queue is there where it has an item
+abbrev pub is_there : List Bytes → Bool
+is_there [] = false
+is_there (x ∷ xs) = true
+
+-- a queue has the items 1 to its length
+abbrev pub has_item : List Bytes → ℕ → Bool
+has_item items n = nat_lt 0 n && nat_le n (length items)
+
 -- WRITEQ TS adds an item and answers its number; the most items are ITEMERR
-abbrev pub apply_ts_write : Store → Bytes → Bytes → Queue → Applied
-apply_ts_write s q d items = answered s (numbered (ts.write_condition items) (ts.write_number items)) (with_ts s q (items_after_write items d))
+abbrev pub apply_ts_write : Store → Bytes → Bytes → List Bytes → Applied
+apply_ts_write s q d items =
+    answered s (numbered (if has_room items then Normal else Itemerr) (if has_room items then Some (length items + 1) else None))
+    (with_ts s q (if has_room items then items ++ d ∷ [] else items))
+
+-- an absent queue is QIDERR, an absent item ITEMERR
+abbrev pub item_condition : List Bytes → ℕ → Condition
+item_condition items n = if has_item items n then Normal else if is_there items then Itemerr else Qiderr
 
 -- WRITEQ TS REWRITE replaces an item and answers its number; an absent queue is QIDERR, an absent
 -- item ITEMERR
-abbrev pub apply_ts_rewrite : Store → Bytes → ℕ → Bytes → Queue → Applied
-apply_ts_rewrite s q n d items = answered s (numbered (item_condition items n) (number_if (has_item items n) n)) (with_ts s q (items_after_rewrite items n d))
+abbrev pub apply_ts_rewrite : Store → Bytes → ℕ → Bytes → List Bytes → Applied
+apply_ts_rewrite s q n d items =
+    answered s (numbered (item_condition items n) (if has_item items n then Some n else None))
+    (with_ts s q (if has_item items n then slice_set items (n - 1) d else items))
 
 -- DELETEQ TS takes the whole queue away; an absent queue is QIDERR
-abbrev pub apply_ts_delete : Store → Bytes → Queue → Applied
-apply_ts_delete s q items = answered s (only (delete_condition items)) (with_ts s q [])
+abbrev pub apply_ts_delete : Store → Bytes → List Bytes → Applied
+apply_ts_delete s q items = answered s (only (if is_there items then Normal else Qiderr)) (with_ts s q [])
+
+-- ---- Transient data
 
 -- WRITEQ TD adds a record last; a queue that isn't defined is QIDERR
 abbrev pub apply_td_write : Store → Bytes → Bytes → Option (List Bytes) → Applied
@@ -120,6 +152,8 @@ apply_td_read s q (Some (d ∷ ds)) = answered s (with_content Normal (Some d)) 
 abbrev pub apply_td_delete : Store → Bytes → Option (List Bytes) → Applied
 apply_td_delete s q None = answered s (only Qiderr) s
 apply_td_delete s q (Some records) = answered s (only Normal) (with_td s q [])
+
+-- ---- Every command
 
 -- what each updating command answers and leaves
 abbrev pub apply : Store → Op → Applied

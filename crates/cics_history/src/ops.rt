@@ -1,4 +1,6 @@
 //! The updating commands, their answers, and the history of them.
+//!
+//! Definitions see a name, a key and a record as their bytes, and a unit as its number.
 
 ghost use Rattle.std.specs.Prelude.{◌≡◌, IfOk, IfSome, is_some};
 ghost use Rattle.cics_history.specs.Records.{is_file_op, file_of, key_of};

@@ -9,7 +9,7 @@ use Rattle.std.proofs.lemmas.Slice.Eq.{bytes_eq-Decides}
 use Rattle.std.proofs.lemmas.Bool.{cases_Bool, false≢true, true≢false, or_parts, or_left, or_right, and_from, false_from_ne_true}
 use Rattle.cics_names.specs.Keyed.{Bytes, is_same}
 use Rattle.cics_names.specs.KeyedLaws.{is_same-self, is_same-eq}
-use Rattle.cics_images.specs.Cells.{images_of, is_other, is_unnamed, AreOf, LeadBack}
+use Rattle.cics_images.specs.Cells.{images_of, is_unnamed, AreOf, LeadBack}
 use Rattle.cics_images.specs.Cells as images
 use Rattle.cics_images.specs.NamedValues.{cell_of as value_cell, split}
 use Rattle.cics_images.specs.NamedLaws.{split_cell}

@@ -8,7 +8,7 @@ use Rattle.cics_images.specs.Cells.{Kept}
 use Rattle.cics_images.specs.Cells as images
 use Rattle.cics_images.specs.NamedChanges as among
 use Rattle.cics_images.specs.NamedLaws as named
-use Rattle.cics_images.specs.NamedLaws.{same_or_other, split_cell}
+use Rattle.cics_images.specs.NamedLaws.{split_cell}
 use Rattle.cics_images.specs.NamedValues.{cell_of as value_cell, changed_where, named_content, named_cell, IsNamedReady, named_undone, KeepsIn, NamedKeep}
 use Rattle.cics_images.specs.StoreCells.{file_cell, temp_cell, trans_cell, with_trans_data}
 use Rattle.cics_images.specs.StoreChanges.{trans_data_image}

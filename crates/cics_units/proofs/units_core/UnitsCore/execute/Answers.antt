@@ -20,7 +20,7 @@ use Rattle.cics_units.proofs.DoneCommands.{not_read, opened_none, changed_table,
 use Rattle.cics_units.proofs.RefusedCommands.{condition_normal, reads_refused}
 use Rattle.cics_units.proofs.UnitRows.{kept_at, room_at, kept_set, others_set, row_read}
 use Rattle.cics_units.proofs.units_core.UnitsCore.execute.Goals as goal
-use Rattle.cics_units.proofs.units_core.UnitsCore.execute.Goals.{In_ok-reserve_images, In_ok-copied, In_ok-were_free, In-Ok}
+use Rattle.cics_units.proofs.units_core.UnitsCore.execute.Goals.{In_ok-reserve_images, In_ok-copied, In-Ok}
 
 -- what is lent is there as what it points at is
 copied_some : (o : Option (Bor Bytes)) → is_some (option_copied o) ≡ is_some o
