@@ -12,13 +12,15 @@ use cics_browse::Browse;
 use cics_ksds::FileDef;
 use cics_names::{Condition, Verb};
 
-/// The first fault of a command on a file that is defined; None of every other command.
+/// Returns the first fault of a command on a file that is defined, and `None` for every other
+/// command.
 ///
-/// `open_key` is the key of the task's open update read of the file, and `browse` its browse of it, each None
-/// where there is none.
+/// `open_key` is the key of the task's open update read of the file, and `browse` its browse of it,
+/// each `None` if there is none.
 ///
-/// There come, in this order, INVREQ for the options and the length of the key, LENGERR for the length of FROM,
-/// INVREQ for the open update read and the browse, and INVREQ where the key in the record is another.
+/// The faults come in this order: INVREQ for the options and the length of the key, then LENGERR
+/// for the length of FROM. Then comes INVREQ for the open update read and the browse, and last
+/// INVREQ if the key in the record is another.
 pub(crate) fn file_fault(
     definition: FileDef,
     open_key: Option<&[u8]>,

@@ -66,9 +66,10 @@ ghost use Rattle.cics_history.specs.Ends.{Marks, AreMarksOf, marks_opened, marks
 ghost use Rattle.cics_history.specs.Ends.{marks_committed, marks_backed_out};
 ghost use Rattle.cics_history.specs.InPlace.{content_in_place, parts_opened, run_in_place};
 
-/// Whatever was executed, enqueued, dequeued, unlocked, committed and backed out, in any
-/// interleaving, each command that is kept has the answer that replaying what is kept, from the
-/// opening and in order of execution, gives at its place.
+/// Each surviving entry has the answer that a replay of the surviving entries gives at its place.
+/// The replay begins with the opening's contents and goes in order of execution. This holds
+/// whatever was executed, enqueued, dequeued, unlocked, committed and backed out, in any
+/// interleaving.
 pub fn answers_stay()
     ensures { (o : OpeningState) (events : List Event) → IsOpeningInOrder o →
         let s = run (beginning o) events in
@@ -326,8 +327,8 @@ pub fn calls_keep_places()
 {}
 
 /// A command, a commit and a backout keep the LOGICAL queues in place as the history gives them,
-/// however the units at their two ends end, and the open units' images of the marks as those that
-/// lead back.
+/// however the units at their two ends end. They keep the open units' images of the marks as those
+/// that lead back.
 ///
 /// - `enqueues`, `dequeues`, `unlocks`, `reads`: ENQ, DEQ, UNLOCK and READQ TS leave the marks and
 ///   their images as they are, and those are right after each of these calls too.

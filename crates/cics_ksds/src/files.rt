@@ -24,9 +24,9 @@ use std::marker::Model;
 /// A look-up costs the logarithm of the number of places, and one for the first or last record
 /// also passes over the empty places on its way: one by one in an interval that has a record, and
 /// in one step over an interval that has none. The places lie in control intervals of up to 16,
-/// and those in control areas of up to 64: a write of a new key and a delete that leaves no place
-/// also move the places behind it in its interval, where an interval comes or goes the intervals
-/// behind it in its area, and where an area does the areas behind it.
+/// and those in control areas of up to 64. A write of a new key and a delete that leaves no place
+/// also move the places behind it in its interval. If an interval comes or goes, the intervals
+/// behind it in its area move too, and if an area does, the areas behind it.
 #[derive(Debug, Drop)]
 pub struct File {
     pub(crate) definition: FileDef,
