@@ -11,5 +11,6 @@ abbrev pub HasFaultOf : Played → Result Taken (ℕ × ScriptFault) → Type 0
 HasFaultOf p (Ok t) = p.fault ≡ None
 HasFaultOf p (Err (number, f)) = (p.number ≡ number) × (p.fault ≡ Some (as_fault f))
 
+-- every script, taken apart line by line, has the fault of its plain run or none, as that run
 abbrev pub FaultsAreThoseOfRuns : Type 0
 FaultsAreThoseOfRuns = (lines : List Bytes) → HasFaultOf (play lines) (taken_apart nothing_taken 1 lines)

@@ -1,8 +1,9 @@
 //! The listings.
 
-ghost use Rattle.std.specs.Prelude.{◌≡◌, ◌++◌, OnOk};
+ghost use Rattle.std.specs.Prelude.{◌≡◌, ◌++◌, OnOk, length, codes};
 ghost use Rattle.std.specs.List.{flat_map};
-ghost use Rattle.cics_run.specs.Listings.{heading, recoverable_title, recovery_title, record_line};
+ghost use Rattle.cics_script.specs.Texts.{name_text};
+ghost use Rattle.cics_run.specs.Listings.{recoverable_title, recovery_title, record_line};
 ghost use Rattle.cics_run.specs.Listings.{kept_text, transient_text, state_title};
 ghost use Rattle.cics_run.specs.Listings.{task_text, listing_text, replay_text, count_text};
 ghost use Rattle.cics_run.specs.Listings.{parts_text};
@@ -48,13 +49,28 @@ fn push_kept(
     ensures { OnOk result (out.new.items
         ≡ out.old.items ++ flat_map (kept_text kind.now counted.now) rows.now) }
 {
-    for (name, recoverable, records) in rows {
-        let records = records.as_slice();
-        let recovery = recoverable_title(*recoverable);
-        push_heading(out, kind, &name.bytes(), recovery, counted, records.len())?;
-        push_records(out, records)?;
+    for row in rows {
+        push_block(out, kind, counted, row)?;
     }
     Ok(())
+}
+
+/// Puts the block of a file or temporary storage queue: what it is called, what is counted of it,
+/// and its row of a listing.
+///
+/// Errors: `NoMemory`.
+pub fn push_block(
+    out: &mut Vec<u8>,
+    kind: &str,
+    counted: &str,
+    row: &(Name8, bool, Items<Record>),
+) -> Result<(), NoMemory>
+    ensures { OnOk result (out.new.items
+        ≡ out.old.items ++ kept_text kind.now counted.now row.now) }
+{
+    let (name, recoverable, records) = row;
+    push_title(out, kind, &name.bytes(), recoverable_title(*recoverable))?;
+    push_counted(out, counted, records.as_slice())
 }
 
 fn push_transient(
@@ -63,20 +79,24 @@ fn push_transient(
 ) -> Result<(), NoMemory>
     ensures { OnOk result (out.new.items ≡ out.old.items ++ flat_map transient_text queues.now) }
 {
-    for (name, recovery, records) in queues {
-        let records = records.as_slice();
-        let recovery = recovery_title(*recovery);
-        push_heading(
-            out,
-            "TDQUEUE",
-            &name.bytes(),
-            recovery,
-            "RECORDS",
-            records.len(),
-        )?;
-        push_records(out, records)?;
+    for queue in queues {
+        push_transient_block(out, queue)?;
     }
     Ok(())
+}
+
+/// Puts the block of a transient data queue.
+///
+/// Errors: `NoMemory`.
+pub fn push_transient_block(
+    out: &mut Vec<u8>,
+    queue: &(Name4, Recovery, Items<Record>),
+) -> Result<(), NoMemory>
+    ensures { OnOk result (out.new.items ≡ out.old.items ++ transient_text queue.now) }
+{
+    let (name, recovery, records) = queue;
+    push_title(out, "TDQUEUE", &name.bytes(), recovery_title(*recovery))?;
+    push_counted(out, "RECORDS", records.as_slice())
 }
 
 fn push_tasks(out: &mut Vec<u8>, tasks: &[(Name8, TaskState)]) -> Result<(), NoMemory>
@@ -92,34 +112,30 @@ fn push_tasks(out: &mut Vec<u8>, tasks: &[(Name8, TaskState)]) -> Result<(), NoM
     Ok(())
 }
 
-// The line above the records of a file or queue.
-fn push_heading(
-    out: &mut Vec<u8>,
-    kind: &str,
-    name: &[u8],
-    recovery: &str,
-    counted: &str,
-    count: usize,
-) -> Result<(), NoMemory>
-    ensures { OnOk result (out.new.items
-        ≡ out.old.items ++ heading kind.now name.now recovery.now counted.now count) }
+// What a block is of.
+fn push_title(out: &mut Vec<u8>, kind: &str, name: &[u8], recovery: &str) -> Result<(), NoMemory>
+    ensures { OnOk result (out.new.items ≡ out.old.items
+        ++ (kind.now ++ (codes " " ++ (name_text name.now ++ (codes " " ++ recovery.now))))) }
 {
     push_str(out, kind)?;
     push_str(out, " ")?;
     push_name(out, name)?;
     push_str(out, " ")?;
-    push_str(out, recovery)?;
-    push_count(out, counted, count)?;
-    push_str(out, "\n")
+    push_str(out, recovery)
 }
 
-fn push_count(out: &mut Vec<u8>, counted: &str, count: usize) -> Result<(), NoMemory>
-    ensures { OnOk result (out.new.items ≡ out.old.items ++ count_text counted.now count) }
+// How many records there are, and the records.
+fn push_counted(out: &mut Vec<u8>, counted: &str, records: &[Record]) -> Result<(), NoMemory>
+    ensures { OnOk result (out.new.items ≡ out.old.items
+        ++ (count_text counted.now (length records.now)
+        ++ (codes "\n" ++ flat_map record_line records.now))) }
 {
     push_str(out, " ")?;
     push_str(out, counted)?;
     push_str(out, " ")?;
-    push_number(out, count as u64)
+    push_number(out, records.len() as u64)?;
+    push_str(out, "\n")?;
+    push_records(out, records)
 }
 
 fn push_records(out: &mut Vec<u8>, records: &[Record]) -> Result<(), NoMemory>
@@ -134,7 +150,7 @@ fn push_records(out: &mut Vec<u8>, records: &[Record]) -> Result<(), NoMemory>
 }
 
 /// RECOVERABLE or UNRECOVERABLE.
-pub fn recoverable_title(recoverable: bool) -> &'static str
+pub(crate) fn recoverable_title(recoverable: bool) -> &'static str
     ensures { result.now ≡ recoverable_title recoverable }
 {
     if recoverable {
@@ -145,7 +161,7 @@ pub fn recoverable_title(recoverable: bool) -> &'static str
 }
 
 /// LOGICAL, PHYSICAL or NONE.
-pub fn recovery_title(recovery: Recovery) -> &'static str
+pub(crate) fn recovery_title(recovery: Recovery) -> &'static str
     ensures { result.now ≡ recovery_title recovery }
 {
     match recovery {

@@ -52,7 +52,8 @@ pub(crate) fn loaded(alloc: Global, more: u64) -> Result<File, NoMemory> {
     Ok(file)
 }
 
-/// Stores the image of a change that was just made, or undoes the change by it.
+/// Stores the image of a change that was just made, or undoes the change by it: then the cell still
+/// holds back what an older image would need.
 pub(crate) fn end<M: Undoable>(
     target: &mut M,
     images: &mut Images<M>,
@@ -62,12 +63,11 @@ pub(crate) fn end<M: Undoable>(
     requires ready { IfSome image (M.IsReady target.old) }
     requires room { 0 < images.old.room }
 {
-    if let Some(mut image) = image {
+    if let Some(image) = image {
         if ending == Ending::Kept {
             images.store(image);
         } else {
-            target.undo(&mut image);
-            target.settle(image);
+            target.undo_one(image);
         }
     }
 }

@@ -159,6 +159,16 @@ impl Holders {
         }
     }
 
+    // Puts at the end who else holds the least of what overlaps a prefix of keys.
+    fn under(&self, prefix: &[u8], unit: UnitId, told: &mut String) -> Result<(), NoMemory> {
+        match Name8::new(b"ACCT") {
+            Ok(file) if prefix.len() <= 255 => {
+                push_unit(told, self.table.held_with_prefix(file, prefix, Some(unit)))
+            }
+            _ => Ok(told.push_str("too long")?),
+        }
+    }
+
     // Makes a call on a resource for a unit.
     fn call_on(
         &mut self,
@@ -196,6 +206,7 @@ impl Lower for Holders {
         match (call.word, resource_of(given.bytes())) {
             ("enq", _) => self.enq(given.bytes(), unit, told),
             ("fill", _) => self.fill(given.bytes(), unit, told),
+            ("under", _) => self.under(given.bytes(), unit, told),
             ("release", _) => {
                 self.table.release_all(unit);
                 Ok(())

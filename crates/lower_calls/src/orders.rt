@@ -118,12 +118,13 @@ fn is_undone(alloc: Global, file: &mut File, order: Order) -> Result<bool, NoMem
     Ok(are_gone && are_back && file.interval_count() == intervals)
 }
 
-// Deletes so many keys, and commits that. Says whether nothing is left, no interval either.
-fn is_emptied(alloc: Global, file: &mut File, count: u64) -> Result<bool, NoMemory> {
+// Deletes so many keys, with their images or without, and commits that. Says whether nothing is
+// left, no interval either.
+fn is_emptied(alloc: Global, file: &mut File, count: u64, keep: bool) -> Result<bool, NoMemory> {
     let mut images = Images::new(alloc);
     for number in 0..count {
         images.make_room(1)?;
-        if let Some(image) = file.delete(key_of(alloc, number)?.bytes(), true)?.image {
+        if let Some(image) = file.delete(key_of(alloc, number)?.bytes(), keep)?.image {
             images.store(image);
         }
     }
@@ -132,11 +133,12 @@ fn is_emptied(alloc: Global, file: &mut File, count: u64) -> Result<bool, NoMemo
 }
 
 /// Fills a file in an order, deletes every third key, undoes that, and empties the file; each time
-/// the whole listing is compared. 16 keys stand in one interval, 17 in two.
+/// the whole listing is compared. 16 keys stand in one interval, 17 in two, and deleted without
+/// images they leave none.
 pub(crate) fn is_kept_in_order(alloc: Global, order: Order) -> Result<(), Stop> {
     for (count, intervals) in [(16, 1), (17, 2)] {
         let mut file = filled(alloc, order, count)?;
-        if file.interval_count() != intervals || !is_emptied(alloc, &mut file, count)? {
+        if file.interval_count() != intervals || !is_emptied(alloc, &mut file, count, false)? {
             return Err(Stop::Order("intervals come and go"));
         }
     }
@@ -147,7 +149,7 @@ pub(crate) fn is_kept_in_order(alloc: Global, order: Order) -> Result<(), Stop> 
     if !is_undone(alloc, &mut file, order)? {
         return Err(Stop::Order("every third is deleted and undone"));
     }
-    if !is_emptied(alloc, &mut file, KEYS)? {
+    if !is_emptied(alloc, &mut file, KEYS, true)? {
         return Err(Stop::Order("all are deleted"));
     }
     Ok(())

@@ -30,8 +30,8 @@ impl Queue {
 
     fn write(&mut self, record: Record, ending: Ending) -> Result<Condition, NoMemory> {
         let changed = self.queue.write(record)?;
-        if let (Some(mut image), Ending::Undone) = (changed.image, ending) {
-            self.queue.undo(&mut image);
+        if let (Some(image), Ending::Undone) = (changed.image, ending) {
+            self.queue.undo_one(image);
         }
         Ok(changed.condition)
     }
@@ -46,8 +46,8 @@ impl Queue {
 
     fn delete(&mut self, ending: Ending) -> Condition {
         let changed = self.queue.delete();
-        if let (Some(mut image), Ending::Undone) = (changed.image, ending) {
-            self.queue.undo(&mut image);
+        if let (Some(image), Ending::Undone) = (changed.image, ending) {
+            self.queue.undo_one(image);
         }
         changed.condition
     }

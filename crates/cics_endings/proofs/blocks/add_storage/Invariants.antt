@@ -2,5 +2,5 @@ use Rattle.std.proofs.Common.{◌≡◌, ◌++◌, map, take}
 use Rattle.cics_run.specs.Listings.{storage_text}
 use Rattle.cics_endings.proofs.blocks.add_storage.Given as goal
 
-abbrev pub invariant-loop-name : goal.invariant-loop-name
-invariant-loop-name l = l.parts ≡ l.fn.parts ++ map storage_text (take l.name-index l.queues)
+abbrev pub invariant-loop-queue : goal.invariant-loop-queue
+invariant-loop-queue l = l.parts ≡ l.fn.parts ++ map storage_text (take l.queue-index l.queues)

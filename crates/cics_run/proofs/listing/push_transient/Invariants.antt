@@ -3,5 +3,5 @@ use Rattle.std.specs.List.{flat_map}
 use Rattle.cics_run.specs.Listings.{transient_text}
 use Rattle.cics_run.proofs.listing.push_transient.Given as goal
 
-abbrev pub invariant-loop-name : goal.invariant-loop-name
-invariant-loop-name l = l.out.items ≡ l.fn.out.items ++ flat_map transient_text (take l.name-index l.queues)
+abbrev pub invariant-loop-queue : goal.invariant-loop-queue
+invariant-loop-queue l = l.out.items ≡ l.fn.out.items ++ flat_map transient_text (take l.queue-index l.queues)
