@@ -167,8 +167,8 @@ fn told_of<'a>(context: &Context<'a>, fault: LineFault) -> Told<'a> {
 
 // An option that stands twice. Only FILE has another word.
 fn of_doubled(context: &Context<'_>) -> &'static str {
-    for (_, word) in &context.front {
-        if word.eq_ignore_ascii_case(context.token) {
+    for place in 0..context.front.len() {
+        if context.word_at(place).eq_ignore_ascii_case(context.token) {
             return "% stands twice";
         }
     }
@@ -194,7 +194,8 @@ fn kind_at(context: &Context<'_>, option: &[u8]) -> Option<Kind> {
 // Returns the first option in front that can't stand beside the token's.
 fn excluding<'a>(context: &Context<'a>) -> Option<&'a [u8]> {
     let option = option_named(context.token)?;
-    for (_, word) in &context.front {
+    for place in 0..context.front.len() {
+        let word = context.word_at(place);
         if let Some(other) = option_named(word) {
             if is_excluded(other, option) {
                 return Some(word);
