@@ -232,6 +232,11 @@ fn of_unknown<'a>(context: &Context<'a>) -> Told<'a> {
         0 => (NO_COMMAND, &[]),
         1 => (text_on(&SECOND, context.at(0)).unwrap_or(NO_COMMAND), &[]),
         2 if start_of(context.at(0)).is_none() => (NO_COMMAND, &[]),
+        // An option may have been taken for a label.
+        2 if is_word(context.token, "(") => {
+            let text = text_on(&SECOND, context.at(0)).unwrap_or(NO_PARENTHESES);
+            (text, context.before(1))
+        }
         3 if context.is_command() => (text_on(&NO_VERBS, context.token).unwrap_or(NO_VERB), &[]),
         _ if is_one(context.token, "( )") => (NO_PARENTHESES, context.before(1)),
         _ => (NO_OPTION, &[]),
