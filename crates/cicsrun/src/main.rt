@@ -60,7 +60,7 @@ fn run_to_the_end(rt: HostRuntime, wanted: Wanted, is_strict: bool) -> Result<u8
     let mut journal = Watched::new(rt.stdout(), is_strict);
     let answer = run_over(&mut session, &mut rt.stdin(), &mut journal, wanted);
     if let Ok(status) = answer {
-        tell(rt, &mut session, status);
+        tell(rt, &session, status);
     }
     let is_amiss = is_strict && (journal.is_amiss() || is_left_waiting(&session));
     mem::forget(session);
@@ -72,7 +72,7 @@ fn draw_to_the_end(rt: HostRuntime) -> Result<Status, NoPicture> {
     let mut session = Session::new(rt.alloc());
     let answer = run_picture(&mut session, &mut rt.stdin(), &mut rt.stdout());
     if let Ok(status) = answer {
-        tell(rt, &mut session, status);
+        tell(rt, &session, status);
     }
     mem::forget(session);
     answer
@@ -103,14 +103,14 @@ fn tell_fault(rt: HostRuntime, mut script: &[u8]) {
     let mut session = Session::new(rt.alloc());
     let mut journal: Vec<u8> = Vec::new(rt.alloc());
     if let Ok(status) = run_over(&mut session, &mut script, &mut journal, JOURNAL) {
-        tell(rt, &mut session, status);
+        tell(rt, &session, status);
     }
 }
 
 // Says on standard error what a run leaves a person to know: what its faulty line needs, or its
 // deadlocks and undefined names. Without memory it says nothing: the journal and the listing have
 // it.
-fn tell(rt: HostRuntime, session: &mut Session, status: Status) {
+fn tell(rt: HostRuntime, session: &Session, status: Status) {
     let told = match status {
         Status::LineFault => told_of(rt.alloc(), session),
         Status::Done => told_at_end(rt.alloc(), session),
