@@ -75,9 +75,23 @@ impl<'a> Context<'a> {
         }
     }
 
-    /// Returns whether one of these words, parted by blanks, stands before the column.
+    /// Returns the token of this index, or nothing for a value in parentheses.
+    pub fn word_at(&self, place: usize) -> &'a [u8] {
+        match place.checked_sub(1) {
+            Some(last) if is_word(self.at(last), "(") => &[],
+            _ => self.at(place),
+        }
+    }
+
+    /// Returns whether one of these words, parted by blanks, stands before the column, and not as a
+    /// value.
     pub fn has_one(&self, words: &str) -> bool {
-        self.front.iter().any(|(_, token)| is_one(token, words))
+        for place in 0..self.front.len() {
+            if is_one(self.word_at(place), words) {
+                return true;
+            }
+        }
+        false
     }
 
     /// Returns the column of the first of these words that stands before the column, or else 1.

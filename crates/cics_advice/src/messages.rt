@@ -167,8 +167,8 @@ fn told_of<'a>(context: &Context<'a>, fault: LineFault) -> Told<'a> {
 
 // An option that stands twice. Only FILE has another word.
 fn of_doubled(context: &Context<'_>) -> &'static str {
-    for (_, word) in &context.front {
-        if word.eq_ignore_ascii_case(context.token) {
+    for place in 0..context.front.len() {
+        if context.word_at(place).eq_ignore_ascii_case(context.token) {
             return "% stands twice";
         }
     }
@@ -194,7 +194,8 @@ fn kind_at(context: &Context<'_>, option: &[u8]) -> Option<Kind> {
 // Returns the first option in front that can't stand beside the token's.
 fn excluding<'a>(context: &Context<'a>) -> Option<&'a [u8]> {
     let option = option_named(context.token)?;
-    for (_, word) in &context.front {
+    for place in 0..context.front.len() {
+        let word = context.word_at(place);
         if let Some(other) = option_named(word) {
             if is_excluded(other, option) {
                 return Some(word);
@@ -231,6 +232,11 @@ fn of_unknown<'a>(context: &Context<'a>) -> Told<'a> {
         0 => (NO_COMMAND, &[]),
         1 => (text_on(&SECOND, context.at(0)).unwrap_or(NO_COMMAND), &[]),
         2 if start_of(context.at(0)).is_none() => (NO_COMMAND, &[]),
+        // An option may have been taken for a label.
+        2 if is_word(context.token, "(") => {
+            let text = text_on(&SECOND, context.at(0)).unwrap_or(NO_PARENTHESES);
+            (text, context.before(1))
+        }
         3 if context.is_command() => (text_on(&NO_VERBS, context.token).unwrap_or(NO_VERB), &[]),
         _ if is_one(context.token, "( )") => (NO_PARENTHESES, context.before(1)),
         _ => (NO_OPTION, &[]),

@@ -59,6 +59,7 @@ Each option, from the root of the repository:
   bin/cicsrun --with-script < examples/turns.cics
   bin/cicsrun --strict < examples/deadlock.cics
   bin/cicsrun --picture < examples/deadlock.cics > deadlock.svg
+  bin/cicsrun --orders --limit 5 < examples/race.cics
   bin/cicsrun --orders --told < examples/race.cics
   bin/cicsrun --orders --told --ending 2 < examples/race.cics
 The language of a script: docs/LANGUAGE.md.

@@ -4,11 +4,12 @@
 
 use cics_draw::{NoPicture, run_picture};
 use cics_run::{
-    Asked, Orders, RunFault, Session, Status, Wanted, arguments, exit_status, run_over,
+    Asked, Options, Orders, RunFault, Session, Status, Wanted, arguments, exit_status, run_over,
     strict_status,
 };
 use cics_survey::{Surveyed, run_orders};
 use cics_told::{Watched, is_left_waiting, told_at_end, told_of};
+use cics_whole::read_script;
 use std::io::ErrorKind;
 use std::mem;
 use std::process::ExitCode;
@@ -16,6 +17,16 @@ use std::process::ExitCode;
 const BAD_ARGUMENTS: u8 = 2;
 
 const TOO_MANY_EVENTS: u8 = 4;
+
+// The journal alone.
+const JOURNAL: Wanted = Wanted {
+    options: Options {
+        replay: false,
+        no_list: true,
+    },
+    serial: false,
+    with_script: false,
+};
 
 fn main(rt: HostRuntime) -> ExitCode {
     match asked(rt) {
@@ -49,7 +60,7 @@ fn run_to_the_end(rt: HostRuntime, wanted: Wanted, is_strict: bool) -> Result<u8
     let mut journal = Watched::new(rt.stdout(), is_strict);
     let answer = run_over(&mut session, &mut rt.stdin(), &mut journal, wanted);
     if let Ok(status) = answer {
-        tell(rt, &mut session, status);
+        tell(rt, &session, status);
     }
     let is_amiss = is_strict && (journal.is_amiss() || is_left_waiting(&session));
     mem::forget(session);
@@ -61,7 +72,7 @@ fn draw_to_the_end(rt: HostRuntime) -> Result<Status, NoPicture> {
     let mut session = Session::new(rt.alloc());
     let answer = run_picture(&mut session, &mut rt.stdin(), &mut rt.stdout());
     if let Ok(status) = answer {
-        tell(rt, &mut session, status);
+        tell(rt, &session, status);
     }
     mem::forget(session);
     answer
@@ -69,9 +80,16 @@ fn draw_to_the_end(rt: HostRuntime) -> Result<Status, NoPicture> {
 
 // Follows the orders of the script on standard input.
 fn follow_orders(rt: HostRuntime, wanted: Orders) -> ExitCode {
-    match run_orders(rt.alloc(), &mut rt.stdin(), &mut rt.stdout(), wanted) {
+    let mut script = Vec::new(rt.alloc());
+    if let Err(fault) = read_script(&mut rt.stdin(), &mut script) {
+        return stopped(rt, fault);
+    }
+    match run_orders(rt.alloc(), &mut script.as_slice(), &mut rt.stdout(), wanted) {
         Ok(Surveyed::Done) => ended(rt, Ok(exit_status(&Ok(Status::Done)))),
-        Ok(Surveyed::LineFault) => ended(rt, Ok(exit_status(&Ok(Status::LineFault)))),
+        Ok(Surveyed::LineFault) => {
+            tell_fault(rt, &script);
+            ended(rt, Ok(exit_status(&Ok(Status::LineFault))))
+        }
         Ok(Surveyed::NoEnding(count)) => {
             let _ = eprintln!(rt; "cicsrun: there are {count} endings");
             ExitCode::from(BAD_ARGUMENTS)
@@ -80,10 +98,19 @@ fn follow_orders(rt: HostRuntime, wanted: Orders) -> ExitCode {
     }
 }
 
+// Says what the faulty line of a script needs, as a run of it does.
+fn tell_fault(rt: HostRuntime, mut script: &[u8]) {
+    let mut session = Session::new(rt.alloc());
+    let mut journal: Vec<u8> = Vec::new(rt.alloc());
+    if let Ok(status) = run_over(&mut session, &mut script, &mut journal, JOURNAL) {
+        tell(rt, &session, status);
+    }
+}
+
 // Says on standard error what a run leaves a person to know: what its faulty line needs, or its
 // deadlocks and undefined names. Without memory it says nothing: the journal and the listing have
 // it.
-fn tell(rt: HostRuntime, session: &mut Session, status: Status) {
+fn tell(rt: HostRuntime, session: &Session, status: Status) {
     let told = match status {
         Status::LineFault => told_of(rt.alloc(), session),
         Status::Done => told_at_end(rt.alloc(), session),
