@@ -1,11 +1,13 @@
 -- The row of a command that has to wait names the task that blocks it.
-use Rattle.std.proofs.Common.{◌≡◌, ℕ, suc, Bool, true, false, cond, ◌==◌, ◌+◌, ◌-◌, ◌<◌, List, [], ◌∷◌, ◌++◌, length, take, drop, refl, ap, sym, ◌∙◌, append_assoc, append-nil, arith, inl, inr, Option, Some, None, Result, Ok, Err}
-use Rattle.std.proofs.lemmas.Bool.{cases_Bool, and_parts, and_from, ne_eqb, ltb-true, true≢false}
+use Rattle.std.proofs.Common.{◌≡◌, ℕ, suc, Bool, true, false, cond, ◌==◌, ◌+◌, ◌-◌, ◌<◌, List, [], ◌∷◌, ◌++◌, length, take, drop, refl, ap, sym, ◌∙◌, subst, append_assoc, append-nil, arith, inl, inr, Option, Some, None, Result, Ok, Err}
+use Rattle.std.proofs.lemmas.Bool.{cases_Bool, and_parts, and_from, ne_eqb, ltb-true, true≢false, false≢true}
+use Rattle.std.proofs.lemmas.Slice.Eq.{bytes_eq-Decides}
 use Rattle.std.proofs.lemmas.List.{take_all, take-append-le}
 use Rattle.std.proofs.lemmas.List.Folds.{list_all-append}
-use Rattle.std.specs.Prelude.{option_map, is_some, nat_lt, if◌then◌else◌}
+use Rattle.std.specs.Prelude.{not, option_map, is_some, nat_lt, if◌then◌else◌}
 use Rattle.std.specs.List.{list_all, flat_map, prefix_len}
 use Rattle.std.specs.Option.{option_to_list}
+use Rattle.std.specs.Str.{bytes_eq}
 use Rattle.cics_names.specs.Ebcdic.{Run, runs, is_within, character_in, character_of}
 use Rattle.cics_names.specs.Keyed.{Bytes, is_same, value_at}
 use Rattle.cics_names.specs.KeyedLaws.{is_same-self}
@@ -42,9 +44,10 @@ use Rattle.cics_run.specs.Stages.{step, followed, answered as answered_step, reg
 use Rattle.cics_run.specs.Settling.{settled}
 use Rattle.cics_run.specs.declared.stage.Stage.{Stage}
 use Rattle.cics_run.proofs.Playing.{not-true}
+use Rattle.cics_picture.specs.declared.events.Kind.{Kind}
 use Rattle.cics_picture.specs.declared.events.Kind.TheVariants as kind
 use Rattle.cics_picture.specs.Events.{is_in_word, first_word, behind_word, is_number, region_kind, told_kind, kind_of}
-use Rattle.cics_picture.specs.Lanes.{lane_of}
+use Rattle.cics_picture.specs.Lanes.{lane_from, lane_of, with_task, tasks_behind}
 use Rattle.cics_picture.specs.Drawings.{Row, row, rows_from, rows_of}
 use Rattle.cics_picture.specs.Arrows.{attached}
 use Rattle.cics_picture.proofs.Waits.{wait-drawn}
@@ -196,6 +199,38 @@ word-first w rest all = ap (λ k. take k (w ++ 32 ∷ rest)) (word-len w rest al
 word-behind : (w rest : List ℕ) → list_all is_in_word w ≡ true → behind_word (w ++ 32 ∷ rest) ≡ rest
 word-behind w rest all = ap (λ k. drop (k + 1) (w ++ 32 ∷ rest)) (word-len w rest all) ∙ dropped w rest
 
+-- a label that rows attach is a word
+taken-word : (bytes : List ℕ) → list_all is_in_word (first_word bytes) ≡ true
+taken-word [] = refl
+taken-word (c ∷ bytes) =
+    let more : 1 + prefix_len is_in_word bytes ≡ suc (prefix_len is_in_word bytes) = omega arith in
+    elim (cases_Bool (c == 32)) [
+      | inl blank ↦ rw blank refl
+      | inr other ↦ rw other (
+          ap (λ k. list_all is_in_word (take k (c ∷ bytes))) more
+          ∙ and_from (is_in_word c) (list_all is_in_word (first_word bytes)) (ap not other) (taken-word bytes))
+    ]
+
+with-task-words : (label : List ℕ) (k : Kind) → list_all is_in_word label ≡ true → list_all (list_all is_in_word) (with_task [] label k) ≡ true
+with-task-words label kind.Attached all = and_from (list_all is_in_word label) true all refl
+with-task-words label k all = refl
+
+attached-words : (rows : List Row) → list_all (list_all is_in_word) (attached rows) ≡ true
+attached-words [] = refl
+attached-words (r ∷ rows) =
+    list_all-append (list_all is_in_word) (tasks_behind [] r.event) (attached rows)
+    ∙ and_from (list_all (list_all is_in_word) (tasks_behind [] r.event)) (list_all (list_all is_in_word) (attached rows))
+        (with-task-words (first_word r.event) (kind_of r.event) (taken-word r.event)) (attached-words rows)
+
+label-word : (n : ℕ) (tasks : List (List ℕ)) (label : List ℕ) → is_some (lane_from n tasks label) ≡ true → list_all (list_all is_in_word) tasks ≡ true → list_all is_in_word label ≡ true
+label-word n [] label some all = absurd (false≢true some)
+label-word n (task ∷ tasks) label some all =
+    let parts = and_parts (list_all is_in_word task) (list_all (list_all is_in_word) tasks) all in
+    elim (bytes_eq task label) as (λ b. bytes_eq task label ≡ b → is_some (cond b (Some n) (lane_from (n + 1) tasks label)) ≡ true → list_all is_in_word label ≡ true) [
+      | true ↦ λ same e. subst (λ l. list_all is_in_word l ≡ true) ((bytes_eq-Decides task label).0 same) parts.0
+      | false ↦ λ other e. label-word (n + 1) tasks label e parts.1
+    ] refl some
+
 -- a label has no LF
 character-in-line : (rs : List Run) → list_all (λ r. nat_lt 10 r.character) rs ≡ true → (b : ℕ) → list_all is_in_line (option_to_list (character_in rs b)) ≡ true
 character-in-line [] above b = refl
@@ -257,6 +292,9 @@ module _ (rows : List Row) (number : ℕ) (stage : Stage) (line : List ℕ) (w :
       ∙ ap (λ o. (answered_step (region_of stage).machine (outcome_line w.label) (refused_line w.label) o behind).text) w.waits
       ∙ append_assoc (event w.label w.holder) (10 ∷ []) more
 
+  word : list_all is_in_word (bare w.label) ≡ true
+  word = label-word 0 (attached rows) (bare w.label) w.waiter_attached (attached-words rows)
+
   pub blocker-shown : ShowsBlocker rows (rows_of (printed number line (step number stage line))) behind w.label
   blocker-shown =
       let r = row number line (event w.label w.holder) in record {
@@ -265,12 +303,12 @@ module _ (rows : List Row) (number : ℕ) (stage : Stage) (line : List ℕ) (w :
         blocker = w.holder;
         begins = ap (rows_from number line []) text ∙ first-row (event w.label w.holder) number line [] more (event-in-line w.label w.holder);
         blocks = named (region_of stage).machine w.label w.command w.holder w.waits;
-        from_waiter = names-waiter w.label w.holder w.word;
-        to_blocker = names-holder w.label w.holder w.word;
+        from_waiter = names-waiter w.label w.holder word;
+        to_blocker = names-holder w.label w.holder word;
         arrow = wait-drawn rows r (record {
-          waits = kind-waits w.label w.holder w.word;
+          waits = kind-waits w.label w.holder word;
           few = w.few;
-          waiter_attached = ap (λ l. is_some (lane_of (attached rows) l)) (names-waiter w.label w.holder w.word) ∙ w.waiter_attached;
-          awaited_attached = ap (λ l. is_some (lane_of (attached rows) l)) (names-holder w.label w.holder w.word) ∙ w.holder_attached;
+          waiter_attached = ap (λ l. is_some (lane_of (attached rows) l)) (names-waiter w.label w.holder word) ∙ w.waiter_attached;
+          awaited_attached = ap (λ l. is_some (lane_of (attached rows) l)) (names-holder w.label w.holder word) ∙ w.holder_attached;
         });
       }

@@ -1,6 +1,5 @@
 -- A command that has to wait is drawn with an arrow to the lane of the task that blocks it.
 use Rattle.std.specs.Prelude.{◌≡◌, ◌≤◌, ℕ, true, List, [], ◌∷◌, length, Some, Result, Ok, is_some}
-use Rattle.std.specs.List.{list_all}
 use Rattle.cics_names.specs.Keyed.{Bytes}
 use Rattle.cics_names.specs.declared.commands.Command.{Command}
 use Rattle.cics_dispatch.specs.Machine.{Machine}
@@ -15,7 +14,7 @@ use Rattle.cics_script.specs.Texts.{bare}
 use Rattle.cics_script.specs.declared.lines.Line.TheVariants.{Issue}
 use Rattle.cics_run.specs.Stages.{step, region_of}
 use Rattle.cics_run.specs.declared.stage.Stage.{Stage}
-use Rattle.cics_picture.specs.Events.{is_in_word, first_word}
+use Rattle.cics_picture.specs.Events.{first_word}
 use Rattle.cics_picture.specs.Lanes.{most_lanes, lane_of}
 use Rattle.cics_picture.specs.Drawings.{Row, rows_of}
 use Rattle.cics_picture.specs.Arrows.{attached, awaited, DrawsArrow}
@@ -27,14 +26,13 @@ commanded stage label c =
     let m = (region_of stage).machine in unless_down m (issued m label c)
 
 -- A line of the script has a command that has to wait. Rows attach its task and the one that it is told, and no more tasks than
--- have lanes. A label is printed without a blank.
+-- have lanes.
 pub record HasToWait (rows : List Row) (stage : Stage) (line : List ℕ) : Type 0 where
   pub label : Bytes
   pub command : Command
   pub holder : Bytes
   pub read : reading.line line ≡ Ok (Issue label command)
   pub waits : (commanded stage label command).outcome ≡ Ok (Waiting holder)
-  pub word : list_all is_in_word (bare label) ≡ true
   pub few : length (attached rows) ≤ most_lanes
   pub waiter_attached : is_some (lane_of (attached rows) (bare label)) ≡ true
   pub holder_attached : is_some (lane_of (attached rows) (bare holder)) ≡ true
