@@ -50,7 +50,7 @@ pub record ShowsBlocker (before rows : List Row) (m : Machine) (label : Bytes) :
   pub arrow : DrawsArrow before first
 
 -- the rows of a line with a command that has to wait show its blocker, as the region has it behind the command
-abbrev pub NamesBlocker : List Row → ℕ → Stage → (line : List ℕ) → Type 0
+abbrev pub NamesBlocker : List Row → ℕ → Stage → List ℕ → Type 0
 NamesBlocker before number stage line =
     (w : HasToWait before stage line)
     → ShowsBlocker before (rows_of (printed number line (step number stage line))) (commanded stage w.label w.command).machine w.label
