@@ -18,11 +18,12 @@ use Rattle.cics_names.specs.declared.conditions.Condition.TheVariants.{Normal}
 use Rattle.cics_names.specs.declared.commands.Command.{Command}
 use Rattle.cics_names.specs.declared.commands.Verb.{Verb}
 use Rattle.cics_names.specs.declared.commands.Verb.TheVariants.{StartBr, ResetBr, ReadNext, ReadPrev, Enq, Syncpoint, Rollback, Return, Abend}
+use Rattle.cics_browse.specs.Positions.{finds_start, read_next, after_next, read_prev, after_prev}
 use Rattle.cics_history.specs.Holding.{awaited as awaited_unit, value_holder}
-use Rattle.cics_history.specs.Execution.{done_of, enq_of}
+use Rattle.cics_history.specs.Execution.{unit_or_next, done_of, enq_of}
 use Rattle.cics_history.specs.declared.ops.Op.{Op}
 use Rattle.cics_history.specs.declared.ops.Enqueued.TheVariants.{Taken, CountFull}
-use Rattle.cics_dispatch.specs.Machine.{Machine, Task, Suspended, task_at, is_waiting, label_of}
+use Rattle.cics_dispatch.specs.Machine.{Machine, Task, Suspended, task_at, is_waiting, label_of, with_unit, records_in}
 use Rattle.cics_dispatch.specs.Checks.{fault_of}
 use Rattle.cics_dispatch.specs.Replies.{plain}
 use Rattle.cics_dispatch.specs.Steps.{Stepped, unhandled, answered, suspended, made_to_wait, executed, enqueued, reset, browsed, code_of, other_command, by_op, op_of, checked, issue_refusal, refused_or, issued_by, issued}
@@ -99,11 +100,11 @@ module _ (m : Machine) (label : Bytes) (t : Task) (there : task_at m.tasks label
 
   op-tells : (o : Op) (w : Option ℕ) → awaited_unit m.units t.unit o ≡ w → Tells label (executed m t c o (done_of m.units t.unit o w))
   op-tells o (Some h) awaits = waits-tells (Some o) h _ awaits
-  op-tells o None awaits = reply-tells label _ _ c.resp _
+  op-tells o None awaits = reply-tells label _ (with_unit t (unit_or_next t.unit m.units.outcomes)) c.resp _
 
   free-tells : (value : Bytes) (full : Bool) (unit : ℕ) → Tells label (enqueued m t c value (if full then CountFull else Taken unit))
   free-tells value true unit = reply-tells label m t c.resp _
-  free-tells value false unit = reply-tells label _ _ c.resp _
+  free-tells value false unit = reply-tells label _ (with_unit t unit) c.resp _
 
   enq-tells : (value : Bytes) (w : Option ℕ) → awaited_by m.units t.unit c.verb None ≡ w → Tells label (enqueued m t c value (enq_of m.units t.unit value w))
   enq-tells value (Some h) awaits = waits-tells None h _ awaits
@@ -111,27 +112,27 @@ module _ (m : Machine) (label : Bytes) (t : Task) (there : task_at m.tasks label
 
   other-tells : (verb : Verb) → c.verb ≡ verb → Tells label (other_command m t c verb)
   other-tells (Enq value n nosuspend) is = enq-tells (take n value) (value_holder m.units t.unit (take n value)) (ap (λ v. awaited_by m.units t.unit v None) is)
-  other-tells (StartBr f key given generic equal) is = either-tells label _ _ _ _ _ c.resp _ _
+  other-tells (StartBr f key given generic equal) is = either-tells label (finds_start (records_in m f) key generic equal) _ m t t c.resp _ _
   other-tells (ResetBr f key given generic equal) is =
       elim (value_at f t.browses) as (λ o. Tells label (reset m t c.resp f key generic equal o)) [
         | None ↦ reply-tells label m t c.resp _
-        | Some p ↦ reply-tells label _ _ c.resp _
+        | Some p ↦ reply-tells label _ t c.resp _
       ]
   other-tells (ReadNext f n) is =
-      elim (value_at f t.browses) as (λ o. Tells label (browsed m t c.resp f n o _ _)) [
+      elim (value_at f t.browses) as (λ o. Tells label (browsed m t c.resp f n o (read_next (records_in m f)) (after_next (records_in m f)))) [
         | None ↦ reply-tells label m t c.resp _
-        | Some p ↦ reply-tells label _ _ c.resp _
+        | Some p ↦ reply-tells label _ t c.resp _
       ]
   other-tells (ReadPrev f n) is =
-      elim (value_at f t.browses) as (λ o. Tells label (browsed m t c.resp f n o _ _)) [
+      elim (value_at f t.browses) as (λ o. Tells label (browsed m t c.resp f n o (read_prev (records_in m f)) (after_prev (records_in m f)))) [
         | None ↦ reply-tells label m t c.resp _
-        | Some p ↦ reply-tells label _ _ c.resp _
+        | Some p ↦ reply-tells label _ t c.resp _
       ]
   other-tells Syncpoint is = record { names = λ holder e. let wrong : Replied (plain Normal) ≡ Waiting holder = e in cc }
   other-tells Rollback is = record { names = λ holder e. let wrong : Replied (plain Normal) ≡ Waiting holder = e in cc }
   other-tells Return is = record { names = λ holder e. let wrong : Ended ≡ Waiting holder = e in cc }
   other-tells (Abend code) is = record { names = λ holder e. let wrong : Abended (code_of code) None ≡ Waiting holder = e in cc }
-  other-tells verb is = reply-tells label _ _ c.resp _
+  other-tells verb is = reply-tells label _ t c.resp _
 
   by-op-tells : (o : Option Op) → Tells label (by_op m t c o)
   by-op-tells (Some o) = op-tells o (awaited_unit m.units t.unit o) refl
@@ -140,6 +141,10 @@ module _ (m : Machine) (label : Bytes) (t : Task) (there : task_at m.tasks label
   checked-tells : (fault : Option Condition) → Tells label (checked m t c fault)
   checked-tells (Some fault) = reply-tells label m t c.resp (plain fault)
   checked-tells None = by-op-tells (op_of m t c.verb)
+
+-- a step, unless the region is shut down
+abbrev unless : Machine → Bool → Stepped (Result Outcome Refused) → Stepped (Result Outcome Refused)
+unless m down s = if down then record { outcome = Err RegionDown; machine = m } else s
 
 named : (m : Machine) (label : Bytes) (c : Command) (holder : Bytes) → (unless_down m (issued m label c)).outcome ≡ Ok (Waiting holder)
     → blocker_of (unless_down m (issued m label c)).machine label ≡ Some holder
@@ -158,12 +163,9 @@ named m label c holder = up m.is_down
 
     task-named : (o : Option Task) → task_at m.tasks label ≡ o → (issued_by m c o).outcome ≡ Ok (Waiting holder) → blocker_of (issued_by m c o).machine label ≡ Some holder
     task-named None there is = let wrong : Err NoTask ≡ Ok (Waiting holder) = is in cc
-    task-named (Some t) there = refusal-named t (issue_refusal m (Some t)) there refl
+    task-named (Some t) there is = refusal-named t (issue_refusal m (Some t)) there refl is
 
-    abbrev unless : Bool → Stepped (Result Outcome Refused)
-    unless down = if down then record { outcome = Err RegionDown; machine = m } else issued m label c
-
-    up : (down : Bool) → (unless down).outcome ≡ Ok (Waiting holder) → blocker_of (unless down).machine label ≡ Some holder
+    up : (down : Bool) → (unless m down (issued m label c)).outcome ≡ Ok (Waiting holder) → blocker_of (unless m down (issued m label c)).machine label ≡ Some holder
     up true is = let wrong : Err RegionDown ≡ Ok (Waiting holder) = is in cc
     up false is = task-named (task_at m.tasks label) refl is
 
