@@ -3,3 +3,4 @@ pub mod Counting
 pub mod Journals
 pub mod Marking
 pub mod Outcomes
+pub mod Blocking

@@ -1,5 +1,5 @@
 -- A lane is marked exactly if its task is in a deadlock.
-use Rattle.std.proofs.Common.{◌≡◌, ℕ, true, false, cond, ◌≤◌, List, [], length, ap, sym, ◌∙◌, subst, arith, Some}
+use Rattle.std.proofs.Common.{◌≡◌, ℕ, true, false, cond, ◌≤◌, [], length, ap, sym, ◌∙◌, subst, arith, Some}
 use Rattle.std.proofs.lemmas.Bool.Decides.{nat_tests}
 use Rattle.std.proofs.lemmas.List.Elements.{All-contains}
 use Rattle.std.proofs.lemmas.List.Folds.{Any-from_list_any, list_any-from_Any}

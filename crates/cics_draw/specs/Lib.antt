@@ -1,3 +1,4 @@
 pub mod Titles
 pub mod Standings
 pub mod Pictures
+pub mod Blocking

@@ -7,9 +7,11 @@ ghost use Rattle.cics_run.specs.Lines.{all_lines};
 ghost use Rattle.cics_run.specs.Running.{is_faulty, play};
 ghost use Rattle.cics_picture.specs.Lanes.{most_rows};
 ghost use Rattle.cics_picture.specs.Drawings.{drawn_of, nothing_drawn, with_line, rows_of};
-ghost use Rattle.cics_picture.specs.Drawings.{all_rows, events_of};
+ghost use Rattle.cics_picture.specs.Drawings.{Row, all_rows, events_of};
 ghost use Rattle.cics_picture.specs.declared.drawing.Undrawn.TheVariants.{TooManyRows};
 ghost use Rattle.cics_draw.specs.Pictures.{next_printed, printed_lines, drawing_of, picture_of};
+ghost use Rattle.cics_run.specs.declared.stage.Stage.{Stage};
+ghost use Rattle.cics_draw.specs.Blocking.{NamesBlocker};
 ghost use Rattle.cics_draw.specs.Pictures.{RunsLine, KeepsLast, looks_of, outcomes_of};
 ghost use Rattle.cics_history.specs.Headline.{outcome_of};
 ghost use Rattle.cics_history.specs.declared.ops.UnitState.TheVariants.{Committed, BackedOut};
@@ -37,6 +39,14 @@ pub fn bars_tell_outcomes()
         ↔ (outcome_of (outcomes_of script) b.unit ≡ Committed) }
     ensures hollow { (script : List ℕ) (b : Bar) → (bar_text (looks_of script) b ≡ hollow b)
         ↔ (outcome_of (outcomes_of script) b.unit ≡ BackedOut) }
+{}
+
+/// If a command of a line has to wait, and at most sixteen tasks are attached, the row of the line
+/// has exactly one arrow: from the lane of its task to the lane of the task that blocks it then
+/// (`Region::blocker`).
+pub fn waits_name_blockers()
+    ensures { (before : List Row) (number : ℕ) (stage : Stage) (line : List ℕ)
+        → NamesBlocker before number stage line }
 {}
 
 // Runs a line and tells whether it is a fault. What it prints is pending then, and a line with a

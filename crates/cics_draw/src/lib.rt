@@ -10,6 +10,6 @@ mod picture;
 mod standings;
 mod titles;
 
-pub use drawing::{bars_tell_outcomes, draw_script, rows_are_the_journal};
+pub use drawing::{bars_tell_outcomes, draw_script, rows_are_the_journal, waits_name_blockers};
 pub use picture::{NoPicture, run_picture};
 pub use standings::deadlocks_are_marked;

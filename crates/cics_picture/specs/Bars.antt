@@ -17,10 +17,11 @@ nobody = record { unit = None; is_deadlocked = false }
 abbrev pub new_lane : Lane
 new_lane = record { last = 0; top = 0; standing = nobody }
 
--- all lanes before the first event, and nobody in any of them
+-- all lanes before the first event
 unfoldable pub new_lanes : List Lane
 new_lanes = replicate 16 new_lane
 
+-- nobody in any lane
 unfoldable pub nobodies : List Standing
 nobodies = replicate 16 nobody
 
@@ -79,9 +80,10 @@ bar_of name b = field name b.x b.y 14 b.height
 abbrev pub bar_text : List Look → Bar → List ℕ
 bar_text looks b = bar_of (look_class (look_of looks b.unit)) b
 
--- a filled bar, and a hollow one
+-- a filled bar
 abbrev pub filled : Bar → List ℕ
 filled b = bar_of (codes "uf") b
 
+-- a hollow bar
 abbrev pub hollow : Bar → List ℕ
 hollow b = bar_of (codes "uh") b

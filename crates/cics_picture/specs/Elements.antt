@@ -70,10 +70,11 @@ tip from to = if nat_lt from to then lane_x to - 10 else lane_x to + 10
 abbrev pub head : ℕ → ℕ → List ℕ
 head from to = if nat_lt from to then codes "M0 0l-8 -4v8z" else codes "M0 0l8 -4v8z"
 
--- the mark of a unit's bar in the legend, and the ring of a deadlock
+-- the mark of a unit's bar in the legend
 abbrev pub bar_shape : List ℕ
 bar_shape = codes "M-7 -7h14v14h-14z"
 
+-- the ring of a deadlock
 abbrev pub ring_shape : List ℕ
 ring_shape = codes "M-10 0a10 10 0 1 0 20 0a10 10 0 1 0 -20 0z"
 
