@@ -222,7 +222,7 @@ attached-words [] = refl
 attached-words (r ∷ rows) =
     list_all-append (list_all is_in_word) (tasks_behind [] r.event) (attached rows)
     ∙ and_from (list_all (list_all is_in_word) (tasks_behind [] r.event)) (list_all (list_all is_in_word) (attached rows))
-        (with-task-words (first_word r.event) (kind_of r.event) (taken-word r.event)) (attached-words rows)
+    (with-task-words (first_word r.event) (kind_of r.event) (taken-word r.event)) (attached-words rows)
 
 label-word : (n : ℕ) (tasks : List (List ℕ)) (label : List ℕ) → is_some (lane_from n tasks label) ≡ true → list_all (list_all is_in_word) tasks ≡ true → list_all is_in_word label ≡ true
 label-word n [] label some all = absurd (false≢true some)

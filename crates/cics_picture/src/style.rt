@@ -17,6 +17,7 @@ text.mf{fill:#1565a9}.life,line.clk,path.clk{stroke:#57606a}\
 line.dwn,path.dwn,.uh,.dl{stroke:#b3261e}path.mr,path.mf{stroke:#1b1f24}\
 path.mc{stroke:#875400}path.ma{stroke:#b3261e}path.mw,.aw{stroke:#6b3fa0}\
 .uo{stroke:#1565a9}path.mk,path.mg{stroke:#ffffff}\n\
+@page{size:A3 landscape;margin:10mm}\n\
 @media screen and (prefers-color-scheme:dark){\n\
 text,.mk{fill:#e6edf3}.paper,path.mr,path.mc,path.ma,path.mw,.uh{fill:#0d1117}\
 .band{fill:#161b22}.uf{fill:#58a6ff}.uo{fill:#163e63}\n\
