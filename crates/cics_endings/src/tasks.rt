@@ -88,7 +88,7 @@ fn push_state(
     }
 }
 
-/// The line of a task.
+/// Returns the line of a task.
 pub(crate) fn task_part(
     alloc: Global,
     region: &Region,
@@ -105,7 +105,7 @@ pub(crate) fn task_part(
     Ok(Record::new(text))
 }
 
-/// What a task was told of a line.
+/// Returns what a task was told of a line.
 pub(crate) fn told_part(
     alloc: Global,
     label: &Name8,

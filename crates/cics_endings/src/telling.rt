@@ -13,7 +13,7 @@ use cics_names::{Items, Name8, NoMemory, Record};
 use cics_orders::Lane;
 use std::alloc::Global;
 
-/// A region that is told, with what its tasks were told or without.
+/// A region whose ending is told, with what its tasks were told or without.
 #[derive(Clone, Copy)]
 struct Told<'a> {
     alloc: Global,
@@ -70,8 +70,8 @@ fn is_deadlocked(alloc: Global, region: &Region) -> Result<bool, NoMemory>
 }
 
 /// Returns the parts that an ending is told in: its mark, the block of each file and queue, and the
-/// line of each task in the order of attach. If it is wanted, what a task was told of each line
-/// stands behind the task's own.
+/// line of each task in the order of attach. `with_told` puts behind a task's line what the task was
+/// told of each of its lines that was answered.
 ///
 /// Errors: `NoMemory`.
 pub fn parts_of(

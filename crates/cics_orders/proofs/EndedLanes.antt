@@ -1,6 +1,6 @@
 -- The lanes and the machine agree on which tasks have ended, after every order.
 use Rattle.std.proofs.Common.{◌≡◌, ℕ, zero, suc, Bool, true, false, cond, List, [], ◌∷◌, ◌++◌, map, Option, None, Some, option_map, Result, Ok, Err, refl, ap, sym, ◌∙◌, subst, length, append_assoc}
-use Rattle.std.specs.Prelude.{if◌then◌else◌, is_some, slice_get, slice_set}
+use Rattle.std.specs.Prelude.{if◌then◌else◌, is_none, is_some, slice_get, slice_set}
 use Rattle.std.specs.List.{fold}
 use Rattle.cics_names.specs.Keyed.{Bytes, is_same}
 use Rattle.cics_names.specs.KeyedLaws.{is_same-self, is_same-eq}
@@ -9,6 +9,8 @@ use Rattle.cics_history.specs.declared.ops.UnitState.TheVariants.{BackedOut}
 use Rattle.cics_dispatch.specs.Machine.{Machine, Task, Suspended, task_at, is_waiting, not_waiting, with_waiting, unit_closed, abended, timed_out, beginning_region}
 use Rattle.cics_dispatch.specs.Steps.{Stepped, new_task, attach_refusal, with_new_task, refused_or, issued_by, checked, by_op}
 use Rattle.cics_dispatch.specs.Checks.{fault_of}
+use Rattle.cics_dispatch.specs.Blockers.{waiting_command}
+use Rattle.cics_dispatch.specs.Waits.{wait_of}
 use Rattle.cics_dispatch.specs.Shutdown.{all_ended, shut_down}
 use Rattle.cics_dispatch.specs.Waking.{may_go_on, first_free, went_on, woken_first, is_late, first_late, expired_task, expired, clock_refusal}
 use Rattle.cics_dispatch.specs.declared.outcomes.Outcome.{Outcome}
@@ -27,7 +29,7 @@ use Rattle.cics_plans.specs.declared.plans.Plan.{Plan}
 use Rattle.cics_plans.specs.declared.plans.TaskPlan.{TaskPlan}
 use Rattle.cics_orders.specs.Giving.{State, is_of, is_last, told_more, with_told, hearing, shut, issuing, timing, shutting, attaching, left_by, after_line, late, resumed, drain_step, told_by, drained_once, after_step, drained_within, drained, with_given, counted, ends_turn, given_line, given_by, given, lanes, opened, unless_refused, with_task, task_lane, fresh_lane, initial_state}
 use Rattle.cics_orders.specs.declared.lanes.Lane.{Lane}
-use Rattle.cics_orders.specs.Ended.{ended_task, ended_lane, Agrees}
+use Rattle.cics_orders.specs.Ended.{ended_task, ended_lane, Agrees, IsAccepted, AcceptsReady}
 use Rattle.cics_orders.proofs.EndedTasks.{ended_put, still_waits, Tells, itself, abends, tells, tells_checked}
 use Rattle.cics_orders.proofs.Resting.{attaches_wait}
 
@@ -106,18 +108,24 @@ heard xs label (Waiting holder) y there = by (is_same label y) refl
 abbrev Awake : Machine → Type 0
 Awake m = (x : Bytes) → is_waiting m.waiting x ≡ true → ended_task m.tasks x ≡ Some false
 
+-- once the region is shut down, every task has ended
+abbrev Down : Machine → Type 0
+Down m = m.is_down ≡ true → (x : Bytes) → ended_task m.tasks x ≡ Some false → ⊥
+
 record Fits (s : State) : Type 0 where
   pub agrees : Agrees s
   pub awake : Awake s.machine
+  pub down : Down s.machine
 
 -- a step of a task that has not ended tells its lane
-stepped : (s : State) (m : Machine) (label : Bytes) (step : Stepped Outcome) → ((x : Bytes) → ended_lane s.lanes x ≡ ended_task m.tasks x) → Awake m →
+stepped : (s : State) (m : Machine) (label : Bytes) (step : Stepped Outcome) → ((x : Bytes) → ended_lane s.lanes x ≡ ended_task m.tasks x) → Awake m → Down m →
     ended_task m.tasks label ≡ Some false → Tells m label step → Fits (record s { machine = step.machine; lanes = hearing s.lanes label step.outcome })
-stepped s m label step agrees awake there tells = record {
+stepped s m label step agrees awake down there tells = record {
   agrees = λ y.
       heard s.lanes label step.outcome y (agrees label ∙ there)
       ∙ ap (λ o. if is_same label y then Some (is_last step.outcome) else o) (agrees y) ∙ sym (tells.ended y);
   awake = λ x waits. by x waits (is_same label x) refl;
+  down = λ is x alive. down (sym tells.down ∙ is) label there;
 }
   where
     by : (x : Bytes) → is_waiting step.machine.waiting x ≡ true → (b : Bool) → is_same label x ≡ b → ended_task step.machine.tasks x ≡ Some false
@@ -150,7 +158,7 @@ module _ (s : State) (fits : Fits s) where
       unless t at false false ended waits =
           let own : t.label ≡ label = (place_of_task m.tasks label t at).2 in
           let there : ended_task m.tasks label ≡ Some false = ap (option_map (λ t. t.has_ended)) at ∙ ap Some ended in
-          stepped s m label (step t) fits.agrees fits.awake there
+          stepped s m label (step t) fits.agrees fits.awake fits.down there
           (subst (λ l. Tells m l (step t)) own (tells_checked m t (ap (ended_task m.tasks) own ∙ there) ended c waits (fault_of m t c.verb)))
 
       task : (o : Option Task) → task_at m.tasks label ≡ o → Fits (after_step_of (issued_by m c o))
@@ -172,7 +180,7 @@ module _ (s : State) (fits : Fits s) where
           Fits (after_step_of (if b then record { outcome = Err RegionDown; machine = m } else refused_or m r (record { outcome = tt; machine = record m { clock = seconds } })))
       by true r = fits
       by false (Some e) = fits
-      by false None = record { agrees = fits.agrees; awake = fits.awake }
+      by false None = record { agrees = fits.agrees; awake = fits.awake; down = fits.down }
 
 -- ---- The shutdown
 
@@ -239,12 +247,18 @@ shutdown s fits = by m.is_down
     all None = refl
     all (Some t) = refl
 
+    ended : (y : Bytes) → ended_task (all_ended (with_waiting m []) m.tasks).tasks y ≡ option_map (λ _. true) (ended_task m.tasks y)
+    ended y = tasks_shut m.tasks (with_waiting m []) (λ x. there (task_at m.tasks x)) y ∙ all (task_at m.tasks y)
+
+    none_alive : (o : Option Bool) → option_map (λ _. true) o ≡ Some false → ⊥
+    none_alive None is = cc
+    none_alive (Some b) is = cc
+
     by : (b : Bool) → Fits (after_step_of (if b then record { outcome = Err RegionDown; machine = m } else shut_down m))
     by true = fits
     by false = record {
-      agrees = λ y.
-          lanes_shut s.lanes y ∙ ap (option_map (λ _. true)) (fits.agrees y) ∙ sym (all (task_at m.tasks y))
-          ∙ sym (tasks_shut m.tasks (with_waiting m []) (λ x. there (task_at m.tasks x)) y);
+      agrees = λ y. lanes_shut s.lanes y ∙ ap (option_map (λ _. true)) (fits.agrees y) ∙ sym (ended y);
+      down = λ is x alive. none_alive (ended_task m.tasks x) (sym (ended x) ∙ alive);
       awake = λ x waits. let clash : false ≡ true = ap (λ ws. is_waiting ws x) (sym (waits_shut m.tasks (with_waiting m []))) ∙ waits in cc;
     }
 
@@ -304,7 +318,7 @@ module _ (s t : State) (fits : Fits s) where
       let alive : u.has_ended ≡ false = not_ended (task_at mine.tasks u.label) u found.1 there in
       let same : record s { machine = abended mine u; lanes = hearing s.lanes u.label (Abended timed_out None) } ≡ t = cc in
       subst Fits same
-      (stepped s mine u.label (record { outcome = Abended timed_out None; machine = abended mine u }) fits.agrees fits.awake there
+      (stepped s mine u.label (record { outcome = Abended timed_out None; machine = abended mine u }) fits.agrees fits.awake fits.down there
       (abends mine u there alive mine u timed_out None (itself mine u there alive) refl))
 
   -- a command resumes, or else that
@@ -320,7 +334,7 @@ module _ (s t : State) (fits : Fits s) where
       let step = by_op rest u w.command w.op in
       let same : record s { machine = step.machine; lanes = hearing s.lanes w.label step.outcome } ≡ t = cc in
       subst Fits same
-      (stepped s rest w.label step fits.agrees (λ x waits. fits.awake x (still_waits mine.waiting w.label x waits)) there
+      (stepped s rest w.label step fits.agrees (λ x waits. fits.awake x (still_waits mine.waiting w.label x waits)) fits.down there
       (subst (λ l. Tells rest l step) own
       (tells rest u (ap (ended_task mine.tasks) own ∙ there) alive w.command (ap (is_waiting (not_waiting mine.waiting w.label)) own ∙ not_waiting_then mine.waiting w.label) w.op)))
 
@@ -366,7 +380,7 @@ given_fits s l fits = by (slice_get s.lanes l) refl
     more x at None = fits
     more x at (Some next) =
         let c = counted s l x (ends_turn (line next.1)) in
-        let fit : Fits c = record { agrees = λ y. lanes_given s.lanes l x (ends_turn (line next.1)) y at ∙ fits.agrees y; awake = fits.awake } in
+        let fit : Fits c = record { agrees = λ y. lanes_given s.lanes l x (ends_turn (line next.1)) y at ∙ fits.agrees y; awake = fits.awake; down = fits.down } in
         drained_fits (after_line c (line next.1)) (line_fits c fit (line next.1))
 
     by : (o : Option Lane) → slice_get s.lanes l ≡ o → Fits (given_by s l o)
@@ -459,6 +473,10 @@ attaches_fit (t ∷ ts) m xs up agrees y =
     ap (λ zs. ended_lane zs y) (sym (append_assoc xs (task_lane t ∷ []) (map task_lane ts)))
     ∙ attaches_fit ts (with_task m t) (xs ++ task_lane t ∷ []) (attach_up m t up) (attach_fits m xs t up agrees) y
 
+attaches_up : (ts : List TaskPlan) (m : Machine) → m.is_down ≡ false → (fold with_task m ts).is_down ≡ false
+attaches_up [] m up = up
+attaches_up (t ∷ ts) m up = attaches_up ts (with_task m t) (attach_up m t up)
+
 start_fits : (p : Plan) → Fits (initial_state p)
 unfolding initial_state
 start_fits p = record {
@@ -466,7 +484,63 @@ start_fits p = record {
       lanes_more (map task_lane p.tasks) (fresh_lane None p.clock ∷ []) y ∙ or_none (ended_lane (map task_lane p.tasks) y)
       ∙ attaches_fit p.tasks (beginning_region (opened p.definitions)) [] refl (λ y. refl) y;
   awake = λ x waits. let clash : false ≡ true = ap (λ ws. is_waiting ws x) (sym (attaches_wait (beginning_region (opened p.definitions)) p.tasks)) ∙ waits in cc;
+  down = λ is x alive. let clash : false ≡ true = sym (attaches_up p.tasks (beginning_region (opened p.definitions)) refl) ∙ is in cc;
 }
+
+-- ---- Whoever is ready is not refused
+
+-- a task without a waiting command doesn't wait
+none_waits : (ws : List Suspended) (label : Bytes) → is_none (option_map (λ w. w.command) (wait_of ws label)) ≡ true → is_waiting ws label ≡ false
+none_waits [] label none = refl
+none_waits (w ∷ ws) label none = by (none_waits ws label) (is_same w.label label) none
+  where
+    by : (is_none (option_map (λ w. w.command) (wait_of ws label)) ≡ true → is_waiting ws label ≡ false) → (b : Bool) →
+        is_none (option_map (λ w. w.command) (if b then Some w else wait_of ws label)) ≡ true → (if b then true else is_waiting ws label) ≡ false
+    by rest true none = cc
+    by rest false none = rest none
+
+-- there is such a task, and it has not ended
+task_there : (o : Option Task) → option_map (λ t. t.has_ended) o ≡ Some false → (t : Task) × (o ≡ Some t) × (t.has_ended ≡ false)
+task_there None is = cc
+task_there (Some t) is = let alive : t.has_ended ≡ false = cc in (t, refl, alive)
+
+module _ (s : State) (fits : Fits s) (label : Bytes) (c : Command) (own : ended_lane s.lanes label ≡ Some false)
+    (idle : is_none (waiting_command s.machine label) ≡ true) where
+  there : ended_task s.machine.tasks label ≡ Some false
+  there = sym (fits.agrees label) ∙ own
+
+  unless_waits : (t : Task) (b d : Bool) → b ≡ false → d ≡ false →
+      IsAccepted (refused_or s.machine (if b then Some TaskEnded else if d then Some TaskWaiting else None) (checked s.machine t c (fault_of s.machine t c.verb)))
+  unless_waits t true d ended waits = cc
+  unless_waits t false true ended waits = cc
+  unless_waits t false false ended waits = ((checked s.machine t c (fault_of s.machine t c.verb)).outcome, refl)
+
+  accepted : IsAccepted (issuing s.machine label c)
+  unfolding issuing
+  accepted = by s.machine.is_down refl
+    where
+      found : (t : Task) × (task_at s.machine.tasks label ≡ Some t) × (t.has_ended ≡ false)
+      found = task_there (task_at s.machine.tasks label) there
+
+      mine : found.0.label ≡ label
+      mine = (place_of_task s.machine.tasks label found.0 found.1).2
+
+      waits : is_waiting s.machine.waiting found.0.label ≡ false
+      waits = ap (is_waiting s.machine.waiting) mine ∙ none_waits s.machine.waiting label idle
+
+      by : (b : Bool) → s.machine.is_down ≡ b → IsAccepted (if b then record { outcome = Err RegionDown; machine = s.machine } else issued_by s.machine c (task_at s.machine.tasks label))
+      by true is = absurd (fits.down is label there)
+      by false is =
+          subst (λ o. IsAccepted (issued_by s.machine c o)) (sym found.1)
+          (unless_waits found.0 found.0.has_ended (is_waiting s.machine.waiting found.0.label) found.2 waits)
+
+ready : (s : State) → Fits s → AcceptsReady s
+ready s fits label true c own is = cc
+ready s fits label false c own is = accepted s fits label c own is
+
+-- after every order a command of a task that is ready is not refused
+pub orders_accept : (p : Plan) (o : Order) → AcceptsReady (after lanes (initial_state p) o)
+orders_accept p o = ready (after lanes (initial_state p) o) (after_fits (initial_state p) o (start_fits p))
 
 -- after every order the lanes and the machine agree
 pub orders_agree : (p : Plan) (o : Order) → Agrees (after lanes (initial_state p) o)

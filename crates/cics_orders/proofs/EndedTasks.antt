@@ -75,20 +75,22 @@ waits_before (v ∷ ws) w x other =
 -- ---- A step of a task
 
 -- the task has ended exactly if what it was told says it, and no other task ends; if the task waits, it has not ended, and no
--- other one begins to wait
+-- other one begins to wait; the region is shut down only if it was
 pub record Tells (m : Machine) (label : Bytes) (s : Stepped Outcome) : Type 0 where
   pub ended : (x : Bytes) → ended_task s.machine.tasks x ≡ (if is_same label x then Some (is_last s.outcome) else ended_task m.tasks x)
   pub own : is_waiting s.machine.waiting label ≡ true → is_last s.outcome ≡ false
   pub others : (x : Bytes) → is_same label x ≡ false → is_waiting s.machine.waiting x ≡ true → is_waiting m.waiting x ≡ true
+  pub down : s.machine.is_down ≡ m.is_down
 
--- the same tasks have ended, and the same commands wait
+-- the same tasks have ended, the same commands wait, and the region is shut down only if it was
 pub record Keeps (m n : Machine) : Type 0 where
   pub ended : (x : Bytes) → ended_task n.tasks x ≡ ended_task m.tasks x
   pub waiting : n.waiting ≡ m.waiting
+  pub down : n.is_down ≡ m.is_down
 
 module _ (m : Machine) (t : Task) (there : ended_task m.tasks t.label ≡ Some false) (alive : t.has_ended ≡ false) where
   pub itself : Keeps m m
-  itself = record { ended = λ x. refl; waiting = refl }
+  itself = record { ended = λ x. refl; waiting = refl; down = refl }
 
   goes_on : (n : Machine) → Keeps m n → (x : Bytes) → ended_task n.tasks x ≡ (if is_same t.label x then Some false else ended_task m.tasks x)
   goes_on n keeps x = keeps.ended x ∙ by (is_same t.label x) refl
@@ -108,6 +110,7 @@ module _ (m : Machine) (t : Task) (there : ended_task m.tasks t.label ≡ Some f
   put_keeps n u keeps own lives = record {
     ended = λ x. puts n u keeps own x ∙ ap (λ b. if is_same t.label x then Some b else ended_task m.tasks x) lives ∙ sym (goes_on m itself x);
     waiting = keeps.waiting;
+    down = keeps.down;
   }
 
   replies : (n : Machine) (r : Reply) → Keeps m n → Tells m t.label (record { outcome = Replied r; machine = n })
@@ -115,6 +118,7 @@ module _ (m : Machine) (t : Task) (there : ended_task m.tasks t.label ≡ Some f
     ended = goes_on n keeps;
     own = λ waits. refl;
     others = λ x other waits. ap (λ ws. is_waiting ws x) (sym keeps.waiting) ∙ waits;
+    down = keeps.down;
   }
 
   pub abends : (n : Machine) (u : Task) (code : AbendCode) (r : Option Reply) → Keeps m n → u.label ≡ t.label → Tells m t.label (record { outcome = Abended code r; machine = abended n u })
@@ -122,6 +126,7 @@ module _ (m : Machine) (t : Task) (there : ended_task m.tasks t.label ≡ Some f
     ended = puts n (record u { unit = None; browses = []; has_ended = true }) keeps own;
     own = λ waits. sym waits ∙ ap (is_waiting (not_waiting n.waiting u.label)) (sym own) ∙ not_waiting_then n.waiting u.label;
     others = λ x other waits. ap (λ ws. is_waiting ws x) (sym keeps.waiting) ∙ still_waits n.waiting u.label x waits;
+    down = keeps.down;
   }
 
   answers : (n : Machine) (u : Task) (resp : Bool) (r : Reply) → Keeps m n → u.label ≡ t.label → Tells m t.label (answered n u resp r)
@@ -145,21 +150,22 @@ module _ (m : Machine) (t : Task) (there : ended_task m.tasks t.label ≡ Some f
       ended = goes_on m itself;
       own = λ waits. refl;
       others = λ x other waits. waits_before m.waiting (record { label = t.label; command = c; op = o; since = m.clock }) x other waits;
+      down = refl;
     }
     waits o holder (Some busy) = told (plain busy)
 
     executes : (o : Op) (d : Done) → Tells m t.label (executed m t c o d)
     executes o (MustWait holder) = waits (Some o) holder (busy_of c.verb)
-    executes o (Answered unit a) = placed (with_units m (after_execution m.units t.unit o)) (with_unit t unit) (reply_of c.verb a) (record { ended = λ x. refl; waiting = refl }) refl alive
+    executes o (Answered unit a) = placed (with_units m (after_execution m.units t.unit o)) (with_unit t unit) (reply_of c.verb a) (record { ended = λ x. refl; waiting = refl; down = refl }) refl alive
 
     enqueues : (value : Bytes) (d : Enqueued) → Tells m t.label (enqueued m t c value d)
     enqueues value (EnqMustWait holder) = waits None holder (busy_of c.verb)
     enqueues value CountFull = told (plain Invreq)
-    enqueues value (Taken unit) = placed (with_units m (after_enqueue m.units t.unit value)) (with_unit t unit) (plain Normal) (record { ended = λ x. refl; waiting = refl }) refl alive
+    enqueues value (Taken unit) = placed (with_units m (after_enqueue m.units t.unit value)) (with_unit t unit) (plain Normal) (record { ended = λ x. refl; waiting = refl; down = refl }) refl alive
 
     unlocks : (f : Bytes) (o : Option ℕ) → Tells m t.label (answered (unlocked m o f) t c.resp (plain Normal))
     unlocks f None = told (plain Normal)
-    unlocks f (Some u) = answers (unlocked m (Some u) f) t c.resp (plain Normal) (record { ended = λ x. refl; waiting = refl }) refl
+    unlocks f (Some u) = answers (unlocked m (Some u) f) t c.resp (plain Normal) (record { ended = λ x. refl; waiting = refl; down = refl }) refl
 
     browses : (f : Bytes) (p : Position) (r : Reply) → Tells m t.label (answered (with_task m (with_browse t f p)) (with_browse t f p) c.resp r)
     browses f p r = placed m (with_browse t f p) r itself refl alive
@@ -185,6 +191,7 @@ module _ (m : Machine) (t : Task) (there : ended_task m.tasks t.label ≡ Some f
       ended = λ x. puts m (record t { unit = None; browses = []; has_ended = ends }) itself refl x ∙ ap (λ b. if is_same t.label x then Some b else ended_task m.tasks x) (sym last);
       own = λ waits. let clash : false ≡ true = sym awake ∙ waits in cc;
       others = λ x other waits. waits;
+      down = refl;
     }
 
     other : is_waiting m.waiting t.label ≡ false → (verb : Verb) → Tells m t.label (other_command m t c verb)
@@ -197,9 +204,9 @@ module _ (m : Machine) (t : Task) (there : ended_task m.tasks t.label ≡ Some f
     other awake (EndBr f) = placed m (with_browses t (without f t.browses)) (plain Normal) itself refl alive
     other awake (ReadqTs q n item) =
         answers (with_units m (after_ts_reading m.units q (item_asked m.units q item))) t c.resp (reply_of (ReadqTs q n (Some (item_asked m.units q item))) (ts_reading m.units q (item_asked m.units q item)))
-        (record { ended = λ x. refl; waiting = refl }) refl
+        (record { ended = λ x. refl; waiting = refl; down = refl }) refl
     other awake (Enq value n nosuspend) = enqueues (take n value) (enqueue m.units t.unit (take n value))
-    other awake (Deq value n) = answers (dequeued m t.unit (take n value)) t c.resp (plain Normal) (record { ended = λ x. refl; waiting = refl }) refl
+    other awake (Deq value n) = answers (dequeued m t.unit (take n value)) t c.resp (plain Normal) (record { ended = λ x. refl; waiting = refl; down = refl }) refl
     other awake Syncpoint = closes awake Committed false (Replied (plain Normal)) refl
     other awake Rollback = closes awake BackedOut false (Replied (plain Normal)) refl
     other awake Return = closes awake Committed true Ended refl

@@ -1,8 +1,12 @@
--- Whether a task has ended: the machine tells it, and so does its lane.
-use Rattle.std.specs.Prelude.{◌≡◌, Bool, if◌then◌else◌, List, [], ◌∷◌, Option, Some, None, option_map}
+-- Whether a task has ended: the machine tells it, and so does its lane. A task that has not, and doesn't wait, is not refused.
+use Rattle.std.specs.Prelude.{◌≡◌, Bool, true, if◌then◌else◌, List, [], ◌∷◌, Option, Some, None, option_map, Result, Ok}
 use Rattle.cics_names.specs.Keyed.{Bytes}
+use Rattle.cics_names.specs.declared.commands.Command.{Command}
 use Rattle.cics_dispatch.specs.Machine.{Task, task_at}
-use Rattle.cics_orders.specs.Giving.{State, is_of}
+use Rattle.cics_dispatch.specs.Steps.{Stepped}
+use Rattle.cics_dispatch.specs.declared.outcomes.Outcome.{Outcome}
+use Rattle.cics_dispatch.specs.declared.outcomes.Refused.{Refused}
+use Rattle.cics_orders.specs.Giving.{State, is_of, is_ready, issuing}
 use Rattle.cics_orders.specs.declared.lanes.Lane.{Lane}
 
 -- whether the task of a label has ended, if there is one
@@ -17,3 +21,11 @@ ended_lane (x ∷ xs) label = if is_of x label then Some x.has_ended else ended_
 -- the lanes and the machine agree
 abbrev pub Agrees : State → Type 0
 Agrees s = (label : Bytes) → ended_lane s.lanes label ≡ ended_task s.machine.tasks label
+
+-- a command was not refused: there is an outcome
+abbrev pub IsAccepted : Stepped (Result Outcome Refused) → Type 0
+IsAccepted step = (o : Outcome) × (step.outcome ≡ Ok o)
+
+-- no command is refused of a task that is ready to give a line
+abbrev pub AcceptsReady : State → Type 0
+AcceptsReady s = (label : Bytes) (has_ended : Bool) (c : Command) → ended_lane s.lanes label ≡ Some has_ended → is_ready s.machine has_ended (Some label) ≡ true → IsAccepted (issuing s.machine label c)

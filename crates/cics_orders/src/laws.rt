@@ -6,7 +6,7 @@ ghost use Rattle.cics_dispatch.specs.Waking.{IsAtRest};
 ghost use Rattle.cics_lanes.specs.Orders.{Order, after};
 ghost use Rattle.cics_plans.specs.declared.plans.Plan.{Plan};
 ghost use Rattle.cics_orders.specs.Giving.{lanes, initial_state};
-ghost use Rattle.cics_orders.specs.Ended.{Agrees};
+ghost use Rattle.cics_orders.specs.Ended.{AcceptsReady, Agrees};
 
 /// After each line of an order nothing goes on by itself: no waiting command may resume, and no
 /// task has waited too long.
@@ -17,4 +17,10 @@ pub fn orders_rest()
 /// After every order the lanes and the region agree on which tasks have ended.
 pub fn lanes_tell_ended_tasks()
     ensures { (p : Plan) (o : Order) → Agrees (after lanes (initial_state p) o) }
+{}
+
+/// After every order no command is refused of a task that may give a line: one that has not ended,
+/// by its lane, and has no waiting command.
+pub fn lines_are_not_refused()
+    ensures { (p : Plan) (o : Order) → AcceptsReady (after lanes (initial_state p) o) }
 {}

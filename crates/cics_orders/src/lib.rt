@@ -10,5 +10,5 @@ mod walks;
 
 pub use following::{Tells, explore_script};
 pub use lanes::Lane;
-pub use laws::{lanes_tell_ended_tasks, orders_rest};
+pub use laws::{lanes_tell_ended_tasks, lines_are_not_refused, orders_rest};
 pub use walks::Walker;

@@ -30,8 +30,8 @@ fn follow(alloc: Global, plan: Plan, with_told: bool, limit: u64) -> Result<Repo
 }
 
 /// Takes a script apart, and follows the orders of its lines, at most `limit`. `lines` are its lines,
-/// each without its line end. Endings tell what tasks were told, if that is wanted. Returns the
-/// number of the first line with a fault, and the fault, if there is one.
+/// each without its line end. `with_told` tells endings apart by what tasks were told too. If a line
+/// has a fault, returns the number of the first such line and its fault instead.
 ///
 /// Errors: `NoMemory`. Cost: each order is run from the start.
 pub fn survey_script(
@@ -47,7 +47,7 @@ pub fn survey_script(
         Ok(planned) => planned,
         Err(fault) => return Ok(Err(fault)),
     };
-    // Following takes a plan of its own.
+    // `follow` takes a plan of its own.
     let own = match plan_of(alloc, lines)? {
         Ok(own) => own,
         Err(fault) => return Ok(Err(fault)),
