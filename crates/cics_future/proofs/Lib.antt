@@ -1,0 +1,9 @@
+pub mod RowsOf
+pub mod Reads
+pub mod Counts
+pub mod Owning
+pub mod Steady
+pub mod Partners
+pub mod Blocking
+pub mod Stepping
+pub mod Acting
