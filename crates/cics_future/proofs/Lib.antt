@@ -7,3 +7,6 @@ pub mod Partners
 pub mod Blocking
 pub mod Stepping
 pub mod Acting
+pub mod Answering
+pub mod Meeting
+pub mod Events
