@@ -10,3 +10,4 @@ pub mod Acting
 pub mod Answering
 pub mod Meeting
 pub mod Events
+pub mod Comparing

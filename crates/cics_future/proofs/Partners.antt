@@ -233,7 +233,7 @@ held_there m n same at u p holds other =
 -- ---- A region and itself
 
 -- two endings that back out the same units of the history leave the same entries
-same_left : (o : OpeningState) (es : List Entry) (fin more : Outcomes) → Each (λ e. is_backed_out (fin e.unit) ≡ is_backed_out (more e.unit)) es →
+pub same_left : (o : OpeningState) (es : List Entry) (fin more : Outcomes) → Each (λ e. is_backed_out (fin e.unit) ≡ is_backed_out (more e.unit)) es →
     left_by o fin es ≡ left_by o more es
 same_left o [] fin more same = refl
 same_left o (e ∷ es) fin more same =

@@ -4,11 +4,13 @@ use Rattle.std.specs.Prelude.{◌≡◌, ℕ, ◌==◌, Bool, true, false, Optio
 use Rattle.std.specs.List.{list_any}
 use Rattle.cics_names.specs.Keyed.{Bytes, is_below}
 use Rattle.cics_enqueue.specs.declared.resources.Resource.{Resource}
-use Rattle.cics_history.specs.State.{UnitsState, UpdateRead, EnqCount}
+use Rattle.cics_history.specs.State.{UnitsState, UpdateRead, EnqCount, initial_store}
 use Rattle.cics_history.specs.Headline.{outcome_of, is_backed_out}
 use Rattle.cics_history.specs.Holding.{held_by_entry}
 use Rattle.cics_history.specs.Events.{is_live}
+use Rattle.cics_history.specs.Cells.{IsCanonical}
 use Rattle.cics_history.specs.Isolation.{Outcomes, store_by, Extends, IsSound}
+use Rattle.cics_history.specs.Serial.{IsInOrder}
 use Rattle.cics_dispatch.specs.Machine.{Machine, Task}
 use Rattle.cics_dispatch.specs.Tasks.{own_label, own_unit, had_at, IsOwn}
 use Rattle.cics_dispatch.specs.OwnedUnits.{AreUnitsOwned}
@@ -88,9 +90,11 @@ abbrev pub AreByValue : List EnqCount → Type 0
 AreByValue [] = Unit {0}
 AreByValue (c ∷ cs) = (list_any (λ x. is_below x.value c.value) cs ≡ false) × AreByValue cs
 
--- open units are kept apart, and each is that of one task
+-- open units are kept apart, those that committed are in their order, and each open unit is that of one task
 pub record IsSteady (m : Machine) : Type 0 where
+  pub canonical : IsCanonical (initial_store m.units.opening)
   pub sound : IsSound m.units
+  pub order : IsInOrder m.units
   pub labels : IsOwn own_label m.tasks
   pub owners : IsOwn own_unit m.tasks
   pub open_units : (i : ℕ) (t : Task) (u : ℕ) → slice_get m.tasks i ≡ Some t → t.unit ≡ Some u → is_live m.units u ≡ true

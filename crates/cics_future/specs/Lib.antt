@@ -1,1 +1,2 @@
 pub mod Futures
+pub mod Compared

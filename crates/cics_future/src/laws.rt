@@ -13,7 +13,8 @@ ghost use Rattle.cics_dispatch.specs.Steps.{attached, issued};
 ghost use Rattle.cics_dispatch.specs.Waking.{clock_set, woken, expired};
 ghost use Rattle.cics_dispatch.specs.Shutdown.{unless_down, shut_down};
 ghost use Rattle.cics_dispatch.specs.Blockers.{waiting_command, blocker_of};
-ghost use Rattle.cics_future.specs.Futures.{HaveSameFuture, AreSameSteps, unnumbered};
+ghost use Rattle.cics_future.specs.Futures.{IsSteady, HaveSameFuture, AreSameSteps, unnumbered};
+ghost use Rattle.cics_future.specs.Compared.{LookAlike};
 
 /// In two regions that have the same future each event answers the same, and leaves regions that
 /// have the same future.
@@ -51,4 +52,15 @@ pub fn futures_tell_the_same()
         waiting_command m label ≡ waiting_command n label }
     ensures blockers { (m n : Machine) (label : Bytes) → HaveSameFuture m n →
         blocker_of m label ≡ blocker_of n label }
+{}
+
+/// Two regions that look alike have the same future.
+///
+/// - `alike`: no before image is compared. Each ending of the open units is what those that
+///   committed left, and behind it what the units that it keeps did, one unit after the other.
+/// - `itself`: a region has its own future.
+pub fn looks_tell_the_future()
+    ensures alike { (m n : Machine) → IsSteady m → IsSteady n → LookAlike m n →
+        HaveSameFuture m n }
+    ensures itself { (m : Machine) → IsSteady m → HaveSameFuture m m }
 {}

@@ -7,4 +7,4 @@
 
 mod laws;
 
-pub use laws::{events_keep_the_future, futures_tell_the_same};
+pub use laws::{events_keep_the_future, futures_tell_the_same, looks_tell_the_future};
