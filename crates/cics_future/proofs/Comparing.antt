@@ -32,7 +32,7 @@ use Rattle.cics_dispatch.proofs.TaskPlaces.{IsOwn-tail}
 use Rattle.cics_future.specs.Futures.{own, unit_at, unnumbered, KeepSame, IsSteady, HaveSameFuture}
 use Rattle.cics_future.specs.Compared.{ops_done, reads_open, counts_kept, LookAlike}
 use Rattle.cics_future.proofs.Owning.{own_of}
-use Rattle.cics_future.proofs.Partners.{owner, open_at, live_at, same_left}
+use Rattle.cics_future.proofs.Partners.{zeroed, owner, live_at, same_left}
 
 -- ---- What a unit has
 
@@ -152,9 +152,6 @@ module _ (m : Machine) (steady : IsSteady m) where
   serial = serializable_of (record { state = m.units; store = store_of m.units }) steady.order steady.sound.known steady.canonical refl
 
   module _ (fin : Outcomes) (ends : Extends (outcome_of m.units.outcomes) fin) where
-    later : List ℕ
-    later = kept_units fin m.tasks
-
     -- the ending backs out every open unit but these
     same_gone : (u : ℕ) → u < length m.units.outcomes → is_backed_out (fin u) ≡ is_backed_out (are_backed_out_but (kept_units fin m.tasks) (outcome_of m.units.outcomes) u)
     same_gone u begun = elim (cases_Bool (is_open (outcome_of m.units.outcomes u))) [
@@ -170,12 +167,11 @@ module _ (m : Machine) (steady : IsSteady m) where
         stands Committed live = refl
         stands BackedOut live = absurd (false≢true live)
 
-        backed : Bool → Bool → Bool
+        abbrev backed : Bool → Bool → Bool
         backed b c = is_backed_out (if b && not c then BackedOut else outcome_of m.units.outcomes u)
 
         by : is_open (outcome_of m.units.outcomes u) ≡ true → (b : Bool) → is_backed_out (fin u) ≡ b →
             is_backed_out (fin u) ≡ is_backed_out (are_backed_out_but (kept_units fin m.tasks) (outcome_of m.units.outcomes) u)
-        unfolding backed
         by live false kept =
             kept ∙ sym (ap (λ b. backed b (among u (kept_units fin m.tasks))) live
             ∙ (ap (backed true) (kept_among fin u m.tasks (place live).0 (place live).1 kept) ∙ stands (outcome_of m.units.outcomes u) live))
@@ -249,20 +245,12 @@ same_ops s r fin more (t ∷ ts) (u ∷ us) bare done keep =
           | true ↦ refl
           | false ↦ alone s x ∙ (ap (ops_done s) (sym a) ∙ (done zero ∙ (ap (ops_done r) b ∙ sym (alone r y))))
         ]
-    by None (Some y) a b e = absurd (never (sym (ap (λ o. zeroed o) a) ∙ (e ∙ ap (λ o. zeroed o) b)))
+    by None (Some y) a b e = absurd (never (sym (ap zeroed a) ∙ (e ∙ ap zeroed b)))
       where
-        abbrev zeroed : Option ℕ → Option ℕ
-        zeroed None = None
-        zeroed (Some k) = Some 0
-
         never : None ≡ Some 0 → ⊥
         never e = cc
-    by (Some x) None a b e = absurd (never (sym (ap (λ o. zeroed o) a) ∙ (e ∙ ap (λ o. zeroed o) b)))
+    by (Some x) None a b e = absurd (never (sym (ap zeroed a) ∙ (e ∙ ap zeroed b)))
       where
-        abbrev zeroed : Option ℕ → Option ℕ
-        zeroed None = None
-        zeroed (Some k) = Some 0
-
         never : Some 0 ≡ None → ⊥
         never e = cc
 

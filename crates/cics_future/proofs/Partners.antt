@@ -42,18 +42,16 @@ turned same = record {
 -- ---- A task and its partner
 
 -- whether the task at a place has a unit
-zeroed : Option ℕ → Option ℕ
+abbrev pub zeroed : Option ℕ → Option ℕ
 zeroed o = option_map (λ u. 0) o
 
 bare_at : (ts : List Task) (i : ℕ) → zeroed (unit_at ts i) ≡ unit_at (map unnumbered ts) i
-unfolding zeroed
 bare_at [] i = refl
 bare_at (t ∷ ts) zero = refl
 bare_at (t ∷ ts) (suc i) = bare_at ts i
 
 -- the number of a unit, if there is one at both
 partner_of : (o p : Option ℕ) (u : ℕ) → zeroed o ≡ zeroed p → o ≡ Some u → (v : ℕ) × (p ≡ Some v)
-unfolding zeroed
 partner_of None p u same is = cc
 partner_of (Some w) None u same is = cc
 partner_of (Some w) (Some v) u same is = (v, refl)

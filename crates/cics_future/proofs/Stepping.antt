@@ -107,12 +107,6 @@ module _ (m n : Machine) (same : HaveSameFuture m n) (at : ℕ) (t v : Task) (s 
     ((x y : ℕ) → v.unit ≡ Some x → w.unit ≡ Some y → is_backed_out (fin x) ≡ is_backed_out (more y)) →
     store_by m.units.opening fin m.units.trace ≡ store_by n.units.opening more n.units.trace →
     store_by s.opening fin s.trace ≡ store_by r.opening more r.trace) where
-  ts : List Task
-  ts = replaced m.tasks v
-
-  us : List Task
-  us = replaced n.tasks w
-
   own_now : (i : ℕ) → own s (unit_at (replaced m.tasks v) i) ≡ own r (unit_at (replaced n.tasks w) i)
   own_now i = elim (cases_eq i at) [
     | inl is ↦ subst (λ k. own s (unit_at (replaced m.tasks v) k) ≡ own r (unit_at (replaced n.tasks w) k)) (sym is)

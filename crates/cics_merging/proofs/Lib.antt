@@ -1,0 +1,4 @@
+pub mod Draining
+pub mod Lanes
+pub mod Lines
+pub mod Parts

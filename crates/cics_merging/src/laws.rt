@@ -1,0 +1,30 @@
+//! The laws of merging.
+//!
+//! The contract of each function is a law, and its body is empty.
+
+ghost use Rattle.std.specs.Prelude.{◌≡◌, ℕ, Bool};
+ghost use Rattle.cics_lanes.specs.Orders.{Order, after, orders};
+ghost use Rattle.cics_orders.specs.Giving.{State, givers, given, lanes};
+ghost use Rattle.cics_endings.specs.Telling.{parts_of};
+ghost use Rattle.cics_merging.specs.Merging.{AreMergeable};
+
+/// From two states that may be taken for one the same orders lead on, and to the same endings.
+///
+/// - `givers`, `given`: the same lanes may give, and after each line the states may be taken for
+///   one again.
+/// - `orders`: so the orders are the same.
+/// - `parts`: each order leads to the same ending.
+/// - `serial`: and is serial after the one exactly if it is after the other.
+pub fn merged_states_go_on_alike()
+    ensures givers { (b : Bool) (s t : State) (from : ℕ) → AreMergeable b s t →
+        givers s from ≡ givers t from }
+    ensures given { (b : Bool) (s t : State) (l : ℕ) → AreMergeable b s t →
+        AreMergeable b (given s l) (given t l) }
+    ensures orders { (b : Bool) (s t : State) (n : ℕ) → AreMergeable b s t →
+        orders lanes n s ≡ orders lanes n t }
+    ensures parts { (b : Bool) (s t : State) (o : Order) → AreMergeable b s t →
+        parts_of (after lanes s o).machine b (after lanes s o).lanes
+        ≡ parts_of (after lanes t o).machine b (after lanes t o).lanes }
+    ensures serial { (b : Bool) (s t : State) (o : Order) → AreMergeable b s t →
+        (after lanes s o).is_serial ≡ (after lanes t o).is_serial }
+{}
