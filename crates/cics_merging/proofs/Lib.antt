@@ -2,3 +2,4 @@ pub mod Draining
 pub mod Lanes
 pub mod Lines
 pub mod Parts
+pub mod Starting

@@ -44,7 +44,7 @@ module _ (b : Bool) where
   -- other machines and lanes
   put : (s t : State) → AreMergeable b s t → (m n : Machine) → HaveSameFuture m n → (xs ys : List Lane) → map (as_told b) xs ≡ map (as_told b) ys →
       AreMergeable b (record s { machine = m; lanes = xs }) (record t { machine = n; lanes = ys })
-  put s t same m n machine xs ys told = record { plan = same.plan; machine = machine; lanes = told; last = same.last; serial = same.serial }
+  put s t same m n machine xs ys told = record { machine = machine; lanes = told; last = same.last; serial = same.serial }
 
   left_same : {X : Type 0} (s t : State) → AreMergeable b s t → (xs ys : X → List Lane) → ((x : X) → map (as_told b) (xs x) ≡ map (as_told b) (ys x)) →
       (k l : Stepped (Result X Refused)) → AreSameSteps k l → AreMergeable b (left_by s xs k.outcome k.machine) (left_by t ys l.outcome l.machine)
@@ -110,7 +110,6 @@ module _ (b : Bool) where
 
   counted_same : (s t : State) (l : ℕ) (x y : Lane) (ends : Bool) → AreMergeable b s t → as_told b x ≡ as_told b y → AreMergeable b (counted s l x ends) (counted t l y ends)
   counted_same s t l x y ends same one = record {
-    plan = same.plan;
     machine = same.machine;
     lanes = lane.given_same b s.lanes t.lanes l x y ends same.lanes one;
     last = ap (λ (z : Lane). if is_some z.label then Some l else s.last) one ∙ ap (λ o. if is_some y.label then Some l else o) same.last;

@@ -23,7 +23,6 @@ as_told with_told lane = record lane { told = told_if with_told lane.told }
 
 -- two states may be taken for one
 pub record AreMergeable (with_told : Bool) (s t : State) : Type 0 where
-  pub plan : s.plan ≡ t.plan
   pub machine : HaveSameFuture s.machine t.machine
   pub lanes : map (as_told with_told) s.lanes ≡ map (as_told with_told) t.lanes
   pub last : s.last ≡ t.last

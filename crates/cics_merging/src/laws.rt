@@ -2,11 +2,13 @@
 //!
 //! The contract of each function is a law, and its body is empty.
 
-ghost use Rattle.std.specs.Prelude.{◌≡◌, ℕ, Bool};
+ghost use Rattle.std.specs.Prelude.{◌≡◌, ℕ, Bool, map};
 ghost use Rattle.cics_lanes.specs.Orders.{Order, after, orders};
-ghost use Rattle.cics_orders.specs.Giving.{State, givers, given, lanes};
+ghost use Rattle.cics_orders.specs.Giving.{State, givers, given, lanes, initial_state};
+ghost use Rattle.cics_plans.specs.declared.plans.Plan.{Plan};
+ghost use Rattle.cics_future.specs.Compared.{LookAlike};
 ghost use Rattle.cics_endings.specs.Telling.{parts_of};
-ghost use Rattle.cics_merging.specs.Merging.{AreMergeable};
+ghost use Rattle.cics_merging.specs.Merging.{as_told, AreMergeable};
 
 /// From two states that may be taken for one the same orders lead on, and to the same endings.
 ///
@@ -27,4 +29,14 @@ pub fn merged_states_go_on_alike()
         ≡ parts_of (after lanes t o).machine b (after lanes t o).lanes }
     ensures serial { (b : Bool) (s t : State) (o : Order) → AreMergeable b s t →
         (after lanes s o).is_serial ≡ (after lanes t o).is_serial }
+{}
+
+/// Two states of one script may be taken for one if their regions look alike, and their lanes are
+/// told the same.
+pub fn states_that_look_alike_merge()
+    ensures { (b : Bool) (p : Plan) (o q : Order) →
+        let s = after lanes (initial_state p) o in
+        let t = after lanes (initial_state p) q in
+        LookAlike s.machine t.machine → map (as_told b) s.lanes ≡ map (as_told b) t.lanes →
+        s.last ≡ t.last → s.is_serial ≡ t.is_serial → AreMergeable b s t }
 {}
