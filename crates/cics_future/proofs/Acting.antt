@@ -173,7 +173,7 @@ module _ (m n : Machine) (same : HaveSameFuture m n) (at : ℕ) (t u : Task) (pl
   same_browses browses =
       stepped m n same at t (with_browses t browses) m.units u (with_browses u browses) n.units
       (step_browses m at t same.first placed browses) (step_browses n at u same.second there browses)
-      (ap (λ x. record x { browses = browses }) bare) own_task same.alike.next
+      (ap (λ (x : Task). record x { browses = browses }) bare) own_task same.alike.next
       (λ fin more ends too keep. keep) (λ fin more keep e. e)
 
   -- the unit that acts is the task's, if it has one
@@ -201,7 +201,7 @@ module _ (m n : Machine) (same : HaveSameFuture m n) (at : ℕ) (t u : Task) (pl
       stepped m n same at t (with_unit t (unit_or_next t.unit m.units.outcomes)) (entered m.units t.unit o (answer o))
       u (with_unit u (unit_or_next u.unit n.units.outcomes)) (entered n.units u.unit o (answer_too o))
       (step_executed m at t same.first placed o free) (step_executed n at u same.second there o too)
-      (ap (λ x. record x { unit = Some 0 }) bare)
+      (ap (λ (x : Task). record x { unit = Some 0 }) bare)
       (entered_own m.units t.unit o (answer o) same.first.sound same.first.reads
       ∙ (ap (λ p. own_entered p o (answer o) (own m.units t.unit)) same.alike.opening
       ∙ (ap (λ a. own_entered n.units.opening o a (own m.units t.unit)) (same_answer o)
@@ -223,7 +223,7 @@ module _ (m n : Machine) (same : HaveSameFuture m n) (at : ℕ) (t u : Task) (pl
       stepped m n same at t (with_unit t (unit_or_next t.unit m.units.outcomes)) (after_enqueued m.units t.unit value (Taken (unit_or_next t.unit m.units.outcomes)))
       u (with_unit u (unit_or_next u.unit n.units.outcomes)) (after_enqueued n.units u.unit value (Taken (unit_or_next u.unit n.units.outcomes)))
       (step_enqueued m at t same.first placed value taken) (step_enqueued n at u same.second there value too)
-      (ap (λ x. record x { unit = Some 0 }) bare)
+      (ap (λ (x : Task). record x { unit = Some 0 }) bare)
       (counted_own m.units t.unit value (outcomes_with t.unit m.units.outcomes) same.first.sound same.first.counts
       ∙ (ap (own_counted value) own_task
       ∙ sym (counted_own n.units u.unit value (outcomes_with u.unit n.units.outcomes) same.second.sound same.second.counts)))
@@ -244,7 +244,7 @@ module _ (m n : Machine) (same : HaveSameFuture m n) (at : ℕ) (t u : Task) (pl
   -- both have a unit, or neither has
   both_units : (P : Option ℕ → Option ℕ → Type 0) → (t.unit ≡ None → u.unit ≡ None → P None None) →
       ((x y : ℕ) → t.unit ≡ Some x → u.unit ≡ Some y → P (Some x) (Some y)) → P t.unit u.unit
-  both_units P none some = by t.unit u.unit refl refl (ap (λ x. x.unit) bare)
+  both_units P none some = by t.unit u.unit refl refl (ap (λ (x : Task). x.unit) bare)
     where
       by : (o p : Option ℕ) → t.unit ≡ o → u.unit ≡ p → option_map (λ k. 0) t.unit ≡ option_map (λ k. 0) u.unit → P o p
       by None None a b e = none a b
@@ -359,7 +359,7 @@ module _ (m n : Machine) (same : HaveSameFuture m n) (at : ℕ) (t u : Task) (pl
       stepped m n same at t (record t { unit = None; browses = []; has_ended = has_ended }) (units_after m.units t.unit outcome)
       u (record u { unit = None; browses = []; has_ended = has_ended }) (units_after n.units u.unit outcome)
       (step_closed m at t same.first placed outcome has_ended closed) (step_closed n at u same.second there outcome has_ended closed)
-      (ap (λ x. record x { unit = None; browses = []; has_ended = has_ended }) bare) refl (next_ended outcome)
+      (ap (λ (x : Task). record x { unit = None; browses = []; has_ended = has_ended }) bare) refl (next_ended outcome)
       (λ fin more ends late keep x y a b.
       ap is_backed_out (ends_so m at t same.first placed outcome closed fin ends x a ∙ sym (ends_so n at u same.second there outcome closed more late y b)))
       (λ fin more keep e. stays_so m.units outcome fin t.unit ∙ (e ∙ sym (stays_so n.units outcome more u.unit)))

@@ -34,7 +34,7 @@ use Rattle.cics_dispatch.specs.declared.outcomes.Outcome.{Outcome}
 use Rattle.cics_dispatch.specs.declared.outcomes.Outcome.TheVariants.{Replied, Waiting, Abended}
 use Rattle.cics_dispatch.specs.declared.outcomes.Reply.{Reply}
 use Rattle.cics_dispatch.proofs.OwnedUnits.{replaced_there}
-use Rattle.cics_future.specs.Futures.{own, unit_at, unnumbered, IsSteady, HaveSameFuture, AreSameSteps}
+use Rattle.cics_future.specs.Futures.{Own, own, unit_at, unnumbered, IsSteady, HaveSameFuture, AreSameSteps}
 use Rattle.cics_future.proofs.Owning.{read_told, count_told}
 use Rattle.cics_future.proofs.Partners.{unit_there, same_label, same_owner}
 use Rattle.cics_future.proofs.Blocking.{AreSameBlockers, same_awaited, same_value_holder, same_awaited_by}
@@ -114,10 +114,10 @@ module _ (m n : Machine) (same : HaveSameFuture m n) (at : ℕ) (t u : Task) (pl
 
   same_key : (f : Bytes) → open_key m t f ≡ open_key n u f
   same_key f =
-      read_told m.units t.unit f ∙ (ap (λ x. read_at x.reads 0 f) (own_task m n same at t u placed there bare) ∙ sym (read_told n.units u.unit f))
+      read_told m.units t.unit f ∙ (ap (λ (x : Own). read_at x.reads 0 f) (own_task m n same at t u placed there bare) ∙ sym (read_told n.units u.unit f))
 
   same_browsing : t.browses ≡ u.browses
-  same_browsing = ap (λ x. x.browses) bare
+  same_browsing = ap (λ (x : Task). x.browses) bare
 
   same_named : (verb : Verb) (o : Option Bytes) → named_fault m t verb o ≡ named_fault n u verb o
   same_named verb (Some f) =
@@ -194,7 +194,7 @@ module _ (m n : Machine) (same : HaveSameFuture m n) (at : ℕ) (t u : Task) (pl
             (with_task (with_units n (entered n.units u.unit o (apply (store_of n.units) o).answer)) owner_too)
             (same_executed m n same at t u placed there bare o free too) at owner owner_too
             (replaced_there t owner refl m.tasks at same.first.labels placed) (replaced_there u owner_too refl n.tasks at same.second.labels there)
-            (ap (λ x. record x { unit = Some 0 }) bare) c.resp (reply_of c.verb (apply (store_of m.units) o).answer) (reply_of c.verb (apply (store_of n.units) o).answer)
+            (ap (λ (x : Task). record x { unit = Some 0 }) bare) c.resp (reply_of c.verb (apply (store_of m.units) o).answer) (reply_of c.verb (apply (store_of n.units) o).answer)
             (ap (reply_of c.verb) (same_answer m n same at t u placed there bare o))
 
     -- ENQ takes its value, has it too often, or waits
@@ -209,7 +209,7 @@ module _ (m n : Machine) (same : HaveSameFuture m n) (at : ℕ) (t u : Task) (pl
       same_often =
           ap (nat_le most_count)
           (count_told m.units t.unit value same.first.sound
-          ∙ (ap (λ x. count_at x.counts 0 value) (own_task m n same at t u placed there bare) ∙ sym (count_told n.units u.unit value same.second.sound)))
+          ∙ (ap (λ (x : Own). count_at x.counts 0 value) (own_task m n same at t u placed there bare) ∙ sym (count_told n.units u.unit value same.second.sound)))
 
       enqueued_same : AreSameSteps (enqueued m t c value (enqueue m.units t.unit value)) (enqueued n u c value (enqueue n.units u.unit value))
       enqueued_same =
@@ -233,7 +233,7 @@ module _ (m n : Machine) (same : HaveSameFuture m n) (at : ℕ) (t u : Task) (pl
               (with_task (with_units n (after_enqueued n.units u.unit value (Taken (unit_or_next u.unit n.units.outcomes)))) owner_too)
               (same_enqueued m n same at t u placed there bare value taken taken_too) at owner owner_too
               (replaced_there t owner refl m.tasks at same.first.labels placed) (replaced_there u owner_too refl n.tasks at same.second.labels there)
-              (ap (λ x. record x { unit = Some 0 }) bare) c.resp (plain Normal) (plain Normal) refl
+              (ap (λ (x : Task). record x { unit = Some 0 }) bare) c.resp (plain Normal) (plain Normal) refl
 
           by : (w x : Option ℕ) → value_holder m.units t.unit value ≡ w → value_holder n.units u.unit value ≡ x → AreSameBlockers m n w x →
               AreSameSteps (enqueued_by m t c value (enq_of m.units t.unit value (value_holder m.units t.unit value))) (enqueued_by n u c value (enq_of n.units u.unit value (value_holder n.units u.unit value)))
@@ -261,7 +261,7 @@ module _ (m n : Machine) (same : HaveSameFuture m n) (at : ℕ) (t u : Task) (pl
         subst (λ d. AreSameSteps (answered (with_task m (with_browses t b)) (with_browses t b) c.resp r) (answered (with_task n (with_browses u d)) (with_browses u d) c.resp q)) is
         (same_answered (with_task m (with_browses t b)) (with_task n (with_browses u b)) (same_browses m n same at t u placed there bare b) at (with_browses t b) (with_browses u b)
         (replaced_there t (with_browses t b) refl m.tasks at same.first.labels placed) (replaced_there u (with_browses u b) refl n.tasks at same.second.labels there)
-        (ap (λ x. record x { browses = b }) bare) c.resp r q answers)
+        (ap (λ (x : Task). record x { browses = b }) bare) c.resp r q answers)
 
     position_same : (f : Bytes) (p s : Position) → p ≡ s → (r q : Reply) → r ≡ q →
         AreSameSteps (answered (with_task m (with_browse t f p)) (with_browse t f p) c.resp r) (answered (with_task n (with_browse u f s)) (with_browse u f s) c.resp q)

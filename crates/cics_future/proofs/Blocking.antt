@@ -196,10 +196,10 @@ module _ (m n : Machine) (same : HaveSameFuture m n) (at : ℕ) where
   same_writer : (q : Bytes) → AreSameBlockers m n (writer_awaited m.units (unit_at m.tasks at) (TdRead q)) (writer_awaited n.units (unit_at n.tasks at) (TdRead q))
   same_writer q = by (queue_logical m.units.opening q) refl (ap (λ o. queue_logical o q) (sym same.alike.opening))
     where
-      abbrev here : Bool → Option ℕ
+      here : Bool → Option ℕ
       here b = if b && is_nothing (committed_for m.units (unit_at m.tasks at) q) then blocker_at (owned m.units) (unit_at m.tasks at) (WritingEnd q) else None
 
-      abbrev there : Bool → Bool → Option ℕ
+      there : Bool → Bool → Option ℕ
       there b none = if b && none then blocker_at (owned n.units) (unit_at n.tasks at) (WritingEnd q) else None
 
       found : (none : Bool) → AreSameBlockers m n (if none then blocker_at (owned m.units) (unit_at m.tasks at) (WritingEnd q) else None) (there true none)

@@ -167,7 +167,7 @@ module _ (m : Machine) (steady : IsSteady m) where
         stands Committed live = refl
         stands BackedOut live = absurd (false≢true live)
 
-        abbrev backed : Bool → Bool → Bool
+        backed : Bool → Bool → Bool
         backed b c = is_backed_out (if b && not c then BackedOut else outcome_of m.units.outcomes u)
 
         by : is_open (outcome_of m.units.outcomes u) ≡ true → (b : Bool) → is_backed_out (fin u) ≡ b →
@@ -221,7 +221,7 @@ same_ops s r fin more (t ∷ ts) (u ∷ us) bare done keep =
     let rest : map unnumbered ts ≡ map unnumbered us = cc in
     let first : unnumbered t ≡ unnumbered u = cc in
     ops_first s (kept_of fin t.unit) (kept_units fin ts)
-    ∙ (ap (λ l. l ++ map (λ e. e.op) (one_by_one s.opening s.trace (kept_units fin ts))) (by t.unit u.unit refl refl (ap (λ x. x.unit) first))
+    ∙ (ap (λ l. l ++ map (λ e. e.op) (one_by_one s.opening s.trace (kept_units fin ts))) (by t.unit u.unit refl refl (ap (λ (x : Task). x.unit) first))
     ∙ (ap (λ l. map (λ e. e.op) (one_by_one r.opening r.trace (kept_of more u.unit)) ++ l)
     (same_ops s r fin more ts us rest (λ i. done (suc i)) (λ i x y has_x has_y. keep (suc i) x y has_x has_y))
     ∙ sym (ops_first r (kept_of more u.unit) (kept_units more us))))

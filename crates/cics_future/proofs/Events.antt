@@ -66,7 +66,7 @@ issued_same m n label c same = by (task_at m.tasks label) (task_at n.tasks label
     by (Some t) None both = absurd both
     by (Some t) (Some u) both =
         refused_same m n same (issue_refusal m (Some t)) (issue_refusal n (Some u))
-        (ap (λ x. if x.has_ended then Some TaskEnded else if is_waiting m.waiting x.label then Some TaskWaiting else None) both.bare
+        (ap (λ (x : Task). if x.has_ended then Some TaskEnded else if is_waiting m.waiting x.label then Some TaskWaiting else None) both.bare
         ∙ ap (λ ws. if u.has_ended then Some TaskEnded else if is_waiting ws u.label then Some TaskWaiting else None) same.alike.waiting)
         (checked m t c (fault_of m t c.verb)) (checked n u c (fault_of n u c.verb)) (same_checked m n same both.place t u both.placed both.there both.bare c)
 
@@ -170,7 +170,7 @@ free_same m n same (w ∷ ws) =
 went_same : (m n : Machine) → HaveSameFuture m n → (w : Suspended) → AreSameSteps (went_on m w (task_at m.tasks w.label)) (went_on n w (task_at n.tasks w.label))
 went_same m n same w = by (task_at m.tasks w.label) (task_at n.tasks w.label) (met m n same w.label)
   where
-    abbrev as_woken : Stepped Outcome → Stepped (Option Woken)
+    as_woken : Stepped Outcome → Stepped (Option Woken)
     as_woken s = record { outcome = Some (record { label = w.label; outcome = s.outcome }); machine = s.machine }
 
     told : (s t : Stepped Outcome) → AreSameSteps s t → AreSameSteps (as_woken s) (as_woken t)
@@ -210,7 +210,7 @@ late_same m n same (w ∷ ws) = by (task_at m.tasks w.label) (task_at n.tasks w.
       where
         late : is_late m w (Some t) ≡ is_late n w (Some u)
         late =
-            ap (λ x. nat_lt 0 x.dtimout && nat_le x.dtimout (m.clock - w.since)) both.bare
+            ap (λ (x : Task). nat_lt 0 x.dtimout && nat_le x.dtimout (m.clock - w.since)) both.bare
             ∙ ap (λ k. nat_lt 0 u.dtimout && nat_le u.dtimout (k - w.since)) same.alike.clock
 
         chosen : (b : Bool) → Meet m n (if b then Some t else first_late m ws) (if b then Some u else first_late n ws)

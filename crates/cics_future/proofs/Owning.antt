@@ -83,7 +83,7 @@ acting_own s (Some u) sound = refl
 -- how many times it has enqueued on a value
 pub count_told : (s : UnitsState) (o : Option ℕ) (v : Bytes) → IsSound s → count_at s.counts (unit_or_next o s.outcomes) v ≡ count_at (own s o).counts 0 v
 count_told s o v sound =
-    count_rows.count_own (unit_or_next o s.outcomes) v s.counts ∙ ap (λ x. count_at x.counts 0 v) (acting_own s o sound)
+    count_rows.count_own (unit_or_next o s.outcomes) v s.counts ∙ ap (λ (x : Own). count_at x.counts 0 v) (acting_own s o sound)
 
 -- ---- A command
 

@@ -88,7 +88,7 @@ partner_task m n alike i t placed = by (slice_get n.tasks i) refl
 
 -- partners have the same label
 pub same_label : (t v : Task) → unnumbered t ≡ unnumbered v → t.label ≡ v.label
-same_label t v bare = ap (λ x. x.label) bare
+same_label t v bare = ap (λ (x : Task). x.label) bare
 
 -- ---- Units and their tasks
 
@@ -109,8 +109,8 @@ pub label_there : (ts : List Task) (i : ℕ) (t : Task) (u : ℕ) → IsOwn own_
 label_there [] i t u own placed has = cc
 label_there (x ∷ xs) zero t u own placed has =
     let same : x ≡ t = cc in
-    ap (λ o. cond (is_unit o u) x.label (label_of xs u)) (ap (λ y. y.unit) same ∙ has)
-    ∙ (ap (λ b. cond b x.label (label_of xs u)) (eq-eqb u u refl) ∙ ap (λ y. y.label) same)
+    ap (λ o. cond (is_unit o u) x.label (label_of xs u)) (ap (λ (y : Task). y.unit) same ∙ has)
+    ∙ (ap (λ b. cond b x.label (label_of xs u)) (eq-eqb u u refl) ∙ ap (λ (y : Task). y.label) same)
 label_there (x ∷ xs) (suc i) t u own placed has =
     ap (λ b. cond b x.label (label_of xs u)) (false_from_ne_true (is_unit x.unit u) (λ e. first (own.one zero (suc i) u (holds x.unit e) (ap (had_by own_unit) placed ∙ has))))
     ∙ label_there xs i t u (IsOwn-tail own_unit x xs own) placed has
@@ -147,7 +147,7 @@ seek (x ∷ xs) u = by (seek xs u) (is_unit x.unit u) refl
     differs e has = true≢false (sym (ap (λ o. is_unit o u) has ∙ eq-eqb u u refl) ∙ e)
 
     none : is_unit x.unit u ≡ false → HasNoOwner xs u → (i : ℕ) (t : Task) → slice_get (x ∷ xs) i ≡ Some t → t.unit ≡ Some u → ⊥
-    none e rest zero t placed has = let same : x ≡ t = cc in differs e (ap (λ y. y.unit) same ∙ has)
+    none e rest zero t placed has = let same : x ≡ t = cc in differs e (ap (λ (y : Task). y.unit) same ∙ has)
     none e rest (suc i) t placed has = rest.other i t placed has
 
     by : ((i : ℕ) × (unit_at xs i ≡ Some u)) ⊎ HasNoOwner xs u → (b : Bool) → is_unit x.unit u ≡ b → ((i : ℕ) × (unit_at (x ∷ xs) i ≡ Some u)) ⊎ HasNoOwner (x ∷ xs) u

@@ -119,7 +119,7 @@ with_read_own : (r : UpdateRead) (xs : List UpdateRead) → AreByUnit xs → rea
 with_read_own r [] order = front reader any_read r.unit r [] (eq-eqb r.unit r.unit refl)
 with_read_own r (x ∷ xs) order = by (with_read_own r xs order.1) (x.unit == r.unit) refl
   where
-    abbrev placed : Bool → List UpdateRead
+    placed : Bool → List UpdateRead
     placed b = cond b (r ∷ x ∷ xs) (x ∷ with_read r xs)
 
     first : reads_of r.unit (r ∷ x ∷ xs) ≡ any_read r ∷ reads_of r.unit (x ∷ xs)

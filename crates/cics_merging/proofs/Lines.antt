@@ -55,7 +55,7 @@ module _ (b : Bool) where
       by (Ok x) = put s t same k.machine l.machine steps.machine (xs x) (ys x) (told x)
       by (Err e) = same
 
-  line_same : (s t : State) (says : Result Line LineFault) → AreMergeable b s t → AreMergeable b (after_line s says) (after_line t says)
+  line_same : (s t : State) (r : Result Line LineFault) → AreMergeable b s t → AreMergeable b (after_line s r) (after_line t r)
   line_same s t (Ok (says.Issue label c)) same =
       left_same s t same (hearing s.lanes label) (hearing t.lanes label) (λ o. lane.hearing_same b s.lanes t.lanes label o same.lanes)
       (issuing s.machine label c) (issuing t.machine label c) (issuing_same s.machine t.machine label c same.machine)

@@ -101,7 +101,6 @@ unfolding with_task attaching
 attaches_same m t same = by (attaching m t.label t.dtimout).outcome
   where
     steps : AreSameSteps (attaching m t.label t.dtimout) (attaching m t.label t.dtimout)
-    unfolding attaching
     steps = down_same m m same (attached m t.label t.dtimout) (attached m t.label t.dtimout) (attached_same m m t.label t.dtimout same)
 
     by : (o : Result (Unit {0}) Refused) → HaveSameFuture (unless_refused m o (attaching m t.label t.dtimout).machine) (unless_refused m o (attaching m t.label t.dtimout).machine)
