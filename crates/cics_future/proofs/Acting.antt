@@ -1,35 +1,33 @@
 -- What a task's step does to its region: a command that is executed, ENQ and DEQ, UNLOCK, READQ TS, browses, the end of its unit.
-use Rattle.std.proofs.Common.{◌≡◌, ◌≢◌, ℕ, ◌<◌, ◌==◌, Bool, true, false, not, ◌&&◌, cond, Option, Some, None, List, [], ◌∷◌, ◌++◌, length, ◌⊎◌, inl, inr, refl, ap, sym, ◌∙◌, subst}
-use Rattle.std.specs.Prelude.{is_some, option_map, filter, map, slice_get, slice_set, unwrap_or}
-use Rattle.std.proofs.lemmas.Bool.{true≢false, false≢true, cases_eq, eq-eqb, and_parts, ltb-true}
+use Rattle.std.proofs.Common.{◌≡◌, ◌≢◌, ℕ, ◌<◌, Bool, true, false, ◌&&◌, cond, Option, Some, None, List, [], length, inl, inr, refl, ap, sym, ◌∙◌, subst}
+use Rattle.std.specs.Prelude.{is_some, filter, slice_get, slice_set, unwrap_or}
+use Rattle.std.proofs.lemmas.Bool.{false≢true, cases_eq, eq-eqb}
 use Rattle.std.proofs.lemmas.Option.{slice_get-get_or}
 use Rattle.cics_names.specs.Keyed.{Bytes, Map, has_key, with_value}
 use Rattle.cics_browse.specs.Positions.{Position}
 use Rattle.cics_tempstor.specs.Queues.{has_item}
-use Rattle.cics_history.specs.State.{UnitsState, Store}
+use Rattle.cics_history.specs.State.{UnitsState}
 use Rattle.cics_history.specs.Store.{apply, ts_queue}
 use Rattle.cics_history.specs.Headline.{outcome_of, is_open, is_backed_out}
 use Rattle.cics_history.specs.Holding.{store_of, awaited}
 use Rattle.cics_history.specs.Execution.{unit_or_next, entered, outcomes_with, next_after, enqueue, after_enqueued, after_dequeue, after_unlock, after_end, ended_as, after_ts_reading}
-use Rattle.cics_history.specs.Events.{is_live}
 use Rattle.cics_history.specs.Isolation.{Outcomes, store_by, Extends}
 use Rattle.cics_history.specs.declared.ops.Op.{Op}
 use Rattle.cics_history.specs.declared.ops.Answer.{Answer}
-use Rattle.cics_history.specs.declared.ops.Entry.{Entry}
 use Rattle.cics_history.specs.declared.ops.Enqueued.TheVariants.{Taken}
 use Rattle.cics_history.specs.declared.ops.UnitState.{UnitState}
 use Rattle.cics_history.specs.declared.ops.UnitState.TheVariants.{Open, Committed, BackedOut}
 use Rattle.cics_history.proofs.Isolated.{Extends-refl}
 use Rattle.cics_history.proofs.Outcomes.{same_outcomes, outcome_of-set}
 use Rattle.cics_dispatch.specs.Machine.{Machine, Task, Suspended, replaced, not_waiting, with_task, with_units, with_waiting, with_unit, with_browses, units_after, unit_closed, abended}
-use Rattle.cics_dispatch.specs.Steps.{unlocked, units_dequeued, dequeued}
+use Rattle.cics_dispatch.specs.Steps.{unlocked, dequeued}
 use Rattle.cics_dispatch.proofs.Elements.{get-set}
 use Rattle.cics_dispatch.proofs.OtherUnits.{begun, acting_other, item_read_is}
 use Rattle.cics_dispatch.proofs.TaskPlaces.{replaced-set, set_same}
-use Rattle.cics_future.specs.Futures.{Own, own, unit_at, unnumbered, KeepSame, AreAlike, IsSteady, HaveSameFuture}
+use Rattle.cics_future.specs.Futures.{own, unit_at, unnumbered, KeepSame, IsSteady, HaveSameFuture}
 use Rattle.cics_future.proofs.Owning.{own_entered, entered_own, entered_other, own_counted, counted_own, counted_other, own_uncounted, dequeued_own, dequeued_other, own_unlocked, unlocked_own, unlocked_other, ended_other, item_read_own}
 use Rattle.cics_future.proofs.Steady.{steady_beside, steady_executed, steady_enqueued, steady_closed, steady_browses, steady_unlocked, steady_dequeued, steady_item_read}
-use Rattle.cics_future.proofs.Partners.{unit_there, open_at, same_label}
+use Rattle.cics_future.proofs.Partners.{zeroed, unit_there, open_at, same_label}
 use Rattle.cics_future.proofs.Stepping.{same_store_now, IsStepOf, stepped, store_grown}
 
 -- ---- Beside units and tasks
@@ -239,23 +237,23 @@ module _ (m n : Machine) (same : HaveSameFuture m n) (at : ℕ) (t u : Task) (pl
         subst (λ ts. HaveSameFuture (record m { units = s; tasks = ts }) (with_units n r)) (stays_there m at t same.first placed)
         (subst (λ ts. HaveSameFuture (with_task (with_units m s) t) (record n { units = r; tasks = ts })) (stays_there n at u same.second there)
         (stepped m n same at t t s u u r first second bare owns next
-        (λ fin more ends late keep. keep) (λ fin more keep e. kept fin ∙ (e ∙ sym (kept_too fin)))))
+        (λ fin more ends late keep. keep) (λ fin more keep e. kept fin ∙ (e ∙ sym (kept_too more)))))
 
   -- both have a unit, or neither has
   both_units : (P : Option ℕ → Option ℕ → Type 0) → (t.unit ≡ None → u.unit ≡ None → P None None) →
       ((x y : ℕ) → t.unit ≡ Some x → u.unit ≡ Some y → P (Some x) (Some y)) → P t.unit u.unit
   both_units P none some = by t.unit u.unit refl refl (ap (λ (x : Task). x.unit) bare)
     where
-      by : (o p : Option ℕ) → t.unit ≡ o → u.unit ≡ p → option_map (λ k. 0) t.unit ≡ option_map (λ k. 0) u.unit → P o p
+      by : (o p : Option ℕ) → t.unit ≡ o → u.unit ≡ p → zeroed t.unit ≡ zeroed u.unit → P o p
       by None None a b e = none a b
       by (Some x) (Some y) a b e = some x y a b
-      by None (Some y) a b e = absurd (never (sym (ap (option_map (λ k. 0)) a) ∙ (e ∙ ap (option_map (λ k. 0)) b)))
+      by None (Some y) a b e = absurd (never (sym (ap zeroed a) ∙ (e ∙ ap zeroed b)))
         where
-          never : None ≡ Some 0 → ⊥
+          never : zeroed None ≡ zeroed (Some y) → ⊥
           never e = cc
-      by (Some x) None a b e = absurd (never (sym (ap (option_map (λ k. 0)) a) ∙ (e ∙ ap (option_map (λ k. 0)) b)))
+      by (Some x) None a b e = absurd (never (sym (ap zeroed a) ∙ (e ∙ ap zeroed b)))
         where
-          never : Some 0 ≡ None → ⊥
+          never : zeroed (Some x) ≡ zeroed None → ⊥
           never e = cc
 
   pub same_unlocked : (f : Bytes) → HaveSameFuture (unlocked m t.unit f) (unlocked n u.unit f)

@@ -1,6 +1,6 @@
 -- Each command of a task is answered the same in two regions that are alike, and leaves them alike.
-use Rattle.std.proofs.Common.{◌≡◌, ℕ, ◌+◌, ◌-◌, Bool, true, false, ◌&&◌, cond, Option, Some, None, List, [], ◌∷◌, ◌++◌, refl, ap, sym, ◌∙◌, subst}
-use Rattle.std.specs.Prelude.{if◌then◌else◌, is_some, option_map, unwrap_or, take, nat_le, slice_get}
+use Rattle.std.proofs.Common.{◌≡◌, ℕ, ◌+◌, ◌-◌, Bool, true, false, Option, Some, None, [], ◌∷◌, ◌++◌, refl, ap, sym, ◌∙◌, subst}
+use Rattle.std.specs.Prelude.{if◌then◌else◌, option_map, unwrap_or, take, nat_le, slice_get}
 use Rattle.cics_names.specs.Commands.{file_named}
 use Rattle.cics_names.specs.Keyed.{Bytes, Map, value_at, has_key, with_value, without}
 use Rattle.cics_names.specs.Conditions.{default_abend_of}
@@ -10,7 +10,6 @@ use Rattle.cics_names.specs.declared.commands.Verb.TheVariants.{Read, Write, Rew
 use Rattle.cics_names.specs.declared.conditions.AbendCode.{AbendCode}
 use Rattle.cics_names.specs.declared.conditions.Condition.{Condition}
 use Rattle.cics_names.specs.declared.conditions.Condition.TheVariants.{Normal, Notfnd, Invreq, Qiderr}
-use Rattle.cics_ksds.specs.declared.definition.FileDef.{FileDef}
 use Rattle.cics_browse.specs.Positions.{Position, finds_start, start_at, read_next, after_next, read_prev, after_prev, reset_condition, after_reset}
 use Rattle.cics_browse.specs.declared.browses.Browsed.{Browsed}
 use Rattle.cics_tempstor.specs.Queues.{item_condition, has_item, number_if}
@@ -18,23 +17,23 @@ use Rattle.cics_enqueue.specs.Resources.{most_count}
 use Rattle.cics_history.specs.State.{UnitsState, Store}
 use Rattle.cics_history.specs.Store.{apply, ts_queue}
 use Rattle.cics_history.specs.Holding.{store_of, awaited, value_holder}
-use Rattle.cics_history.specs.Execution.{unit_or_next, has_read, read_at, entered, done_of, state_of, execution, after_execution, count_at, enq_of, enqueue, after_enqueued, after_enqueue, after_ts_reading, item_asked, ts_reading}
+use Rattle.cics_history.specs.Execution.{unit_or_next, read_at, entered, done_of, state_of, execution, count_at, enq_of, enqueue, after_enqueued, after_ts_reading, item_asked, ts_reading}
 use Rattle.cics_history.specs.declared.ops.Op.{Op}
 use Rattle.cics_history.specs.declared.ops.Answer.{Answer}
 use Rattle.cics_history.specs.declared.ops.Enqueued.{Enqueued}
 use Rattle.cics_history.specs.declared.ops.Enqueued.TheVariants.{Taken, MustWait as EnqMustWait, CountFull}
 use Rattle.cics_history.specs.declared.ops.UnitState.TheVariants.{Committed, BackedOut}
-use Rattle.cics_dispatch.specs.Machine.{Machine, Task, label_of, definition_of, records_in, with_task, with_units, with_waiting, with_unit, with_browses, abended}
+use Rattle.cics_dispatch.specs.Machine.{Machine, Task, label_of, definition_of, records_in, with_task, with_units, with_unit, with_browses}
 use Rattle.cics_dispatch.specs.Lengths.{fault_unless, first_fault}
 use Rattle.cics_dispatch.specs.Replies.{plain, cut, read_reply}
 use Rattle.cics_dispatch.specs.Checks.{defined_fault, item_fault, open_key, file_fault, other_fault, named_fault, fault_of}
 use Rattle.cics_dispatch.specs.Steps.{Stepped, unhandled, answered, reply_of, busy_of, suspended, made_to_wait, asked_op, key_read, op_of, executed, enqueued, unlocked, dequeued, browse_reply, with_browse, started, reset, browsed, browse_ended, ts_read, other_command, by_op, performed, checked}
 use Rattle.cics_dispatch.specs.Waking.{awaited_by}
 use Rattle.cics_dispatch.specs.declared.outcomes.Outcome.{Outcome}
-use Rattle.cics_dispatch.specs.declared.outcomes.Outcome.TheVariants.{Replied, Waiting, Abended}
+use Rattle.cics_dispatch.specs.declared.outcomes.Outcome.TheVariants.{Waiting}
 use Rattle.cics_dispatch.specs.declared.outcomes.Reply.{Reply}
 use Rattle.cics_dispatch.proofs.OwnedUnits.{replaced_there}
-use Rattle.cics_future.specs.Futures.{Own, own, unit_at, unnumbered, IsSteady, HaveSameFuture, AreSameSteps}
+use Rattle.cics_future.specs.Futures.{Own, unit_at, unnumbered, HaveSameFuture, AreSameSteps}
 use Rattle.cics_future.proofs.Owning.{read_told, count_told}
 use Rattle.cics_future.proofs.Partners.{unit_there, same_label, same_owner}
 use Rattle.cics_future.proofs.Blocking.{AreSameBlockers, same_awaited, same_value_holder, same_awaited_by}

@@ -1,28 +1,27 @@
 -- In two regions that are alike a command of the same task is blocked by the units of the same task, or by none.
-use Rattle.std.proofs.Common.{◌≡◌, ℕ, ◌<◌, ◌==◌, Bool, true, false, not, ◌&&◌, ◌||◌, cond, Option, Some, None, List, [], ◌∷◌, length, ◌⊎◌, inl, inr, refl, ap, sym, ◌∙◌, subst, arith}
+use Rattle.std.proofs.Common.{◌≡◌, ℕ, ◌<◌, ◌==◌, Bool, true, false, not, ◌&&◌, Option, Some, None, List, [], ◌∷◌, length, refl, ap, sym, ◌∙◌, subst, arith}
 use Rattle.std.specs.Prelude.{is_some, is_none, option_map, unwrap_or, if◌then◌else◌, take}
 use Rattle.std.specs.List.{list_any}
 use Rattle.std.specs.Ordering.{is_lt, ordering_reverse}
 use Rattle.std.specs.declared.cmp.Ordering.{Ordering}
 use Rattle.std.specs.declared.cmp.Ordering.TheVariants.{Less, Equal, Greater}
 use Rattle.std.specs.Cmp.Lexicographic.{nat_list_cmp_total}
-use Rattle.std.proofs.lemmas.Bool.{true≢false, false≢true, cases_Bool, and_parts, and_from, or_left, eqb-true, eq-eqb, ne_eqb, ltb-true}
+use Rattle.std.proofs.lemmas.Bool.{true≢false, false≢true, and_parts, and_from, or_left, eqb-true, eq-eqb}
 use Rattle.cics_names.specs.Keyed.{Bytes, bytes_cmp, is_same, is_below}
 use Rattle.cics_names.specs.KeyedLaws.{is_same-self, is_same-eq, same_bytes}
 use Rattle.cics_names.specs.declared.commands.Verb.{Verb}
 use Rattle.cics_names.specs.declared.commands.Verb.TheVariants.{Enq}
 use Rattle.cics_ksds.specs.Prefixes.{has_prefix}
-use Rattle.cics_enqueue.specs.Resources.{is_one, is_prefix}
+use Rattle.cics_enqueue.specs.Resources.{is_one}
 use Rattle.cics_enqueue.specs.ResourceLaws.{is_one-eq, same_test}
 use Rattle.cics_enqueue.specs.declared.resources.Resource.{Resource}
 use Rattle.cics_enqueue.specs.declared.resources.Resource.TheVariants.{FileKey, TsQueue, TdRead as ReadingEnd, TdWrite as WritingEnd, User, FilePrefix}
-use Rattle.cics_history.specs.State.{OpeningState, UnitsState, queue_logical}
+use Rattle.cics_history.specs.State.{queue_logical}
 use Rattle.cics_history.specs.Headline.{outcome_of, is_open, is_backed_out}
-use Rattle.cics_history.specs.Holding.{uses_of, held_by, conflicts, bytes_in, Owned, owned, is_other, smallest_conflict, blocker_at, first_some, blocker_among, committed_for, is_nothing, writer_awaited, awaited, own_value, value_holder}
-use Rattle.cics_history.specs.Holders.{meet, IsLeastHeld}
+use Rattle.cics_history.specs.Holding.{uses_of, held_by, conflicts, bytes_in, owned, smallest_conflict, blocker_at, first_some, blocker_among, committed_for, is_nothing, writer_awaited, awaited, own_value, value_holder}
+use Rattle.cics_history.specs.Holders.{IsLeastHeld}
 use Rattle.cics_history.specs.Execution.{unit_or_next}
 use Rattle.cics_history.specs.Cells.{Td, content}
-use Rattle.cics_history.specs.Isolation.{Outcomes, store_by}
 use Rattle.cics_history.specs.declared.ops.Op.{Op}
 use Rattle.cics_history.specs.declared.ops.Op.TheVariants.{Write, Rewrite, Delete, DeleteGeneric, ReadUpdate, TsWrite, TsRewrite, TsDelete, TdWrite, TdRead, TdDelete}
 use Rattle.cics_history.specs.declared.ops.UnitState.{UnitState}
@@ -30,12 +29,12 @@ use Rattle.cics_history.specs.declared.ops.UnitState.TheVariants.{BackedOut}
 use Rattle.cics_history.proofs.Executes.{alone, alone-ended, open_kept}
 use Rattle.cics_history.proofs.Holders.{conflicts-joined, found_holds, found_other}
 use Rattle.cics_history.proofs.LeastHeld.{least_held, holder_some}
-use Rattle.cics_history.proofs.Waiting.{any_more, one_begins, committed-content}
+use Rattle.cics_history.proofs.Waiting.{any_more, committed-content}
 use Rattle.cics_dispatch.specs.Machine.{Machine, label_of}
 use Rattle.cics_dispatch.specs.Waking.{awaited_by}
 use Rattle.cics_dispatch.proofs.OtherUnits.{begun}
-use Rattle.cics_future.specs.Futures.{unit_at, KeepSame, IsSteady, HaveSameFuture}
-use Rattle.cics_future.proofs.Partners.{ArePartners, HasHolder, turned, partner, open_at, live_at, held_there, same_owner}
+use Rattle.cics_future.specs.Futures.{unit_at, KeepSame, HaveSameFuture}
+use Rattle.cics_future.proofs.Partners.{ArePartners, turned, open_at, live_at, held_there, same_owner}
 
 -- ---- The least of what conflicts
 

@@ -1,33 +1,29 @@
 -- Regions that look alike have the same future: the open units of an ending could come last, one after the other, so each ending
 -- is what those that committed gave, and then what these units did.
-use Rattle.std.proofs.Common.{◌≡◌, ℕ, zero, suc, ◌<◌, ◌==◌, Bool, true, false, not, ◌&&◌, ◌||◌, cond, Option, Some, None, List, [], ◌∷◌, ◌++◌, length, ◌⊎◌, inl, inr, refl, ap, sym, ◌∙◌, subst, arith}
-use Rattle.std.specs.Prelude.{if◌then◌else◌, unwrap_or, filter, map, flat_map, slice_get}
-use Rattle.std.specs.List.{list_any}
-use Rattle.std.proofs.lemmas.Bool.{true≢false, false≢true, cases_Bool, and_parts, and_from, eqb-true, eq-eqb, or_cases, or_left, or_right, false_from_ne_true, lt-ltb}
+use Rattle.std.proofs.Common.{◌≡◌, ℕ, zero, suc, ◌<◌, ◌==◌, Bool, true, false, not, ◌&&◌, ◌||◌, cond, Option, Some, None, List, [], ◌∷◌, ◌++◌, length, ◌⊎◌, inl, inr, refl, ap, sym, ◌∙◌}
+use Rattle.std.specs.Prelude.{if◌then◌else◌, unwrap_or, map, flat_map}
+use Rattle.std.proofs.lemmas.Bool.{true≢false, false≢true, cases_Bool, and_from, eqb-true, eq-eqb, or_cases, or_left, or_right, false_from_ne_true, lt-ltb}
 use Rattle.std.proofs.lemmas.List.{append-nil, map-append}
 use Rattle.std.proofs.lemmas.List.Concat.{flat_map-append}
-use Rattle.cics_names.specs.Keyed.{Bytes}
-use Rattle.cics_enqueue.specs.ResourceLaws.{same_test}
-use Rattle.cics_enqueue.specs.declared.resources.Resource.{Resource}
+use Rattle.std.proofs.lemmas.List.Folds.{list_any-append}
 use Rattle.cics_history.specs.State.{OpeningState, UnitsState, Store, initial_store}
 use Rattle.cics_history.specs.Store.{apply, is_normal, is_recoverable}
 use Rattle.cics_history.specs.Headline.{outcome_of, is_open, is_backed_out, replay, IsSameRecoverable}
 use Rattle.cics_history.specs.Holding.{store_of, uses_of, held_by_entry}
-use Rattle.cics_history.specs.Events.{is_live}
-use Rattle.cics_history.specs.Cells.{Cell, Key, Ts, Td, Content, record_in, content, recovers, IsCanonical}
+use Rattle.cics_history.specs.Cells.{Cell, Key, Ts, Td, Content, record_in, content, recovers}
 use Rattle.cics_history.specs.Isolation.{Outcomes, left_by, store_by, Extends}
-use Rattle.cics_history.specs.Serial.{among, are_distinct, is_done_by, done_by, one_by_one, AreOpen, are_backed_out_but, store_without_others, serial_store, IsSerializable}
+use Rattle.cics_history.specs.Serial.{among, are_distinct, done_by, one_by_one, AreOpen, are_backed_out_but, store_without_others, serial_store, IsSerializable}
 use Rattle.cics_history.specs.declared.ops.Op.{Op}
 use Rattle.cics_history.specs.declared.ops.Entry.{Entry}
 use Rattle.cics_history.specs.declared.ops.UnitState.{UnitState}
 use Rattle.cics_history.specs.declared.ops.UnitState.TheVariants.{Open, Committed, BackedOut}
-use Rattle.cics_history.proofs.Isolated.{Extends-refl, unrecovered}
+use Rattle.cics_history.proofs.Isolated.{unrecovered}
 use Rattle.cics_history.proofs.Joining.{after_at, apply-content}
 use Rattle.cics_history.proofs.Replays.{Each_more}
 use Rattle.cics_history.proofs.SerialRuns.{serializable_of}
 use Rattle.cics_history.proofs.Stores.{same_store, replay-canonical}
 use Rattle.cics_dispatch.specs.Machine.{Machine, Task}
-use Rattle.cics_dispatch.specs.Tasks.{own_unit, had_by, IsOwn}
+use Rattle.cics_dispatch.specs.Tasks.{own_unit, IsOwn}
 use Rattle.cics_dispatch.proofs.TaskPlaces.{IsOwn-tail}
 use Rattle.cics_future.specs.Futures.{own, unit_at, unnumbered, KeepSame, IsSteady, HaveSameFuture}
 use Rattle.cics_future.specs.Compared.{ops_done, reads_open, counts_kept, LookAlike}
@@ -83,12 +79,7 @@ abbrev kept_units : Outcomes → List Task → List ℕ
 kept_units fin ts = flat_map (λ t. kept_of fin t.unit) ts
 
 among-append : (u : ℕ) (xs ys : List ℕ) → among u (xs ++ ys) ≡ (among u xs || among u ys)
-among-append u [] ys = refl
-among-append u (x ∷ xs) ys = by (x == u)
-  where
-    by : (b : Bool) → (b || among u (xs ++ ys)) ≡ ((b || among u xs) || among u ys)
-    by true = refl
-    by false = among-append u xs ys
+among-append u xs ys = list_any-append (λ n. n == u) xs ys
 
 -- a unit that is kept is a task's
 kept_has : (fin : Outcomes) (u : ℕ) (o : Option ℕ) → among u (kept_of fin o) ≡ true → (o ≡ Some u) × (is_backed_out (fin u) ≡ false)
@@ -247,11 +238,11 @@ same_ops s r fin more (t ∷ ts) (u ∷ us) bare done keep =
         ]
     by None (Some y) a b e = absurd (never (sym (ap zeroed a) ∙ (e ∙ ap zeroed b)))
       where
-        never : None ≡ Some 0 → ⊥
+        never : zeroed None ≡ zeroed (Some y) → ⊥
         never e = cc
     by (Some x) None a b e = absurd (never (sym (ap zeroed a) ∙ (e ∙ ap zeroed b)))
       where
-        never : Some 0 ≡ None → ⊥
+        never : zeroed (Some x) ≡ zeroed None → ⊥
         never e = cc
 
 -- ---- The same future

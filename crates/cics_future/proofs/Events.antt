@@ -1,9 +1,8 @@
 -- Every event answers the same in two regions that have the same future, and leaves regions that have the same future.
-use Rattle.std.proofs.Common.{◌≡◌, ◌≢◌, ℕ, zero, suc, ◌+◌, ◌-◌, ◌<◌, Bool, true, false, not, ◌&&◌, cond, Option, Some, None, List, [], ◌∷◌, ◌++◌, length, Result, Ok, Err, refl, ap, sym, ◌∙◌, subst, arith, nat_eq, inl, inr}
-use Rattle.std.specs.Prelude.{if◌then◌else◌, is_some, is_none, option_map, map, nat_lt, nat_le, slice_get, slice_set}
-use Rattle.std.proofs.lemmas.Bool.{cases_eq, eq-eqb, ne_eqb}
+use Rattle.std.proofs.Common.{◌≡◌, ℕ, zero, suc, ◌+◌, ◌-◌, Bool, true, false, ◌&&◌, cond, Option, Some, None, List, [], ◌∷◌, ◌++◌, length, Result, Ok, Err, refl, ap, sym, ◌∙◌, subst, arith, nat_eq}
+use Rattle.std.specs.Prelude.{if◌then◌else◌, is_some, option_map, map, nat_lt, nat_le, slice_get}
+use Rattle.std.proofs.lemmas.Bool.{ne_eqb}
 use Rattle.std.proofs.lemmas.List.{length-map, map_push}
-use Rattle.std.proofs.lemmas.Option.{slice_get_within}
 use Rattle.cics_names.specs.Keyed.{Bytes}
 use Rattle.cics_names.specs.declared.commands.Command.{Command}
 use Rattle.cics_history.specs.State.{OpeningState}
@@ -11,7 +10,7 @@ use Rattle.cics_history.specs.Openings.{IsOpeningInOrder}
 use Rattle.cics_history.specs.declared.ops.UnitState.TheVariants.{BackedOut}
 use Rattle.cics_dispatch.specs.Machine.{Machine, Task, Suspended, beginning_region, task_at, is_waiting, not_waiting, label_of, with_waiting, unit_closed, timed_out}
 use Rattle.cics_dispatch.specs.Tasks.{own_unit, had_by}
-use Rattle.cics_dispatch.specs.Steps.{Stepped, by_op, checked, issue_refusal, refused_or, issued_by, issued, new_task, attach_refusal, with_new_task, attached}
+use Rattle.cics_dispatch.specs.Steps.{Stepped, by_op, checked, issue_refusal, refused_or, issued_by, issued, new_task, with_new_task, attached}
 use Rattle.cics_dispatch.specs.Checks.{fault_of}
 use Rattle.cics_dispatch.specs.Waking.{clock_refusal, clock_set, awaited_by, may_go_on, first_free, went_on, woken_first, woken, is_late, first_late, expired_task, expired}
 use Rattle.cics_dispatch.specs.Shutdown.{unless_down, one_if, units_of, all_ended, shut_down}
@@ -19,18 +18,17 @@ use Rattle.cics_dispatch.specs.Blockers.{waiting_command, awaited_of, awaited_at
 use Rattle.cics_dispatch.specs.Waits.{wait_of}
 use Rattle.cics_dispatch.specs.declared.outcomes.Outcome.{Outcome}
 use Rattle.cics_dispatch.specs.declared.outcomes.Woken.{Woken}
-use Rattle.cics_dispatch.specs.declared.outcomes.Expired.{Expired}
 use Rattle.cics_dispatch.specs.declared.outcomes.Refused.{Refused}
 use Rattle.cics_dispatch.specs.declared.outcomes.Refused.TheVariants.{TaskWaiting, TaskEnded, DuplicateLabel, RegionDown, ClockBack}
 use Rattle.cics_dispatch.proofs.Elements.{get-set, get-pushed}
 use Rattle.cics_dispatch.proofs.TaskPlaces.{replaced-set}
-use Rattle.cics_future.specs.Futures.{own, unit_at, unnumbered, KeepSame, IsSteady, HaveSameFuture, AreSameSteps}
+use Rattle.cics_future.specs.Futures.{own, unit_at, unnumbered, IsSteady, HaveSameFuture, AreSameSteps}
 use Rattle.cics_future.proofs.Steady.{steady_begins, steady_attached}
 use Rattle.cics_future.proofs.Partners.{same_itself, same_label}
 use Rattle.cics_future.proofs.Blocking.{AreSameBlockers, same_is_none, same_owners}
 use Rattle.cics_future.proofs.Acting.{same_beside, same_waits, same_closed, same_abended}
 use Rattle.cics_future.proofs.Answering.{same_blocked_by, same_by_op, same_checked}
-use Rattle.cics_future.proofs.Meeting.{AreMates, Meet, met}
+use Rattle.cics_future.proofs.Meeting.{Meet, met}
 
 pub same_begins : (o : OpeningState) → IsOpeningInOrder o → HaveSameFuture (beginning_region o) (beginning_region o)
 same_begins o order = same_itself (beginning_region o) (steady_begins o order)

@@ -1,6 +1,6 @@
 pub mod RowsOf
-pub mod Reads
-pub mod Counts
+pub mod ReadRows
+pub mod CountRows
 pub mod Owning
 pub mod Steady
 pub mod Partners

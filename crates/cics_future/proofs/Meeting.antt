@@ -1,11 +1,11 @@
 -- The tasks of one label in two regions that are alike: neither is there, or they stand at one place.
-use Rattle.std.proofs.Common.{◌≡◌, Bool, true, false, cond, Option, Some, None, List, [], ◌∷◌, ℕ, refl, ap, sym, ◌∙◌, subst}
+use Rattle.std.proofs.Common.{◌≡◌, true, false, cond, Option, Some, None, List, [], ◌∷◌, ℕ, refl, ap, sym, ◌∙◌}
 use Rattle.std.specs.Prelude.{option_map, map, slice_get}
 use Rattle.cics_names.specs.Keyed.{Bytes, is_same}
 use Rattle.cics_dispatch.specs.Machine.{Machine, Task, task_at}
 use Rattle.cics_dispatch.proofs.TaskPlaces.{place_of_task, task_at-place}
 use Rattle.cics_future.specs.Futures.{unnumbered, HaveSameFuture}
-use Rattle.cics_future.proofs.Partners.{HasPartner, partner_task, same_label}
+use Rattle.cics_future.proofs.Partners.{partner_task, same_label}
 
 -- two tasks at one place, the same but for the numbers of their units
 pub record AreMates (m n : Machine) (t u : Task) : Type 0 where

@@ -1,17 +1,16 @@
 -- What an open unit has after each step of the units: the unit that acts has what the step gives it, the others what they had.
-use Rattle.std.proofs.Common.{◌≡◌, ◌≢◌, ℕ, ◌<◌, ◌==◌, Bool, true, false, not, ◌&&◌, cond, Option, Some, None, List, [], ◌∷◌, ◌++◌, length, refl, ap, sym, ◌∙◌, arith}
-use Rattle.std.specs.Prelude.{if◌then◌else◌, filter, flat_map, slice_set}
+use Rattle.std.proofs.Common.{◌≡◌, ◌≢◌, ℕ, ◌<◌, ◌==◌, true, false, not, ◌&&◌, cond, Option, Some, None, List, [], ◌∷◌, ◌++◌, length, refl, ap, ◌∙◌, arith}
+use Rattle.std.specs.Prelude.{if◌then◌else◌, filter, flat_map}
 use Rattle.std.specs.List.{list_any}
-use Rattle.std.proofs.lemmas.Bool.{false_from_ne_true, eq-eqb, ne_eqb, and_parts}
+use Rattle.std.proofs.lemmas.Bool.{false_from_ne_true, eq-eqb, ne_eqb}
 use Rattle.std.proofs.lemmas.List.{append-nil}
 use Rattle.std.proofs.lemmas.List.Concat.{flat_map-append}
 use Rattle.cics_names.specs.Keyed.{Bytes}
 use Rattle.cics_enqueue.specs.declared.resources.Resource.{Resource}
-use Rattle.cics_tempstor.specs.Queues.{has_item}
 use Rattle.cics_history.specs.State.{OpeningState, UnitsState, UpdateRead, EnqCount}
-use Rattle.cics_history.specs.Store.{is_normal, is_recoverable, ts_queue}
+use Rattle.cics_history.specs.Store.{is_normal, is_recoverable}
 use Rattle.cics_history.specs.Headline.{outcome_of, is_open}
-use Rattle.cics_history.specs.Holding.{store_of, uses_of, held_by_entry, held_by_read, held_by_count, held_by}
+use Rattle.cics_history.specs.Holding.{uses_of, held_by_entry, held_by_read, held_by_count, held_by}
 use Rattle.cics_history.specs.Execution.{unit_or_next, is_read_of, read_at, has_read, reads_after, entered, count_at, counted, uncounted, with_counts, after_dequeue, after_unlock, after_end, after_ts_reading}
 use Rattle.cics_history.specs.Isolation.{Each, IsSound}
 use Rattle.cics_history.specs.declared.ops.Op.{Op}
@@ -20,8 +19,8 @@ use Rattle.cics_history.specs.declared.ops.Entry.{Entry}
 use Rattle.cics_history.specs.declared.ops.UnitState.{UnitState}
 use Rattle.cics_dispatch.proofs.OtherUnits.{item_read_is}
 use Rattle.cics_future.specs.Futures.{Own, own, AreByUnit, AreByValue}
-use Rattle.cics_future.proofs.Reads as read_rows
-use Rattle.cics_future.proofs.Counts as count_rows
+use Rattle.cics_future.proofs.ReadRows as read_rows
+use Rattle.cics_future.proofs.CountRows as count_rows
 
 -- these held resources, update reads and counts
 abbrev pub own_of : List Resource → List UpdateRead → List EnqCount → Own

@@ -1,10 +1,9 @@
 -- The tasks of two regions that are alike stand at the same places, and so do their units.
-use Rattle.std.proofs.Common.{◌≡◌, ◌≢◌, ℕ, zero, suc, ◌<◌, ◌==◌, Bool, true, false, not, ◌&&◌, cond, Option, Some, None, List, [], ◌∷◌, length, ◌⊎◌, inl, inr, refl, ap, sym, ◌∙◌, subst, arith}
-use Rattle.std.specs.Prelude.{is_some, option_map, map, slice_get, slice_set}
+use Rattle.std.proofs.Common.{◌≡◌, ℕ, zero, suc, ◌<◌, ◌==◌, Bool, true, false, not, ◌&&◌, cond, Option, Some, None, List, [], ◌∷◌, length, ◌⊎◌, inl, inr, refl, ap, sym, ◌∙◌}
+use Rattle.std.specs.Prelude.{option_map, map, slice_get}
 use Rattle.std.specs.List.{list_any}
 use Rattle.std.proofs.lemmas.Bool.{true≢false, false≢true, cases_Bool, and_parts, and_from, eqb-true, eq-eqb, lt-ltb, false_from_ne_true}
 use Rattle.std.proofs.lemmas.Option.{slice_get-map}
-use Rattle.cics_names.specs.Keyed.{Bytes, is_same}
 use Rattle.cics_enqueue.specs.declared.resources.Resource.{Resource}
 use Rattle.cics_history.specs.State.{OpeningState, initial_store}
 use Rattle.cics_history.specs.Headline.{outcome_of, is_open, is_backed_out, replay}
@@ -15,10 +14,10 @@ use Rattle.cics_history.proofs.Replays.{Each_more}
 use Rattle.cics_history.specs.Holding.{held_by, is_other}
 use Rattle.cics_history.specs.Events.{is_live}
 use Rattle.cics_history.proofs.Holders.{held_cases, holder_begun}
-use Rattle.cics_dispatch.specs.Machine.{Machine, Task, task_at, is_unit, label_of}
-use Rattle.cics_dispatch.specs.Tasks.{own_label, own_unit, had_by, had_at, IsOwn, HasNoOwner}
-use Rattle.cics_dispatch.proofs.TaskPlaces.{IsOwn-tail, place_of_task, task_at-place}
-use Rattle.cics_future.specs.Futures.{Own, own, unit_at, unnumbered, KeepSame, AreAlike, IsSteady, HaveSameFuture}
+use Rattle.cics_dispatch.specs.Machine.{Machine, Task, is_unit, label_of}
+use Rattle.cics_dispatch.specs.Tasks.{own_unit, had_by, IsOwn, HasNoOwner}
+use Rattle.cics_dispatch.proofs.TaskPlaces.{IsOwn-tail}
+use Rattle.cics_future.specs.Futures.{own, unit_at, unnumbered, KeepSame, AreAlike, IsSteady, HaveSameFuture}
 use Rattle.cics_future.proofs.Owning.{held_own, held_told}
 
 -- ---- The other way round

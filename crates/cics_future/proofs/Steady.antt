@@ -1,6 +1,6 @@
 -- Every step keeps open units apart, and each that of one task.
-use Rattle.std.specs.Prelude.{◌≡◌, ℕ, ◌==◌, Bool, true, false, not, Option, Some, None, List, [], ◌∷◌, ◌++◌, slice_get, filter, refl}
-use Rattle.std.proofs.Common.{sym, ap, ◌∙◌, subst}
+use Rattle.std.specs.Prelude.{◌≡◌, ℕ, ◌==◌, Bool, true, false, not, Option, Some, None, List, [], slice_get, refl}
+use Rattle.std.proofs.Common.{ap, subst}
 use Rattle.std.proofs.lemmas.Bool.{true≢false}
 use Rattle.std.proofs.lemmas.List.Elements.{All-nil}
 use Rattle.cics_names.specs.Keyed.{Bytes, Map}
@@ -10,8 +10,8 @@ use Rattle.cics_history.specs.Openings.{IsOpeningInOrder}
 use Rattle.cics_history.specs.Store.{apply}
 use Rattle.cics_history.specs.Headline.{is_open}
 use Rattle.cics_history.specs.Holding.{store_of, awaited}
-use Rattle.cics_history.specs.Execution.{unit_or_next, is_read_of, entered, counted, uncounted, done_of, state_of, execution, enqueue, after_enqueued, after_enqueue, after_dequeue, after_unlock, after_end, after_ts_reading}
-use Rattle.cics_history.specs.Events.{may_act, is_live}
+use Rattle.cics_history.specs.Execution.{unit_or_next, is_read_of, entered, done_of, state_of, execution, enqueue, after_enqueued, after_ts_reading}
+use Rattle.cics_history.specs.Events.{may_act}
 use Rattle.cics_history.specs.Cells.{IsCanonical}
 use Rattle.cics_history.specs.Isolation.{IsSound}
 use Rattle.cics_history.specs.Serial.{IsInOrder}
@@ -32,8 +32,8 @@ use Rattle.cics_dispatch.proofs.KeptTasks.{acts, kept_begins, kept_attached, kep
 use Rattle.cics_dispatch.proofs.OwnedUnits.{owned_begins, owned_attached, owned_executed, owned_enqueued, owned_closed, owned_browses, owned_unlocked, owned_dequeued, owned_item_read}
 use Rattle.cics_dispatch.proofs.OtherUnits.{item_read_is}
 use Rattle.cics_future.specs.Futures.{AreByUnit, AreByValue, IsSteady}
-use Rattle.cics_future.proofs.Reads.{by_unit-filter, by_unit-reads_after}
-use Rattle.cics_future.proofs.Counts.{by_value-filter, by_value-counted, by_value-uncounted}
+use Rattle.cics_future.proofs.ReadRows.{by_unit-filter, by_unit-reads_after}
+use Rattle.cics_future.proofs.CountRows.{by_value-filter, by_value-counted, by_value-uncounted}
 
 -- a machine without its waits
 abbrev pub aside : Machine → Machine

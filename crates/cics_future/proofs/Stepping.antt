@@ -1,12 +1,11 @@
 -- A step of a task in two regions that are alike: it changes what the task's own unit has, and each store in the same way.
-use Rattle.std.proofs.Common.{◌≡◌, ◌≢◌, ℕ, ◌==◌, Bool, true, false, not, ◌&&◌, cond, Option, Some, None, List, [], ◌∷◌, ◌++◌, length, ◌⊎◌, inl, inr, refl, ap, sym, ◌∙◌, subst, nat_eq}
-use Rattle.std.specs.Prelude.{is_some, option_map, map, slice_get, slice_set}
-use Rattle.std.proofs.lemmas.Bool.{true≢false, cases_eq, eq-eqb, ne_eqb, ltb-true, and_parts, false≢true}
-use Rattle.cics_names.specs.Keyed.{Bytes, Map, is_same}
-use Rattle.cics_browse.specs.Positions.{Position}
+use Rattle.std.proofs.Common.{◌≡◌, ℕ, true, false, not, ◌&&◌, cond, Option, Some, None, List, [], ◌∷◌, ◌++◌, inl, inr, refl, ap, sym, ◌∙◌, subst}
+use Rattle.std.specs.Prelude.{is_some, map, slice_get, slice_set}
+use Rattle.std.proofs.lemmas.Bool.{cases_eq, eq-eqb, ne_eqb, false≢true}
+use Rattle.cics_names.specs.Keyed.{is_same}
 use Rattle.cics_history.specs.State.{OpeningState, UnitsState, initial_store}
 use Rattle.cics_history.specs.Store.{apply, is_recoverable}
-use Rattle.cics_history.specs.Headline.{outcome_of, is_open, is_backed_out, replay}
+use Rattle.cics_history.specs.Headline.{outcome_of, is_open, is_backed_out}
 use Rattle.cics_history.specs.Holding.{store_of}
 use Rattle.cics_history.specs.Isolation.{Outcomes, stays, store_by, Extends}
 use Rattle.cics_history.specs.declared.ops.Entry.{Entry}
@@ -15,11 +14,11 @@ use Rattle.cics_history.specs.declared.ops.UnitState.TheVariants.{Open, Committe
 use Rattle.cics_history.specs.Events.{is_live}
 use Rattle.cics_history.proofs.Isolated.{Extends-refl}
 use Rattle.cics_history.proofs.Replays.{replay-push}
-use Rattle.cics_dispatch.specs.Machine.{Machine, Task, replaced, with_task, with_units, with_browses}
+use Rattle.cics_dispatch.specs.Machine.{Machine, Task, replaced, with_task, with_units}
 use Rattle.cics_dispatch.specs.Tasks.{own_unit, had_by}
 use Rattle.cics_dispatch.proofs.Elements.{get-set}
-use Rattle.cics_dispatch.proofs.TaskPlaces.{replaced-set, set_same}
-use Rattle.cics_future.specs.Futures.{Own, own, unit_at, unnumbered, KeepSame, AreAlike, IsSteady, HaveSameFuture}
+use Rattle.cics_dispatch.proofs.TaskPlaces.{replaced-set}
+use Rattle.cics_future.specs.Futures.{own, unit_at, unnumbered, KeepSame, IsSteady, HaveSameFuture}
 use Rattle.cics_future.proofs.Partners.{unit_there, open_at, live_at}
 
 -- ---- The store as it stands

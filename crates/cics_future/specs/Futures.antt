@@ -1,8 +1,8 @@
 -- Two regions that have the same future: what the tasks of the one are told from now on, those of the other are told too,
 -- whatever the numbers of their units are, and however their files and queues came to hold what they hold.
-use Rattle.std.specs.Prelude.{◌≡◌, ℕ, ◌==◌, Bool, true, false, Option, Some, None, option_map, filter, map, flat_map, nat_lt, slice_get, List, [], ◌∷◌}
+use Rattle.std.specs.Prelude.{◌≡◌, ℕ, ◌==◌, true, false, Option, Some, None, option_map, filter, map, flat_map, nat_lt, slice_get, List, [], ◌∷◌}
 use Rattle.std.specs.List.{list_any}
-use Rattle.cics_names.specs.Keyed.{Bytes, is_below}
+use Rattle.cics_names.specs.Keyed.{is_below}
 use Rattle.cics_enqueue.specs.declared.resources.Resource.{Resource}
 use Rattle.cics_history.specs.State.{UnitsState, UpdateRead, EnqCount, initial_store}
 use Rattle.cics_history.specs.Headline.{outcome_of, is_backed_out}

@@ -1,12 +1,11 @@
 -- The update reads of a unit, whatever its number is: what is read, opened, covered and unlocked among them.
-use Rattle.std.proofs.Common.{◌≡◌, ℕ, ◌<◌, ◌≤◌, ◌==◌, Bool, true, false, not, ◌&&◌, ◌||◌, cond, Option, Some, None, List, [], ◌∷◌, ◌⊎◌, inl, inr, refl, ap, sym, ◌∙◌, arith}
+use Rattle.std.proofs.Common.{◌≡◌, ℕ, ◌<◌, ◌≤◌, ◌==◌, Bool, true, false, not, ◌&&◌, ◌||◌, cond, Some, List, [], ◌∷◌, ◌⊎◌, inl, inr, refl, ap, sym, ◌∙◌, arith}
 use Rattle.std.specs.Prelude.{filter, map, flat_map, nat_lt}
 use Rattle.std.specs.List.{list_any}
-use Rattle.std.proofs.lemmas.Bool.{true≢false, false_from_ne_true, eqb-true, eqb-false, eq-eqb, ne_eqb, ltb-true, ltb-false, le-ltb, lt-ltb, or_parts, or_from, or_cases, and_parts}
+use Rattle.std.proofs.lemmas.Bool.{true≢false, false_from_ne_true, eqb-true, eqb-false, eq-eqb, ne_eqb, ltb-true, ltb-false, le-ltb, or_parts, or_from, or_cases, and_parts}
 use Rattle.cics_names.specs.Keyed.{Bytes, is_same, is_below}
 use Rattle.cics_names.specs.declared.conditions.Condition.{Condition}
 use Rattle.cics_ksds.specs.Prefixes.{has_prefix}
-use Rattle.cics_enqueue.specs.declared.resources.Resource.{Resource}
 use Rattle.cics_history.specs.State.{OpeningState, UpdateRead, file_recoverable}
 use Rattle.cics_history.specs.Store.{is_normal}
 use Rattle.cics_history.specs.Holding.{held_by_read, record_at}

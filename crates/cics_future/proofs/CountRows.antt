@@ -1,5 +1,5 @@
 -- The counts of a unit, whatever its number is: what ENQ and DEQ do among them.
-use Rattle.std.proofs.Common.{◌≡◌, ℕ, ◌+◌, ◌-◌, ◌==◌, Bool, true, false, not, ◌&&◌, ◌||◌, cond, List, [], ◌∷◌, refl, ap, sym, ◌∙◌, ⊎_elim}
+use Rattle.std.proofs.Common.{◌≡◌, ℕ, ◌+◌, ◌-◌, ◌==◌, Bool, true, false, not, ◌&&◌, cond, List, [], ◌∷◌, refl, ap, sym, ◌∙◌}
 use Rattle.std.specs.Prelude.{filter, map, flat_map, nat_lt}
 use Rattle.std.specs.List.{list_any}
 use Rattle.std.specs.Ordering.{is_lt, ordering_reverse}
@@ -133,9 +133,11 @@ by_value-uncounted u v (c ∷ cs) order = by (by_value-uncounted u v cs order.1)
     by : AreByValue (uncounted cs u v) → (is more : Bool) → AreByValue (uncounted_if u v c cs is more)
     by rest true true = order
     by rest true false = order.1
-    by rest false more =
-        (false_from_ne_true (list_any (λ x. is_below x.value c.value) (uncounted cs u v))
-        (λ t. true≢false (sym (any_uncounted (λ n value. is_below value c.value) u v cs t) ∙ order.0)), rest)
+    by rest false more = (
+      false_from_ne_true (list_any (λ x. is_below x.value c.value) (uncounted cs u v))
+          (λ t. true≢false (sym (any_uncounted (λ n value. is_below value c.value) u v cs t) ∙ order.0)),
+      rest,
+    )
 
 -- ---- ENQ
 
