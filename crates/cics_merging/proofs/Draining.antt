@@ -1,11 +1,7 @@
 -- A step of draining in two regions that have the same future.
-use Rattle.std.proofs.Common.{◌≡◌, Option, None, Some, refl, ap, sym, ◌∙◌, subst}
-use Rattle.cics_names.specs.Keyed.{Bytes}
+use Rattle.std.proofs.Common.{Option, None, Some, refl, subst}
 use Rattle.cics_dispatch.specs.Machine.{Machine}
-use Rattle.cics_dispatch.specs.Steps.{Stepped}
 use Rattle.cics_dispatch.specs.Waking.{woken, expired}
-use Rattle.cics_dispatch.specs.declared.outcomes.Outcome.{Outcome}
-use Rattle.cics_dispatch.specs.declared.outcomes.Outcome.TheVariants.{Abended}
 use Rattle.cics_dispatch.specs.declared.outcomes.Woken.{Woken}
 use Rattle.cics_dispatch.specs.declared.outcomes.Expired.{Expired}
 use Rattle.cics_future.specs.Futures.{HaveSameFuture, AreSameSteps}

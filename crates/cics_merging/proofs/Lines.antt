@@ -1,6 +1,6 @@
 -- States that may be taken for one stay so after each line.
-use Rattle.std.proofs.Common.{◌≡◌, ℕ, zero, suc, ◌+◌, Bool, true, false, not, ◌&&◌, ◌||◌, List, [], ◌∷◌, map, length, Option, None, Some, Result, Ok, Err, refl, ap, sym, ◌∙◌, subst}
-use Rattle.std.specs.Prelude.{if◌then◌else◌, option_map, is_some, is_none, slice_get, slice_set, drop}
+use Rattle.std.proofs.Common.{◌≡◌, ℕ, zero, suc, Bool, not, ◌&&◌, ◌||◌, List, [], ◌∷◌, map, length, Option, None, Some, Result, Ok, Err, refl, ap, sym, ◌∙◌, subst}
+use Rattle.std.specs.Prelude.{if◌then◌else◌, option_map, is_some, is_none, slice_get, drop}
 use Rattle.std.proofs.lemmas.List.{drop-map}
 use Rattle.std.proofs.lemmas.Option.{slice_get-map}
 use Rattle.cics_names.specs.Keyed.{Bytes}
@@ -9,18 +9,17 @@ use Rattle.cics_dispatch.specs.Machine.{Machine}
 use Rattle.cics_dispatch.specs.Steps.{Stepped, issued}
 use Rattle.cics_dispatch.specs.Waking.{clock_set}
 use Rattle.cics_dispatch.specs.Shutdown.{shut_down}
-use Rattle.cics_dispatch.specs.Blockers.{waiting_command}
 use Rattle.cics_dispatch.specs.declared.outcomes.Outcome.{Outcome}
 use Rattle.cics_dispatch.specs.declared.outcomes.Refused.{Refused}
 use Rattle.cics_script.specs.Lines.{line}
 use Rattle.cics_script.specs.declared.lines.Line.{Line}
 use Rattle.cics_script.specs.declared.lines.Line.TheVariants as says
 use Rattle.cics_script.specs.declared.faults.LineFault.{LineFault}
-use Rattle.cics_lanes.specs.Orders.{Order, after, orders, led_by, led_by_any, numbered, numbered_from}
+use Rattle.cics_lanes.specs.Orders.{Order, after, orders, led_by, led_by_any, numbered}
 use Rattle.cics_plans.specs.Taking.{NumberedLine}
 use Rattle.cics_future.specs.Futures.{HaveSameFuture, AreSameSteps}
 use Rattle.cics_future.proofs.Events.{down_same, issued_same, clock_same, shut_same, command_same}
-use Rattle.cics_orders.specs.Giving.{State, hearing, shut, issuing, timing, shutting, left_by, after_line, drain_step, told_by, drained_once, after_step, drained_within, drained, is_ready, may_give, givers, ends_turn, is_lane, with_given, counted, given_line, given_by, given, lanes}
+use Rattle.cics_orders.specs.Giving.{State, hearing, shut, issuing, timing, shutting, left_by, after_line, drain_step, told_by, drained_once, after_step, drained_within, drained, is_ready, may_give, givers, ends_turn, is_lane, counted, given_line, given_by, given, lanes}
 use Rattle.cics_orders.specs.declared.lanes.Lane.{Lane}
 use Rattle.cics_merging.specs.Merging.{as_told, AreMergeable}
 use Rattle.cics_merging.proofs.Draining.{drains_same}

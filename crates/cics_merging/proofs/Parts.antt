@@ -1,8 +1,7 @@
 -- States that may be taken for one are told in the same parts.
-use Rattle.std.proofs.Common.{◌≡◌, ℕ, zero, suc, ◌+◌, ◌-◌, Bool, true, false, cond, List, [], ◌∷◌, ◌++◌, map, length, Option, None, Some, refl, ap, sym, ◌∙◌}
+use Rattle.std.proofs.Common.{◌≡◌, ℕ, zero, suc, ◌-◌, Bool, true, false, List, [], ◌∷◌, ◌++◌, map, length, Option, None, Some, refl, ap, sym, ◌∙◌}
 use Rattle.std.specs.Prelude.{if◌then◌else◌, option_map, option_and_then, is_some, nat_lt, slice_get, codes, flat_map, filter_map}
 use Rattle.std.proofs.lemmas.List.{length-map}
-use Rattle.std.proofs.lemmas.Option.{slice_get-map}
 use Rattle.cics_names.specs.Keyed.{Bytes, is_same}
 use Rattle.cics_names.specs.declared.commands.Command.{Command}
 use Rattle.cics_history.specs.Holding.{store_of}
@@ -26,7 +25,7 @@ use Rattle.cics_future.proofs.Partners.{zeroed}
 use Rattle.cics_future.proofs.Stepping.{same_store_now}
 use Rattle.cics_orders.specs.Giving.{State}
 use Rattle.cics_orders.specs.declared.lanes.Lane.{Lane}
-use Rattle.cics_merging.specs.Merging.{end_in, told_if, as_told, AreMergeable}
+use Rattle.cics_merging.specs.Merging.{end_in, as_told, AreMergeable}
 
 -- ---- What regions tell
 

@@ -1,15 +1,15 @@
 -- Each state that an order leads to is one in which every step keeps open units apart.
-use Rattle.std.proofs.Common.{◌≡◌, ℕ, Bool, true, false, cond, List, [], ◌∷◌, ◌++◌, map, Option, None, Some, Result, Ok, Err, refl, ap, sym, ◌∙◌, subst}
-use Rattle.std.specs.Prelude.{if◌then◌else◌, option_map}
+use Rattle.std.proofs.Common.{◌≡◌, Bool, true, false, cond, List, [], ◌∷◌, ◌++◌, map, Option, None, Some, Result, Ok, Err, refl, ap, sym, ◌∙◌}
+use Rattle.std.specs.Prelude.{option_map}
 use Rattle.std.specs.List.{fold}
 use Rattle.cics_names.specs.Keyed.{Bytes, Map, is_same, value_at, with_value, is_rising}
 use Rattle.cics_names.specs.KeyedLaws.{value_at-with_value}
 use Rattle.cics_ksds.specs.Files.{key_of}
 use Rattle.cics_history.specs.State.{OpeningState, FileOpening, QueueOpening}
-use Rattle.cics_history.specs.Openings.{nothing_defined, with_file, with_prefix, with_queue, with_record, with_td_record, loaded_file, is_in_order, IsOpeningInOrder}
+use Rattle.cics_history.specs.Openings.{nothing_defined, with_record, with_td_record, loaded_file, is_in_order, IsOpeningInOrder}
 use Rattle.cics_history.proofs.Maps.{rising-with_value}
 use Rattle.cics_dispatch.specs.Machine.{Machine, beginning_region}
-use Rattle.cics_dispatch.specs.Steps.{Stepped, attached}
+use Rattle.cics_dispatch.specs.Steps.{attached}
 use Rattle.cics_dispatch.specs.declared.outcomes.Refused.{Refused}
 use Rattle.cics_script.specs.Lines.{line}
 use Rattle.cics_script.specs.declared.lines.Line.{Line}
@@ -20,12 +20,11 @@ use Rattle.cics_plans.specs.Defining.{defined_by}
 use Rattle.cics_plans.specs.Taking.{NumberedLine}
 use Rattle.cics_plans.specs.declared.plans.Plan.{Plan}
 use Rattle.cics_plans.specs.declared.plans.TaskPlan.{TaskPlan}
-use Rattle.cics_future.specs.Futures.{IsSteady, HaveSameFuture, AreSameSteps}
+use Rattle.cics_future.specs.Futures.{HaveSameFuture, AreSameSteps}
 use Rattle.cics_future.specs.Compared.{LookAlike}
 use Rattle.cics_future.proofs.Comparing.{looks_same}
 use Rattle.cics_future.proofs.Events.{same_begins, down_same, attached_same}
-use Rattle.cics_orders.specs.Giving.{State, attaching, lanes, defined_more, opened, unless_refused, with_task, initial_machine, initial_lanes, initial_state}
-use Rattle.cics_orders.specs.declared.lanes.Lane.{Lane}
+use Rattle.cics_orders.specs.Giving.{attaching, lanes, defined_more, opened, unless_refused, with_task, initial_state}
 use Rattle.cics_merging.specs.Merging.{as_told, AreMergeable}
 use Rattle.cics_merging.proofs.Lines.{after_same}
 
