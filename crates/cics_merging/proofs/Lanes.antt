@@ -1,5 +1,5 @@
 -- Lanes that are told the same stay so.
-use Rattle.std.proofs.Common.{◌≡◌, ℕ, zero, suc, ◌-◌, Bool, true, false, cond, List, [], ◌∷◌, ◌++◌, map, length, Some, refl, ap, sym, ◌∙◌, arith}
+use Rattle.std.proofs.Common.{◌&&◌, ◌≡◌, ℕ, zero, suc, ◌-◌, Bool, true, false, cond, List, [], ◌∷◌, ◌++◌, map, length, Some, refl, ap, sym, ◌∙◌, arith}
 use Rattle.std.specs.Prelude.{if◌then◌else◌, slice_get, slice_set}
 use Rattle.std.proofs.lemmas.List.{length-append}
 use Rattle.std.proofs.lemmas.Bool.{eq-eqb}
@@ -9,7 +9,7 @@ use Rattle.cics_dispatch.specs.declared.outcomes.Outcome.TheVariants.{Replied, W
 use Rattle.cics_dispatch.proofs.Elements.{get-pushed}
 use Rattle.cics_orders.specs.Giving.{is_of, is_last, told_more, with_told, hearing, shut, with_given}
 use Rattle.cics_orders.specs.declared.lanes.Lane.{Lane}
-use Rattle.cics_merging.specs.Merging.{end_in, told_if, as_told}
+use Rattle.cics_merging.specs.Merging.{end_in, told_if, Compared, as_told}
 
 -- what is told after one outcome more depends on what was told, and on that
 pub told_push : (b : Bool) (xs ys : List Outcome) (o : Outcome) → told_if b xs ≡ told_if b ys → told_if b (xs ++ o ∷ []) ≡ told_if b (ys ++ o ∷ [])
@@ -21,15 +21,11 @@ told_push false xs ys o same = ap end_in (last xs ∙ sym (last ys))
         let at : length (zs ++ o ∷ []) - 1 ≡ length zs = omega (arith, length-append zs (o ∷ [])) in
         ap (slice_get (zs ++ o ∷ [])) at ∙ (get-pushed zs o (length zs) ∙ ap (λ c. cond c (Some o) (slice_get zs (length zs))) (eq-eqb (length zs) (length zs) refl))
 
-module _ (b : Bool) where
-  -- a lane with other parts, told as before
-  abbrev put : Lane → List Outcome → Lane
-  put lane told = record lane { told = told }
-
+module _ (b : Compared) where
   more_same : (x y : Lane) (o : Outcome) → as_told b x ≡ as_told b y → as_told b (told_more x o) ≡ as_told b (told_more y o)
   more_same x y o same =
-      ap (λ (z : Lane). record z { told = told_if b (x.told ++ o ∷ []); has_ended = is_last o }) same
-      ∙ ap (λ l. record (as_told b y) { told = l; has_ended = is_last o }) (told_push b x.told y.told o (ap (λ (z : Lane). z.told) same))
+      ap (λ (z : Lane). record z { told = told_if b.told (x.told ++ o ∷ []); has_ended = is_last o }) same
+      ∙ ap (λ l. record (as_told b y) { told = l; has_ended = is_last o }) (told_push b.told x.told y.told o (ap (λ (z : Lane). z.told) same))
 
   of_same : (x y : Lane) (label : Bytes) → as_told b x ≡ as_told b y → is_of x label ≡ is_of y label
   of_same x y label same = ap (λ (z : Lane). is_of z label) same
@@ -74,4 +70,4 @@ module _ (b : Bool) where
   given_same xs ys l x y ends same one =
       set_told xs l (with_given x ends)
       ∙ (ap (λ r. slice_set r l (as_told b (with_given x ends))) same
-      ∙ (ap (slice_set (map (as_told b) ys) l) (ap (λ (z : Lane). with_given z ends) one) ∙ sym (set_told ys l (with_given y ends))))
+      ∙ (ap (slice_set (map (as_told b) ys) l) (ap (λ (z : Lane). record (with_given z ends) { is_in_turn = b.turns && (with_given z ends).is_in_turn }) one) ∙ sym (set_told ys l (with_given y ends))))

@@ -1,5 +1,5 @@
 -- States that may be taken for one stay so after each line.
-use Rattle.std.proofs.Common.{◌≡◌, ℕ, zero, suc, Bool, not, ◌&&◌, ◌||◌, List, [], ◌∷◌, map, length, Option, None, Some, Result, Ok, Err, refl, ap, sym, ◌∙◌, subst}
+use Rattle.std.proofs.Common.{true, ◌≡◌, ℕ, zero, suc, Bool, not, ◌&&◌, ◌||◌, List, [], ◌∷◌, map, length, Option, None, Some, Result, Ok, Err, refl, ap, sym, ◌∙◌, subst}
 use Rattle.std.specs.Prelude.{if◌then◌else◌, option_map, is_some, is_none, slice_get, drop}
 use Rattle.std.proofs.lemmas.List.{drop-map}
 use Rattle.std.proofs.lemmas.Option.{slice_get-map}
@@ -21,7 +21,7 @@ use Rattle.cics_future.specs.Futures.{HaveSameFuture, AreSameSteps}
 use Rattle.cics_future.proofs.Events.{down_same, issued_same, clock_same, shut_same, command_same}
 use Rattle.cics_orders.specs.Giving.{State, hearing, shut, issuing, timing, shutting, left_by, after_line, drain_step, told_by, drained_once, after_step, drained_within, drained, is_ready, may_give, givers, ends_turn, is_lane, counted, given_line, given_by, given, lanes}
 use Rattle.cics_orders.specs.declared.lanes.Lane.{Lane}
-use Rattle.cics_merging.specs.Merging.{as_told, AreMergeable}
+use Rattle.cics_merging.specs.Merging.{Compared, as_told, AreMergeable}
 use Rattle.cics_merging.proofs.Draining.{drains_same}
 use Rattle.cics_merging.proofs.Lanes as lane
 
@@ -39,7 +39,7 @@ shutting_same : (m n : Machine) → HaveSameFuture m n → AreSameSteps (shuttin
 unfolding shutting
 shutting_same m n same = down_same m n same (shut_down m) (shut_down n) (shut_same m n same)
 
-module _ (b : Bool) where
+module _ (b : Compared) where
   -- other machines and lanes
   put : (s t : State) → AreMergeable b s t → (m n : Machine) → HaveSameFuture m n → (xs ys : List Lane) → map (as_told b) xs ≡ map (as_told b) ys →
       AreMergeable b (record s { machine = m; lanes = xs }) (record t { machine = n; lanes = ys })
@@ -111,11 +111,14 @@ module _ (b : Bool) where
   counted_same s t l x y ends same one = record {
     machine = same.machine;
     lanes = lane.given_same b s.lanes t.lanes l x y ends same.lanes one;
-    last = ap (λ (z : Lane). if is_some z.label then Some l else s.last) one ∙ ap (λ o. if is_some y.label then Some l else o) same.last;
-    serial =
-        ap (λ c. c && (not x.is_in_turn || is_lane s.last l)) same.serial
-        ∙ (ap (λ (z : Lane). t.is_serial && (not z.is_in_turn || is_lane s.last l)) one ∙ ap (λ o. t.is_serial && (not y.is_in_turn || is_lane o l)) same.last);
+    last = λ on. ap (λ (z : Lane). if is_some z.label then Some l else s.last) one ∙ ap (λ o. if is_some y.label then Some l else o) (same.last on);
+    serial = λ on.
+        ap (λ c. c && (not x.is_in_turn || is_lane s.last l)) (same.serial on)
+        ∙ (ap (λ c. t.is_serial && (not c || is_lane s.last l)) (turn on) ∙ ap (λ o. t.is_serial && (not y.is_in_turn || is_lane o l)) (same.last on));
   }
+    where
+      turn : b.turns ≡ true → x.is_in_turn ≡ y.is_in_turn
+      turn on = ap (λ c. c && x.is_in_turn) (sym on) ∙ (ap (λ (z : Lane). z.is_in_turn) one ∙ ap (λ c. c && y.is_in_turn) on)
 
   pub given_same : (s t : State) (l : ℕ) → AreMergeable b s t → AreMergeable b (given s l) (given t l)
   unfolding given

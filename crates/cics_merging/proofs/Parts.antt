@@ -1,5 +1,5 @@
 -- States that may be taken for one are told in the same parts.
-use Rattle.std.proofs.Common.{◌≡◌, ℕ, zero, suc, ◌-◌, Bool, true, false, List, [], ◌∷◌, ◌++◌, map, length, Option, None, Some, refl, ap, sym, ◌∙◌}
+use Rattle.std.proofs.Common.{◌&&◌, ◌≡◌, ℕ, zero, suc, ◌-◌, Bool, true, false, List, [], ◌∷◌, ◌++◌, map, length, Option, None, Some, refl, ap, sym, ◌∙◌}
 use Rattle.std.specs.Prelude.{if◌then◌else◌, option_map, option_and_then, is_some, nat_lt, slice_get, codes, flat_map, filter_map}
 use Rattle.std.proofs.lemmas.List.{length-map}
 use Rattle.cics_names.specs.Keyed.{Bytes, is_same}
@@ -25,7 +25,7 @@ use Rattle.cics_future.proofs.Partners.{zeroed}
 use Rattle.cics_future.proofs.Stepping.{same_store_now}
 use Rattle.cics_orders.specs.Giving.{State}
 use Rattle.cics_orders.specs.declared.lanes.Lane.{Lane}
-use Rattle.cics_merging.specs.Merging.{end_in, as_told, AreMergeable}
+use Rattle.cics_merging.specs.Merging.{end_in, told_if, Compared, as_told, AreMergeable}
 
 -- ---- What regions tell
 
@@ -112,35 +112,51 @@ end_same (Some (Waiting holder)) = refl
 end_same (Some (Abended code reply)) = refl
 end_same (Some Ended) = refl
 
+-- a lane without what its task was told but its end, or with it
+abbrev with_told : Bool → Lane → Lane
+with_told b lane = record lane { told = told_if b lane.told }
+
+-- a lane within a turn, or not
+abbrev turned : Lane → Bool → Lane
+turned lane turn = record lane { is_in_turn = turn }
+
+-- whether it is within a turn isn't told
+turned_lane : (b : Bool) (m : Machine) (lane : Lane) (turn : Bool) → lane_parts m b lane ≡ lane_parts m b (turned lane turn)
+turned_lane b m lane turn = refl
+
 -- without what it was told but its end
-bare_lane : (m : Machine) (lane : Lane) → lane_parts m false (as_told false lane) ≡ lane_parts m false lane
+bare_lane : (m : Machine) (lane : Lane) → lane_parts m false (with_told false lane) ≡ lane_parts m false lane
 bare_lane m lane = by lane.label
   where
     of_label : Lane → Option Bytes → List Bytes
     of_label k None = []
     of_label k (Some label) = task_text m label k ∷ []
 
-    by : (o : Option Bytes) → of_label (as_told false lane) o ≡ of_label lane o
+    by : (o : Option Bytes) → of_label (with_told false lane) o ≡ of_label lane o
     by None = refl
     by (Some label) =
         ap (λ l. (codes "TASK " ++ (bare label ++ ((if lane.has_ended then l else stand_text m label (slice_get lane.lines (lane.given - 1)) (waiting_command m label)) ++ codes "\n"))) ∷ [])
         (end_same (slice_get lane.told (length lane.told - 1)))
 
-told_same : (b : Bool) (m : Machine) (x y : Lane) → as_told b x ≡ as_told b y → lane_parts m b x ≡ lane_parts m b y
+told_same : (b : Bool) (m : Machine) (x y : Lane) → with_told b x ≡ with_told b y → lane_parts m b x ≡ lane_parts m b y
 told_same true m x y same = ap (lane_parts m true) same
 told_same false m x y same = sym (bare_lane m x) ∙ (ap (lane_parts m false) same ∙ bare_lane m y)
 
-lanes_same : (b : Bool) (m n : Machine) → HaveSameFuture m n → (xs ys : List Lane) → map (as_told b) xs ≡ map (as_told b) ys → flat_map (lane_parts m b) xs ≡ flat_map (lane_parts n b) ys
+lanes_same : (b : Compared) (m n : Machine) → HaveSameFuture m n → (xs ys : List Lane) → map (as_told b) xs ≡ map (as_told b) ys → flat_map (lane_parts m b.told) xs ≡ flat_map (lane_parts n b.told) ys
 lanes_same b m n same [] [] told = refl
 lanes_same b m n same [] (y ∷ ys) told = cc
 lanes_same b m n same (x ∷ xs) [] told = cc
 lanes_same b m n same (x ∷ xs) (y ∷ ys) told =
     let one : as_told b x ≡ as_told b y = cc in
     let rest : map (as_told b) xs ≡ map (as_told b) ys = cc in
-    ap (λ l. l ++ flat_map (lane_parts m b) xs) (lane_same m n same b x ∙ told_same b n x y one) ∙ ap (λ l. lane_parts n b y ++ l) (lanes_same b m n same xs ys rest)
+    ap (λ l. l ++ flat_map (lane_parts m b.told) xs)
+    (lane_same m n same b.told x
+    ∙ (turned_lane b.told n x (b.turns && x.is_in_turn)
+    ∙ (told_same b.told n (turned x (b.turns && x.is_in_turn)) (turned y (b.turns && y.is_in_turn)) one ∙ sym (turned_lane b.told n y (b.turns && y.is_in_turn)))))
+    ∙ ap (λ l. lane_parts n b.told y ++ l) (lanes_same b m n same xs ys rest)
 
-pub parts_same : (b : Bool) (s t : State) → AreMergeable b s t → parts_of s.machine b s.lanes ≡ parts_of t.machine b t.lanes
+pub parts_same : (b : Compared) (s t : State) → AreMergeable b s t → parts_of s.machine b.told s.lanes ≡ parts_of t.machine b.told t.lanes
 parts_same b s t same =
-    ap (λ d. mark (nat_lt 0 (length d)) ∷ (blocks s.machine ++ flat_map (lane_parts s.machine b) s.lanes)) (deadlocks_same s.machine t.machine same.machine)
-    ∙ (ap (λ l. mark (is_deadlocked t.machine) ∷ (l ++ flat_map (lane_parts s.machine b) s.lanes)) (texts_same s.machine t.machine same.machine)
+    ap (λ d. mark (nat_lt 0 (length d)) ∷ (blocks s.machine ++ flat_map (lane_parts s.machine b.told) s.lanes)) (deadlocks_same s.machine t.machine same.machine)
+    ∙ (ap (λ l. mark (is_deadlocked t.machine) ∷ (l ++ flat_map (lane_parts s.machine b.told) s.lanes)) (texts_same s.machine t.machine same.machine)
     ∙ ap (λ l. mark (is_deadlocked t.machine) ∷ (blocks t.machine ++ l)) (lanes_same b s.machine t.machine same.machine s.lanes t.lanes same.lanes))

@@ -25,7 +25,7 @@ use Rattle.cics_future.specs.Compared.{LookAlike}
 use Rattle.cics_future.proofs.Comparing.{looks_same}
 use Rattle.cics_future.proofs.Events.{same_begins, down_same, attached_same}
 use Rattle.cics_orders.specs.Giving.{attaching, lanes, defined_more, opened, unless_refused, with_task, initial_state}
-use Rattle.cics_merging.specs.Merging.{as_told, AreMergeable}
+use Rattle.cics_merging.specs.Merging.{Compared, as_told, AreMergeable}
 use Rattle.cics_merging.proofs.Lines.{after_same}
 
 -- ---- What is defined is in order
@@ -114,20 +114,21 @@ all_attached m (t ∷ ts) same = all_attached (with_task m t) ts (attaches_same 
 none_in_order : IsOpeningInOrder nothing_defined
 none_in_order = record { files = refl; records = λ f. refl; queues = refl }
 
-start_same : (b : Bool) (p : Plan) → AreMergeable b (initial_state p) (initial_state p)
+start_same : (b : Compared) (p : Plan) → AreMergeable b (initial_state p) (initial_state p)
 unfolding initial_state
 start_same b p = record {
   machine = all_attached (beginning_region (opened p.definitions)) p.tasks (same_begins (opened p.definitions) (more_in_order nothing_defined p.definitions none_in_order));
   lanes = refl;
-  last = refl;
-  serial = refl;
+  last = λ on. refl;
+  serial = λ on. refl;
 }
 
 -- ---- States that look alike
 
-pub looks_merge : (b : Bool) (p : Plan) (o q : Order) → LookAlike (after lanes (initial_state p) o).machine (after lanes (initial_state p) q).machine →
+pub looks_merge : (b : Compared) (p : Plan) (o q : Order) → LookAlike (after lanes (initial_state p) o).machine (after lanes (initial_state p) q).machine →
     map (as_told b) (after lanes (initial_state p) o).lanes ≡ map (as_told b) (after lanes (initial_state p) q).lanes →
-    (after lanes (initial_state p) o).last ≡ (after lanes (initial_state p) q).last → (after lanes (initial_state p) o).is_serial ≡ (after lanes (initial_state p) q).is_serial →
+    (b.turns ≡ true → (after lanes (initial_state p) o).last ≡ (after lanes (initial_state p) q).last) →
+    (b.turns ≡ true → (after lanes (initial_state p) o).is_serial ≡ (after lanes (initial_state p) q).is_serial) →
     AreMergeable b (after lanes (initial_state p) o) (after lanes (initial_state p) q)
 looks_merge b p o q look told last serial = record {
   machine =

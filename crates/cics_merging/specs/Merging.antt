@@ -1,5 +1,5 @@
 -- Which states of the lanes of a script may be taken for one: from both the same orders lead on, and to the same endings.
-use Rattle.std.specs.Prelude.{◌≡◌, ◌-◌, Bool, true, false, List, [], ◌∷◌, map, length, Option, Some, None, slice_get}
+use Rattle.std.specs.Prelude.{◌≡◌, ◌-◌, Bool, true, false, ◌&&◌, List, [], ◌∷◌, map, length, Option, Some, None, slice_get}
 use Rattle.cics_dispatch.specs.declared.outcomes.Outcome.{Outcome}
 use Rattle.cics_dispatch.specs.declared.outcomes.Outcome.TheVariants.{Abended, Ended}
 use Rattle.cics_future.specs.Futures.{HaveSameFuture}
@@ -17,13 +17,19 @@ abbrev pub told_if : Bool → List Outcome → List Outcome
 told_if true told = told
 told_if false told = end_in (slice_get told (length told - 1))
 
--- a lane as endings tell it
-abbrev pub as_told : Bool → Lane → Lane
-as_told with_told lane = record lane { told = told_if with_told lane.told }
+-- What is compared of states beside their regions: all that tasks were told, or how they ended alone; and whose turn it is, or
+-- not. Turns are needed where serial orders are counted.
+pub record Compared : Type 0 where
+  pub told : Bool
+  pub turns : Bool
+
+-- a lane as it is compared
+abbrev pub as_told : Compared → Lane → Lane
+as_told b lane = record lane { told = told_if b.told lane.told; is_in_turn = b.turns && lane.is_in_turn }
 
 -- two states may be taken for one
-pub record AreMergeable (with_told : Bool) (s t : State) : Type 0 where
+pub record AreMergeable (b : Compared) (s t : State) : Type 0 where
   pub machine : HaveSameFuture s.machine t.machine
-  pub lanes : map (as_told with_told) s.lanes ≡ map (as_told with_told) t.lanes
-  pub last : s.last ≡ t.last
-  pub serial : s.is_serial ≡ t.is_serial
+  pub lanes : map (as_told b) s.lanes ≡ map (as_told b) t.lanes
+  pub last : b.turns ≡ true → s.last ≡ t.last
+  pub serial : b.turns ≡ true → s.is_serial ≡ t.is_serial

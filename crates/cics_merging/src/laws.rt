@@ -2,13 +2,13 @@
 //!
 //! The contract of each function is a law, and its body is empty.
 
-ghost use Rattle.std.specs.Prelude.{◌≡◌, ℕ, Bool, map};
+ghost use Rattle.std.specs.Prelude.{◌≡◌, ℕ, true, map};
 ghost use Rattle.cics_lanes.specs.Orders.{Order, after, orders};
 ghost use Rattle.cics_orders.specs.Giving.{State, givers, given, lanes, initial_state};
 ghost use Rattle.cics_plans.specs.declared.plans.Plan.{Plan};
 ghost use Rattle.cics_future.specs.Compared.{LookAlike};
 ghost use Rattle.cics_endings.specs.Telling.{parts_of};
-ghost use Rattle.cics_merging.specs.Merging.{as_told, AreMergeable};
+ghost use Rattle.cics_merging.specs.Merging.{Compared, as_told, AreMergeable};
 
 /// From two states that may be taken for one the same orders lead on, and to the same endings.
 ///
@@ -16,27 +16,28 @@ ghost use Rattle.cics_merging.specs.Merging.{as_told, AreMergeable};
 ///   one again.
 /// - `orders`: so the orders are the same.
 /// - `parts`: each order leads to the same ending.
-/// - `serial`: and is serial after the one exactly if it is after the other.
+/// - `serial`: if turns are compared, it is serial after the one exactly if it is after the other.
 pub fn merged_states_go_on_alike()
-    ensures givers { (b : Bool) (s t : State) (from : ℕ) → AreMergeable b s t →
+    ensures givers { (b : Compared) (s t : State) (from : ℕ) → AreMergeable b s t →
         givers s from ≡ givers t from }
-    ensures given { (b : Bool) (s t : State) (l : ℕ) → AreMergeable b s t →
+    ensures given { (b : Compared) (s t : State) (l : ℕ) → AreMergeable b s t →
         AreMergeable b (given s l) (given t l) }
-    ensures orders { (b : Bool) (s t : State) (n : ℕ) → AreMergeable b s t →
+    ensures orders { (b : Compared) (s t : State) (n : ℕ) → AreMergeable b s t →
         orders lanes n s ≡ orders lanes n t }
-    ensures parts { (b : Bool) (s t : State) (o : Order) → AreMergeable b s t →
-        parts_of (after lanes s o).machine b (after lanes s o).lanes
-        ≡ parts_of (after lanes t o).machine b (after lanes t o).lanes }
-    ensures serial { (b : Bool) (s t : State) (o : Order) → AreMergeable b s t →
-        (after lanes s o).is_serial ≡ (after lanes t o).is_serial }
+    ensures parts { (b : Compared) (s t : State) (o : Order) → AreMergeable b s t →
+        parts_of (after lanes s o).machine b.told (after lanes s o).lanes
+        ≡ parts_of (after lanes t o).machine b.told (after lanes t o).lanes }
+    ensures serial { (b : Compared) (s t : State) (o : Order) → AreMergeable b s t →
+        b.turns ≡ true → (after lanes s o).is_serial ≡ (after lanes t o).is_serial }
 {}
 
 /// Two states of one script may be taken for one if their regions look alike, and their lanes are
 /// told the same.
 pub fn states_that_look_alike_merge()
-    ensures { (b : Bool) (p : Plan) (o q : Order) →
+    ensures { (b : Compared) (p : Plan) (o q : Order) →
         let s = after lanes (initial_state p) o in
         let t = after lanes (initial_state p) q in
         LookAlike s.machine t.machine → map (as_told b) s.lanes ≡ map (as_told b) t.lanes →
-        s.last ≡ t.last → s.is_serial ≡ t.is_serial → AreMergeable b s t }
+        (b.turns ≡ true → s.last ≡ t.last) → (b.turns ≡ true → s.is_serial ≡ t.is_serial) →
+        AreMergeable b s t }
 {}
