@@ -3,3 +3,4 @@ pub mod Lanes
 pub mod Lines
 pub mod Parts
 pub mod Starting
+pub mod Tables

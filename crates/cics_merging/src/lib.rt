@@ -5,4 +5,4 @@
 
 mod laws;
 
-pub use laws::{merged_states_go_on_alike, states_that_look_alike_merge};
+pub use laws::{merged_states_go_on_alike, states_that_look_alike_merge, tables_join};
