@@ -11,3 +11,4 @@ pub mod Answering
 pub mod Meeting
 pub mod Events
 pub mod Comparing
+mod Rows
