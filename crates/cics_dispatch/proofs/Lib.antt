@@ -39,3 +39,6 @@ pub mod FirstWaits
 pub mod LesserKeys
 pub mod Deadlines
 pub mod Blockers
+pub mod Pairs
+pub mod Grouped
+pub mod Indexed

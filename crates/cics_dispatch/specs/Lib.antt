@@ -24,3 +24,5 @@ pub mod Filed
 pub mod Firsts
 pub mod Deadlines
 pub mod Blockers
+pub mod WaitGroups
+pub mod WaitIndex

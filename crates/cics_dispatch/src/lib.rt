@@ -18,6 +18,8 @@ mod replies;
 mod task;
 mod tasks;
 mod updates;
+mod wait_groups;
+mod wait_index;
 mod waits;
 
 pub use cics_names::{Command, Verb};
