@@ -9,8 +9,6 @@ mod browses;
 mod checks;
 mod dispatcher;
 mod faults;
-mod firsts;
-mod notes;
 mod outcomes;
 mod reads;
 mod regions;

@@ -28,6 +28,24 @@ pub(crate) struct WaitEntry {
     pub(crate) until: u64,
 }
 
+/// What a look at a waiting command finds.
+#[derive(Clone, Copy)]
+pub(crate) enum Look {
+    /// It needn't wait any more.
+    MayGoOn,
+    /// It has to wait as long as this unit releases nothing.
+    IsBlocked(UnitId),
+}
+
+/// A waiting command that needn't wait any more.
+#[derive(Clone, Copy)]
+pub(crate) struct Runnable {
+    /// The label of its task.
+    pub(crate) label: Name8,
+    /// The number of its wait, if the index has it.
+    pub(crate) number: Option<u64>,
+}
+
 /// A command that has to be looked at.
 #[derive(Clone, Copy)]
 pub(crate) struct OpenWait {
