@@ -105,6 +105,7 @@ fn tell_fault(rt: HostRuntime, mut script: &[u8]) {
     if let Ok(status) = run_over(&mut session, &mut script, &mut journal, JOURNAL) {
         tell(rt, &session, status);
     }
+    mem::forget(session);
 }
 
 // Says on standard error what a run leaves a person to know: what its faulty line needs, or its
