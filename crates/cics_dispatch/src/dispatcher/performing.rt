@@ -61,7 +61,7 @@ impl Dispatcher {
             (going_on self.old.machine command None) result self.new }
         ensures growing { OnErr result (IsTrue (is_growing command.verb)) }
     {
-        let Command { verb, resp } = command;
+        let (verb, resp) = command.into_parts();
         match verb {
             Verb::Read {
                 file,
@@ -110,7 +110,7 @@ impl Dispatcher {
         if let Verb::Enq { .. } = &command.verb {
             return self.enqueue(at, command);
         }
-        let Command { verb, resp } = command;
+        let (verb, resp) = command.into_parts();
         match verb {
             Verb::ReadqTs {
                 queue,
