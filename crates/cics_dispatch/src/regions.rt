@@ -45,7 +45,6 @@ use std::marker::Model;
 /// began to wait since the last look, or whose blocker may have released something since. Commands
 /// that use the same record, prefix, queue name, end of a queue or value, and nothing else, are a
 /// wait group. Of a group `wake` looks no further than the first that must wait.
-#[derive(Drop)]
 pub struct Region {
     dispatcher: Dispatcher,
     // What is known of the waiting commands, up to those that began to wait since the last `wake`.
@@ -54,6 +53,18 @@ pub struct Region {
     is_settled: bool,
     // Whether it is known that no task has waited too long yet.
     is_in_time: bool,
+}
+
+// By hand: a derived drop is taken apart wherever a region is dropped.
+impl Drop for Region {
+    fn drop(self) {
+        let Region {
+            dispatcher: _dispatcher,
+            notes: _notes,
+            is_settled: _is_settled,
+            is_in_time: _is_in_time,
+        } = self;
+    }
 }
 
 impl Model for Region {

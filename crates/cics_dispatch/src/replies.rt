@@ -13,9 +13,7 @@ use cics_units::Answer;
 fn first_bytes(content: Record, count: usize) -> Record
     ensures { result ≡ take count content }
 {
-    let mut bytes = content.into_bytes();
-    bytes.truncate(count);
-    Record::new(bytes)
+    content.first(count)
 }
 
 // A reply to a command with this LENGTH: a longer content is LENGERR, with its first bytes.

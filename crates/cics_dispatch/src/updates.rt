@@ -14,7 +14,7 @@ use std::alloc::Global;
 use std::mem::replace;
 
 // Takes the bytes out of a record.
-fn take(alloc: Global, own: &mut Record) -> Record
+pub(crate) fn take(alloc: Global, own: &mut Record) -> Record
     ensures taken { result ≡ own.old }
     ensures left { own.new ≡ [] }
 {

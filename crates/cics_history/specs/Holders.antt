@@ -5,15 +5,14 @@ use Rattle.std.specs.List.{list_any}
 use Rattle.cics_names.specs.Keyed.{Bytes, is_below}
 use Rattle.cics_enqueue.specs.Resources.{is_one}
 use Rattle.cics_enqueue.specs.declared.resources.Resource.{Resource}
-use Rattle.cics_enqueue.specs.declared.resources.Resource.TheVariants.{TdRead as ReadingEnd, TdWrite as WritingEnd}
 use Rattle.cics_history.specs.State.{UnitsState}
-use Rattle.cics_history.specs.Holding.{held_by, conflicts, bytes_in, is_other}
+use Rattle.cics_history.specs.Holding.{end_read_of, end_written_of, held_by, conflicts, bytes_in, is_other}
 use Rattle.cics_history.specs.Cells.{End, Reading, Writing}
 
 -- an end of a transient data queue, as a resource
 abbrev pub end_of : Bytes → End → Resource
-end_of q Reading = ReadingEnd q
-end_of q Writing = WritingEnd q
+end_of q Reading = end_read_of q
+end_of q Writing = end_written_of q
 
 -- a resource among the first conflicts with one among the second
 abbrev pub meet : List Resource → List Resource → Bool

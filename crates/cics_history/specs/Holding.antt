@@ -20,7 +20,7 @@ use Rattle.cics_history.specs.declared.ops.UnitState.{UnitState}
 abbrev pub store_of : UnitsState → Store
 store_of s = replay (initial_store s.opening) (kept s.opening s.trace s.outcomes)
 
--- ---- Resources
+-- ---- Resources: what a unit can own, of six kinds
 
 -- the record of a file under a key, whether it is there or not
 abbrev pub record_at : Bytes → Bytes → Resource
@@ -29,6 +29,18 @@ record_at f k = FileKey f (bytes_of k)
 -- the records of a file under every key that begins with a prefix
 abbrev pub records_under : Bytes → Bytes → Resource
 records_under f p = FilePrefix f (bytes_of p)
+
+-- the name of a temporary storage queue
+abbrev pub queue_named : Bytes → Resource
+queue_named q = TsQueue q
+
+-- the end of a transient data queue at which records are read
+abbrev pub end_read_of : Bytes → Resource
+end_read_of q = ReadingEnd q
+
+-- the end of a transient data queue at which records are written
+abbrev pub end_written_of : Bytes → Resource
+end_written_of q = WritingEnd q
 
 -- a value of a program's own
 abbrev pub own_value : Bytes → Resource
@@ -47,12 +59,12 @@ uses_of o (Rewrite f k r) = record_at f k ∷ []
 uses_of o (Delete f k) = record_at f k ∷ []
 uses_of o (DeleteGeneric f p) = records_under f p ∷ []
 uses_of o (ReadUpdate f k) = record_at f k ∷ []
-uses_of o (TsWrite q d) = named_if (has_prefix_in o.prefixes q) (TsQueue q)
-uses_of o (TsRewrite q n d) = named_if (has_prefix_in o.prefixes q) (TsQueue q)
-uses_of o (TsDelete q) = named_if (has_prefix_in o.prefixes q) (TsQueue q)
-uses_of o (TdWrite q d) = named_if (queue_logical o q) (WritingEnd q)
-uses_of o (TdRead q) = named_if (queue_logical o q) (ReadingEnd q)
-uses_of o (TdDelete q) = named_if (queue_logical o q) (ReadingEnd q) ++ named_if (queue_logical o q) (WritingEnd q)
+uses_of o (TsWrite q d) = named_if (has_prefix_in o.prefixes q) (queue_named q)
+uses_of o (TsRewrite q n d) = named_if (has_prefix_in o.prefixes q) (queue_named q)
+uses_of o (TsDelete q) = named_if (has_prefix_in o.prefixes q) (queue_named q)
+uses_of o (TdWrite q d) = named_if (queue_logical o q) (end_written_of q)
+uses_of o (TdRead q) = named_if (queue_logical o q) (end_read_of q)
+uses_of o (TdDelete q) = named_if (queue_logical o q) (end_read_of q) ++ named_if (queue_logical o q) (end_written_of q)
 
 -- a command answered NORMAL makes its unit hold what it used of a recoverable file or queue
 abbrev pub held_by_entry : OpeningState → ℕ → Entry → List Resource

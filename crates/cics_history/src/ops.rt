@@ -9,7 +9,6 @@ use cics_enqueue::UnitId;
 use cics_names::{Condition, Name4, Name8, NoMemory, Record};
 
 /// An updating command. A key is the one that lies in the record, a record or an item its bytes.
-#[derive(Drop)]
 pub enum Op {
     /// Adds the record of a key that isn't there.
     Write {
@@ -66,6 +65,53 @@ pub enum Op {
     TdDelete {
         queue: Name4,
     },
+}
+
+// By hand: a derived drop is taken apart, with a case for each variant, wherever a command is
+// dropped.
+impl Drop for Op {
+    fn drop(self) {
+        match self {
+            Op::Write {
+                file: _file,
+                key: _key,
+                from: _from,
+            } => {}
+            Op::Rewrite {
+                file: _file,
+                key: _key,
+                from: _from,
+            } => {}
+            Op::Delete {
+                file: _file,
+                key: _key,
+            } => {}
+            Op::DeleteGeneric {
+                file: _file,
+                prefix: _prefix,
+            } => {}
+            Op::ReadUpdate {
+                file: _file,
+                key: _key,
+            } => {}
+            Op::TsWrite {
+                queue: _queue,
+                from: _from,
+            } => {}
+            Op::TsRewrite {
+                queue: _queue,
+                item: _item,
+                from: _from,
+            } => {}
+            Op::TsDelete { queue: _queue } => {}
+            Op::TdWrite {
+                queue: _queue,
+                from: _from,
+            } => {}
+            Op::TdRead { queue: _queue } => {}
+            Op::TdDelete { queue: _queue } => {}
+        }
+    }
 }
 
 impl Op {

@@ -6,3 +6,4 @@ pub mod Conditions
 pub mod Keyed
 pub mod KeyedLaws
 pub mod RisingLaws
+pub mod Records

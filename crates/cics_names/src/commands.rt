@@ -7,7 +7,6 @@ ghost use Rattle.cics_names.specs.Commands.{file_named, length_of};
 use crate::{Name4, Name8, NoMemory, Record};
 
 /// A command, as a task issues it.
-#[derive(Drop)]
 pub struct Command {
     /// What the command asks for.
     pub verb: Verb,
@@ -15,6 +14,26 @@ pub struct Command {
     /// abends the task with its default code, if it has one (chapter on the exceptional
     /// conditions).
     pub resp: bool,
+}
+
+// By hand: a derived drop is taken apart, with a case for each verb, wherever a command is dropped.
+impl Drop for Command {
+    fn drop(self) {
+        let Command {
+            verb: _verb,
+            resp: _resp,
+        } = self;
+    }
+}
+
+impl Command {
+    /// Returns its verb, and whether the task is told each condition.
+    pub fn into_parts(self) -> (Verb, bool)
+        ensures { result ≡ (self.verb, self.resp) }
+    {
+        let Command { verb, resp } = self;
+        (verb, resp)
+    }
 }
 
 /// What a command asks for, with the options that make a difference.

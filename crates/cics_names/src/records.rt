@@ -6,6 +6,9 @@ use std::alloc::{AllocError, AllocFailed, Global};
 use std::cmp::Ordering;
 use std::marker::Model;
 
+// How many bytes a record keeps in itself at most.
+const SHORT: usize = 30;
+
 /// Memory was refused: a growth was asked for and not granted.
 ///
 /// A call that answers it has changed nothing.
@@ -24,84 +27,209 @@ impl<T: Drop> From<AllocFailed<T>> for NoMemory {
     }
 }
 
-/// The bytes of a record, of an item or of a key, as they stand in EBCDIC.
-///
-/// Contracts see the bytes alone. Two records are equal where they have the same bytes, and are
-/// ordered by the first byte that differs, the bytes unsigned, or else by their length.
+// Up to 30 bytes, which lie in the value itself.
 #[derive(Debug, Drop)]
+struct Short {
+    len: u8,
+    bytes: [u8; SHORT],
+}
+
+impl Model for Short {
+    ghost use Rattle.std.specs.Prelude.{ℕ, List, ◌≤◌, take};
+
+    ghost Value = { List ℕ };
+
+    ghost view = { λ s. take s.len s.bytes };
+
+    ghost invariant = { λ s. s.len ≤ 30 };
+}
+
+impl Short {
+    // These bytes.
+    fn new(bytes: &[u8]) -> Short
+        requires { length bytes.now ≤ 30 }
+        ensures { result ≡ bytes.now }
+    {
+        let mut room = [0; SHORT];
+        room[..bytes.len()].copy_from_slice(bytes);
+        Short {
+            len: bytes.len() as u8,
+            bytes: room,
+        }
+    }
+
+    fn as_slice(&self) -> &[u8]
+        ensures bytes { result.now ≡ self.now }
+        ensures fits { length result.now ≤ 30 }
+    {
+        &self.bytes[..usize::from(self.len)]
+    }
+
+    fn copy(&self) -> Short
+        ensures { result ≡ self.now }
+    {
+        let bytes = self.bytes;
+        Short {
+            len: self.len,
+            bytes,
+        }
+    }
+
+    // The first `count` of them.
+    fn first(self, count: usize) -> Short
+        ensures { result ≡ take count self }
+    {
+        if count >= usize::from(self.len) {
+            return self;
+        }
+        let bytes = self.bytes;
+        Short {
+            len: count as u8,
+            bytes,
+        }
+    }
+}
+
+// Where the bytes of a record lie.
+#[derive(Debug, Drop)]
+enum Room {
+    Short(Short),
+    Long(Vec<u8>),
+}
+
+/// The bytes of a record, of an item or of a key, as they stand in EBCDIC. Up to 30 bytes take no
+/// memory.
+///
+/// Contracts see the bytes alone. Two records are equal if they have the same bytes. They are
+/// ordered by the first byte that differs, the bytes unsigned, or else by their length.
+#[derive(Debug)]
 pub struct Record {
-    bytes: Vec<u8>,
+    room: Room,
+}
+
+// By hand: a derived drop is taken apart wherever a record is dropped.
+impl Drop for Record {
+    fn drop(self) {
+        let Record { room: _room } = self;
+    }
 }
 
 impl Model for Record {
     ghost use Rattle.std.specs.Prelude.{ℕ, List};
+    ghost use Rattle.cics_names.specs.Records.{bytes_of};
 
     ghost Value = { List ℕ };
 
-    ghost view = { λ r. r.bytes.items };
+    ghost view = { λ r. bytes_of r.room };
 }
 
 impl Record {
-    /// The record that these bytes are. It takes no memory.
+    /// Returns the record that these bytes are. It takes no memory.
     pub fn new(bytes: Vec<u8>) -> Record
         ensures { result ≡ bytes.items }
     {
-        Record { bytes }
+        if bytes.len() > SHORT {
+            return Record {
+                room: Room::Long(bytes),
+            };
+        }
+        Record::short(bytes.as_slice())
     }
 
-    /// A record with a copy of these bytes. `NoMemory` where `alloc` refuses the memory for them.
+    // A record that keeps its bytes in itself.
+    fn short(bytes: &[u8]) -> Record
+        requires { length bytes.now ≤ 30 }
+        ensures { result ≡ bytes.now }
+    {
+        Record {
+            room: Room::Short(Short::new(bytes)),
+        }
+    }
+
+    /// Returns a record with a copy of these bytes.
+    ///
+    /// Errors: `NoMemory` if `alloc` refuses the memory for more than 30 bytes.
     pub fn from_slice(alloc: Global, bytes: &[u8]) -> Result<Record, NoMemory>
         ensures { IfOk result (λ made. made ≡ bytes.now) }
     {
-        Ok(Record {
-            bytes: Vec::from_slice(alloc, bytes)?,
-        })
+        if bytes.len() > SHORT {
+            return Ok(Record {
+                room: Room::Long(Vec::from_slice(alloc, bytes)?),
+            });
+        }
+        Ok(Record::short(bytes))
     }
 
-    /// The bytes, first to last.
+    /// Returns the bytes, first to last.
     pub fn bytes(&self) -> &[u8]
         ensures { result.now ≡ self.now }
     {
-        self.bytes.as_slice()
+        match &self.room {
+            Room::Short(short) => short.as_slice(),
+            Room::Long(bytes) => bytes.as_slice(),
+        }
     }
 
-    /// Gives the bytes back as a `Vec`. It takes no memory.
-    pub fn into_bytes(self) -> Vec<u8>
-        ensures { result.items ≡ self }
+    /// Returns the record of its first `count` bytes. It takes no memory.
+    pub fn first(self, count: usize) -> Record
+        ensures { result ≡ take count self }
     {
-        self.bytes
+        let Record { room } = self;
+        match room {
+            Room::Short(short) => Record {
+                room: Room::Short(short.first(count)),
+            },
+            Room::Long(bytes) => {
+                let mut bytes = bytes;
+                bytes.truncate(count);
+                Record::new(bytes)
+            }
+        }
     }
 
-    /// How many bytes there are.
+    /// Returns how many bytes there are.
     pub fn len(&self) -> usize
         ensures { result ≡ length self.now }
     {
-        self.bytes.len()
+        self.bytes().len()
     }
 
-    /// Whether there is no byte.
+    /// Returns whether there is no byte.
     pub fn is_empty(&self) -> bool
         ensures { IsTrue result ↔ (self.now ≡ []) }
     {
-        self.bytes.is_empty()
+        self.bytes().is_empty()
     }
 
-    /// Another record with the same bytes. `NoMemory` where the memory for them is refused.
+    /// Returns another record with the same bytes.
+    ///
+    /// Errors: `NoMemory` if the memory for more than 30 bytes is refused.
     pub fn copy(&self) -> Result<Record, NoMemory>
         ensures { IfOk result (λ copy. copy ≡ self.now) }
     {
-        Record::from_slice(*self.bytes.allocator(), self.bytes())
+        let room = match &self.room {
+            Room::Short(short) => Room::Short(short.copy()),
+            Room::Long(bytes) => {
+                Room::Long(Vec::from_slice(*bytes.allocator(), bytes.as_slice())?)
+            }
+        };
+        Ok(Record { room })
     }
 
-    /// A copy of `count` of the bytes, the first of them being the one at `offset` (from 0).
+    /// Returns a copy of `count` of the bytes, of which the first is the one at `offset` (from 0).
     ///
-    /// `NoMemory` where the memory for them is refused.
+    /// Errors: `NoMemory` if the memory for more than 30 bytes is refused.
     pub fn part(&self, offset: usize, count: usize) -> Result<Record, NoMemory>
         requires { offset + count ≤ length self.now }
         ensures { IfOk result (λ part. part ≡ take count (drop offset self.now)) }
     {
-        let alloc = *self.bytes.allocator();
-        Record::from_slice(alloc, &self.bytes.as_slice()[offset..offset + count])
+        match &self.room {
+            Room::Short(short) => Ok(Record::short(&short.as_slice()[offset..offset + count])),
+            Room::Long(bytes) => {
+                let part = &bytes.as_slice()[offset..offset + count];
+                Record::from_slice(*bytes.allocator(), part)
+            }
+        }
     }
 }
 
@@ -116,7 +244,7 @@ impl PartialEq for Record {
     ghost laws = { Prim.search (comparing, rules) };
 
     fn eq(&self, other: &Record) -> bool {
-        self.bytes.as_slice() == other.bytes.as_slice()
+        self.bytes() == other.bytes()
     }
 }
 
@@ -155,6 +283,6 @@ impl Ord for Record {
     ghost matches_eq = { λ a b. texts_ties a b };
 
     fn cmp(&self, other: &Record) -> Ordering {
-        self.bytes.as_slice().cmp(other.bytes.as_slice())
+        self.bytes().cmp(other.bytes())
     }
 }

@@ -227,6 +227,20 @@ fn put_codes(text: &mut [u8], plain: &[u8])
     }
 }
 
+// How many characters a text has at most whose record is made without a list.
+const SHORT: usize = 30;
+
+// The record of a short text of characters that stand for themselves, in EBCDIC.
+fn short_record(alloc: Global, plain: &[u8]) -> Result<Record, NoMemory>
+    requires fits { length plain.now ≤ 30 }
+    ensures { IfOk result (λ made. made ≡ encoded_text Encoding.Ebcdic plain.now) }
+{
+    let mut room = [0; SHORT];
+    let codes = &mut room[..plain.len()];
+    put_codes(codes, plain);
+    Record::from_slice(alloc, codes)
+}
+
 // A copy of characters that stand for themselves.
 fn copy_plain(alloc: Global, encoding: Encoding, plain: &[u8]) -> Result<Vec<u8>, AllocError>
     ensures { IfOk result (λ text. text.items ≡ encoded_text encoding plain.now) }
@@ -385,7 +399,10 @@ impl<'a> Literal<'a> {
             (said (text_in self.entry.notation self.entry.behind_quote.now))) }
     {
         match self.notation {
-            Notation::Quoted => Ok(Record::new(self.copy(alloc, Encoding::Ebcdic)?)),
+            Notation::Quoted => match self.plain() {
+                Some(text) if text.len() <= SHORT => short_record(alloc, text),
+                _ => Ok(Record::new(self.copy(alloc, Encoding::Ebcdic)?)),
+            },
             Notation::Hexadecimal => Ok(Record::new(self.copy(alloc, Encoding::AsWritten)?)),
         }
     }

@@ -109,12 +109,23 @@ fn add_loaded(queues: &mut Queues, name: &Name4, content: Record) -> Result<(), 
 /// Contracts see the files by name, each with its definition and its records by key. They see the
 /// prefixes of recoverable temporary storage queues in the order in which they were defined. And
 /// they see the transient data queues by name, each with its recovery and its records.
-#[derive(Drop)]
 pub struct Opening {
     files: Files,
     prefixes: Items<Name8>,
     queues: Queues,
     alloc: Global,
+}
+
+// By hand: a derived drop is taken apart wherever an opening is dropped.
+impl Drop for Opening {
+    fn drop(self) {
+        let Opening {
+            files: _files,
+            prefixes: _prefixes,
+            queues: _queues,
+            alloc: _alloc,
+        } = self;
+    }
 }
 
 impl Model for Opening {

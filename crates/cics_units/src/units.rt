@@ -67,7 +67,6 @@ pub enum Submitted {
 /// The invariant behind it is `AreValid`: it ties store, images, locks and reads to the history. By
 /// its `place`, undoing an open unit's images leaves what the others did. By its `table`, the locks
 /// are what the history says is held, so a command waits exactly if it has to.
-#[derive(Drop)]
 pub struct Units {
     opening: Opening,
     core: UnitsCore,
@@ -75,6 +74,20 @@ pub struct Units {
     outcomes: Vec<UnitState>,
     commits: Vec<UnitId>,
     alloc: Global,
+}
+
+// By hand: a derived drop is taken apart wherever units are dropped.
+impl Drop for Units {
+    fn drop(self) {
+        let Units {
+            opening: _opening,
+            core: _core,
+            trace: _trace,
+            outcomes: _outcomes,
+            commits: _commits,
+            alloc: _alloc,
+        } = self;
+    }
 }
 
 impl Model for Units {

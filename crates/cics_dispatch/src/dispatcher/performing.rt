@@ -18,7 +18,7 @@ use crate::browses::Direction;
 use crate::dispatcher::Dispatcher;
 use crate::outcomes::{Outcome, Refused};
 use crate::reads::plain_reply;
-use crate::updates::take_op;
+use crate::updates::{take, take_op};
 use cics_names::{AbendCode, Command, Condition, Name4, Name8, NoMemory, Verb};
 use cics_units::Op;
 
@@ -53,7 +53,7 @@ impl Dispatcher {
 
     // A command of the task at a place that names a file and updates nothing.
     #[inline(never)]
-    fn perform_on_file(&mut self, at: usize, command: Command) -> Result<Outcome, NoMemory>
+    fn perform_on_file(&mut self, at: usize, mut command: Command) -> Result<Outcome, NoMemory>
         requires within { at < length self.old.machine.tasks }
         requires may { MayPerform self.old.machine at command.verb }
         requires named { is_some (file_named command.verb) ≡ true }
@@ -61,8 +61,8 @@ impl Dispatcher {
             (going_on self.old.machine command None) result self.new }
         ensures growing { OnErr result (IsTrue (is_growing command.verb)) }
     {
-        let Command { verb, resp } = command;
-        match verb {
+        let resp = command.resp;
+        match &mut command.verb {
             Verb::Read {
                 file,
                 ridfld,
@@ -70,29 +70,35 @@ impl Dispatcher {
                 generic,
                 gteq,
                 ..
-            } => self.read(at, resp, &file, ridfld.bytes(), length, generic, gteq),
-            Verb::Unlock { file } => Ok(self.unlock(at, resp, &file)),
+            } => self.read(at, resp, file, ridfld.bytes(), *length, *generic, *gteq),
+            Verb::Unlock { file } => Ok(self.unlock(at, resp, file)),
             Verb::StartBr {
                 file,
                 ridfld,
                 generic,
                 equal,
                 ..
-            } => self.start_browse(at, resp, file, ridfld, generic, equal),
+            } => {
+                let key = take(self.alloc, ridfld);
+                self.start_browse(at, resp, *file, key, *generic, *equal)
+            }
             Verb::ResetBr {
                 file,
                 ridfld,
                 generic,
                 equal,
                 ..
-            } => Ok(self.reset_browse(at, resp, &file, ridfld, generic, equal)),
+            } => {
+                let key = take(self.alloc, ridfld);
+                Ok(self.reset_browse(at, resp, file, key, *generic, *equal))
+            }
             Verb::ReadNext { file, length } => {
-                self.read_on(at, resp, &file, length, Direction::Forward)
+                self.read_on(at, resp, file, *length, Direction::Forward)
             }
             Verb::ReadPrev { file, length } => {
-                self.read_on(at, resp, &file, length, Direction::Back)
+                self.read_on(at, resp, file, *length, Direction::Back)
             }
-            Verb::EndBr { file } => Ok(self.end_browse(at, resp, &file)),
+            Verb::EndBr { file } => Ok(self.end_browse(at, resp, file)),
             _ => Ok(self.answer(at, resp, plain_reply(Condition::Invreq))),
         }
     }
@@ -110,15 +116,15 @@ impl Dispatcher {
         if let Verb::Enq { .. } = &command.verb {
             return self.enqueue(at, command);
         }
-        let Command { verb, resp } = command;
-        match verb {
+        let resp = command.resp;
+        match &command.verb {
             Verb::ReadqTs {
                 queue,
                 length,
                 item,
-            } => self.read_item(at, resp, &queue, length, item),
+            } => self.read_item(at, resp, queue, *length, *item),
             Verb::Deq { resource, length } => {
-                Ok(self.dequeue(at, resp, &resource.bytes()[..length as usize]))
+                Ok(self.dequeue(at, resp, &resource.bytes()[..*length as usize]))
             }
             Verb::Syncpoint => Ok(self.end_of_unit(at, true)),
             Verb::Rollback => Ok(self.end_of_unit(at, false)),
@@ -128,7 +134,7 @@ impl Dispatcher {
             }
             Verb::Abend { code } => {
                 self.abend(at);
-                Ok(Outcome::Abended(abend_code(code), None))
+                Ok(Outcome::Abended(abend_code(*code), None))
             }
             _ => Ok(self.answer(at, resp, plain_reply(Condition::Invreq))),
         }

@@ -1,4 +1,4 @@
-use Rattle.std.proofs.Common.{◌≡◌, ◌∙◌, ap, refl, true, None, is_some}
+use Rattle.std.proofs.Common.{◌≡◌, ◌∙◌, ap, refl, sym, true, None, is_some}
 use Rattle.cics_names.specs.declared.conditions.Condition.TheVariants.{Invreq}
 use Rattle.cics_names.specs.Commands.{file_named}
 use Rattle.cics_names.specs.declared.commands.Verb.{Verb}
@@ -6,8 +6,8 @@ use Rattle.cics_names.specs.declared.commands.Verb.TheVariants.{Read, Write, Rew
 use Rattle.cics_dispatch.specs.Calls.{going_on}
 use Rattle.cics_dispatch.specs.Machine.{Task}
 use Rattle.cics_dispatch.specs.Replies.{plain}
-use Rattle.cics_dispatch.specs.Steps.{answered, other_command}
-use Rattle.cics_dispatch.proofs.RegionSteps.{told_as}
+use Rattle.cics_dispatch.specs.Steps.{answered, other_command, started}
+use Rattle.cics_dispatch.proofs.RegionSteps.{told_as, may_told_as}
 use Rattle.cics_dispatch.proofs.RegionPerforming.{file_of, browse_of, moves_browse}
 use Rattle.cics_dispatch.proofs.dispatcher.Dispatcher.perform_on_file.Goals as goal
 
@@ -64,3 +64,12 @@ returns c = record {
     by t (Rewrite f from n) is named = refl
     by t (Delete f key given generic) is named = refl
     by t verb is named = cc
+
+pub returns-in-StartBr-clause-step : goal.returns-in-StartBr-clause-step
+returns-in-StartBr-clause-step c =
+    may_told_as c.args.self.now c.start_browse.new.self c.start_browse.result c.args.at
+    (λ t. started c.args.self.now.machine t c.args.command.resp c.in-StartBr.file c.take-key.result c.in-StartBr.generic c.in-StartBr.equal)
+    (going_on c.args.self.now.machine c.args.command None)
+    (λ t there. ap (λ k. started c.args.self.now.machine t c.args.command.resp c.in-StartBr.file k c.in-StartBr.generic c.in-StartBr.equal) c.take-key.ensures.taken
+    ∙ ap (other_command c.args.self.now.machine t c.args.command) (sym c.in-StartBr.is))
+    c.start_browse.ensures.step
