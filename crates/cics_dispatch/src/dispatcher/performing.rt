@@ -11,14 +11,14 @@ ghost use Rattle.cics_names.specs.declared.conditions.Condition.TheVariants.{Nor
 ghost use Rattle.cics_dispatch.specs.declared.outcomes.Outcome.TheVariants.{Replied};
 ghost use Rattle.cics_history.specs.declared.ops.UnitState.TheVariants.{Committed, BackedOut};
 ghost use Rattle.cics_dispatch.specs.Calls.{OfTask, IsAwake, MayPerform, KeepsRegion};
-ghost use Rattle.cics_dispatch.specs.Calls.{IsStepOrRefused, going_on};
+ghost use Rattle.cics_dispatch.specs.Calls.{IsStepOrRefused, going_on, reads_or_unlocks};
 ghost use Rattle.cics_dispatch.specs.Emptied.{whole};
 
 use crate::browses::Direction;
 use crate::dispatcher::Dispatcher;
 use crate::outcomes::{Outcome, Refused};
 use crate::reads::plain_reply;
-use crate::updates::take_op;
+use crate::updates::{take, take_op};
 use cics_names::{AbendCode, Command, Condition, Name4, Name8, NoMemory, Verb};
 use cics_units::Op;
 
@@ -51,7 +51,7 @@ impl Dispatcher {
         }
     }
 
-    // A command of the task at a place that names a file and updates nothing.
+    // Executes a command of the task at a place that names a file and updates nothing.
     #[inline(never)]
     fn perform_on_file(&mut self, at: usize, command: Command) -> Result<Outcome, NoMemory>
         requires within { at < length self.old.machine.tasks }
@@ -61,38 +61,56 @@ impl Dispatcher {
             (going_on self.old.machine command None) result self.new }
         ensures growing { OnErr result (IsTrue (is_growing command.verb)) }
     {
-        let (verb, resp) = command.into_parts();
-        match verb {
+        let resp = command.resp;
+        match &command.verb {
             Verb::Read {
                 file,
-                ridfld,
+                ridfld: key,
                 length,
                 generic,
                 gteq,
                 ..
-            } => self.read(at, resp, &file, ridfld.bytes(), length, generic, gteq),
-            Verb::Unlock { file } => Ok(self.unlock(at, resp, &file)),
+            } => self.read(at, resp, file, key.bytes(), *length, *generic, *gteq),
+            Verb::Unlock { file } => Ok(self.unlock(at, resp, file)),
+            _ => self.perform_on_browse(at, command),
+        }
+    }
+
+    // Executes a command of the task at a place that begins, moves or ends a browse.
+    #[inline(never)]
+    fn perform_on_browse(&mut self, at: usize, mut command: Command) -> Result<Outcome, NoMemory>
+        requires within { at < length self.old.machine.tasks }
+        requires may { MayPerform self.old.machine at command.verb }
+        requires named { is_some (file_named command.verb) ≡ true }
+        requires other { reads_or_unlocks command.verb ≡ false }
+        ensures step { IsStepOrRefused self.old at
+            (going_on self.old.machine command None) result self.new }
+        ensures growing { OnErr result (IsTrue (is_growing command.verb)) }
+    {
+        let resp = command.resp;
+        let alloc = self.alloc;
+        match &mut command.verb {
             Verb::StartBr {
                 file,
-                ridfld,
+                ridfld: key,
                 generic,
                 equal,
                 ..
-            } => self.start_browse(at, resp, file, ridfld, generic, equal),
+            } => self.start_browse(at, resp, *file, take(alloc, key), *generic, *equal),
             Verb::ResetBr {
                 file,
-                ridfld,
+                ridfld: key,
                 generic,
                 equal,
                 ..
-            } => Ok(self.reset_browse(at, resp, &file, ridfld, generic, equal)),
+            } => Ok(self.reset_browse(at, resp, file, take(alloc, key), *generic, *equal)),
             Verb::ReadNext { file, length } => {
-                self.read_on(at, resp, &file, length, Direction::Forward)
+                self.read_on(at, resp, file, *length, Direction::Forward)
             }
             Verb::ReadPrev { file, length } => {
-                self.read_on(at, resp, &file, length, Direction::Back)
+                self.read_on(at, resp, file, *length, Direction::Back)
             }
-            Verb::EndBr { file } => Ok(self.end_browse(at, resp, &file)),
+            Verb::EndBr { file } => Ok(self.end_browse(at, resp, file)),
             _ => Ok(self.answer(at, resp, plain_reply(Condition::Invreq))),
         }
     }
@@ -110,15 +128,15 @@ impl Dispatcher {
         if let Verb::Enq { .. } = &command.verb {
             return self.enqueue(at, command);
         }
-        let (verb, resp) = command.into_parts();
-        match verb {
+        let resp = command.resp;
+        match &command.verb {
             Verb::ReadqTs {
                 queue,
                 length,
                 item,
-            } => self.read_item(at, resp, &queue, length, item),
+            } => self.read_item(at, resp, queue, *length, *item),
             Verb::Deq { resource, length } => {
-                Ok(self.dequeue(at, resp, &resource.bytes()[..length as usize]))
+                Ok(self.dequeue(at, resp, &resource.bytes()[..*length as usize]))
             }
             Verb::Syncpoint => Ok(self.end_of_unit(at, true)),
             Verb::Rollback => Ok(self.end_of_unit(at, false)),
@@ -128,7 +146,7 @@ impl Dispatcher {
             }
             Verb::Abend { code } => {
                 self.abend(at);
-                Ok(Outcome::Abended(abend_code(code), None))
+                Ok(Outcome::Abended(abend_code(*code), None))
             }
             _ => Ok(self.answer(at, resp, plain_reply(Condition::Invreq))),
         }
