@@ -4,6 +4,7 @@ use Rattle.cics_names.specs.Keyed.{Bytes, value_at}
 use Rattle.cics_names.specs.declared.records.NoMemory.{NoMemory}
 use Rattle.cics_names.specs.declared.commands.Command.{Command}
 use Rattle.cics_names.specs.declared.commands.Verb.{Verb}
+use Rattle.cics_names.specs.declared.commands.Verb.TheVariants.{Read, Unlock}
 use Rattle.cics_history.specs.Execution.{IsOpenUnit, item_asked}
 use Rattle.cics_history.specs.Records.{key_of}
 use Rattle.cics_history.specs.declared.ops.Op.{Op}
@@ -48,6 +49,12 @@ pub record MayPerform (m : Machine) (at : ℕ) (verb : Verb) : Type 0 where
   pub awake : IsAwake m at
   pub passed : OfTask m.tasks at (λ t. fault_of m t verb ≡ None)
   pub short : OfTask m.tasks at (λ t. IfSome (op_of m t verb) (λ o. length (key_of o) ≤ 255))
+
+-- READ, or UNLOCK
+abbrev pub reads_or_unlocks : Verb → Bool
+reads_or_unlocks (Read f key given n generic gteq update) = true
+reads_or_unlocks (Unlock f) = true
+reads_or_unlocks _ = false
 
 -- ---- A step of the task at a place
 

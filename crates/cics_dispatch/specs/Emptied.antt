@@ -1,5 +1,7 @@
--- A verb whose key and FROM were taken out for the updating command that it asks for, and how they are put back.
-use Rattle.std.specs.Prelude.{◌≡◌, List, [], ◌∷◌, Option, Some, None, option_map}
+-- What `take_op` takes out of a verb, and `refill` puts back. A verb gives its key and FROM to the
+-- updating command that it asks for, and keeps none of their bytes. If LENGTH cuts FROM, the
+-- updating command has a copy of the first bytes, and the verb keeps FROM.
+use Rattle.std.specs.Prelude.{◌≡◌, [], ◌∷◌, Option, Some, None, option_map}
 use Rattle.cics_names.specs.Keyed.{Bytes}
 use Rattle.cics_names.specs.declared.commands.Command.{Command}
 use Rattle.cics_names.specs.declared.commands.Verb.{Verb}
@@ -10,7 +12,7 @@ use Rattle.cics_history.specs.declared.ops.Op.{Op}
 use Rattle.cics_history.specs.declared.ops.Op.TheVariants as op
 use Rattle.cics_dispatch.specs.Steps.{reply_of}
 
--- what an updating command writes
+-- the bytes that an updating command writes, none if it writes nothing
 abbrev pub content_of : Op → Bytes
 content_of (op.Write f key from) = from
 content_of (op.Rewrite f key from) = from
@@ -19,12 +21,12 @@ content_of (op.TsRewrite q item from) = from
 content_of (op.TdWrite q from) = from
 content_of _ = []
 
--- bytes that were taken out are put back; what wasn't taken stays
+-- a key or FROM with the bytes that were taken from it; one that has bytes gave none
 abbrev pub put_back : Bytes → Bytes → Bytes
 put_back [] taken = taken
 put_back (b ∷ bs) taken = b ∷ bs
 
--- a verb with what the updating command took out, if there is one
+-- a verb with its key and FROM back from the updating command, if it asked for one
 abbrev pub refilled : Verb → Option Op → Verb
 refilled verb None = verb
 refilled (Read f key given n generic gteq update) (Some o) = Read f (put_back key (key_of o)) given n generic gteq update
@@ -35,10 +37,10 @@ refilled (WriteqTs q from n item) (Some o) = WriteqTs q (put_back from (content_
 refilled (WriteqTd q from n) (Some o) = WriteqTd q (put_back from (content_of o)) n
 refilled verb (Some o) = verb
 
--- and so a command
+-- a command with the key and FROM of its verb back
 abbrev pub whole : Command → Option Op → Command
 whole c o = record c { verb = refilled c.verb o }
 
--- two verbs are told the same of each answer
+-- each answer of an updating command gives the same reply to both verbs
 abbrev pub AreToldAlike : Verb → Verb → Type 0
 AreToldAlike v w = (a : Answer) → reply_of v a ≡ reply_of w a

@@ -1,6 +1,6 @@
 //! The updating commands that the commands of a task ask for.
 
-ghost use Rattle.std.specs.Prelude.{◌≡◌, [], IsTrue, IfOk, OnOk, OnErr, Some, if◌then◌else◌};
+ghost use Rattle.std.specs.Prelude.{◌≡◌, [], IsTrue, IfOk, OnOk, OnErr, Some, None, if◌then◌else◌};
 ghost use Rattle.cics_dispatch.specs.Answers.{is_growing};
 ghost use Rattle.cics_dispatch.specs.Emptied.{content_of, put_back, refilled, whole};
 ghost use Rattle.cics_history.specs.Records.{key_of};
@@ -83,19 +83,10 @@ fn take_queue_op(alloc: Global, verb: &mut Verb) -> Result<Option<Op>, NoMemory>
     Ok(Some(op))
 }
 
-/// Takes the updating command that a verb asks for out of the verb, with its key and the bytes of
-/// FROM that it uses, so that they aren't copied. Returns `None` for a verb that updates nothing.
-/// `refill` puts back what was taken.
-///
-/// `open_key` is the key of the task's open update read of the file that the verb names, `None` if
-/// there is none. REWRITE changes the record of that key, and so does DELETE without RIDFLD.
-/// `alloc` gives the memory for a copy of that key, and for FROM if LENGTH cuts it.
-pub(crate) fn take_op(
-    alloc: Global,
-    verb: &mut Verb,
-    open_key: Option<&[u8]>,
-) -> Result<Option<Op>, NoMemory>
-    ensures op { IfOk result (λ op. op ≡ asked_op (option_copied open_key.entry) verb.old) }
+// Takes out the updating command of a verb that names its key itself, or a queue. REWRITE, and
+// DELETE without RIDFLD, name none.
+fn take_own_op(alloc: Global, verb: &mut Verb) -> Result<Option<Op>, NoMemory>
+    ensures op { IfOk result (λ op. op ≡ asked_op None verb.old) }
     ensures back { IfOk result (λ op. refilled verb.new op ≡ verb.old) }
     ensures growing { OnErr result (IsTrue (is_growing verb.old)) }
 {
@@ -120,27 +111,54 @@ pub(crate) fn take_op(
             from: take_used(alloc, from, *length)?,
             key: take(alloc, ridfld),
         },
-        Verb::Rewrite { file, from, length } => {
-            let Some(key) = open_key else {
-                return Ok(None);
-            };
-            Op::Rewrite {
-                file: *file,
-                key: Record::from_slice(alloc, key)?,
-                from: take_used(alloc, from, *length)?,
-            }
-        }
         Verb::Delete {
             file,
             ridfld,
             generic,
             ..
-        } => match (ridfld, open_key) {
-            (Some(key), _) => delete_op(*file, take(alloc, key), *generic),
-            (None, Some(key)) => delete_op(*file, Record::from_slice(alloc, key)?, false),
-            (None, None) => return Ok(None),
+        } => match ridfld {
+            Some(key) => delete_op(*file, take(alloc, key), *generic),
+            None => return Ok(None),
         },
         _ => return take_queue_op(alloc, verb),
+    };
+    Ok(Some(op))
+}
+
+/// Takes the updating command that a verb asks for out of the verb, with its key and the bytes of
+/// FROM that it uses, so that they aren't copied. Returns `None` for a verb that updates nothing.
+/// `refill` puts back what was taken.
+///
+/// `open_key` is the key of the task's open update read of the file that the verb names, `None` if
+/// there is none. REWRITE changes the record of that key, and so does DELETE without RIDFLD.
+/// `alloc` gives the memory for a copy of that key, and for FROM if LENGTH cuts it.
+pub(crate) fn take_op(
+    alloc: Global,
+    verb: &mut Verb,
+    open_key: Option<&[u8]>,
+) -> Result<Option<Op>, NoMemory>
+    ensures op { IfOk result (λ op. op ≡ asked_op (option_copied open_key.entry) verb.old) }
+    ensures back { IfOk result (λ op. refilled verb.new op ≡ verb.old) }
+    ensures growing { OnErr result (IsTrue (is_growing verb.old)) }
+{
+    let Some(key) = open_key else {
+        return take_own_op(alloc, verb);
+    };
+    let op = match verb {
+        Verb::Rewrite { file, from, length } => Op::Rewrite {
+            file: *file,
+            key: Record::from_slice(alloc, key)?,
+            from: take_used(alloc, from, *length)?,
+        },
+        Verb::Delete {
+            file,
+            ridfld: None,
+            ..
+        } => Op::Delete {
+            file: *file,
+            key: Record::from_slice(alloc, key)?,
+        },
+        _ => return take_own_op(alloc, verb),
     };
     Ok(Some(op))
 }

@@ -16,12 +16,23 @@ use std::collections::btree_map::Values;
 use std::marker::Model;
 
 /// A command that waits.
-#[derive(Drop)]
 pub(crate) struct Suspended {
     label: Name8,
     command: Command,
     op: Option<Op>,
     since: u64,
+}
+
+// By hand: a derived drop is taken apart wherever a wait is dropped.
+impl Drop for Suspended {
+    fn drop(self) {
+        let Suspended {
+            label: _label,
+            command: _command,
+            op: _op,
+            since: _since,
+        } = self;
+    }
 }
 
 impl Model for Suspended {
@@ -70,12 +81,21 @@ impl Suspended {
 /// The commands that wait, in the order in which the waits began. A task has one of them at most.
 ///
 /// To find the wait of a label, to add one and to take one out costs the logarithm of the number of waits.
-#[derive(Drop)]
 pub(crate) struct Waits {
     // Each wait under a number that is above those of the waits that began before.
     rows: BTreeMap<u64, Suspended>,
     // The number of each label's wait.
     numbers: IndexMap<Name8, u64>,
+}
+
+// By hand: a derived drop is taken apart wherever waits are dropped.
+impl Drop for Waits {
+    fn drop(self) {
+        let Waits {
+            rows: _rows,
+            numbers: _numbers,
+        } = self;
+    }
 }
 
 impl Model for Waits {

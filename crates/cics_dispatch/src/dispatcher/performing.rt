@@ -11,7 +11,7 @@ ghost use Rattle.cics_names.specs.declared.conditions.Condition.TheVariants.{Nor
 ghost use Rattle.cics_dispatch.specs.declared.outcomes.Outcome.TheVariants.{Replied};
 ghost use Rattle.cics_history.specs.declared.ops.UnitState.TheVariants.{Committed, BackedOut};
 ghost use Rattle.cics_dispatch.specs.Calls.{OfTask, IsAwake, MayPerform, KeepsRegion};
-ghost use Rattle.cics_dispatch.specs.Calls.{IsStepOrRefused, going_on};
+ghost use Rattle.cics_dispatch.specs.Calls.{IsStepOrRefused, going_on, reads_or_unlocks};
 ghost use Rattle.cics_dispatch.specs.Emptied.{whole};
 
 use crate::browses::Direction;
@@ -51,9 +51,9 @@ impl Dispatcher {
         }
     }
 
-    // A command of the task at a place that names a file and updates nothing.
+    // Executes a command of the task at a place that names a file and updates nothing.
     #[inline(never)]
-    fn perform_on_file(&mut self, at: usize, mut command: Command) -> Result<Outcome, NoMemory>
+    fn perform_on_file(&mut self, at: usize, command: Command) -> Result<Outcome, NoMemory>
         requires within { at < length self.old.machine.tasks }
         requires may { MayPerform self.old.machine at command.verb }
         requires named { is_some (file_named command.verb) ≡ true }
@@ -62,36 +62,48 @@ impl Dispatcher {
         ensures growing { OnErr result (IsTrue (is_growing command.verb)) }
     {
         let resp = command.resp;
-        match &mut command.verb {
+        match &command.verb {
             Verb::Read {
                 file,
-                ridfld,
+                ridfld: key,
                 length,
                 generic,
                 gteq,
                 ..
-            } => self.read(at, resp, file, ridfld.bytes(), *length, *generic, *gteq),
+            } => self.read(at, resp, file, key.bytes(), *length, *generic, *gteq),
             Verb::Unlock { file } => Ok(self.unlock(at, resp, file)),
+            _ => self.perform_on_browse(at, command),
+        }
+    }
+
+    // Executes a command of the task at a place that begins, moves or ends a browse.
+    #[inline(never)]
+    fn perform_on_browse(&mut self, at: usize, mut command: Command) -> Result<Outcome, NoMemory>
+        requires within { at < length self.old.machine.tasks }
+        requires may { MayPerform self.old.machine at command.verb }
+        requires named { is_some (file_named command.verb) ≡ true }
+        requires other { reads_or_unlocks command.verb ≡ false }
+        ensures step { IsStepOrRefused self.old at
+            (going_on self.old.machine command None) result self.new }
+        ensures growing { OnErr result (IsTrue (is_growing command.verb)) }
+    {
+        let resp = command.resp;
+        let alloc = self.alloc;
+        match &mut command.verb {
             Verb::StartBr {
                 file,
-                ridfld,
+                ridfld: key,
                 generic,
                 equal,
                 ..
-            } => {
-                let key = take(self.alloc, ridfld);
-                self.start_browse(at, resp, *file, key, *generic, *equal)
-            }
+            } => self.start_browse(at, resp, *file, take(alloc, key), *generic, *equal),
             Verb::ResetBr {
                 file,
-                ridfld,
+                ridfld: key,
                 generic,
                 equal,
                 ..
-            } => {
-                let key = take(self.alloc, ridfld);
-                Ok(self.reset_browse(at, resp, file, key, *generic, *equal))
-            }
+            } => Ok(self.reset_browse(at, resp, file, take(alloc, key), *generic, *equal)),
             Verb::ReadNext { file, length } => {
                 self.read_on(at, resp, file, *length, Direction::Forward)
             }
