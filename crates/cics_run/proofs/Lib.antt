@@ -10,6 +10,7 @@ pub mod Printing
 pub mod Steps
 pub mod Ending
 pub mod Reading
+pub mod RunCounts
 pub mod Settles
 pub mod Telling
 mod UnitLines

@@ -7,8 +7,8 @@ use crate::running::{Options, RunFault, Status, Wanted};
 use cics_names::NoMemory;
 use clap::builder::ValueParser;
 use clap::error::ErrorKind;
-use clap::{Arg, ArgAction, Command, Error};
-use std::alloc::Global;
+use clap::{Arg, ArgAction, ArgMatches, Command, Error};
+use std::alloc::{AllocError, Global};
 
 /// The version of the product. `tools/door/version.txt` has it too.
 const VERSION: &str = "1.0.0";
@@ -125,16 +125,18 @@ pub enum Asked {
 pub fn arguments(alloc: Global, words: Vec<String>) -> Result<Asked, NoMemory> {
     match asked_run(alloc, &words) {
         Ok(asked) => Ok(asked),
-        Err(error) => match error.kind() {
-            ErrorKind::DisplayHelp | ErrorKind::DisplayVersion => {
-                Ok(Asked::Help(error.to_string(alloc)?))
-            }
-            ErrorKind::OutOfMemory => Err(NoMemory),
-            ErrorKind::UnknownArgument => {
-                Ok(Asked::Bad(with_tip(alloc, &error.to_string(alloc)?)?))
-            }
-            _ => Ok(Asked::Bad(error.to_string(alloc)?)),
-        },
+        Err(error) => told_error(alloc, &error),
+    }
+}
+
+// What is told of an error. The help and the version are errors too.
+fn told_error(alloc: Global, error: &Error) -> Result<Asked, NoMemory> {
+    let text = error.to_string(alloc)?;
+    match error.kind() {
+        ErrorKind::DisplayHelp | ErrorKind::DisplayVersion => Ok(Asked::Help(text)),
+        ErrorKind::OutOfMemory => Err(NoMemory),
+        ErrorKind::UnknownArgument => Ok(Asked::Bad(with_tip(alloc, &text)?)),
+        _ => Ok(Asked::Bad(text)),
     }
 }
 
@@ -142,15 +144,21 @@ const UNKNOWN: &str = "error: unexpected argument '";
 
 // The message on a word that isn't known. One that may name a file is told how to hand it over.
 fn with_tip(alloc: Global, text: &str) -> Result<String, NoMemory> {
-    let named = text
-        .strip_prefix(UNKNOWN)
-        .and_then(|rest| rest.split_once("' found\n"));
-    match named {
-        Some((word, behind)) if !word.is_empty() && !word.starts_with('-') => Ok(format!(in alloc;
+    match unknown_word(text) {
+        Some((word, behind)) => Ok(format!(in alloc;
             "{UNKNOWN}{word}' found\n\n  tip: a script is standard input: use < {word}\n{behind}"
         )?),
-        _ => Ok(text.to_string(alloc)?),
+        None => Ok(text.to_string(alloc)?),
     }
+}
+
+// The word that isn't known, if it may name a file, and the rest of the message behind it.
+fn unknown_word(text: &str) -> Option<(&str, &str)> {
+    let (word, behind) = text.strip_prefix(UNKNOWN)?.split_once("' found\n")?;
+    if word.is_empty() || word.starts_with('-') {
+        return None;
+    }
+    Some((word, behind))
 }
 
 // An option that is given or not, and what the help says of it.
@@ -162,65 +170,92 @@ fn flag<'a>(alloc: Global, name: &'a str, help: &'a str) -> Arg<'a> {
 }
 
 // An option with a number from 1 on, which belongs to the orders.
-fn number<'a>(alloc: Global, name: &'a str, help: &'a str) -> Result<Arg<'a>, Error> {
+fn number<'a>(alloc: Global, name: &'a str, help: &'a str) -> Result<Arg<'a>, AllocError> {
     let number = Arg::new(alloc, name)
         .long(name)
         .value_name("N")
         .value_parser(ValueParser::unsigned(1, u64::MAX))
-        .requires_arg("orders")?
         .help(help);
-    apart_from_runs(number)
+    apart_from_runs(number.requires_arg("orders")?)
 }
 
 // An option that goes with no option of a run.
-fn apart_from_runs<'a>(arg: Arg<'a>) -> Result<Arg<'a>, Error> {
-    Ok(arg.conflicts_with_all(&["no-list", "replay", "serial", "with-script", "strict"])?)
+fn apart_from_runs<'a>(arg: Arg<'a>) -> Result<Arg<'a>, AllocError> {
+    arg.conflicts_with_all(&["no-list", "replay", "serial", "with-script", "strict"])
 }
 
-// The options of a report on orders.
-fn with_orders<'a>(alloc: Global, command: Command<'a>) -> Result<Command<'a>, Error> {
+// Adds an option to a command line. It takes the results of the calls before, so that a row of
+// calls has no `?`, at which all that was made so far would be dropped.
+fn with<'a>(
+    command: Result<Command<'a>, AllocError>,
+    arg: Result<Arg<'a>, AllocError>,
+) -> Result<Command<'a>, AllocError> {
+    let arg = arg?;
+    command?.arg(arg)
+}
+
+// Adds the options of a report on orders.
+fn with_orders<'a>(
+    alloc: Global,
+    runs: Result<Command<'a>, AllocError>,
+) -> Result<Command<'a>, AllocError> {
     let orders = "Print a report on every order of the tasks' lines instead";
     let told = "Tell endings apart by what tasks are answered too";
     let limit = "Follow at most N orders (20000)";
     let ending = "Print the first order of ending N as a script";
-    Ok(
-        command
-            .arg(apart_from_runs(flag(alloc, "orders", orders))?)?
-            .arg(apart_from_runs(flag(alloc, "told", told).requires_arg("orders")?)?)?
-            .arg(number(alloc, "limit", limit)?)?
-            .arg(number(alloc, "ending", ending)?)?,
-    )
+    let command = with(runs, apart_from_runs(flag(alloc, "orders", orders)));
+    let command = with(command, told_flag(flag(alloc, "told", told)));
+    let command = with(command, number(alloc, "limit", limit));
+    with(command, number(alloc, "ending", ending))
 }
 
-// The command line, with its options in the order of the help. A picture stands alone.
-fn command<'a>(alloc: Global) -> Result<Command<'a>, Error> {
+// A flag that belongs to the orders.
+fn told_flag<'a>(flag: Arg<'a>) -> Result<Arg<'a>, AllocError> {
+    apart_from_runs(flag.requires_arg("orders")?)
+}
+
+// Adds the options of a run. A picture stands alone.
+fn with_runs<'a>(alloc: Global, command: Command<'a>) -> Result<Command<'a>, AllocError> {
     let serial = "Print the serial run after the listing and the replay";
-    let with_script = "Print each line of the script before its journal lines";
+    let script = "Print each line of the script before its journal lines";
+    let script = flag(alloc, "with-script", script).conflicts_with("serial");
+    let strict = "End with status 5 if something is amiss";
     let picture = "Print a picture of the run (SVG) in place of all that";
-    let runs = Command::new(alloc, "cicsrun")
+    let picture = flag(alloc, "picture", picture).exclusive(true);
+    let command = command.arg(flag(alloc, "no-list", "Leave out the listing"));
+    let replay = flag(alloc, "replay", "Print the replay after the listing");
+    let command = with(command, Ok(replay));
+    let command = with(command, Ok(flag(alloc, "serial", serial)));
+    let command = with(command, script);
+    let command = with(command, Ok(flag(alloc, "strict", strict)));
+    with(command, Ok(picture))
+}
+
+// The command line, with its options in the order of the help.
+fn command<'a>(alloc: Global) -> Result<Command<'a>, AllocError> {
+    let named = Command::new(alloc, "cicsrun")
         .version(VERSION)
         .about(ABOUT)
-        .after_help(MORE)
-        .arg(flag(alloc, "no-list", "Leave out the listing"))?
-        .arg(flag(alloc, "replay", "Print the replay after the listing"))?
-        .arg(flag(alloc, "serial", serial))?
-        .arg(flag(alloc, "with-script", with_script).conflicts_with("serial")?)?
-        .arg(flag(alloc, "strict", "End with status 5 if something is amiss"))?
-        .arg(flag(alloc, "picture", picture).exclusive(true))?;
-    with_orders(alloc, runs)
+        .after_help(MORE);
+    with_orders(alloc, with_runs(alloc, named))
 }
 
 fn asked_run(alloc: Global, words: &[String]) -> Result<Asked, Error> {
     let matches = command(alloc)?.try_get_matches_from(words)?;
+    Ok(chosen(&matches))
+}
+
+// What the options that were given ask for.
+fn chosen(matches: &ArgMatches) -> Asked {
     if matches.get_flag("picture") {
-        return Ok(Asked::Picture);
+        return Asked::Picture;
     }
     if matches.get_flag("orders") {
-        return Ok(Asked::Orders(Orders {
+        return Asked::Orders(Orders {
             told: matches.get_flag("told"),
             limit: matches.get_one("limit").unwrap_or(ORDERS),
             ending: matches.get_one("ending"),
-        }));
+        });
     }
     let options = Options {
         replay: matches.get_flag("replay"),
@@ -232,9 +267,9 @@ fn asked_run(alloc: Global, words: &[String]) -> Result<Asked, Error> {
         with_script: matches.get_flag("with-script"),
     };
     if matches.get_flag("strict") {
-        return Ok(Asked::Strict(wanted));
+        return Asked::Strict(wanted);
     }
-    Ok(Asked::Run(wanted))
+    Asked::Run(wanted)
 }
 
 /// Returns the exit status that tells the answer of a run.

@@ -34,7 +34,6 @@ const LF: u8 = 10;
 const CR: u8 = 13;
 
 /// Run state between reads.
-#[derive(Drop)]
 pub struct Session {
     /// What the lines so far have led to.
     pub stage: Stage,
@@ -50,6 +49,21 @@ pub struct Session {
     pub with_script: bool,
     /// Names that commands had and that aren't defined, each once, at most 64.
     pub undefined: Vec<Named>,
+}
+
+// By hand: a derived drop is taken apart wherever a session is dropped.
+impl Drop for Session {
+    fn drop(self) {
+        let Session {
+            stage: _stage,
+            number: _number,
+            line: _line,
+            pending: _pending,
+            fault: _fault,
+            with_script: _with_script,
+            undefined: _undefined,
+        } = self;
+    }
 }
 
 // Drops the CR right before a line's LF.

@@ -79,9 +79,10 @@ fn push_entry(out: &mut Vec<u8>, entry: &Entry) -> Result<(), NoMemory>
 pub fn push_command(out: &mut Vec<u8>, unit: UnitId, verb: Verb) -> Result<(), NoMemory>
     ensures { OnOk result (out.new.items ≡ out.old.items ++ unit_command_line unit verb) }
 {
+    let command = Command { verb, resp: false };
     let mut label = Vec::new(*out.allocator());
     push_label(&mut label, unit)?;
-    write_out(out, &label, &Command { verb, resp: false })?;
+    write_out(out, &label, &command)?;
     push_str(out, "\n")
 }
 

@@ -1,9 +1,10 @@
-use Rattle.std.proofs.Common.{arith, refl, ◌≡◌, false, [], ◌++◌, ◌+◌, ◌<◌, ◌≤◌, length, take, drop, length-append, subst, sym, length-take-le, length-take, length-drop}
+use Rattle.std.proofs.Common.{arith, refl, ◌≡◌, Bool, false, [], ◌++◌, ◌+◌, ◌<◌, ◌≤◌, length, take, drop, length-append, subst, sym, length-take-le, length-take, length-drop}
 use Rattle.std.specs.Io.KnownBytes.{Appends}
 use Rattle.cics_run.specs.Running.{journal, is_stopped}
 use Rattle.cics_run.specs.declared.running.TheConstants.{LIMIT}
 use Rattle.cics_run.proofs.Known.{consumes-append, consumes-nothing}
 use Rattle.cics_run.proofs.Counting.{rises-first, rises-rises, rises-nothing}
+use Rattle.cics_run.proofs.RunCounts.{asked-within, stop-reads, stop-writes, ended-reads, ended-writes}
 use Rattle.cics_run.proofs.Reading.{number-bound, front-of, chunk-length, within-chunk, reads-going, reads-chunk, stopped-output, stopped-keeps, ended-keeps, stands-new, all-written, read_more, read_nothing, one_more, runs-stop, runs-ended}
 use Rattle.cics_run.proofs.running.run_over.Goals as goal
 
@@ -131,3 +132,87 @@ reads-init g c = (
   refl,
   refl,
 )
+
+pub returns-in-Ok-eq0-clause-read_faults : goal.returns-in-Ok-eq0-clause-read_faults
+returns-in-Ok-eq0-clause-read_faults g c =
+    let (bytes, read, at, none, ((reads, asked, few), failed, written), room, whole) = c.reads.invariant in
+    rw c.ended.ensures (ended-reads _ _ _ c.finish.result failed c.in-Ok-eq0.ensures.failed)
+
+pub returns-in-Ok-eq0-clause-write_faults : goal.returns-in-Ok-eq0-clause-write_faults
+returns-in-Ok-eq0-clause-write_faults g c =
+    let (bytes, read, at, none, ((reads, asked, few), failed, written), room, whole) = c.reads.invariant in
+    rw c.ended.ensures (ended-writes _ _ _ c.finish.result written c.finish.ensures.failed)
+
+pub returns-in-Ok-clause-read_faults : goal.returns-in-Ok-clause-read_faults
+returns-in-Ok-clause-read_faults g c =
+    let (bytes, read, at, none, ((reads, asked, few), failed, written), room, whole) = c.reads.invariant in
+    rises-first _ _ _ 0 failed c.in-Ok.ensures.failed
+
+pub returns-in-Ok-clause-write_faults : goal.returns-in-Ok-clause-write_faults
+returns-in-Ok-clause-write_faults g c =
+    let (bytes, read, at, none, ((reads, asked, few), failed, written), room, whole) = c.reads.invariant in
+    written
+
+pub returns-in-Ok-clause-kept : goal.returns-in-Ok-clause-kept
+returns-in-Ok-clause-kept g c = tt
+
+pub returns-in-Ok-true-clause-read_faults : goal.returns-in-Ok-true-clause-read_faults
+returns-in-Ok-true-clause-read_faults g c =
+    let (bytes, read, at, none, ((reads, asked, few), failed, written), room, whole) = c.reads.invariant in
+    rises-first _ _ _ 0 failed c.in-Ok.ensures.failed
+
+pub returns-in-Ok-true-clause-write_faults : goal.returns-in-Ok-true-clause-write_faults
+returns-in-Ok-true-clause-write_faults g c =
+    let (bytes, read, at, none, ((reads, asked, few), failed, written), room, whole) = c.reads.invariant in
+    rises-first _ _ _ 0 written c.in-Ok-true.ensures.failed
+
+pub returns-in-Err-feed-clause-read_faults : goal.returns-in-Err-feed-clause-read_faults
+returns-in-Err-feed-clause-read_faults g c =
+    let (bytes, read, at, none, ((reads, asked, few), failed, written), room, whole) = c.reads.invariant in
+    rw c.fault_of.ensures (stop-reads _ _ _ c.in-Err-feed.stop failed c.in-Ok.ensures.failed)
+
+pub returns-in-Err-feed-clause-write_faults : goal.returns-in-Err-feed-clause-write_faults
+returns-in-Err-feed-clause-write_faults g c =
+    let (bytes, read, at, none, ((reads, asked, few), failed, written), room, whole) = c.reads.invariant in
+    rw c.fault_of.ensures (stop-writes Bool _ _ _ c.in-Err-feed.stop written c.in-Err-feed.ensures.failed)
+
+pub returns-in-Err-feed-clause-kept : goal.returns-in-Err-feed-clause-kept
+returns-in-Err-feed-clause-kept g c = tt
+
+pub returns-in-Err-clause-read_faults : goal.returns-in-Err-clause-read_faults
+returns-in-Err-clause-read_faults g c =
+    let (bytes, read, at, none, ((reads, asked, few), failed, written), room, whole) = c.reads.invariant in
+    rises-first _ _ _ 1 failed c.in-Err.ensures.failed
+
+pub returns-in-Err-clause-write_faults : goal.returns-in-Err-clause-write_faults
+returns-in-Err-clause-write_faults g c =
+    let (bytes, read, at, none, ((reads, asked, few), failed, written), room, whole) = c.reads.invariant in
+    written
+
+pub returns-in-Err-clause-kept : goal.returns-in-Err-clause-kept
+returns-in-Err-clause-kept g c = tt
+
+pub returns-in-Ok-eq0-clause-asked : goal.returns-in-Ok-eq0-clause-asked
+returns-in-Ok-eq0-clause-asked g c =
+    let (bytes, read, at, none, ((reads, asked, few), failed, written), room, whole) = c.reads.invariant in
+    asked-within _ _ _ reads _ _ asked few room c.in-Ok-eq0.ensures.asked
+
+pub returns-in-Ok-clause-asked : goal.returns-in-Ok-clause-asked
+returns-in-Ok-clause-asked g c =
+    let (bytes, read, at, none, ((reads, asked, few), failed, written), room, whole) = c.reads.invariant in
+    asked-within _ _ _ reads _ _ asked few room c.in-Ok.ensures.asked
+
+pub returns-in-Ok-true-clause-asked : goal.returns-in-Ok-true-clause-asked
+returns-in-Ok-true-clause-asked g c =
+    let (bytes, read, at, none, ((reads, asked, few), failed, written), room, whole) = c.reads.invariant in
+    asked-within _ _ _ reads _ _ asked few room c.in-Ok.ensures.asked
+
+pub returns-in-Err-feed-clause-asked : goal.returns-in-Err-feed-clause-asked
+returns-in-Err-feed-clause-asked g c =
+    let (bytes, read, at, none, ((reads, asked, few), failed, written), room, whole) = c.reads.invariant in
+    asked-within _ _ _ reads _ _ asked few room c.in-Ok.ensures.asked
+
+pub returns-in-Err-clause-asked : goal.returns-in-Err-clause-asked
+returns-in-Err-clause-asked g c =
+    let (bytes, read, at, none, ((reads, asked, few), failed, written), room, whole) = c.reads.invariant in
+    asked-within _ _ _ reads _ _ asked few room c.in-Err.ensures.asked
