@@ -1,5 +1,5 @@
 -- An order goes on from lane to lane, and branches off where another lane may give.
-use Rattle.std.proofs.Common.{◌≡◌, ◌<◌, ◌≤◌, ℕ, zero, suc, List, [], ◌∷◌, ◌++◌, map, length, refl, ap, sym, ◌∙◌, arith, take, Option, None, Some, length-append}
+use Rattle.std.proofs.Common.{◌≡◌, ◌<◌, ◌≤◌, ℕ, zero, suc, ◌+◌, List, [], ◌∷◌, ◌++◌, map, length, refl, ap, sym, ◌∙◌, arith, subst, take, Option, None, Some, length-append}
 use Rattle.cics_lanes.specs.Orders.{Order, Lanes, IsOrdered, after, led_by, led_by_any, orders, led_after, orders_from, orders_after, BranchesAt, Reaches, IsFollowed}
 use Rattle.cics_lanes.specs.declared.exploring.Branch.{Branch}
 use Rattle.std.proofs.lemmas.List.{take-append-le, length-map}
@@ -95,16 +95,20 @@ branches_here lanes n s o l k ks b rise short is depth lane =
       after_giver lanes n s o l k ks rise short is ∙ ap (λ j. orders_from lanes n s (o ++ j ∷ [])) (sym lane) ∙ ap (λ p. orders_from lanes n s (p ++ b.lane ∷ [])) (sym whole),
     )
 
+-- an order with one line more
+pub longer : (o p : Order) (l n m : ℕ) → p ≡ o ++ l ∷ [] → length o ≡ n → n + 1 ≡ m → length p ≡ m
+longer o p l n m is long more = omega (arith, ap length is, length-append o (l ∷ []), long, more)
+
 -- an order that is reached, a line further
-pub reaches_on : {S : Type 0} (lanes : Lanes S) (n : ℕ) (s : S) (begun : Order) (now next : S) (o : Order) (b c : Option Branch) (l : ℕ) (ls : List ℕ) →
-    IsOrdered lanes → length o < n → lanes.givers now 0 ≡ l ∷ ls → next ≡ lanes.given now l →
-    BranchesAt lanes n s (o ++ l ∷ []) c → Reaches lanes n s begun now o b → Reaches lanes n s begun next (o ++ l ∷ []) c
-reaches_on lanes n s begun now next o b c l ls rise short is gives branches at =
+pub reaches_on : {S : Type 0} (lanes : Lanes S) (n : ℕ) (s : S) (begun : Order) (now next : S) (o p : Order) (b c : Option Branch) (l : ℕ) (ls : List ℕ) →
+    IsOrdered lanes → length o < n → lanes.givers now 0 ≡ l ∷ ls → next ≡ lanes.given now l → p ≡ o ++ l ∷ [] →
+    BranchesAt lanes n s (o ++ l ∷ []) c → Reaches lanes n s begun now o b → Reaches lanes n s begun next p c
+reaches_on lanes n s begun now next o p b c l ls rise short is gives made branches at =
     record {
-      state = gives ∙ ap (λ t. lanes.given t l) at.state ∙ sym (after-append lanes s o l);
-      same = at.same ∙ from_giver lanes n s o l ls rise short (ap (λ t. lanes.givers t 0) (sym at.state) ∙ is);
-      short = omega (arith, short, length-append o (l ∷ []));
-      branches = branches;
+      state = gives ∙ ap (λ t. lanes.given t l) at.state ∙ sym (after-append lanes s o l) ∙ ap (after lanes s) (sym made);
+      same = at.same ∙ from_giver lanes n s o l ls rise short (ap (λ t. lanes.givers t 0) (sym at.state) ∙ is) ∙ ap (orders_from lanes n s) (sym made);
+      short = omega (arith, short, ap length made, length-append o (l ∷ []));
+      branches = subst (λ p. BranchesAt lanes n s p c) (sym made) branches;
     }
 
 -- an order that is reached is followed, where no lane may give or it has as many lines as there are

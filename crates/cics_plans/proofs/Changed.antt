@@ -1,5 +1,5 @@
 -- The first element of a list that is one is changed; each element is.
-use Rattle.std.proofs.Common.{◌≡◌, ◌<◌, ℕ, zero, suc, Bool, true, false, List, [], ◌∷◌, ◌++◌, map, length, take, drop, get_or, Option, None, Some, option_map, refl, ap, ◌∙◌, arith}
+use Rattle.std.proofs.Common.{◌≡◌, ◌<◌, ℕ, zero, suc, Bool, true, false, List, [], ◌∷◌, ◌++◌, map, length, take, drop, get_or, Option, None, Some, option_map, refl, ap, sym, ◌∙◌, arith}
 use Rattle.std.specs.Prelude.{slice_set, if◌then◌else◌}
 use Rattle.cics_plans.specs.Firsts.{first_place, with_first}
 
@@ -31,6 +31,21 @@ first_at {X} is change (x ∷ xs) n d place = by (first_at is change xs) (is x) 
         let same : k ≡ n = grind (arith, place) in
         let tail = rest n d (at ∙ ap Some same) in
         (omega (arith, tail.0), ap (λ ys. x ∷ ys) tail.1)
+
+-- the same of a place that is found in a view of the list
+module _ {X : Type 0} (is : X → Bool) (xs seen : List X) (same : seen ≡ xs) where
+  pub within : (n : ℕ) → first_place is seen ≡ Some n → n < length xs
+  within n place = by xs (ap (first_place is) (sym same) ∙ place)
+    where
+      by : (xs : List X) → first_place is xs ≡ Some n → n < length xs
+      by [] place = absurd (grind (arith, place))
+      by (x ∷ xs) place = (first_at is (λ x. x) (x ∷ xs) n x place).0
+
+  pub changed : (change : X → X) (n : ℕ) (x y : X) → first_place is seen ≡ Some n → x ≡ get_or xs n x → y ≡ change x → slice_set xs n y ≡ with_first is change xs
+  changed change n x y place at new = ap (slice_set xs n) (new ∙ ap change at) ∙ sym (first_at is change xs n x (ap (first_place is) (sym same) ∙ place)).1
+
+  pub unchanged : (change : X → X) → first_place is seen ≡ None → xs ≡ with_first is change xs
+  unchanged change none = sym (first_none is change xs (ap (first_place is) (sym same) ∙ none))
 
 -- a list whose elements are changed one after the other, a step further
 pub map_step : {X : Type 0} (f : X → X) (xs : List X) (i : ℕ) (d : X) → i < length xs →

@@ -1,6 +1,5 @@
-use Rattle.std.proofs.Common.{◌∙◌, ◌<◌, ap, sym, subst, arith, length, ◌++◌, ◌∷◌, [], length-append}
-use Rattle.cics_lanes.specs.Orders.{Reaches, BranchesAt}
-use Rattle.cics_lanes.proofs.Branching.{reaches_on, followed_end, followed_full}
+use Rattle.std.proofs.Common.{◌<◌, arith, length}
+use Rattle.cics_lanes.proofs.Branching.{longer, reaches_on, followed_end, followed_full}
 use Rattle.cics_lanes.proofs.exploring.go_on.Goals as goal
 
 -- the first lane that may give gives
@@ -13,14 +12,12 @@ loop-depth-preserved g c =
     let found = c.in-Some.ensures in
     let short : length order < c.args.lines = omega (arith, inv.depth, c.loop-depth-test.true) in
     record {
-      depth = ap length c.in_ok-push.ensures.items ∙ length-append order (lane ∷ []) ∙ omega (arith, inv.depth);
+      depth = longer order _ lane _ _ c.in_ok-push.ensures.items inv.depth (omega arith);
       reaches = λ s begun start.
           let at = inv.reaches s begun start in
-          let branches : BranchesAt lanes c.args.lines s (order ++ lane ∷ []) c.branch_at-branch.result
-          = c.branch_at-branch.ensures c.args.lines s order at.state inv.depth short at.branches in
-          subst (λ o. Reaches lanes c.args.lines s begun c.give.new.self o c.branch_at-branch.result) (sym c.in_ok-push.ensures.items)
-          (reaches_on lanes c.args.lines s begun c.loop-depth.walk c.give.new.self order c.loop-depth.branch c.branch_at-branch.result lane found.0
-          g.W.Walk.is_ordered short found.1 c.in_ok-give.ensures branches at);
+          reaches_on lanes c.args.lines s begun c.loop-depth.walk c.give.new.self order _ c.loop-depth.branch c.branch_at-branch.result lane found.0
+          g.W.Walk.is_ordered short found.1 c.in_ok-give.ensures c.in_ok-push.ensures.items
+          (c.branch_at-branch.ensures c.args.lines s order at.state inv.depth short at.branches) at;
     }
 
 -- the order has as many lines as there are
