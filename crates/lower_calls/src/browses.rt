@@ -1,6 +1,6 @@
 //! Calls of a browse.
 
-use crate::files::loaded;
+use crate::files::{empty_file, load, load_all};
 use crate::lines::Call;
 use crate::records::push_record;
 use crate::tries::Lower;
@@ -10,10 +10,19 @@ use cics_names::{Condition, NoMemory, Record};
 use std::alloc::Global;
 
 /// A browse of a file.
-#[derive(Drop)]
 pub(crate) struct Browses {
     file: File,
     browse: Option<Browse>,
+}
+
+// By hand: a derived drop is taken apart wherever browses are dropped.
+impl Drop for Browses {
+    fn drop(self) {
+        let Browses {
+            file: _file,
+            browse: _browse,
+        } = self;
+    }
 }
 
 // Puts what a read of a browse answered at the end.
@@ -28,13 +37,24 @@ fn push_browsed(text: &mut String, browsed: &Browsed) -> Result<(), NoMemory> {
     Ok(())
 }
 
+// Adds the records of `load_all` to a file, and one of more than thirty bytes.
+fn fill(alloc: Global, file: &mut File, more: u64) -> Result<(), NoMemory> {
+    load_all(alloc, file, more)?;
+    load(
+        file,
+        Record::from_slice(alloc, b"9998 a record of more than thirty bytes")?,
+    )?;
+    Ok(())
+}
+
 impl Browses {
-    /// No browse yet of the file that `loaded` gives.
+    /// No browse yet of the file that `fill` fills.
     pub(crate) fn new(alloc: Global, more: u64) -> Result<Browses, NoMemory> {
-        Ok(Browses {
-            file: loaded(alloc, more)?,
-            browse: None,
-        })
+        let mut file = empty_file(alloc);
+        match fill(alloc, &mut file, more) {
+            Ok(()) => Ok(Browses { file, browse: None }),
+            Err(want) => Err(want),
+        }
     }
 
     // STARTBR, or RESETBR if there is a browse. The name says whether it is generic, and whether it

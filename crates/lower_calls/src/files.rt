@@ -12,7 +12,6 @@ use std::alloc::Global;
 use std::fmt::Write;
 
 /// A recoverable file with keys of four bytes, and the images of its changes.
-#[derive(Drop)]
 pub(crate) struct Files {
     file: File,
     images: Images<File>,
@@ -20,14 +19,26 @@ pub(crate) struct Files {
     alloc: Global,
 }
 
-/// An empty file with keys of four bytes, and records of at most eight.
+// By hand: a derived drop is taken apart wherever files are dropped.
+impl Drop for Files {
+    fn drop(self) {
+        let Files {
+            file: _file,
+            images: _images,
+            more: _more,
+            alloc: _alloc,
+        } = self;
+    }
+}
+
+/// An empty file with keys of four bytes, and records of at most sixty.
 pub(crate) fn empty_file(alloc: Global) -> File {
     File::new(
         alloc,
         FileDef {
             key_length: 4,
             key_offset: 0,
-            record_size: 8,
+            record_size: 60,
             recoverable: true,
         },
     )
@@ -41,15 +52,14 @@ pub(crate) fn load(file: &mut File, record: Record) -> Result<Condition, NoMemor
     Ok(file.write(record, false)?.condition)
 }
 
-/// A file with the records `0001aa` and `9999zz`, and so many more between them.
-pub(crate) fn loaded(alloc: Global, more: u64) -> Result<File, NoMemory> {
-    let mut file = empty_file(alloc);
-    load(&mut file, Record::from_slice(alloc, b"0001aa")?)?;
-    load(&mut file, Record::from_slice(alloc, b"9999zz")?)?;
+/// Adds the records `0001aa` and `9999zz` to a file, and so many more between them.
+pub(crate) fn load_all(alloc: Global, file: &mut File, more: u64) -> Result<(), NoMemory> {
+    load(file, Record::from_slice(alloc, b"0001aa")?)?;
+    load(file, Record::from_slice(alloc, b"9999zz")?)?;
     for number in 0..more {
-        load(&mut file, further(alloc, number)?)?;
+        load(file, further(alloc, number)?)?;
     }
-    Ok(file)
+    Ok(())
 }
 
 /// Stores the image of a change that was just made, or undoes the change by it: then the cell still
@@ -73,18 +83,26 @@ pub(crate) fn end<M: Undoable>(
 }
 
 impl Files {
-    /// The file that `loaded` gives, and as many images of other changes.
+    /// The file that `load_all` fills, and as many images of other changes.
     pub(crate) fn new(alloc: Global, more: u64) -> Result<Files, NoMemory> {
         let mut files = Files {
-            file: loaded(alloc, more)?,
+            file: empty_file(alloc),
             images: Images::new(alloc),
             more,
             alloc,
         };
-        for number in 0..more {
-            files.rewrite(further(alloc, number)?, Ending::Kept)?;
+        match files.fill() {
+            Ok(()) => Ok(files),
+            Err(want) => Err(want),
         }
-        Ok(files)
+    }
+
+    fn fill(&mut self) -> Result<(), NoMemory> {
+        load_all(self.alloc, &mut self.file, self.more)?;
+        for number in 0..self.more {
+            self.rewrite(further(self.alloc, number)?, Ending::Kept)?;
+        }
+        Ok(())
     }
 
     fn write(&mut self, record: Record, ending: Ending) -> Result<Condition, NoMemory> {

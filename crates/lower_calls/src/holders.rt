@@ -16,11 +16,21 @@ const SHOWN: [&str; 10] = [
 ];
 
 /// The table of enqueues.
-#[derive(Drop)]
 pub(crate) struct Holders {
     table: Enqueues,
     more: u64,
     alloc: Global,
+}
+
+// By hand: a derived drop is taken apart wherever holders are dropped.
+impl Drop for Holders {
+    fn drop(self) {
+        let Holders {
+            table: _table,
+            more: _more,
+            alloc: _alloc,
+        } = self;
+    }
 }
 
 // The resource of a text: a letter for its kind, and its bytes or its name. All keys and prefixes
@@ -84,16 +94,23 @@ impl Holders {
             more,
             alloc,
         };
-        let mut told = String::new(alloc);
-        for number in 0..more {
+        match holders.add_further() {
+            Ok(()) => Ok(holders),
+            Err(want) => Err(want),
+        }
+    }
+
+    fn add_further(&mut self) -> Result<(), NoMemory> {
+        let mut told = String::new(self.alloc);
+        for number in 0..self.more {
             for kind in ["v", "k"] {
-                let text = format!(in alloc; "{kind}further{number}")?;
+                let text = format!(in self.alloc; "{kind}further{number}")?;
                 if let Ok(Some(resource)) = resource_of(text.as_bytes()) {
-                    holders.take(resource, UnitId::new(9), &mut told)?;
+                    self.take(resource, UnitId::new(9), &mut told)?;
                 }
             }
         }
-        Ok(holders)
+        Ok(())
     }
 
     // Puts at the end who holds a resource, how often, and who holds the least of what overlaps it.

@@ -85,9 +85,7 @@ fn run(rt: &HostRuntime, text: &str) -> Result<(), ExitCode> {
 }
 
 fn main(rt: HostRuntime) -> ExitCode {
-    if switch(rt.alloc(), Requests::Granted).is_err() {
-        return ExitCode::FAILURE;
-    }
+    switch(rt.alloc(), Requests::Granted);
     match io::read_to_string(rt.alloc(), rt.stdin()) {
         Ok(text) => match run(&rt, &text) {
             Ok(()) => ExitCode::SUCCESS,

@@ -50,25 +50,23 @@ fn key_of(alloc: Global, number: u64) -> Result<Record, NoMemory> {
     Record::from_slice(alloc, text.as_bytes())
 }
 
-// A file into which so many keys were written in an order, none of them a second time.
-fn filled(alloc: Global, order: Order, count: u64) -> Result<File, Stop> {
-    let mut file = empty_file(alloc);
+// Writes so many keys into an empty file in an order, none of them a second time.
+fn fill(alloc: Global, file: &mut File, order: Order, count: u64) -> Result<(), Stop> {
     for place in 0..count {
-        let condition = load(&mut file, key_of(alloc, order.at(place, count))?)?;
+        let condition = load(file, key_of(alloc, order.at(place, count))?)?;
         if condition != Condition::Normal {
             return Err(Stop::Order("a key is written"));
         }
     }
-    Ok(file)
+    Ok(())
 }
 
-// Whether the listing of a file has the keys of these numbers, and no others.
-fn lists(alloc: Global, file: &File, numbers: &[u64]) -> Result<bool, NoMemory> {
-    let listing = file.listing()?;
-    if listing.len() != numbers.len() {
+// Whether records are the keys of these numbers.
+fn are_keys(alloc: Global, records: &[Record], numbers: &[u64]) -> Result<bool, NoMemory> {
+    if records.len() != numbers.len() {
         return Ok(false);
     }
-    for (record, number) in listing.as_slice().iter().zip(numbers) {
+    for (record, number) in records.iter().zip(numbers) {
         if *record != key_of(alloc, *number)? {
             return Ok(false);
         }
@@ -86,6 +84,12 @@ fn sorted(alloc: Global, order: Order, are_all: bool) -> Result<Vec<u64>, NoMemo
     }
     numbers.sort()?;
     Ok(numbers)
+}
+
+// Whether a file lists the keys whose places in an order are no third one, or all, and no others.
+fn lists(alloc: Global, file: &File, order: Order, are_all: bool) -> Result<bool, NoMemory> {
+    let numbers = sorted(alloc, order, are_all)?;
+    are_keys(alloc, file.listing()?.as_slice(), &numbers)
 }
 
 // Deletes a record, and keeps the image as the newest.
@@ -112,45 +116,83 @@ fn is_undone(alloc: Global, file: &mut File, order: Order) -> Result<bool, NoMem
             delete_kept(file, &mut images, key.bytes())?;
         }
     }
-    let are_gone = lists(alloc, file, &sorted(alloc, order, false)?)?;
+    let are_gone = lists(alloc, file, order, false)?;
     images.back_out(file);
-    let are_back = lists(alloc, file, &sorted(alloc, order, true)?)?;
+    let are_back = lists(alloc, file, order, true)?;
     Ok(are_gone && are_back && file.interval_count() == intervals)
 }
 
-// Deletes so many keys, with their images or without, and commits that. Says whether nothing is
-// left, no interval either.
-fn is_emptied(alloc: Global, file: &mut File, count: u64, keep: bool) -> Result<bool, NoMemory> {
-    let mut images = Images::new(alloc);
+// Deletes so many keys, with their images or without.
+fn delete_all(
+    alloc: Global,
+    file: &mut File,
+    images: &mut Images<File>,
+    (count, keep): (u64, bool),
+) -> Result<(), NoMemory> {
     for number in 0..count {
         images.make_room(1)?;
         if let Some(image) = file.delete(key_of(alloc, number)?.bytes(), keep)?.image {
             images.store(image);
         }
     }
-    images.forget(file);
+    Ok(())
+}
+
+// Whether a file has no record, and no interval either.
+fn is_empty(file: &File) -> Result<bool, NoMemory> {
     Ok(file.listing()?.is_empty() && file.interval_count() == 0)
+}
+
+// Deletes so many keys, with their images or without, and commits that. Says whether nothing is
+// left, no interval either.
+fn is_emptied(alloc: Global, file: &mut File, count: u64, keep: bool) -> Result<bool, NoMemory> {
+    let mut images = Images::new(alloc);
+    match delete_all(alloc, file, &mut images, (count, keep)) {
+        Ok(()) => {
+            images.forget(file);
+            is_empty(file)
+        }
+        Err(want) => Err(want),
+    }
+}
+
+// Fills an empty file with so many keys, which stand in so many intervals, and deletes them without
+// images.
+fn try_few(
+    alloc: Global,
+    file: &mut File,
+    order: Order,
+    (count, intervals): (u64, u64),
+) -> Result<(), Stop> {
+    fill(alloc, file, order, count)?;
+    if file.interval_count() == intervals && is_emptied(alloc, file, count, false)? {
+        Ok(())
+    } else {
+        Err(Stop::Order("intervals come and go"))
+    }
+}
+
+// Fills an empty file with all keys, deletes every third key, undoes that, and deletes all.
+fn try_all(alloc: Global, file: &mut File, order: Order) -> Result<(), Stop> {
+    fill(alloc, file, order, KEYS)?;
+    if !lists(alloc, file, order, true)? {
+        return Err(Stop::Order("all are listed"));
+    }
+    if !is_undone(alloc, file, order)? {
+        return Err(Stop::Order("every third is deleted and undone"));
+    }
+    if !is_emptied(alloc, file, KEYS, true)? {
+        return Err(Stop::Order("all are deleted"));
+    }
+    Ok(())
 }
 
 /// Fills a file in an order, deletes every third key, undoes that, and empties the file; each time
 /// the whole listing is compared. 16 keys stand in one interval, 17 in two, and deleted without
 /// images they leave none.
 pub(crate) fn is_kept_in_order(alloc: Global, order: Order) -> Result<(), Stop> {
-    for (count, intervals) in [(16, 1), (17, 2)] {
-        let mut file = filled(alloc, order, count)?;
-        if file.interval_count() != intervals || !is_emptied(alloc, &mut file, count, false)? {
-            return Err(Stop::Order("intervals come and go"));
-        }
+    for few in [(16, 1), (17, 2)] {
+        try_few(alloc, &mut empty_file(alloc), order, few)?;
     }
-    let mut file = filled(alloc, order, KEYS)?;
-    if !lists(alloc, &file, &sorted(alloc, order, true)?)? {
-        return Err(Stop::Order("all are listed"));
-    }
-    if !is_undone(alloc, &mut file, order)? {
-        return Err(Stop::Order("every third is deleted and undone"));
-    }
-    if !is_emptied(alloc, &mut file, KEYS, true)? {
-        return Err(Stop::Order("all are deleted"));
-    }
-    Ok(())
+    try_all(alloc, &mut empty_file(alloc), order)
 }

@@ -9,23 +9,40 @@ use cics_transdata::{Recovery, TdRead, TransQueue};
 use std::alloc::Global;
 
 /// A transient data queue.
-#[derive(Drop)]
 pub(crate) struct Queue {
     queue: TransQueue,
     more: u64,
 }
 
+// By hand: a derived drop is taken apart wherever a queue is dropped.
+impl Drop for Queue {
+    fn drop(self) {
+        let Queue {
+            queue: _queue,
+            more: _more,
+        } = self;
+    }
+}
+
+// Writes the records `one` and `two` to a queue, and so many behind them, none of them marked.
+fn fill(alloc: Global, queue: &mut TransQueue, more: u64) -> Result<(), NoMemory> {
+    queue.write(Record::from_slice(alloc, b"one")?)?;
+    queue.write(Record::from_slice(alloc, b"two")?)?;
+    for number in 0..more {
+        queue.write(further(alloc, number)?)?;
+    }
+    queue.commit_writer();
+    Ok(())
+}
+
 impl Queue {
-    /// A queue with the records `one` and `two`, and so many behind them, none of them marked.
+    /// The queue that `fill` fills.
     pub(crate) fn new(alloc: Global, recovery: Recovery, more: u64) -> Result<Queue, NoMemory> {
         let mut queue = TransQueue::new(alloc, recovery);
-        queue.write(Record::from_slice(alloc, b"one")?)?;
-        queue.write(Record::from_slice(alloc, b"two")?)?;
-        for number in 0..more {
-            queue.write(further(alloc, number)?)?;
+        match fill(alloc, &mut queue, more) {
+            Ok(()) => Ok(Queue { queue, more }),
+            Err(want) => Err(want),
         }
-        queue.commit_writer();
-        Ok(Queue { queue, more })
     }
 
     fn write(&mut self, record: Record, ending: Ending) -> Result<Condition, NoMemory> {

@@ -11,11 +11,21 @@ use std::alloc::Global;
 use std::fmt::Write;
 
 /// Temporary storage, and the images of its changes.
-#[derive(Drop)]
 pub(crate) struct Queues {
     store: TempStore,
     images: Images<TempStore>,
     more: u64,
+}
+
+// By hand: a derived drop is taken apart wherever queues are dropped.
+impl Drop for Queues {
+    fn drop(self) {
+        let Queues {
+            store: _store,
+            images: _images,
+            more: _more,
+        } = self;
+    }
 }
 
 // Puts what READQ TS answered at the end.
@@ -45,14 +55,21 @@ impl Queues {
             images: Images::new(alloc),
             more,
         };
-        queues.add("RQ", Record::from_slice(alloc, b"one")?)?;
-        queues.add("RQ", Record::from_slice(alloc, b"two")?)?;
-        for number in 0..more {
-            let name = format!(in alloc; "W{number}")?;
-            queues.add(&name, further(alloc, number)?)?;
-            queues.add("RQ", further(alloc, number)?)?;
+        match queues.fill(alloc) {
+            Ok(()) => Ok(queues),
+            Err(want) => Err(want),
         }
-        Ok(queues)
+    }
+
+    fn fill(&mut self, alloc: Global) -> Result<(), NoMemory> {
+        self.add("RQ", Record::from_slice(alloc, b"one")?)?;
+        self.add("RQ", Record::from_slice(alloc, b"two")?)?;
+        for number in 0..self.more {
+            let name = format!(in alloc; "W{number}")?;
+            self.add(&name, further(alloc, number)?)?;
+            self.add("RQ", further(alloc, number)?)?;
+        }
+        Ok(())
     }
 
     // WRITEQ TS without an image, where the name is one.

@@ -18,7 +18,7 @@ pub(crate) trait Lower {
 }
 
 /// Why a run stopped.
-#[derive(Debug, Drop)]
+#[derive(Debug)]
 pub(crate) enum Stop {
     /// No value or call is called so.
     NoCall,
@@ -34,6 +34,20 @@ pub(crate) enum Stop {
     Order(&'static str),
     /// There was no memory for what is compared.
     NoRoom,
+}
+
+// By hand: a derived drop is taken apart wherever a reason to stop is dropped.
+impl Drop for Stop {
+    fn drop(self) {
+        match self {
+            Stop::NoCall | Stop::NoRoom => {}
+            Stop::Otherwise(_line, _came) => {}
+            Stop::Changed(_line) => {}
+            Stop::Refused(_line) => {}
+            Stop::Endless(_line) => {}
+            Stop::Order(_step) => {}
+        }
+    }
 }
 
 impl From<NoMemory> for Stop {
@@ -70,20 +84,22 @@ const MOST: u64 = 20_000;
 // How many bytes an answer has room for: a call has to tell it without memory.
 const ROOM: usize = 60_000;
 
-// Asks for so many bytes, and gives them back.
-fn request(alloc: Global, size: usize) -> Result<(), NoMemory> {
-    let _bytes: Vec<u8> = Vec::with_capacity(alloc, size)?;
-    Ok(())
+// Asks for so many bytes, and gives them back. Returns whether they were granted.
+fn is_granted(alloc: Global, size: usize) -> bool {
+    let bytes: Result<Vec<u8>, AllocError> = Vec::with_capacity(alloc, size);
+    bytes.is_ok()
 }
 
-/// Says what becomes of the requests that follow.
-pub(crate) fn switch(alloc: Global, requests: Requests) -> Result<(), NoMemory> {
-    match requests {
-        Requests::Granted => request(alloc, 70_002),
-        Requests::Forbidden => request(alloc, 70_003),
-        Requests::First => request(alloc, 70_005),
-        Requests::Next => request(alloc, 70_006),
-    }
+/// Says what becomes of the requests that follow. The library hears it even if there is no memory
+/// for the request that says it.
+pub(crate) fn switch(alloc: Global, requests: Requests) {
+    let size = match requests {
+        Requests::Granted => 70_002,
+        Requests::Forbidden => 70_003,
+        Requests::First => 70_005,
+        Requests::Next => 70_006,
+    };
+    let _is_granted = is_granted(alloc, size);
 }
 
 // All that a value shows.
@@ -101,9 +117,9 @@ fn made<L: Lower>(
 ) -> Result<Option<String>, NoMemory> {
     let given = Record::from_slice(alloc, line.given.as_bytes())?;
     let mut told = String::with_capacity(alloc, ROOM)?;
-    switch(alloc, line.requests)?;
+    switch(alloc, line.requests);
     let came = lower.call(&line.call, given, &mut told);
-    switch(alloc, Requests::Granted)?;
+    switch(alloc, Requests::Granted);
     match came {
         Ok(()) => Ok(Some(told)),
         Err(_) => Ok(None),
@@ -115,7 +131,7 @@ fn made<L: Lower>(
 fn is_done<L: Lower>(lower: &mut L, alloc: Global, line: &Line<'_>) -> Result<bool, Stop> {
     let before = shown(lower, alloc)?;
     let came = made(lower, alloc, line)?;
-    let was_refused = request(alloc, ASK).is_err();
+    let was_refused = !is_granted(alloc, ASK);
     let is_change = shown(lower, alloc)?.as_str() != before.as_str();
     let text = line.text.to_string(alloc)?;
     match came {
@@ -131,7 +147,7 @@ fn is_done<L: Lower>(lower: &mut L, alloc: Global, line: &Line<'_>) -> Result<bo
 
 // Makes the call of a line until none of its requests is refused.
 fn try_line<L: Lower>(lower: &mut L, alloc: Global, line: &Line<'_>) -> Result<(), Stop> {
-    switch(alloc, Requests::First)?;
+    switch(alloc, Requests::First);
     for _ in 0..MOST {
         if is_done(lower, alloc, line)? {
             return Ok(());
