@@ -26,16 +26,6 @@ impl Drop for Command {
     }
 }
 
-impl Command {
-    /// Returns its verb, and whether the task is told each condition.
-    pub fn into_parts(self) -> (Verb, bool)
-        ensures { result ≡ (self.verb, self.resp) }
-    {
-        let Command { verb, resp } = self;
-        (verb, resp)
-    }
-}
-
 /// What a command asks for, with the options that make a difference.
 ///
 /// Common to the options:
