@@ -1,12 +1,9 @@
 -- Bytes that are compared as one number.
-use Rattle.std.proofs.Common.{◌≡◌, ℕ, zero, suc, ◌+◌, ◌*◌, ◌<◌, ◌≤◌, Bool, List, [], ◌∷◌, length, take, drop, refl, sym, ◌∙◌, ap, arith}
-use Rattle.std.specs.Prelude.{◌==◌, nat_eq}
+use Rattle.std.proofs.Common.{◌≡◌, ℕ, zero, suc, ◌+◌, ◌*◌, ◌<◌, ◌≤◌, List, [], ◌∷◌, length, take, drop, refl, sym, ◌∙◌, ap, arith}
 use Rattle.std.specs.declared.cmp.Ordering.{Ordering}
 use Rattle.std.specs.declared.cmp.Ordering.TheVariants.{Less, Equal, Greater}
-use Rattle.std.specs.Ordering.{nat_cmp, ordering_then, is_eq, MatchOrdering}
-use Rattle.std.specs.Cmp.{ranks, nat_cmp_is, unsigned_ties}
-use Rattle.std.specs.Cmp.Lexicographic.{pointwise, texts_ties}
-use Rattle.std.specs.Int.{w32, w64, from_be_bytes}
+use Rattle.std.specs.Ordering.{nat_cmp, ordering_then, MatchOrdering}
+use Rattle.std.specs.Cmp.{ranks, nat_cmp_is}
 use Rattle.cics_names.specs.Keyed.{bytes_cmp}
 use Rattle.cics_names.specs.Numbers.{number, AreBytes}
 
@@ -95,16 +92,3 @@ as_numbers n us vs p q bu bv =
     ∙ then_equal _
     ∙ ap (λ l. nat_cmp (number 0 l) (number 0 (take n vs))) (all n us p)
     ∙ ap (λ l. nat_cmp (number 0 us) (number 0 l)) (all n vs q))
-
--- and so they are the same where the numbers are
-pub same_as_numbers : (n : ℕ) (us vs : List ℕ) → length us ≡ n → length vs ≡ n → AreBytes n us → AreBytes n vs → (number 0 us == number 0 vs) ≡ pointwise nat_eq us vs
-same_as_numbers n us vs p q bu bv = unsigned_ties (number 0 us) (number 0 vs) ∙ ap is_eq (as_numbers n us vs p q bu bv) ∙ sym (texts_ties us vs)
-
--- eight bytes, and four, are the number that they are read as
-pub eight : (bs : List ℕ) → length bs ≡ 8 → from_be_bytes w64 bs ≡ number 0 bs
-eight (a ∷ b ∷ c ∷ d ∷ e ∷ f ∷ g ∷ h ∷ []) p = omega arith
-eight _ p = absurd (omega arith)
-
-pub four : (bs : List ℕ) → length bs ≡ 4 → from_be_bytes w32 bs ≡ number 0 bs
-four (a ∷ b ∷ c ∷ d ∷ []) p = omega arith
-four _ p = absurd (omega arith)

@@ -31,7 +31,7 @@ pub enum NameFault {
 ///
 /// Two spellings that are filled up to the same bytes are one name. Names are equal, are ordered
 /// and are hashed by the eight bytes, the order being that of unsigned bytes from the first one on.
-#[derive(Clone, Copy, Debug)]
+#[derive(Clone, Copy, Debug, PartialEq, Eq)]
 pub struct Name8 {
     bytes: [u8; 8],
 }
@@ -41,7 +41,7 @@ pub struct Name8 {
 ///
 /// Two spellings that are filled up to the same bytes are one name. Names are equal, are ordered
 /// and are hashed by the four bytes, the order being that of unsigned bytes from the first one on.
-#[derive(Clone, Copy, Debug)]
+#[derive(Clone, Copy, Debug, PartialEq, Eq)]
 pub struct Name4 {
     bytes: [u8; 4],
 }
@@ -67,7 +67,7 @@ impl Model for Name4 {
 }
 
 impl Name8 {
-    // Its bytes as one number, by which names are compared: faster than byte by byte.
+    // Its bytes as one number, by which names are ordered: faster than byte by byte.
     fn number(&self) -> u64
         ensures value { result ≡ number 0 self.now }
         ensures count { length self.now ≡ 8 }
@@ -78,28 +78,6 @@ impl Name8 {
             bytes[0], bytes[1], bytes[2], bytes[3], bytes[4], bytes[5], bytes[6], bytes[7],
         ])
     }
-}
-
-impl PartialEq for Name8 {
-    ghost use Rattle.std.specs.Prelude.{◌==◌};
-    ghost use Rattle.std.proofs.Common.{rules};
-    ghost use Rattle.std.specs.Cmp.Rules.{comparing};
-    ghost use Rattle.std.specs.Cmp.Lexicographic.{pointwise};
-
-    ghost eq = { pointwise (λ x y. x == y) };
-
-    ghost laws = { Prim.search (comparing, rules) };
-
-    fn eq(&self, other: &Name8) -> bool {
-        self.number() == other.number()
-    }
-}
-
-impl Eq for Name8 {
-    ghost use Rattle.std.proofs.Common.{rules};
-    ghost use Rattle.std.specs.Cmp.Rules.{comparing};
-
-    ghost laws = { Prim.search (comparing, rules) };
 }
 
 impl PartialOrd for Name8 {
@@ -135,7 +113,7 @@ impl Ord for Name8 {
 }
 
 impl Name4 {
-    // Its bytes as one number, by which names are compared: faster than byte by byte.
+    // Its bytes as one number, by which names are ordered: faster than byte by byte.
     fn number(&self) -> u32
         ensures value { result ≡ number 0 self.now }
         ensures count { length self.now ≡ 4 }
@@ -144,28 +122,6 @@ impl Name4 {
         let bytes = self.bytes.as_slice();
         u32::from_be_bytes([bytes[0], bytes[1], bytes[2], bytes[3]])
     }
-}
-
-impl PartialEq for Name4 {
-    ghost use Rattle.std.specs.Prelude.{◌==◌};
-    ghost use Rattle.std.proofs.Common.{rules};
-    ghost use Rattle.std.specs.Cmp.Rules.{comparing};
-    ghost use Rattle.std.specs.Cmp.Lexicographic.{pointwise};
-
-    ghost eq = { pointwise (λ x y. x == y) };
-
-    ghost laws = { Prim.search (comparing, rules) };
-
-    fn eq(&self, other: &Name4) -> bool {
-        self.number() == other.number()
-    }
-}
-
-impl Eq for Name4 {
-    ghost use Rattle.std.proofs.Common.{rules};
-    ghost use Rattle.std.specs.Cmp.Rules.{comparing};
-
-    ghost laws = { Prim.search (comparing, rules) };
 }
 
 impl PartialOrd for Name4 {
@@ -201,14 +157,14 @@ impl Ord for Name4 {
 }
 
 impl Hash for Name8 {
-    ghost use Rattle.std.specs.Cmp.Lexicographic.{bytes_decides};
-    ghost use Rattle.std.proofs.Common.{ap};
+    ghost use Rattle.std.proofs.Common.{rules};
+    ghost use Rattle.std.specs.Cmp.Rules.{hashing};
     ghost use Rattle.std.specs.Hash as fed;
     ghost use Rattle.std.specs.Int.{w64, from_be_bytes};
 
     ghost hash_input = { λ n. fed.u64 (from_be_bytes w64 n) };
 
-    ghost respects_eq = { λ a b same. ap (λ n. fed.u64 (from_be_bytes w64 n)) ((bytes_decides a b).0 same) };
+    ghost respects_eq = { Prim.search (hashing, rules) };
 
     // As one number, since a hasher takes a number faster than so many bytes.
     fn hash<H: Hasher>(&self, state: &mut H) {
@@ -217,14 +173,14 @@ impl Hash for Name8 {
 }
 
 impl Hash for Name4 {
-    ghost use Rattle.std.specs.Cmp.Lexicographic.{bytes_decides};
-    ghost use Rattle.std.proofs.Common.{ap};
+    ghost use Rattle.std.proofs.Common.{rules};
+    ghost use Rattle.std.specs.Cmp.Rules.{hashing};
     ghost use Rattle.std.specs.Hash as fed;
     ghost use Rattle.std.specs.Int.{w32, from_be_bytes};
 
     ghost hash_input = { λ n. fed.u32 (from_be_bytes w32 n) };
 
-    ghost respects_eq = { λ a b same. ap (λ n. fed.u32 (from_be_bytes w32 n)) ((bytes_decides a b).0 same) };
+    ghost respects_eq = { Prim.search (hashing, rules) };
 
     // As one number, since a hasher takes a number faster than so many bytes.
     fn hash<H: Hasher>(&self, state: &mut H) {
