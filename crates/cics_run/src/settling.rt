@@ -1,10 +1,11 @@
 //! What a region does by itself after an event.
 
 ghost use Rattle.std.specs.Prelude.{◌≡◌, ◌++◌, None, length, IfOk, OnOk};
+ghost use Rattle.cics_run.specs.Journal.{woken_line};
 ghost use Rattle.cics_run.specs.Settling.{settled, region_at, turn, Turns};
 
 use crate::journal::{push_expired, push_woken};
-use cics_dispatch::Region;
+use cics_dispatch::{Region, Woken};
 use cics_names::NoMemory;
 
 /// Drains a region: runs wake-ups and time-outs until neither applies, and prints each. Wake-ups
@@ -44,7 +45,7 @@ fn turn(region: &mut Region, out: &mut Vec<u8>) -> Result<bool, NoMemory>
 {
     match region.wake() {
         Ok(Some(woken)) => {
-            push_woken(out, &woken)?;
+            tell_woken(woken, out)?;
             Ok(true)
         }
         Ok(None) => match region.expire() {
@@ -56,4 +57,11 @@ fn turn(region: &mut Region, out: &mut Vec<u8>) -> Result<bool, NoMemory>
         },
         Err(_) => Err(NoMemory),
     }
+}
+
+// Prints the line of a command that went on, which is dropped here, at one place.
+fn tell_woken(woken: Woken, out: &mut Vec<u8>) -> Result<(), NoMemory>
+    ensures { OnOk result (out.new.items ≡ out.old.items ++ woken_line woken) }
+{
+    push_woken(out, &woken)
 }

@@ -3,7 +3,7 @@
 ghost use Rattle.std.specs.Prelude.{◌≡◌, ◌++◌, ◌<◌, ◌&&◌, ℕ, OnOk, IfOk, length};
 ghost use Rattle.cics_history.specs.Store.{is_normal, is_recoverable};
 ghost use Rattle.cics_run.specs.Serial.{unit_label, unit_command_line, verb_for, entry_lines};
-ghost use Rattle.cics_run.specs.Serial.{done_lines};
+ghost use Rattle.cics_run.specs.Serial.{done_lines, unlock_line};
 ghost use Rattle.cics_run.specs.UnitLines.{lines_at, lines_added};
 
 use cics_enqueue::UnitId;
@@ -65,14 +65,22 @@ fn grow(rows: &mut Vec<Vec<u8>>, alloc: Global, last: usize) -> Result<(), NoMem
     Ok(())
 }
 
-// The lines of a command. READ UPDATE gives up an update read of the file that may be open.
+// The lines of a command.
 fn push_entry(out: &mut Vec<u8>, entry: &Entry) -> Result<(), NoMemory>
     ensures { OnOk result (out.new.items ≡ out.old.items ++ entry_lines entry.now) }
 {
-    if let Op::ReadUpdate { file, .. } = &entry.op {
-        push_command(out, entry.unit, Verb::Unlock { file: *file })?;
-    }
+    push_unlock(out, entry.unit, &entry.op)?;
     push_command(out, entry.unit, verb_for(&entry.op)?)
+}
+
+// In front of READ UPDATE an update read of the file that may be open is given up.
+fn push_unlock(out: &mut Vec<u8>, unit: UnitId, op: &Op) -> Result<(), NoMemory>
+    ensures { OnOk result (out.new.items ≡ out.old.items ++ unlock_line unit op.now) }
+{
+    match op {
+        Op::ReadUpdate { file, .. } => push_command(out, unit, Verb::Unlock { file: *file }),
+        _ => Ok(()),
+    }
 }
 
 /// A command of the task of a unit.

@@ -1,10 +1,10 @@
 use Rattle.cics_run.proofs.Settles.{took_woken, took_expired, took_none}
 use Rattle.cics_run.proofs.settling.turn.Goals as goal
 
-pub returns-in_ok-push_woken-in-Ok-Some : goal.returns-in_ok-push_woken-in-Ok-Some
-returns-in_ok-push_woken-in-Ok-Some c =
+pub returns-in_ok-tell_woken-in-Ok-Some : goal.returns-in_ok-tell_woken-in-Ok-Some
+returns-in_ok-tell_woken-in-Ok-Some c =
     let arm = c.in-Ok-Some in
-    took_woken c.args.region.now.machine c.wake.new.self _ _ arm.field-0 arm.woken arm.ensures.step.0 arm.field-0-is arm.ensures.step.1 arm.ensures.headline c.in_ok-push_woken-in-Ok-Some.ensures
+    took_woken c.args.region.now.machine c.wake.new.self _ _ arm.field-0 arm.woken arm.ensures.step.0 arm.field-0-is arm.ensures.step.1 arm.ensures.headline c.in_ok-tell_woken-in-Ok-Some.ensures
 
 pub returns-in_ok-push_expired-in-Some : goal.returns-in_ok-push_expired-in-Some
 returns-in_ok-push_expired-in-Some c =
