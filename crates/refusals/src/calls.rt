@@ -1,7 +1,7 @@
 //! Scripts on units of work: a command of the label U0 is a call for unit 0, one of NEW for a task
 //! without a unit. A command of H0, or of HNEW, is handed over.
 
-use crate::events::{Came, Event};
+use crate::events::{Came, Event, Word};
 use crate::guarded_calls::{dequeue, end, enqueue, execute, hand_over, is_open, unlock};
 use crate::runs::Target;
 use crate::scripts::Step;
@@ -243,11 +243,11 @@ fn replayed(units: &Units) -> Result<Listing, NoMemory> {
 fn happen(units: &mut Units, event: &Event) -> Result<Came, NoMemory> {
     match event {
         Event::Line(Line::Issue(label, command)) => run_command(units, label, &command.verb),
-        Event::Listing => Ok(Came::Listed(units.listing()?)),
-        Event::Replay => Ok(Came::Listed(replayed(units)?)),
-        Event::Intervals => Ok(Came::Intervals(intervals(units)?)),
-        Event::Wake | Event::Expire => Ok(Came::Nothing),
         Event::Line(_) => Ok(Came::MayNot),
+        Event::Word(Word::Listing) => Ok(Came::Listed(units.listing()?)),
+        Event::Word(Word::Replay) => Ok(Came::Listed(replayed(units)?)),
+        Event::Word(Word::Intervals) => Ok(Came::Intervals(intervals(units)?)),
+        Event::Word(_) => Ok(Came::Nothing),
     }
 }
 

@@ -11,6 +11,13 @@ use std::alloc::Global;
 pub(crate) enum Event {
     /// What a line of a script says.
     Line(Line),
+    /// What a line of one word asks for.
+    Word(Word),
+}
+
+/// What a line of one word asks for.
+#[derive(Clone, Copy, PartialEq, Eq)]
+pub(crate) enum Word {
     /// `WAKE`: the first waiting command that needn't wait any more resumes.
     Wake,
     /// `EXPIRE`: the first task that has waited too long is abended.
@@ -24,7 +31,6 @@ pub(crate) enum Event {
 }
 
 /// What came of an event.
-#[derive(Drop)]
 pub(crate) enum Came {
     /// Nothing: no command may resume, or no task has waited too long.
     Nothing,
@@ -49,19 +55,45 @@ pub(crate) enum Came {
     MayNot,
 }
 
+// By hand: a derived drop is taken apart wherever what came of an event is dropped.
+impl Drop for Came {
+    fn drop(self) {
+        match self {
+            Came::Nothing | Came::Defined | Came::MayNot => {}
+            Came::Faulty(_fault) => {}
+            Came::Attached(_label, _transaction) => {}
+            Came::Clock(_number) | Came::Down(_number) | Came::Intervals(_number) => {}
+            Came::Told(_label, _outcome) => {}
+            Came::Woken(_woken) => {}
+            Came::Expired(_expired) => {}
+            Came::Refused(_label, _why) => {}
+            Came::ClockRefused(_why) | Came::ShutdownRefused(_why) => {}
+            Came::Listed(_listing) => {}
+        }
+    }
+}
+
+// What a line asks for, if it is one of these words.
+fn word_of(line: &str) -> Option<Word> {
+    match line {
+        "WAKE" => Some(Word::Wake),
+        "EXPIRE" => Some(Word::Expire),
+        "LISTING" => Some(Word::Listing),
+        "REPLAY" => Some(Word::Replay),
+        "INTERVALS" => Some(Word::Intervals),
+        _ => None,
+    }
+}
+
 /// Returns the event of a line; None if the line is no event.
 pub(crate) fn event_of(alloc: Global, line: &str) -> Result<Option<Event>, NoMemory> {
-    match line {
-        "WAKE" => Ok(Some(Event::Wake)),
-        "EXPIRE" => Ok(Some(Event::Expire)),
-        "LISTING" => Ok(Some(Event::Listing)),
-        "REPLAY" => Ok(Some(Event::Replay)),
-        "INTERVALS" => Ok(Some(Event::Intervals)),
-        _ => match read_line(alloc, line.as_bytes()) {
-            Ok(line) => Ok(Some(Event::Line(line))),
-            Err(LineFault::NoMemory) => Err(NoMemory),
-            Err(_) => Ok(None),
-        },
+    if let Some(word) = word_of(line) {
+        return Ok(Some(Event::Word(word)));
+    }
+    match read_line(alloc, line.as_bytes()) {
+        Ok(line) => Ok(Some(Event::Line(line))),
+        Err(LineFault::NoMemory) => Err(NoMemory),
+        Err(_) => Ok(None),
     }
 }
 
@@ -89,8 +121,9 @@ impl Event {
                 is_growing(&command.verb) && !is_of_checks(&command.verb, answer)
             }
             Event::Line(Line::Attach { .. }) => !answer.contains(" REFUSED "),
-            Event::Line(Line::Clock(_) | Line::Shutdown) | Event::Expire => false,
-            _ => true,
+            Event::Line(Line::Clock(_) | Line::Shutdown) => false,
+            Event::Line(_) => true,
+            Event::Word(word) => *word != Word::Expire,
         }
     }
 }

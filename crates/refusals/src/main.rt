@@ -88,7 +88,7 @@ fn run_script(
     let kind = Kind::of(script);
     let text = written_out(alloc, first, script, further)?;
     let steps = steps_of(alloc, &text)?;
-    let run = Run::new(alloc, &steps, are_refused(alloc)? && !kind.is_ample);
+    let run = Run::new(alloc, &steps, are_refused(alloc) && !kind.is_ample);
     let came = if kind.on_units {
         run_with_end::<Units>(run, ends)?
     } else {
@@ -123,9 +123,7 @@ fn run_text(rt: &HostRuntime, text: &str) -> Result<(), ExitCode> {
 }
 
 fn main(rt: HostRuntime) -> ExitCode {
-    if switch(rt.alloc(), Requests::Granted).is_err() {
-        return ExitCode::FAILURE;
-    }
+    switch(rt.alloc(), Requests::Granted);
     match io::read_to_string(rt.alloc(), rt.stdin()) {
         Ok(text) => {
             match run_text(&rt, &text) {

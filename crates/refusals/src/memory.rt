@@ -4,8 +4,7 @@
 //! but the last, which asks whether a request was refused, and is refused if one was. Without the
 //! library all are granted, and nothing was refused.
 
-use cics_names::NoMemory;
-use std::alloc::Global;
+use std::alloc::{AllocError, Global};
 
 /// What becomes of the requests that follow.
 #[derive(Clone, Copy, PartialEq, Eq)]
@@ -23,32 +22,34 @@ pub(crate) enum Requests {
 // The size of the request that asks whether one was refused.
 const ASK: usize = 70_004;
 
-// Asks for so many bytes, and gives them back.
-fn request(alloc: Global, size: usize) -> Result<(), NoMemory> {
-    let _bytes: Vec<u8> = Vec::with_capacity(alloc, size)?;
-    Ok(())
+// Asks for so many bytes, and gives them back. Returns whether they were granted.
+fn is_granted(alloc: Global, size: usize) -> bool {
+    let bytes: Result<Vec<u8>, AllocError> = Vec::with_capacity(alloc, size);
+    bytes.is_ok()
 }
 
-/// Says what becomes of the requests that follow.
-pub(crate) fn switch(alloc: Global, requests: Requests) -> Result<(), NoMemory> {
-    match requests {
-        Requests::Granted => request(alloc, 70_002),
-        Requests::Forbidden => request(alloc, 70_003),
-        Requests::First => request(alloc, 70_005),
-        Requests::Next => request(alloc, 70_006),
-    }
+/// Says what becomes of the requests that follow. The library hears it even if there is no memory
+/// for the request that says it.
+pub(crate) fn switch(alloc: Global, requests: Requests) {
+    let size = match requests {
+        Requests::Granted => 70_002,
+        Requests::Forbidden => 70_003,
+        Requests::First => 70_005,
+        Requests::Next => 70_006,
+    };
+    let _is_granted = is_granted(alloc, size);
 }
 
 /// Returns whether a request was refused since this was asked last.
 pub(crate) fn was_refused(alloc: Global) -> bool {
-    request(alloc, ASK).is_err()
+    !is_granted(alloc, ASK)
 }
 
 /// Returns whether requests are refused at all, as they are if the library is loaded.
-pub(crate) fn are_refused(alloc: Global) -> Result<bool, NoMemory> {
-    switch(alloc, Requests::First)?;
-    switch(alloc, Requests::Next)?;
-    let refused = request(alloc, 1).is_err();
-    switch(alloc, Requests::Granted)?;
-    Ok(was_refused(alloc) && refused)
+pub(crate) fn are_refused(alloc: Global) -> bool {
+    switch(alloc, Requests::First);
+    switch(alloc, Requests::Next);
+    let granted = is_granted(alloc, 1);
+    switch(alloc, Requests::Granted);
+    was_refused(alloc) && !granted
 }

@@ -9,16 +9,24 @@ use cics_run::listing::push_listing;
 use cics_script::{Line, push_name};
 use cics_units::{DefineFault, Opening, plain_replay};
 use std::alloc::Global;
+use std::mem;
+
+// Defines what a line says.
+fn define(opening: &mut Opening, line: &Line) -> Result<(), DefineFault> {
+    match line {
+        Line::DefineFile(name, definition) => opening.define_file(*name, *definition),
+        Line::DefineTsPrefix(prefix) => opening.define_ts_prefix(*prefix),
+        Line::DefineTd(name, recovery) => opening.define_td(*name, *recovery),
+        _ => Err(DefineFault::NotThere),
+    }
+}
 
 // Defines or loads what a line says.
-fn define(opening: &mut Opening, line: Line) -> Result<(), DefineFault> {
+fn define_or_load(opening: &mut Opening, line: Line) -> Result<(), DefineFault> {
     match line {
-        Line::DefineFile(name, definition) => opening.define_file(name, definition),
-        Line::DefineTsPrefix(prefix) => opening.define_ts_prefix(prefix),
-        Line::DefineTd(name, recovery) => opening.define_td(name, recovery),
         Line::LoadFile(name, content) => opening.load_file(name, content),
         Line::LoadTd(name, content) => opening.load_td(name, content),
-        _ => Err(DefineFault::NotThere),
+        line => define(opening, &line),
     }
 }
 
@@ -30,13 +38,13 @@ impl Target for Opening {
     fn happen(&mut self, event: Event) -> Result<Came, NoMemory> {
         match event {
             Event::Line(line) => {
-                match define(self, line) {
+                match define_or_load(self, line) {
                     Ok(()) => Ok(Came::Defined),
                     Err(DefineFault::NoMemory) => Err(NoMemory),
                     Err(fault) => Ok(Came::Faulty(fault)),
                 }
             }
-            _ => Ok(Came::Nothing),
+            Event::Word(_) => Ok(Came::Nothing),
         }
     }
 
@@ -53,36 +61,37 @@ impl Target for Opening {
     }
 }
 
-// Starts with an opening. If a request was refused it comes back, and has to be as it was.
-fn start_once<T: Target + Drop>(
-    run: Run<'_>,
-    opening: Opening,
-) -> Result<Result<T, Opening>, Stop> {
-    let before = run.state(&opening)?;
-    switch(run.alloc, run.requests(false))?;
-    let started = T::start(opening);
-    switch(run.alloc, Requests::Granted)?;
-    match (started, was_refused(run.alloc)) {
-        (Ok(target), false) => Ok(Ok(target)),
-        (Err(opening), true) => {
-            if run.state(&opening)?.as_slice() == before.as_slice() {
-                Ok(Err(opening))
-            } else {
-                Err(Stop::Start)
-            }
+// Starts with an opening. Returns None if that was refused: then the opening is the one that came
+// back.
+fn start_once<T: Target + Drop>(run: Run<'_>, opening: &mut Opening) -> Option<T> {
+    let taken = mem::replace(opening, Opening::new(run.alloc));
+    switch(run.alloc, run.requests(false));
+    let started = T::start(taken);
+    switch(run.alloc, Requests::Granted);
+    match started {
+        Ok(target) => Some(target),
+        Err(back) => {
+            *opening = back;
+            None
         }
-        _ => Err(Stop::Start),
     }
 }
 
-/// Starts with an opening, with each of its requests refused in turn.
-pub(crate) fn start<T: Target + Drop>(run: Run<'_>, opening: Opening) -> Result<T, Stop> {
-    switch(run.alloc, run.requests(true))?;
-    let mut held = opening;
+/// Starts with an opening, with each of its requests refused in turn. Each time that it comes back
+/// it has to be as it was.
+pub(crate) fn start<T: Target + Drop>(run: Run<'_>, opening: &mut Opening) -> Result<T, Stop> {
+    let before = run.state(opening)?;
+    switch(run.alloc, run.requests(true));
     for _ in 0..MOST {
-        match start_once(run, held)? {
-            Ok(target) => return Ok(target),
-            Err(opening) => held = opening,
+        let started: Option<T> = start_once(run, opening);
+        if was_refused(run.alloc) != started.is_none() {
+            return Err(Stop::Start);
+        }
+        if let Some(target) = started {
+            return Ok(target);
+        }
+        if run.state(opening)?.as_slice() != before.as_slice() {
+            return Err(Stop::Start);
         }
     }
     Err(Stop::Start)

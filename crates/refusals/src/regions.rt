@@ -1,7 +1,7 @@
 //! Scripts on a region.
 
 use crate::calls::intervals;
-use crate::events::{Came, Event};
+use crate::events::{Came, Event, Word};
 use crate::runs::Target;
 use crate::scripts::Step;
 use crate::states::push_units;
@@ -26,23 +26,22 @@ fn issue(region: &mut Region, label: Name8, command: Command) -> Result<Came, No
     }
 }
 
-// Lets happen what a line says.
-fn happen_by_line(region: &mut Region, line: Line) -> Result<Came, NoMemory> {
+// Lets happen what a line says that issues no command.
+fn happen_by_copy(region: &mut Region, line: &Line) -> Result<Came, NoMemory> {
     match line {
-        Line::Issue(label, command) => issue(region, label, command),
         Line::Attach {
             label,
             transaction,
             dtimout,
         } => {
-            match region.attach(label, transaction, dtimout) {
-                Ok(()) => Ok(Came::Attached(label, transaction)),
-                Err(why) => refused(label, why),
+            match region.attach(*label, *transaction, *dtimout) {
+                Ok(()) => Ok(Came::Attached(*label, *transaction)),
+                Err(why) => refused(*label, why),
             }
         }
         Line::Clock(seconds) => {
-            match region.set_clock(seconds) {
-                Ok(()) => Ok(Came::Clock(seconds)),
+            match region.set_clock(*seconds) {
+                Ok(()) => Ok(Came::Clock(*seconds)),
                 Err(why) => Ok(Came::ClockRefused(why)),
             }
         }
@@ -56,6 +55,36 @@ fn happen_by_line(region: &mut Region, line: Line) -> Result<Came, NoMemory> {
     }
 }
 
+// Lets happen what a line says.
+fn happen_by_line(region: &mut Region, line: Line) -> Result<Came, NoMemory> {
+    match line {
+        Line::Issue(label, command) => issue(region, label, command),
+        line => happen_by_copy(region, &line),
+    }
+}
+
+// Lets happen what a line of one word asks for.
+fn happen_by_word(region: &mut Region, word: Word) -> Result<Came, NoMemory> {
+    match word {
+        Word::Wake => {
+            match region.wake() {
+                Ok(Some(woken)) => Ok(Came::Woken(woken)),
+                Ok(None) => Ok(Came::Nothing),
+                Err(_) => Err(NoMemory),
+            }
+        }
+        Word::Expire => {
+            match region.expire() {
+                Some(expired) => Ok(Came::Expired(expired)),
+                None => Ok(Came::Nothing),
+            }
+        }
+        Word::Listing => Ok(Came::Listed(region.listing()?)),
+        Word::Replay => Ok(Came::Listed(region.replayed()?)),
+        Word::Intervals => Ok(Came::Intervals(intervals(region.units())?)),
+    }
+}
+
 impl Target for Region {
     fn start(opening: Opening) -> Result<Region, Opening> {
         Region::new(opening)
@@ -64,22 +93,7 @@ impl Target for Region {
     fn happen(&mut self, event: Event) -> Result<Came, NoMemory> {
         match event {
             Event::Line(line) => happen_by_line(self, line),
-            Event::Wake => {
-                match self.wake() {
-                    Ok(Some(woken)) => Ok(Came::Woken(woken)),
-                    Ok(None) => Ok(Came::Nothing),
-                    Err(_) => Err(NoMemory),
-                }
-            }
-            Event::Expire => {
-                match self.expire() {
-                    Some(expired) => Ok(Came::Expired(expired)),
-                    None => Ok(Came::Nothing),
-                }
-            }
-            Event::Listing => Ok(Came::Listed(self.listing()?)),
-            Event::Replay => Ok(Came::Listed(self.replayed()?)),
-            Event::Intervals => Ok(Came::Intervals(intervals(self.units())?)),
+            Event::Word(word) => happen_by_word(self, word),
         }
     }
 

@@ -44,7 +44,7 @@ pub(crate) enum Wrong {
 }
 
 /// Why a run stopped.
-#[derive(Debug, Drop)]
+#[derive(Debug)]
 pub(crate) enum Stop {
     /// This is wrong with the line.
     At(Wrong, String),
@@ -58,6 +58,17 @@ pub(crate) enum Stop {
     Granted,
     /// There was no memory for what is compared.
     NoRoom,
+}
+
+// By hand: a derived drop is taken apart wherever a reason to stop is dropped.
+impl Drop for Stop {
+    fn drop(self) {
+        match self {
+            Stop::At(_wrong, _line) => {}
+            Stop::Otherwise(_line, _came) => {}
+            Stop::Start | Stop::GivenUp | Stop::Granted | Stop::NoRoom => {}
+        }
+    }
 }
 
 impl From<NoMemory> for Stop {
@@ -128,43 +139,37 @@ impl<'a> Run<'a> {
         }
     }
 
-    // Lets an event happen while this becomes of its requests. Returns None if it was refused.
+    // Lets an event happen while this becomes of its requests.
     fn happen_with<T: Target>(
         &self,
         target: &mut T,
         event: Event,
         requests: Requests,
-    ) -> Result<Option<Came>, NoMemory> {
-        switch(self.alloc, requests)?;
+    ) -> Result<Came, NoMemory> {
+        switch(self.alloc, requests);
         let came = target.happen(event);
-        switch(self.alloc, Requests::Granted)?;
-        Ok(came.ok())
+        switch(self.alloc, Requests::Granted);
+        came
     }
 
-    // Lets the event of a line happen once. It has to be refused exactly if one of its requests
-    // was.
+    // Lets the event of a line happen once.
     fn happen<T: Target>(
         &self,
         target: &mut T,
         line: &str,
         answer: &str,
-    ) -> Result<Option<Came>, Stop> {
+    ) -> Result<Result<Came, NoMemory>, Stop> {
         let event = self.event(line)?;
         let requests = if event.may_ask(answer) {
             self.requests(false)
         } else {
             Requests::Forbidden
         };
-        let came = self.happen_with(target, event, requests)?;
-        if was_refused(self.alloc) == came.is_none() {
-            Ok(came)
-        } else {
-            Err(self.stop(Wrong::Refused, line))
-        }
+        Ok(self.happen_with(target, event, requests))
     }
 
     // Lets the event of a line happen once, and puts what came of it at the end. Returns whether
-    // anything did; None if it was refused.
+    // anything did; None if it was refused, which it has to be exactly if one of its requests was.
     fn comes_out<T: Target>(
         &self,
         target: &mut T,
@@ -172,8 +177,15 @@ impl<'a> Run<'a> {
         answer: &str,
         text: &mut String,
     ) -> Result<Option<bool>, Stop> {
-        match self.happen(target, line, answer)? {
-            Some(came) => Ok(Some(push_came(self.alloc, text, &came)?)),
+        let pushed = match self.happen(target, line, answer)? {
+            Ok(came) => Some(push_came(self.alloc, text, &came)),
+            Err(_) => None,
+        };
+        if was_refused(self.alloc) != pushed.is_none() {
+            return Err(self.stop(Wrong::Refused, line));
+        }
+        match pushed {
+            Some(comes) => Ok(Some(comes?)),
             None => Ok(None),
         }
     }
@@ -189,7 +201,7 @@ impl<'a> Run<'a> {
         text: &mut String,
     ) -> Result<bool, Stop> {
         let before = self.state(target)?;
-        switch(self.alloc, self.requests(true))?;
+        switch(self.alloc, self.requests(true));
         for _ in 0..MOST {
             if let Some(comes) = self.comes_out(target, line, answer, text)? {
                 return Ok(comes);
@@ -277,8 +289,10 @@ impl<'a> Run<'a> {
     // Starts with what the steps define and load.
     fn start<T: Target + Drop>(&mut self) -> Result<T, Stop> {
         let mut opening = Opening::new(self.alloc);
-        self.run_steps(&mut opening, true)?;
-        start(*self, opening)
+        match self.run_steps(&mut opening, true) {
+            Ok(()) => start(*self, &mut opening),
+            Err(stop) => Err(stop),
+        }
     }
 
     // Ends each of these tasks, in one of two ways in turn, and puts what comes at the end.
@@ -332,8 +346,8 @@ impl<'a> Run<'a> {
     ) -> Result<Option<bool>, Stop> {
         match self.run_steps(target, false) {
             Ok(()) => Ok(None),
-            Err(Stop::Granted) => Ok(Some(false)),
-            Err(Stop::GivenUp) => {
+            Err(stop) if matches!(&stop, Stop::Granted) => Ok(Some(false)),
+            Err(stop) if matches!(&stop, Stop::GivenUp) => {
                 self.left = u64::MAX;
                 self.end(target, ends)?;
                 Ok(Some(true))
@@ -345,7 +359,7 @@ impl<'a> Run<'a> {
     // Refuses the event behind so many for good, at each of its requests in a run of its own.
     // Returns whether there is such an event.
     fn give_up_at<T: Target + Drop>(&self, left: u64, ends: [&str; 2]) -> Result<bool, Stop> {
-        switch(self.alloc, Requests::First)?;
+        switch(self.alloc, Requests::First);
         for _ in 0..MOST {
             let mut run = Run::new(self.alloc, self.steps, false);
             let mut target: T = run.start()?;

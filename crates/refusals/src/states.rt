@@ -60,6 +60,14 @@ fn push_asked(out: &mut Vec<u8>, units: &Units, event: &Event) -> Result<(), NoM
     }
 }
 
+// The same for the command of a step.
+fn push_step(out: &mut Vec<u8>, units: &Units, step: &Step) -> Result<(), NoMemory> {
+    match event_of(units.opening().allocator(), step.line())? {
+        Some(event) => push_asked(out, units, &event),
+        None => Ok(()),
+    }
+}
+
 // Puts at the end what a unit has read for update in each file.
 fn push_reads(
     out: &mut Vec<u8>,
@@ -102,9 +110,7 @@ pub(crate) fn push_units(
         push_reads(out, units, UnitId::new(number as u64), listing)?;
     }
     for step in asked {
-        if let Some(event) = event_of(units.opening().allocator(), step.line())? {
-            push_asked(out, units, &event)?;
-        }
+        push_step(out, units, step)?;
     }
     Ok(())
 }
