@@ -5,11 +5,67 @@ use Rattle.std.specs.declared.cmp.Ordering.TheVariants.{Less, Equal, Greater}
 use Rattle.std.specs.Ordering.{nat_cmp, ordering_then, MatchOrdering}
 use Rattle.std.specs.Cmp.{ranks, nat_cmp_is}
 use Rattle.cics_names.specs.Keyed.{bytes_cmp}
-use Rattle.cics_names.specs.Numbers.{number, AreBytes}
-use Rattle.cics_names.proofs.Numbers.{rises, compared, tied}
 use Rattle.std.proofs.lemmas.List.{length-drop}
 use Rattle.cics_ksds.specs.declared.comparing.Numbers.{Numbers}
-use Rattle.cics_ksds.specs.Words.{AreNumbers, second_at}
+use Rattle.cics_ksds.specs.Words.{number, AreBytes, AreNumbers, second_at}
+
+less : (x y : ℕ) → x < y → nat_cmp x y ≡ Less
+less x y l = sym (nat_cmp_is x y Less l)
+
+greater : (x y : ℕ) → y < x → nat_cmp x y ≡ Greater
+greater x y l = sym (nat_cmp_is x y Greater l)
+
+equal : (x : ℕ) → nat_cmp x x ≡ Equal
+equal x = sym (nat_cmp_is x x Equal refl)
+
+-- a greater number stays greater, whatever digits come behind both
+rises : (n a b : ℕ) (us vs : List ℕ) → n ≤ length us → n ≤ length vs → AreBytes n us → a < b → number a (take n us) < number b (take n vs)
+rises zero a b us vs p q small l = l
+rises (suc n) a b [] vs p q small l = absurd (omega arith)
+rises (suc n) a b (u ∷ us) [] p q small l = absurd (omega arith)
+rises (suc n) a b (u ∷ us) (v ∷ vs) p q small l =
+    let byte : u < 256 = small 0 (omega arith) in
+    rises n (a * 256 + u) (b * 256 + v) us vs (omega arith) (omega arith) (λ i k. small (suc i) (omega arith)) (omega arith)
+
+-- the first n bytes of two keys decide as the numbers that they are
+pub compared : (n a : ℕ) (us vs : List ℕ) → n ≤ length us → n ≤ length vs → AreBytes n us → AreBytes n vs
+    → bytes_cmp us vs ≡ ordering_then (nat_cmp (number a (take n us)) (number a (take n vs))) (bytes_cmp (drop n us) (drop n vs))
+compared zero a us vs p q bu bv = ap (λ o. ordering_then o (bytes_cmp us vs)) (sym (equal a))
+compared (suc n) a [] vs p q bu bv = absurd (omega arith)
+compared (suc n) a (u ∷ us) [] p q bu bv = absurd (omega arith)
+compared (suc n) a (u ∷ us) (v ∷ vs) p q bu bv =
+    by (compared n (a * 256 + u) us vs (omega arith) (omega arith) (λ i k. bu (suc i) (omega arith)) (λ i k. bv (suc i) (omega arith))) (nat_cmp u v) refl (ranks u v)
+  where
+    by : bytes_cmp us vs ≡ ordering_then (nat_cmp (number (a * 256 + u) (take n us)) (number (a * 256 + u) (take n vs))) (bytes_cmp (drop n us) (drop n vs))
+        → (o : Ordering) → nat_cmp u v ≡ o → MatchOrdering o (u < v) (u ≡ v) (v < u)
+        → bytes_cmp (u ∷ us) (v ∷ vs) ≡ ordering_then (nat_cmp (number (a * 256 + u) (take n us)) (number (a * 256 + v) (take n vs))) (bytes_cmp (drop n us) (drop n vs))
+    by rest Less e l =
+        let under : u < v = l in
+        ap (λ o. ordering_then o (bytes_cmp us vs)) e
+        ∙ ap (λ o. ordering_then o (bytes_cmp (drop n us) (drop n vs)))
+        (sym (less _ _ (rises n (a * 256 + u) (a * 256 + v) us vs (omega arith) (omega arith) (λ i k. bu (suc i) (omega arith)) (omega arith))))
+    by rest Greater e l =
+        let over : v < u = l in
+        ap (λ o. ordering_then o (bytes_cmp us vs)) e
+        ∙ ap (λ o. ordering_then o (bytes_cmp (drop n us) (drop n vs)))
+        (sym (greater _ _ (rises n (a * 256 + v) (a * 256 + u) vs us (omega arith) (omega arith) (λ i k. bv (suc i) (omega arith)) (omega arith))))
+    by rest Equal e l =
+        let level : u ≡ v = l in
+        ap (λ o. ordering_then o (bytes_cmp us vs)) e
+        ∙ rest
+        ∙ ap (λ w. ordering_then (nat_cmp (number (a * 256 + u) (take n us)) (number (a * 256 + w) (take n vs))) (bytes_cmp (drop n us) (drop n vs))) level
+
+-- numbers that differ decide
+pub decided : (x y : ℕ) (o : Ordering) → (x ≡ y → ⊥) → ordering_then (nat_cmp x y) o ≡ nat_cmp x y
+decided x y o differ = by (nat_cmp x y) (ranks x y)
+  where
+    by : (r : Ordering) → MatchOrdering r (x < y) (x ≡ y) (y < x) → ordering_then r o ≡ r
+    by Less l = refl
+    by Equal l = absurd (differ l)
+    by Greater l = refl
+
+pub tied : (x y : ℕ) (o : Ordering) → x ≡ y → ordering_then (nat_cmp x y) o ≡ o
+tied x y o same = ap (λ z. ordering_then (nat_cmp x z) o) (sym same) ∙ ap (λ r. ordering_then r o) (equal x)
 
 -- the first bytes of a number are the higher digits
 split : (s m h : ℕ) (xs : List ℕ) → s ≤ length xs → number h (take (s + m) xs) ≡ number (number h (take s xs)) (take m (drop s xs))

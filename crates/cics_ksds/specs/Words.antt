@@ -1,8 +1,17 @@
--- The numbers of keys.
-use Rattle.std.specs.Prelude.{◌≡◌, ℕ, ◌-◌, ◌<◌, ◌≤◌, List, length, take, drop}
-use Rattle.cics_names.specs.Numbers.{number, AreBytes}
+-- Bytes as one number.
+use Rattle.std.specs.Prelude.{◌≡◌, ℕ, ◌+◌, ◌-◌, ◌*◌, ◌<◌, ◌≤◌, List, [], ◌∷◌, length, take, drop}
+use Rattle.std.specs.List.{slice_index}
 use Rattle.cics_ksds.specs.declared.comparing.Numbers.{Numbers}
 use Rattle.cics_ksds.specs.declared.numbered.Mark.{Mark}
+
+-- the number that bytes are as digits of base 256, the highest first, behind those of a number
+abbrev pub number : ℕ → List ℕ → ℕ
+number high [] = high
+number high (byte ∷ bytes) = number (high * 256 + byte) bytes
+
+-- the first so many of these numbers are bytes
+abbrev pub AreBytes : ℕ → List ℕ → Type 0
+AreBytes count bytes = (i : ℕ) → i < count → slice_index bytes i < 256
 
 -- where the second eight bytes of a key begin: behind the first, or so that they end with the key
 -- where it has fewer than 16

@@ -3,8 +3,7 @@
 ghost use Rattle.std.specs.Prelude.{◌≡◌, ◌≤◌, length, take};
 ghost use Rattle.std.specs.Ordering.{nat_cmp, ordering_then};
 ghost use Rattle.cics_names.specs.Keyed.{bytes_cmp};
-ghost use Rattle.cics_names.specs.Numbers.{number, AreBytes};
-ghost use Rattle.cics_ksds.specs.Words.{AreNumbers};
+ghost use Rattle.cics_ksds.specs.Words.{number, AreBytes, AreNumbers};
 
 use std::cmp::Ordering;
 

@@ -1,4 +1,3 @@
 mod Filled
 mod Rows
 mod EbcdicTables
-pub mod Numbers

@@ -7,4 +7,3 @@ pub mod Keyed
 pub mod KeyedLaws
 pub mod RisingLaws
 pub mod Records
-pub mod Numbers

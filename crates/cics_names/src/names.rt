@@ -1,11 +1,9 @@
 //! Names of data sets, queues and transactions.
 
-ghost use Rattle.std.specs.Prelude.{◌≡◌, length};
-ghost use Rattle.cics_names.specs.Numbers.{number, AreBytes};
+ghost use Rattle.std.specs.Prelude.{◌≡◌};
 ghost use Rattle.cics_names.specs.Names.{name_of};
 
 use crate::ebcdic::to_ebcdic;
-use std::cmp::Ordering;
 use std::hash::{Hash, Hasher};
 use std::marker::Model;
 
@@ -31,7 +29,7 @@ pub enum NameFault {
 ///
 /// Two spellings that are filled up to the same bytes are one name. Names are equal, are ordered
 /// and are hashed by the eight bytes, the order being that of unsigned bytes from the first one on.
-#[derive(Clone, Copy, Debug, PartialEq, Eq)]
+#[derive(Clone, Copy, Debug, PartialEq, Eq, PartialOrd, Ord)]
 pub struct Name8 {
     bytes: [u8; 8],
 }
@@ -41,7 +39,7 @@ pub struct Name8 {
 ///
 /// Two spellings that are filled up to the same bytes are one name. Names are equal, are ordered
 /// and are hashed by the four bytes, the order being that of unsigned bytes from the first one on.
-#[derive(Clone, Copy, Debug, PartialEq, Eq)]
+#[derive(Clone, Copy, Debug, PartialEq, Eq, PartialOrd, Ord)]
 pub struct Name4 {
     bytes: [u8; 4],
 }
@@ -64,96 +62,6 @@ impl Model for Name4 {
     ghost view = { λ n. n.bytes };
 
     ghost inverse = { λ b. record { bytes = b } };
-}
-
-impl Name8 {
-    // Its bytes as one number, by which names are ordered: faster than byte by byte.
-    fn number(&self) -> u64
-        ensures value { result ≡ number 0 self.now }
-        ensures count { length self.now ≡ 8 }
-        ensures bytes { AreBytes 8 self.now }
-    {
-        let bytes = self.bytes.as_slice();
-        u64::from_be_bytes([
-            bytes[0], bytes[1], bytes[2], bytes[3], bytes[4], bytes[5], bytes[6], bytes[7],
-        ])
-    }
-}
-
-impl PartialOrd for Name8 {
-    ghost use Rattle.std.specs.Prelude.{Some};
-    ghost use Rattle.std.specs.Ordering.{nat_cmp};
-    ghost use Rattle.std.specs.Cmp.Lexicographic.{slice_cmp, texts_po};
-
-    ghost partial_cmp = { λ a b. Some (slice_cmp nat_cmp a b) };
-
-    ghost laws = { texts_po };
-
-    fn partial_cmp(&self, other: &Name8) -> Option<Ordering> {
-        Some(self.cmp(other))
-    }
-}
-
-impl Ord for Name8 {
-    ghost use Rattle.std.specs.Prelude.{refl};
-    ghost use Rattle.std.specs.Ordering.{nat_cmp};
-    ghost use Rattle.std.specs.Cmp.Lexicographic.{slice_cmp, nat_list_cmp_total, texts_ties};
-
-    ghost cmp = { slice_cmp nat_cmp };
-
-    ghost total = { nat_list_cmp_total };
-
-    ghost matches_partial_cmp = { λ a b. refl };
-
-    ghost matches_eq = { λ a b. texts_ties a b };
-
-    fn cmp(&self, other: &Name8) -> Ordering {
-        self.number().cmp(&other.number())
-    }
-}
-
-impl Name4 {
-    // Its bytes as one number, by which names are ordered: faster than byte by byte.
-    fn number(&self) -> u32
-        ensures value { result ≡ number 0 self.now }
-        ensures count { length self.now ≡ 4 }
-        ensures bytes { AreBytes 4 self.now }
-    {
-        let bytes = self.bytes.as_slice();
-        u32::from_be_bytes([bytes[0], bytes[1], bytes[2], bytes[3]])
-    }
-}
-
-impl PartialOrd for Name4 {
-    ghost use Rattle.std.specs.Prelude.{Some};
-    ghost use Rattle.std.specs.Ordering.{nat_cmp};
-    ghost use Rattle.std.specs.Cmp.Lexicographic.{slice_cmp, texts_po};
-
-    ghost partial_cmp = { λ a b. Some (slice_cmp nat_cmp a b) };
-
-    ghost laws = { texts_po };
-
-    fn partial_cmp(&self, other: &Name4) -> Option<Ordering> {
-        Some(self.cmp(other))
-    }
-}
-
-impl Ord for Name4 {
-    ghost use Rattle.std.specs.Prelude.{refl};
-    ghost use Rattle.std.specs.Ordering.{nat_cmp};
-    ghost use Rattle.std.specs.Cmp.Lexicographic.{slice_cmp, nat_list_cmp_total, texts_ties};
-
-    ghost cmp = { slice_cmp nat_cmp };
-
-    ghost total = { nat_list_cmp_total };
-
-    ghost matches_partial_cmp = { λ a b. refl };
-
-    ghost matches_eq = { λ a b. texts_ties a b };
-
-    fn cmp(&self, other: &Name4) -> Ordering {
-        self.number().cmp(&other.number())
-    }
 }
 
 impl Hash for Name8 {

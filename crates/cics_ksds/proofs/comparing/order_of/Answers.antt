@@ -1,8 +1,8 @@
 use Rattle.std.proofs.Common.{◌≡◌, ◌∙◌, sym, ap, take, drop, ℕ, arith}
 use Rattle.std.specs.Ordering.{nat_cmp, ordering_then}
 use Rattle.cics_names.specs.Keyed.{bytes_cmp}
-use Rattle.cics_names.specs.Numbers.{number}
-use Rattle.cics_names.proofs.Numbers.{compared, decided}
+use Rattle.cics_ksds.specs.Words.{number}
+use Rattle.cics_ksds.proofs.Words.{compared, decided}
 use Rattle.cics_ksds.proofs.comparing.order_of.Goals as goal
 use Rattle.cics_ksds.proofs.comparing.order_of.Goals.{After-word_of-y}
 
