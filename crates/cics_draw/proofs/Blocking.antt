@@ -297,7 +297,7 @@ module _ (rows : List Row) (number : ℕ) (stage : Stage) (line : List ℕ) (w :
   word : list_all is_in_word (bare w.label) ≡ true
   word = label-word 0 (attached rows) (bare w.label) w.waiter_attached (attached-words rows)
 
-  pub blocker-shown : ShowsBlocker rows (rows_of (printed number line (step number stage line))) behind w.label
+  pub blocker-shown : ShowsBlocker rows (rows_of (printed number stage line)) behind w.label
   blocker-shown =
       let r = row number line (event w.label w.holder) in record {
         first = r;

@@ -123,7 +123,7 @@ pub lines-shown : (lines : List (List ℕ)) (p : Played) → p.journal ++ events
 lines-shown [] p = append-nil p.journal
 lines-shown (line ∷ lines) p =
     let s = step (p.number + 1) p.stage line in
-    let first = rows_of (printed (p.number + 1) line s) in
+    let first = rows_of (printed (p.number + 1) p.stage line) in
     let rest = all_rows (printed_from (next p line) lines) in
     elim (cases_Bool (has_fault p)) [
       | inl fault ↦ ap (λ l. p.journal ++ events_of (all_rows l)) (printed-none p (line ∷ lines) fault) ∙ append-nil p.journal ∙ sym (ap (λ q. q.journal) (fault-fold (line ∷ lines) p fault))

@@ -19,21 +19,21 @@ drawn_from d p lines = fold with_line d (printed_from p lines)
 
 -- what a line prints, and what the lines behind it print
 pub printed-first : (p : Played) (line : List ℕ) (lines : List (List ℕ)) → has_fault p ≡ false
-    → printed_from p (line ∷ lines) ≡ printed (p.number + 1) line (step (p.number + 1) p.stage line) ∷ printed_from (next p line) lines
+    → printed_from p (line ∷ lines) ≡ printed (p.number + 1) p.stage line ∷ printed_from (next p line) lines
 printed-first p line lines going =
-    let all = printed (p.number + 1) line (step (p.number + 1) p.stage line) ∷ printed_from (next p line) lines in
+    let all = printed (p.number + 1) p.stage line ∷ printed_from (next p line) lines in
     subst (λ b. cond b [] all ≡ all) (sym going) refl
 
 -- behind a fault nothing is printed
 pub printed-none : (p : Played) (lines : List (List ℕ)) → has_fault p ≡ true → printed_from p lines ≡ []
 printed-none p [] fault = refl
 printed-none p (line ∷ lines) fault =
-    let all = printed (p.number + 1) line (step (p.number + 1) p.stage line) ∷ printed_from (next p line) lines in
+    let all = printed (p.number + 1) p.stage line ∷ printed_from (next p line) lines in
     subst (λ b. cond b [] all ≡ []) (sym fault) refl
 
 -- a line is drawn, and then the lines behind it
 line-drawn : (d : Drawn) (p : Played) (line : List ℕ) (lines : List (List ℕ)) → has_fault p ≡ false
-    → drawn_from d p (line ∷ lines) ≡ drawn_from (with_line d (printed (p.number + 1) line (step (p.number + 1) p.stage line))) (next p line) lines
+    → drawn_from d p (line ∷ lines) ≡ drawn_from (with_line d (printed (p.number + 1) p.stage line)) (next p line) lines
 line-drawn d p line lines going = ap (fold with_line d) (printed-first p line lines going)
 
 -- behind a fault nothing is drawn
@@ -42,10 +42,10 @@ fault-drawn d p lines fault = ap (fold with_line d) (printed-none p lines fault)
 
 -- too many rows of a line are too many of all
 too-many : (d : Drawn) (p : Played) (line : List ℕ) (lines : List (List ℕ)) → has_fault p ≡ false
-    → most_rows < d.rows + length (rows_of (printed (p.number + 1) line (step (p.number + 1) p.stage line)))
+    → most_rows < d.rows + length (rows_of (printed (p.number + 1) p.stage line))
     → most_rows < (drawn_from d p (line ∷ lines)).rows
 too-many d p line lines going over =
-    let first = printed (p.number + 1) line (step (p.number + 1) p.stage line) in
+    let first = printed (p.number + 1) p.stage line in
     rw (line-drawn d p line lines going) (omega (arith, over, line-counted d first, lines-counted (printed_from (next p line) lines) (with_line d first)))
 
 -- Where a run stands in front of the rest of a script, none of whose lines was a fault, with what was drawn.
@@ -60,7 +60,7 @@ pub record Stands (d : Drawn) (s : Session) (rest script : List ℕ) : Type 0 wh
 
 module _ (d e : Drawn) (s t : Session) (rest line after script : List ℕ) (at : Stands d s rest script) (lines : all_lines rest ≡ line ∷ all_lines after) (ran : Ran s line t) where
   -- the line's step, as the run has it
-  same : next_printed s line ≡ printed (at.played.number + 1) line (step (at.played.number + 1) at.played.stage line)
+  same : next_printed s line ≡ printed (at.played.number + 1) at.played.stage line
   same = rw (at.at_number, at.at_stage) refl
 
   same-step : next_step s line ≡ step (at.played.number + 1) at.played.stage line
@@ -110,7 +110,7 @@ module _ (d e : Drawn) (s t : Session) (rest line after script : List ℕ) (at :
 pub stands-over : (d : Drawn) (s : Session) (rest line after script : List ℕ) → Stands d s rest script → all_lines rest ≡ line ∷ all_lines after
     → most_rows < d.rows + length (rows_of (next_printed s line)) → HasTooMany script
 stands-over d s rest line after script at lines over =
-    let same : next_printed s line ≡ printed (at.played.number + 1) line (step (at.played.number + 1) at.played.stage line) = rw (at.at_number, at.at_stage) refl in
+    let same : next_printed s line ≡ printed (at.played.number + 1) at.played.stage line = rw (at.at_number, at.at_stage) refl in
     subst (λ t. most_rows < t.rows) (ap (drawn_from d at.played) (sym lines) ∙ at.drawn)
     (too-many d at.played line (all_lines after) at.going (subst (λ p. most_rows < d.rows + length (rows_of p)) same over))
 

@@ -1,5 +1,5 @@
 -- A command that has to wait is drawn with an arrow to the lane of the task that blocks it.
-use Rattle.std.specs.Prelude.{◌≡◌, ◌≤◌, ℕ, true, List, [], ◌∷◌, length, Some, Result, Ok, is_some}
+use Rattle.std.specs.Prelude.{◌≡◌, ◌≤◌, ℕ, true, List, ◌∷◌, length, Some, Result, Ok, is_some}
 use Rattle.cics_names.specs.Keyed.{Bytes}
 use Rattle.cics_names.specs.declared.commands.Command.{Command}
 use Rattle.cics_dispatch.specs.Machine.{Machine}
@@ -12,7 +12,7 @@ use Rattle.cics_dispatch.specs.declared.outcomes.Refused.{Refused}
 use Rattle.cics_script.specs.Lines as reading
 use Rattle.cics_script.specs.Texts.{bare}
 use Rattle.cics_script.specs.declared.lines.Line.TheVariants.{Issue}
-use Rattle.cics_run.specs.Stages.{step, region_of}
+use Rattle.cics_run.specs.Stages.{region_of}
 use Rattle.cics_run.specs.declared.stage.Stage.{Stage}
 use Rattle.cics_picture.specs.Events.{first_word}
 use Rattle.cics_picture.specs.Lanes.{most_lanes, lane_of}
@@ -53,4 +53,4 @@ pub record ShowsBlocker (before rows : List Row) (m : Machine) (label : Bytes) :
 abbrev pub NamesBlocker : List Row → ℕ → Stage → List ℕ → Type 0
 NamesBlocker before number stage line =
     (w : HasToWait before stage line)
-    → ShowsBlocker before (rows_of (printed number line (step number stage line))) (commanded stage w.label w.command).machine w.label
+    → ShowsBlocker before (rows_of (printed number stage line)) (commanded stage w.label w.command).machine w.label

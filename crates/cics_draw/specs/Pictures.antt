@@ -2,10 +2,11 @@
 use Rattle.std.specs.Prelude.{◌≡◌, ℕ, Bool, true, false, ◌+◌, ◌<◌, ◌≤◌, if◌then◌else◌, List, [], ◌∷◌, length, Option, Result, Ok, Err, IfOk, is_some, ⊤}
 use Rattle.std.specs.Io.KnownBytes.{Appends, Consumes, IsAtEnd}
 use Rattle.cics_run.specs.Lines.{all_lines}
-use Rattle.cics_run.specs.Stages.{step, Step}
+use Rattle.cics_run.specs.Stages.{step}
 use Rattle.cics_run.specs.Running.{Played, play, has_fault, next, start, is_faulty, most_bytes}
-use Rattle.cics_run.specs.Standing.{Ran, Keeps, next_step}
+use Rattle.cics_run.specs.Standing.{Ran, Keeps}
 use Rattle.cics_run.specs.declared.session.Session.{Session}
+use Rattle.cics_run.specs.declared.stage.Stage.{Stage}
 use Rattle.cics_run.specs.Printing.{AppendsFront}
 use Rattle.cics_run.specs.declared.running.Status.{Status}
 use Rattle.cics_run.specs.declared.running.Status.TheVariants as status
@@ -19,23 +20,25 @@ use Rattle.cics_picture.specs.declared.drawing.Undrawn.TheVariants as undrawns
 use Rattle.cics_history.specs.declared.ops.UnitState.{UnitState}
 use Rattle.cics_draw.specs.Titles.{title_of}
 use Rattle.cics_picture.specs.declared.bars.Look.{Look}
-use Rattle.cics_draw.specs.Standings.{standings_at, outcomes_at, looks_at}
+use Rattle.cics_draw.specs.Standings.{standings_at, entries_at, outcomes_at, looks_at}
 use Rattle.cics_draw.specs.declared.picture.NoPicture.{NoPicture}
 use Rattle.cics_draw.specs.declared.picture.NoPicture.TheVariants.{Stopped, TooManyEvents}
 
 -- a line, what its step printed, and how the tasks stand behind it
-abbrev pub printed : ℕ → List ℕ → Step → Printed
-printed number line s = record { number = number; line = line; text = s.text; standings = standings_at s.stage }
+abbrev pub printed : ℕ → Stage → List ℕ → Printed
+printed number stage line =
+    let s = step number stage line in
+    record { number = number; line = line; text = s.text; standings = standings_at (length (entries_at stage)) s.stage }
 
 -- the line that a session runs next, and what it prints
 abbrev pub next_printed : Session → List ℕ → Printed
-next_printed s line = printed (s.number + 1) line (next_step s line)
+next_printed s line = printed (s.number + 1) s.stage line
 
 -- What a run prints of each of these lines, from where it stands. Behind a fault no line counts.
 abbrev pub printed_from : Played → List (List ℕ) → List Printed
 printed_from p [] = []
 printed_from p (line ∷ lines) =
-    if has_fault p then [] else printed (p.number + 1) line (step (p.number + 1) p.stage line) ∷ printed_from (next p line) lines
+    if has_fault p then [] else printed (p.number + 1) p.stage line ∷ printed_from (next p line) lines
 
 -- what a run prints of each line of a script
 abbrev pub printed_lines : List ℕ → List Printed

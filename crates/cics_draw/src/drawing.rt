@@ -18,7 +18,7 @@ ghost use Rattle.cics_history.specs.declared.ops.UnitState.TheVariants.{Committe
 ghost use Rattle.cics_picture.specs.Bars.{bar_text, filled, hollow};
 ghost use Rattle.cics_picture.specs.declared.bars.Bar.{Bar};
 
-use crate::standings::{looks_at, standings_at};
+use crate::standings::{entries_at, looks_at, standings_at};
 use crate::titles::title_of;
 use cics_names::NoMemory;
 use cics_picture::{Drawing, Undrawn, push_sheet};
@@ -80,12 +80,13 @@ fn draw_line(session: &mut Session, drawing: &mut Drawing, line: &[u8]) -> Resul
     ensures too_many { IfErr result (λ e. e ≡ TooManyRows
         → most_rows < drawing.old.rows + length (rows_of (next_printed session.old line.now))) }
 {
+    let before = entries_at(&session.stage).len();
     let is_fault = match run_line(session, line) {
         Ok(is_fault) => is_fault,
         Err(_) => return Err(Undrawn::NoMemory),
     };
     let alloc = *session.pending.allocator();
-    let standings = match standings_at(alloc, &session.stage) {
+    let standings = match standings_at(alloc, before, &session.stage) {
         Ok(standings) => standings,
         Err(_) => return Err(Undrawn::NoMemory),
     };

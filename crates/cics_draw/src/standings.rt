@@ -7,14 +7,16 @@ ghost use Rattle.cics_dispatch.specs.Machine.{Machine};
 ghost use Rattle.cics_dispatch.specs.Blockers.{label_at, unit_of};
 ghost use Rattle.cics_picture.specs.Lanes.{most_lanes};
 ghost use Rattle.cics_draw.specs.Standings.{shown_deadlocks, standing_of, standing_at, standings_of};
+ghost use Rattle.cics_draw.specs.Standings.{is_change, stays, any_stays, marked_at, entries_at};
 ghost use Rattle.cics_draw.specs.Standings.{standings_at, outcomes_at, look_of, looks_at, IsInDeadlock};
 
 use cics_deadlock::deadlocks;
 use cics_dispatch::Region;
-use cics_history::UnitState;
-use cics_names::{Items, Name8, NoMemory};
+use cics_history::{Entry, Op, UnitState};
+use cics_names::{Condition, Items, Name8, NoMemory};
 use cics_picture::{Look, MOST_LANES, NOBODY, Standing};
 use cics_run::stage::Stage;
+use cics_units::Opening;
 use std::alloc::Global;
 
 /// If each task has a lane, a lane is marked exactly if its task is in a deadlock: one of tasks that
@@ -85,36 +87,109 @@ fn standing_at(region: &Region, deadlocks: &[Items<Name8>], number: usize) -> St
         Some(label) => Standing {
             unit: unit_of(region, &label),
             is_deadlocked: is_in_one(deadlocks, &label),
+            stays: false,
         },
         None => NOBODY,
     }
 }
 
+// Whether a command changes something, if it is answered NORMAL.
+fn is_change(op: &Op) -> bool
+    ensures { result ≡ is_change op.now }
+{
+    !matches!(op, Op::ReadUpdate { .. })
+}
+
+// Whether a unit changed an unrecoverable file or queue by an entry: no backout undoes that.
+fn stays(opening: &Opening, unit: u64, entry: &Entry) -> bool
+    ensures { result ≡ stays opening.now unit entry.now }
+{
+    entry.unit.number() == unit
+        && entry.answer.condition == Condition::Normal
+        && is_change(&entry.op)
+        && !opening.is_recoverable(&entry.op)
+}
+
+// Whether a unit made a change that stays by one of these entries.
+fn is_in_any(opening: &Opening, unit: u64, entries: &[Entry]) -> bool
+    ensures { result ≡ list_any (stays opening.now unit) entries.now }
+{
+    for entry in entries {
+        if stays(opening, unit, entry) {
+            return true;
+        }
+    }
+    false
+}
+
+// Whether a unit made one behind so many entries of the history.
+fn any_stays(region: &Region, before: usize, unit: Option<u64>) -> bool
+    ensures { result ≡ any_stays before region.now.machine unit }
+{
+    let units = region.units();
+    match unit {
+        Some(unit) => {
+            is_in_any(
+                units.opening(),
+                unit,
+                units.trace().get(before..).unwrap_or(&[]),
+            )
+        }
+        None => false,
+    }
+}
+
+// How the task of a number stands behind a line that found so many entries.
+fn marked_at(region: &Region, deadlocks: &[Items<Name8>], before: usize, number: usize) -> Standing
+    ensures { result ≡ marked_at before region.now.machine deadlocks.now number }
+{
+    let standing = standing_at(region, deadlocks, number);
+    Standing {
+        unit: standing.unit,
+        is_deadlocked: standing.is_deadlocked,
+        stays: any_stays(region, before, standing.unit),
+    }
+}
+
 // How the tasks that have lanes stand.
 #[tactic(auto, unfolding(crate::specs::Standings::standings_of))]
-fn standings_of(alloc: Global, region: &Region) -> Result<Items<Standing>, NoMemory>
-    ensures value { IfOk result (λ standings. standings ≡ standings_of region.now.machine) }
+fn standings_of(alloc: Global, before: usize, region: &Region) -> Result<Items<Standing>, NoMemory>
+    ensures value { IfOk result (λ standings. standings ≡ standings_of before region.now.machine) }
     ensures few { IfOk result (λ standings. length standings ≤ most_lanes) }
 {
     let deadlocks = shown_deadlocks(alloc, region)?;
     let mut standings = Items::new(alloc);
     for number in 0..MOST_LANES {
-        standings.push(standing_at(region, deadlocks.as_slice(), number))?;
+        standings.push(marked_at(region, deadlocks.as_slice(), before, number))?;
     }
     Ok(standings)
 }
 
-/// Returns how the tasks that have lanes stand behind the last line. Without a region there are
-/// none.
+/// Returns how the tasks that have lanes stand behind a line that found so many entries of the
+/// history. Without a region there are none.
 ///
 /// Errors: `NoMemory`. Cost: O(w * w), w the number of waiting tasks, which is at most sixteen.
-pub fn standings_at(alloc: Global, stage: &Stage) -> Result<Items<Standing>, NoMemory>
-    ensures value { IfOk result (λ standings. standings ≡ standings_at stage.now) }
+pub fn standings_at(
+    alloc: Global,
+    before: usize,
+    stage: &Stage,
+) -> Result<Items<Standing>, NoMemory>
+    ensures value { IfOk result (λ standings. standings ≡ standings_at before stage.now) }
     ensures few { IfOk result (λ standings. length standings ≤ most_lanes) }
 {
     match stage {
-        Stage::Running(region) => standings_of(alloc, region),
+        Stage::Running(region) => standings_of(alloc, before, region),
         Stage::Opening(_) => Ok(Items::new(alloc)),
+    }
+}
+
+/// Returns the history: the executed commands, in order.
+pub fn entries_at(stage: &Stage) -> &[Entry]
+    ensures { result.now ≡ entries_at stage.now }
+{
+    match stage {
+        Stage::Running(region) => region.units().trace(),
+        Stage::Opening(_) => &[],
     }
 }
 

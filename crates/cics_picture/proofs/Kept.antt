@@ -10,9 +10,10 @@ use Rattle.std.specs.List.{fold, list_any}
 use Rattle.cics_picture.specs.declared.bars.Standing.{Standing}
 use Rattle.cics_picture.specs.declared.bars.Lane.{Lane}
 use Rattle.cics_picture.specs.declared.bars.Bar.{Bar}
-use Rattle.cics_picture.specs.Events.{first_word}
+use Rattle.cics_picture.specs.declared.events.Kind.{Kind}
+use Rattle.cics_picture.specs.Events.{first_word, kind_of}
 use Rattle.cics_picture.specs.Lanes.{lane_x, row_y, lane_of, tasks_behind}
-use Rattle.cics_picture.specs.Bars.{nobody, new_lane, new_lanes, nobodies, lane_at, lanes_behind, gone, lane_behind, ended, is_bar_of}
+use Rattle.cics_picture.specs.Bars.{nobody, new_lane, new_lanes, nobodies, lane_at, noted, lanes_behind, gone, lane_behind, ended, is_bar_of}
 use Rattle.cics_picture.specs.Drawings.{Drawn, nothing_drawn, Row, with_row, Printed, rows_of, turned, turned_from, any_caught, word_if, with_text, with_end, with_line, drawn, finished}
 
 -- a lane that is set, and another one
@@ -23,9 +24,9 @@ set-other : (ls : List Lane) (i j : ℕ) (l : Lane) → j ≢ i → lane_at (sli
 set-other ls i j l other = unwrap_or-slice_get (slice_set ls i l) j new_lane ∙ get_or-set_other ls i j l new_lane other ∙ sym (unwrap_or-slice_get ls j new_lane)
 
 -- there are as many lanes as before
-behind-long : (ls : List Lane) (y : ℕ) (o : Option ℕ) → length (lanes_behind ls y o) ≡ length ls
-behind-long ls y None = refl
-behind-long ls y (Some i) = length-set ls i (record (lane_at ls i) { last = y })
+behind-long : (ls : List Lane) (row : ℕ) (k : Kind) (o : Option ℕ) → length (lanes_behind ls row k o) ≡ length ls
+behind-long ls row k None = refl
+behind-long ls row k (Some i) = length-set ls i (noted (lane_at ls i) row k)
 
 turned-long : (standings : List Standing) (first l : ℕ) (d : Drawn) → length (turned_from first l standings d).lanes ≡ length d.lanes
 turned-long [] first l d = refl
@@ -33,7 +34,7 @@ turned-long (s ∷ standings) first l d = turned-long standings first (l + 1) (t
 
 rows-long : (rows : List Row) (d : Drawn) → length (fold with_row d rows).lanes ≡ length d.lanes
 rows-long [] d = refl
-rows-long (r ∷ rows) d = rows-long rows (with_row d r) ∙ behind-long d.lanes (row_y d.rows) (lane_of (tasks_behind d.tasks r.event) (first_word r.event))
+rows-long (r ∷ rows) d = rows-long rows (with_row d r) ∙ behind-long d.lanes d.rows (kind_of r.event) (lane_of (tasks_behind d.tasks r.event) (first_word r.event))
 
 end-long : (first : ℕ) (standings : List Standing) (d : Drawn) → length (with_end first standings d).lanes ≡ length d.lanes
 end-long first standings d = turned-long standings first 0 (with_text d (word_if (any_caught d.lanes 0 standings) (row_y (d.rows - 1) + 4)))
@@ -81,25 +82,25 @@ module _ (lane unit : ℕ) where
   last-bars xs ys has = list_any-append (is_bar_of lane unit) xs ys ∙ or-true (list_any (is_bar_of lane unit) xs) _ has
 
   -- an event leaves a task's standing
-  behind-stands : (ls : List Lane) (y : ℕ) (o : Option ℕ) → lane < length ls → (lane_at (lanes_behind ls y o) lane).standing ≡ (lane_at ls lane).standing
-  behind-stands ls y None within = refl
-  behind-stands ls y (Some i) within =
-      elim (lane == i) as (λ b. (lane == i) ≡ b → (lane_at (lanes_behind ls y (Some i)) lane).standing ≡ (lane_at ls lane).standing) [
+  behind-stands : (ls : List Lane) (row : ℕ) (k : Kind) (o : Option ℕ) → lane < length ls → (lane_at (lanes_behind ls row k o) lane).standing ≡ (lane_at ls lane).standing
+  behind-stands ls row k None within = refl
+  behind-stands ls row k (Some i) within =
+      elim (lane == i) as (λ b. (lane == i) ≡ b → (lane_at (lanes_behind ls row k (Some i)) lane).standing ≡ (lane_at ls lane).standing) [
         | true ↦ λ e.
             let same : lane ≡ i = eqb-true lane i e in
-            subst (λ k. (lane_at (lanes_behind ls y (Some k)) lane).standing ≡ (lane_at ls lane).standing) same
-            (ap (λ l. l.standing) (set-here ls lane (record (lane_at ls lane) { last = y }) within))
-        | false ↦ λ e. ap (λ l. l.standing) (set-other ls i lane (record (lane_at ls i) { last = y }) (eqb-false lane i e))
+            subst (λ n. (lane_at (lanes_behind ls row k (Some n)) lane).standing ≡ (lane_at ls lane).standing) same
+            (ap (λ l. l.standing) (set-here ls lane (noted (lane_at ls lane) row k) within))
+        | false ↦ λ e. ap (λ l. l.standing) (set-other ls i lane (noted (lane_at ls i) row k) (eqb-false lane i e))
       ] refl
 
   row-has : (r : Row) (d : Drawn) → lane < length d.lanes → Has d → Has (with_row d r)
-  row-has r d within (inl has) = inl (ap (λ s. s.unit) (behind-stands d.lanes (row_y d.rows) (lane_of (tasks_behind d.tasks r.event) (first_word r.event)) within) ∙ has)
+  row-has r d within (inl has) = inl (ap (λ s. s.unit) (behind-stands d.lanes d.rows (kind_of r.event) (lane_of (tasks_behind d.tasks r.event) (first_word r.event)) within) ∙ has)
   row-has r d within (inr has) = inr has
 
   rows-have : (rows : List Row) (d : Drawn) → lane < length d.lanes → Has d → Has (fold with_row d rows)
   rows-have [] d within has = has
   rows-have (r ∷ rows) d within has =
-      rows-have rows (with_row d r) (subst (λ n. lane < n) (sym (behind-long d.lanes (row_y d.rows) (lane_of (tasks_behind d.tasks r.event) (first_word r.event)))) within) (row-has r d within has)
+      rows-have rows (with_row d r) (subst (λ n. lane < n) (sym (behind-long d.lanes d.rows (kind_of r.event) (lane_of (tasks_behind d.tasks r.event) (first_word r.event)))) within) (row-has r d within has)
 
   -- a lane that turns
   own-has : (first : ℕ) (s : Standing) (d : Drawn) → lane < length d.lanes → (lane_at d.lanes lane).standing.unit ≡ Some unit → Has (turned first lane s d)

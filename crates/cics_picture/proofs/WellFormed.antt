@@ -16,9 +16,9 @@ use Rattle.cics_picture.specs.Lanes.{lane_of, tasks_behind, lane_x, row_y}
 use Rattle.cics_picture.specs.declared.bars.Standing.{Standing}
 use Rattle.cics_picture.specs.declared.bars.Bar.{Bar}
 use Rattle.cics_picture.specs.Bars.{nobodies, lane_at, is_caught, look_of, look_class, bar_text}
-use Rattle.cics_picture.specs.Elements.{bar_shape, ring_shape, class, words, number_words, shape, stroke, field, spoken, namespace, picture_start, moved_start, tip, head, cut}
-use Rattle.cics_picture.specs.Drawings.{Drawn, nothing_drawn, arrow_to, beside, lane_marks, marks_of, row_number, row_texts, Row, with_row, rows_of, Printed, drawn, ring_if, turned, turned_from, any_caught, word_if, with_text, with_end, with_line, finished}
-use Rattle.cics_picture.specs.Sheets.{style_text, bands, lane_lines, headings, legend_item, answers_legend, ways_legend, region_legend, bar_item, ring_item, units_legend, heading, ground, bars_text, moved_texts, whole_sheet, sheet, width_of, height_of}
+use Rattle.cics_picture.specs.Elements.{ring_shape, stays_shape, class, words, number_words, shape, stroke, field, spoken, namespace, picture_start, moved_start, tip, head, cut}
+use Rattle.cics_picture.specs.Drawings.{Drawn, nothing_drawn, arrow_to, beside, lane_marks, marks_of, row_number, waited, line_text, event_text, Row, with_row, rows_of, Printed, drawn, ring_if, stays_if, turned, turned_from, any_caught, word_if, with_text, with_end, with_line, finished}
+use Rattle.cics_picture.specs.Sheets.{style_text, bands, lane_lines, headings, legend_item, answers_legend, ways_legend, region_legend, sign_item, units_legend, heading, ground, bars_text, moved_texts, whole_sheet, sheet, width_of, height_of}
 use Rattle.cics_picture.specs.declared.style.TheConstants.{STYLE}
 use Rattle.cics_picture.proofs.Markup.{IsMarkup, nothing, itself, behind, within}
 use lib.Chars.{codes}
@@ -92,13 +92,14 @@ either false x y p q = q
 number-drawn : (y number : ℕ) → IsMarkup (row_number y number)
 number-drawn y number = either (number == 0) _ _ nothing (number-there (codes "d e") 52 y number)
 
-row : (y : ℕ) (line event : List ℕ) → IsMarkup (row_texts y line event)
-row y line event = behind _ _ (at-place (codes "line") 78 y _) (at-place (class_of (kind_of event)) 744 y _)
+row : (y number : ℕ) (line asked event : List ℕ) → IsMarkup (line_text y number line asked ++ event_text y event)
+row y number line asked event =
+    behind _ _ (either (number == 0) _ _ (at-place (codes "d") 78 y _) (at-place (codes "line") 78 y _)) (at-place (class_of (kind_of event)) 744 y _)
 
 row-drawn : (d : Drawn) (r : Row) → IsDrawn d → IsDrawn (with_row d r)
 row-drawn d r p = (
   behind _ _ p.0 (behind _ _ (number-drawn (row_y d.rows + 4) r.number) (all-marks (tasks_behind d.tasks r.event) (row_y d.rows) r.event (kind_of r.event))),
-  behind _ _ p.1 (row (row_y d.rows + 4) r.line r.event),
+  behind _ _ p.1 (row (row_y d.rows + 4) r.number r.line (waited d.lines d.lanes (lane_of (tasks_behind d.tasks r.event) (first_word r.event))) r.event),
 )
 
 rows-drawn : (rows : List Row) (d : Drawn) → IsDrawn d → IsDrawn (fold with_row d rows)
@@ -108,10 +109,16 @@ rows-drawn (r ∷ rows) d p = rows-drawn rows (with_row d r) (row-drawn d r p)
 ring : (caught : Bool) (lane y : ℕ) → IsMarkup (ring_if caught lane y)
 ring caught lane y = either caught _ _ (shape-there (codes "dl") ring_shape (lane_x lane) y) nothing
 
+diamond : (stays : Bool) (lane y : ℕ) → IsMarkup (stays_if stays lane y)
+diamond stays lane y = either stays _ _ (shape-there (codes "st") stays_shape (lane_x lane) y) nothing
+
 turns-drawn : (standings : List Standing) (first lane : ℕ) (d : Drawn) → IsDrawn d → IsDrawn (turned_from first lane standings d)
 turns-drawn [] first lane d p = p
 turns-drawn (s ∷ standings) first lane d p =
-    turns-drawn standings first (lane + 1) (turned first lane s d) (behind _ _ p.0 (ring (is_caught (lane_at d.lanes lane) s) lane (row_y (d.rows - 1))), p.1)
+    turns-drawn standings first (lane + 1) (turned first lane s d) (
+      behind _ _ p.0 (behind _ _ (ring (is_caught (lane_at d.lanes lane) s) lane (row_y (d.rows - 1))) (diamond s.stays lane (lane_at d.lanes lane).last)),
+      p.1,
+    )
 
 end-drawn : (first : ℕ) (standings : List Standing) (d : Drawn) → IsDrawn d → IsDrawn (with_end first standings d)
 end-drawn first standings d p =
@@ -157,17 +164,15 @@ region : IsMarkup region_legend
 unfolding region_legend
 region = behind _ _ (meaning 854 kind.Clock _) (meaning 934 kind.Down _)
 
-bar-meaning : (x : ℕ) (name text : List ℕ) → IsMarkup (bar_item x name text)
-unfolding bar_item
-bar-meaning x name text = behind _ _ (shape-there name bar_shape x 74) (at-place (codes "d s") (x + 16) 78 text)
-
-ring-meaning : IsMarkup ring_item
-unfolding ring_item
-ring-meaning = behind _ _ (shape-there (codes "dl") ring_shape 484 74) (at-place (codes "d s") 500 78 _)
+sign-meaning : (x : ℕ) (name path text : List ℕ) → IsMarkup (sign_item x name path text)
+unfolding sign_item
+sign-meaning x name path text = behind _ _ (shape-there name path x 74) (at-place (codes "d s") (x + 16) 78 text)
 
 units : IsMarkup units_legend
 unfolding units_legend
-units = behind _ _ (bar-meaning 24 _ _) (behind _ _ (bar-meaning 224 _ _) (behind _ _ (bar-meaning 344 _ _) ring-meaning))
+units =
+    behind _ _ (sign-meaning 24 _ _ _) (behind _ _ (sign-meaning 224 _ _ _) (behind _ _ (sign-meaning 344 _ _ _)
+    (behind _ _ (sign-meaning 484 _ _ _) (sign-meaning 664 _ _ _))))
 
 head-there : (title : List ℕ) → IsMarkup (heading title)
 unfolding heading

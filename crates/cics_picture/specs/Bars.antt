@@ -1,21 +1,23 @@
 -- The bars of units of work: each stands in the lane of its task, from the row at which the unit begins to that at which it ends.
 use Rattle.std.specs.Prelude.{ℕ, ◌-◌, ◌==◌, Bool, true, false, not, ◌&&◌, if◌then◌else◌, Option, Some, None, unwrap_or, slice_get, slice_set, replicate, List, [], ◌∷◌}
+use Rattle.cics_picture.specs.declared.events.Kind.{Kind}
+use Rattle.cics_picture.specs.declared.events.Kind.TheVariants.{Waiting}
 use Rattle.cics_picture.specs.declared.bars.Look.{Look}
 use Rattle.cics_picture.specs.declared.bars.Look.TheVariants.{Open, Filled, Hollow}
 use Rattle.cics_picture.specs.declared.bars.Standing.{Standing}
 use Rattle.cics_picture.specs.declared.bars.Lane.{Lane}
 use Rattle.cics_picture.specs.declared.bars.Bar.{Bar}
-use Rattle.cics_picture.specs.Lanes.{lane_x}
+use Rattle.cics_picture.specs.Lanes.{lane_x, row_y}
 use Rattle.cics_picture.specs.Elements.{field}
 use lib.Chars.{codes}
 
 -- no unit and no deadlock
 abbrev pub nobody : Standing
-nobody = record { unit = None; is_deadlocked = false }
+nobody = record { unit = None; is_deadlocked = false; stays = false }
 
 -- a lane before the first event
 abbrev pub new_lane : Lane
-new_lane = record { last = 0; top = 0; standing = nobody }
+new_lane = record { last = 0; asked = 0; top = 0; standing = nobody }
 
 -- all lanes before the first event
 unfoldable pub new_lanes : List Lane
@@ -29,10 +31,19 @@ nobodies = replicate 16 nobody
 abbrev pub lane_at : List Lane → ℕ → Lane
 lane_at lanes lane = unwrap_or (slice_get lanes lane) new_lane
 
--- the lanes behind an event of one of them, or of none, at a row of this height
-abbrev pub lanes_behind : List Lane → ℕ → Option ℕ → List Lane
-lanes_behind lanes y None = lanes
-lanes_behind lanes y (Some lane) = slice_set lanes lane (record (lane_at lanes lane) { last = y })
+-- the row at which a lane's task last waited, behind an event at a row
+abbrev pub asked_behind : ℕ → ℕ → Kind → ℕ
+asked_behind before row Waiting = row
+asked_behind before row kind = before
+
+-- a lane behind an event of its own
+abbrev pub noted : Lane → ℕ → Kind → Lane
+noted l row k = record l { last = row_y row; asked = asked_behind l.asked row k }
+
+-- the lanes behind an event of one of them, or of none, at a row
+abbrev pub lanes_behind : List Lane → ℕ → Kind → Option ℕ → List Lane
+lanes_behind lanes row k None = lanes
+lanes_behind lanes row k (Some lane) = slice_set lanes lane (noted (lane_at lanes lane) row k)
 
 -- whether a task has the same unit as before, or none as before
 abbrev pub has_same : Option ℕ → Option ℕ → Bool
@@ -47,7 +58,7 @@ gone before now = if has_same before now then None else before
 
 -- A lane whose task stands so behind a line, its last event at a row of this height. The bar of a unit begins a little above the row.
 abbrev pub lane_behind : Lane → ℕ → Standing → Lane
-lane_behind l y s = record { last = l.last; top = if has_same l.standing.unit s.unit then l.top else y - 8; standing = s }
+lane_behind l y s = record { last = l.last; asked = l.asked; top = if has_same l.standing.unit s.unit then l.top else y - 8; standing = s }
 
 -- the bar of a unit that has ended, from its top to a row of this height
 abbrev pub ended : ℕ → ℕ → ℕ → Option ℕ → List Bar

@@ -1,5 +1,5 @@
 -- What the rows of a picture draw: one row for each event, in order.
-use Rattle.std.specs.Prelude.{ℕ, ◌==◌, ◌+◌, ◌-◌, ◌*◌, max, Bool, true, false, if◌then◌else◌, List, [], ◌∷◌, ◌++◌, length, slice_set, Option, Some, None}
+use Rattle.std.specs.Prelude.{ℕ, ◌==◌, ◌+◌, ◌-◌, ◌*◌, max, Bool, true, false, if◌then◌else◌, List, [], ◌∷◌, ◌++◌, length, slice_get, slice_set, Option, Some, None, unwrap_or}
 use Rattle.std.specs.List.{fold, flat_map}
 use Rattle.cics_picture.specs.declared.events.Kind.{Kind}
 use Rattle.cics_picture.specs.declared.events.Kind.TheVariants.{Attached, Waiting, Clock, Down}
@@ -9,14 +9,15 @@ use Rattle.cics_picture.specs.declared.bars.Lane.{Lane}
 use Rattle.cics_picture.specs.declared.bars.Bar.{Bar}
 use Rattle.cics_picture.specs.Events.{first_word, behind_word, kind_of, class_of}
 use Rattle.cics_picture.specs.Lanes.{lane_of, tasks_behind, lane_x, row_y}
-use Rattle.cics_picture.specs.Elements.{words, number_words, shape, ring_shape, mark, stroke, arrow, cut}
+use Rattle.cics_picture.specs.Elements.{words, number_words, shape, ring_shape, stays_shape, mark, stroke, arrow, cut}
 use Rattle.cics_picture.specs.Bars.{new_lanes, nobodies, lane_at, lanes_behind, gone, lane_behind, ended, is_caught}
 use lib.Chars.{codes}
 
--- the number of rows, the tasks that have lanes, the texts of what stands in the lanes and to the right of them, the lanes, and
--- the bars of units that have ended
+-- the number of rows and the script's line of each, the tasks that have lanes, the texts of what stands in the lanes and to the
+-- right of them, the lanes, and the bars of units that have ended
 pub record Drawn : Type 0 where
   pub rows : ℕ
+  pub lines : List (List ℕ)
   pub tasks : List (List ℕ)
   pub marks : List ℕ
   pub texts : List ℕ
@@ -25,11 +26,11 @@ pub record Drawn : Type 0 where
 
 -- what a drawing has drawn
 abbrev pub drawn_of : Drawing → Drawn
-drawn_of d = record { rows = d.rows; tasks = d.tasks; marks = d.marks.items; texts = d.texts.items; lanes = d.lanes; bars = d.bars }
+drawn_of d = record { rows = d.rows; lines = d.lines; tasks = d.tasks; marks = d.marks.items; texts = d.texts.items; lanes = d.lanes; bars = d.bars }
 
 -- before the first row
 abbrev pub nothing_drawn : Drawn
-nothing_drawn = record { rows = 0; tasks = []; marks = []; texts = []; lanes = new_lanes; bars = [] }
+nothing_drawn = record { rows = 0; lines = []; tasks = []; marks = []; texts = []; lanes = new_lanes; bars = [] }
 
 -- an arrow to the task that is waited for, if it has a lane
 abbrev pub arrow_to : ℕ → Option ℕ → ℕ → List ℕ
@@ -65,9 +66,18 @@ row_marks tasks y event = marks_of tasks y event (kind_of event)
 abbrev pub row_number : ℕ → ℕ → List ℕ
 row_number y number = if number == 0 then [] else number_words (codes "d e") 52 y number
 
--- the line and the event side by side
-abbrev pub row_texts : ℕ → List ℕ → List ℕ → List ℕ
-row_texts y line event = words (codes "line") 78 y (cut 90 line) ++ words (class_of (kind_of event)) 744 y (cut 70 event)
+-- the line with which the task of a lane last waited
+abbrev pub waited : List (List ℕ) → List Lane → Option ℕ → List ℕ
+waited lines lanes None = []
+waited lines lanes (Some lane) = unwrap_or (slice_get lines (lane_at lanes lane).asked) []
+
+-- the line of a row; an event without a line shows, dimmed, the one with which its task waited
+abbrev pub line_text : ℕ → ℕ → List ℕ → List ℕ → List ℕ
+line_text y number line asked = if number == 0 then words (codes "d") 78 y (cut 90 asked) else words (codes "line") 78 y (cut 90 line)
+
+-- the event beside it
+abbrev pub event_text : ℕ → List ℕ → List ℕ
+event_text y event = words (class_of (kind_of event)) 744 y (cut 70 event)
 
 -- A row: the number and the text of the line that it shows, or 0 and nothing, and its event.
 pub record Row : Type 0 where
@@ -80,10 +90,13 @@ abbrev pub with_row : Drawn → Row → Drawn
 with_row d r =
     record {
       rows = d.rows + 1;
+      lines = d.lines ++ (r.line ∷ []);
       tasks = tasks_behind d.tasks r.event;
       marks = d.marks ++ (row_number (row_y d.rows + 4) r.number ++ row_marks (tasks_behind d.tasks r.event) (row_y d.rows) r.event);
-      texts = d.texts ++ row_texts (row_y d.rows + 4) r.line r.event;
-      lanes = lanes_behind d.lanes (row_y d.rows) (lane_of (tasks_behind d.tasks r.event) (first_word r.event));
+      texts = d.texts
+          ++ (line_text (row_y d.rows + 4) r.number r.line (waited d.lines d.lanes (lane_of (tasks_behind d.tasks r.event) (first_word r.event)))
+          ++ event_text (row_y d.rows + 4) r.event);
+      lanes = lanes_behind d.lanes d.rows (kind_of r.event) (lane_of (tasks_behind d.tasks r.event) (first_word r.event));
       bars = d.bars;
     }
 
@@ -119,16 +132,21 @@ all_rows lines = flat_map rows_of lines
 abbrev pub ring_if : Bool → ℕ → ℕ → List ℕ
 ring_if caught lane y = if caught then shape (codes "dl") ring_shape (lane_x lane) y else []
 
+-- a diamond round the mark of a change that stays, however its unit ends
+abbrev pub stays_if : Bool → ℕ → ℕ → List ℕ
+stays_if stays lane y = if stays then shape (codes "st") stays_shape (lane_x lane) y else []
+
 -- A lane turns to how its task stands behind a line whose first row has this height: the bar of a unit that its task has no more
--- is done, and the ring stands in the line's last row.
+-- is done, the diamond stands in the row of its last event, and the ring in the line's last row.
 abbrev pub turned : ℕ → ℕ → Standing → Drawn → Drawn
 turned first lane s d =
     let l = lane_at d.lanes lane in
     let y = max l.last first in
     record {
       rows = d.rows;
+      lines = d.lines;
       tasks = d.tasks;
-      marks = d.marks ++ ring_if (is_caught l s) lane (row_y (d.rows - 1));
+      marks = d.marks ++ (ring_if (is_caught l s) lane (row_y (d.rows - 1)) ++ stays_if s.stays lane l.last);
       texts = d.texts;
       lanes = slice_set d.lanes lane (lane_behind l y s);
       bars = d.bars ++ ended lane l.top y (gone l.standing.unit s.unit);
@@ -150,7 +168,7 @@ word_if caught y = if caught then words (codes "ma e") 1264 y (codes "deadlock")
 
 -- what is drawn with this text behind the texts
 abbrev pub with_text : Drawn → List ℕ → Drawn
-with_text d text = record { rows = d.rows; tasks = d.tasks; marks = d.marks; texts = d.texts ++ text; lanes = d.lanes; bars = d.bars }
+with_text d text = record { rows = d.rows; lines = d.lines; tasks = d.tasks; marks = d.marks; texts = d.texts ++ text; lanes = d.lanes; bars = d.bars }
 
 -- a line ends whose first row has this height
 abbrev pub with_end : ℕ → List Standing → Drawn → Drawn

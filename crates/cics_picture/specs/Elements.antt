@@ -82,6 +82,10 @@ ring_shape = codes "M-10 0a10 10 0 1 0 20 0a10 10 0 1 0 -20 0z"
 abbrev pub arrow : ℕ → ℕ → ℕ → List ℕ
 arrow from to y = stroke (codes "aw") (lane_x from) y (tip from to) y ++ shape (codes "fw") (head from to) (tip from to) y
 
+-- the diamond round a change that stays
+abbrev pub stays_shape : List ℕ
+stays_shape = codes "M0 -10l10 10l-10 10l-10 -10z"
+
 -- words cut to a number of bytes, of which two dots are the last
 abbrev pub cut : ℕ → List ℕ → List ℕ
 cut most bytes = if nat_le (length bytes) most then bytes else take (most - 2) bytes ++ codes ".."

@@ -7,7 +7,7 @@ use Rattle.cics_markup.specs.Documents.{end_text}
 use Rattle.cics_picture.specs.declared.events.Kind.{Kind}
 use Rattle.cics_picture.specs.declared.events.Kind.TheVariants as kind
 use Rattle.cics_picture.specs.Lanes.{lane_x, row_y}
-use Rattle.cics_picture.specs.Elements.{words, cut, mark, shape, bar_shape, ring_shape, stroke, field, spoken, picture_start, moved_start}
+use Rattle.cics_picture.specs.Elements.{words, cut, mark, shape, bar_shape, ring_shape, stays_shape, stroke, field, spoken, picture_start, moved_start}
 use Rattle.cics_picture.specs.Bars.{bar_text}
 use Rattle.cics_picture.specs.Drawings.{Drawn, finished}
 use Rattle.cics_picture.specs.declared.style.TheConstants.{STYLE}
@@ -63,19 +63,18 @@ ways_legend =
 unfoldable pub region_legend : List ℕ
 region_legend = legend_item 854 kind.Clock (codes "clock") ++ legend_item 934 kind.Down (codes "shutdown or fault")
 
--- what a bar means
-unfoldable pub bar_item : ℕ → List ℕ → List ℕ → List ℕ
-bar_item x name text = shape name bar_shape x 74 ++ words (codes "d s") (x + 16) 78 text
+-- what a bar, a ring or a diamond means, of a class and a path
+unfoldable pub sign_item : ℕ → List ℕ → List ℕ → List ℕ → List ℕ
+sign_item x name path text = shape name path x 74 ++ words (codes "d s") (x + 16) 78 text
 
--- what a ring means
-unfoldable pub ring_item : List ℕ
-ring_item = shape (codes "dl") ring_shape 484 74 ++ words (codes "d s") 500 78 (codes "caught in a deadlock")
-
--- what bars and rings mean
+-- what bars, rings and diamonds mean
 unfoldable pub units_legend : List ℕ
 units_legend =
-    bar_item 24 (codes "uf") (codes "unit of work, committed")
-    ++ (bar_item 224 (codes "uh") (codes "backed out") ++ (bar_item 344 (codes "uo") (codes "open at the end") ++ ring_item))
+    sign_item 24 (codes "uf") bar_shape (codes "unit of work, committed")
+    ++ (sign_item 224 (codes "uh") bar_shape (codes "backed out")
+    ++ (sign_item 344 (codes "uo") bar_shape (codes "open at the end")
+    ++ (sign_item 484 (codes "dl") ring_shape (codes "caught in a deadlock")
+    ++ sign_item 664 (codes "st") stays_shape (codes "changes what no backout undoes"))))
 
 -- the title, and the legend below it
 unfoldable pub heading : List ℕ → List ℕ

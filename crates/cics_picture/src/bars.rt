@@ -4,12 +4,15 @@ ghost use Rattle.std.specs.Prelude.{◌≡◌, ◌++◌, ◌-◌, ◌<◌, ◌�
 ghost use Rattle.std.specs.List.{flat_map};
 ghost use Rattle.cics_picture.specs.Lanes.{most_lanes, row_y};
 ghost use Rattle.cics_picture.specs.Bars.{new_lanes, nobodies, lane_at, lanes_behind, has_same};
-ghost use Rattle.cics_picture.specs.Bars.{gone, lane_behind, ended, is_caught, look_of, look_class, bar_text};
-ghost use Rattle.cics_picture.specs.Drawings.{drawn_of, ring_if, turned, turned_from, any_caught};
+ghost use Rattle.cics_picture.specs.Bars.{noted, gone, lane_behind, ended, is_caught, look_of};
+ghost use Rattle.cics_picture.specs.Bars.{look_class, bar_text};
+ghost use Rattle.cics_picture.specs.Drawings.{drawn_of, ring_if, stays_if, turned, turned_from};
+ghost use Rattle.cics_picture.specs.Drawings.{any_caught};
 ghost use Rattle.cics_picture.specs.Drawings.{word_if, with_end, finished};
 
 use crate::drawing::Drawing;
 use crate::elements::{push_field, push_shape, push_words};
+use crate::events::Kind;
 use crate::lanes::{MOST_LANES, lane_x, row_y};
 use cics_names::{Items, NoMemory};
 
@@ -20,13 +23,16 @@ pub struct Standing {
     pub unit: Option<u64>,
     /// Whether it is in a deadlock.
     pub is_deadlocked: bool,
+    /// Whether the line changed for it what no backout undoes.
+    pub stays: bool,
 }
 
-/// A lane so far: the height of the row of its last event, the top of the bar of its open unit, and
-/// how its task stands.
+/// A lane so far: the height of the row of its last event, the row at which its task last waited,
+/// the top of the bar of its open unit, and how its task stands.
 #[derive(Clone, Copy, Debug, PartialEq, Eq)]
 pub struct Lane {
     pub last: u64,
+    pub asked: u64,
     pub top: u64,
     pub standing: Standing,
 }
@@ -53,16 +59,19 @@ pub enum Look {
 pub const NOBODY: Standing = Standing {
     unit: None,
     is_deadlocked: false,
+    stays: false,
 };
 
 /// A lane before the first event.
 pub const NEW_LANE: Lane = Lane {
     last: 0,
+    asked: 0,
     top: 0,
     standing: NOBODY,
 };
 
-fn lane_at(lanes: &[Lane], lane: usize) -> Lane
+/// Returns the lane of a number.
+pub fn lane_at(lanes: &[Lane], lane: usize) -> Lane
     ensures { result ≡ lane_at lanes.now lane }
 {
     match lanes.get(lane) {
@@ -71,18 +80,31 @@ fn lane_at(lanes: &[Lane], lane: usize) -> Lane
     }
 }
 
+// A lane behind an event of its own at a row.
+fn noted(before: Lane, row: u64, kind: Kind) -> Lane
+    requires { row ≤ 100000 }
+    ensures { result ≡ noted before row kind }
+{
+    let asked = match kind {
+        Kind::Waiting => row,
+        _ => before.asked,
+    };
+    Lane {
+        last: row_y(row),
+        asked,
+        top: before.top,
+        standing: before.standing,
+    }
+}
+
 /// Notes the row of an event in its lane, if it has one.
-pub fn note_row(lanes: &mut [Lane; MOST_LANES], lane: Option<usize>, y: u64)
-    requires { IfSome lane (λ l. l < most_lanes) }
-    ensures { lanes.new ≡ lanes_behind lanes.old y lane }
+pub fn note_row(lanes: &mut [Lane; MOST_LANES], lane: Option<usize>, row: u64, kind: Kind)
+    requires lane { IfSome lane (λ l. l < most_lanes) }
+    requires row { row ≤ 100000 }
+    ensures { lanes.new ≡ lanes_behind lanes.old row kind lane }
 {
     if let Some(lane) = lane {
-        let before = lane_at(lanes, lane);
-        lanes[lane] = Lane {
-            last: y,
-            top: before.top,
-            standing: before.standing,
-        };
+        lanes[lane] = noted(lane_at(lanes, lane), row, kind);
     }
 }
 
@@ -115,6 +137,7 @@ fn lane_behind(before: Lane, y: u64, standing: Standing) -> Lane
     };
     Lane {
         last: before.last,
+        asked: before.asked,
         top,
         standing,
     }
@@ -162,6 +185,18 @@ fn push_ring_if(out: &mut Vec<u8>, caught: bool, lane: usize, y: u64) -> Result<
         "M-10 0a10 10 0 1 0 20 0a10 10 0 1 0 -20 0z".as_bytes(),
         (lane_x(lane), y),
     )
+}
+
+// Puts a diamond round the mark of a change that stays.
+fn push_stays_if(out: &mut Vec<u8>, stays: bool, lane: usize, y: u64) -> Result<(), NoMemory>
+    requires { lane < most_lanes }
+    ensures { OnOk result (out.new.items ≡ out.old.items ++ stays_if stays lane y) }
+{
+    if !stays {
+        return Ok(());
+    }
+    let diamond = "M0 -10l10 10l-10 10l-10 -10z";
+    push_shape(out, "st".as_bytes(), diamond.as_bytes(), (lane_x(lane), y))
 }
 
 // Whether a task is caught in a deadlock.
@@ -224,6 +259,7 @@ impl Drawing {
         let unit = gone(before.standing.unit, standing.unit);
         push_ended(&mut self.bars, lane, (before.top, y), unit)?;
         push_ring_if(&mut self.marks, is_caught(before, standing), lane, last_y)?;
+        push_stays_if(&mut self.marks, standing.stays, lane, before.last)?;
         self.lanes[lane] = lane_behind(before, y, standing);
         Ok(())
     }

@@ -10,12 +10,13 @@ use cics_names::{Items, Record};
 /// How many rows a picture has at most.
 pub const LIMIT: u64 = 100_000;
 
-/// The rows so far: how many there are, the tasks that have lanes, the text of what stands in the
-/// lanes and to the left of them, and the text of what stands to the right. Beside them the lanes,
-/// and the bars of units that have ended.
+/// The rows so far: how many there are, the script's line of each, the tasks that have lanes, the
+/// text of what stands in the lanes and to the left of them, and the text of what stands to the
+/// right. Beside them the lanes, and the bars of units that have ended.
 #[derive(Drop)]
 pub struct Drawing {
     pub rows: u64,
+    pub lines: Items<Record>,
     pub tasks: Items<Record>,
     pub marks: Vec<u8>,
     pub texts: Vec<u8>,

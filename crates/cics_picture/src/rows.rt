@@ -5,14 +5,14 @@ ghost use Rattle.std.specs.Prelude.{IfErr};
 ghost use Rattle.std.specs.List.{fold};
 ghost use Rattle.cics_picture.specs.Lanes.{most_lanes, most_rows, lane_of};
 ghost use Rattle.cics_picture.specs.Drawings.{drawn_of, nothing_drawn, arrow_to, beside};
-ghost use Rattle.cics_picture.specs.Drawings.{lane_marks};
+ghost use Rattle.cics_picture.specs.Drawings.{lane_marks, waited, line_text, event_text};
 ghost use Rattle.cics_picture.specs.Elements.{stroke};
 ghost use Rattle.cics_picture.specs.Events.{behind_word, first_word, kind_of, class_of};
-ghost use Rattle.cics_picture.specs.Drawings.{row_marks, row_number, row_texts, with_row};
+ghost use Rattle.cics_picture.specs.Drawings.{row_marks, row_number, with_row};
 ghost use Rattle.cics_picture.specs.Drawings.{row, rows_from, printed, with_line};
 ghost use Rattle.cics_picture.specs.declared.drawing.Undrawn.TheVariants.{TooManyRows};
 
-use crate::bars::{Standing, new_lanes, note_row};
+use crate::bars::{Lane, Standing, lane_at, new_lanes, note_row};
 use crate::drawing::{Drawing, LIMIT, Undrawn};
 use crate::elements::{
     cut, push_arrow, push_cut_words, push_mark, push_number_words, push_stroke, push_words,
@@ -130,11 +130,40 @@ fn push_row_number(out: &mut Vec<u8>, y: u64, number: u64) -> Result<(), NoMemor
     push_number_words(out, "d e".as_bytes(), (52, y), number)
 }
 
-// Puts the line and the event of a row side by side.
-fn push_texts(out: &mut Vec<u8>, y: u64, line: &[u8], event: &[u8]) -> Result<(), NoMemory>
-    ensures { OnOk result (out.new.items ≡ out.old.items ++ row_texts y line.now event.now) }
+// The line with which the task of a lane last waited.
+fn waited<'a>(lines: &'a [Record], lanes: &[Lane], lane: Option<usize>) -> &'a [u8]
+    ensures { result.now ≡ waited lines.now lanes.now lane }
 {
-    push_cut_words(out, "line".as_bytes(), (78, y), cut(line, 90))?;
+    let Some(lane) = lane else {
+        return &[];
+    };
+    match lines.get(lane_at(lanes, lane).asked as usize) {
+        Some(line) => line.bytes(),
+        None => &[],
+    }
+}
+
+// Puts the line of a row. An event without a line shows the one with which its task waited.
+fn push_line_text(
+    out: &mut Vec<u8>,
+    place: (u64, u64),
+    line: &[u8],
+    asked: &[u8],
+) -> Result<(), NoMemory>
+    ensures { OnOk result (out.new.items
+        ≡ out.old.items ++ line_text place.0 place.1 line.now asked.now) }
+{
+    if place.1 == 0 {
+        push_cut_words(out, "d".as_bytes(), (78, place.0), cut(asked, 90))
+    } else {
+        push_cut_words(out, "line".as_bytes(), (78, place.0), cut(line, 90))
+    }
+}
+
+// Puts the event of a row.
+fn push_event_text(out: &mut Vec<u8>, y: u64, event: &[u8]) -> Result<(), NoMemory>
+    ensures { OnOk result (out.new.items ≡ out.old.items ++ event_text y event.now) }
+{
     push_cut_words(
         out,
         kind_of(event).class().as_bytes(),
@@ -150,6 +179,7 @@ impl Drawing {
     {
         Drawing {
             rows: 0,
+            lines: Items::new(alloc),
             tasks: Items::new(alloc),
             marks: Vec::new(alloc),
             texts: Vec::new(alloc),
@@ -170,9 +200,12 @@ impl Drawing {
         give_lane(&mut self.tasks, alloc, event)?;
         push_row_number(&mut self.marks, y + 4, number)?;
         push_marks(&mut self.marks, self.tasks.as_slice(), y, event)?;
-        push_texts(&mut self.texts, y + 4, line, event)?;
         let lane = lane_of(self.tasks.as_slice(), first_word(event));
-        note_row(&mut self.lanes, lane, y);
+        let asked = waited(self.lines.as_slice(), &self.lanes, lane);
+        push_line_text(&mut self.texts, (y + 4, number), line, asked)?;
+        push_event_text(&mut self.texts, y + 4, event)?;
+        self.lines.push(Record::from_slice(alloc, line)?)?;
+        note_row(&mut self.lanes, lane, self.rows, kind_of(event));
         self.rows += 1;
         Ok(())
     }

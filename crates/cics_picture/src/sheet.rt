@@ -10,7 +10,7 @@ ghost use Rattle.cics_picture.specs.Drawings.{drawn_of, Printed, Row, drawn, fin
 ghost use Rattle.cics_picture.specs.Arrows.{TellsWait, DrawsArrow};
 ghost use Rattle.cics_picture.specs.Sheets.{style_text, bands, lane_lines, headings, ground, heading};
 ghost use Rattle.cics_picture.specs.Sheets.{legend_item, answers_legend, ways_legend};
-ghost use Rattle.cics_picture.specs.Sheets.{region_legend, bar_item, ring_item, units_legend};
+ghost use Rattle.cics_picture.specs.Sheets.{region_legend, sign_item, units_legend};
 ghost use Rattle.cics_picture.specs.Sheets.{width_of, height_of, moved_texts, whole_sheet, sheet};
 ghost use Rattle.cics_picture.specs.Bars.{is_bar_of};
 ghost use Rattle.cics_picture.specs.declared.bars.Standing.{Standing};
@@ -132,36 +132,29 @@ fn push_region_legend(out: &mut Vec<u8>) -> Result<(), NoMemory>
     push_legend_item(out, 934, Kind::Down, "shutdown or fault")
 }
 
-// Puts what a bar means.
-#[tactic(auto, unfolding(crate::specs::Sheets::bar_item))]
-fn push_bar_item(out: &mut Vec<u8>, x: u64, class: &str, text: &str) -> Result<(), NoMemory>
+// Puts what a bar, a ring or a diamond means, of a class and a path.
+#[tactic(auto, unfolding(crate::specs::Sheets::sign_item))]
+fn push_sign_item(out: &mut Vec<u8>, x: u64, sign: (&str, &str), text: &str) -> Result<(), NoMemory>
     requires { x < 1000 }
-    ensures { OnOk result (out.new.items ≡ out.old.items ++ bar_item x class.now text.now) }
+    ensures { OnOk result (out.new.items
+        ≡ out.old.items ++ sign_item x sign.entry.0.now sign.entry.1.now text.now) }
 {
-    let bar = "M-7 -7h14v14h-14z";
-    push_shape(out, class.as_bytes(), bar.as_bytes(), (x, 74))?;
+    push_shape(out, sign.0.as_bytes(), sign.1.as_bytes(), (x, 74))?;
     push_words(out, "d s".as_bytes(), (x + 16, 78), text.as_bytes())
 }
 
-// Puts what a ring means.
-#[tactic(auto, unfolding(crate::specs::Sheets::ring_item))]
-fn push_ring_item(out: &mut Vec<u8>) -> Result<(), NoMemory>
-    ensures { OnOk result (out.new.items ≡ out.old.items ++ ring_item) }
-{
-    let ring = "M-10 0a10 10 0 1 0 20 0a10 10 0 1 0 -20 0z";
-    push_shape(out, "dl".as_bytes(), ring.as_bytes(), (484, 74))?;
-    let text = "caught in a deadlock";
-    push_words(out, "d s".as_bytes(), (500, 78), text.as_bytes())
-}
-
-// Puts what bars and rings mean.
+// Puts what bars, rings and diamonds mean.
 fn push_units_legend(out: &mut Vec<u8>) -> Result<(), NoMemory>
     ensures { OnOk result (out.new.items ≡ out.old.items ++ units_legend) }
 {
-    push_bar_item(out, 24, "uf", "unit of work, committed")?;
-    push_bar_item(out, 224, "uh", "backed out")?;
-    push_bar_item(out, 344, "uo", "open at the end")?;
-    push_ring_item(out)?;
+    let bar = "M-7 -7h14v14h-14z";
+    let ring = "M-10 0a10 10 0 1 0 20 0a10 10 0 1 0 -20 0z";
+    let diamond = "M0 -10l10 10l-10 10l-10 -10z";
+    push_sign_item(out, 24, ("uf", bar), "unit of work, committed")?;
+    push_sign_item(out, 224, ("uh", bar), "backed out")?;
+    push_sign_item(out, 344, ("uo", bar), "open at the end")?;
+    push_sign_item(out, 484, ("dl", ring), "caught in a deadlock")?;
+    push_sign_item(out, 664, ("st", diamond), "changes what no backout undoes")?;
     Ok(())
 }
 

@@ -5,6 +5,6 @@ use Rattle.cics_draw.proofs.standings.standings_of.Given as goal
 -- the tasks so far stand so
 abbrev pub invariant-loop-number : goal.invariant-loop-number
 invariant-loop-number l = record {
-  so_far : l.standings ≡ standings_below l.region.machine (shown_deadlocks l.region.machine) l.number;
+  so_far : l.standings ≡ standings_below l.before l.region.machine (shown_deadlocks l.region.machine) l.number;
   count : length l.standings ≡ l.number;
 }
