@@ -50,7 +50,7 @@ pub record MayPerform (m : Machine) (at : ℕ) (verb : Verb) : Type 0 where
   pub passed : OfTask m.tasks at (λ t. fault_of m t verb ≡ None)
   pub short : OfTask m.tasks at (λ t. IfSome (op_of m t verb) (λ o. length (key_of o) ≤ 255))
 
--- READ, or UNLOCK
+-- whether a verb is READ or UNLOCK
 abbrev pub reads_or_unlocks : Verb → Bool
 reads_or_unlocks (Read f key given n generic gteq update) = true
 reads_or_unlocks (Unlock f) = true

@@ -9,7 +9,7 @@ use cics_browse::Browsed;
 use cics_names::{Condition, Record, Verb};
 use cics_units::Answer;
 
-// The first bytes of a content, in its own place.
+// Returns the first bytes of a content. It takes no memory.
 fn first_bytes(content: Record, count: usize) -> Record
     ensures { result ≡ take count content }
 {

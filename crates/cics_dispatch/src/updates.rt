@@ -83,8 +83,8 @@ fn take_queue_op(alloc: Global, verb: &mut Verb) -> Result<Option<Op>, NoMemory>
     Ok(Some(op))
 }
 
-// Takes out the updating command of a verb that names its key itself, or a queue. REWRITE, and
-// DELETE without RIDFLD, name none.
+// Takes the updating command out of a verb that has its key in RIDFLD or names a queue. Returns
+// `None` for any other: REWRITE, DELETE without RIDFLD, and verbs that update nothing.
 fn take_own_op(alloc: Global, verb: &mut Verb) -> Result<Option<Op>, NoMemory>
     ensures op { IfOk result (λ op. op ≡ asked_op None verb.old) }
     ensures back { IfOk result (λ op. refilled verb.new op ≡ verb.old) }

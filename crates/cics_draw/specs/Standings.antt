@@ -1,4 +1,5 @@
--- How the tasks of a region stand that have lanes: the unit of each, and whether it is in a deadlock.
+-- How the tasks of a region stand that have lanes: the unit of each, whether it is in a deadlock, and
+-- whether it made a change that stays.
 use Rattle.std.specs.Prelude.{◌≡◌, ℕ, Bool, true, false, not, ◌&&◌, ◌==◌, zero, suc, nat_lt, if◌then◌else◌, Option, Some, None, length, map, drop, List, [], ◌∷◌, ◌++◌}
 use Rattle.std.specs.List.{list_any}
 use Rattle.cics_names.specs.Keyed.{Bytes, is_key_in}
@@ -37,7 +38,8 @@ standing_of m found (Some label) = record { unit = unit_of m label; is_deadlocke
 abbrev pub standing_at : Machine → List (List Bytes) → ℕ → Standing
 standing_at m found number = standing_of m found (label_at m.tasks number)
 
--- whether a command changes something, if it is answered NORMAL
+-- whether a command is one that changes something: READ UPDATE alone is none. DELETEQ TD counts even
+-- if the queue is empty
 abbrev pub is_change : Op → Bool
 is_change (ReadUpdate f k) = false
 is_change op = true

@@ -1,4 +1,4 @@
-//! How the tasks of a region stand that have lanes: their units and their deadlocks.
+//! How the tasks of a region stand that have lanes: units, deadlocks, and changes that stay.
 
 ghost use Rattle.std.specs.Prelude.{◌≡◌, ◌↔◌, ◌≤◌, ℕ, true, Some, length, IfOk};
 ghost use Rattle.std.specs.List.{list_any};
@@ -93,14 +93,14 @@ fn standing_at(region: &Region, deadlocks: &[Items<Name8>], number: usize) -> St
     }
 }
 
-// Whether a command changes something, if it is answered NORMAL.
+// Returns whether a command is one that changes something: READ UPDATE alone is none.
 fn is_change(op: &Op) -> bool
     ensures { result ≡ is_change op.now }
 {
     !matches!(op, Op::ReadUpdate { .. })
 }
 
-// Whether a unit changed an unrecoverable file or queue by an entry: no backout undoes that.
+// Returns whether a unit changed an unrecoverable file or queue by an entry: no backout undoes that.
 fn stays(opening: &Opening, unit: u64, entry: &Entry) -> bool
     ensures { result ≡ stays opening.now unit entry.now }
 {
@@ -110,7 +110,7 @@ fn stays(opening: &Opening, unit: u64, entry: &Entry) -> bool
         && !opening.is_recoverable(&entry.op)
 }
 
-// Whether a unit made a change that stays by one of these entries.
+// Returns whether a unit made a change that stays by one of these entries.
 fn is_in_any(opening: &Opening, unit: u64, entries: &[Entry]) -> bool
     ensures { result ≡ list_any (stays opening.now unit) entries.now }
 {
@@ -122,7 +122,7 @@ fn is_in_any(opening: &Opening, unit: u64, entries: &[Entry]) -> bool
     false
 }
 
-// Whether a unit made one behind so many entries of the history.
+// Returns whether a unit made a change that stays after the first `before` entries of the history.
 fn any_stays(region: &Region, before: usize, unit: Option<u64>) -> bool
     ensures { result ≡ any_stays before region.now.machine unit }
 {
@@ -139,7 +139,8 @@ fn any_stays(region: &Region, before: usize, unit: Option<u64>) -> bool
     }
 }
 
-// How the task of a number stands behind a line that found so many entries.
+// Returns how the task of a number stands after a line, before which the history had `before`
+// entries.
 fn marked_at(region: &Region, deadlocks: &[Items<Name8>], before: usize, number: usize) -> Standing
     ensures { result ≡ marked_at before region.now.machine deadlocks.now number }
 {
@@ -151,7 +152,7 @@ fn marked_at(region: &Region, deadlocks: &[Items<Name8>], before: usize, number:
     }
 }
 
-// How the tasks that have lanes stand.
+// Returns how the tasks that have lanes stand.
 #[tactic(auto, unfolding(crate::specs::Standings::standings_of))]
 fn standings_of(alloc: Global, before: usize, region: &Region) -> Result<Items<Standing>, NoMemory>
     ensures value { IfOk result (λ standings. standings ≡ standings_of before region.now.machine) }
@@ -165,10 +166,11 @@ fn standings_of(alloc: Global, before: usize, region: &Region) -> Result<Items<S
     Ok(standings)
 }
 
-/// Returns how the tasks that have lanes stand behind a line that found so many entries of the
-/// history. Without a region there are none.
+/// Returns how the tasks that have lanes stand after a line. `before` is the number of entries that
+/// the history had before it. Without a region there are none.
 ///
-/// Errors: `NoMemory`. Cost: O(w * w), w the number of waiting tasks, which is at most sixteen.
+/// Errors: `NoMemory`. Cost: O(w * w + e), w the number of waiting tasks, which is at most sixteen,
+/// e the number of the line's entries.
 pub fn standings_at(
     alloc: Global,
     before: usize,

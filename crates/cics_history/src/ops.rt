@@ -82,18 +82,12 @@ impl Drop for Op {
                 key: _key,
                 from: _from,
             } => {}
-            Op::Delete {
-                file: _file,
-                key: _key,
-            } => {}
+            Op::Delete { file: _f, key: _k } => {}
             Op::DeleteGeneric {
                 file: _file,
                 prefix: _prefix,
             } => {}
-            Op::ReadUpdate {
-                file: _file,
-                key: _key,
-            } => {}
+            Op::ReadUpdate { file: _f, key: _k } => {}
             Op::TsWrite {
                 queue: _queue,
                 from: _from,
@@ -103,11 +97,11 @@ impl Drop for Op {
                 item: _item,
                 from: _from,
             } => {}
-            Op::TsDelete { queue: _queue } => {}
             Op::TdWrite {
                 queue: _queue,
                 from: _from,
             } => {}
+            Op::TsDelete { queue: _queue } => {}
             Op::TdRead { queue: _queue } => {}
             Op::TdDelete { queue: _queue } => {}
         }

@@ -1,4 +1,4 @@
-//! Records: byte strings on the heap.
+//! Records: byte strings. Up to 30 bytes lie in the value itself, more of them on the heap.
 
 ghost use Rattle.std.specs.Prelude.{◌≡◌, ◌↔◌, ◌+◌, ◌≤◌, [], IsTrue, IfOk, length, take, drop};
 
@@ -45,7 +45,7 @@ impl Model for Short {
 }
 
 impl Short {
-    // These bytes.
+    // Returns these bytes, kept in the value itself.
     fn new(bytes: &[u8]) -> Short
         requires { length bytes.now ≤ 30 }
         ensures { result ≡ bytes.now }
@@ -75,7 +75,7 @@ impl Short {
         }
     }
 
-    // The first `count` of them.
+    // Returns the first `count` bytes, all of them if there are fewer.
     fn first(self, count: usize) -> Short
         ensures { result ≡ take count self }
     {
@@ -97,8 +97,8 @@ enum Room {
     Long(Vec<u8>),
 }
 
-/// The bytes of a record, of an item or of a key, as they stand in EBCDIC. Up to 30 bytes take no
-/// memory.
+/// The bytes of a record, of an item or of a key, as they stand in EBCDIC. Up to 30 bytes lie in the
+/// value itself and take no memory.
 ///
 /// Contracts see the bytes alone. Two records are equal if they have the same bytes. They are
 /// ordered by the first byte that differs, the bytes unsigned, or else by their length.
@@ -124,7 +124,8 @@ impl Model for Record {
 }
 
 impl Record {
-    /// Returns the record that these bytes are. It takes no memory.
+    /// Returns the record of these bytes. It takes no memory, and keeps the `Vec` if there are more
+    /// than 30.
     pub fn new(bytes: Vec<u8>) -> Record
         ensures { result ≡ bytes.items }
     {
@@ -136,7 +137,7 @@ impl Record {
         Record::short(bytes.as_slice())
     }
 
-    // A record that keeps its bytes in itself.
+    // Returns a record that keeps these bytes in itself.
     fn short(bytes: &[u8]) -> Record
         requires { length bytes.now ≤ 30 }
         ensures { result ≡ bytes.now }
@@ -170,7 +171,8 @@ impl Record {
         }
     }
 
-    /// Returns the record of its first `count` bytes. It takes no memory.
+    /// Returns the record of the first `count` bytes, or of all if there are fewer. It takes no
+    /// memory.
     pub fn first(self, count: usize) -> Record
         ensures { result ≡ take count self }
     {

@@ -66,7 +66,7 @@ row_marks tasks y event = marks_of tasks y event (kind_of event)
 abbrev pub row_number : ℕ → ℕ → List ℕ
 row_number y number = if number == 0 then [] else number_words (codes "d e") 52 y number
 
--- the line with which the task of a lane last waited
+-- the line with which the task of a lane last waited; if it never waited, that of the first row
 abbrev pub waited : List (List ℕ) → List Lane → Option ℕ → List ℕ
 waited lines lanes None = []
 waited lines lanes (Some lane) = unwrap_or (slice_get lines (lane_at lanes lane).asked) []

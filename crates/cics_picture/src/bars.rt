@@ -1,4 +1,5 @@
-//! The bars of units of work in the lanes, and the rings of deadlocks.
+//! The bars of units of work in the lanes, the rings of deadlocks, and the diamonds of changes that
+//! no backout undoes.
 
 ghost use Rattle.std.specs.Prelude.{◌≡◌, ◌++◌, ◌-◌, ◌<◌, ◌≤◌, length, IfSome, OnOk};
 ghost use Rattle.std.specs.List.{flat_map};
@@ -23,7 +24,7 @@ pub struct Standing {
     pub unit: Option<u64>,
     /// Whether it is in a deadlock.
     pub is_deadlocked: bool,
-    /// Whether the line changed for it what no backout undoes.
+    /// Whether its unit changed an unrecoverable file or queue in the line: no backout undoes that.
     pub stays: bool,
 }
 
@@ -80,7 +81,7 @@ pub fn lane_at(lanes: &[Lane], lane: usize) -> Lane
     }
 }
 
-// A lane behind an event of its own at a row.
+// Returns a lane after an event of its own at a row.
 fn noted(before: Lane, row: u64, kind: Kind) -> Lane
     requires { row ≤ 100000 }
     ensures { result ≡ noted before row kind }
@@ -97,7 +98,7 @@ fn noted(before: Lane, row: u64, kind: Kind) -> Lane
     }
 }
 
-/// Notes the row of an event in its lane, if it has one.
+/// Notes the row of an event in its lane, if it has one. If the task waits, that is noted too.
 pub fn note_row(lanes: &mut [Lane; MOST_LANES], lane: Option<usize>, row: u64, kind: Kind)
     requires lane { IfSome lane (λ l. l < most_lanes) }
     requires row { row ≤ 100000 }

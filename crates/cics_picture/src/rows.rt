@@ -130,7 +130,8 @@ fn push_row_number(out: &mut Vec<u8>, y: u64, number: u64) -> Result<(), NoMemor
     push_number_words(out, "d e".as_bytes(), (52, y), number)
 }
 
-// The line with which the task of a lane last waited.
+// Returns the line with which the task of a lane last waited. If it never waited, that is the line
+// of the first row; without a lane there are no bytes.
 fn waited<'a>(lines: &'a [Record], lanes: &[Lane], lane: Option<usize>) -> &'a [u8]
     ensures { result.now ≡ waited lines.now lanes.now lane }
 {
@@ -143,7 +144,8 @@ fn waited<'a>(lines: &'a [Record], lanes: &[Lane], lane: Option<usize>) -> &'a [
     }
 }
 
-// Puts the line of a row. An event without a line shows the one with which its task waited.
+// Puts the line of a row, of this height and this number of its line. Without a number it puts the
+// line with which the task waited, dimmed.
 fn push_line_text(
     out: &mut Vec<u8>,
     place: (u64, u64),

@@ -129,7 +129,7 @@ pub fn arguments(alloc: Global, words: Vec<String>) -> Result<Asked, NoMemory> {
     }
 }
 
-// What is told of an error. The help and the version are errors too.
+// Returns what an error asks for. The help and the version are errors too.
 fn told_error(alloc: Global, error: &Error) -> Result<Asked, NoMemory> {
     let text = error.to_string(alloc)?;
     match error.kind() {
@@ -142,7 +142,7 @@ fn told_error(alloc: Global, error: &Error) -> Result<Asked, NoMemory> {
 
 const UNKNOWN: &str = "error: unexpected argument '";
 
-// The message on a word that isn't known. One that may name a file is told how to hand it over.
+// Returns the message on a word that isn't known. If it may name a file, a tip says how to use it.
 fn with_tip(alloc: Global, text: &str) -> Result<String, NoMemory> {
     match unknown_word(text) {
         Some((word, behind)) => Ok(format!(in alloc;
@@ -152,7 +152,7 @@ fn with_tip(alloc: Global, text: &str) -> Result<String, NoMemory> {
     }
 }
 
-// The word that isn't known, if it may name a file, and the rest of the message behind it.
+// Returns the word that isn't known, if it may name a file, and the rest of the message behind it.
 fn unknown_word(text: &str) -> Option<(&str, &str)> {
     let (word, behind) = text.strip_prefix(UNKNOWN)?.split_once("' found\n")?;
     if word.is_empty() || word.starts_with('-') {
@@ -169,7 +169,7 @@ fn flag<'a>(alloc: Global, name: &'a str, help: &'a str) -> Arg<'a> {
         .help(help)
 }
 
-// An option with a number from 1 on, which belongs to the orders.
+// Returns an option with a number from 1 on, which belongs to the orders.
 fn number<'a>(alloc: Global, name: &'a str, help: &'a str) -> Result<Arg<'a>, AllocError> {
     let number = Arg::new(alloc, name)
         .long(name)
@@ -209,7 +209,7 @@ fn with_orders<'a>(
     with(command, number(alloc, "ending", ending))
 }
 
-// A flag that belongs to the orders.
+// Returns a flag that belongs to the orders.
 fn told_flag<'a>(flag: Arg<'a>) -> Result<Arg<'a>, AllocError> {
     apart_from_runs(flag.requires_arg("orders")?)
 }
@@ -245,7 +245,7 @@ fn asked_run(alloc: Global, words: &[String]) -> Result<Asked, Error> {
     Ok(chosen(&matches))
 }
 
-// What the options that were given ask for.
+// Returns what the options that were given ask for.
 fn chosen(matches: &ArgMatches) -> Asked {
     if matches.get_flag("picture") {
         return Asked::Picture;

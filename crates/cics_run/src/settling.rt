@@ -59,7 +59,7 @@ fn turn(region: &mut Region, out: &mut Vec<u8>) -> Result<bool, NoMemory>
     }
 }
 
-// Prints the line of a command that went on, which is dropped here, at one place.
+// Prints the line of a command that resumed. It owns the command, so that it is dropped by one call.
 fn tell_woken(woken: Woken, out: &mut Vec<u8>) -> Result<(), NoMemory>
     ensures { OnOk result (out.new.items ≡ out.old.items ++ woken_line woken) }
 {

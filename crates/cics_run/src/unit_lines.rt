@@ -73,7 +73,7 @@ fn push_entry(out: &mut Vec<u8>, entry: &Entry) -> Result<(), NoMemory>
     push_command(out, entry.unit, verb_for(&entry.op)?)
 }
 
-// In front of READ UPDATE an update read of the file that may be open is given up.
+// Prints an UNLOCK before a READ UPDATE, since an update read of the file may be open.
 fn push_unlock(out: &mut Vec<u8>, unit: UnitId, op: &Op) -> Result<(), NoMemory>
     ensures { OnOk result (out.new.items ≡ out.old.items ++ unlock_line unit op.now) }
 {

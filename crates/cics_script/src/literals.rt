@@ -227,10 +227,10 @@ fn put_codes(text: &mut [u8], plain: &[u8])
     }
 }
 
-// How many characters a text has at most whose record is made without a list.
+// The most characters of a text whose record is made without a `Vec`.
 const SHORT: usize = 30;
 
-// The record of a short text of characters that stand for themselves, in EBCDIC.
+// Returns the record of a short text of characters that stand for themselves, in EBCDIC.
 fn short_record(alloc: Global, plain: &[u8]) -> Result<Record, NoMemory>
     requires fits { length plain.now ≤ 30 }
     ensures { IfOk result (λ made. made ≡ encoded_text Encoding.Ebcdic plain.now) }

@@ -48,7 +48,7 @@ fn fill(alloc: Global, file: &mut File, more: u64) -> Result<(), NoMemory> {
 }
 
 impl Browses {
-    /// No browse yet of the file that `fill` fills.
+    /// Returns no browse yet, of the file that `fill` fills.
     pub(crate) fn new(alloc: Global, more: u64) -> Result<Browses, NoMemory> {
         let mut file = empty_file(alloc);
         match fill(alloc, &mut file, more) {

@@ -31,7 +31,7 @@ impl Drop for Files {
     }
 }
 
-/// An empty file with keys of four bytes, and records of at most sixty.
+/// Returns an empty file with keys of four bytes, and records of at most sixty.
 pub(crate) fn empty_file(alloc: Global) -> File {
     File::new(
         alloc,
@@ -83,7 +83,7 @@ pub(crate) fn end<M: Undoable>(
 }
 
 impl Files {
-    /// The file that `load_all` fills, and as many images of other changes.
+    /// Returns the file that `load_all` fills, and as many images of other changes as `more` says.
     pub(crate) fn new(alloc: Global, more: u64) -> Result<Files, NoMemory> {
         let mut files = Files {
             file: empty_file(alloc),

@@ -61,7 +61,7 @@ fn fill(alloc: Global, file: &mut File, order: Order, count: u64) -> Result<(), 
     Ok(())
 }
 
-// Whether records are the keys of these numbers.
+// Returns whether records are exactly the keys of these numbers.
 fn are_keys(alloc: Global, records: &[Record], numbers: &[u64]) -> Result<bool, NoMemory> {
     if records.len() != numbers.len() {
         return Ok(false);
@@ -86,7 +86,7 @@ fn sorted(alloc: Global, order: Order, are_all: bool) -> Result<Vec<u64>, NoMemo
     Ok(numbers)
 }
 
-// Whether a file lists the keys whose places in an order are no third one, or all, and no others.
+// Returns whether a file lists exactly the keys of an order: all of them, or all but every third.
 fn lists(alloc: Global, file: &File, order: Order, are_all: bool) -> Result<bool, NoMemory> {
     let numbers = sorted(alloc, order, are_all)?;
     are_keys(alloc, file.listing()?.as_slice(), &numbers)

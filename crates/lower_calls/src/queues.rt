@@ -36,7 +36,7 @@ fn fill(alloc: Global, queue: &mut TransQueue, more: u64) -> Result<(), NoMemory
 }
 
 impl Queue {
-    /// The queue that `fill` fills.
+    /// Returns the queue that `fill` fills.
     pub(crate) fn new(alloc: Global, recovery: Recovery, more: u64) -> Result<Queue, NoMemory> {
         let mut queue = TransQueue::new(alloc, recovery);
         match fill(alloc, &mut queue, more) {

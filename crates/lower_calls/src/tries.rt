@@ -90,8 +90,8 @@ fn is_granted(alloc: Global, size: usize) -> bool {
     bytes.is_ok()
 }
 
-/// Says what becomes of the requests that follow. The library hears it even if there is no memory
-/// for the request that says it.
+/// Tells the library what becomes of the requests that follow. The library learns it even if it
+/// can't grant the request that tells it.
 pub(crate) fn switch(alloc: Global, requests: Requests) {
     let size = match requests {
         Requests::Granted => 70_002,

@@ -26,7 +26,7 @@ fn issue(region: &mut Region, label: Name8, command: Command) -> Result<Came, No
     }
 }
 
-// Lets happen what a line says that issues no command.
+// Executes a line that issues no command: ATTACH, CLOCK or SHUTDOWN. Any other may not stand here.
 fn happen_by_copy(region: &mut Region, line: &Line) -> Result<Came, NoMemory> {
     match line {
         Line::Attach {

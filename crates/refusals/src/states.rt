@@ -60,7 +60,7 @@ fn push_asked(out: &mut Vec<u8>, units: &Units, event: &Event) -> Result<(), NoM
     }
 }
 
-// The same for the command of a step.
+// Puts at the end what `push_asked` puts for the command of a step.
 fn push_step(out: &mut Vec<u8>, units: &Units, step: &Step) -> Result<(), NoMemory> {
     match event_of(units.opening().allocator(), step.line())? {
         Some(event) => push_asked(out, units, &event),

@@ -51,7 +51,7 @@ impl Dispatcher {
         }
     }
 
-    // Executes a command of the task at a place that names a file and updates nothing.
+    // Executes a command of the task at this index that names a file and updates nothing.
     #[inline(never)]
     fn perform_on_file(&mut self, at: usize, command: Command) -> Result<Outcome, NoMemory>
         requires within { at < length self.old.machine.tasks }
@@ -76,7 +76,8 @@ impl Dispatcher {
         }
     }
 
-    // Executes a command of the task at a place that begins, moves or ends a browse.
+    // Executes a command of the task at this index that begins, moves or ends a browse. Answers
+    // INVREQ to any other that names a file.
     #[inline(never)]
     fn perform_on_browse(&mut self, at: usize, mut command: Command) -> Result<Outcome, NoMemory>
         requires within { at < length self.old.machine.tasks }
@@ -115,7 +116,7 @@ impl Dispatcher {
         }
     }
 
-    // A command of the task at a place that names no file and updates nothing.
+    // Executes a command of the task at this index that names no file and updates nothing.
     #[inline(never)]
     fn perform_on_no_file(&mut self, at: usize, command: Command) -> Result<Outcome, NoMemory>
         requires within { at < length self.old.machine.tasks }
