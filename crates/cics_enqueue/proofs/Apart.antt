@@ -2,9 +2,10 @@
 use Rattle.std.proofs.Common.{◌≡◌, ℕ, ◌-◌, ◌==◌, true, false, T, Option, Some, None, refl, sym, ap, subst, ◌∙◌, ◌⊎◌, inl, inr}
 use Rattle.std.specs.Prelude.{nat_lt, if◌then◌else◌}
 use Rattle.std.proofs.lemmas.Bool.{eqb-true}
-use Rattle.cics_enqueue.specs.declared.resources.Resource.{Resource}
-use Rattle.cics_enqueue.specs.Resources.{Table, Held, AreApart, IsFreeFor, overlaps, is_one, is_in_order, held_at, holder_of, taken, given_back, released}
-use Rattle.cics_enqueue.specs.ResourceLaws.{is_one-eq}
+use Rattle.cics_history.specs.declared.resources.Resource.{Resource}
+use Rattle.cics_history.specs.Resources.{is_one}
+use Rattle.cics_enqueue.specs.Table.{Table, Held, AreApart, IsFreeFor, overlaps, is_in_order, held_at, holder_of, taken, given_back, released}
+use Rattle.cics_history.specs.ResourceLaws.{is_one-eq}
 use Rattle.cics_enqueue.specs.FreedomLaws.{overlaps-turned}
 use Rattle.cics_enqueue.proofs.TableLaws.{holder_of-taken, held_at-given_back, holder_of-released, held_less, holder_without, unit_in}
 

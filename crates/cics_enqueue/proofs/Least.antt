@@ -10,11 +10,13 @@ use Rattle.std.proofs.lemmas.Bool.{and_parts, and_from, or_cases, eq-eqb, eqb-tr
 use Rattle.arrayvec.specs.ArrayVec.{ArrayVec}
 use Rattle.cics_names.specs.Keyed.{Bytes, bytes_cmp, is_same, is_below}
 use Rattle.cics_names.specs.KeyedLaws.{is_same-eq, is_same-self, same_bytes}
-use Rattle.cics_enqueue.specs.declared.resources.Resource.{Resource}
-use Rattle.cics_enqueue.specs.declared.resources.Resource.TheVariants.{FileKey, TsQueue, TdRead, TdWrite, User, FilePrefix}
-use Rattle.cics_enqueue.specs.Resources.{Table, Held, HoldsLeast, bytes_of, begins_with, overlaps, is_one, is_other, is_under, is_in_order, resource_cmp, resource_key}
-use Rattle.cics_enqueue.specs.Resources.{place_of, held_at, holder_of, other_than, first_of, first_that, lesser, least_under, holder_of_shorter, held_with_prefix, holder_over}
-use Rattle.cics_enqueue.specs.ResourceLaws.{begins_with-self, is_one-eq, is_one-cmp, overlaps-self}
+use Rattle.cics_history.specs.declared.resources.Resource.{Resource}
+use Rattle.cics_history.specs.declared.resources.Resource.TheVariants.{FileKey, TsQueue, TdRead, TdWrite, User, FilePrefix}
+use Rattle.cics_history.specs.Resources.{bytes_of, is_one}
+use Rattle.cics_enqueue.specs.Table.{Table, Held, HoldsLeast, begins_with, overlaps, is_other, is_under, is_in_order, resource_cmp, resource_key}
+use Rattle.cics_enqueue.specs.Table.{place_of, held_at, holder_of, other_than, first_of, first_that, lesser, least_under, holder_of_shorter, held_with_prefix, holder_over}
+use Rattle.cics_history.specs.ResourceLaws.{is_one-eq}
+use Rattle.cics_enqueue.specs.Order.{begins_with-self, is_one-cmp, overlaps-self}
 use Rattle.cics_enqueue.specs.FreedomLaws.{own_holder, shorter_none, begins_split, begins_after, under_file, under_own}
 use Rattle.cics_enqueue.proofs.Seeking.{tied, begins_with-trans}
 use Rattle.cics_enqueue.proofs.TableLaws.{left_of, right_of, held_below}

@@ -1,9 +1,10 @@
 -- Worked rows: who stands in the way of a unit.
 use Rattle.std.specs.Prelude.{◌≡◌, Some, None, true, false, [], ◌∷◌, refl}
 use Rattle.cics_names.specs.Keyed.{Bytes}
-use Rattle.cics_enqueue.specs.declared.resources.Resource.{Resource}
-use Rattle.cics_enqueue.specs.declared.resources.Resource.TheVariants.{FileKey, FilePrefix}
-use Rattle.cics_enqueue.specs.Resources.{Table, bytes_of, overlaps, held_with_prefix, holder_over, taken, released}
+use Rattle.cics_history.specs.declared.resources.Resource.{Resource}
+use Rattle.cics_history.specs.declared.resources.Resource.TheVariants.{FileKey, FilePrefix}
+use Rattle.cics_history.specs.Resources.{bytes_of}
+use Rattle.cics_enqueue.specs.Table.{Table, overlaps, held_with_prefix, holder_over, taken, released}
 
 -- two files, and keys and prefixes of theirs
 abbrev accounts : Bytes

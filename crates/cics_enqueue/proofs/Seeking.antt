@@ -1,5 +1,5 @@
 -- Look-ups by the first bytes in entries that rise.
-use Rattle.std.proofs.Common.{Bor, ◌≡◌, ℕ, ◌&&◌, ◌==◌, Bool, true, false, cond, Option, Some, None, [], ◌∷◌, ◌++◌, length, nat_eq, suc, All, arith, refl, sym, ap, subst, ◌∙◌, inl, inr, append_assoc, ◌<◌, zero}
+use Rattle.std.proofs.Common.{Bor, ◌≡◌, ℕ, ◌&&◌, ◌||◌, ◌==◌, Bool, true, false, cond, Option, Some, None, [], ◌∷◌, ◌++◌, length, nat_eq, suc, All, arith, refl, sym, ap, subst, ◌∙◌, inl, inr, append_assoc, ◌<◌, zero}
 use Rattle.std.specs.Bool.{OnFalse}
 use Rattle.std.specs.Prelude.{slice_get, is_some, option_map, drop, take, filter, if◌then◌else◌}
 use Rattle.std.specs.Global.{Vec}
@@ -12,17 +12,19 @@ use Rattle.std.specs.Cmp.{nat_cmp_total, tied_itself}
 use Rattle.std.specs.Cmp.Lexicographic.{pointwise}
 use Rattle.std.specs.FinMap.{nat_cmp-IsAntisymmetric}
 use Rattle.std.proofs.lemmas.Bool.{cases_Bool, le-ltb, eqb-true, eq-eqb, and_parts, and_from}
-use Rattle.cics_names.specs.Keyed.{Bytes, bytes_cmp, is_below}
+use Rattle.cics_names.specs.Keyed.{Bytes, bytes_cmp, is_same, is_below}
 use Rattle.cics_names.specs.KeyedLaws.{is_same-eq}
 use Rattle.cics_enqueue.specs.declared.enqueues.Holding.{Holding}
-use Rattle.cics_enqueue.specs.declared.resources.Resource.{Resource}
-use Rattle.cics_enqueue.specs.declared.resources.Resource.TheVariants.{FileKey, FilePrefix}
+use Rattle.cics_history.specs.declared.resources.Resource.{Resource}
+use Rattle.cics_history.specs.declared.resources.Resource.TheVariants.{FileKey, FilePrefix}
 use Rattle.cics_enqueue.specs.Borrowed.{named}
 use Rattle.cics_enqueue.specs.declared.borrowed.Kind.{Kind}
 use Rattle.cics_enqueue.specs.declared.borrowed.Kind.TheVariants.{FileKey as KeyAt, FilePrefix as PrefixAt, TsQueue as TsQueueOf, TdRead as ReadingEndOf, TdWrite as WritingEndOf, User as UserAt}
 use Rattle.cics_enqueue.specs.Kept.{key_cmp, Entries, Owned, IsKept, owns, is_units, AreKeys, table_of, seen, bytes_and_unit, finds, first_entry, is_others_under, others_unit, first_cover, lesser_shown}
-use Rattle.cics_enqueue.specs.Resources.{Table, Held, holder_over, bytes_of, resource_key, begins_with, is_other, is_under, first_that, first_of, lesser, least_under, other_than, holder_of, holder_of_shorter}
-use Rattle.cics_enqueue.specs.ResourceLaws.{resource_of}
+use Rattle.cics_history.specs.Resources.{bytes_of}
+use Rattle.cics_history.specs.Holding.{conflicts}
+use Rattle.cics_enqueue.specs.Table.{Table, Held, overlaps, holder_over, resource_key, begins_with, is_other, is_under, first_that, first_of, lesser, least_under, other_than, holder_of, holder_of_shorter}
+use Rattle.cics_enqueue.specs.Order.{resource_of}
 use Rattle.cics_enqueue.proofs.Tables.{key_found, holder_of-table_of, unheld}
 
 -- ---- bytes that begin with others
@@ -30,6 +32,14 @@ pub starts_with-begins : (p b : Bytes) → pointwise nat_eq p (take (length p) b
 starts_with-begins [] b = refl
 starts_with-begins (x ∷ p) [] = refl
 starts_with-begins (x ∷ p) (y ∷ b) = ap (λ t. (x == y) && t) (starts_with-begins p b)
+
+-- what overlaps is what conflicts in a history
+pub conflicts-overlaps : (r s : Resource) → conflicts r s ≡ overlaps r s
+conflicts-overlaps (FileKey f k) (FilePrefix g p) = ap (λ b. is_same f g && b) (starts_with-begins p.items k.items)
+conflicts-overlaps (FilePrefix f p) (FileKey g k) = ap (λ b. is_same f g && b) (starts_with-begins p.items k.items)
+conflicts-overlaps (FilePrefix f p) (FilePrefix g q) =
+    λ i. is_same f g && (starts_with-begins p.items q.items i || starts_with-begins q.items p.items i)
+conflicts-overlaps _ _ = refl
 
 pub begins_with-trans : (a b c : Bytes) → begins_with a b ≡ true → begins_with b c ≡ true → begins_with a c ≡ true
 begins_with-trans [] b c h g = refl

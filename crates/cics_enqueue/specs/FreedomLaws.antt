@@ -7,10 +7,12 @@ use Rattle.std.proofs.lemmas.Bool.{and_parts, and_from, or_cases, eq-eqb, eqb-tr
 use Rattle.arrayvec.specs.ArrayVec.{ArrayVec}
 use Rattle.cics_names.specs.Keyed.{Bytes, is_same, is_below}
 use Rattle.cics_names.specs.KeyedLaws.{is_same-eq, is_same-self}
-use Rattle.cics_enqueue.specs.declared.resources.Resource.{Resource}
-use Rattle.cics_enqueue.specs.declared.resources.Resource.TheVariants.{FileKey, TsQueue, TdRead, TdWrite, User, FilePrefix}
-use Rattle.cics_enqueue.specs.Resources.{Table, Held, IsFreeFor, IsFreeBut, bytes_of, begins_with, overlaps, is_one, is_other, is_under, resource_cmp, held_at, holder_of, other_than, first_of, first_that, lesser, place_of, holder_of_shorter, holder_over}
-use Rattle.cics_enqueue.specs.ResourceLaws.{begins_with-self, is_one-eq, is_one-cmp}
+use Rattle.cics_history.specs.declared.resources.Resource.{Resource}
+use Rattle.cics_history.specs.declared.resources.Resource.TheVariants.{FileKey, TsQueue, TdRead, TdWrite, User, FilePrefix}
+use Rattle.cics_history.specs.Resources.{bytes_of, is_one}
+use Rattle.cics_enqueue.specs.Table.{Table, Held, IsFreeFor, IsFreeBut, begins_with, overlaps, is_other, is_under, resource_cmp, held_at, holder_of, other_than, first_of, first_that, lesser, place_of, holder_of_shorter, holder_over}
+use Rattle.cics_history.specs.ResourceLaws.{is_one-eq}
+use Rattle.cics_enqueue.specs.Order.{begins_with-self, is_one-cmp}
 
 -- which of two comes first doesn't matter
 turned : (a b : Bytes) → is_same a b ≡ true → is_same b a ≡ true

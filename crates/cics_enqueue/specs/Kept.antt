@@ -8,8 +8,9 @@ use Rattle.std.specs.BTreeMap.{insert_entry}
 use Rattle.std.specs.declared.cmp.Ordering.{Ordering}
 use Rattle.cics_names.specs.Keyed.{Bytes, bytes_cmp, is_same, is_below}
 use Rattle.cics_enqueue.specs.declared.enqueues.Holding.{Holding}
-use Rattle.cics_enqueue.specs.Resources.{Table, Held, resource_key, is_in_order, begins_with, is_other, first_of, most_count}
-use Rattle.cics_enqueue.specs.ResourceLaws.{resource_of}
+use Rattle.cics_history.specs.Resources.{most_count}
+use Rattle.cics_enqueue.specs.Table.{Table, Held, resource_key, is_in_order, begins_with, is_other, first_of}
+use Rattle.cics_enqueue.specs.Order.{resource_of}
 
 -- the entries that are kept: a resource as bytes, and its holding
 abbrev pub Entries : Type 0

@@ -1,7 +1,7 @@
 //! The enqueue table.
 
-ghost use Rattle.cics_enqueue.specs.declared.resources.Resource.TheVariants.{FileKey, FilePrefix};
-ghost use Rattle.cics_enqueue.specs.declared.resources.Resource.TheVariants.{User};
+ghost use Rattle.cics_history.specs.declared.resources.Resource.TheVariants.{FileKey, FilePrefix};
+ghost use Rattle.cics_history.specs.declared.resources.Resource.TheVariants.{User};
 ghost use Rattle.std.specs.Prelude.{◌≡◌, ◌≤◌, IfNone, IfSome, length, [], ◌+◌};
 ghost use Rattle.std.specs.Prelude.{if◌then◌else◌, IsTrue, true, false, ◌↔◌, OnOk, OnErr, IfErr};
 ghost use Rattle.std.specs.Prelude.{IfOk, List, T, None, Some, ℕ, is_some, not, option_map};
@@ -11,18 +11,19 @@ ghost use Rattle.std.specs.Map.{lookup};
 ghost use Rattle.std.specs.Option.{unwrap_or};
 ghost use Rattle.std.specs.BTreeMap.{btree_map_len, insert_entry};
 ghost use Rattle.std.specs.Global.{Vec};
-ghost use Rattle.cics_enqueue.specs.Resources.{bytes_of, holder_of, holder_over, held_with_prefix};
-ghost use Rattle.cics_enqueue.specs.Resources.{count_of, IsFreeFor, IsFreeBut, HoldsLeast, is_full};
-ghost use Rattle.cics_enqueue.specs.Resources.{taken, given_back, released, other_than};
-ghost use Rattle.cics_enqueue.specs.Resources.{held_at, is_user, is_in_order, resource_key};
-ghost use Rattle.cics_enqueue.specs.ResourceLaws.{resource_of};
+ghost use Rattle.cics_history.specs.Resources.{bytes_of, is_user};
+ghost use Rattle.cics_enqueue.specs.Table.{holder_of, holder_over, held_with_prefix};
+ghost use Rattle.cics_enqueue.specs.Table.{count_of, IsFreeFor, IsFreeBut, HoldsLeast, is_full};
+ghost use Rattle.cics_enqueue.specs.Table.{taken, given_back, released, other_than};
+ghost use Rattle.cics_enqueue.specs.Table.{held_at, is_in_order, resource_key};
+ghost use Rattle.cics_enqueue.specs.Order.{resource_of};
 
 use crate::borrowed::{Kind, ResourceRef};
 use crate::compact::{compact, held, set_resource, set_value};
 use crate::keys::Key;
 use crate::overlaps::{has_prefixes, key_holder, least_holder, other_unit, shorter_holder};
 use crate::owned::{self, Owned};
-use crate::resources::{Resource, UnitId};
+use cics_history::{Resource, UnitId};
 use cics_names::{Name8, NoMemory};
 use indexmap::IndexMap;
 use std::alloc::{AllocError, Global};
@@ -84,7 +85,7 @@ pub struct Enqueues {
 }
 
 impl Model for Enqueues {
-    ghost use Rattle.cics_enqueue.specs.Resources.{Table};
+    ghost use Rattle.cics_enqueue.specs.Table.{Table};
 
     ghost Value = { Table };
 

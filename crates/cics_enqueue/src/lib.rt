@@ -11,8 +11,7 @@ mod keys;
 pub mod laws;
 mod overlaps;
 mod owned;
-mod resources;
 
 pub use borrowed::ResourceRef;
+pub use cics_history::{Resource, UnitId};
 pub use enqueues::{Enqueues, TakeFault};
-pub use resources::{Resource, UnitId};

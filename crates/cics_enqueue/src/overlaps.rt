@@ -8,12 +8,12 @@ ghost use Rattle.cics_enqueue.specs.Kept.{finds, first_shorter, first_shown, lea
 ghost use Rattle.cics_enqueue.specs.Kept.{others_unit};
 ghost use Rattle.std.specs.Map.{lookup};
 ghost use Rattle.std.specs.Option.{option_copied};
-ghost use Rattle.cics_enqueue.specs.Resources.{is_other, begins_with, first_of};
+ghost use Rattle.cics_enqueue.specs.Table.{is_other, begins_with, first_of};
 
 use crate::compact::{KEY, PREFIX, file_bytes, held_under};
 use crate::enqueues::Holding;
 use crate::keys::Key;
-use crate::resources::UnitId;
+use cics_history::UnitId;
 use cics_names::Name8;
 use std::collections::BTreeMap;
 

@@ -11,19 +11,21 @@ use Rattle.std.proofs.lemmas.Bool.{true≢false, false≢true, eq-eqb, eqb-true,
 use Rattle.cics_names.specs.Keyed.{Bytes, bytes_cmp, is_below, is_same}
 use Rattle.cics_names.specs.KeyedLaws.{is_same-eq, is_same-self}
 use Rattle.cics_ksds.specs.Prefixes.{has_prefix}
-use Rattle.cics_enqueue.specs.Resources.{Table, HoldsLeast, IsFreeFor, is_one, is_other as other_in_table, holder_of, holder_over, other_than, place_of}
-use Rattle.cics_enqueue.specs.ResourceLaws.{is_one-self, is_one-eq, begins_with-self}
+use Rattle.cics_history.specs.Resources.{is_one}
+use Rattle.cics_enqueue.specs.Table.{Table, HoldsLeast, IsFreeFor, is_other as other_in_table, holder_of, holder_over, other_than, place_of}
+use Rattle.cics_history.specs.ResourceLaws.{is_one-self, is_one-eq}
+use Rattle.cics_enqueue.specs.Order.{begins_with-self}
 use Rattle.cics_enqueue.specs.FreedomLaws.{free_where_none, free_for}
-use Rattle.cics_enqueue.specs.declared.resources.Resource.{Resource}
-use Rattle.cics_enqueue.specs.declared.resources.Resource.TheVariants.{FileKey, TsQueue, TdRead as ReadingEnd, TdWrite as WritingEnd, User, FilePrefix}
-use Rattle.cics_enqueue.proofs.Seeking.{starts_with-begins}
+use Rattle.cics_history.specs.declared.resources.Resource.{Resource}
+use Rattle.cics_history.specs.declared.resources.Resource.TheVariants.{FileKey, TsQueue, TdRead as ReadingEnd, TdWrite as WritingEnd, User, FilePrefix}
+use Rattle.cics_enqueue.proofs.Seeking.{starts_with-begins, conflicts-overlaps}
 use Rattle.cics_enqueue.proofs.Least.{holder_over-least}
 use Rattle.cics_history.specs.State.{UnitsState}
 use Rattle.cics_history.specs.Holding.{held_by, conflicts, bytes_in, is_other, owned, smallest_conflict, blocker_at}
 use Rattle.cics_history.specs.Holders.{IsLeastHeld}
 use Rattle.cics_history.specs.Isolation.{IsSound}
 use Rattle.cics_history.specs.Execution.{unit_or_next, IsOpenUnit}
-use Rattle.cics_history.proofs.Holders.{conflicts-overlaps, none_found, conflicts-joined, holder_begun, held_cases}
+use Rattle.cics_history.proofs.Holders.{none_found, conflicts-joined, holder_begun, held_cases}
 use Rattle.cics_history.proofs.LeastHeld.{least_held, holder_some}
 use Rattle.cics_history.proofs.Waiting.{any_more}
 use Rattle.cics_units.specs.TableInPlace.{is_holder, value_of, IsTableOf}

@@ -7,7 +7,7 @@ use Rattle.cics_names.specs.Keyed.{bytes_cmp}
 use Rattle.cics_enqueue.specs.declared.enqueues.Holding.{Holding}
 use Rattle.cics_enqueue.specs.Kept.{Entries, first_entry, first_shown, is_others_under, bytes_and_unit}
 use Rattle.std.specs.Prelude.{length}
-use Rattle.cics_enqueue.specs.Resources.{begins_with, is_other}
+use Rattle.cics_enqueue.specs.Table.{begins_with, is_other}
 use Rattle.cics_enqueue.proofs.Seeking.{Rises, rises_sorted, Rises-filter, first_entry-filter, first_entry-here, first_entry-past, first_entry-passed, starts_with-begins, before_bound, never}
 use Rattle.cics_enqueue.proofs.overlaps.first_under.Goals as goal
 

@@ -1,8 +1,8 @@
 use Rattle.std.proofs.Common.{◌≡◌, ◌∙◌, [], ap, true}
 use Rattle.std.specs.Prelude.{Result, Ok, Err, OnOk, OnErr}
 use Rattle.cics_names.specs.Keyed.{Bytes}
-use Rattle.cics_enqueue.specs.Resources.{begins_with}
-use Rattle.cics_enqueue.specs.ResourceLaws.{begins_with-self}
+use Rattle.cics_enqueue.specs.Table.{begins_with}
+use Rattle.cics_enqueue.specs.Order.{begins_with-self}
 use Rattle.cics_enqueue.proofs.overlaps.set_bound.Goals as goal
 
 -- either they are the bytes or there are none

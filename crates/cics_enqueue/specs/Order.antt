@@ -6,13 +6,15 @@ use Rattle.std.specs.declared.cmp.Ordering.TheVariants.{Less, Equal, Greater}
 use Rattle.std.specs.Ordering.{is_eq}
 use Rattle.std.specs.Cmp.{IsTotalOrder}
 use Rattle.std.specs.Cmp.Lexicographic.{on_texts}
-use Rattle.std.proofs.lemmas.Bool.{and_parts, and_from, eq-eqb}
+use Rattle.std.proofs.lemmas.Bool.{and_from, eq-eqb}
 use Rattle.arrayvec.specs.ArrayVec.{ArrayVec}
 use Rattle.cics_names.specs.Keyed.{Bytes}
 use Rattle.cics_names.specs.KeyedLaws.{is_same-self, is_same-eq}
-use Rattle.cics_enqueue.specs.declared.resources.Resource.{Resource}
-use Rattle.cics_enqueue.specs.declared.resources.Resource.TheVariants.{FileKey, TsQueue, TdRead, TdWrite, User, FilePrefix}
-use Rattle.cics_enqueue.specs.Resources.{bytes_of, Table, is_one, is_prefix, begins_with, overlaps, resource_key, resource_cmp, holder_of, IsFreeFor}
+use Rattle.cics_history.specs.declared.resources.Resource.{Resource}
+use Rattle.cics_history.specs.declared.resources.Resource.TheVariants.{FileKey, TsQueue, TdRead, TdWrite, User, FilePrefix}
+use Rattle.cics_history.specs.Resources.{bytes_of, is_one, is_prefix}
+use Rattle.cics_history.specs.ResourceLaws.{is_one-self, is_one-eq, same_test}
+use Rattle.cics_enqueue.specs.Table.{Table, begins_with, overlaps, resource_key, resource_cmp, holder_of, IsFreeFor}
 
 -- resources are ordered totally
 pub resource_cmp_total : IsTotalOrder resource_cmp
@@ -63,15 +65,6 @@ pub same_resources : (r s : Resource) → resource_cmp r s ≡ Equal → r ≡ s
 same_resources r s tied =
     sym (resource_of-resource_key r) ∙ ap resource_of (is_same-eq (resource_key r) (resource_key s) (ap is_eq tied)) ∙ resource_of-resource_key s
 
--- a resource is the same as itself
-pub is_one-self : (r : Resource) → is_one r r ≡ true
-is_one-self (FileKey f k) = and_from _ _ (is_same-self f) (is_same-self k.items)
-is_one-self (TsQueue q) = is_same-self q
-is_one-self (TdRead q) = is_same-self q
-is_one-self (TdWrite q) = is_same-self q
-is_one-self (User v) = is_same-self v.items
-is_one-self (FilePrefix f p) = and_from _ _ (is_same-self f) (is_same-self p.items)
-
 -- bytes begin with themselves
 pub begins_with-self : (b : Bytes) → begins_with b b ≡ true
 begins_with-self [] = refl
@@ -85,22 +78,6 @@ overlaps-self (TdRead q) = is_one-self (TdRead q)
 overlaps-self (TdWrite q) = is_one-self (TdWrite q)
 overlaps-self (User v) = is_one-self (User v)
 overlaps-self (FilePrefix f p) = and_from _ _ (is_same-self f) (ap (λ b. b || b) (begins_with-self p.items))
-
--- two that are one resource are equal
-pub is_one-eq : (r s : Resource) → is_one r s ≡ true → r ≡ s
-is_one-eq (FileKey f k) (FileKey g l) e = let parts = and_parts _ _ e in λ i. FileKey (is_same-eq f g parts.0 i) (bytes_of (is_same-eq k.items l.items parts.1 i))
-is_one-eq (TsQueue q) (TsQueue r) e = ap TsQueue (is_same-eq q r e)
-is_one-eq (TdRead q) (TdRead r) e = ap TdRead (is_same-eq q r e)
-is_one-eq (TdWrite q) (TdWrite r) e = ap TdWrite (is_same-eq q r e)
-is_one-eq (User v) (User w) e = ap (λ b. User (bytes_of b)) (is_same-eq v.items w.items e)
-is_one-eq (FilePrefix f p) (FilePrefix g q) e = let parts = and_parts _ _ e in λ i. FilePrefix (is_same-eq f g parts.0 i) (bytes_of (is_same-eq p.items q.items parts.1 i))
-is_one-eq _ _ e = cc
-
--- two tests that pass together are one
-pub same_test : (a b : Bool) → (a ≡ true → b ≡ true) → (b ≡ true → a ≡ true) → a ≡ b
-same_test true b there back = sym (there refl)
-same_test false true there back = back refl
-same_test false false there back = refl
 
 -- two are one resource exactly where they tie
 pub is_one-cmp : (r s : Resource) → is_one r s ≡ is_eq (resource_cmp r s)

@@ -4,24 +4,10 @@ use Rattle.std.specs.Prelude.{◌≡◌, ◌≤◌, T, ℕ, ◌+◌, ◌-◌, �
 use Rattle.std.specs.FinMap as map_by
 use Rattle.std.specs.FinMap.Entries.{where_key}
 use Rattle.std.specs.declared.cmp.Ordering.{Ordering}
-use Rattle.arrayvec.specs.ArrayVec.{ArrayVec}
 use Rattle.cics_names.specs.Keyed.{Bytes, bytes_cmp, is_same, is_below}
-use Rattle.cics_enqueue.specs.declared.resources.Resource.{Resource}
-use Rattle.cics_enqueue.specs.declared.resources.Resource.TheVariants.{FileKey, TsQueue, TdRead, TdWrite, User, FilePrefix}
-
--- bytes as a resource keeps them
-abbrev pub bytes_of : Bytes → ArrayVec ℕ
-bytes_of b = record { items = b }
-
--- whether two are one resource: of one kind, with the same names and bytes
-abbrev pub is_one : Resource → Resource → Bool
-is_one (FileKey f k) (FileKey g l) = is_same f g && is_same k.items l.items
-is_one (TsQueue q) (TsQueue r) = is_same q r
-is_one (TdRead q) (TdRead r) = is_same q r
-is_one (TdWrite q) (TdWrite r) = is_same q r
-is_one (User v) (User w) = is_same v.items w.items
-is_one (FilePrefix f p) (FilePrefix g q) = is_same f g && is_same p.items q.items
-is_one _ _ = false
+use Rattle.cics_history.specs.Resources.{bytes_of, is_one, is_user, most_count}
+use Rattle.cics_history.specs.declared.resources.Resource.{Resource}
+use Rattle.cics_history.specs.declared.resources.Resource.TheVariants.{FileKey, TsQueue, TdRead, TdWrite, User, FilePrefix}
 
 -- whether bytes begin with a prefix
 abbrev pub begins_with : Bytes → Bytes → Bool
@@ -36,16 +22,6 @@ overlaps (FileKey f k) (FilePrefix g p) = is_same f g && begins_with p.items k.i
 overlaps (FilePrefix f p) (FileKey g k) = is_same f g && begins_with p.items k.items
 overlaps (FilePrefix f p) (FilePrefix g q) = is_same f g && (begins_with p.items q.items || begins_with q.items p.items)
 overlaps r s = is_one r s
-
--- whether it is a prefix of keys
-abbrev pub is_prefix : Resource → Bool
-is_prefix (FilePrefix f p) = true
-is_prefix _ = false
-
--- only a user's value can be held more than once
-abbrev pub is_user : Resource → Bool
-is_user (User v) = true
-is_user _ = false
 
 -- whether a unit is another than the asker, who may have begun no unit yet
 abbrev pub is_other : Option ℕ → ℕ → Bool
@@ -78,10 +54,6 @@ Table = List (Resource × Held)
 -- whether the resources of a table rise strictly
 abbrev pub is_in_order : Table → Bool
 is_in_order t = map_by.is_sorted resource_cmp t
-
--- the most that the count of a value reaches
-abbrev pub most_count : ℕ
-most_count = 65535
 
 -- how a resource is held, if it is
 abbrev pub held_at : Resource → Table → Option Held
