@@ -1,20 +1,18 @@
 -- The order of resources: two are one resource exactly where they tie. What a unit may take.
-use Rattle.std.specs.Prelude.{◌≡◌, ℕ, ◌==◌, ◌||◌, Some, None, Bool, true, false, if◌then◌else◌, length, take, drop, [], ◌∷◌, ◌++◌, refl}
+use Rattle.std.specs.Prelude.{◌≡◌, ℕ, ◌==◌, Some, true, if◌then◌else◌, length, take, drop, [], ◌∷◌, ◌++◌, refl}
 use Rattle.std.proofs.Common.{sym, ap, ◌∙◌, subst}
 use Rattle.std.specs.declared.cmp.Ordering.{Ordering}
 use Rattle.std.specs.declared.cmp.Ordering.TheVariants.{Less, Equal, Greater}
 use Rattle.std.specs.Ordering.{is_eq}
 use Rattle.std.specs.Cmp.{IsTotalOrder}
 use Rattle.std.specs.Cmp.Lexicographic.{on_texts}
-use Rattle.std.proofs.lemmas.Bool.{and_from, eq-eqb}
-use Rattle.arrayvec.specs.ArrayVec.{ArrayVec}
 use Rattle.cics_names.specs.Keyed.{Bytes}
 use Rattle.cics_names.specs.KeyedLaws.{is_same-self, is_same-eq}
 use Rattle.cics_history.specs.declared.resources.Resource.{Resource}
 use Rattle.cics_history.specs.declared.resources.Resource.TheVariants.{FileKey, TsQueue, TdRead, TdWrite, User, FilePrefix}
-use Rattle.cics_history.specs.Resources.{bytes_of, is_one, is_prefix}
-use Rattle.cics_history.specs.ResourceLaws.{is_one-self, is_one-eq, same_test}
-use Rattle.cics_enqueue.specs.Table.{Table, begins_with, overlaps, resource_key, resource_cmp, holder_of, IsFreeFor}
+use Rattle.cics_history.specs.Resources.{bytes_of, is_one}
+use Rattle.cics_history.specs.ResourceLaws.{is_one-self, is_one-eq, same_test, conflicts-self}
+use Rattle.cics_enqueue.specs.Table.{Table, resource_key, resource_cmp, holder_of, IsFreeFor}
 
 -- resources are ordered totally
 pub resource_cmp_total : IsTotalOrder resource_cmp
@@ -65,20 +63,6 @@ pub same_resources : (r s : Resource) → resource_cmp r s ≡ Equal → r ≡ s
 same_resources r s tied =
     sym (resource_of-resource_key r) ∙ ap resource_of (is_same-eq (resource_key r) (resource_key s) (ap is_eq tied)) ∙ resource_of-resource_key s
 
--- bytes begin with themselves
-pub begins_with-self : (b : Bytes) → begins_with b b ≡ true
-begins_with-self [] = refl
-begins_with-self (x ∷ b) = and_from _ _ (eq-eqb x x refl) (begins_with-self b)
-
--- a resource overlaps itself
-pub overlaps-self : (r : Resource) → overlaps r r ≡ true
-overlaps-self (FileKey f k) = is_one-self (FileKey f k)
-overlaps-self (TsQueue q) = is_one-self (TsQueue q)
-overlaps-self (TdRead q) = is_one-self (TdRead q)
-overlaps-self (TdWrite q) = is_one-self (TdWrite q)
-overlaps-self (User v) = is_one-self (User v)
-overlaps-self (FilePrefix f p) = and_from _ _ (is_same-self f) (ap (λ b. b || b) (begins_with-self p.items))
-
 -- two are one resource exactly where they tie
 pub is_one-cmp : (r s : Resource) → is_one r s ≡ is_eq (resource_cmp r s)
 is_one-cmp r s = same_test _ _
@@ -92,28 +76,6 @@ is_one-cmp r s = same_test _ _
 
 -- ---- What a unit may take
 
--- resources that are no prefixes overlap where they are one
-pub overlaps-plain : (r s : Resource) → is_prefix r ≡ false → is_prefix s ≡ false → overlaps r s ≡ is_one r s
-overlaps-plain (FilePrefix f p) s plain other = cc
-overlaps-plain (FileKey f k) (FilePrefix g q) plain other = cc
-overlaps-plain _ _ plain other = refl
-
 -- what a unit may take, and somebody holds, the unit holds
 pub free_own : (t : Table) (r : Resource) (u : ℕ) → IsFreeFor t r u → (v : ℕ) → holder_of r t ≡ Some v → v ≡ u
-free_own t r u free v at = free r v (overlaps-self r) at
-
--- while nobody holds a prefix, a unit may take what no other unit holds
-pub free_unprefixed : (t : Table) (r : Resource) (u : ℕ) → is_prefix r ≡ false → ((f : Bytes) (p : ArrayVec ℕ) → holder_of (FilePrefix f p) t ≡ None) → ((v : ℕ) → holder_of r t ≡ Some v → v ≡ u) → IsFreeFor t r u
-free_unprefixed t r u plain none own s v meets at = by (is_prefix s) refl
-  where
-    prefix_none : (s : Resource) → is_prefix s ≡ true → holder_of s t ≡ None
-    prefix_none (FilePrefix f p) is = none f p
-    prefix_none (FileKey f k) is = cc
-    prefix_none (TsQueue q) is = cc
-    prefix_none (TdRead q) is = cc
-    prefix_none (TdWrite q) is = cc
-    prefix_none (User w) is = cc
-
-    by : (b : Bool) → is_prefix s ≡ b → v ≡ u
-    by true is = let wrong : None ≡ Some v = sym (prefix_none s is) ∙ at in cc
-    by false is = own v (subst (λ q. holder_of q t ≡ Some v) (sym (is_one-eq r s (sym (overlaps-plain r s plain is) ∙ meets))) at)
+free_own t r u free v at = free r v (conflicts-self r) at

@@ -244,11 +244,11 @@ impl Enqueues {
         count
     }
 
-    /// The unit, another than `but_not`, that holds the least of what overlaps a resource, or None
-    /// where no other unit holds any of it: then `but_not` may take the resource.
+    /// The unit, another than `but_not`, that holds the least of what conflicts with a resource, or
+    /// None where no other unit holds any of it: then `but_not` may take the resource.
     ///
-    /// A key of a file is overlapped by itself and by each prefix of it that is held, a prefix by
-    /// what begins with it, too. The least is that in byte order, a held prefix by its own bytes.
+    /// A key of a file conflicts with itself and with each held prefix of it, and a prefix with all
+    /// that begins with it, too. The least is that in byte order, a held prefix by its own bytes.
     /// Where no other unit that is open has taken anything it costs no look-up. While any prefix is
     /// held it costs one for each byte of the key or prefix, and for a prefix what
     /// `held_with_prefix` costs.
@@ -278,8 +278,8 @@ impl Enqueues {
     }
 
     /// The unit, another than `but_not`, that holds the least key of a file or prefix of keys that
-    /// overlaps a prefix of at most 255 bytes, or None where no other unit holds one: one that
-    /// begins with the prefix, or with which the prefix begins.
+    /// conflicts with a prefix of at most 255 bytes, or None where no other unit holds one. It
+    /// begins with the prefix, or the prefix with it.
     ///
     /// The least is that in byte order, a held prefix by its own bytes. It costs the logarithm of
     /// what is held, for each byte of the prefix where any prefix is held, and what `but_not`
@@ -310,8 +310,8 @@ impl Enqueues {
         least
     }
 
-    // The unit, another than the asker, that holds the least of what overlaps a key: a shorter
-    // prefix, the key, or the prefix that has its bytes.
+    // The unit, another than the asker, that holds the least of what conflicts with a key: a
+    // shorter prefix, the key, or the prefix that has its bytes.
     fn holder_of_key(&self, file: Name8, key: &[u8], asker: &Option<UnitId>) -> Option<UnitId>
         requires most { length key.now ≤ 255 }
         ensures { result ≡ holder_over (FileKey file (bytes_of key.now)) asker.now self.now }
@@ -322,10 +322,10 @@ impl Enqueues {
         holder
     }
 
-    /// Takes a resource for a unit that may take it: no other unit holds anything that overlaps it.
-    /// A user's value is taken once more where the unit holds it already; any other resource stays
-    /// at count 1. Full where the unit holds the value 65,535 times, and NoMemory where memory is
-    /// refused: then nothing has changed.
+    /// Takes a resource for a unit that may take it: no other unit holds anything that conflicts
+    /// with it. A user's value is taken once more where the unit holds it already; any other
+    /// resource stays at count 1. Full where the unit holds the value 65,535 times, and NoMemory
+    /// where memory is refused: then nothing has changed.
     pub fn take(&mut self, resource: Resource, unit: UnitId) -> Result<(), TakeFault>
         requires free { IsFreeFor self.old resource unit }
         ensures taken { OnOk result (self.new ≡ taken self.old resource unit) }

@@ -7,7 +7,7 @@ ghost use Rattle.std.specs.List.{list_any};
 ghost use Rattle.std.specs.Bool.{OnTrue};
 ghost use Rattle.cics_names.specs.Keyed.{is_same};
 ghost use Rattle.cics_enqueue.specs.Kept.{finds, owns, own_count, OwnsSame, Adds, Drops};
-ghost use Rattle.cics_enqueue.specs.Table.{is_other};
+ghost use Rattle.cics_history.specs.Holding.{is_other};
 
 use crate::keys::Key;
 use crate::overlaps::is_another;

@@ -1,7 +1,7 @@
 -- Resources that are one are equal, and those that conflict conflict either way round.
-use Rattle.std.specs.Prelude.{◌≡◌, ◌||◌, Bool, true, false, refl}
+use Rattle.std.specs.Prelude.{◌≡◌, ◌||◌, Bool, true, false, [], ◌∷◌, refl}
 use Rattle.std.proofs.Common.{sym, ap, subst}
-use Rattle.std.proofs.lemmas.Bool.{and_parts, and_from}
+use Rattle.std.proofs.lemmas.Bool.{and_parts, and_from, eq-eqb}
 use Rattle.cics_names.specs.Keyed.{Bytes, is_same}
 use Rattle.cics_names.specs.KeyedLaws.{is_same-self, is_same-eq}
 use Rattle.cics_ksds.specs.Prefixes.{has_prefix}
@@ -28,6 +28,20 @@ is_one-eq (TdWrite q) (TdWrite r) e = ap TdWrite (is_same-eq q r e)
 is_one-eq (User v) (User w) e = ap (λ b. User (bytes_of b)) (is_same-eq v.items w.items e)
 is_one-eq (FilePrefix f p) (FilePrefix g q) e = let parts = and_parts _ _ e in λ i. FilePrefix (is_same-eq f g parts.0 i) (bytes_of (is_same-eq p.items q.items parts.1 i))
 is_one-eq _ _ e = cc
+
+-- bytes begin with themselves
+pub has_prefix-self : (b : Bytes) → has_prefix b b ≡ true
+has_prefix-self [] = refl
+has_prefix-self (x ∷ b) = and_from _ _ (eq-eqb x x refl) (has_prefix-self b)
+
+-- a resource conflicts with itself
+pub conflicts-self : (r : Resource) → conflicts r r ≡ true
+conflicts-self (FileKey f k) = is_one-self (FileKey f k)
+conflicts-self (TsQueue q) = is_one-self (TsQueue q)
+conflicts-self (TdRead q) = is_one-self (TdRead q)
+conflicts-self (TdWrite q) = is_one-self (TdWrite q)
+conflicts-self (User v) = is_one-self (User v)
+conflicts-self (FilePrefix f p) = and_from _ _ (is_same-self f) (ap (λ b. b || b) (has_prefix-self p.items))
 
 -- two tests that pass together are one
 pub same_test : (a b : Bool) → (a ≡ true → b ≡ true) → (b ≡ true → a ≡ true) → a ≡ b
