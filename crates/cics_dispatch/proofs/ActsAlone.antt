@@ -9,7 +9,7 @@ use Rattle.cics_names.specs.declared.conditions.Condition.{Condition}
 use Rattle.cics_names.specs.declared.conditions.Condition.TheVariants.{Normal, Notfnd}
 use Rattle.cics_browse.specs.Positions.{Position, finds_start, start_at, read_next, after_next, read_prev, after_prev, after_reset}
 use Rattle.cics_browse.specs.declared.browses.Browsed.{Browsed}
-use Rattle.cics_enqueue.specs.Resources.{most_count}
+use Rattle.cics_history.specs.Resources.{most_count}
 use Rattle.cics_history.specs.Store.{apply}
 use Rattle.cics_history.specs.Headline.{outcome_of, is_open}
 use Rattle.cics_history.specs.State.{UnitsState}

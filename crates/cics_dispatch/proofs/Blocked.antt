@@ -5,9 +5,9 @@ use Rattle.std.proofs.Common.{◌⊎◌, inl, inr, sym, ap, ◌∙◌}
 use Rattle.std.proofs.lemmas.Bool.{false≢true, true≢false, and_from, or_cases, or_left, or_right, lt-ltb}
 use Rattle.std.proofs.lemmas.List.Elements.{All-nil, All-cons, All-head, All-tail}
 use Rattle.cics_names.specs.Keyed.{Bytes}
-use Rattle.cics_enqueue.specs.Resources.{bytes_of}
-use Rattle.cics_enqueue.specs.declared.resources.Resource.{Resource}
-use Rattle.cics_enqueue.specs.declared.resources.Resource.TheVariants.{TdRead as ReadingEnd, TdWrite as WritingEnd, User}
+use Rattle.cics_history.specs.Resources.{bytes_of}
+use Rattle.cics_history.specs.declared.resources.Resource.{Resource}
+use Rattle.cics_history.specs.declared.resources.Resource.TheVariants.{TdRead as ReadingEnd, TdWrite as WritingEnd, User}
 use Rattle.cics_history.specs.State.{queue_logical, UnitsState}
 use Rattle.cics_history.specs.Holding.{uses_of, held_by, conflicts, is_other, owned, blocker_at, first_some, blocker_among, committed_for, is_nothing, writer_awaited, awaited}
 use Rattle.cics_history.specs.Execution.{IsOpenUnit}

@@ -8,7 +8,7 @@ use Rattle.cics_names.specs.declared.conditions.AbendCode.{AbendCode}
 use Rattle.cics_names.specs.declared.conditions.Condition.TheVariants.{Normal, Notfnd, Invreq}
 use Rattle.cics_browse.specs.Positions.{Position, finds_start, start_at, read_next, after_next, read_prev, after_prev, reset_condition, after_reset}
 use Rattle.cics_browse.specs.declared.browses.Browsed.{Browsed}
-use Rattle.cics_enqueue.specs.Resources.{most_count}
+use Rattle.cics_history.specs.Resources.{most_count}
 use Rattle.cics_history.specs.Holding.{awaited, value_holder, store_of}
 use Rattle.cics_history.specs.Store.{apply}
 use Rattle.cics_history.specs.Execution.{unit_or_next, done_of, execution, after_execution, count_at, enq_of, enqueue, after_enqueue, ts_reading, after_ts_reading, item_asked}

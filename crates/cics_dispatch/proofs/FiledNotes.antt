@@ -8,7 +8,7 @@ use Rattle.std.proofs.Common.{inl, inr, zero, suc, sym, ap, ◌∙◌, subst, ar
 use Rattle.std.proofs.Math.Numerals.{add-one}
 use Rattle.std.proofs.lemmas.Bool.{true≢false, eqb-true, eq-eqb}
 use Rattle.std.proofs.lemmas.Option.{slice_get_within}
-use Rattle.cics_enqueue.specs.declared.resources.Resource.{Resource}
+use Rattle.cics_history.specs.declared.resources.Resource.{Resource}
 use Rattle.cics_dispatch.specs.declared.notes.Note.{Note}
 use Rattle.cics_dispatch.specs.declared.notes.Parked.{Parked}
 use Rattle.cics_dispatch.specs.declared.notes.Parked.TheVariants.{Line as OfLine, Row as OfRow}

@@ -6,7 +6,7 @@ use Rattle.std.proofs.lemmas.List.Elements.{All-nil, All-cons, All-head, All-tai
 use Rattle.cics_names.specs.Keyed.{Bytes, Map, is_same}
 use Rattle.cics_names.specs.KeyedLaws.{is_same-self}
 use Rattle.cics_browse.specs.Positions.{Position}
-use Rattle.cics_enqueue.specs.Resources.{most_count}
+use Rattle.cics_history.specs.Resources.{most_count}
 use Rattle.cics_history.specs.State.{OpeningState, UnitsState}
 use Rattle.cics_history.specs.Holding.{store_of, awaited, value_holder}
 use Rattle.cics_history.specs.Store.{apply}

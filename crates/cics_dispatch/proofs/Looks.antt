@@ -8,9 +8,9 @@ use Rattle.std.proofs.lemmas.List.Elements.{All-head, All-tail}
 use Rattle.cics_names.specs.Keyed.{Bytes, is_same}
 use Rattle.cics_names.specs.KeyedLaws.{is_same-self, is_same-eq}
 use Rattle.cics_names.specs.declared.commands.Verb.TheVariants.{Enq}
-use Rattle.cics_enqueue.specs.Resources.{bytes_of}
-use Rattle.cics_enqueue.specs.declared.resources.Resource.{Resource}
-use Rattle.cics_enqueue.specs.declared.resources.Resource.TheVariants.{User}
+use Rattle.cics_history.specs.Resources.{bytes_of}
+use Rattle.cics_history.specs.declared.resources.Resource.{Resource}
+use Rattle.cics_history.specs.declared.resources.Resource.TheVariants.{User}
 use Rattle.cics_history.specs.Execution.{IsOpenUnit}
 use Rattle.cics_history.specs.Isolation.{IsSound}
 use Rattle.cics_history.specs.declared.ops.Op.{Op}

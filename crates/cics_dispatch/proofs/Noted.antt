@@ -4,7 +4,7 @@ use Rattle.std.proofs.Common.{zero, suc, inl, inr, sym, ap, ◌∙◌, subst, ar
 use Rattle.std.proofs.lemmas.Bool.{false≢true, true≢false, eq-eqb, false_from_ne_true}
 use Rattle.cics_names.specs.Keyed.{Bytes, is_same}
 use Rattle.cics_names.specs.KeyedLaws.{is_same-self, is_same-eq}
-use Rattle.cics_enqueue.specs.declared.resources.Resource.{Resource}
+use Rattle.cics_history.specs.declared.resources.Resource.{Resource}
 use Rattle.cics_history.specs.State.{OpeningState}
 use Rattle.cics_dispatch.specs.declared.notes.Note.{Note}
 use Rattle.cics_dispatch.specs.Machine.{Machine, Task, Suspended, is_unit, task_at, is_waiting, not_waiting}

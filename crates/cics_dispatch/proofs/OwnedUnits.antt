@@ -7,7 +7,7 @@ use Rattle.cics_names.specs.Keyed.{Bytes, Map, is_same, with_value}
 use Rattle.cics_names.specs.KeyedLaws.{is_same-self, is_same-eq}
 use Rattle.cics_browse.specs.Positions.{Position}
 use Rattle.cics_tempstor.specs.Queues.{has_item}
-use Rattle.cics_enqueue.specs.Resources.{most_count}
+use Rattle.cics_history.specs.Resources.{most_count}
 use Rattle.cics_dispatch.proofs.Elements.{get-set, get-pushed}
 use Rattle.cics_history.specs.State.{OpeningState, UnitsState, beginning}
 use Rattle.cics_history.specs.Store.{ts_queue}

@@ -9,7 +9,7 @@ use Rattle.cics_names.specs.declared.conditions.Condition.TheVariants.{Normal, I
 use Rattle.cics_names.specs.declared.commands.Command.{Command}
 use Rattle.cics_names.specs.declared.commands.Verb.{Verb}
 use Rattle.cics_names.specs.declared.commands.Verb.TheVariants.{Enq}
-use Rattle.cics_enqueue.specs.Resources.{most_count}
+use Rattle.cics_history.specs.Resources.{most_count}
 use Rattle.cics_history.specs.declared.ops.Op.{Op}
 use Rattle.cics_history.specs.declared.ops.Enqueued.{Enqueued}
 use Rattle.cics_history.specs.declared.ops.Done.{Done}

@@ -5,8 +5,8 @@ use Rattle.std.proofs.Common.{inl, inr, sym, ap, ◌∙◌, arith}
 use Rattle.std.proofs.lemmas.Bool.{false≢true, true≢false, cases_Bool, and_parts, and_from, eqb-true, eq-eqb}
 use Rattle.cics_names.specs.Keyed.{Bytes, Map, is_same}
 use Rattle.cics_names.specs.KeyedLaws.{is_same-self, is_same-eq}
-use Rattle.cics_enqueue.specs.declared.resources.Resource.{Resource}
-use Rattle.cics_enqueue.specs.declared.resources.Resource.TheVariants.{TdRead as ReadingEnd, TdWrite as WritingEnd}
+use Rattle.cics_history.specs.declared.resources.Resource.{Resource}
+use Rattle.cics_history.specs.declared.resources.Resource.TheVariants.{TdRead as ReadingEnd, TdWrite as WritingEnd}
 use Rattle.cics_history.specs.State.{queue_logical, initial_store, UnitsState, UpdateRead, EnqCount}
 use Rattle.cics_history.specs.Store.{apply, is_recoverable}
 use Rattle.cics_history.specs.Headline.{outcome_of, is_open, is_backed_out, replay}

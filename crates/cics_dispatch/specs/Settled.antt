@@ -3,9 +3,9 @@ use Rattle.std.specs.Prelude.{◌≡◌, ℕ, ◌==◌, Bool, true, false, not, 
 use Rattle.std.specs.List.{list_any}
 use Rattle.std.proofs.Common.{◌⊎◌}
 use Rattle.cics_names.specs.Keyed.{Bytes, value_at}
-use Rattle.cics_enqueue.specs.Resources.{bytes_of}
-use Rattle.cics_enqueue.specs.declared.resources.Resource.{Resource}
-use Rattle.cics_enqueue.specs.declared.resources.Resource.TheVariants.{User}
+use Rattle.cics_history.specs.Resources.{bytes_of}
+use Rattle.cics_history.specs.declared.resources.Resource.{Resource}
+use Rattle.cics_history.specs.declared.resources.Resource.TheVariants.{User}
 use Rattle.cics_history.specs.State.{OpeningState, file_recoverable, queue_logical, UnitsState}
 use Rattle.cics_history.specs.Headline.{outcome_of, is_backed_out}
 use Rattle.cics_history.specs.Holding.{uses_of, held_by, conflicts, is_other}

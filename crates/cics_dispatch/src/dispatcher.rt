@@ -43,7 +43,7 @@ use crate::replies::reply_of_answer;
 use crate::tasks::Tasks;
 use crate::updates::refill;
 use crate::waits::Waits;
-use cics_enqueue::UnitId;
+use cics_history::UnitId;
 use cics_ksds::FileDef;
 use cics_names::{Command, Condition, Name4, Name8, NoMemory, Verb};
 use cics_units::{Op, Opening, Submitted, UnitState, Units};

@@ -19,7 +19,7 @@ ghost use Rattle.cics_dispatch.specs.Deadlines.{never};
 ghost use Rattle.cics_dispatch.specs.Firsts.{IsFirstBelow};
 
 use crate::firsts::{Firsts, push_each};
-use cics_enqueue::{Resource, UnitId};
+use cics_history::{Resource, UnitId};
 use cics_names::{Name8, NoMemory};
 use indexmap::{IndexMap, IndexSet};
 use std::alloc::Global;

@@ -3,7 +3,7 @@
 ghost use Rattle.std.specs.Prelude.{◌≡◌};
 ghost use Rattle.cics_dispatch.specs.Refusals.{refusal_number};
 
-use cics_enqueue::UnitId;
+use cics_history::UnitId;
 use cics_names::{AbendCode, Condition, Name8, NoMemory, Record};
 use cics_units::Op;
 

@@ -23,7 +23,7 @@ ghost use Rattle.cics_dispatch.specs.declared.outcomes.Refused.TheVariants.{Regi
 use crate::dispatcher::Dispatcher;
 use crate::notes::Notes;
 use crate::outcomes::{Expired, Outcome, Refused, Woken};
-use cics_enqueue::UnitId;
+use cics_history::UnitId;
 use cics_names::{Command, Name4, Name8, NoMemory};
 use cics_units::{Listing, Opening, Units};
 use std::marker::Model;

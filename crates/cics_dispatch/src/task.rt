@@ -8,7 +8,7 @@ ghost use Rattle.cics_dispatch.specs.Steps.{new_task};
 ghost use Rattle.cics_dispatch.specs.TaskLoans.{LendsBrowses};
 
 use crate::browses::Browses;
-use cics_enqueue::UnitId;
+use cics_history::UnitId;
 use cics_names::Name8;
 use std::alloc::Global;
 use std::marker::Model;

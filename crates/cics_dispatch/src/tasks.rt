@@ -13,7 +13,7 @@ ghost use Rattle.cics_dispatch.specs.Calls.{OfTask, HasChanged};
 
 use crate::browses::Browses;
 use crate::task::Task;
-use cics_enqueue::UnitId;
+use cics_history::UnitId;
 use cics_names::{Name8, NoMemory};
 use indexmap::IndexMap;
 use std::alloc::Global;

@@ -1,11 +1,12 @@
--- What overlaps is one unit's: it stays so at each take that is allowed, at each gift back and at each release.
+-- What conflicts is one unit's: it stays so at each take that is allowed, at each gift back and at each release.
 use Rattle.std.proofs.Common.{◌≡◌, ℕ, ◌-◌, ◌==◌, true, false, T, Option, Some, None, refl, sym, ap, subst, ◌∙◌, ◌⊎◌, inl, inr}
 use Rattle.std.specs.Prelude.{nat_lt, if◌then◌else◌}
 use Rattle.std.proofs.lemmas.Bool.{eqb-true}
-use Rattle.cics_enqueue.specs.declared.resources.Resource.{Resource}
-use Rattle.cics_enqueue.specs.Resources.{Table, Held, AreApart, IsFreeFor, overlaps, is_one, is_in_order, held_at, holder_of, taken, given_back, released}
-use Rattle.cics_enqueue.specs.ResourceLaws.{is_one-eq}
-use Rattle.cics_enqueue.specs.FreedomLaws.{overlaps-turned}
+use Rattle.cics_history.specs.declared.resources.Resource.{Resource}
+use Rattle.cics_history.specs.Resources.{is_one}
+use Rattle.cics_history.specs.Holding.{conflicts}
+use Rattle.cics_enqueue.specs.Table.{Table, Held, AreApart, IsFreeFor, is_in_order, held_at, holder_of, taken, given_back, released}
+use Rattle.cics_history.specs.ResourceLaws.{is_one-eq, conflicts-turned}
 use Rattle.cics_enqueue.proofs.TableLaws.{holder_of-taken, held_at-given_back, holder_of-released, held_less, holder_without, unit_in}
 
 -- who holds a resource after a take: the taker, or who held it
@@ -19,10 +20,10 @@ pub AreApart-taken : (t : Table) (r : Resource) (u : ℕ) → AreApart t → IsF
 AreApart-taken t r u apart free p q v w meets at bt = elim (after_take t r u p v at) [
   | inl mine ↦ elim (after_take t r u q w bt) [
     | inl too ↦ mine.1 ∙ sym too.1
-    | inr theirs ↦ mine.1 ∙ sym (free q w (subst (λ s. overlaps s q ≡ true) mine.0 meets) theirs)
+    | inr theirs ↦ mine.1 ∙ sym (free q w (subst (λ s. conflicts s q ≡ true) mine.0 meets) theirs)
   ]
   | inr held ↦ elim (after_take t r u q w bt) [
-    | inl mine ↦ free p v (overlaps-turned p r (subst (λ s. overlaps p s ≡ true) mine.0 meets)) held ∙ sym mine.1
+    | inl mine ↦ free p v (conflicts-turned p r (subst (λ s. conflicts p s ≡ true) mine.0 meets)) held ∙ sym mine.1
     | inr theirs ↦ apart p q v w meets held theirs
   ]
 ]

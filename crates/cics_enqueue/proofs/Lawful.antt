@@ -2,8 +2,9 @@
 use Rattle.std.proofs.Common.{◌≡◌, ◌≤◌, ◌+◌, ◌-◌, ◌==◌, ℕ, Bool, true, false, Option, Some, None, [], arith, refl, sym, subst, ◌∙◌}
 use Rattle.std.specs.Prelude.{if◌then◌else◌, nat_lt}
 use Rattle.std.proofs.lemmas.Bool.{ltb-true}
-use Rattle.cics_enqueue.specs.declared.resources.Resource.{Resource}
-use Rattle.cics_enqueue.specs.Resources.{Table, Held, IsLawful, IsFreeFor, held_at, is_one, is_user, raised_count, taken, given_back, released}
+use Rattle.cics_history.specs.declared.resources.Resource.{Resource}
+use Rattle.cics_history.specs.Resources.{is_one, is_user}
+use Rattle.cics_enqueue.specs.Table.{Table, Held, IsLawful, IsFreeFor, held_at, raised_count, taken, given_back, released}
 use Rattle.cics_enqueue.proofs.Apart.{AreApart-taken, AreApart-given_back, AreApart-released}
 use Rattle.cics_enqueue.proofs.TableLaws.{held_less, held_without, held_at-with_holder, held_at-given_back, held_at-released, is_in_order-taken, is_in_order-given_back, is_in_order-released, once-taken, once-given_back, once-released}
 

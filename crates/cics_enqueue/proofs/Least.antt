@@ -1,4 +1,4 @@
--- Whoever is found to hold what overlaps a resource holds the least of it, in byte order.
+-- Whoever is found to hold what conflicts with a resource holds the least of it, in byte order.
 use Rattle.std.proofs.Common.{◌≡◌, ℕ, ◌&&◌, ◌||◌, ◌==◌, Bool, true, false, cond, T, Option, Some, None, [], ◌∷◌, ◌++◌, length, arith, refl, sym, ap, subst, ◌∙◌, ◌⊎◌, inl, inr, append_assoc, append-nil}
 use Rattle.std.specs.Prelude.{IfSome, option_map, if◌then◌else◌}
 use Rattle.std.specs.declared.cmp.Ordering.{Ordering}
@@ -10,39 +10,43 @@ use Rattle.std.proofs.lemmas.Bool.{and_parts, and_from, or_cases, eq-eqb, eqb-tr
 use Rattle.arrayvec.specs.ArrayVec.{ArrayVec}
 use Rattle.cics_names.specs.Keyed.{Bytes, bytes_cmp, is_same, is_below}
 use Rattle.cics_names.specs.KeyedLaws.{is_same-eq, is_same-self, same_bytes}
-use Rattle.cics_enqueue.specs.declared.resources.Resource.{Resource}
-use Rattle.cics_enqueue.specs.declared.resources.Resource.TheVariants.{FileKey, TsQueue, TdRead, TdWrite, User, FilePrefix}
-use Rattle.cics_enqueue.specs.Resources.{Table, Held, HoldsLeast, bytes_of, begins_with, overlaps, is_one, is_other, is_under, is_in_order, resource_cmp, resource_key}
-use Rattle.cics_enqueue.specs.Resources.{place_of, held_at, holder_of, other_than, first_of, first_that, lesser, least_under, holder_of_shorter, held_with_prefix, holder_over}
-use Rattle.cics_enqueue.specs.ResourceLaws.{begins_with-self, is_one-eq, is_one-cmp, overlaps-self}
+use Rattle.cics_history.specs.declared.resources.Resource.{Resource}
+use Rattle.cics_history.specs.declared.resources.Resource.TheVariants.{FileKey, TsQueue, TdRead, TdWrite, User, FilePrefix}
+use Rattle.cics_history.specs.Resources.{bytes_of, is_one}
+use Rattle.cics_ksds.specs.Prefixes.{has_prefix}
+use Rattle.cics_history.specs.Holding.{conflicts, is_other}
+use Rattle.cics_enqueue.specs.Table.{Table, Held, HoldsLeast, is_under, is_in_order, resource_cmp, resource_key}
+use Rattle.cics_enqueue.specs.Table.{place_of, held_at, holder_of, other_than, first_of, first_that, lesser, least_under, holder_of_shorter, held_with_prefix, holder_over}
+use Rattle.cics_history.specs.ResourceLaws.{is_one-eq, has_prefix-self, conflicts-self}
+use Rattle.cics_enqueue.specs.Order.{is_one-cmp}
 use Rattle.cics_enqueue.specs.FreedomLaws.{own_holder, shorter_none, begins_split, begins_after, under_file, under_own}
-use Rattle.cics_enqueue.proofs.Seeking.{tied, begins_with-trans}
+use Rattle.cics_enqueue.proofs.Seeking.{tied, has_prefix-trans}
 use Rattle.cics_enqueue.proofs.TableLaws.{left_of, right_of, held_below}
 
 -- ---- bytes and their order
 
 -- bytes are not below those that they begin with
-begins-not_below : (a b : Bytes) → begins_with a b ≡ true → is_below b a ≡ false
+begins-not_below : (a b : Bytes) → has_prefix a b ≡ true → is_below b a ≡ false
 begins-not_below [] [] h = refl
 begins-not_below [] (y ∷ b) h = refl
 begins-not_below (x ∷ a) [] h = cc
 begins-not_below (x ∷ a) (y ∷ b) h =
-    let p = and_parts (x == y) (begins_with a b) h in
+    let p = and_parts (x == y) (has_prefix a b) h in
     ap (λ o. is_lt (ordering_then o (bytes_cmp b a))) (tied y x (eq-eqb y x (sym (eqb-true x y p.0)))) ∙ begins-not_below a b p.1
 
 -- bytes begin with those that more was put behind
-begins_append : (a b : Bytes) → begins_with a (a ++ b) ≡ true
+begins_append : (a b : Bytes) → has_prefix a (a ++ b) ≡ true
 begins_append [] b = refl
 begins_append (x ∷ a) b = and_from _ _ (eq-eqb x x refl) (begins_append a b)
 
 -- of two that bytes begin with the second begins with the first, or the first is longer
-two_begin : (a q p : Bytes) → begins_with a p ≡ true → begins_with q p ≡ true → (begins_with a q ≡ true) ⊎ ((y : ℕ) × (c : Bytes) × (a ≡ q ++ y ∷ c))
+two_begin : (a q p : Bytes) → has_prefix a p ≡ true → has_prefix q p ≡ true → (has_prefix a q ≡ true) ⊎ ((y : ℕ) × (c : Bytes) × (a ≡ q ++ y ∷ c))
 two_begin [] q p x y = inl refl
 two_begin (w ∷ a) [] p x y = inr (w, a, refl)
 two_begin (w ∷ a) (z ∷ q) [] x y = cc
 two_begin (w ∷ a) (z ∷ q) (e ∷ p) x y =
-    let xs = and_parts (w == e) (begins_with a p) x in
-    let ys = and_parts (z == e) (begins_with q p) y in
+    let xs = and_parts (w == e) (has_prefix a p) x in
+    let ys = and_parts (z == e) (has_prefix q p) y in
     let same : w ≡ z = eqb-true w e xs.0 ∙ sym (eqb-true z e ys.0) in
     elim (two_begin a q p xs.1 ys.1) [
       | inl b ↦ inl (and_from _ _ (eq-eqb w z same) b)
@@ -106,7 +110,7 @@ first_least test (d ∷ ds) rises e is = elim (test d) as (λ b. test d ≡ b �
     -- what is held is the first entry or stands behind it
     here : (s : Resource) (h : Held) → held_at s (d ∷ ds) ≡ Some h → is_below (resource_key s) (resource_key d.0) ≡ false
     here s h = elim (is_eq (resource_cmp s d.0)) as (λ b. is_eq (resource_cmp s d.0) ≡ b → cond b (Some d.1) (held_at s ds) ≡ Some h → is_below (resource_key s) (resource_key d.0) ≡ false) [
-      | true ↦ λ one held. ap (λ q. is_below (resource_key q) (resource_key d.0)) (is_one-eq s d.0 (is_one-cmp s d.0 ∙ one)) ∙ begins-not_below (resource_key d.0) (resource_key d.0) (begins_with-self (resource_key d.0))
+      | true ↦ λ one held. ap (λ q. is_below (resource_key q) (resource_key d.0)) (is_one-eq s d.0 (is_one-cmp s d.0 ∙ one)) ∙ begins-not_below (resource_key d.0) (resource_key d.0) (has_prefix-self (resource_key d.0))
       | false ↦ λ other held. below_held d.0 ds (left_of (below_all resource_cmp d.0 ds) (is_in_order ds) rises) s h held
     ] refl
 
@@ -146,7 +150,7 @@ module _ (f : Bytes) (asker : Option ℕ) (t : Table) where
   abbrev place : Bytes → Bytes
   place b = length f ∷ (f ++ b)
 
-  not_below : (a k : Bytes) → begins_with a k ≡ true → is_below (place k) (place a) ≡ false
+  not_below : (a k : Bytes) → has_prefix a k ≡ true → is_below (place k) (place a) ≡ false
   not_below a k h = begins-not_below (place a) (place k) (and_from _ _ (eq-eqb (length f) (length f) refl) (begins_after f a k h))
 
   -- nobody holds it whom the asker waits for
@@ -155,31 +159,31 @@ module _ (f : Bytes) (asker : Option ℕ) (t : Table) where
       let wrong : true ≡ false = sym other ∙ own_holder asker w (sym (ap (other_than asker) at) ∙ none) in
       cc
 
-  -- ---- what overlaps a key or a prefix of keys with the bytes p
+  -- ---- what conflicts with a key or a prefix of keys with the bytes p
   abbrev Near : Bytes → Resource → Type 0
   Near p q =
-      ((k : Bytes) × (begins_with p k ≡ true) × (q ≡ FileKey f (bytes_of k)))
-      ⊎ (((k : Bytes) × (begins_with p k ≡ true) × (q ≡ FilePrefix f (bytes_of k)))
-      ⊎ ((b : Bytes) × (begins_with b p ≡ true) × (q ≡ FilePrefix f (bytes_of b))))
+      ((k : Bytes) × (has_prefix p k ≡ true) × (q ≡ FileKey f (bytes_of k)))
+      ⊎ (((k : Bytes) × (has_prefix p k ≡ true) × (q ≡ FilePrefix f (bytes_of k)))
+      ⊎ ((b : Bytes) × (has_prefix b p ≡ true) × (q ≡ FilePrefix f (bytes_of b))))
 
-  near_prefix : (p : ArrayVec ℕ) (q : Resource) → overlaps (FilePrefix f p) q ≡ true → Near p.items q
+  near_prefix : (p : ArrayVec ℕ) (q : Resource) → conflicts (FilePrefix f p) q ≡ true → Near p.items q
   near_prefix p (FileKey g k) h =
-      let parts = and_parts (is_same f g) (begins_with p.items k.items) h in
+      let parts = and_parts (is_same f g) (has_prefix p.items k.items) h in
       inl (k.items, parts.1, ap (λ n. FileKey n k) (sym (is_same-eq f g parts.0)))
   near_prefix p (FilePrefix g q) h =
-      let parts = and_parts (is_same f g) (begins_with p.items q.items || begins_with q.items p.items) h in
+      let parts = and_parts (is_same f g) (has_prefix p.items q.items || has_prefix q.items p.items) h in
       let is : FilePrefix g q ≡ FilePrefix f q = ap (λ n. FilePrefix n q) (sym (is_same-eq f g parts.0)) in
-      elim (or_cases (begins_with p.items q.items) (begins_with q.items p.items) parts.1) [
+      elim (or_cases (has_prefix p.items q.items) (has_prefix q.items p.items) parts.1) [
         | inl y ↦ inr (inl (q.items, y, is))
         | inr y ↦ inr (inr (q.items, y, is))
       ]
   near_prefix p _ h = cc
 
-  near_key : (k : ArrayVec ℕ) (q : Resource) → overlaps (FileKey f k) q ≡ true → Near k.items q
+  near_key : (k : ArrayVec ℕ) (q : Resource) → conflicts (FileKey f k) q ≡ true → Near k.items q
   near_key k (FileKey g l) h =
-      inl (k.items, begins_with-self k.items, sym (is_one-eq (FileKey f k) (FileKey g l) h))
+      inl (k.items, has_prefix-self k.items, sym (is_one-eq (FileKey f k) (FileKey g l) h))
   near_key k (FilePrefix g q) h =
-      let parts = and_parts (is_same f g) (begins_with q.items k.items) h in
+      let parts = and_parts (is_same f g) (has_prefix q.items k.items) h in
       inr (inr (q.items, parts.1, ap (λ n. FilePrefix n q) (sym (is_same-eq f g parts.0))))
   near_key k _ h = cc
 
@@ -213,18 +217,18 @@ module _ (f : Bytes) (asker : Option ℕ) (t : Table) where
           (x ∷ rest.0, rest.1, rest.2, ap (λ k. x ∷ k) rest.3, ap others (sym (append_assoc p (x ∷ []) rest.0)) ∙ rest.4, earlier at rest.0 rest.5)
 
   -- it is the least of all that is near
-  shorter_least : (r : Resource) (p : Bytes) (v : ℕ) → ((b : Bytes) → begins_with b p ≡ true → overlaps r (FilePrefix f (bytes_of b)) ≡ true) → ((q : Resource) → overlaps r q ≡ true → Near p q) →
+  shorter_least : (r : Resource) (p : Bytes) (v : ℕ) → ((b : Bytes) → has_prefix b p ≡ true → conflicts r (FilePrefix f (bytes_of b)) ≡ true) → ((q : Resource) → conflicts r q ≡ true → Near p q) →
       Shortest [] p v → HoldsLeast t r asker v
   shorter_least r p v covers near found =
       let a = found.0 in
-      let begins : begins_with a p ≡ true = ap (begins_with a) found.3 ∙ begins_append a (found.1 ∷ found.2) in
+      let begins : has_prefix a p ≡ true = ap (has_prefix a) found.3 ∙ begins_append a (found.1 ∷ found.2) in
       let held = other_parts asker (holder_of (FilePrefix f (bytes_of a)) t) v found.4 in (
         FilePrefix f (bytes_of a),
         (covers a begins, held.0, held.1),
         λ q w way. elim (near q way.0) [
-          | inl key ↦ ap (λ s. is_below (place_of s) (place a)) key.2 ∙ not_below a key.0 (begins_with-trans a p key.0 begins key.1)
+          | inl key ↦ ap (λ s. is_below (place_of s) (place a)) key.2 ∙ not_below a key.0 (has_prefix-trans a p key.0 begins key.1)
           | inr other ↦ elim other [
-            | inl longer ↦ ap (λ s. is_below (place_of s) (place a)) longer.2 ∙ not_below a longer.0 (begins_with-trans a p longer.0 begins longer.1)
+            | inl longer ↦ ap (λ s. is_below (place_of s) (place a)) longer.2 ∙ not_below a longer.0 (has_prefix-trans a p longer.0 begins longer.1)
             | inr shorter ↦ elim (two_begin a shorter.0 p begins shorter.1) [
               | inl y ↦ ap (λ s. is_below (place_of s) (place a)) shorter.2 ∙ not_below a shorter.0 y
               | inr more ↦ absurd (not_held shorter.0 w (found.5 shorter.0 more.0 more.1 more.2) (ap (λ s. holder_of s t) (sym shorter.2) ∙ way.1) way.2)
@@ -240,14 +244,14 @@ module _ (f : Bytes) (asker : Option ℕ) (t : Table) where
     | inr more ↦ elim more [
       | inl longer ↦ ap (λ s. is_below (place_of s) (place p)) longer.2 ∙ not_below p longer.0 longer.1
       | inr shorter ↦ elim (begins_split shorter.0 p shorter.1) [
-        | inl same ↦ ap (λ s. is_below (place_of s) (place p)) shorter.2 ∙ ap (λ b. is_below (place b) (place p)) same ∙ not_below p p (begins_with-self p)
+        | inl same ↦ ap (λ s. is_below (place_of s) (place p)) shorter.2 ∙ ap (λ b. is_below (place b) (place p)) same ∙ not_below p p (has_prefix-self p)
         | inr rest ↦ absurd (not_held shorter.0 w (shorter_none f [] p asker t none shorter.0 rest.0 rest.1 rest.2) (ap (λ s. holder_of s t) (sym shorter.2) ∙ at) other)
       ]
     ]
   ]
 
   -- the key itself, or the prefix with its bytes, is the least
-  same_holds : (r s : Resource) (p : Bytes) (v : ℕ) → overlaps r s ≡ true → place_of s ≡ place p → ((q : Resource) → overlaps r q ≡ true → Near p q) → holder_of_shorter f [] p asker t ≡ None →
+  same_holds : (r s : Resource) (p : Bytes) (v : ℕ) → conflicts r s ≡ true → place_of s ≡ place p → ((q : Resource) → conflicts r q ≡ true → Near p q) → holder_of_shorter f [] p asker t ≡ None →
       other_than asker (holder_of s t) ≡ Some v → HoldsLeast t r asker v
   same_holds r s p v meets is near none found =
       let held = other_parts asker (holder_of s t) v found in
@@ -256,21 +260,21 @@ module _ (f : Bytes) (asker : Option ℕ) (t : Table) where
   -- ---- what begins with a prefix
 
   -- bytes behind two names of one length
-  split_front : (a b p k : Bytes) → length a ≡ length b → begins_with (a ++ p) (b ++ k) ≡ true → (a ≡ b) × (begins_with p k ≡ true)
+  split_front : (a b p k : Bytes) → length a ≡ length b → has_prefix (a ++ p) (b ++ k) ≡ true → (a ≡ b) × (has_prefix p k ≡ true)
   split_front [] [] p k len h = (refl, h)
   split_front [] (y ∷ b) p k len h = absurd (omega (arith, len))
   split_front (x ∷ a) [] p k len h = absurd (omega (arith, len))
   split_front (x ∷ a) (y ∷ b) p k len h =
-      let parts = and_parts (x == y) (begins_with (a ++ p) (b ++ k)) h in
+      let parts = and_parts (x == y) (has_prefix (a ++ p) (b ++ k)) h in
       let rest = split_front a b p k (omega (arith, len)) parts.1 in
       ((λ i. eqb-true x y parts.0 i ∷ rest.0 i), rest.1)
 
-  under_name : (g p k : Bytes) → begins_with (length f ∷ (f ++ p)) (length g ∷ (g ++ k)) ≡ true → (f ≡ g) × (begins_with p k ≡ true)
+  under_name : (g p k : Bytes) → has_prefix (length f ∷ (f ++ p)) (length g ∷ (g ++ k)) ≡ true → (f ≡ g) × (has_prefix p k ≡ true)
   under_name g p k h =
-      let parts = and_parts (length f == length g) (begins_with (f ++ p) (g ++ k)) h in
+      let parts = and_parts (length f == length g) (has_prefix (f ++ p) (g ++ k)) h in
       split_front f g p k (eqb-true (length f) (length g) parts.0) parts.1
 
-  under_key : (p : Bytes) (s : Resource) → is_under (FileKey f (bytes_of p)) s ≡ true → (k : Bytes) × (begins_with p k ≡ true) × (s ≡ FileKey f (bytes_of k))
+  under_key : (p : Bytes) (s : Resource) → is_under (FileKey f (bytes_of p)) s ≡ true → (k : Bytes) × (has_prefix p k ≡ true) × (s ≡ FileKey f (bytes_of k))
   under_key p (FileKey g k) h = let parts = under_name g p k.items h in (k.items, parts.1, ap (λ n. FileKey n k) (sym parts.0))
   under_key p (FilePrefix g k) h = cc
   under_key p (TsQueue q) h = cc
@@ -278,7 +282,7 @@ module _ (f : Bytes) (asker : Option ℕ) (t : Table) where
   under_key p (TdWrite q) h = cc
   under_key p (User v) h = cc
 
-  under_prefix : (p : Bytes) (s : Resource) → is_under (FilePrefix f (bytes_of p)) s ≡ true → (k : Bytes) × (begins_with p k ≡ true) × (s ≡ FilePrefix f (bytes_of k))
+  under_prefix : (p : Bytes) (s : Resource) → is_under (FilePrefix f (bytes_of p)) s ≡ true → (k : Bytes) × (has_prefix p k ≡ true) × (s ≡ FilePrefix f (bytes_of k))
   under_prefix p (FilePrefix g k) h = let parts = under_name g p k.items h in (k.items, parts.1, ap (λ n. FilePrefix n k) (sym parts.0))
   under_prefix p (FileKey g k) h = cc
   under_prefix p (TsQueue q) h = cc
@@ -292,16 +296,16 @@ module _ (f : Bytes) (asker : Option ℕ) (t : Table) where
 
   -- none of a kind that begins with a prefix and is another unit's is below a place
   abbrev Above : (Bytes → Resource) → Bytes → Bytes → Type 0
-  Above kind p at = (k : Bytes) (w : ℕ) → begins_with p k ≡ true → holder_of (kind k) t ≡ Some w → is_other asker w ≡ true → is_below (place k) at ≡ false
+  Above kind p at = (k : Bytes) (w : ℕ) → has_prefix p k ≡ true → holder_of (kind k) t ≡ Some w → is_other asker w ≡ true → is_below (place k) at ≡ false
 
   -- where there is none, none is below anything
-  above_none : (kind : Bytes → Resource) (p at : Bytes) → ((k : Bytes) → begins_with p k ≡ true → is_under (kind p) (kind k) ≡ true) → first_that (under (kind p)) t ≡ None → Above kind p at
+  above_none : (kind : Bytes → Resource) (p at : Bytes) → ((k : Bytes) → has_prefix p k ≡ true → is_under (kind p) (kind k) ≡ true) → first_that (under (kind p)) t ≡ None → Above kind p at
   above_none kind p at begins none k w begin held other =
       let wrong : true ≡ false = sym other ∙ under_own (kind p) asker t none (kind k) (begins k begin) w held in
       cc
 
   -- the first is the least of its kind
-  above_first : (kind : Bytes → Resource) (p : Bytes) (e : Resource × Held) → ((k : Bytes) → begins_with p k ≡ true → is_under (kind p) (kind k) ≡ true) → ((k : Bytes) → place_of (kind k) ≡ place k) →
+  above_first : (kind : Bytes → Resource) (p : Bytes) (e : Resource × Held) → ((k : Bytes) → has_prefix p k ≡ true → is_under (kind p) (kind k) ≡ true) → ((k : Bytes) → place_of (kind k) ≡ place k) →
       ((k : Bytes) → is_below (resource_key (kind k)) (resource_key e.0) ≡ is_below (place_of (kind k)) (place_of e.0)) → IsFirst (under (kind p)) t e → Above kind p (place_of e.0)
   unfolding IsFirst
   above_first kind p e begins is same first k w begin held other = by (held_at (kind k) t) refl held
@@ -314,7 +318,7 @@ module _ (f : Bytes) (asker : Option ℕ) (t : Table) where
           ap (λ b. is_below b (place_of e.0)) (sym (is k)) ∙ sym (same k) ∙ first.2 (kind k) h at passes
 
   -- what is below neither the keys nor the prefixes that begin with a prefix is the least
-  least_of : (p : Bytes) (e : Resource × Held) (v : ℕ) → holder_of_shorter f [] p asker t ≡ None → overlaps (FilePrefix f (bytes_of p)) e.0 ≡ true → holder_of e.0 t ≡ Some v → is_other asker v ≡ true →
+  least_of : (p : Bytes) (e : Resource × Held) (v : ℕ) → holder_of_shorter f [] p asker t ≡ None → conflicts (FilePrefix f (bytes_of p)) e.0 ≡ true → holder_of e.0 t ≡ Some v → is_other asker v ≡ true →
       Above (λ k. FileKey f (bytes_of k)) p (place_of e.0) → Above (λ k. FilePrefix f (bytes_of k)) p (place_of e.0) → HoldsLeast t (FilePrefix f (bytes_of p)) asker v
   least_of p e v none meets held other keys prefixes = (
     e.0,
@@ -325,7 +329,7 @@ module _ (f : Bytes) (asker : Option ℕ) (t : Table) where
         | inl longer ↦ ap (λ s. is_below (place_of s) (place_of e.0)) longer.2 ∙ prefixes longer.0 w longer.1 (ap (λ s. holder_of s t) (sym longer.2) ∙ way.1) way.2
         | inr shorter ↦ elim (begins_split shorter.0 p shorter.1) [
           | inl same ↦ ap (λ s. is_below (place_of s) (place_of e.0)) shorter.2
-              ∙ prefixes shorter.0 w (ap (begins_with p) same ∙ begins_with-self p) (ap (λ s. holder_of s t) (sym shorter.2) ∙ way.1) way.2
+              ∙ prefixes shorter.0 w (ap (has_prefix p) same ∙ has_prefix-self p) (ap (λ s. holder_of s t) (sym shorter.2) ∙ way.1) way.2
           | inr rest ↦ absurd (not_held shorter.0 w (shorter_none f [] p asker t none shorter.0 rest.0 rest.1 rest.2) (ap (λ s. holder_of s t) (sym shorter.2) ∙ way.1) way.2)
         ]
       ]
@@ -335,7 +339,7 @@ module _ (f : Bytes) (asker : Option ℕ) (t : Table) where
   -- a first entry is in the way, and none of its kind is below it
   abbrev Found : (Bytes → Resource) → Bytes → Resource × Held → Type 0
   Found kind p e =
-      (overlaps (FilePrefix f (bytes_of p)) e.0 ≡ true) × (holder_of e.0 t ≡ Some e.1.unit) × (is_other asker e.1.unit ≡ true) × Above kind p (place_of e.0)
+      (conflicts (FilePrefix f (bytes_of p)) e.0 ≡ true) × (holder_of e.0 t ≡ Some e.1.unit) × (is_other asker e.1.unit ≡ true) × Above kind p (place_of e.0)
 
   module _ (rises : T (is_in_order t)) (p : Bytes) where
     abbrev key : Bytes → Resource
@@ -350,7 +354,7 @@ module _ (f : Bytes) (asker : Option ℕ) (t : Table) where
         let first = first_least (under (key p)) t rises e is in
         let parts = and_parts (is_under (key p) e.0) (is_other asker e.1.unit) first.0 in
         let at = under_key p e.0 parts.0 in (
-          ap (overlaps (prefix p)) at.2 ∙ and_from _ _ (is_same-self f) at.1,
+          ap (conflicts (prefix p)) at.2 ∙ and_from _ _ (is_same-self f) at.1,
           ap (option_map (λ h. h.unit)) first.1,
           parts.1,
           above_first key p e (λ k b. under_file 1 (length f) f p k b) (λ k. refl) (λ k. (λ i. is_below (resource_key (key k)) (resource_key (at.2 i))) ∙ (λ i. is_below (place k) (place_of (sym at.2 i)))) first,
@@ -362,7 +366,7 @@ module _ (f : Bytes) (asker : Option ℕ) (t : Table) where
         let first = first_least (under (prefix p)) t rises e is in
         let parts = and_parts (is_under (prefix p) e.0) (is_other asker e.1.unit) first.0 in
         let at = under_prefix p e.0 parts.0 in (
-          ap (overlaps (prefix p)) at.2 ∙ and_from _ _ (is_same-self f) (ap (λ b. b || begins_with at.0 p) at.1),
+          ap (conflicts (prefix p)) at.2 ∙ and_from _ _ (is_same-self f) (ap (λ b. b || has_prefix at.0 p) at.1),
           ap (option_map (λ h. h.unit)) first.1,
           parts.1,
           above_first prefix p e (λ k b. under_file 0 (length f) f p k b) (λ k. refl) (λ k. (λ i. is_below (resource_key (prefix k)) (resource_key (at.2 i))) ∙ (λ i. is_below (place k) (place_of (sym at.2 i)))) first,
@@ -378,7 +382,7 @@ module _ (f : Bytes) (asker : Option ℕ) (t : Table) where
     under_least : (v : ℕ) → holder_of_shorter f [] p asker t ≡ None → option_map (λ e. e.1.unit) (least_under f p asker t) ≡ Some v → HoldsLeast t (prefix p) asker v
     under_least v none is = by (first_that (under (key p)) t) refl (first_that (under (prefix p)) t) refl is
       where
-        chosen : (e : Resource × Held) → e.1.unit ≡ v → overlaps (prefix p) e.0 ≡ true → holder_of e.0 t ≡ Some e.1.unit → is_other asker e.1.unit ≡ true → Above key p (place_of e.0) → Above prefix p (place_of e.0) → HoldsLeast t (prefix p) asker v
+        chosen : (e : Resource × Held) → e.1.unit ≡ v → conflicts (prefix p) e.0 ≡ true → holder_of e.0 t ≡ Some e.1.unit → is_other asker e.1.unit ≡ true → Above key p (place_of e.0) → Above prefix p (place_of e.0) → HoldsLeast t (prefix p) asker v
         chosen e unit meets held other keys prefixes = least_of p e v none meets (held ∙ ap Some unit) (ap (is_other asker) (sym unit) ∙ other) keys prefixes
 
         by : (a : Option (Resource × Held)) → first_that (under (key p)) t ≡ a → (b : Option (Resource × Held)) → first_that (under (prefix p)) t ≡ b → option_map (λ e. e.1.unit) (lesser a b) ≡ Some v → HoldsLeast t (prefix p) asker v
@@ -403,8 +407,8 @@ module _ (f : Bytes) (asker : Option ℕ) (t : Table) where
     prefix_least : (v : ℕ) → held_with_prefix f p asker t ≡ Some v → HoldsLeast t (prefix p) asker v
     prefix_least v is = by (holder_of_shorter f [] p asker t) refl is
       where
-        covers : (b : Bytes) → begins_with b p ≡ true → overlaps (prefix p) (prefix b) ≡ true
-        covers b h = and_from _ _ (is_same-self f) (either (begins_with p b) (begins_with b p) h)
+        covers : (b : Bytes) → has_prefix b p ≡ true → conflicts (prefix p) (prefix b) ≡ true
+        covers b h = and_from _ _ (is_same-self f) (either (has_prefix p b) (has_prefix b p) h)
           where
             either : (x y : Bool) → y ≡ true → (x || y) ≡ true
             either true y h = refl
@@ -418,24 +422,24 @@ module _ (f : Bytes) (asker : Option ℕ) (t : Table) where
     key_least : (v : ℕ) → holder_over (key p) asker t ≡ Some v → HoldsLeast t (key p) asker v
     key_least v is = by (holder_of_shorter f [] p asker t) refl is
       where
-        covers : (b : Bytes) → begins_with b p ≡ true → overlaps (key p) (prefix b) ≡ true
+        covers : (b : Bytes) → has_prefix b p ≡ true → conflicts (key p) (prefix b) ≡ true
         covers b h = and_from _ _ (is_same-self f) h
 
         same : holder_of_shorter f [] p asker t ≡ None → (o : Option ℕ) → other_than asker (holder_of (key p) t) ≡ o → first_of o (other_than asker (holder_of (prefix p) t)) ≡ Some v → HoldsLeast t (key p) asker v
-        same none (Some w) at is = same_holds (key p) (key p) p v (overlaps-self (key p)) refl (near_key (bytes_of p)) none (at ∙ is)
-        same none None at is = same_holds (key p) (prefix p) p v (covers p (begins_with-self p)) refl (near_key (bytes_of p)) none is
+        same none (Some w) at is = same_holds (key p) (key p) p v (conflicts-self (key p)) refl (near_key (bytes_of p)) none (at ∙ is)
+        same none None at is = same_holds (key p) (prefix p) p v (covers p (has_prefix-self p)) refl (near_key (bytes_of p)) none is
 
         by : (o : Option ℕ) → holder_of_shorter f [] p asker t ≡ o → first_of o (first_of (other_than asker (holder_of (key p) t)) (other_than asker (holder_of (prefix p) t))) ≡ Some v → HoldsLeast t (key p) asker v
         by (Some w) at is = shorter_least (key p) p v covers (near_key (bytes_of p)) (found_shorter [] p v (at ∙ is))
         by None at is = same at (other_than asker (holder_of (key p) t)) refl is
 
--- what only itself overlaps
-plain_least : (t : Table) (asker : Option ℕ) (r : Resource) (v : ℕ) → ((q : Resource) → overlaps r q ≡ true → is_one r q ≡ true) → other_than asker (holder_of r t) ≡ Some v → HoldsLeast t r asker v
+-- who holds what conflicts with itself alone
+plain_least : (t : Table) (asker : Option ℕ) (r : Resource) (v : ℕ) → ((q : Resource) → conflicts r q ≡ true → is_one r q ≡ true) → other_than asker (holder_of r t) ≡ Some v → HoldsLeast t r asker v
 plain_least t asker r v alone found =
     let held = other_parts asker (holder_of r t) v found in
-    (r, (overlaps-self r, held.0, held.1), λ q w way. ap (λ s. is_below (place_of s) (place_of r)) (sym (is_one-eq r q (alone q way.0))) ∙ begins-not_below (place_of r) (place_of r) (begins_with-self (place_of r)))
+    (r, (conflicts-self r, held.0, held.1), λ q w way. ap (λ s. is_below (place_of s) (place_of r)) (sym (is_one-eq r q (alone q way.0))) ∙ begins-not_below (place_of r) (place_of r) (has_prefix-self (place_of r)))
 
--- whoever is found to hold what overlaps a resource holds the least of it
+-- whoever is found to hold what conflicts with a resource holds the least of it
 pub holder_over-least : (t : Table) (asker : Option ℕ) → T (is_in_order t) → (r : Resource) (v : ℕ) → holder_over r asker t ≡ Some v → HoldsLeast t r asker v
 holder_over-least t asker rises (FilePrefix f p) v is = prefix_least f asker t rises p.items v is
 holder_over-least t asker rises (FileKey f k) v is = key_least f asker t rises k.items v is

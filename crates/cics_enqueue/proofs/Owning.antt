@@ -11,7 +11,7 @@ use Rattle.cics_names.specs.Keyed.{Bytes, is_same}
 use Rattle.cics_names.specs.KeyedLaws.{is_same-eq}
 use Rattle.cics_names.specs.RisingLaws.{is_same-turned}
 use Rattle.cics_enqueue.specs.Kept.{Owned, finds, has_in, owns, Adds, Drops}
-use Rattle.cics_enqueue.specs.Resources.{is_other}
+use Rattle.cics_history.specs.Holding.{is_other}
 
 module _ (ls ms : Owned) (unit : ℕ) (w : Vec (Vec ℕ)) (h : (q : ℕ) → lookup (nat_eq q) ms ≡ cond (nat_eq unit q) (Some w) (lookup (nat_eq q) ls)) where
   -- a unit's keys are written, and the others stay

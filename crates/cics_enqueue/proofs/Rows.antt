@@ -1,9 +1,11 @@
 -- Worked rows: who stands in the way of a unit.
 use Rattle.std.specs.Prelude.{◌≡◌, Some, None, true, false, [], ◌∷◌, refl}
 use Rattle.cics_names.specs.Keyed.{Bytes}
-use Rattle.cics_enqueue.specs.declared.resources.Resource.{Resource}
-use Rattle.cics_enqueue.specs.declared.resources.Resource.TheVariants.{FileKey, FilePrefix}
-use Rattle.cics_enqueue.specs.Resources.{Table, bytes_of, overlaps, held_with_prefix, holder_over, taken, released}
+use Rattle.cics_history.specs.declared.resources.Resource.{Resource}
+use Rattle.cics_history.specs.declared.resources.Resource.TheVariants.{FileKey, FilePrefix}
+use Rattle.cics_history.specs.Resources.{bytes_of}
+use Rattle.cics_history.specs.Holding.{conflicts}
+use Rattle.cics_enqueue.specs.Table.{Table, held_with_prefix, holder_over, taken, released}
 
 -- two files, and keys and prefixes of theirs
 abbrev accounts : Bytes
@@ -18,17 +20,17 @@ key f k = FileKey f (bytes_of k)
 abbrev prefix : Bytes → Bytes → Resource
 prefix f p = FilePrefix f (bytes_of p)
 
--- what overlaps: a key and a prefix of it, in one file
-covers : overlaps (key accounts (7 ∷ 8 ∷ [])) (prefix accounts (7 ∷ [])) ≡ true
+-- what conflicts: a key and a prefix of it, in one file
+covers : conflicts (key accounts (7 ∷ 8 ∷ [])) (prefix accounts (7 ∷ [])) ≡ true
 covers = refl
 
-longer : overlaps (key accounts (7 ∷ [])) (prefix accounts (7 ∷ 8 ∷ [])) ≡ false
+longer : conflicts (key accounts (7 ∷ [])) (prefix accounts (7 ∷ 8 ∷ [])) ≡ false
 longer = refl
 
-elsewhere : overlaps (key accounts (7 ∷ 8 ∷ [])) (prefix orders (7 ∷ [])) ≡ false
+elsewhere : conflicts (key accounts (7 ∷ 8 ∷ [])) (prefix orders (7 ∷ [])) ≡ false
 elsewhere = refl
 
-nested : overlaps (prefix accounts (7 ∷ 8 ∷ [])) (prefix accounts []) ≡ true
+nested : conflicts (prefix accounts (7 ∷ 8 ∷ [])) (prefix accounts []) ≡ true
 nested = refl
 
 -- unit 1 holds the keys 7 9 and 8, unit 2 the key 7 5, unit 3 a key of the other file and the prefix 7 7
@@ -55,7 +57,7 @@ covered_key = refl
 covered_by_own : holder_over (key accounts (7 ∷ 7 ∷ 1 ∷ [])) (Some 3) table ≡ None
 covered_by_own = refl
 
--- a prefix with the bytes of a held key is overlapped by it, and a key with the bytes of a held prefix by that
+-- a prefix with the bytes of a held key conflicts with it, and so does a key with those of a held prefix
 same_bytes : holder_over (prefix accounts (7 ∷ 9 ∷ [])) (Some 2) table ≡ Some 1
 same_bytes = refl
 

@@ -1,7 +1,7 @@
 -- Look-ups by the first bytes in entries that rise.
-use Rattle.std.proofs.Common.{Bor, ◌≡◌, ℕ, ◌&&◌, ◌==◌, Bool, true, false, cond, Option, Some, None, [], ◌∷◌, ◌++◌, length, nat_eq, suc, All, arith, refl, sym, ap, subst, ◌∙◌, inl, inr, append_assoc, ◌<◌, zero}
+use Rattle.std.proofs.Common.{Bor, ◌≡◌, ℕ, ◌&&◌, ◌==◌, Bool, true, false, cond, Option, Some, None, [], ◌∷◌, ◌++◌, length, suc, All, arith, refl, sym, ap, subst, ◌∙◌, inl, inr, append_assoc, ◌<◌, zero}
 use Rattle.std.specs.Bool.{OnFalse}
-use Rattle.std.specs.Prelude.{slice_get, is_some, option_map, drop, take, filter, if◌then◌else◌}
+use Rattle.std.specs.Prelude.{slice_get, is_some, option_map, drop, filter, if◌then◌else◌}
 use Rattle.std.specs.Global.{Vec}
 use Rattle.std.specs.Map.{keys_of, lookup}
 use Rattle.std.specs.List.{AllByRecursion}
@@ -9,36 +9,33 @@ use Rattle.std.specs.List.Sorted.{IsStrictlySortedBy}
 use Rattle.std.specs.declared.cmp.Ordering.TheVariants.{Less, Equal, Greater}
 use Rattle.std.specs.Ordering.{nat_cmp, is_lt, is_le, is_gt, ordering_then, ordering_reverse}
 use Rattle.std.specs.Cmp.{nat_cmp_total, tied_itself}
-use Rattle.std.specs.Cmp.Lexicographic.{pointwise}
 use Rattle.std.specs.FinMap.{nat_cmp-IsAntisymmetric}
 use Rattle.std.proofs.lemmas.Bool.{cases_Bool, le-ltb, eqb-true, eq-eqb, and_parts, and_from}
 use Rattle.cics_names.specs.Keyed.{Bytes, bytes_cmp, is_below}
 use Rattle.cics_names.specs.KeyedLaws.{is_same-eq}
 use Rattle.cics_enqueue.specs.declared.enqueues.Holding.{Holding}
-use Rattle.cics_enqueue.specs.declared.resources.Resource.{Resource}
-use Rattle.cics_enqueue.specs.declared.resources.Resource.TheVariants.{FileKey, FilePrefix}
+use Rattle.cics_history.specs.declared.resources.Resource.{Resource}
+use Rattle.cics_history.specs.declared.resources.Resource.TheVariants.{FileKey, FilePrefix}
 use Rattle.cics_enqueue.specs.Borrowed.{named}
 use Rattle.cics_enqueue.specs.declared.borrowed.Kind.{Kind}
 use Rattle.cics_enqueue.specs.declared.borrowed.Kind.TheVariants.{FileKey as KeyAt, FilePrefix as PrefixAt, TsQueue as TsQueueOf, TdRead as ReadingEndOf, TdWrite as WritingEndOf, User as UserAt}
 use Rattle.cics_enqueue.specs.Kept.{key_cmp, Entries, Owned, IsKept, owns, is_units, AreKeys, table_of, seen, bytes_and_unit, finds, first_entry, is_others_under, others_unit, first_cover, lesser_shown}
-use Rattle.cics_enqueue.specs.Resources.{Table, Held, holder_over, bytes_of, resource_key, begins_with, is_other, is_under, first_that, first_of, lesser, least_under, other_than, holder_of, holder_of_shorter}
-use Rattle.cics_enqueue.specs.ResourceLaws.{resource_of}
+use Rattle.cics_history.specs.Resources.{bytes_of}
+use Rattle.cics_history.specs.Holding.{is_other}
+use Rattle.cics_ksds.specs.Prefixes.{has_prefix}
+use Rattle.cics_enqueue.specs.Table.{Table, Held, holder_over, resource_key, is_under, first_that, first_of, lesser, least_under, other_than, holder_of, holder_of_shorter}
+use Rattle.cics_enqueue.specs.Order.{resource_of}
 use Rattle.cics_enqueue.proofs.Tables.{key_found, holder_of-table_of, unheld}
 
 -- ---- bytes that begin with others
-pub starts_with-begins : (p b : Bytes) → pointwise nat_eq p (take (length p) b) ≡ begins_with p b
-starts_with-begins [] b = refl
-starts_with-begins (x ∷ p) [] = refl
-starts_with-begins (x ∷ p) (y ∷ b) = ap (λ t. (x == y) && t) (starts_with-begins p b)
-
-pub begins_with-trans : (a b c : Bytes) → begins_with a b ≡ true → begins_with b c ≡ true → begins_with a c ≡ true
-begins_with-trans [] b c h g = refl
-begins_with-trans (x ∷ a) [] c h g = cc
-begins_with-trans (x ∷ a) (y ∷ b) [] h g = cc
-begins_with-trans (x ∷ a) (y ∷ b) (z ∷ c) h g =
-    let p = and_parts (x == y) (begins_with a b) h in
-    let q = and_parts (y == z) (begins_with b c) g in
-    and_from _ _ (eq-eqb x z (eqb-true x y p.0 ∙ eqb-true y z q.0)) (begins_with-trans a b c p.1 q.1)
+pub has_prefix-trans : (a b c : Bytes) → has_prefix a b ≡ true → has_prefix b c ≡ true → has_prefix a c ≡ true
+has_prefix-trans [] b c h g = refl
+has_prefix-trans (x ∷ a) [] c h g = cc
+has_prefix-trans (x ∷ a) (y ∷ b) [] h g = cc
+has_prefix-trans (x ∷ a) (y ∷ b) (z ∷ c) h g =
+    let p = and_parts (x == y) (has_prefix a b) h in
+    let q = and_parts (y == z) (has_prefix b c) g in
+    and_from _ _ (eq-eqb x z (eqb-true x y p.0 ∙ eqb-true y z q.0)) (has_prefix-trans a b c p.1 q.1)
 
 -- equal numbers tie
 pub tied : (x y : ℕ) → (x == y) ≡ true → nat_cmp x y ≡ Equal
@@ -48,33 +45,33 @@ tied x y e = subst (λ z. nat_cmp x z ≡ Equal) (eqb-true x y e) (self x)
     self x = tied_itself nat_cmp_total x
 
 -- what begins with some bytes isn't below them
-pub begins_with-le : (s b : Bytes) → begins_with s b ≡ true → is_le (bytes_cmp s b) ≡ true
-begins_with-le [] [] h = refl
-begins_with-le [] (y ∷ b) h = refl
-begins_with-le (x ∷ s) [] h = cc
-begins_with-le (x ∷ s) (y ∷ b) h =
-    let p = and_parts (x == y) (begins_with s b) h in
-    ap (λ o. is_le (ordering_then o (bytes_cmp s b))) (tied x y p.0) ∙ begins_with-le s b p.1
+pub has_prefix-le : (s b : Bytes) → has_prefix s b ≡ true → is_le (bytes_cmp s b) ≡ true
+has_prefix-le [] [] h = refl
+has_prefix-le [] (y ∷ b) h = refl
+has_prefix-le (x ∷ s) [] h = cc
+has_prefix-le (x ∷ s) (y ∷ b) h =
+    let p = and_parts (x == y) (has_prefix s b) h in
+    ap (λ o. is_le (ordering_then o (bytes_cmp s b))) (tied x y p.0) ∙ has_prefix-le s b p.1
 
 -- past what begins with some bytes nothing does
-pub passed : (s k b : Bytes) → is_lt (bytes_cmp s k) ≡ true → begins_with s k ≡ false → bytes_cmp k b ≡ Less → begins_with s b ≡ false
+pub passed : (s k b : Bytes) → is_lt (bytes_cmp s k) ≡ true → has_prefix s k ≡ false → bytes_cmp k b ≡ Less → has_prefix s b ≡ false
 passed [] k b above other below = cc
 passed (x ∷ s) [] b above other below = cc
 passed (x ∷ s) (y ∷ k) [] above other below = cc
 passed (x ∷ s) (y ∷ k) (z ∷ b) above other below = elim (cases_Bool (x == z)) [
-  | inl same ↦ ap (λ t. t && begins_with s b) same ∙ step (passed s k b) (subst (λ w. ordering_then (nat_cmp y w) (bytes_cmp k b) ≡ Less) (sym (eqb-true x z same)) below)
-  | inr apart ↦ ap (λ t. t && begins_with s b) apart
+  | inl same ↦ ap (λ t. t && has_prefix s b) same ∙ step (passed s k b) (subst (λ w. ordering_then (nat_cmp y w) (bytes_cmp k b) ≡ Less) (sym (eqb-true x z same)) below)
+  | inr apart ↦ ap (λ t. t && has_prefix s b) apart
 ]
   where
     -- where the first bytes are one, the rest is
-    rest : (is_lt (bytes_cmp s k) ≡ true → begins_with s k ≡ false → bytes_cmp k b ≡ Less → begins_with s b ≡ false) → (x == y) ≡ true → ordering_then (nat_cmp y x) (bytes_cmp k b) ≡ Less → begins_with s b ≡ false
+    rest : (is_lt (bytes_cmp s k) ≡ true → has_prefix s k ≡ false → bytes_cmp k b ≡ Less → has_prefix s b ≡ false) → (x == y) ≡ true → ordering_then (nat_cmp y x) (bytes_cmp k b) ≡ Less → has_prefix s b ≡ false
     rest later one below = later
         (ap (λ o. is_lt (ordering_then o (bytes_cmp s k))) (sym (tied x y one)) ∙ above)
-        (ap (λ t. t && begins_with s k) (sym one) ∙ other)
+        (ap (λ t. t && has_prefix s k) (sym one) ∙ other)
         (ap (λ o. ordering_then o (bytes_cmp k b)) (sym (tied y x (eq-eqb y x (sym (eqb-true x y one))))) ∙ below)
 
-    step : (is_lt (bytes_cmp s k) ≡ true → begins_with s k ≡ false → bytes_cmp k b ≡ Less → begins_with s b ≡ false) → ordering_then (nat_cmp y x) (bytes_cmp k b) ≡ Less → begins_with s b ≡ false
-    step later below = elim (nat_cmp x y) as (λ o. nat_cmp x y ≡ o → is_lt (ordering_then o (bytes_cmp s k)) ≡ true → begins_with s b ≡ false) [
+    step : (is_lt (bytes_cmp s k) ≡ true → has_prefix s k ≡ false → bytes_cmp k b ≡ Less → has_prefix s b ≡ false) → ordering_then (nat_cmp y x) (bytes_cmp k b) ≡ Less → has_prefix s b ≡ false
+    step later below = elim (nat_cmp x y) as (λ o. nat_cmp x y ≡ o → is_lt (ordering_then o (bytes_cmp s k)) ≡ true → has_prefix s b ≡ false) [
       | Less ↦ λ less above.
           let turned : nat_cmp y x ≡ Greater = nat_cmp_total.antisymm y x ∙ ap ordering_reverse less in
           let wrong : Greater ≡ Less = sym (ap (λ o. ordering_then o (bytes_cmp k b)) turned) ∙ below in cc
@@ -118,7 +115,7 @@ module _ (p : Vec ℕ × Holding → Bool) where
   ] refl
 
 -- past what begins with some bytes nothing is asked for
-pub first_entry-passed : (start k : Bytes) (asker : Option ℕ) (es : Entries) → is_lt (bytes_cmp start k) ≡ true → begins_with start k ≡ false → Above k es → first_entry (is_others_under start asker) es ≡ None
+pub first_entry-passed : (start k : Bytes) (asker : Option ℕ) (es : Entries) → is_lt (bytes_cmp start k) ≡ true → has_prefix start k ≡ false → Above k es → first_entry (is_others_under start asker) es ≡ None
 first_entry-passed start k asker [] above other h = refl
 first_entry-passed start k asker (e ∷ es) above other h =
     ap (λ b. if b && is_other asker e.1.unit then Some e else first_entry (is_others_under start asker) es) (passed start k e.0.items above other h.0)
@@ -132,10 +129,10 @@ pub first_entry-past : (test : Vec ℕ × Holding → Bool) (e : Vec ℕ × Hold
 first_entry-past test e es n = ap (λ b. if b then Some e else first_entry test es) n
 
 -- what a look-up leaves out before its bound doesn't begin with what is asked for
-pub before_bound : (from start : Bytes) (asker : Option ℕ) → begins_with from start ≡ true → (e : Vec ℕ × Holding) → (is_le (bytes_cmp from e.0.items) && true) ≡ false → is_others_under start asker e ≡ false
-before_bound from start asker bound e out = elim (cases_Bool (begins_with start e.0.items)) [
+pub before_bound : (from start : Bytes) (asker : Option ℕ) → has_prefix from start ≡ true → (e : Vec ℕ × Holding) → (is_le (bytes_cmp from e.0.items) && true) ≡ false → is_others_under start asker e ≡ false
+before_bound from start asker bound e out = elim (cases_Bool (has_prefix start e.0.items)) [
   | inl y ↦
-      let inside : is_le (bytes_cmp from e.0.items) ≡ true = begins_with-le from e.0.items (begins_with-trans from start e.0.items bound y) in
+      let inside : is_le (bytes_cmp from e.0.items) ≡ true = has_prefix-le from e.0.items (has_prefix-trans from start e.0.items bound y) in
       let wrong : true ≡ false = sym (ap (λ b. b && true) inside) ∙ out in cc
   | inr n ↦ ap (λ b. b && is_other asker e.1.unit) n
 ]
@@ -179,7 +176,7 @@ pub first_that-table_of : (start : Resource) (key : Bytes) → key ≡ resource_
     first_that (λ e. is_under start e.0 && is_other asker e.1.unit) (table_of es) ≡ option_map entry_of (first_entry (is_others_under key asker) es)
 first_that-table_of start key is asker [] sound = refl
 first_that-table_of start key is asker (e ∷ es) sound =
-    ap (λ b. if b && is_other asker e.1.unit then Some (entry_of e) else first_that (λ e. is_under start e.0 && is_other asker e.1.unit) (table_of es)) (λ i. begins_with (sym is i) (sound.0 i))
+    ap (λ b. if b && is_other asker e.1.unit then Some (entry_of e) else first_that (λ e. is_under start e.0 && is_other asker e.1.unit) (table_of es)) (λ i. has_prefix (sym is i) (sound.0 i))
     ∙ elim (is_others_under key asker e) as (λ b. (if b then Some (entry_of e) else first_that (λ e. is_under start e.0 && is_other asker e.1.unit) (table_of es)) ≡ option_map entry_of (if b then Some e else first_entry (is_others_under key asker) es)) [
       | true ↦ refl
       | false ↦ first_that-table_of start key is asker es sound.1
@@ -254,7 +251,7 @@ first_cover-none asker es none (x ∷ rest) b = (λ i. first_of (others_unit ask
 pub shorter-none : (f b : Bytes) (asker : Option ℕ) (es : Entries) → AreKeys es → ((b : Bytes) → lookup (finds (0 ∷ b)) es ≡ None) → holder_of_shorter f [] b asker (table_of es) ≡ None
 shorter-none f b asker es sound none = shorter-table_of f asker es sound b [] ∙ first_cover-none asker es none b (length f ∷ (f ++ []))
 
--- then a key is overlapped by itself alone
+-- then a key conflicts with itself alone
 pub key_alone : (f k key : Bytes) → key ≡ resource_key (FileKey f (bytes_of k)) → (asker : Option ℕ) (es : Entries) → AreKeys es → ((b : Bytes) → lookup (finds (0 ∷ b)) es ≡ None) →
     others_unit asker (lookup (finds key) es) ≡ holder_over (FileKey f (bytes_of k)) asker (table_of es)
 key_alone f k key is asker es sound none =
@@ -295,7 +292,7 @@ lesser_of-two a b k p h o is_a is_b = (λ i. option_map second_of (lesser_shown 
     step true = refl
     step false = refl
 
--- what is no record and no prefix is overlapped by itself alone
+-- what is no record and no prefix conflicts with itself alone
 pub holder_over-plain : (k : Kind) (asker : Option ℕ) (t : Table) → ((f : Bytes) (b : Bor Bytes) → k ≡ KeyAt f b → ⊥) → ((f : Bytes) (b : Bor Bytes) → k ≡ PrefixAt f b → ⊥) → holder_over (named k) asker t ≡ other_than asker (holder_of (named k) t)
 holder_over-plain (KeyAt f b) asker t no_key no_prefix = absurd (no_key f b refl)
 holder_over-plain (PrefixAt f b) asker t no_key no_prefix = absurd (no_prefix f b refl)

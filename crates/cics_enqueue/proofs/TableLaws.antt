@@ -8,9 +8,11 @@ use Rattle.std.specs.Cmp.{eq_by_cmp_equiv}
 use Rattle.std.specs.FinMap as map_by
 use Rattle.std.specs.FinMap.Entries.{find-put, find-where_key, is_sorted-put, is_sorted-where_key, same_entries, below_all}
 use Rattle.std.proofs.lemmas.Bool.{eq-eqb, false≢true}
-use Rattle.cics_enqueue.specs.declared.resources.Resource.{Resource}
-use Rattle.cics_enqueue.specs.Resources.{Table, Held, IsFreeFor, other_than, held_at, holder_of, count_of, count_in, is_one, is_user, raised_count, is_in_order, resource_cmp, with_holder, freed, released, taken, given_back, given_back_of}
-use Rattle.cics_enqueue.specs.ResourceLaws.{free_own, resource_cmp_total, is_one-cmp, is_one-eq, is_one-self, same_resources}
+use Rattle.cics_history.specs.declared.resources.Resource.{Resource}
+use Rattle.cics_history.specs.Resources.{is_one, is_user}
+use Rattle.cics_enqueue.specs.Table.{Table, Held, IsFreeFor, other_than, held_at, holder_of, count_of, count_in, raised_count, is_in_order, resource_cmp, with_holder, freed, released, taken, given_back, given_back_of}
+use Rattle.cics_history.specs.ResourceLaws.{is_one-eq, is_one-self}
+use Rattle.cics_enqueue.specs.Order.{free_own, resource_cmp_total, is_one-cmp, same_resources}
 
 -- a holding after a unit gave back one take
 abbrev pub held_less : ℕ → Option Held → Option Held

@@ -18,11 +18,13 @@ use Rattle.std.specs.FinMap.Entries.{below_all, by_order, is_sorted-put, is_sort
 use Rattle.std.proofs.lemmas.Bool.{eq-eqb, eqb-true, and_parts}
 use Rattle.cics_names.specs.Keyed.{Bytes, bytes_cmp, is_same}
 use Rattle.cics_names.specs.KeyedLaws.{is_same-eq, is_same-self}
-use Rattle.cics_enqueue.specs.declared.resources.Resource.{Resource}
+use Rattle.cics_history.specs.declared.resources.Resource.{Resource}
 use Rattle.cics_enqueue.specs.declared.enqueues.Holding.{Holding}
 use Rattle.cics_enqueue.specs.Kept.{key_cmp, Entries, Owned, table_of, seen, finds, AreKeys, AreOwned, Adds, Drops, owns, has_in, is_units, is_place, IsKept, without_own, Frees}
-use Rattle.cics_enqueue.specs.Resources.{IsFreeFor, Table, Held, held_at, holder_of, count_of, count_in, is_one, is_user, is_full, most_count, raised_count, is_in_order, resource_cmp, resource_key, with_holder, freed, released, taken, given_back, given_back_of}
-use Rattle.cics_enqueue.specs.ResourceLaws.{overlaps-self, resource_cmp_total, is_one-cmp, is_one-eq, same_resources, resource_of, resource_of-resource_key}
+use Rattle.cics_history.specs.Resources.{is_one, is_user, most_count}
+use Rattle.cics_enqueue.specs.Table.{IsFreeFor, Table, Held, held_at, holder_of, count_of, count_in, is_full, raised_count, is_in_order, resource_cmp, resource_key, with_holder, freed, released, taken, given_back, given_back_of}
+use Rattle.cics_history.specs.ResourceLaws.{is_one-eq, conflicts-self}
+use Rattle.cics_enqueue.specs.Order.{resource_cmp_total, is_one-cmp, same_resources, resource_of, resource_of-resource_key}
 use Rattle.cics_enqueue.proofs.TableLaws.{taken-held, held_own, given_back-taken, left_of, right_of, not_tied, held_before, held_without, held_at-released, is_in_order-released}
 
 -- keys are ordered totally
@@ -437,7 +439,7 @@ holder_own t r u free = by (holder_of r t) refl
   where
     by : (o : Option ℕ) → holder_of r t ≡ o → IfSome o (λ v. v ≡ u)
     by None at = tt
-    by (Some v) at = free r v (overlaps-self r) at
+    by (Some v) at = free r v (conflicts-self r) at
 
 -- a table after what isn't a user's value was held, if it was free
 pub hold_taken : (t s : Table) (r : Resource) (u : ℕ) (o : Option Holding) → T (is_in_order t) → IsFreeFor t r u → is_user r ≡ false → option_map seen o ≡ held_at r t → s ≡ (if is_some o then t else taken t r u) → s ≡ taken t r u

@@ -2,9 +2,9 @@
 use Rattle.std.specs.Prelude.{◌≤◌, length}
 use Rattle.cics_enqueue.specs.declared.borrowed.Kind.{Kind}
 use Rattle.cics_enqueue.specs.declared.borrowed.Kind.TheVariants.{FileKey as KeyAt, FilePrefix as PrefixAt, TsQueue as TsQueueOf, TdRead as ReadingEndOf, TdWrite as WritingEndOf, User as UserAt}
-use Rattle.cics_enqueue.specs.Resources.{bytes_of}
-use Rattle.cics_enqueue.specs.declared.resources.Resource.{Resource}
-use Rattle.cics_enqueue.specs.declared.resources.Resource.TheVariants.{FileKey, TsQueue, TdRead, TdWrite, User, FilePrefix}
+use Rattle.cics_history.specs.Resources.{bytes_of}
+use Rattle.cics_history.specs.declared.resources.Resource.{Resource}
+use Rattle.cics_history.specs.declared.resources.Resource.TheVariants.{FileKey, TsQueue, TdRead, TdWrite, User, FilePrefix}
 
 -- the resource that borrowed bytes name
 abbrev pub named : Kind → Resource

@@ -1,20 +1,19 @@
--- Where no other unit holds anything that overlaps a resource, a unit may take it; and what
--- overlaps stays one unit's.
+-- Where no other unit holds anything that conflicts with a resource, a unit may take it.
 use Rattle.std.specs.Prelude.{◌≡◌, ℕ, ◌==◌, ◌&&◌, ◌||◌, Bool, true, false, not, if◌then◌else◌, Option, Some, None, IfNone, option_map, [], ◌∷◌, ◌++◌, length, refl}
-use Rattle.std.proofs.Common.{sym, ap, ◌∙◌, subst, ◌⊎◌, inl, inr, append_assoc, append-nil}
+use Rattle.std.proofs.Common.{sym, ap, ◌∙◌, ◌⊎◌, inl, inr, append_assoc, append-nil}
 use Rattle.std.specs.Ordering.{is_eq}
 use Rattle.std.proofs.lemmas.Bool.{and_parts, and_from, or_cases, eq-eqb, eqb-true}
 use Rattle.arrayvec.specs.ArrayVec.{ArrayVec}
 use Rattle.cics_names.specs.Keyed.{Bytes, is_same, is_below}
-use Rattle.cics_names.specs.KeyedLaws.{is_same-eq, is_same-self}
-use Rattle.cics_enqueue.specs.declared.resources.Resource.{Resource}
-use Rattle.cics_enqueue.specs.declared.resources.Resource.TheVariants.{FileKey, TsQueue, TdRead, TdWrite, User, FilePrefix}
-use Rattle.cics_enqueue.specs.Resources.{Table, Held, IsFreeFor, IsFreeBut, bytes_of, begins_with, overlaps, is_one, is_other, is_under, resource_cmp, held_at, holder_of, other_than, first_of, first_that, lesser, place_of, holder_of_shorter, holder_over}
-use Rattle.cics_enqueue.specs.ResourceLaws.{begins_with-self, is_one-eq, is_one-cmp}
-
--- which of two comes first doesn't matter
-turned : (a b : Bytes) → is_same a b ≡ true → is_same b a ≡ true
-turned a b h = subst (λ c. is_same c a ≡ true) (is_same-eq a b h) (is_same-self a)
+use Rattle.cics_names.specs.KeyedLaws.{is_same-eq}
+use Rattle.cics_history.specs.declared.resources.Resource.{Resource}
+use Rattle.cics_history.specs.declared.resources.Resource.TheVariants.{FileKey, TsQueue, TdRead, TdWrite, User, FilePrefix}
+use Rattle.cics_history.specs.Resources.{bytes_of, is_one}
+use Rattle.cics_ksds.specs.Prefixes.{has_prefix}
+use Rattle.cics_history.specs.Holding.{conflicts, is_other}
+use Rattle.cics_enqueue.specs.Table.{Table, Held, IsFreeFor, IsFreeBut, is_under, resource_cmp, held_at, holder_of, other_than, first_of, first_that, lesser, place_of, holder_of_shorter, holder_over}
+use Rattle.cics_history.specs.ResourceLaws.{is_one-eq, has_prefix-self}
+use Rattle.cics_enqueue.specs.Order.{is_one-cmp}
 
 -- where neither an entry nor the rest is found, neither is there
 if_none : (b : Bool) (e : Resource × Held) (o : Option (Resource × Held)) → (if b then Some e else o) ≡ None → (b ≡ false) × (o ≡ None)
@@ -69,12 +68,12 @@ shorter_none f p (y ∷ r) asker t none (z ∷ a) x b is =
     ∙ shorter_none f (p ++ y ∷ []) r asker t (none_parts _ _ none).1 a x b rest
 
 -- what bytes begin with is they themselves or is shorter
-pub begins_split : (q p : Bytes) → begins_with q p ≡ true → (q ≡ p) ⊎ ((x : ℕ) × (b : Bytes) × (p ≡ q ++ x ∷ b))
+pub begins_split : (q p : Bytes) → has_prefix q p ≡ true → (q ≡ p) ⊎ ((x : ℕ) × (b : Bytes) × (p ≡ q ++ x ∷ b))
 begins_split [] [] h = inl refl
 begins_split [] (x ∷ b) h = inr (x, b, refl)
 begins_split (x ∷ q) [] h = cc
 begins_split (x ∷ q) (y ∷ p) h =
-    let parts = and_parts (x == y) (begins_with q p) h in
+    let parts = and_parts (x == y) (has_prefix q p) h in
     let first : x ≡ y = eqb-true x y parts.0 in
     elim (begins_split q p parts.1) [
       | inl same ↦ inl (λ i. first i ∷ same i)
@@ -82,12 +81,12 @@ begins_split (x ∷ q) (y ∷ p) h =
     ]
 
 -- what begins so begins so behind a name
-pub begins_after : (f p k : Bytes) → begins_with p k ≡ true → begins_with (f ++ p) (f ++ k) ≡ true
+pub begins_after : (f p k : Bytes) → has_prefix p k ≡ true → has_prefix (f ++ p) (f ++ k) ≡ true
 begins_after [] p k h = h
 begins_after (x ∷ f) p k h = and_from _ _ (eq-eqb x x refl) (begins_after f p k h)
 
 -- and behind a kind and a file
-pub under_file : (n m : ℕ) (f p k : Bytes) → begins_with p k ≡ true → begins_with (n ∷ m ∷ (f ++ p)) (n ∷ m ∷ (f ++ k)) ≡ true
+pub under_file : (n m : ℕ) (f p k : Bytes) → has_prefix p k ≡ true → has_prefix (n ∷ m ∷ (f ++ p)) (n ∷ m ∷ (f ++ k)) ≡ true
 under_file n m f p k h = and_from _ _ (eq-eqb n n refl) (and_from _ _ (eq-eqb m m refl) (begins_after f p k h))
 
 -- where the lesser of two isn't there, neither is
@@ -107,16 +106,16 @@ module _ (t : Table) (asker : Option ℕ) (v : ℕ) where
   same_own r s none one at = own_holder asker v (ap (other_than asker) (sym (ap (λ q. holder_of q t) (is_one-eq r s one) ∙ at)) ∙ none)
 
   -- a prefix that bytes begin with
-  cover_own : (f p : Bytes) → holder_of_shorter f [] p asker t ≡ None → other_than asker (holder_of (FilePrefix f (bytes_of p)) t) ≡ None → (q : Bytes) → begins_with q p ≡ true → holder_of (FilePrefix f (bytes_of q)) t ≡ Some v → is_other asker v ≡ false
+  cover_own : (f p : Bytes) → holder_of_shorter f [] p asker t ≡ None → other_than asker (holder_of (FilePrefix f (bytes_of p)) t) ≡ None → (q : Bytes) → has_prefix q p ≡ true → holder_of (FilePrefix f (bytes_of q)) t ≡ Some v → is_other asker v ≡ false
   cover_own f p shorter whole q begins at = elim (begins_split q p begins) [
     | inl same ↦ own_holder asker v (ap (other_than asker) (sym (ap (λ b. holder_of (FilePrefix f (bytes_of b)) t) (sym same) ∙ at)) ∙ whole)
     | inr more ↦ own_holder asker v (ap (other_than asker) (sym at) ∙ shorter_none f [] p asker t shorter q more.0 more.1 more.2)
   ]
 
   -- a key
-  key_own : (f : Bytes) (k : ArrayVec ℕ) → holder_over (FileKey f k) asker t ≡ None → (s : Resource) → overlaps (FileKey f k) s ≡ true → holder_of s t ≡ Some v → is_other asker v ≡ false
+  key_own : (f : Bytes) (k : ArrayVec ℕ) → holder_over (FileKey f k) asker t ≡ None → (s : Resource) → conflicts (FileKey f k) s ≡ true → holder_of s t ≡ Some v → is_other asker v ≡ false
   key_own f k none (FilePrefix g q) meets at =
-      let parts = and_parts (is_same f g) (begins_with q.items k.items) meets in
+      let parts = and_parts (is_same f g) (has_prefix q.items k.items) meets in
       let a = none_parts _ _ none in
       let b = none_parts _ _ a.1 in
       cover_own f k.items a.0 b.1 q.items parts.1 (ap (λ h. holder_of (FilePrefix h q) t) (is_same-eq f g parts.0) ∙ at)
@@ -124,26 +123,26 @@ module _ (t : Table) (asker : Option ℕ) (v : ℕ) where
   key_own f k none _ meets at = cc
 
   -- a prefix
-  prefix_own : (f : Bytes) (p : ArrayVec ℕ) → holder_over (FilePrefix f p) asker t ≡ None → (s : Resource) → overlaps (FilePrefix f p) s ≡ true → holder_of s t ≡ Some v → is_other asker v ≡ false
+  prefix_own : (f : Bytes) (p : ArrayVec ℕ) → holder_over (FilePrefix f p) asker t ≡ None → (s : Resource) → conflicts (FilePrefix f p) s ≡ true → holder_of s t ≡ Some v → is_other asker v ≡ false
   prefix_own f p none (FileKey g k) meets at =
-      let parts = and_parts (is_same f g) (begins_with p.items k.items) meets in
+      let parts = and_parts (is_same f g) (has_prefix p.items k.items) meets in
       let least = least_none _ _ (none_parts _ _ none).1 in
       under_own (FileKey f p) asker t least.0 (FileKey f k) (under_file 1 (length f) f p.items k.items parts.1) v (ap (λ h. holder_of (FileKey h k) t) (is_same-eq f g parts.0) ∙ at)
   prefix_own f p none (FilePrefix g q) meets at =
-      let parts = and_parts (is_same f g) (begins_with p.items q.items || begins_with q.items p.items) meets in
+      let parts = and_parts (is_same f g) (has_prefix p.items q.items || has_prefix q.items p.items) meets in
       let least = least_none _ _ (none_parts _ _ none).1 in
       let here : holder_of (FilePrefix f q) t ≡ Some v = ap (λ h. holder_of (FilePrefix h q) t) (is_same-eq f g parts.0) ∙ at in
-      let under : (begins_with p.items q.items ≡ true) → is_other asker v ≡ false = λ b. under_own (FilePrefix f p) asker t least.1 (FilePrefix f q) (under_file 0 (length f) f p.items q.items b) v here in
-      elim (or_cases (begins_with p.items q.items) (begins_with q.items p.items) parts.1) [
+      let under : (has_prefix p.items q.items ≡ true) → is_other asker v ≡ false = λ b. under_own (FilePrefix f p) asker t least.1 (FilePrefix f q) (under_file 0 (length f) f p.items q.items b) v here in
+      elim (or_cases (has_prefix p.items q.items) (has_prefix q.items p.items) parts.1) [
         | inl y ↦ under y
         | inr y ↦ elim (begins_split q.items p.items y) [
-          | inl same ↦ under (ap (begins_with p.items) same ∙ begins_with-self p.items)
+          | inl same ↦ under (ap (has_prefix p.items) same ∙ has_prefix-self p.items)
           | inr more ↦ own_holder asker v (ap (other_than asker) (sym here) ∙ shorter_none f [] p.items asker t (none_parts _ _ none).0 q.items more.0 more.1 more.2)
         ]
       ]
   prefix_own f p none _ meets at = cc
 
--- where none is found to hold what overlaps a resource, nobody but the asker does
+-- where none is found to hold what conflicts with a resource, nobody but the asker does
 pub free_where_none : (t : Table) (r : Resource) (asker : Option ℕ) → holder_over r asker t ≡ None → IsFreeBut t r asker
 free_where_none t (FileKey f k) asker none s v meets at = key_own t asker v f k none s meets at
 free_where_none t (FilePrefix f p) asker none s v meets at = prefix_own t asker v f p none s meets at
@@ -160,23 +159,3 @@ free_if_none (Some x) t r asker is = tt
 -- what nobody but a unit holds the unit may take
 pub free_for : (t : Table) (r : Resource) (u : ℕ) → IsFreeBut t r (Some u) → IsFreeFor t r u
 free_for t r u free s v meets at = own_of u v (free s v meets at)
-
--- of two that overlap each overlaps the other
-pub overlaps-turned : (r s : Resource) → overlaps r s ≡ true → overlaps s r ≡ true
-overlaps-turned (FileKey f k) (FilePrefix g p) h = let b = and_parts (is_same f g) (begins_with p.items k.items) h in and_from _ _ (turned f g b.0) b.1
-overlaps-turned (FilePrefix f p) (FileKey g k) h = let b = and_parts (is_same f g) (begins_with p.items k.items) h in and_from _ _ (turned f g b.0) b.1
-overlaps-turned (FilePrefix f p) (FilePrefix g q) h =
-    let b = and_parts (is_same f g) (begins_with p.items q.items || begins_with q.items p.items) h in
-    and_from _ _ (turned f g b.0) (either (begins_with p.items q.items) (begins_with q.items p.items) b.1)
-  where
-    either : (x y : Bool) → (x || y) ≡ true → (y || x) ≡ true
-    either true true h = refl
-    either true false h = refl
-    either false true h = refl
-    either false false h = h
-overlaps-turned (FileKey f k) (FileKey g l) h = let b = and_parts (is_same f g) (is_same k.items l.items) h in and_from _ _ (turned f g b.0) (turned k.items l.items b.1)
-overlaps-turned (TsQueue q) (TsQueue r) h = turned q r h
-overlaps-turned (TdRead q) (TdRead r) h = turned q r h
-overlaps-turned (TdWrite q) (TdWrite r) h = turned q r h
-overlaps-turned (User v) (User w) h = turned v.items w.items h
-overlaps-turned _ _ h = cc

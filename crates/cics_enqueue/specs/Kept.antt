@@ -8,8 +8,11 @@ use Rattle.std.specs.BTreeMap.{insert_entry}
 use Rattle.std.specs.declared.cmp.Ordering.{Ordering}
 use Rattle.cics_names.specs.Keyed.{Bytes, bytes_cmp, is_same, is_below}
 use Rattle.cics_enqueue.specs.declared.enqueues.Holding.{Holding}
-use Rattle.cics_enqueue.specs.Resources.{Table, Held, resource_key, is_in_order, begins_with, is_other, first_of, most_count}
-use Rattle.cics_enqueue.specs.ResourceLaws.{resource_of}
+use Rattle.cics_history.specs.Resources.{most_count}
+use Rattle.cics_ksds.specs.Prefixes.{has_prefix}
+use Rattle.cics_history.specs.Holding.{is_other}
+use Rattle.cics_enqueue.specs.Table.{Table, Held, resource_key, is_in_order, first_of}
+use Rattle.cics_enqueue.specs.Order.{resource_of}
 
 -- the entries that are kept: a resource as bytes, and its holding
 abbrev pub Entries : Type 0
@@ -111,7 +114,7 @@ pub record IsKept (es : Entries) (own : Owned) : Type 0 where
   pub in_order : T (is_in_order (table_of es))
   pub owned : AreOwned es own
 
--- ---- Look-ups of what overlaps
+-- ---- Look-ups of what conflicts
 
 -- the first entry that passes a test
 abbrev pub first_entry : (Vec ℕ × Holding → Bool) → Entries → Option (Vec ℕ × Holding)
@@ -120,7 +123,7 @@ first_entry test (e ∷ es) = if test e then Some e else first_entry test es
 
 -- whether an entry begins with some bytes and is another unit's than the asker's
 abbrev pub is_others_under : Bytes → Option ℕ → Vec ℕ × Holding → Bool
-is_others_under start asker e = begins_with start e.0.items && is_other asker e.1.unit
+is_others_under start asker e = has_prefix start e.0.items && is_other asker e.1.unit
 
 -- the bytes and the unit of an entry
 abbrev pub bytes_and_unit : Vec ℕ × Holding → Bytes × ℕ

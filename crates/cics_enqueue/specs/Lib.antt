@@ -2,5 +2,5 @@ pub mod Borrowed
 pub mod FreedomLaws
 pub mod Kept
 pub mod Keys
-pub mod Resources
-pub mod ResourceLaws
+pub mod Table
+pub mod Order

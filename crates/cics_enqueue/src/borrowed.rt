@@ -1,12 +1,12 @@
 //! Resources whose bytes are borrowed.
 
 ghost use Rattle.std.specs.Prelude.{◌≡◌, ◌≤◌, length};
-ghost use Rattle.cics_enqueue.specs.Resources.{bytes_of};
-ghost use Rattle.cics_enqueue.specs.declared.resources.Resource.TheVariants.{FileKey, FilePrefix};
-ghost use Rattle.cics_enqueue.specs.declared.resources.Resource.TheVariants.{User, TsQueue};
-ghost use Rattle.cics_enqueue.specs.declared.resources.Resource.TheVariants.{TdRead, TdWrite};
+ghost use Rattle.cics_history.specs.Resources.{bytes_of};
+ghost use Rattle.cics_history.specs.declared.resources.Resource.TheVariants.{FileKey, FilePrefix};
+ghost use Rattle.cics_history.specs.declared.resources.Resource.TheVariants.{User, TsQueue};
+ghost use Rattle.cics_history.specs.declared.resources.Resource.TheVariants.{TdRead, TdWrite};
 
-use crate::resources::Resource;
+use cics_history::Resource;
 use cics_names::{Name4, Name8};
 use std::marker::Model;
 
@@ -29,7 +29,7 @@ pub struct ResourceRef<'a> {
 }
 
 impl<'a> Model for ResourceRef<'a> {
-    ghost use Rattle.cics_enqueue.specs.declared.resources.Resource.{Resource};
+    ghost use Rattle.cics_history.specs.declared.resources.Resource.{Resource};
     ghost use Rattle.cics_enqueue.specs.Borrowed.{named, IsShort};
 
     ghost Value = { Resource };

@@ -4,7 +4,7 @@ ghost use Rattle.std.specs.Prelude.{◌≡◌, ◌≤◌, ◌+◌, ◌∷◌, �
 ghost use Rattle.std.specs.Option.{option_copied};
 ghost use Rattle.std.specs.Map.{lookup};
 ghost use Rattle.cics_enqueue.specs.Kept.{finds};
-ghost use Rattle.cics_enqueue.specs.Resources.{resource_key};
+ghost use Rattle.cics_enqueue.specs.Table.{resource_key};
 
 use crate::borrowed::{Kind, ResourceRef};
 use crate::enqueues::Holding;

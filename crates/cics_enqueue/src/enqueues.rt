@@ -1,7 +1,7 @@
 //! The enqueue table.
 
-ghost use Rattle.cics_enqueue.specs.declared.resources.Resource.TheVariants.{FileKey, FilePrefix};
-ghost use Rattle.cics_enqueue.specs.declared.resources.Resource.TheVariants.{User};
+ghost use Rattle.cics_history.specs.declared.resources.Resource.TheVariants.{FileKey, FilePrefix};
+ghost use Rattle.cics_history.specs.declared.resources.Resource.TheVariants.{User};
 ghost use Rattle.std.specs.Prelude.{◌≡◌, ◌≤◌, IfNone, IfSome, length, [], ◌+◌};
 ghost use Rattle.std.specs.Prelude.{if◌then◌else◌, IsTrue, true, false, ◌↔◌, OnOk, OnErr, IfErr};
 ghost use Rattle.std.specs.Prelude.{IfOk, List, T, None, Some, ℕ, is_some, not, option_map};
@@ -11,18 +11,19 @@ ghost use Rattle.std.specs.Map.{lookup};
 ghost use Rattle.std.specs.Option.{unwrap_or};
 ghost use Rattle.std.specs.BTreeMap.{btree_map_len, insert_entry};
 ghost use Rattle.std.specs.Global.{Vec};
-ghost use Rattle.cics_enqueue.specs.Resources.{bytes_of, holder_of, holder_over, held_with_prefix};
-ghost use Rattle.cics_enqueue.specs.Resources.{count_of, IsFreeFor, IsFreeBut, HoldsLeast, is_full};
-ghost use Rattle.cics_enqueue.specs.Resources.{taken, given_back, released, other_than};
-ghost use Rattle.cics_enqueue.specs.Resources.{held_at, is_user, is_in_order, resource_key};
-ghost use Rattle.cics_enqueue.specs.ResourceLaws.{resource_of};
+ghost use Rattle.cics_history.specs.Resources.{bytes_of, is_user};
+ghost use Rattle.cics_enqueue.specs.Table.{holder_of, holder_over, held_with_prefix};
+ghost use Rattle.cics_enqueue.specs.Table.{count_of, IsFreeFor, IsFreeBut, HoldsLeast, is_full};
+ghost use Rattle.cics_enqueue.specs.Table.{taken, given_back, released, other_than};
+ghost use Rattle.cics_enqueue.specs.Table.{held_at, is_in_order, resource_key};
+ghost use Rattle.cics_enqueue.specs.Order.{resource_of};
 
 use crate::borrowed::{Kind, ResourceRef};
 use crate::compact::{compact, held, set_resource, set_value};
 use crate::keys::Key;
 use crate::overlaps::{has_prefixes, key_holder, least_holder, other_unit, shorter_holder};
 use crate::owned::{self, Owned};
-use crate::resources::{Resource, UnitId};
+use cics_history::{Resource, UnitId};
 use cics_names::{Name8, NoMemory};
 use indexmap::IndexMap;
 use std::alloc::{AllocError, Global};
@@ -84,7 +85,7 @@ pub struct Enqueues {
 }
 
 impl Model for Enqueues {
-    ghost use Rattle.cics_enqueue.specs.Resources.{Table};
+    ghost use Rattle.cics_enqueue.specs.Table.{Table};
 
     ghost Value = { Table };
 
@@ -243,11 +244,11 @@ impl Enqueues {
         count
     }
 
-    /// The unit, another than `but_not`, that holds the least of what overlaps a resource, or None
-    /// where no other unit holds any of it: then `but_not` may take the resource.
+    /// The unit, another than `but_not`, that holds the least of what conflicts with a resource, or
+    /// None where no other unit holds any of it: then `but_not` may take the resource.
     ///
-    /// A key of a file is overlapped by itself and by each prefix of it that is held, a prefix by
-    /// what begins with it, too. The least is that in byte order, a held prefix by its own bytes.
+    /// A key of a file conflicts with itself and with each held prefix of it, and a prefix with all
+    /// that begins with it, too. The least is that in byte order, a held prefix by its own bytes.
     /// Where no other unit that is open has taken anything it costs no look-up. While any prefix is
     /// held it costs one for each byte of the key or prefix, and for a prefix what
     /// `held_with_prefix` costs.
@@ -277,8 +278,8 @@ impl Enqueues {
     }
 
     /// The unit, another than `but_not`, that holds the least key of a file or prefix of keys that
-    /// overlaps a prefix of at most 255 bytes, or None where no other unit holds one: one that
-    /// begins with the prefix, or with which the prefix begins.
+    /// conflicts with a prefix of at most 255 bytes, or None where no other unit holds one. It
+    /// begins with the prefix, or the prefix with it.
     ///
     /// The least is that in byte order, a held prefix by its own bytes. It costs the logarithm of
     /// what is held, for each byte of the prefix where any prefix is held, and what `but_not`
@@ -309,8 +310,8 @@ impl Enqueues {
         least
     }
 
-    // The unit, another than the asker, that holds the least of what overlaps a key: a shorter
-    // prefix, the key, or the prefix that has its bytes.
+    // The unit, another than the asker, that holds the least of what conflicts with a key: a
+    // shorter prefix, the key, or the prefix that has its bytes.
     fn holder_of_key(&self, file: Name8, key: &[u8], asker: &Option<UnitId>) -> Option<UnitId>
         requires most { length key.now ≤ 255 }
         ensures { result ≡ holder_over (FileKey file (bytes_of key.now)) asker.now self.now }
@@ -321,10 +322,10 @@ impl Enqueues {
         holder
     }
 
-    /// Takes a resource for a unit that may take it: no other unit holds anything that overlaps it.
-    /// A user's value is taken once more where the unit holds it already; any other resource stays
-    /// at count 1. Full where the unit holds the value 65,535 times, and NoMemory where memory is
-    /// refused: then nothing has changed.
+    /// Takes a resource for a unit that may take it: no other unit holds anything that conflicts
+    /// with it. A user's value is taken once more where the unit holds it already; any other
+    /// resource stays at count 1. Full where the unit holds the value 65,535 times, and NoMemory
+    /// where memory is refused: then nothing has changed.
     pub fn take(&mut self, resource: Resource, unit: UnitId) -> Result<(), TakeFault>
         requires free { IsFreeFor self.old resource unit }
         ensures taken { OnOk result (self.new ≡ taken self.old resource unit) }

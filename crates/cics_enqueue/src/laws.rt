@@ -3,11 +3,11 @@
 //! Its contract is the law, and its body is empty: nothing is computed here.
 
 ghost use Rattle.std.specs.Prelude.{ℕ, []};
-ghost use Rattle.cics_enqueue.specs.declared.resources.Resource.{Resource};
-ghost use Rattle.cics_enqueue.specs.Resources.{Table, IsLawful, IsFreeFor};
-ghost use Rattle.cics_enqueue.specs.Resources.{taken, given_back, released};
+ghost use Rattle.cics_history.specs.declared.resources.Resource.{Resource};
+ghost use Rattle.cics_enqueue.specs.Table.{Table, IsLawful, IsFreeFor};
+ghost use Rattle.cics_enqueue.specs.Table.{taken, given_back, released};
 
-/// Every table is lawful: its resources rise, what overlaps has one holder, and what is held is
+/// Every table is lawful: its resources rise, what conflicts has one holder, and what is held is
 /// held once, or more often where it is a user's value. So two units never hold a key and a prefix
 /// of it, or two prefixes of which the one begins with the other.
 ///

@@ -1,6 +1,6 @@
 //! Enqueues: which unit of work holds which resource, and how many times.
 //!
-//! A resource has one holder at most, and so have those that overlap: a key of a file and a prefix
+//! A resource has one holder at most, and so have those that conflict: a key of a file and a prefix
 //! of it. What a unit holds can be freed without a look at what the others hold.
 #![tactic(auto)]
 
@@ -11,8 +11,7 @@ mod keys;
 pub mod laws;
 mod overlaps;
 mod owned;
-mod resources;
 
 pub use borrowed::ResourceRef;
+pub use cics_history::{Resource, UnitId};
 pub use enqueues::{Enqueues, TakeFault};
-pub use resources::{Resource, UnitId};

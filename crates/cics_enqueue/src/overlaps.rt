@@ -1,4 +1,4 @@
-//! Look-ups of what overlaps a resource and is another unit's.
+//! Look-ups of what conflicts with a resource and is another unit's.
 
 ghost use Rattle.std.specs.Prelude.{◌≡◌, ◌≤◌, ◌∷◌, ◌++◌, [], length, drop, None, true};
 ghost use Rattle.std.specs.Prelude.{if◌then◌else◌, option_map};
@@ -8,12 +8,14 @@ ghost use Rattle.cics_enqueue.specs.Kept.{finds, first_shorter, first_shown, lea
 ghost use Rattle.cics_enqueue.specs.Kept.{others_unit};
 ghost use Rattle.std.specs.Map.{lookup};
 ghost use Rattle.std.specs.Option.{option_copied};
-ghost use Rattle.cics_enqueue.specs.Resources.{is_other, begins_with, first_of};
+ghost use Rattle.cics_ksds.specs.Prefixes.{has_prefix};
+ghost use Rattle.cics_history.specs.Holding.{is_other};
+ghost use Rattle.cics_enqueue.specs.Table.{first_of};
 
 use crate::compact::{KEY, PREFIX, file_bytes, held_under};
 use crate::enqueues::Holding;
 use crate::keys::Key;
-use crate::resources::UnitId;
+use cics_history::UnitId;
 use cics_names::Name8;
 use std::collections::BTreeMap;
 
@@ -60,7 +62,7 @@ pub(crate) fn other_holder(
 // room for them, it would be no bytes, and the look-up would go through the whole table.
 fn set_bound(bound: &mut Key, start: &[u8])
     requires most { length start.now ≤ 265 }
-    ensures { begins_with bound.new.items start.now ≡ true }
+    ensures { has_prefix bound.new.items start.now ≡ true }
 {
     let _ = bound.set(&[], start);
 }
@@ -178,8 +180,8 @@ pub(crate) fn least_holder(
     Some(lesser_holder(key.0, key.1, prefix.0, prefix.1))
 }
 
-// The unit, another than the asker, that holds the first of what overlaps a key: a shorter prefix,
-// the key, or the prefix that has its bytes.
+// The unit, another than the asker, that holds the first of what conflicts with a key: a shorter
+// prefix, the key, or the prefix that has its bytes.
 pub(crate) fn key_holder(
     table: &BTreeMap<Key, Holding>,
     bound: &mut Key,

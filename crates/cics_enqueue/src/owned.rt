@@ -7,11 +7,11 @@ ghost use Rattle.std.specs.List.{list_any};
 ghost use Rattle.std.specs.Bool.{OnTrue};
 ghost use Rattle.cics_names.specs.Keyed.{is_same};
 ghost use Rattle.cics_enqueue.specs.Kept.{finds, owns, own_count, OwnsSame, Adds, Drops};
-ghost use Rattle.cics_enqueue.specs.Resources.{is_other};
+ghost use Rattle.cics_history.specs.Holding.{is_other};
 
 use crate::keys::Key;
 use crate::overlaps::is_another;
-use crate::resources::UnitId;
+use cics_history::UnitId;
 use cics_names::NoMemory;
 use indexmap::IndexMap;
 use std::alloc::Global;

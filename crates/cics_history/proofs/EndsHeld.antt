@@ -5,10 +5,10 @@ use Rattle.std.specs.List.{list_any}
 use Rattle.std.proofs.lemmas.Bool.{true≢false, false≢true, and_parts, and_from, or_cases}
 use Rattle.cics_names.specs.Keyed.{Bytes, is_same}
 use Rattle.cics_names.specs.RisingLaws.{is_same-turned}
-use Rattle.cics_enqueue.specs.Resources.{bytes_of, is_one}
-use Rattle.cics_enqueue.specs.ResourceLaws.{same_test}
-use Rattle.cics_enqueue.specs.declared.resources.Resource.{Resource}
-use Rattle.cics_enqueue.specs.declared.resources.Resource.TheVariants.{FileKey, TsQueue, TdRead as ReadingEnd, TdWrite as WritingEnd, User, FilePrefix}
+use Rattle.cics_history.specs.Resources.{bytes_of, is_one}
+use Rattle.cics_history.specs.ResourceLaws.{same_test}
+use Rattle.cics_history.specs.declared.resources.Resource.{Resource}
+use Rattle.cics_history.specs.declared.resources.Resource.TheVariants.{FileKey, TsQueue, TdRead as ReadingEnd, TdWrite as WritingEnd, User, FilePrefix}
 use Rattle.cics_history.specs.State.{OpeningState, queue_logical, UnitsState}
 use Rattle.cics_history.specs.Store.{is_normal, is_recoverable}
 use Rattle.cics_history.specs.Headline.{outcome_of, is_open}

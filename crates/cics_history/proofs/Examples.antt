@@ -5,8 +5,8 @@ use Rattle.cics_names.specs.Keyed.{Bytes}
 use Rattle.cics_names.specs.declared.conditions.Condition.{Condition}
 use Rattle.cics_names.specs.declared.conditions.Condition.TheVariants.{Normal, Notfnd, Duprec, Qzero}
 use Rattle.std.specs.List.{list_any}
-use Rattle.cics_enqueue.specs.Resources.{bytes_of, is_one}
-use Rattle.cics_enqueue.specs.declared.resources.Resource.TheVariants.{FileKey, FilePrefix, TdRead as ReadingEnd, TdWrite as WritingEnd, User}
+use Rattle.cics_history.specs.Resources.{bytes_of, is_one}
+use Rattle.cics_history.specs.declared.resources.Resource.TheVariants.{FileKey, FilePrefix, TdRead as ReadingEnd, TdWrite as WritingEnd, User}
 use Rattle.cics_ksds.specs.declared.definition.FileDef.{FileDef}
 use Rattle.cics_transdata.specs.declared.queues.Recovery.TheVariants.{Logical}
 use Rattle.cics_history.specs.State.{OpeningState, UnitsState, beginning}

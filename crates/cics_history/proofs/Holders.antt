@@ -6,12 +6,11 @@ use Rattle.std.proofs.lemmas.Bool.{true≢false, false≢true, cases_Bool, eq-eq
 use Rattle.std.proofs.lemmas.List.Folds.{list_any-append}
 use Rattle.cics_names.specs.Keyed.{Bytes, is_same, is_below}
 use Rattle.cics_names.specs.KeyedLaws.{is_same-eq}
-use Rattle.cics_enqueue.specs.Resources.{bytes_of, overlaps, is_prefix}
-use Rattle.cics_enqueue.specs.FreedomLaws.{overlaps-turned}
-use Rattle.cics_enqueue.proofs.Seeking.{starts_with-begins}
+use Rattle.cics_history.specs.Resources.{bytes_of, is_prefix}
+use Rattle.cics_history.specs.ResourceLaws.{conflicts-turned}
 use Rattle.cics_ksds.specs.Prefixes.{has_prefix}
-use Rattle.cics_enqueue.specs.declared.resources.Resource.{Resource}
-use Rattle.cics_enqueue.specs.declared.resources.Resource.TheVariants.{FileKey, TsQueue, TdRead as ReadingEnd, TdWrite as WritingEnd, User, FilePrefix}
+use Rattle.cics_history.specs.declared.resources.Resource.{Resource}
+use Rattle.cics_history.specs.declared.resources.Resource.TheVariants.{FileKey, TsQueue, TdRead as ReadingEnd, TdWrite as WritingEnd, User, FilePrefix}
 use Rattle.cics_history.specs.State.{OpeningState, UnitsState, UpdateRead, EnqCount}
 use Rattle.cics_history.specs.Store.{is_normal, is_recoverable}
 use Rattle.cics_history.specs.Headline.{outcome_of, is_open}
@@ -70,17 +69,6 @@ any_if p true xs h = (refl, h)
 any_if p false xs h = absurd (false≢true h)
 
 -- ---- Resources that conflict
-
--- what conflicts is what overlaps in the table of enqueues
-pub conflicts-overlaps : (r s : Resource) → conflicts r s ≡ overlaps r s
-conflicts-overlaps (FileKey f k) (FilePrefix g p) = ap (λ b. is_same f g && b) (starts_with-begins p.items k.items)
-conflicts-overlaps (FilePrefix f p) (FileKey g k) = ap (λ b. is_same f g && b) (starts_with-begins p.items k.items)
-conflicts-overlaps (FilePrefix f p) (FilePrefix g q) =
-    λ i. is_same f g && (starts_with-begins p.items q.items i || starts_with-begins q.items p.items i)
-conflicts-overlaps _ _ = refl
-
-pub conflicts-turned : (r s : Resource) → conflicts r s ≡ true → conflicts s r ≡ true
-conflicts-turned r s h = conflicts-overlaps s r ∙ overlaps-turned r s (sym (conflicts-overlaps r s) ∙ h)
 
 meet-turned : (rs ts : List Resource) → meet rs ts ≡ true → meet ts rs ≡ true
 meet-turned rs ts h =

@@ -4,8 +4,8 @@ use Rattle.std.specs.Prelude.{if◌then◌else◌, is_some, unwrap_or, drop}
 use Rattle.std.proofs.lemmas.Bool.{true≢false, false≢true, cases_Bool, cond_both, eqb-true, and_parts, ltb-true}
 use Rattle.cics_names.specs.Keyed.{Bytes}
 use Rattle.cics_names.specs.KeyedLaws.{is_same-self}
-use Rattle.cics_enqueue.specs.declared.resources.Resource.TheVariants.{TdRead as ReadingEnd, TdWrite as WritingEnd}
-use Rattle.cics_enqueue.specs.declared.resources.Resource.{Resource}
+use Rattle.cics_history.specs.declared.resources.Resource.TheVariants.{TdRead as ReadingEnd, TdWrite as WritingEnd}
+use Rattle.cics_history.specs.declared.resources.Resource.{Resource}
 use Rattle.cics_history.specs.declared.ops.Op.TheVariants.{TdRead}
 use Rattle.cics_history.specs.State.{OpeningState, queue_logical, Store, initial_store, UnitsState, beginning}
 use Rattle.cics_history.specs.Openings.{IsOpeningInOrder}

@@ -9,9 +9,9 @@ use Rattle.std.specs.Cmp.{tied_itself}
 use Rattle.std.specs.Cmp.Lexicographic.{nat_list_cmp_total}
 use Rattle.std.proofs.lemmas.Bool.{true≢false, false≢true, cases_Bool, eq-eqb, and_parts, and_from, or_from, or_left, or_right, false_from_ne_true}
 use Rattle.cics_names.specs.Keyed.{Bytes, bytes_cmp, is_below}
-use Rattle.cics_enqueue.specs.Resources.{is_one}
-use Rattle.cics_enqueue.specs.ResourceLaws.{is_one-self, is_one-eq}
-use Rattle.cics_enqueue.specs.declared.resources.Resource.{Resource}
+use Rattle.cics_history.specs.Resources.{is_one}
+use Rattle.cics_history.specs.ResourceLaws.{is_one-self, is_one-eq}
+use Rattle.cics_history.specs.declared.resources.Resource.{Resource}
 use Rattle.cics_history.specs.State.{UnitsState}
 use Rattle.cics_history.specs.Holding.{held_by, owned, smallest_conflict, blocker_at, conflicts, bytes_in, Owned, is_other, smaller}
 use Rattle.cics_history.specs.Holders.{IsLeastHeld}

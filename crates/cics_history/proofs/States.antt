@@ -24,8 +24,8 @@ use Rattle.cics_history.proofs.Isolated.{Extends-refl}
 use Rattle.cics_history.proofs.Steps.{executes, ends}
 use Rattle.cics_history.proofs.SameHistory.{enqueue-same, ts_reading-same}
 use Rattle.cics_history.specs.Holders.{IsHeldByOne, HaveBegun}
-use Rattle.cics_enqueue.specs.Resources.{is_prefix, most_count}
-use Rattle.cics_enqueue.specs.declared.resources.Resource.{Resource}
+use Rattle.cics_history.specs.Resources.{is_prefix, most_count}
+use Rattle.cics_history.specs.declared.resources.Resource.{Resource}
 use Rattle.cics_history.specs.declared.ops.Op.TheVariants.{ReadUpdate}
 use Rattle.cics_history.specs.declared.ops.Answer.{Answer}
 use Rattle.std.specs.List.{list_any}

@@ -6,10 +6,10 @@ use Rattle.std.proofs.lemmas.Bool.{true≢false, false≢true, cases_Bool, eqb-t
 use Rattle.std.proofs.lemmas.List.Folds.{list_any-append}
 use Rattle.cics_names.specs.Keyed.{Bytes, is_same, is_below}
 use Rattle.cics_names.specs.KeyedLaws.{is_same-self, is_same-eq}
-use Rattle.cics_enqueue.specs.ResourceLaws.{same_test}
+use Rattle.cics_history.specs.ResourceLaws.{same_test}
 use Rattle.cics_ksds.specs.Prefixes.{has_prefix}
-use Rattle.cics_enqueue.specs.declared.resources.Resource.{Resource}
-use Rattle.cics_enqueue.specs.declared.resources.Resource.TheVariants.{FileKey, TsQueue, TdRead as ReadingEnd, TdWrite as WritingEnd, FilePrefix}
+use Rattle.cics_history.specs.declared.resources.Resource.{Resource}
+use Rattle.cics_history.specs.declared.resources.Resource.TheVariants.{FileKey, TsQueue, TdRead as ReadingEnd, TdWrite as WritingEnd, FilePrefix}
 use Rattle.cics_history.specs.State.{OpeningState, queue_logical, initial_store, UnitsState}
 use Rattle.cics_history.specs.Store.{is_recoverable, is_normal}
 use Rattle.cics_history.specs.Headline.{outcome_of, is_open, is_backed_out, replay}

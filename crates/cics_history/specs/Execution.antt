@@ -6,7 +6,7 @@ use Rattle.cics_names.specs.declared.conditions.Condition.{Condition}
 use Rattle.cics_ksds.specs.Files.{key_of, fits_file}
 use Rattle.cics_ksds.specs.Prefixes.{has_prefix}
 use Rattle.cics_tempstor.specs.Queues.{item_condition, has_item, number_if}
-use Rattle.cics_enqueue.specs.Resources.{most_count}
+use Rattle.cics_history.specs.Resources.{most_count}
 use Rattle.cics_history.specs.State.{FileOpening, Store, UnitsState, UpdateRead, EnqCount}
 use Rattle.cics_history.specs.Openings.{is_record_size}
 use Rattle.cics_history.specs.Store.{apply, ts_queue, is_normal}

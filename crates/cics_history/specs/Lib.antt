@@ -1,7 +1,9 @@
 pub mod State
 pub mod Openings
 pub mod Store
+pub mod Resources
 pub mod Holding
+pub mod ResourceLaws
 pub mod Execution
 pub mod Headline
 pub mod Cells

@@ -7,5 +7,7 @@
 
 pub mod laws;
 mod ops;
+mod resources;
 
 pub use ops::{Answer, Done, Enqueued, Entry, Op, UnitState};
+pub use resources::{Resource, UnitId};

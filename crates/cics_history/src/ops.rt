@@ -5,7 +5,7 @@
 ghost use Rattle.std.specs.Prelude.{◌≡◌, IfOk, IfSome, is_some};
 ghost use Rattle.cics_history.specs.Records.{is_file_op, file_of, key_of};
 
-use cics_enqueue::UnitId;
+use crate::resources::UnitId;
 use cics_names::{Condition, Name4, Name8, NoMemory, Record};
 
 /// An updating command. A key is the one that lies in the record, a record or an item its bytes.

@@ -13,7 +13,7 @@ ghost use Rattle.cics_run.specs.UnitLines.{lines_at};
 
 use crate::listing::{recoverable_title, recovery_title};
 use crate::unit_lines::{gathered, push_command, push_label};
-use cics_enqueue::UnitId;
+use cics_history::UnitId;
 use cics_ksds::FileDef;
 use cics_names::{Items, Name4, Name8, NoMemory, Record, Verb};
 use cics_script::{push_name, push_number, push_str, push_text};

@@ -6,7 +6,7 @@ ghost use Rattle.cics_run.specs.Serial.{unit_label, unit_command_line, verb_for,
 ghost use Rattle.cics_run.specs.Serial.{done_lines, unlock_line};
 ghost use Rattle.cics_run.specs.UnitLines.{lines_at, lines_added};
 
-use cics_enqueue::UnitId;
+use cics_history::UnitId;
 use cics_names::{Command, Condition, NoMemory, Verb};
 use cics_script::{push_number, push_str, write_out};
 use cics_units::{Entry, Op, Opening};

@@ -5,7 +5,7 @@ use Rattle.std.proofs.lemmas.Bool.{false≢true, cases_Bool}
 use Rattle.cics_names.specs.Keyed.{value_at, Map}
 use Rattle.cics_images.specs.Cells.{is_other, is_unnamed}
 use Rattle.cics_images.specs.StoreCells.{file_cell}
-use Rattle.cics_enqueue.specs.Resources.{Table}
+use Rattle.cics_enqueue.specs.Table.{Table}
 use Rattle.cics_transdata.specs.Trans.{TransState, IsMarked, is_logical}
 use Rattle.cics_history.specs.State.{queue_logical, Store, UnitsState}
 use Rattle.cics_history.specs.Store.{apply, is_recoverable, apply_write, apply_rewrite, apply_delete, apply_delete_generic, counted_answer}

@@ -3,8 +3,8 @@ use Rattle.std.proofs.Common.{◌≡◌, ℕ, true, false, ◌&&◌, not, Option
 use Rattle.std.specs.Prelude.{if◌then◌else◌, is_none, slice_get}
 use Rattle.cics_names.specs.Keyed.{Bytes, value_at}
 use Rattle.cics_images.specs.Cells.{Kept}
-use Rattle.cics_enqueue.specs.Resources.{Table, holder_over}
-use Rattle.cics_enqueue.specs.declared.resources.Resource.TheVariants.{TdRead as ReadingEnd, TdWrite as WritingEnd}
+use Rattle.cics_enqueue.specs.Table.{Table, holder_over}
+use Rattle.cics_history.specs.declared.resources.Resource.TheVariants.{TdRead as ReadingEnd, TdWrite as WritingEnd}
 use Rattle.cics_transdata.specs.Trans.{TransState, first_of}
 use Rattle.cics_history.specs.State.{queue_logical, UnitsState}
 use Rattle.cics_history.specs.Store.{is_recoverable}

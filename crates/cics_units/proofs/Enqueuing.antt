@@ -5,12 +5,13 @@ use Rattle.std.specs.Ordering.{is_eq}
 use Rattle.std.proofs.lemmas.Bool.{cases_Bool, eq-eqb, and_from, and_right}
 use Rattle.cics_names.specs.Keyed.{Bytes, is_same}
 use Rattle.cics_names.specs.RisingLaws.{is_same-turned}
-use Rattle.cics_enqueue.specs.ResourceLaws.{free_own}
+use Rattle.cics_enqueue.specs.Order.{free_own}
 use Rattle.cics_tempstor.specs.Queues.{places_of}
-use Rattle.cics_enqueue.specs.Resources.{Table, Held, resource_cmp, most_count, held_at, holder_over, count_in, count_of, is_full, IsFreeFor, taken, given_back}
+use Rattle.cics_history.specs.Resources.{most_count}
+use Rattle.cics_enqueue.specs.Table.{Table, Held, resource_cmp, held_at, holder_over, count_in, count_of, is_full, IsFreeFor, taken, given_back}
 use Rattle.cics_enqueue.proofs.TableLaws.{unit_in}
-use Rattle.cics_enqueue.specs.declared.resources.Resource.{Resource}
-use Rattle.cics_enqueue.specs.declared.resources.Resource.TheVariants.{User}
+use Rattle.cics_history.specs.declared.resources.Resource.{Resource}
+use Rattle.cics_history.specs.declared.resources.Resource.TheVariants.{User}
 use Rattle.cics_history.specs.State.{OpeningState, UnitsState, EnqCount}
 use Rattle.cics_history.specs.Headline.{outcome_of, is_open}
 use Rattle.cics_history.specs.Holding.{value_holder}

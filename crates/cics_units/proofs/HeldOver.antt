@@ -11,19 +11,19 @@ use Rattle.std.proofs.lemmas.Bool.{true≢false, false≢true, eq-eqb, eqb-true,
 use Rattle.cics_names.specs.Keyed.{Bytes, bytes_cmp, is_below, is_same}
 use Rattle.cics_names.specs.KeyedLaws.{is_same-eq, is_same-self}
 use Rattle.cics_ksds.specs.Prefixes.{has_prefix}
-use Rattle.cics_enqueue.specs.Resources.{Table, HoldsLeast, IsFreeFor, is_one, is_other as other_in_table, holder_of, holder_over, other_than, place_of}
-use Rattle.cics_enqueue.specs.ResourceLaws.{is_one-self, is_one-eq, begins_with-self}
+use Rattle.cics_history.specs.Resources.{is_one}
+use Rattle.cics_enqueue.specs.Table.{Table, HoldsLeast, IsFreeFor, holder_of, holder_over, other_than, place_of}
+use Rattle.cics_history.specs.ResourceLaws.{is_one-self, is_one-eq, has_prefix-self}
 use Rattle.cics_enqueue.specs.FreedomLaws.{free_where_none, free_for}
-use Rattle.cics_enqueue.specs.declared.resources.Resource.{Resource}
-use Rattle.cics_enqueue.specs.declared.resources.Resource.TheVariants.{FileKey, TsQueue, TdRead as ReadingEnd, TdWrite as WritingEnd, User, FilePrefix}
-use Rattle.cics_enqueue.proofs.Seeking.{starts_with-begins}
+use Rattle.cics_history.specs.declared.resources.Resource.{Resource}
+use Rattle.cics_history.specs.declared.resources.Resource.TheVariants.{FileKey, TsQueue, TdRead as ReadingEnd, TdWrite as WritingEnd, User, FilePrefix}
 use Rattle.cics_enqueue.proofs.Least.{holder_over-least}
 use Rattle.cics_history.specs.State.{UnitsState}
 use Rattle.cics_history.specs.Holding.{held_by, conflicts, bytes_in, is_other, owned, smallest_conflict, blocker_at}
 use Rattle.cics_history.specs.Holders.{IsLeastHeld}
 use Rattle.cics_history.specs.Isolation.{IsSound}
 use Rattle.cics_history.specs.Execution.{unit_or_next, IsOpenUnit}
-use Rattle.cics_history.proofs.Holders.{conflicts-overlaps, none_found, conflicts-joined, holder_begun, held_cases}
+use Rattle.cics_history.proofs.Holders.{none_found, conflicts-joined, holder_begun, held_cases}
 use Rattle.cics_history.proofs.LeastHeld.{least_held, holder_some}
 use Rattle.cics_history.proofs.Waiting.{any_more}
 use Rattle.cics_units.specs.TableInPlace.{is_holder, value_of, IsTableOf}
@@ -54,12 +54,7 @@ same_behind f g h k l a b low high =
 
 -- the same bytes under a prefix
 begins_as : (k l : Bytes) → k ≡ l → has_prefix k l ≡ true
-begins_as k l same = subst (λ x. has_prefix k x ≡ true) same (starts_with-begins k k ∙ begins_with-self k)
-
--- whether a unit is another than the asker, as the table has it
-other_same : (asking : Option ℕ) (v : ℕ) → is_other asking v ≡ other_in_table asking v
-other_same None v = refl
-other_same (Some u) v = refl
+begins_as k l same = subst (λ x. has_prefix k x ≡ true) same (has_prefix-self k)
 
 -- two that conflict with a resource, neither of which is smaller in the table or in the history, conflict
 pub conflict_there : (r a b : Resource) → conflicts r a ≡ true → conflicts r b ≡ true → is_below (place_of a) (place_of b) ≡ false → is_below (bytes_in b) (bytes_in a) ≡ false → conflicts a b ≡ true
@@ -126,10 +121,10 @@ module _ (s : UnitsState) (t : Table) (i : IsSound s) (k : IsTableOf s t) where
       q = holds.0
 
       in_conflict : conflicts r q ≡ true
-      in_conflict = conflicts-overlaps r q ∙ holds.1.0
+      in_conflict = holds.1.0
 
       another : is_other asking v ≡ true
-      another = other_same asking v ∙ holds.1.2
+      another = holds.1.2
 
       -- it is the unit of the least entry
       same : (e : Resource × ℕ) → IsLeastHeld s asking r e → e.1 ≡ v
@@ -141,7 +136,7 @@ module _ (s : UnitsState) (t : Table) (i : IsSound s) (k : IsTableOf s t) where
         where
           meets : conflicts e.0 q ≡ true
           meets = conflict_there r e.0 q least.meets in_conflict
-              (holds.2 e.0 e.1 (sym (conflicts-overlaps r e.0) ∙ least.meets, held_there e.0 e.1 least.holds, sym (other_same asking e.1) ∙ least.other))
+              (holds.2 e.0 e.1 (least.meets, held_there e.0 e.1 least.holds, least.other))
               (least.least q v in_conflict another (there_held q v holds.1.1))
 
       by : (o : Option (Resource × ℕ)) → smallest_conflict (owned s) asking r ≡ o → blocker_at (owned s) asking r ≡ Some v
@@ -157,7 +152,7 @@ module _ (s : UnitsState) (t : Table) (i : IsSound s) (k : IsTableOf s t) where
       elim (holder_over r asking t) as (λ h. holder_over r asking t ≡ h → blocker_at (owned s) asking r ≡ h) [
         | None ↦ λ none. none_found s asking r (λ n other. false_from_ne_true _ (λ any.
             any_one (conflicts r) (held_by s n) any (λ q meets stands.
-            true≢false (sym other ∙ other_same asking n ∙ free_where_none t r asking none q n (sym (conflicts-overlaps r q) ∙ meets) (held_there q n stands)))))
+            true≢false (sym other ∙ free_where_none t r asking none q n meets (held_there q n stands)))))
         | Some v ↦ λ found. least_found asking r v (holder_over-least t asking k.in_order r v found)
       ] refl
 

@@ -8,9 +8,9 @@ use Rattle.std.proofs.lemmas.List.Elements.{All-cons, All-head, All-tail, All-fi
 use Rattle.cics_names.specs.Keyed.{Bytes, is_same}
 use Rattle.cics_names.specs.KeyedLaws.{is_same-self, is_same-eq}
 use Rattle.cics_names.specs.RisingLaws.{is_same-turned}
-use Rattle.cics_enqueue.specs.Resources.{is_one}
-use Rattle.cics_enqueue.specs.ResourceLaws.{is_one-eq}
-use Rattle.cics_enqueue.specs.declared.resources.Resource.{Resource}
+use Rattle.cics_history.specs.Resources.{is_one}
+use Rattle.cics_history.specs.ResourceLaws.{is_one-eq}
+use Rattle.cics_history.specs.declared.resources.Resource.{Resource}
 use Rattle.cics_history.specs.State.{OpeningState, file_recoverable, UpdateRead}
 use Rattle.cics_history.specs.Store.{is_recoverable}
 use Rattle.cics_history.specs.Holding.{uses_of, held_by_read}

@@ -7,10 +7,10 @@ use Rattle.std.proofs.lemmas.Bool.{true≢false, false≢true, and_parts, and_ri
 use Rattle.std.proofs.lemmas.List.Folds.{list_any-append}
 use Rattle.cics_names.specs.Keyed.{Bytes, is_same}
 use Rattle.cics_names.specs.KeyedLaws.{is_same-eq}
-use Rattle.cics_enqueue.specs.Resources.{bytes_of, is_one}
-use Rattle.cics_enqueue.specs.ResourceLaws.{is_one-eq}
-use Rattle.cics_enqueue.specs.declared.resources.Resource.{Resource}
-use Rattle.cics_enqueue.specs.declared.resources.Resource.TheVariants.{TsQueue, TdRead as ReadingEnd, TdWrite as WritingEnd, User}
+use Rattle.cics_history.specs.Resources.{bytes_of, is_one}
+use Rattle.cics_history.specs.ResourceLaws.{is_one-eq}
+use Rattle.cics_history.specs.declared.resources.Resource.{Resource}
+use Rattle.cics_history.specs.declared.resources.Resource.TheVariants.{TsQueue, TdRead as ReadingEnd, TdWrite as WritingEnd, User}
 use Rattle.cics_history.specs.State.{OpeningState, file_recoverable, queue_logical, has_prefix_in, UnitsState, UpdateRead, EnqCount}
 use Rattle.cics_history.specs.Store.{is_normal, is_recoverable}
 use Rattle.cics_history.specs.Headline.{outcome_of, is_open}

@@ -8,7 +8,7 @@ use Rattle.cics_names.specs.KeyedLaws.{is_same-eq}
 use Rattle.cics_images.specs.Cells.{AreReadyInTurn, LeadBack, images_of, is_unnamed, all_swept}
 use Rattle.cics_images.specs.NamedValues.{split, of_value, of_split}
 use Rattle.cics_ksds.specs.Files.{FileValue, key_of as file_key_of, fits_file}
-use Rattle.cics_enqueue.specs.Resources.{Table, released}
+use Rattle.cics_enqueue.specs.Table.{Table, released}
 use Rattle.cics_tempstor.specs.Queues.{places_of}
 use Rattle.cics_tempstor.specs.Places.{AreInOrder}
 use Rattle.cics_transdata.specs.Trans.{TransState, is_logical, queue_of}

@@ -14,7 +14,7 @@ use Rattle.cics_images.specs.NamedValues.{cell_of as value_cell, of_value}
 use Rattle.cics_images.specs.NamedLaws.{of_cell}
 use Rattle.cics_images.specs.StoreCells.{file_cell, temp_cell}
 use Rattle.cics_images.specs.declared.stores.StoreImage.TheVariants.{File, TempStorage, TransData}
-use Rattle.cics_enqueue.specs.Resources.{Table}
+use Rattle.cics_enqueue.specs.Table.{Table}
 use Rattle.cics_ksds.specs.Files.{FileValue}
 use Rattle.cics_tempstor.specs.Queues.{is_there, empty_row}
 use Rattle.cics_tempstor.specs.declared.queue_rows.Row.{Row}

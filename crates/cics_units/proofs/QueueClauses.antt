@@ -5,7 +5,7 @@ use Rattle.std.specs.Prelude.{IfSome, IfNone}
 use Rattle.std.proofs.lemmas.Bool.{false≢true}
 use Rattle.cics_names.specs.Keyed.{Bytes}
 use Rattle.cics_images.specs.Cells.{is_other}
-use Rattle.cics_enqueue.specs.Resources.{Table, holder_of}
+use Rattle.cics_enqueue.specs.Table.{Table, holder_of}
 use Rattle.cics_transdata.specs.declared.images.TdImage.{TdImage}
 use Rattle.cics_transdata.specs.Trans.{TransState, unread, trans_written, trans_read, trans_deleted}
 use Rattle.cics_transdata.specs.Undo.{reading_end, writing_end, KeepsEnds, IsTransImage, written_image, read_image, deleted_image}

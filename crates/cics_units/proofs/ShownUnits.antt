@@ -6,7 +6,7 @@ use Rattle.cics_names.specs.Keyed.{is_same, Bytes, Map}
 use Rattle.std.specs.List.{list_any}
 use Rattle.std.proofs.lemmas.Bool.{cases_Bool, and_parts, or_left, or_right, false≢true, and_from, lt-ltb}
 use Rattle.cics_tempstor.specs.Queues.{places_of}
-use Rattle.cics_enqueue.specs.Resources.{Table, released}
+use Rattle.cics_enqueue.specs.Table.{Table, released}
 use Rattle.cics_history.specs.State.{OpeningState, UnitsState, UpdateRead, UnitsValue, beginning}
 use Rattle.cics_history.specs.Store.{apply, is_normal, is_recoverable}
 use Rattle.cics_history.specs.Holding.{store_of, awaited}

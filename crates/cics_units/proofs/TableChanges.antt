@@ -8,11 +8,13 @@ use Rattle.std.specs.FinMap.Entries.{by_order}
 use Rattle.std.proofs.Math.Bool.{or-false, and-true, and-false}
 use Rattle.std.proofs.lemmas.Bool.{true≢false, eq-eqb, eqb-true, or_parts}
 use Rattle.cics_names.specs.Keyed.{Bytes}
-use Rattle.cics_enqueue.specs.Resources.{Table, Held, is_one, resource_cmp, held_at, holder_of, count_of, is_user, is_in_order, IsFreeFor, with_holder, freed, taken, given_back, given_back_of, raised_count, released}
-use Rattle.cics_enqueue.specs.ResourceLaws.{free_own, is_one-eq, same_resources}
+use Rattle.cics_history.specs.Resources.{is_one, is_user}
+use Rattle.cics_enqueue.specs.Table.{Table, Held, resource_cmp, held_at, holder_of, count_of, is_in_order, IsFreeFor, with_holder, freed, taken, given_back, given_back_of, raised_count, released}
+use Rattle.cics_history.specs.ResourceLaws.{is_one-eq}
+use Rattle.cics_enqueue.specs.Order.{free_own, same_resources}
 use Rattle.cics_enqueue.proofs.TableLaws.{holder_without, holder_of-taken, holder_of-given_back, holder_of-released, once-taken, once-given_back, once-released, is_in_order-taken, is_in_order-given_back, is_in_order-released}
-use Rattle.cics_enqueue.specs.declared.resources.Resource.{Resource}
-use Rattle.cics_enqueue.specs.declared.resources.Resource.TheVariants.{FileKey, TsQueue, TdRead as ReadingEnd, TdWrite as WritingEnd, User, FilePrefix}
+use Rattle.cics_history.specs.declared.resources.Resource.{Resource}
+use Rattle.cics_history.specs.declared.resources.Resource.TheVariants.{FileKey, TsQueue, TdRead as ReadingEnd, TdWrite as WritingEnd, User, FilePrefix}
 use Rattle.cics_history.specs.State.{UnitsState, EnqCount}
 use Rattle.cics_history.specs.Holding.{held_by}
 use Rattle.cics_units.specs.Uses.{taken_all, AreFreeFor}

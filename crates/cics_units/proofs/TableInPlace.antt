@@ -8,9 +8,10 @@ use Rattle.std.proofs.lemmas.Option.{unwrap_or-slice_get}
 use Rattle.std.proofs.lemmas.List.{get_or-set_same}
 use Rattle.std.proofs.lemmas.List.Elements.{All-nil, All-filter}
 use Rattle.cics_names.specs.Keyed.{Bytes, is_same}
-use Rattle.cics_enqueue.specs.Resources.{Table, bytes_of, is_one, is_user, given_back, released}
-use Rattle.cics_enqueue.specs.declared.resources.Resource.{Resource}
-use Rattle.cics_enqueue.specs.declared.resources.Resource.TheVariants.{User}
+use Rattle.cics_history.specs.Resources.{bytes_of, is_one, is_user}
+use Rattle.cics_enqueue.specs.Table.{Table, given_back, released}
+use Rattle.cics_history.specs.declared.resources.Resource.{Resource}
+use Rattle.cics_history.specs.declared.resources.Resource.TheVariants.{User}
 use Rattle.cics_history.specs.State.{OpeningState, file_recoverable, UnitsState, UpdateRead, EnqCount, beginning}
 use Rattle.cics_history.specs.Store.{is_normal, is_recoverable}
 use Rattle.cics_history.specs.Headline.{outcome_of, is_open}

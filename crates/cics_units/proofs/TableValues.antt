@@ -11,11 +11,13 @@ use Rattle.std.proofs.lemmas.Bool.{false≢true, eq-eqb, eqb-true, and_parts, an
 use Rattle.cics_names.specs.Keyed.{Bytes, bytes_cmp, is_same, is_below}
 use Rattle.cics_names.specs.KeyedLaws.{is_same-self}
 use Rattle.cics_names.specs.RisingLaws.{is_same-turned}
-use Rattle.cics_enqueue.specs.Resources.{Table, Held, is_one, is_user, is_in_order, resource_cmp, most_count, held_at, holder_of, count_in, IsFreeFor, with_holder, freed, taken, given_back, given_back_of, raised_count}
-use Rattle.cics_enqueue.specs.ResourceLaws.{free_own, is_one-eq, is_one-cmp, is_one-self, same_resources, resource_cmp_total}
+use Rattle.cics_history.specs.Resources.{is_one, is_user, most_count}
+use Rattle.cics_enqueue.specs.Table.{Table, Held, is_in_order, resource_cmp, held_at, holder_of, count_in, IsFreeFor, with_holder, freed, taken, given_back, given_back_of, raised_count}
+use Rattle.cics_history.specs.ResourceLaws.{is_one-eq, is_one-self}
+use Rattle.cics_enqueue.specs.Order.{free_own, is_one-cmp, same_resources, resource_cmp_total}
 use Rattle.cics_enqueue.proofs.TableLaws.{left_of, right_of, unit_in, held_less, held_below, held_before, freed-absent, held_at-with_holder, held_at-given_back, holder_of-taken, is_in_order-taken, is_in_order-given_back}
-use Rattle.cics_enqueue.specs.declared.resources.Resource.{Resource}
-use Rattle.cics_enqueue.specs.declared.resources.Resource.TheVariants.{FileKey, TsQueue, TdRead as ReadingEnd, TdWrite as WritingEnd, User, FilePrefix}
+use Rattle.cics_history.specs.declared.resources.Resource.{Resource}
+use Rattle.cics_history.specs.declared.resources.Resource.TheVariants.{FileKey, TsQueue, TdRead as ReadingEnd, TdWrite as WritingEnd, User, FilePrefix}
 use Rattle.cics_history.specs.State.{OpeningState, UnitsState, UpdateRead, EnqCount}
 use Rattle.cics_history.specs.Headline.{outcome_of, is_open}
 use Rattle.cics_history.specs.Holding.{value_holder}

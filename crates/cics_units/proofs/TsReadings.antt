@@ -5,7 +5,7 @@ use Rattle.std.specs.Option.{option_and_then}
 use Rattle.cics_names.specs.Keyed.{Bytes, Map, value_at, with_value, is_rising}
 use Rattle.cics_names.specs.RisingLaws.{same_maps}
 use Rattle.cics_images.specs.StoreCells.{with_temp_storage}
-use Rattle.cics_enqueue.specs.Resources.{Table}
+use Rattle.cics_enqueue.specs.Table.{Table}
 use Rattle.cics_tempstor.specs.declared.answers.TsRead.{TsRead}
 use Rattle.cics_tempstor.specs.declared.queue_rows.Row.{Row}
 use Rattle.cics_tempstor.specs.Queues.{is_there, has_item, queue_at, queues_of, empty_row, places_of, row_answer, read_item, after_read_item}

@@ -6,9 +6,9 @@ use Rattle.std.proofs.lemmas.Bool.{true≢false, and_right, or_from}
 use Rattle.std.proofs.lemmas.List.Folds.{list_any-append}
 use Rattle.arrayvec.specs.ArrayVec.{ArrayVec}
 use Rattle.cics_names.specs.Keyed.{Bytes}
-use Rattle.cics_enqueue.specs.Resources.{bytes_of, is_one, is_user}
-use Rattle.cics_enqueue.specs.declared.resources.Resource.{Resource}
-use Rattle.cics_enqueue.specs.declared.resources.Resource.TheVariants.{TsQueue, TdRead as ReadingEnd, TdWrite as WritingEnd, User, FilePrefix}
+use Rattle.cics_history.specs.Resources.{bytes_of, is_one, is_user}
+use Rattle.cics_history.specs.declared.resources.Resource.{Resource}
+use Rattle.cics_history.specs.declared.resources.Resource.TheVariants.{TsQueue, TdRead as ReadingEnd, TdWrite as WritingEnd, User, FilePrefix}
 use Rattle.cics_history.specs.State.{OpeningState, file_recoverable, queue_logical, has_prefix_in, UpdateRead, EnqCount}
 use Rattle.cics_history.specs.Store.{is_normal, is_recoverable}
 use Rattle.cics_history.specs.Holding.{uses_of}

@@ -2,9 +2,10 @@
 use Rattle.std.proofs.Common.{◌≡◌, ℕ, Bool, true, false, ◌&&◌, Option, Some, None, List, [], ◌∷◌, refl, sym, ◌∙◌}
 use Rattle.std.specs.Prelude.{if◌then◌else◌}
 use Rattle.std.specs.List.{list_any}
-use Rattle.cics_enqueue.specs.Resources.{Table, is_user, holder_over}
-use Rattle.cics_enqueue.specs.declared.resources.Resource.{Resource}
-use Rattle.cics_enqueue.specs.declared.resources.Resource.TheVariants.{TdWrite as WritingEnd}
+use Rattle.cics_history.specs.Resources.{is_user}
+use Rattle.cics_enqueue.specs.Table.{Table, holder_over}
+use Rattle.cics_history.specs.declared.resources.Resource.{Resource}
+use Rattle.cics_history.specs.declared.resources.Resource.TheVariants.{TdWrite as WritingEnd}
 use Rattle.cics_history.specs.State.{OpeningState, queue_logical, UnitsState}
 use Rattle.cics_history.specs.Store.{is_recoverable}
 use Rattle.cics_history.specs.Holding.{owned, blocker_at, first_some, committed_for, is_nothing, blocker_among, uses_of, awaited, writer_awaited}

@@ -1,8 +1,8 @@
 -- Recovery and task control: whom a command must wait for, as the table of enqueues and the queues themselves tell.
 use Rattle.std.specs.Prelude.{◌≡◌, ℕ, Bool, false, ◌&&◌, if◌then◌else◌, Option, Some, None, is_none}
 use Rattle.cics_names.specs.Keyed.{Bytes, Map, value_at}
-use Rattle.cics_enqueue.specs.Resources.{Table, holder_of, holder_over}
-use Rattle.cics_enqueue.specs.declared.resources.Resource.TheVariants.{TdWrite as WritingEnd}
+use Rattle.cics_enqueue.specs.Table.{Table, holder_of, holder_over}
+use Rattle.cics_history.specs.declared.resources.Resource.TheVariants.{TdWrite as WritingEnd}
 use Rattle.cics_transdata.specs.Trans.{TransState, is_logical, first_of}
 use Rattle.cics_history.specs.Holding.{first_some}
 use Rattle.cics_history.specs.declared.ops.Op.{Op}

@@ -1,7 +1,7 @@
 -- Recovery: what holds between the state of the units and all that they have changed where it stands.
 use Rattle.std.specs.Prelude.{◌≡◌, ℕ, ◌≤◌, option_map, length, List, []}
 use Rattle.cics_names.specs.Keyed.{Bytes, value_at}
-use Rattle.cics_enqueue.specs.Resources.{Table}
+use Rattle.cics_enqueue.specs.Table.{Table}
 use Rattle.cics_tempstor.specs.Queues.{places_of}
 use Rattle.cics_tempstor.specs.Places.{AreInOrder}
 use Rattle.cics_history.specs.State.{OpeningState, UnitsState}

@@ -7,7 +7,7 @@ use Rattle.cics_images.specs.NamedValues.{split}
 use Rattle.cics_images.specs.StoreCells.{by_part}
 use Rattle.cics_images.specs.declared.stores.StoreImage.TheVariants.{File}
 use Rattle.cics_ksds.specs.Files.{FileValue, fits_file}
-use Rattle.cics_enqueue.specs.Resources.{Table, taken}
+use Rattle.cics_enqueue.specs.Table.{Table, taken}
 use Rattle.cics_transdata.specs.Trans.{TransState, first_of}
 use Rattle.cics_ksds.specs.Undo.{ImageValue}
 use Rattle.cics_ksds.specs.Prefixes.{has_prefix, under}

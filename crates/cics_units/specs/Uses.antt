@@ -1,8 +1,9 @@
 -- Task control and recovery: what a command uses of files and queues, how a unit takes it, and which unit is in the way.
 use Rattle.std.specs.Prelude.{ℕ, Bool, if◌then◌else◌, Option, None, List, [], ◌∷◌, ◌++◌}
-use Rattle.cics_enqueue.specs.Resources.{Table, IsFreeFor, bytes_of, holder_over, taken, given_back}
-use Rattle.cics_enqueue.specs.declared.resources.Resource.{Resource}
-use Rattle.cics_enqueue.specs.declared.resources.Resource.TheVariants.{FileKey, FilePrefix, TsQueue, TdRead as ReadingEnd, TdWrite as WritingEnd}
+use Rattle.cics_history.specs.Resources.{bytes_of}
+use Rattle.cics_enqueue.specs.Table.{Table, IsFreeFor, holder_over, taken, given_back}
+use Rattle.cics_history.specs.declared.resources.Resource.{Resource}
+use Rattle.cics_history.specs.declared.resources.Resource.TheVariants.{FileKey, FilePrefix, TsQueue, TdRead as ReadingEnd, TdWrite as WritingEnd}
 use Rattle.cics_history.specs.Holding.{named_if, first_some}
 use Rattle.cics_history.specs.declared.ops.Op.{Op}
 use Rattle.cics_history.specs.declared.ops.Op.TheVariants.{Write, Rewrite, Delete, DeleteGeneric, ReadUpdate, TsWrite, TsRewrite, TsDelete, TdWrite, TdRead, TdDelete}

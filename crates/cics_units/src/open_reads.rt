@@ -8,7 +8,7 @@ ghost use Rattle.std.specs.Option.{option_copied};
 ghost use Rattle.cics_history.specs.Execution.{is_read_of, read_at, with_read};
 ghost use Rattle.cics_units.specs.OpenReads.{is_read_key, is_read_under};
 
-use cics_enqueue::UnitId;
+use cics_history::UnitId;
 use cics_names::{Name8, NoMemory, Record};
 use std::alloc::Global;
 use std::marker::Model;

@@ -28,8 +28,8 @@ ghost use Rattle.cics_history.specs.declared.ops.UnitState.TheVariants.{Committe
 use crate::listings::Listing;
 use crate::opening::Opening;
 use crate::units_core::{Store, UnitsCore, reserve_images, settle_ends};
-use cics_enqueue::{ResourceRef, TakeFault, UnitId};
-use cics_history::{Answer, Done, Enqueued, Entry, Op, UnitState};
+use cics_enqueue::{ResourceRef, TakeFault};
+use cics_history::{Answer, Done, Enqueued, Entry, Op, UnitId, UnitState};
 use cics_images::{Images, Stores};
 use cics_ksds::File;
 use cics_names::{Name4, Name8, NoMemory};

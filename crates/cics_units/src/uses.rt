@@ -2,13 +2,13 @@
 
 ghost use Rattle.std.specs.Prelude.{◌≡◌, ◌≤◌, false, length, IfOk, OnOk, OnErr};
 ghost use Rattle.std.specs.List.{list_any};
-ghost use Rattle.cics_enqueue.specs.Resources.{is_user};
+ghost use Rattle.cics_history.specs.Resources.{is_user};
 ghost use Rattle.cics_history.specs.Records.{key_of};
 ghost use Rattle.cics_units.specs.Uses.{uses_if, listed, taken_all, AreFreeFor, holder_over_all};
 ghost use Rattle.cics_units.specs.Uses.{given_back_if, let_go};
 
-use cics_enqueue::{Enqueues, ResourceRef, UnitId};
-use cics_history::Op;
+use cics_enqueue::{Enqueues, ResourceRef};
+use cics_history::{Op, UnitId};
 use cics_names::{Name8, NoMemory};
 
 /// What a command uses: two resources at most, the reading end of a queue before its writing end.

@@ -1,7 +1,7 @@
 //! Calls of the table of enqueues.
 
 ghost use Rattle.std.specs.Prelude.{◌≡◌, true};
-ghost use Rattle.cics_enqueue.specs.Resources.{IsFreeFor};
+ghost use Rattle.cics_enqueue.specs.Table.{IsFreeFor};
 
 use crate::lines::Call;
 use crate::tries::Lower;

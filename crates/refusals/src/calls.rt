@@ -7,7 +7,7 @@ use crate::runs::Target;
 use crate::scripts::Step;
 use crate::states::push_units;
 use cics_dispatch::{Number, Outcome, Reply};
-use cics_enqueue::UnitId;
+use cics_history::UnitId;
 use cics_names::{Condition, Name8, NoMemory, Record, Verb};
 use cics_script::Line;
 use cics_units::{Answer, Done, Enqueued, Listing, Op, Opening, Units, plain_replay};

@@ -7,7 +7,7 @@ ghost use Rattle.cics_history.specs.Execution.{has_read, is_fit_for, is_item, is
 ghost use Rattle.cics_history.specs.Execution.{is_short_key, IsOpenUnit, IsOpenOrNone};
 ghost use Rattle.cics_units.specs.OpenReads.{is_read_key};
 
-use cics_enqueue::UnitId;
+use cics_history::UnitId;
 use cics_names::{Name4, Name8, NoMemory, Record};
 use cics_units::{Done, Enqueued, Op, Submitted, UnitState, Units};
 

@@ -7,7 +7,7 @@ ghost use Rattle.cics_dispatch.specs.Blockers.{awaited_at, blocker_of, label_at,
 ghost use Rattle.cics_dispatch.specs.Blockers.{waiting_command};
 
 use crate::dispatcher::Dispatcher;
-use cics_enqueue::UnitId;
+use cics_history::UnitId;
 use cics_names::{Command, Name8};
 
 impl Dispatcher {

@@ -18,7 +18,7 @@ use crate::outcomes::Outcome;
 use crate::reads::{plain_reply, read_plain};
 use crate::replies::reply_of_browsed;
 use cics_browse::Browse;
-use cics_enqueue::UnitId;
+use cics_history::UnitId;
 use cics_names::{Condition, Name8, NoMemory, Record};
 use cics_units::Units;
 

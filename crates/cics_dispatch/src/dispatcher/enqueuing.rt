@@ -13,7 +13,7 @@ ghost use Rattle.cics_dispatch.specs.Calls.{IsAttempt, going_on};
 use crate::dispatcher::Dispatcher;
 use crate::outcomes::{Attempt, Outcome};
 use crate::reads::plain_reply;
-use cics_enqueue::UnitId;
+use cics_history::UnitId;
 use cics_names::{Command, Condition, NoMemory, Verb};
 use cics_units::{Enqueued, Units};
 

@@ -26,7 +26,7 @@ use crate::dispatcher::Dispatcher;
 use crate::notes::{Free, Late, Look, Note, Notes};
 use crate::outcomes::{Attempt, Expired, Outcome, Woken};
 use crate::waits::{Suspended, Waits};
-use cics_enqueue::{Resource, UnitId};
+use cics_history::{Resource, UnitId};
 use cics_names::{AbendCode, Name4, Name8, NoMemory, Verb};
 use cics_units::Op;
 use std::mem;

@@ -5,8 +5,8 @@ use Rattle.std.specs.Map.{lookup}
 use Rattle.std.proofs.lemmas.Bool.{not-true, not-false, lt-ltb, le-ltb, eqb-true}
 use Rattle.cics_enqueue.specs.declared.enqueues.Holding.{Holding}
 use Rattle.cics_enqueue.specs.Kept.{table_of, finds}
-use Rattle.cics_enqueue.specs.Resources.{with_holder}
-use Rattle.cics_enqueue.specs.ResourceLaws.{resource_of}
+use Rattle.cics_enqueue.specs.Table.{with_holder}
+use Rattle.cics_enqueue.specs.Order.{resource_of}
 use Rattle.cics_enqueue.proofs.Tables.{table_of-written, table_of-removed, given_back-free, given_back-foreign, given_back-once, given_back-last, IsKept-written, IsKept-removed}
 use Rattle.cics_enqueue.proofs.enqueues.lessen.Goals as goal
 

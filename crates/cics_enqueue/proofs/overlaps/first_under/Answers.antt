@@ -7,8 +7,9 @@ use Rattle.cics_names.specs.Keyed.{bytes_cmp}
 use Rattle.cics_enqueue.specs.declared.enqueues.Holding.{Holding}
 use Rattle.cics_enqueue.specs.Kept.{Entries, first_entry, first_shown, is_others_under, bytes_and_unit}
 use Rattle.std.specs.Prelude.{length}
-use Rattle.cics_enqueue.specs.Resources.{begins_with, is_other}
-use Rattle.cics_enqueue.proofs.Seeking.{Rises, rises_sorted, Rises-filter, first_entry-filter, first_entry-here, first_entry-past, first_entry-passed, starts_with-begins, before_bound, never}
+use Rattle.cics_ksds.specs.Prefixes.{has_prefix}
+use Rattle.cics_history.specs.Holding.{is_other}
+use Rattle.cics_enqueue.proofs.Seeking.{Rises, rises_sorted, Rises-filter, first_entry-filter, first_entry-here, first_entry-past, first_entry-passed, before_bound, never}
 use Rattle.cics_enqueue.proofs.overlaps.first_under.Goals as goal
 
 pub loop-key-init : goal.loop-key-init
@@ -28,8 +29,8 @@ returns-then-is_another c =
     let start = c.args.start.now in
     let e : Vec ℕ × Holding = (c.in-Some.key.now, c.in-Some.holding.now) in
     let test = is_others_under start c.args.asker.now in
-    let begins : begins_with start c.as_slice-key.result.now ≡ true = sym (starts_with-begins start c.as_slice-key.result.now) ∙ sym c.starts_with.ensures.value ∙ c.if-starts_with.true in
-    let passes : test e ≡ true = (λ i. begins_with start (sym c.as_slice-key.ensures i) && is_other c.args.asker.now e.1.unit) ∙ (λ i. begins i && (sym c.is_another-is_another.ensures ∙ c.if-is_another.true) i) in
+    let begins : has_prefix start c.as_slice-key.result.now ≡ true = sym c.starts_with.ensures.value ∙ c.if-starts_with.true in
+    let passes : test e ≡ true = (λ i. has_prefix start (sym c.as_slice-key.ensures i) && is_other c.args.asker.now e.1.unit) ∙ (λ i. begins i && (sym c.is_another-is_another.ensures ∙ c.if-is_another.true) i) in
     ap (λ b. Some (b, e.1.unit)) c.as_slice-key.ensures
     ∙ sym (ap (option_map bytes_and_unit) (sym c.loop-key.invariant.rest ∙ ap (first_entry test) c.in-Some.ensures.steps ∙ first_entry-here test e c.next.new.self passes))
 
@@ -38,7 +39,7 @@ loop-key-preserved-else-is_another c =
     let start = c.args.start.now in
     let e : Vec ℕ × Holding = (c.in-Some.key.now, c.in-Some.holding.now) in
     let test = is_others_under start c.args.asker.now in
-    let fails : test e ≡ false = ap (λ b. begins_with start e.0.items && b) (sym c.is_another-is_another.ensures ∙ c.if-is_another.false) ∙ never (begins_with start e.0.items) in
+    let fails : test e ≡ false = ap (λ b. has_prefix start e.0.items && b) (sym c.is_another-is_another.ensures ∙ c.if-is_another.false) ∙ never (has_prefix start e.0.items) in
     record {
       can = tt;
       finite = tt;
@@ -51,7 +52,7 @@ returns-then-lt c =
     let start = c.args.start.now in
     let e : Vec ℕ × Holding = (c.in-Some.key.now, c.in-Some.holding.now) in
     let test = is_others_under start c.args.asker.now in
-    let begins : begins_with start e.0.items ≡ false = ap (begins_with start) (sym c.as_slice-key.ensures) ∙ sym (starts_with-begins start c.as_slice-key.result.now) ∙ sym c.starts_with.ensures.value ∙ c.if-starts_with.false in
+    let begins : has_prefix start e.0.items ≡ false = ap (has_prefix start) (sym c.as_slice-key.ensures) ∙ sym c.starts_with.ensures.value ∙ c.if-starts_with.false in
     let fails : test e ≡ false = ap (λ b. b && is_other c.args.asker.now e.1.unit) begins in
     let above : is_lt (bytes_cmp start e.0.items) ≡ true = ap (λ b. is_lt (bytes_cmp start b)) (sym c.as_slice-key.ensures) ∙ sym (ap (is_some_and is_lt) (lists_agrees (λ x y. refl) start c.as_slice-key.result.now)) ∙ sym c.lt.ensures ∙ c.if-lt.true in
     sym (ap (option_map bytes_and_unit) (sym c.loop-key.invariant.rest ∙ ap (first_entry test) c.in-Some.ensures.steps ∙ first_entry-past test e c.next.new.self fails
@@ -62,7 +63,7 @@ loop-key-preserved c =
     let start = c.args.start.now in
     let e : Vec ℕ × Holding = (c.in-Some.key.now, c.in-Some.holding.now) in
     let test = is_others_under start c.args.asker.now in
-    let begins : begins_with start e.0.items ≡ false = ap (begins_with start) (sym c.as_slice-key.ensures) ∙ sym (starts_with-begins start c.as_slice-key.result.now) ∙ sym c.starts_with.ensures.value ∙ c.if-starts_with.false in
+    let begins : has_prefix start e.0.items ≡ false = ap (has_prefix start) (sym c.as_slice-key.ensures) ∙ sym c.starts_with.ensures.value ∙ c.if-starts_with.false in
     let fails : test e ≡ false = ap (λ b. b && is_other c.args.asker.now e.1.unit) begins in
     record {
       can = tt;

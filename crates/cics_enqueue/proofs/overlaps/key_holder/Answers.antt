@@ -1,7 +1,7 @@
 use Rattle.std.proofs.Common.{◌≡◌, ◌∙◌, ◌∷◌, ◌++◌, [], length, sym, ap, Some, None, Option, ℕ, refl}
 use Rattle.std.specs.Map.{lookup}
 use Rattle.cics_enqueue.specs.Kept.{finds, others_unit}
-use Rattle.cics_enqueue.specs.Resources.{first_of}
+use Rattle.cics_enqueue.specs.Table.{first_of}
 use Rattle.cics_enqueue.proofs.Seeking.{first_cover-none}
 use Rattle.cics_enqueue.proofs.overlaps.key_holder.Goals as goal
 

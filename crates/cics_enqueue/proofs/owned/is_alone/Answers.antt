@@ -3,7 +3,7 @@ use Rattle.std.specs.Prelude.{slice_get}
 use Rattle.std.specs.Option.{option_map}
 use Rattle.std.specs.Global.{Vec}
 use Rattle.cics_enqueue.specs.Kept.{owns}
-use Rattle.cics_enqueue.specs.Resources.{is_other}
+use Rattle.cics_history.specs.Holding.{is_other}
 use Rattle.cics_enqueue.proofs.Owning.{on_not_by, owns_alone}
 use Rattle.cics_enqueue.proofs.owned.is_alone.Goals as goal
 

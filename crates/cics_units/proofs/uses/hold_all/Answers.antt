@@ -1,5 +1,5 @@
 use Rattle.std.proofs.Common.{sym, subst, [], ◌∷◌}
-use Rattle.cics_enqueue.specs.Resources.{IsFreeFor}
+use Rattle.cics_enqueue.specs.Table.{IsFreeFor}
 use Rattle.cics_units.specs.Uses.{listed, AreFreeFor}
 use Rattle.cics_units.proofs.TableChanges.{free-taken}
 use Rattle.cics_units.proofs.uses.hold_all.Goals as goal

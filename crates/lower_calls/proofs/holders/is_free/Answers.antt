@@ -1,7 +1,7 @@
 use Rattle.std.proofs.Common.{Option, None, ℕ, Some, subst}
 use Rattle.std.specs.Prelude.{IfNone}
-use Rattle.cics_enqueue.specs.Resources.{IsFreeBut, IsFreeFor}
-use Rattle.cics_enqueue.specs.declared.resources.Resource.{Resource}
+use Rattle.cics_enqueue.specs.Table.{IsFreeBut, IsFreeFor}
+use Rattle.cics_history.specs.declared.resources.Resource.{Resource}
 use Rattle.cics_enqueue.specs.FreedomLaws.{own_of}
 use Rattle.lower_calls.proofs.holders.is_free.Goals as goal
 

@@ -2,8 +2,8 @@ use Rattle.std.proofs.Common.{◌≡◌, ◌≤◌, ◌∙◌, sym, ap, subst, S
 use Rattle.std.specs.Prelude.{take}
 use Rattle.std.proofs.lemmas.List.{length-take-le}
 use Rattle.cics_names.specs.declared.commands.Verb.TheVariants.{Enq}
-use Rattle.cics_enqueue.specs.Resources.{bytes_of}
-use Rattle.cics_enqueue.specs.declared.resources.Resource.TheVariants.{User}
+use Rattle.cics_history.specs.Resources.{bytes_of}
+use Rattle.cics_history.specs.declared.resources.Resource.TheVariants.{User}
 use Rattle.cics_dispatch.specs.Regions.{region_of}
 use Rattle.cics_dispatch.specs.Waits.{wait_of, AreApart}
 use Rattle.cics_dispatch.specs.Notes.{IsOnlyNeed}

@@ -2,7 +2,7 @@ use Rattle.std.proofs.Common.{◌∙◌, sym, ap, refl}
 use Rattle.std.specs.Map.{lookup}
 use Rattle.std.specs.Option.{option_copied, option_map}
 use Rattle.cics_enqueue.specs.Kept.{seen, finds}
-use Rattle.cics_enqueue.specs.Resources.{count_in, resource_key}
+use Rattle.cics_enqueue.specs.Table.{count_in, resource_key}
 use Rattle.cics_enqueue.proofs.Tables.{count_of-table_of}
 use Rattle.cics_enqueue.proofs.enqueues.Enqueues.count.Goals as goal
 use Rattle.cics_enqueue.proofs.enqueues.Enqueues.count.Goals.{in-Some, in-None}

@@ -1,8 +1,9 @@
 use Rattle.std.proofs.Common.{◌≡◌, ◌∙◌, [], ◌∷◌, ◌++◌, length, sym, refl, None}
 use Rattle.cics_enqueue.specs.Kept.{table_of}
-use Rattle.cics_enqueue.specs.Resources.{bytes_of, held_with_prefix, holder_of_shorter}
+use Rattle.cics_history.specs.Resources.{bytes_of}
+use Rattle.cics_enqueue.specs.Table.{held_with_prefix, holder_of_shorter}
 use Rattle.cics_enqueue.specs.FreedomLaws.{free_if_none}
-use Rattle.cics_enqueue.specs.declared.resources.Resource.TheVariants.{FilePrefix}
+use Rattle.cics_history.specs.declared.resources.Resource.TheVariants.{FilePrefix}
 use Rattle.cics_enqueue.proofs.Least.{least_if_some}
 use Rattle.cics_enqueue.proofs.Tables.{in_order}
 use Rattle.cics_enqueue.proofs.Owning.{none_from}

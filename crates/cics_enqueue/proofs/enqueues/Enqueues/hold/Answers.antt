@@ -1,6 +1,7 @@
 use Rattle.std.proofs.Common.{◌≡◌, ◌∙◌, sym, ap, subst}
 use Rattle.std.specs.Prelude.{is_some, not, if◌then◌else◌, IfOk, OnOk}
-use Rattle.cics_enqueue.specs.Resources.{IsFreeFor, holder_of, is_user, taken, given_back}
+use Rattle.cics_history.specs.Resources.{is_user}
+use Rattle.cics_enqueue.specs.Table.{IsFreeFor, holder_of, taken, given_back}
 use Rattle.cics_enqueue.proofs.Tables.{own_key, read_back}
 use Rattle.cics_enqueue.proofs.enqueues.Enqueues.hold.Goals as goal
 

@@ -1,5 +1,5 @@
 use Rattle.std.proofs.Common.{sym, ◌∙◌}
-use Rattle.cics_enqueue.specs.ResourceLaws.{resource_of}
+use Rattle.cics_enqueue.specs.Order.{resource_of}
 use Rattle.cics_enqueue.proofs.TableLaws.{held_own, taken-held}
 use Rattle.cics_enqueue.proofs.Tables.{in_order, is_held-table_of, hold_taken, hold_undone}
 use Rattle.cics_enqueue.proofs.enqueues.Enqueues.hold_key.Goals as goal

@@ -1,6 +1,6 @@
 use Rattle.std.proofs.Common.{◌∙◌, sym, ap, refl}
 use Rattle.std.specs.Option.{option_copied, option_map}
-use Rattle.cics_enqueue.specs.Resources.{resource_key}
+use Rattle.cics_enqueue.specs.Table.{resource_key}
 use Rattle.cics_enqueue.proofs.Tables.{holder_of-table_of}
 use Rattle.cics_enqueue.proofs.enqueues.Enqueues.holder_of.Goals as goal
 use Rattle.cics_enqueue.proofs.enqueues.Enqueues.holder_of.Goals.{in-Some, in-None}

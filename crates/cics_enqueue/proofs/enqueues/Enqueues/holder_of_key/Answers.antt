@@ -1,6 +1,7 @@
 use Rattle.std.proofs.Common.{◌∙◌, ◌∷◌, ◌++◌, [], length, refl, sym}
-use Rattle.cics_enqueue.specs.Resources.{bytes_of, first_of}
-use Rattle.cics_enqueue.specs.declared.resources.Resource.TheVariants.{FileKey, FilePrefix}
+use Rattle.cics_history.specs.Resources.{bytes_of}
+use Rattle.cics_enqueue.specs.Table.{first_of}
+use Rattle.cics_history.specs.declared.resources.Resource.TheVariants.{FileKey, FilePrefix}
 use Rattle.cics_enqueue.proofs.Seeking.{shorter-table_of, other_than-table_of}
 use Rattle.cics_enqueue.proofs.enqueues.Enqueues.holder_of_key.Goals as goal
 

@@ -2,7 +2,7 @@ use Rattle.std.proofs.Common.{◌≡◌, ◌∙◌, sym, ap}
 use Rattle.cics_enqueue.specs.Borrowed.{named}
 use Rattle.cics_enqueue.specs.Kept.{table_of}
 use Rattle.cics_enqueue.specs.FreedomLaws.{free_if_none, free_where_none}
-use Rattle.cics_enqueue.specs.Resources.{holder_of, holder_over, other_than}
+use Rattle.cics_enqueue.specs.Table.{holder_of, holder_over, other_than}
 use Rattle.cics_enqueue.proofs.Least.{least_if_some, none_alone}
 use Rattle.cics_enqueue.proofs.Tables.{in_order}
 use Rattle.cics_enqueue.proofs.Seeking.{alone-table_of, holder_over-plain}

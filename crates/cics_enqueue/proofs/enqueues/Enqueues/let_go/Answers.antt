@@ -1,5 +1,5 @@
 use Rattle.std.proofs.Common.{◌∙◌, ap}
-use Rattle.cics_enqueue.specs.Resources.{given_back}
+use Rattle.cics_enqueue.specs.Table.{given_back}
 use Rattle.cics_enqueue.proofs.Tables.{read_back}
 use Rattle.cics_enqueue.proofs.enqueues.Enqueues.let_go.Goals as goal
 use Rattle.cics_enqueue.proofs.enqueues.Enqueues.let_go.Goals.{in-Ok, in-Err}

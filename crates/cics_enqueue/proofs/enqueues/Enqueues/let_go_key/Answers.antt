@@ -1,7 +1,7 @@
 use Rattle.std.proofs.Common.{◌∙◌, ap}
 use Rattle.cics_enqueue.specs.Kept.{is_units}
-use Rattle.cics_enqueue.specs.Resources.{given_back}
-use Rattle.cics_enqueue.specs.ResourceLaws.{resource_of}
+use Rattle.cics_enqueue.specs.Table.{given_back}
+use Rattle.cics_enqueue.specs.Order.{resource_of}
 use Rattle.cics_enqueue.proofs.Tables.{AreOwned-passed}
 use Rattle.cics_enqueue.proofs.enqueues.Enqueues.let_go_key.Goals as goal
 

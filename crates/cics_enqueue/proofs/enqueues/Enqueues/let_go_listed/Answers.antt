@@ -4,8 +4,8 @@ use Rattle.std.specs.Map.{lookup}
 use Rattle.cics_names.specs.Keyed.{Bytes}
 use Rattle.cics_enqueue.specs.declared.enqueues.Holding.{Holding}
 use Rattle.cics_enqueue.specs.Kept.{Entries, Owned, IsKept, finds, is_units, owns, table_of}
-use Rattle.cics_enqueue.specs.Resources.{given_back, resource_key}
-use Rattle.cics_enqueue.specs.ResourceLaws.{resource_of}
+use Rattle.cics_enqueue.specs.Table.{given_back, resource_key}
+use Rattle.cics_enqueue.specs.Order.{resource_of}
 use Rattle.cics_enqueue.proofs.Tables.{given_back-free, given_back-foreign, key_found, unheld}
 use Rattle.cics_enqueue.proofs.enqueues.Enqueues.let_go_listed.Goals as goal
 

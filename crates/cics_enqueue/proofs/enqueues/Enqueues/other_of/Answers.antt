@@ -1,6 +1,6 @@
 use Rattle.std.proofs.Common.{◌∙◌, sym, ap, refl}
 use Rattle.cics_enqueue.specs.Kept.{others_unit}
-use Rattle.cics_enqueue.specs.Resources.{resource_key}
+use Rattle.cics_enqueue.specs.Table.{resource_key}
 use Rattle.cics_enqueue.proofs.Seeking.{other_than-table_of}
 use Rattle.cics_enqueue.proofs.enqueues.Enqueues.other_of.Goals as goal
 

@@ -1,6 +1,6 @@
 use Rattle.std.proofs.Common.{◌∙◌, sym, ap, Some}
 use Rattle.cics_enqueue.specs.Kept.{table_of}
-use Rattle.cics_enqueue.specs.Resources.{released}
+use Rattle.cics_enqueue.specs.Table.{released}
 use Rattle.cics_enqueue.proofs.Seeking.{alone-table_of}
 use Rattle.cics_enqueue.proofs.TableLaws.{released-alone}
 use Rattle.cics_enqueue.proofs.Tables.{released-let_go, released-nothing, IsKept-let_go, IsKept-emptied, IsKept-ended}

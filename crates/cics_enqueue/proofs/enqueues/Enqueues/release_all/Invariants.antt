@@ -1,6 +1,6 @@
 use Rattle.std.proofs.Common.{◌≡◌}
 use Rattle.cics_enqueue.specs.Kept.{table_of, own_count, IsKept}
-use Rattle.cics_enqueue.specs.Resources.{released}
+use Rattle.cics_enqueue.specs.Table.{released}
 use Rattle.cics_enqueue.proofs.enqueues.Enqueues.release_all.Given as goal
 
 -- entries and keys stay one table, and what the unit gives up of what is left leaves what it gives up of all leaves

@@ -1,6 +1,6 @@
 use Rattle.std.proofs.Common.{◌≡◌, ◌∙◌, sym, ap, subst}
 use Rattle.std.specs.Prelude.{OnOk}
-use Rattle.cics_enqueue.specs.Resources.{IsFreeFor, resource_key, taken}
+use Rattle.cics_enqueue.specs.Table.{IsFreeFor, resource_key, taken}
 use Rattle.cics_enqueue.proofs.Tables.{ok_holds, own_key, read_back}
 use Rattle.cics_enqueue.proofs.enqueues.Enqueues.take.Goals as goal
 use Rattle.cics_enqueue.proofs.enqueues.Enqueues.take.Goals.{Else-is_err}

@@ -4,8 +4,9 @@ use Rattle.std.specs.Map.{lookup}
 use Rattle.std.specs.Option.{option_copied_mut}
 use Rattle.std.proofs.lemmas.Result.{on_ok_weaker, on_err_weaker, MatchResult-weaker}
 use Rattle.cics_enqueue.specs.Kept.{table_of, finds}
-use Rattle.cics_enqueue.specs.Resources.{holder_of, most_count}
-use Rattle.cics_enqueue.specs.ResourceLaws.{resource_of}
+use Rattle.cics_history.specs.Resources.{most_count}
+use Rattle.cics_enqueue.specs.Table.{holder_of}
+use Rattle.cics_enqueue.specs.Order.{resource_of}
 use Rattle.cics_enqueue.proofs.Tables.{taken-raised, table_of-same, count_here, holder_here, not_full, IsKept-written}
 use Rattle.cics_enqueue.proofs.enqueues.Enqueues.take_again.Goals as goal
 

@@ -4,8 +4,8 @@ use Rattle.std.specs.Map.{lookup, remove_entry}
 use Rattle.std.specs.Global.{Vec}
 use Rattle.cics_enqueue.specs.declared.enqueues.Holding.{Holding}
 use Rattle.cics_enqueue.specs.Kept.{table_of, seen, finds, AreKeys, AreOwned, PutsNew}
-use Rattle.cics_enqueue.specs.Resources.{held_at, taken, is_in_order}
-use Rattle.cics_enqueue.specs.ResourceLaws.{resource_of}
+use Rattle.cics_enqueue.specs.Table.{held_at, taken, is_in_order}
+use Rattle.cics_enqueue.specs.Order.{resource_of}
 use Rattle.cics_enqueue.proofs.Owning.{none_from}
 use Rattle.cics_enqueue.proofs.Tables.{ok_holds, err_holds, insert_undone, held_at-table_of, free_here, taken-new, IsKept-added}
 use Rattle.cics_enqueue.proofs.enqueues.Enqueues.take_free.Goals as goal

@@ -3,8 +3,8 @@ use Rattle.std.specs.Prelude.{IfSome, is_some, option_map, if◌then◌else◌}
 use Rattle.std.proofs.lemmas.Result.{on_ok_weaker, err_from_is_err_and}
 use Rattle.cics_enqueue.specs.declared.enqueues.Holding.{Holding}
 use Rattle.cics_enqueue.specs.Kept.{seen}
-use Rattle.cics_enqueue.specs.Resources.{Table, holder_of, held_at, taken}
-use Rattle.cics_enqueue.specs.ResourceLaws.{resource_of}
+use Rattle.cics_enqueue.specs.Table.{Table, holder_of, held_at, taken}
+use Rattle.cics_enqueue.specs.Order.{resource_of}
 use Rattle.cics_enqueue.proofs.Owning.{none_from}
 use Rattle.cics_enqueue.proofs.Tables.{read_back, holder_own, free_here, not_full}
 use Rattle.cics_enqueue.proofs.enqueues.Enqueues.take_key.Goals as goal

@@ -1,7 +1,7 @@
 use Rattle.std.proofs.Common.{◌≡◌, true, arith, ◌∙◌, sym, ap, subst}
 use Rattle.std.specs.Prelude.{◌&&◌, slice_set, fold}
 use Rattle.std.proofs.lemmas.List.{length-set}
-use Rattle.cics_enqueue.specs.Resources.{released}
+use Rattle.cics_enqueue.specs.Table.{released}
 use Rattle.cics_history.specs.State.{UnitsState}
 use Rattle.cics_history.specs.Execution.{IsOpenUnit, after_end}
 use Rattle.cics_history.specs.Events.{is_live}

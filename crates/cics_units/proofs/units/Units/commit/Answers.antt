@@ -2,7 +2,7 @@ use Rattle.std.proofs.Common.{◌≡◌, ℕ, ◌<◌, true, List, [], ◌∷◌
 use Rattle.std.specs.Prelude.{◌&&◌, slice_set}
 use Rattle.std.proofs.lemmas.List.{length-set, reverse-reverse}
 use Rattle.std.specs.Vec.{vec_capacity}
-use Rattle.cics_enqueue.specs.Resources.{released}
+use Rattle.cics_enqueue.specs.Table.{released}
 use Rattle.cics_history.specs.State.{UnitsState}
 use Rattle.cics_history.specs.Execution.{IsOpenUnit, after_end}
 use Rattle.cics_history.specs.Events.{is_live}

@@ -1,5 +1,5 @@
 use Rattle.std.proofs.Common.{◌≡◌, ◌∙◌, ap}
-use Rattle.cics_enqueue.specs.Resources.{given_back}
+use Rattle.cics_enqueue.specs.Table.{given_back}
 use Rattle.cics_history.specs.Execution.{after_dequeue}
 use Rattle.cics_units.specs.Cores.{core_value}
 use Rattle.cics_units.specs.KeptUnits.{state_shown, AreValid}

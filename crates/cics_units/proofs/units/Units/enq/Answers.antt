@@ -1,6 +1,6 @@
 use Rattle.std.specs.Prelude.{IfNone, if◌then◌else◌}
 use Rattle.std.proofs.Common.{arith, ℕ, Option, List, ◌≡◌, ◌∙◌, sym, ap, subst, refl, true, false, Some, None, is_some, length}
-use Rattle.cics_enqueue.specs.Resources.{Table, holder_over, is_full, taken}
+use Rattle.cics_enqueue.specs.Table.{Table, holder_over, is_full, taken}
 use Rattle.cics_history.specs.State.{UnitsState}
 use Rattle.cics_history.specs.Execution.{IsOpenUnit, IsOpenOrNone, unit_or_next, outcomes_with, enqueue, after_enqueued, after_enqueue}
 use Rattle.cics_history.specs.Events.{may_act}

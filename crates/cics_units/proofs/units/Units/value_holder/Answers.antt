@@ -1,5 +1,5 @@
 use Rattle.std.proofs.Common.{◌∙◌, sym, ap, subst}
-use Rattle.cics_enqueue.specs.Resources.{holder_over}
+use Rattle.cics_enqueue.specs.Table.{holder_over}
 use Rattle.cics_history.specs.Execution.{IsOpenUnit}
 use Rattle.cics_history.specs.Holding.{value_holder}
 use Rattle.cics_units.specs.Cores.{core_value}

@@ -1,56 +1,15 @@
 -- Task control: enqueues. A resource is held by one unit of work at most, with a count, and so are
--- those that overlap.
-use Rattle.std.specs.Prelude.{◌≡◌, ◌≤◌, T, ℕ, ◌+◌, ◌-◌, ◌==◌, Bool, true, false, not, ◌&&◌, ◌||◌, if◌then◌else◌, Option, Some, None, option_map, nat_lt, nat_le, filter, length, drop, List, [], ◌∷◌, ◌++◌}
+-- those that conflict.
+use Rattle.std.specs.Prelude.{◌≡◌, ◌≤◌, T, ℕ, ◌+◌, ◌-◌, ◌==◌, Bool, true, false, not, ◌&&◌, if◌then◌else◌, Option, Some, None, option_map, nat_lt, nat_le, filter, length, drop, List, [], ◌∷◌, ◌++◌}
 use Rattle.std.specs.FinMap as map_by
 use Rattle.std.specs.FinMap.Entries.{where_key}
 use Rattle.std.specs.declared.cmp.Ordering.{Ordering}
-use Rattle.arrayvec.specs.ArrayVec.{ArrayVec}
-use Rattle.cics_names.specs.Keyed.{Bytes, bytes_cmp, is_same, is_below}
-use Rattle.cics_enqueue.specs.declared.resources.Resource.{Resource}
-use Rattle.cics_enqueue.specs.declared.resources.Resource.TheVariants.{FileKey, TsQueue, TdRead, TdWrite, User, FilePrefix}
-
--- bytes as a resource keeps them
-abbrev pub bytes_of : Bytes → ArrayVec ℕ
-bytes_of b = record { items = b }
-
--- whether two are one resource: of one kind, with the same names and bytes
-abbrev pub is_one : Resource → Resource → Bool
-is_one (FileKey f k) (FileKey g l) = is_same f g && is_same k.items l.items
-is_one (TsQueue q) (TsQueue r) = is_same q r
-is_one (TdRead q) (TdRead r) = is_same q r
-is_one (TdWrite q) (TdWrite r) = is_same q r
-is_one (User v) (User w) = is_same v.items w.items
-is_one (FilePrefix f p) (FilePrefix g q) = is_same f g && is_same p.items q.items
-is_one _ _ = false
-
--- whether bytes begin with a prefix
-abbrev pub begins_with : Bytes → Bytes → Bool
-begins_with [] b = true
-begins_with (x ∷ p) [] = false
-begins_with (x ∷ p) (y ∷ b) = (x == y) && begins_with p b
-
--- whether a unit that holds the one keeps others from the other: where both are one resource, where
--- one is a prefix of keys of the other's file and the other begins with it
-abbrev pub overlaps : Resource → Resource → Bool
-overlaps (FileKey f k) (FilePrefix g p) = is_same f g && begins_with p.items k.items
-overlaps (FilePrefix f p) (FileKey g k) = is_same f g && begins_with p.items k.items
-overlaps (FilePrefix f p) (FilePrefix g q) = is_same f g && (begins_with p.items q.items || begins_with q.items p.items)
-overlaps r s = is_one r s
-
--- whether it is a prefix of keys
-abbrev pub is_prefix : Resource → Bool
-is_prefix (FilePrefix f p) = true
-is_prefix _ = false
-
--- only a user's value can be held more than once
-abbrev pub is_user : Resource → Bool
-is_user (User v) = true
-is_user _ = false
-
--- whether a unit is another than the asker, who may have begun no unit yet
-abbrev pub is_other : Option ℕ → ℕ → Bool
-is_other None v = true
-is_other (Some u) v = not (v == u)
+use Rattle.cics_names.specs.Keyed.{Bytes, bytes_cmp, is_below}
+use Rattle.cics_ksds.specs.Prefixes.{has_prefix}
+use Rattle.cics_history.specs.Holding.{conflicts, is_other}
+use Rattle.cics_history.specs.Resources.{bytes_of, is_one, is_user, most_count}
+use Rattle.cics_history.specs.declared.resources.Resource.{Resource}
+use Rattle.cics_history.specs.declared.resources.Resource.TheVariants.{FileKey, TsQueue, TdRead, TdWrite, User, FilePrefix}
 
 -- a resource as bytes, by which resources are ordered: the kind, and the names and bytes; a file's
 -- name after its length
@@ -79,10 +38,6 @@ Table = List (Resource × Held)
 abbrev pub is_in_order : Table → Bool
 is_in_order t = map_by.is_sorted resource_cmp t
 
--- the most that the count of a value reaches
-abbrev pub most_count : ℕ
-most_count = 65535
-
 -- how a resource is held, if it is
 abbrev pub held_at : Resource → Table → Option Held
 held_at r t = map_by.find resource_cmp r t
@@ -100,19 +55,19 @@ count_in (Some h) = h.count
 abbrev pub count_of : Resource → Table → ℕ
 count_of r t = count_in (held_at r t)
 
--- no other unit holds what overlaps the resource
+-- no other unit holds what conflicts with the resource
 abbrev pub IsFreeFor : Table → Resource → ℕ → Type 0
-IsFreeFor t r u = (s : Resource) (v : ℕ) → overlaps r s ≡ true → holder_of s t ≡ Some v → v ≡ u
+IsFreeFor t r u = (s : Resource) (v : ℕ) → conflicts r s ≡ true → holder_of s t ≡ Some v → v ≡ u
 
--- nobody but the asker holds what overlaps the resource
+-- nobody but the asker holds what conflicts with the resource
 abbrev pub IsFreeBut : Table → Resource → Option ℕ → Type 0
-IsFreeBut t r asker = (s : Resource) (v : ℕ) → overlaps r s ≡ true → holder_of s t ≡ Some v → is_other asker v ≡ false
+IsFreeBut t r asker = (s : Resource) (v : ℕ) → conflicts r s ≡ true → holder_of s t ≡ Some v → is_other asker v ≡ false
 
--- what overlaps is one unit's
+-- what conflicts is one unit's
 abbrev pub AreApart : Table → Type 0
-AreApart t = (r s : Resource) (u v : ℕ) → overlaps r s ≡ true → holder_of r t ≡ Some u → holder_of s t ≡ Some v → u ≡ v
+AreApart t = (r s : Resource) (u v : ℕ) → conflicts r s ≡ true → holder_of r t ≡ Some u → holder_of s t ≡ Some v → u ≡ v
 
--- what is so of every table: its resources rise, what overlaps is one unit's, and what is held is
+-- what is so of every table: its resources rise, what conflicts is one unit's, and what is held is
 -- held at least once, and more often only where it is a user's value
 pub record IsLawful (t : Table) : Type 0 where
   pub in_order : T (is_in_order t)
@@ -146,9 +101,9 @@ first_that test (e ∷ es) = if test e then Some e else first_that test es
 abbrev pub place_of : Resource → Bytes
 place_of r = drop 1 (resource_key r)
 
--- a resource that overlaps another, and that a unit other than the asker holds
+-- a resource that conflicts with another, and that a unit other than the asker holds
 abbrev pub IsInTheWay : Table → Resource → Option ℕ → Resource → ℕ → Type 0
-IsInTheWay t r asker s v = (overlaps r s ≡ true) × (holder_of s t ≡ Some v) × (is_other asker v ≡ true)
+IsInTheWay t r asker s v = (conflicts r s ≡ true) × (holder_of s t ≡ Some v) × (is_other asker v ≡ true)
 
 -- a unit holds the least of what is in the asker's way, in byte order
 abbrev pub HoldsLeast : Table → Resource → Option ℕ → ℕ → Type 0
@@ -179,19 +134,19 @@ holder_of_shorter f p (x ∷ rest) asker t = first_of (other_than asker (holder_
 
 -- whether a resource is of another's kind and file, and its bytes begin with the other's
 abbrev pub is_under : Resource → Resource → Bool
-is_under r s = begins_with (resource_key r) (resource_key s)
+is_under r s = has_prefix (resource_key r) (resource_key s)
 
 -- the least key or prefix of keys, in byte order, that begins with a prefix and that another unit
 -- than the asker holds: a table has a file's keys in this order, and its prefixes
 abbrev pub least_under : Bytes → Bytes → Option ℕ → Table → Option (Resource × Held)
 least_under f p asker t = lesser (first_that (λ e. is_under (FileKey f (bytes_of p)) e.0 && is_other asker e.1.unit) t) (first_that (λ e. is_under (FilePrefix f (bytes_of p)) e.0 && is_other asker e.1.unit) t)
 
--- the unit, other than the asker, that holds the least key or prefix of keys that overlaps a prefix
--- of keys: a shorter prefix comes before all that begins with a longer one
+-- the unit, other than the asker, that holds the least key or prefix of keys that conflicts with a
+-- prefix of keys: a shorter prefix comes before all that begins with a longer one
 abbrev pub held_with_prefix : Bytes → Bytes → Option ℕ → Table → Option ℕ
 held_with_prefix f p asker t = first_of (holder_of_shorter f [] p asker t) (option_map (λ e. e.1.unit) (least_under f p asker t))
 
--- the unit, other than the asker, that holds the least of what overlaps a resource
+-- the unit, other than the asker, that holds the least of what conflicts with a resource
 abbrev pub holder_over : Resource → Option ℕ → Table → Option ℕ
 holder_over (FilePrefix f p) asker t = held_with_prefix f p.items asker t
 holder_over (FileKey f k) asker t = first_of (holder_of_shorter f [] k.items asker t) (first_of (other_than asker (holder_of (FileKey f k) t)) (other_than asker (holder_of (FilePrefix f k) t)))

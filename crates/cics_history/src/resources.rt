@@ -1,9 +1,9 @@
 //! Resources, and the units that hold them.
 
 ghost use Rattle.std.specs.Prelude.{◌≡◌, ◌≤◌, length};
-ghost use Rattle.cics_enqueue.specs.Resources.{is_user, bytes_of};
-ghost use Rattle.cics_enqueue.specs.declared.resources.Resource.TheVariants.{FileKey, FilePrefix};
-ghost use Rattle.cics_enqueue.specs.declared.resources.Resource.TheVariants.{User};
+ghost use Rattle.cics_history.specs.Resources.{is_user, bytes_of};
+ghost use Rattle.cics_history.specs.declared.resources.Resource.TheVariants.{FileKey, FilePrefix};
+ghost use Rattle.cics_history.specs.declared.resources.Resource.TheVariants.{User};
 
 use arrayvec::ArrayVec;
 use cics_names::{Name4, Name8};
