@@ -386,32 +386,6 @@ fn split_area(areas: &mut Vec<Area>, at: Position, mut right: Area) -> Position
     }
 }
 
-/// Takes an interval out, and answers it. Others stay in its area.
-fn remove_interval(areas: &mut Vec<Area>, at: Position) -> Interval
-    requires each { All IsArea areas.old.items }
-    requires there { IsThere areas.old.items at }
-    requires others { 1 < length (slice_index_or areas.old.items at.area []) }
-    ensures each { All IsArea areas.new.items }
-    ensures intervals { joined areas.new.items
-        ≡ remove (joined areas.old.items) (number_of areas.old.items at) }
-    ensures old { result ≡ interval_at areas.old.items at }
-{
-    areas[at.area].remove_interval(at.interval)
-}
-
-/// Takes an area out that has one interval, and answers that one.
-fn remove_area(areas: &mut Vec<Area>, at: Position) -> Interval
-    requires each { All IsArea areas.old.items }
-    requires there { IsThere areas.old.items at }
-    requires alone { length (slice_index_or areas.old.items at.area []) ≤ 1 }
-    ensures each { All IsArea areas.new.items }
-    ensures intervals { joined areas.new.items
-        ≡ remove (joined areas.old.items) (number_of areas.old.items at) }
-    ensures old { result ≡ interval_at areas.old.items at }
-{
-    areas.remove(at.area).remove_interval(at.interval)
-}
-
 /// Takes the interval of a place out, and its area with it where it has no other; answers the
 /// place.
 fn remove_last(areas: &mut Vec<Area>, at: Position) -> Place
@@ -423,10 +397,12 @@ fn remove_last(areas: &mut Vec<Area>, at: Position) -> Place
         ≡ remove (joined areas.old.items) (number_of areas.old.items at) }
     ensures old { result ≡ slice_index_or (interval_at areas.old.items at) at.place result }
 {
-    let mut interval = if areas[at.area].count() > 1 {
-        remove_interval(areas, at)
-    } else {
-        remove_area(areas, at)
-    };
-    interval.remove(at.place)
+    let area = &mut areas[at.area];
+    let mut interval = area.remove_interval(at.interval);
+    let old = interval.remove(at.place);
+    if area.count() > 0 {
+        return old;
+    }
+    drop(areas.remove(at.area));
+    old
 }
