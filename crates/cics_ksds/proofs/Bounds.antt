@@ -109,11 +109,6 @@ last_step n [] lt = absurd (omega arith)
 last_step zero (p ∷ ps) lt = sym (later_none (record_in p))
 last_step (suc n) (p ∷ ps) lt = ap (λ o. later o (record_in p)) (last_step n ps (omega arith)) ∙ later_assoc (record_in (get_or ps n (Empty []))) (last_record (take n ps)) (record_in p)
 
-pub last_back : (left before : ℕ) (places : List Place) (p : Place) → left ≡ suc before → before < length places → p ≡ get_or places before p → last_record (take left places) ≡ later (record_in p) (last_record (take before places))
-last_back left before places p more in_range read =
-    ap (λ n. last_record (take n places)) more ∙ last_step before places in_range
-    ∙ ap (λ x. later (record_in x) (last_record (take before places))) (sym (read ∙ get_or_default places before p (Empty []) in_range))
-
 -- ---- the records are the listed ones
 pub listed_records : (d : FileDef) (places : List Place) → listed places ≡ records_of (filled_slots (slots d places))
 listed_records d [] = refl
@@ -124,6 +119,19 @@ pub records_listed : (d : FileDef) (places : List Place) → filled_slots (slots
 records_listed d [] = refl
 records_listed d (Filled r ∷ ps) = ap (λ es. keyed d r ∷ es) (records_listed d ps)
 records_listed d (Empty k ∷ ps) = records_listed d ps
+
+-- the first record is the first listed one
+abbrev first_listed : List Bytes → Option Bytes
+first_listed [] = None
+first_listed (r ∷ rs) = Some r
+
+is_first : (places : List Place) → first_record places ≡ first_listed (listed places)
+is_first [] = refl
+is_first (Filled r ∷ ps) = refl
+is_first (Empty k ∷ ps) = is_first ps
+
+pub same_first : (places others : List Place) → listed places ≡ listed others → first_record places ≡ first_record others
+same_first places others same = is_first places ∙ ap first_listed same ∙ sym (is_first others)
 
 -- an empty place is no record
 pub listed_behind : (p : Place) (places : List Place) → record_in p ≡ None → listed (p ∷ places) ≡ listed places
@@ -143,11 +151,6 @@ pub whole : (n : ℕ) (places : List Place) → take (length places - n) (drop n
 whole n places = take_all (length places - n) (drop n places) (omega (arith, length-drop n places))
 
 -- ---- places behind others
-pub first_record-append : (xs ys : List Place) → first_record (xs ++ ys) ≡ later (first_record xs) (first_record ys)
-first_record-append [] ys = refl
-first_record-append (Filled r ∷ xs) ys = refl
-first_record-append (Empty k ∷ xs) ys = first_record-append xs ys
-
 pub last_record-append : (xs ys : List Place) → last_record (xs ++ ys) ≡ later (last_record ys) (last_record xs)
 last_record-append [] ys = sym (later_none (last_record ys))
 last_record-append (x ∷ xs) ys = ap (λ o. later o (record_in x)) (last_record-append xs ys) ∙ later_assoc (last_record ys) (last_record xs) (record_in x)

@@ -56,18 +56,15 @@ records_remove places i old lt is =
 pub records_halves : (n : ℕ) (places : List Place) → length (listed (take n places)) + length (listed (drop n places)) ≡ length (listed places)
 records_halves n places = omega (arith, length-append (listed (take n places)) (listed (drop n places)), ap length (listed-append (take n places) (drop n places)), ap (λ l. length (listed l)) (take-append-drop n places))
 
--- where none has one there is no first and no last
-pub no_first : (places : List Place) → length (listed places) ≡ 0 → first_record places ≡ None
-no_first [] none = refl
-no_first (Filled r ∷ ps) none = absurd (omega (arith, none))
-no_first (Empty k ∷ ps) none = no_first ps none
-
-pub no_last : (places : List Place) → length (listed places) ≡ 0 → last_record places ≡ None
+-- where none has one there is none among the places before some, nor behind some
+no_last : (places : List Place) → length (listed places) ≡ 0 → last_record places ≡ None
 no_last [] none = refl
 no_last (Filled r ∷ ps) none = absurd (omega (arith, none))
 no_last (Empty k ∷ ps) none = ap (λ o. later o None) (no_last ps none)
 
--- and none among the places behind some
+pub none_before : (n : ℕ) (places : List Place) → length (listed places) ≡ 0 → last_record (take n places) ≡ None
+none_before n places none = no_last (take n places) (omega (arith, records_halves n places, none))
+
 pub none_behind : (n : ℕ) (places : List Place) → length (listed places) ≡ 0 → listed (drop n places) ≡ []
 none_behind n places none = nil_from_length (listed (drop n places)) (omega (arith, records_halves n places, none))
 

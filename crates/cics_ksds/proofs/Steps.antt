@@ -1,11 +1,12 @@
 -- From one place to the next.
-use Rattle.std.proofs.Common.{◌≡◌, ℕ, suc, ◌+◌, ◌<◌, ◌≤◌, List, [], ◌∷◌, length, get_or, take, refl, ◌∙◌, ap, arith}
+use Rattle.std.proofs.Common.{◌≡◌, ℕ, suc, ◌+◌, ◌<◌, ◌≤◌, Some, List, [], ◌∷◌, length, get_or, take, drop, refl, ◌∙◌, ap, arith, length-append}
+use Rattle.std.proofs.lemmas.List.{take-append-drop}
 use Rattle.std.specs.List.{All}
 use Rattle.std.proofs.lemmas.List.Elements.{All-get_or}
 use Rattle.cics_ksds.specs.declared.places.Place.{Place}
 use Rattle.cics_ksds.specs.declared.places.Position.{Position}
-use Rattle.cics_ksds.specs.Places.{joined, places_in, IsArea, interval_at, number_of, index_of, IsThere, IsPosition}
-use Rattle.cics_ksds.proofs.Joins.{joined_ends, none_behind}
+use Rattle.cics_ksds.specs.Places.{joined, places_in, IsArea, interval_at, number_of, index_of, IsThere, IsPosition, IsPrevious}
+use Rattle.cics_ksds.proofs.Joins.{joined-append, joined_ends, none_behind}
 use Rattle.cics_ksds.proofs.AreaEdits.{nth, within, interval_of}
 
 -- where there are places there are areas
@@ -41,3 +42,28 @@ module _ (areas : List (List (List Place))) (each : All IsArea areas) where
       none_next last end =
           let all : length (joined areas) ≡ length (joined (take at.area areas)) + length (get_or areas at.area []) = none_behind areas at.area there.area end in
           omega (arith, none_behind (joined areas) (number_of areas at) (within areas at there) (omega (arith, all, last)), ap length (nth areas at there), ends)
+
+-- where there are no places, none is before the position
+pub nothing_before : (areas : List (List (List Place))) (at : Position) → length (places_in areas) ≡ 0 → at.place ≡ 0 → index_of areas at ≡ 0
+nothing_before areas at none first =
+    let n = number_of areas at in
+    omega (
+      arith,
+      none,
+      first,
+      ap length (joined-append (take n (joined areas)) (drop n (joined areas))),
+      length-append (joined (take n (joined areas))) (joined (drop n (joined areas))),
+      ap (λ l. length (joined l)) (take-append-drop n (joined areas)),
+    )
+
+-- the place with which the interval before the position's ends
+module _ (areas : List (List (List Place))) (at last : Position) (first : at.place ≡ 0) (there : IsThere areas last) (ends : suc last.place ≡ length (interval_at areas last)) where
+  pub ended : suc (number_of areas last) ≡ number_of areas at → IsPrevious areas at (Some last)
+  ended number = record {
+    there = there;
+    place = omega (arith, ends);
+    same = omega (arith, joined_ends (joined areas) (number_of areas last) (within areas last there), ap length (nth areas last there), ends, first, ap (λ n. length (joined (take n (joined areas)))) number);
+  }
+
+  pub ended_area : suc last.area ≡ at.area → suc last.interval ≡ length (get_or areas last.area []) → at.interval ≡ 0 → IsPrevious areas at (Some last)
+  ended_area area interval none = ended (omega (arith, joined_ends areas last.area there.area, interval, none, ap (λ n. length (joined (take n areas))) area))

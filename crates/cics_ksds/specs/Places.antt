@@ -205,6 +205,11 @@ abbrev pub IsNext : List (List (List Place)) → Position → Option Position �
 IsNext areas at (Some next) = IsPosition areas (index_of areas at) next
 IsNext areas at None = length (places_in areas) ≤ index_of areas at
 
+-- it is the place before the position, or there is none
+abbrev pub IsPrevious : List (List (List Place)) → Position → Option Position → Type 0
+IsPrevious areas at (Some previous) = record { there : IsThere areas previous; place : previous.place < length (interval_at areas previous); same : suc (index_of areas previous) ≡ index_of areas at }
+IsPrevious areas at None = index_of areas at ≡ 0
+
 -- the position's place has a record whose key begins with the prefix
 pub record IsRecordUnder (d : FileDef) (areas : List (List (List Place))) (prefix : Bytes) (at : Position) : Type 0 where
   pub there : IsThere areas at

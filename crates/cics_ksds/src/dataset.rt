@@ -3,9 +3,9 @@
 ghost use Rattle.std.specs.Prelude.{◌≡◌, ◌+◌, ◌*◌, ◌^◌, ◌<◌, ◌≤◌, [], ◌∷◌, All, IfOk, OnOk, OnErr};
 ghost use Rattle.std.specs.Prelude.{length, slice_set, slice_index_or, vec_len, vec_capacity};
 ghost use Rattle.std.specs.List.{insert, remove};
-ghost use Rattle.cics_ksds.specs.Places.{joined, places_in, IsArea, IsThere, IsNext, IsRoom};
-ghost use Rattle.cics_ksds.specs.Places.{IsAreaRoom, HasHalves, interval_at, number_of, index_of};
-ghost use Rattle.cics_ksds.specs.Places.{with_place, without_place, halved, empty_count};
+ghost use Rattle.cics_ksds.specs.Places.{joined, places_in, IsArea, IsThere, IsNext, IsPrevious};
+ghost use Rattle.cics_ksds.specs.Places.{IsRoom, IsAreaRoom, HasHalves, interval_at, number_of};
+ghost use Rattle.cics_ksds.specs.Places.{index_of, with_place, without_place, halved, empty_count};
 
 use crate::areas::{self, Area};
 use crate::intervals::{self, Interval};
@@ -117,6 +117,41 @@ impl Dataset {
         None
     }
 
+    /// Where the place before a position is.
+    pub(crate) fn previous(&self, at: Position) -> Option<Position>
+        requires there { 0 < length self.now → IsThere self.now at }
+        requires place { at.place ≤ length (interval_at self.now at) }
+        ensures { IsPrevious self.now at result }
+    {
+        if at.place > 0 {
+            let place = at.place - 1;
+            return Some(Position { place, ..at });
+        }
+        if self.len == 0 {
+            return None;
+        }
+        if at.interval > 0 {
+            let interval = at.interval - 1;
+            let place = self.places(at.area, interval).len() - 1;
+            return Some(Position {
+                interval,
+                place,
+                ..at
+            });
+        }
+        if at.area == 0 {
+            return None;
+        }
+        let area = at.area - 1;
+        let interval = self.intervals(area).len() - 1;
+        let place = self.places(area, interval).len() - 1;
+        Some(Position {
+            area,
+            interval,
+            place,
+        })
+    }
+
     /// How many intervals there are. It is kept beside the areas, and not counted anew.
     pub(crate) fn count(&self) -> u64
         ensures count { result ≡ length (joined self.now) }
@@ -166,7 +201,7 @@ impl Dataset {
         ensures old { result ≡ slice_index_or (places_in self.old) (index_of self.old at) result }
     {
         let comes = place.empties();
-        let old = put(&mut self.areas, at, place);
+        let old = self.areas[at.area].put(at.interval, at.place, place);
         self.empties = self.empties - old.empties() + comes;
         old
     }
@@ -189,11 +224,10 @@ impl Dataset {
         ensures err { OnErr result (self.new ≡ self.old) }
     {
         if self.areas.is_empty() {
-            self.insert_first(alloc, place)?;
+            self.insert_first(alloc, place)
         } else {
-            self.insert_among(alloc, at, place)?;
+            self.insert_among(alloc, at, place)
         }
-        Ok(())
     }
 
     /// Puts the first place of all in.
@@ -230,7 +264,7 @@ impl Dataset {
         };
         let next = self.make_room(alloc, at)?;
         let comes = place.empties();
-        fill(&mut self.areas, next, place);
+        self.areas[next.area].insert(next.interval, next.place, place);
         self.len = len;
         self.empties += comes;
         Ok(())
@@ -291,7 +325,7 @@ impl Dataset {
             ≡ without_place (joined self.old) (number_of self.old at) at.place }
     {
         if places_at(&self.areas, at) > 1 {
-            let old = remove_place(&mut self.areas, at);
+            let old = self.areas[at.area].remove(at.interval, at.place);
             self.len -= 1;
             self.empties -= old.empties();
             return old;
@@ -311,34 +345,6 @@ fn places_at(areas: &Vec<Area>, at: Position) -> usize
     ensures at_most { result ≤ 16 }
 {
     areas[at.area].intervals()[at.interval].count()
-}
-
-/// Puts a place in the stead of another, and answers that one.
-fn put(areas: &mut Vec<Area>, at: Position, place: Place) -> Place
-    requires each { All IsArea areas.old.items }
-    requires there { IsThere areas.old.items at }
-    requires place { at.place < length (interval_at areas.old.items at) }
-    ensures each { All IsArea areas.new.items }
-    ensures intervals { joined areas.new.items
-        ≡ slice_set (joined areas.old.items) (number_of areas.old.items at)
-        (slice_set (interval_at areas.old.items at) at.place place) }
-    ensures old { result ≡ slice_index_or (interval_at areas.old.items at) at.place result }
-{
-    areas[at.area].put(at.interval, at.place, place)
-}
-
-/// Puts a place into an interval that has room for it.
-fn fill(areas: &mut Vec<Area>, at: Position, place: Place)
-    requires each { All IsArea areas.old.items }
-    requires there { IsThere areas.old.items at }
-    requires place { at.place ≤ length (interval_at areas.old.items at) }
-    requires room { length (interval_at areas.old.items at) < 16 }
-    ensures each { All IsArea areas.new.items }
-    ensures intervals { joined areas.new.items
-        ≡ slice_set (joined areas.old.items) (number_of areas.old.items at)
-        (insert (interval_at areas.old.items at) at.place place) }
-{
-    areas[at.area].insert(at.interval, at.place, place);
 }
 
 /// Splits a full interval in two; the second half is put into `right`.
@@ -380,47 +386,6 @@ fn split_area(areas: &mut Vec<Area>, at: Position, mut right: Area) -> Position
     }
 }
 
-/// Takes a place out, and answers it. Others stay in its interval.
-fn remove_place(areas: &mut Vec<Area>, at: Position) -> Place
-    requires each { All IsArea areas.old.items }
-    requires there { IsThere areas.old.items at }
-    requires place { at.place < length (interval_at areas.old.items at) }
-    requires others { 1 < length (interval_at areas.old.items at) }
-    ensures each { All IsArea areas.new.items }
-    ensures intervals { joined areas.new.items
-        ≡ slice_set (joined areas.old.items) (number_of areas.old.items at)
-        (remove (interval_at areas.old.items at) at.place) }
-    ensures old { result ≡ slice_index_or (interval_at areas.old.items at) at.place result }
-{
-    areas[at.area].remove(at.interval, at.place)
-}
-
-/// Takes an interval out, and answers it. Others stay in its area.
-fn remove_interval(areas: &mut Vec<Area>, at: Position) -> Interval
-    requires each { All IsArea areas.old.items }
-    requires there { IsThere areas.old.items at }
-    requires others { 1 < length (slice_index_or areas.old.items at.area []) }
-    ensures each { All IsArea areas.new.items }
-    ensures intervals { joined areas.new.items
-        ≡ remove (joined areas.old.items) (number_of areas.old.items at) }
-    ensures old { result ≡ interval_at areas.old.items at }
-{
-    areas[at.area].remove_interval(at.interval)
-}
-
-/// Takes an area out that has one interval, and answers that one.
-fn remove_area(areas: &mut Vec<Area>, at: Position) -> Interval
-    requires each { All IsArea areas.old.items }
-    requires there { IsThere areas.old.items at }
-    requires alone { length (slice_index_or areas.old.items at.area []) ≤ 1 }
-    ensures each { All IsArea areas.new.items }
-    ensures intervals { joined areas.new.items
-        ≡ remove (joined areas.old.items) (number_of areas.old.items at) }
-    ensures old { result ≡ interval_at areas.old.items at }
-{
-    areas.remove(at.area).remove_interval(at.interval)
-}
-
 /// Takes the interval of a place out, and its area with it where it has no other; answers the
 /// place.
 fn remove_last(areas: &mut Vec<Area>, at: Position) -> Place
@@ -432,10 +397,12 @@ fn remove_last(areas: &mut Vec<Area>, at: Position) -> Place
         ≡ remove (joined areas.old.items) (number_of areas.old.items at) }
     ensures old { result ≡ slice_index_or (interval_at areas.old.items at) at.place result }
 {
-    let mut interval = if areas[at.area].count() > 1 {
-        remove_interval(areas, at)
-    } else {
-        remove_area(areas, at)
-    };
-    interval.remove(at.place)
+    let area = &mut areas[at.area];
+    let mut interval = area.remove_interval(at.interval);
+    let old = interval.remove(at.place);
+    if area.count() > 0 {
+        return old;
+    }
+    drop(areas.remove(at.area));
+    old
 }

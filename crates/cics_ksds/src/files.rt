@@ -175,24 +175,15 @@ impl File {
             Spot::At(_) => Ok(not_made(Condition::Duprec)),
             Spot::AtEmpty(at) => {
                 let image = added(self.alloc, definition, key, keep)?;
-                let _ = put_at(
-                    definition,
-                    &mut self.places,
-                    at,
-                    Place::filled(definition, content),
-                );
+                let place = Place::filled(definition, content);
+                let _ = put_at(definition, &mut self.places, at, place);
                 Ok(made(image))
             }
             Spot::Gap(at) => {
                 // The image comes first: once the record is in, nothing can fail any more.
                 let image = added(self.alloc, definition, key, keep)?;
-                insert_at(
-                    self.alloc,
-                    definition,
-                    &mut self.places,
-                    at,
-                    Place::filled(definition, content),
-                )?;
+                let place = Place::filled(definition, content);
+                insert_at(self.alloc, definition, &mut self.places, at, place)?;
                 Ok(made(image))
             }
         }
@@ -216,12 +207,8 @@ impl File {
         let key = definition.key_in(content.bytes());
         match spot_of(definition, &self.places, key) {
             Spot::At(at) => {
-                let old = put_at(
-                    definition,
-                    &mut self.places,
-                    at,
-                    Place::filled(definition, content),
-                );
+                let place = Place::filled(definition, content);
+                let old = put_at(definition, &mut self.places, at, place);
                 made(replaced(definition, old, keep))
             }
             _ => not_made(Condition::Notfnd),

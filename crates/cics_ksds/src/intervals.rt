@@ -150,10 +150,9 @@ impl Interval {
         ensures right { right.new ≡ drop 8 self.old }
     {
         move_tail(&mut self.places, HALF, &mut right.places);
-        let moved = records_in(right.places.as_slice());
-        right.records = moved;
+        right.records = records_in(right.places.as_slice());
         right.head = head_of(right.places.as_slice());
-        self.records -= moved;
+        self.records -= right.records;
         self.head = head_of(self.places.as_slice());
     }
 }

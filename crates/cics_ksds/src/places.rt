@@ -410,8 +410,7 @@ pub(crate) fn exchanged(definition: FileDef, places: &mut Dataset, place: Place)
     ensures old_key { place_key definition result ≡ place_key definition place }
 {
     match spot_of(definition, places, place.key(definition)) {
-        Spot::At(at) => put_at(definition, places, at, place),
-        Spot::AtEmpty(at) => put_at(definition, places, at, place),
+        Spot::At(at) | Spot::AtEmpty(at) => put_at(definition, places, at, place),
         Spot::Gap(_) => unreachable!(),
     }
 }

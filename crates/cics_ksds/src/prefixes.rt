@@ -1,11 +1,8 @@
 //! The records whose keys begin with the same bytes: how many they are, and deleting them.
 
-ghost use Rattle.std.specs.Prelude.{◌≡◌, ◌<◌, ◌≤◌, ◌^◌, [], true, false, not, length, map};
-ghost use Rattle.std.specs.Prelude.{slice_index_or, IfOk, IfSome, OnOk, OnErr};
-ghost use Rattle.cics_ksds.specs.Places.{ArePlaces, IsThere, IsRecordUnder, places_in};
-ghost use Rattle.cics_ksds.specs.Places.{interval_at, index_of, file_of, places_from};
-ghost use Rattle.cics_ksds.specs.Places.{left_at, record_in, listed};
-ghost use Rattle.cics_ksds.specs.declared.places.Place.TheVariants.{Empty};
+ghost use Rattle.std.specs.Prelude.{◌≡◌, ◌<◌, ◌^◌, true, false, not, length, map};
+ghost use Rattle.std.specs.Prelude.{IfOk, IfSome, OnOk, OnErr};
+ghost use Rattle.cics_ksds.specs.Places.{ArePlaces, IsRecordUnder, places_in, file_of, left_at};
 ghost use Rattle.cics_ksds.specs.Prefixes.{has_prefix, under, outside, from};
 ghost use Rattle.cics_ksds.specs.Prefixes.{without_prefix, added_entry};
 
@@ -14,35 +11,9 @@ use crate::dataset::Dataset;
 use crate::files::File;
 use crate::images::{Before, FileImage};
 use crate::places::{Place, Position, place_at, take_at};
-use crate::ranges::start_of;
+use crate::ranges::{behind, start_of};
 use cics_names::{Items, NoMemory, Record};
 use std::alloc::Global;
-
-/// Where to look on behind an empty place: behind its whole interval where that has no record.
-fn behind(places: &Dataset, here: Position) -> Position
-    requires there { IsThere places.now here }
-    requires place { here.place < length (interval_at places.now here) }
-    requires empty { record_in (slice_index_or (places_in places.now)
-        (index_of places.now here) (Empty [])) ≡ None }
-    ensures there { IsThere places.now result }
-    ensures place { result.place ≤ length (interval_at places.now result) }
-    ensures further { index_of places.now here < index_of places.now result }
-    ensures records { listed (places_from places.now result)
-        ≡ listed (places_from places.now here) }
-{
-    let interval = &places.intervals(here.area)[here.interval];
-    let count = interval.count();
-    let place = if interval.records() == 0 {
-        count
-    } else {
-        here.place + 1
-    };
-    Position {
-        area: here.area,
-        interval: here.interval,
-        place,
-    }
-}
 
 /// Where the first record from a bound on is, or strictly above it, if its key begins with the
 /// prefix. Of the places beyond the prefix it looks at no more than one, and of an interval without
@@ -105,10 +76,8 @@ fn images_under(
     let mut next = next_under(definition, places, prefix, false, prefix);
     while let Some(at) = next {
         let key = place_at(places, at).key(definition);
-        images.push(FileImage {
-            definition,
-            before: Before::Added(Record::from_slice(alloc, key)?),
-        })?;
+        let before = Before::Added(Record::from_slice(alloc, key)?);
+        images.push(FileImage { definition, before })?;
         next = next_under(definition, places, key, true, prefix);
     }
     Ok(images)

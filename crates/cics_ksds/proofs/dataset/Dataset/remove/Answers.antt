@@ -1,14 +1,14 @@
-use Rattle.std.proofs.Common.{◌≡◌, ◌<◌, length, get_or, sym, ◌∙◌, ap, subst, List, arith}
-use Rattle.std.proofs.lemmas.List.{length-set}
+use Rattle.std.proofs.Common.{◌≡◌, ◌<◌, [], length, get_or, set, sym, ◌∙◌, ap, subst, List, arith}
+use Rattle.std.proofs.lemmas.List.{length-set, get_or_default}
 use Rattle.std.proofs.lemmas.List.Edits.{length-remove}
-use Rattle.std.specs.List.{remove}
+use Rattle.std.specs.List.{remove, All}
 use Rattle.cics_ksds.specs.declared.places.Place.{Place}
-use Rattle.cics_ksds.specs.Places.{joined, places_in, index_of, number_of, interval_at, empty_in, IsThere, without_place}
-use Rattle.cics_ksds.proofs.AreaEdits.{within}
+use Rattle.cics_ksds.specs.Places.{joined, places_in, index_of, number_of, interval_at, empty_in, IsThere, IsArea, without_place}
+use Rattle.cics_ksds.proofs.AreaEdits.{within, set_one, set_each, remove_interval, interval_of}
 use Rattle.cics_ksds.proofs.IntervalEdits.{remove_places, removed_others, removed_last, read_place, index_within}
 use Rattle.cics_ksds.proofs.Counts.{Counts, after_remove}
 use Rattle.cics_ksds.proofs.dataset.Dataset.remove.Goals as goal
-use Rattle.cics_ksds.proofs.dataset.Dataset.remove.Goals.{After-places_at, After-remove_place-old, After-remove_last-old}
+use Rattle.cics_ksds.proofs.dataset.Dataset.remove.Goals.{After-places_at, After-remove-old, After-remove_last-old}
 
 there : (c : After-places_at) → IsThere c.self.inside.areas.items c.args.at
 there c = subst (λ (areas : List (List (List Place))). IsThere areas c.args.at) (sym c.self.view_is) c.requires.there
@@ -40,9 +40,35 @@ module _ (c : After-places_at) (new : List (List (List Place))) (old : Place)
   old_seen = subst (λ (areas : List (List (List Place))). old ≡ get_or (places_in areas) (index_of areas c.args.at) old) c.self.view_is read
 
 -- a place that others stay beside, and one that is alone
-others : (c : After-remove_place-old) → joined c.remove_place-old.new.areas.items ≡ without_place (joined c.self.inside.areas.items) (number_of c.self.inside.areas.items c.args.at) c.args.at.place
-others c = c.remove_place-old.ensures.intervals ∙ removed_others c.self.inside.areas.items c.args.at (subst (λ (areas : List (List (List Place))). IsThere areas c.args.at) (sym c.self.view_is) c.requires.there)
-    (omega (arith, c.places_at.ensures.count, c.if-places_at-gt1.true))
+module _ (c : After-remove-old) where
+  there_now : IsThere c.self.inside.areas.items c.args.at
+  there_now = subst (λ (areas : List (List (List Place))). IsThere areas c.args.at) (sym c.self.view_is) c.requires.there
+
+  below_now : c.args.at.place < length (interval_at c.self.inside.areas.items c.args.at)
+  below_now = subst (λ (areas : List (List (List Place))). c.args.at.place < length (interval_at areas c.args.at)) (sym c.self.view_is) c.requires.place
+
+  at_least : 1 < length (interval_at c.self.inside.areas.items c.args.at)
+  at_least = omega (arith, c.places_at.ensures.count, c.if-places_at-gt1.true)
+
+  -- the area that was edited is the position's
+  row : c.index_mut.result.now ≡ get_or c.self.inside.areas.items c.args.at.area []
+  row = c.index_mut.ensures.value ∙ get_or_default c.self.inside.areas.items c.args.at.area c.index_mut.result.now [] there_now.area
+
+  made : c.remove-old.new.self ≡ set (get_or c.self.inside.areas.items c.args.at.area []) c.args.at.interval (remove (interval_at c.self.inside.areas.items c.args.at) c.args.at.place)
+  made = c.remove-old.ensures.places ∙ ap (λ (r : List (List Place)). set r c.args.at.interval (remove (get_or r c.args.at.interval []) c.args.at.place)) row
+
+  intervals : joined (set c.self.inside.areas.items c.args.at.area c.remove-old.new.self) ≡ set (joined c.self.inside.areas.items) (number_of c.self.inside.areas.items c.args.at) (remove (interval_at c.self.inside.areas.items c.args.at) c.args.at.place)
+  intervals = ap (λ (r : List (List Place)). joined (set c.self.inside.areas.items c.args.at.area r)) made ∙ set_one c.self.inside.areas.items c.args.at there_now (remove (interval_at c.self.inside.areas.items c.args.at) c.args.at.place)
+
+  each : All IsArea (set c.self.inside.areas.items c.args.at.area c.remove-old.new.self)
+  each = subst (λ (r : List (List Place)). All IsArea (set c.self.inside.areas.items c.args.at.area r)) (sym made)
+      (set_each c.self.inside.areas.items c.args.at there_now _ (remove_interval (interval_at c.self.inside.areas.items c.args.at) c.args.at.place below_now at_least (interval_of c.self.inside.areas.items c.args.at there_now c.self.invariant.each)) c.self.invariant.each)
+
+  others : joined (set c.self.inside.areas.items c.args.at.area c.remove-old.new.self) ≡ without_place (joined c.self.inside.areas.items) (number_of c.self.inside.areas.items c.args.at) c.args.at.place
+  others = intervals ∙ removed_others c.self.inside.areas.items c.args.at there_now at_least
+
+  stood : c.remove-old.result ≡ get_or (interval_at c.self.inside.areas.items c.args.at) c.args.at.place c.remove-old.result
+  stood = c.remove-old.ensures.old ∙ ap (λ (r : List (List Place)). get_or (get_or r c.args.at.interval []) c.args.at.place c.remove-old.result) row
 
 alone : (c : After-remove_last-old) → joined c.remove_last-old.new.areas.items ≡ without_place (joined c.self.inside.areas.items) (number_of c.self.inside.areas.items c.args.at) c.args.at.place
 alone c = c.remove_last-old.ensures.intervals ∙ removed_last c.self.inside.areas.items c.args.at (subst (λ (areas : List (List (List Place))). IsThere areas c.args.at) (sym c.self.view_is) c.requires.there)
@@ -50,35 +76,35 @@ alone c = c.remove_last-old.ensures.intervals ∙ removed_last c.self.inside.are
 
 pub overflow_sub-self : goal.overflow_sub-self
 overflow_sub-self c =
-    let here = counts (goal.at.overflow_sub-self c).After-places_at c.remove_place-old.new.areas.items c.remove_place-old.result (others (goal.at.overflow_sub-self c).After-remove_place-old) c.remove_place-old.ensures.old in
+    let here = counts (goal.at.overflow_sub-self c).After-places_at (set c.self.inside.areas.items c.args.at.area c.remove-old.new.self) c.remove-old.result (others (goal.at.overflow_sub-self c).After-remove-old) (stood (goal.at.overflow_sub-self c).After-remove-old) in
     omega (arith, here.long, c.self.invariant.long)
 
 pub overflow_sub-self-then-places_at-gt1 : goal.overflow_sub-self-then-places_at-gt1
 overflow_sub-self-then-places_at-gt1 c =
-    let here = counts (goal.at.overflow_sub-self-then-places_at-gt1 c).After-places_at c.remove_place-old.new.areas.items c.remove_place-old.result (others (goal.at.overflow_sub-self-then-places_at-gt1 c).After-remove_place-old) c.remove_place-old.ensures.old in
+    let here = counts (goal.at.overflow_sub-self-then-places_at-gt1 c).After-places_at (set c.self.inside.areas.items c.args.at.area c.remove-old.new.self) c.remove-old.result (others (goal.at.overflow_sub-self-then-places_at-gt1 c).After-remove-old) (stood (goal.at.overflow_sub-self-then-places_at-gt1 c).After-remove-old) in
     omega (arith, here.some, c.self.invariant.empties, c.empties.ensures)
 
 pub invariant_of-self : goal.invariant_of-self
 invariant_of-self c =
-    let here = counts (goal.at.invariant_of-self c).After-places_at c.remove_place-old.new.areas.items c.remove_place-old.result (others (goal.at.invariant_of-self c).After-remove_place-old) c.remove_place-old.ensures.old in
+    let here = counts (goal.at.invariant_of-self c).After-places_at (set c.self.inside.areas.items c.args.at.area c.remove-old.new.self) c.remove-old.result (others (goal.at.invariant_of-self c).After-remove-old) (stood (goal.at.invariant_of-self c).After-remove-old) in
     record {
-      each = c.remove_place-old.ensures.each;
-      counted = c.self.invariant.counted ∙ sym (ap length c.remove_place-old.ensures.intervals ∙ length-set (joined c.self.inside.areas.items) (number_of c.self.inside.areas.items c.args.at) _);
+      each = each (goal.at.invariant_of-self c).After-remove-old;
+      counted = c.self.invariant.counted ∙ sym (ap length (intervals (goal.at.invariant_of-self c).After-remove-old) ∙ length-set (joined c.self.inside.areas.items) (number_of c.self.inside.areas.items c.args.at) _);
       long = omega (arith, here.long, c.self.invariant.long);
       empties = omega (arith, here.some, here.empties, c.self.invariant.empties, c.empties.ensures);
     }
 
 pub returns-then-places_at-gt1-clause-places : goal.returns-then-places_at-gt1-clause-places
 returns-then-places_at-gt1-clause-places c =
-    places_seen (goal.at.returns-then-places_at-gt1-clause-places c).After-places_at c.remove_place-old.new.areas.items c.remove_place-old.result (others (goal.at.returns-then-places_at-gt1-clause-places c).After-remove_place-old) c.remove_place-old.ensures.old
+    places_seen (goal.at.returns-then-places_at-gt1-clause-places c).After-places_at (set c.self.inside.areas.items c.args.at.area c.remove-old.new.self) c.remove-old.result (others (goal.at.returns-then-places_at-gt1-clause-places c).After-remove-old) (stood (goal.at.returns-then-places_at-gt1-clause-places c).After-remove-old)
 
 pub returns-then-places_at-gt1-clause-intervals : goal.returns-then-places_at-gt1-clause-intervals
 returns-then-places_at-gt1-clause-intervals c =
-    intervals_seen (goal.at.returns-then-places_at-gt1-clause-intervals c).After-places_at c.remove_place-old.new.areas.items c.remove_place-old.result (others (goal.at.returns-then-places_at-gt1-clause-intervals c).After-remove_place-old) c.remove_place-old.ensures.old
+    intervals_seen (goal.at.returns-then-places_at-gt1-clause-intervals c).After-places_at (set c.self.inside.areas.items c.args.at.area c.remove-old.new.self) c.remove-old.result (others (goal.at.returns-then-places_at-gt1-clause-intervals c).After-remove-old) (stood (goal.at.returns-then-places_at-gt1-clause-intervals c).After-remove-old)
 
 pub returns-then-places_at-gt1-clause-old : goal.returns-then-places_at-gt1-clause-old
 returns-then-places_at-gt1-clause-old c =
-    old_seen (goal.at.returns-then-places_at-gt1-clause-old c).After-places_at c.remove_place-old.new.areas.items c.remove_place-old.result (others (goal.at.returns-then-places_at-gt1-clause-old c).After-remove_place-old) c.remove_place-old.ensures.old
+    old_seen (goal.at.returns-then-places_at-gt1-clause-old c).After-places_at (set c.self.inside.areas.items c.args.at.area c.remove-old.new.self) c.remove-old.result (others (goal.at.returns-then-places_at-gt1-clause-old c).After-remove-old) (stood (goal.at.returns-then-places_at-gt1-clause-old c).After-remove-old)
 
 pub overflow_sub-self-2 : goal.overflow_sub-self-2
 overflow_sub-self-2 c =

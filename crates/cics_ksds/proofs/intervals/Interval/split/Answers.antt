@@ -14,7 +14,7 @@ invariant_of-self c = record {
     records_halves 8 c.self.inside.places.items,
     ap (λ l. length (listed l)) c.move_tail.ensures.head,
     ap (λ l. length (listed l)) (c.as_slice.ensures.value ∙ c.move_tail.ensures.tail),
-    c.records_in-moved.ensures,
+    c.records_in-right-inside.ensures,
     c.self.invariant.counted,
   );
   head = subst (λ (l : List Place). IsHead l c.head_of-self-inside.result) c.as_slice-3.ensures.value c.head_of-self-inside.ensures;

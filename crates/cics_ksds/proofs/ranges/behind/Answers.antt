@@ -5,8 +5,8 @@ use Rattle.cics_ksds.specs.declared.places.Position.{Position}
 use Rattle.cics_ksds.specs.Places.{joined, interval_at, number_of, listed}
 use Rattle.cics_ksds.proofs.Counts.{none_behind}
 use Rattle.cics_ksds.proofs.Walks.{listed_parts}
-use Rattle.cics_ksds.proofs.prefixes.behind.Goals as goal
-use Rattle.cics_ksds.proofs.prefixes.behind.Goals.{After-records}
+use Rattle.cics_ksds.proofs.ranges.behind.Goals as goal
+use Rattle.cics_ksds.proofs.ranges.behind.Goals.{After-records}
 
 -- the interval that is looked at is that of the place
 same : (c : After-records) → c.index-intervals-here.result ≡ interval_at c.args.places.now c.args.here
