@@ -3,12 +3,15 @@
 //! `push_advice` puts three lines behind what was printed. `specs/Advice` says them to the byte,
 //! but for the words of the message. The fault and its column are those of
 //! `cics_script::find_fault`. What is to be mended stands in tables, by what stands in front of the
-//! column (`tables`, `messages`). These words are tested, and no clause says them.
+//! column (`tables`, `messages`). These words are tested, and no clause says them. So are the names
+//! that aren't defined, which `keep_undefined` keeps while lines run.
 #![tactic(auto)]
 
 mod context;
 mod messages;
 mod showing;
 mod tables;
+mod undefined;
 
 pub use messages::{Cause, push_advice};
+pub use undefined::{Named, keep_undefined};

@@ -20,9 +20,10 @@ ghost use Rattle.cics_picture.specs.declared.bars.Bar.{Bar};
 
 use crate::standings::{entries_at, looks_at, standings_at};
 use crate::titles::title_of;
+use cics_advice::keep_undefined;
 use cics_names::NoMemory;
 use cics_picture::{Drawing, Undrawn, push_sheet};
-use cics_run::{Session, keep_undefined};
+use cics_run::Session;
 use cics_whole::next_line;
 
 /// The rows of a picture show what the run prints, in order: their events, each with its LF, are

@@ -1,12 +1,12 @@
 //! The blocks of files and queues, each as the listing of a run has it.
 
 ghost use Rattle.std.specs.Prelude.{◌≡◌, ◌++◌, OnOk, map};
-ghost use Rattle.cics_run.specs.Listings.{file_text, storage_text, transient_text};
+ghost use Rattle.cics_listing.specs.Listings.{file_text, storage_text, transient_text};
 ghost use Rattle.cics_endings.specs.Telling.{blocks};
 
 use cics_dispatch::Region;
+use cics_listing::{push_block, push_transient_block};
 use cics_names::{Items, Name4, Name8, NoMemory, Record};
-use cics_run::listing::{push_block, push_transient_block};
 use cics_transdata::Recovery;
 use std::alloc::Global;
 

@@ -13,4 +13,3 @@ pub mod Reading
 pub mod RunCounts
 pub mod Settles
 pub mod Telling
-mod UnitLines

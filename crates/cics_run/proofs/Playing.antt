@@ -9,9 +9,8 @@ use Rattle.std.specs.Io.BufRead.{strip_last}
 use Rattle.cics_run.specs.Lines.{Pieces, pieces, with_first, completed, unfinished, last_line, all_lines, is_in_line}
 use Rattle.cics_run.specs.Journal.{script_line}
 use Rattle.cics_run.specs.Stages.{step, Step}
-use Rattle.cics_run.specs.Running.{Played, has_fault, next, stepped, play, start, journal_of, journal, output, whole, ending, is_faulty}
+use Rattle.cics_run.specs.Running.{Form, Played, has_fault, next, stepped, play, start, journal_of, journal, output, whole, is_faulty}
 use Rattle.cics_run.specs.Printing.{IsFront}
-use Rattle.cics_run.specs.declared.running.Wanted.{Wanted}
 
 -- what isn't so is false
 pub not-true : (b : Bool) → not b ≡ true → b ≡ false
@@ -77,12 +76,12 @@ pub front-trans : (a b c : List ℕ) → IsFront a b → IsFront b c → IsFront
 front-trans a b c (m, e) (n, f) = (m ++ n, f ∙ ap (λ x. x ++ n) e ∙ append_assoc a m n)
 
 -- what a line adds to the journal
-pub journal-stepped : (wanted : Wanted) (p : Played) (line : List ℕ) (s : Step)
-    → journal_of wanted (stepped p line s) ≡ journal_of wanted p ++ ((if wanted.with_script then script_line line else []) ++ s.text)
-journal-stepped wanted p line s = elim (cases_Bool wanted.with_script) [ inl shows ↦ rw shows refl | inr plain ↦ rw plain refl ]
+pub journal-stepped : (form : Form) (p : Played) (line : List ℕ) (s : Step)
+    → journal_of form (stepped p line s) ≡ journal_of form p ++ ((if form.with_script then script_line line else []) ++ s.text)
+journal-stepped form p line s = elim (cases_Bool form.with_script) [ inl shows ↦ rw shows refl | inr plain ↦ rw plain refl ]
 
-pub journal-start : (wanted : Wanted) → journal_of wanted start ≡ []
-journal-start wanted = elim (cases_Bool wanted.with_script) [ inl shows ↦ rw shows refl | inr plain ↦ rw plain refl ]
+pub journal-start : (form : Form) → journal_of form start ≡ []
+journal-start form = elim (cases_Bool form.with_script) [ inl shows ↦ rw shows refl | inr plain ↦ rw plain refl ]
 
 pub next-fault : (p : Played) (line : List ℕ) → has_fault p ≡ true → next p line ≡ p
 next-fault p line fault = subst (λ b. cond b p (stepped p line (step (p.number + 1) p.stage line)) ≡ p) (sym fault) refl
@@ -91,16 +90,16 @@ pub next-going : (p : Played) (line : List ℕ) → has_fault p ≡ false → ne
 next-going p line going = let s = stepped p line (step (p.number + 1) p.stage line) in subst (λ b. cond b p s ≡ s) (sym going) refl
 
 -- one more line only adds to the journal
-journal-next : (wanted : Wanted) (p : Played) (line : List ℕ) → IsFront (journal_of wanted p) (journal_of wanted (next p line))
-journal-next wanted p line =
+journal-next : (form : Form) (p : Played) (line : List ℕ) → IsFront (journal_of form p) (journal_of form (next p line))
+journal-next form p line =
     elim (cases_Bool (has_fault p)) [
-      | inl fault ↦ subst (λ q. IsFront (journal_of wanted p) (journal_of wanted q)) (sym (next-fault p line fault)) (front-whole (journal_of wanted p))
-      | inr none ↦ (_, ap (journal_of wanted) (next-going p line none) ∙ journal-stepped wanted p line (step (p.number + 1) p.stage line))
+      | inl fault ↦ subst (λ q. IsFront (journal_of form p) (journal_of form q)) (sym (next-fault p line fault)) (front-whole (journal_of form p))
+      | inr none ↦ (_, ap (journal_of form) (next-going p line none) ∙ journal-stepped form p line (step (p.number + 1) p.stage line))
     ]
 
-pub journal-fold : (wanted : Wanted) (lines : List (List ℕ)) (p : Played) → IsFront (journal_of wanted p) (journal_of wanted (fold next p lines))
-journal-fold wanted [] p = front-whole (journal_of wanted p)
-journal-fold wanted (line ∷ lines) p = front-trans _ _ _ (journal-next wanted p line) (journal-fold wanted lines (next p line))
+pub journal-fold : (form : Form) (lines : List (List ℕ)) (p : Played) → IsFront (journal_of form p) (journal_of form (fold next p lines))
+journal-fold form [] p = front-whole (journal_of form p)
+journal-fold form (line ∷ lines) p = front-trans _ _ _ (journal-next form p line) (journal-fold form lines (next p line))
 
 -- after a fault no line counts
 pub fault-fold : (lines : List (List ℕ)) (p : Played) → has_fault p ≡ true → fold next p lines ≡ p
@@ -112,11 +111,11 @@ completed-front bytes more =
     let (lines, e) = pieces-front bytes more in
     (map (strip_last 13) lines, ap (map (strip_last 13)) e ∙ map-append (strip_last 13) (pieces bytes).0 lines)
 
-pub journal-front : (wanted : Wanted) (bytes more : List ℕ) → IsFront (journal wanted bytes) (journal wanted (bytes ++ more))
-journal-front wanted bytes more =
+pub journal-front : (form : Form) (bytes more : List ℕ) → IsFront (journal form bytes) (journal form (bytes ++ more))
+journal-front form bytes more =
     let (lines, e) = completed-front bytes more in
     let same : play (completed (bytes ++ more)) ≡ fold next (play (completed bytes)) lines = ap play e ∙ fold-append next start (completed bytes) lines in
-    subst (λ p. IsFront (journal wanted bytes) (journal_of wanted p)) (sym same) (journal-fold wanted lines (play (completed bytes)))
+    subst (λ p. IsFront (journal form bytes) (journal_of form p)) (sym same) (journal-fold form lines (play (completed bytes)))
 
 -- after a fault no byte counts
 pub fault-stays : (bytes more : List ℕ) → has_fault (play (completed bytes)) ≡ true → play (completed (bytes ++ more)) ≡ play (completed bytes)
@@ -131,20 +130,20 @@ chosen-true b x y e = subst (λ v. cond v x y ≡ x) (sym e) refl
 pub fault-whole : (bytes : List ℕ) → has_fault (play (completed bytes)) ≡ true → play (all_lines bytes) ≡ play (completed bytes)
 fault-whole bytes fault = rw (fold-append next start (completed bytes) (last_line (unfinished bytes))) (fault-fold (last_line (unfinished bytes)) (play (completed bytes)) fault)
 
-pub fault-output : (wanted : Wanted) (bytes : List ℕ) → has_fault (play (completed bytes)) ≡ true → (output wanted bytes ≡ journal wanted bytes) × (is_faulty bytes ≡ true)
-fault-output wanted bytes fault =
+pub fault-output : (form : Form) (bytes : List ℕ) → has_fault (play (completed bytes)) ≡ true → (output form bytes ≡ journal form bytes) × (is_faulty bytes ≡ true)
+fault-output form bytes fault =
     let same = fault-whole bytes fault in
     let faulty : has_fault (play (all_lines bytes)) ≡ true = ap has_fault same ∙ fault in
-    (chosen-true _ _ _ faulty ∙ ap (journal_of wanted) same, faulty)
+    (chosen-true _ _ _ faulty ∙ ap (journal_of form) same, faulty)
 
-pub whole-front : (wanted : Wanted) (p : Played) → IsFront (journal_of wanted p) (whole wanted p)
-whole-front wanted p =
+pub whole-front : (form : Form) (p : Played) → IsFront (journal_of form p) (whole form p)
+whole-front form p =
     elim (cases_Bool (has_fault p)) [
-      | inl fault ↦ rw fault (front-whole (journal_of wanted p))
-      | inr none ↦ rw none (ending wanted p.stage, refl)
+      | inl fault ↦ rw fault (front-whole (journal_of form p))
+      | inr none ↦ rw none (form.ending p.stage, refl)
     ]
 
-pub output-front : (wanted : Wanted) (bytes : List ℕ) → IsFront (journal wanted bytes) (output wanted bytes)
-output-front wanted bytes =
-    front-trans _ _ _ (rw (fold-append next start (completed bytes) (last_line (unfinished bytes))) (journal-fold wanted (last_line (unfinished bytes)) (play (completed bytes))))
-    (whole-front wanted (play (all_lines bytes)))
+pub output-front : (form : Form) (bytes : List ℕ) → IsFront (journal form bytes) (output form bytes)
+output-front form bytes =
+    front-trans _ _ _ (rw (fold-append next start (completed bytes) (last_line (unfinished bytes))) (journal-fold form (last_line (unfinished bytes)) (play (completed bytes))))
+    (whole-front form (play (all_lines bytes)))

@@ -8,7 +8,7 @@ use Rattle.std.specs.Prelude.{Result, Ok, Err}
 use Rattle.std.specs.Io.KnownBytes.{Appends, Consumes, IsAtEnd}
 use Rattle.std.specs.Io.BufRead.{strip_last}
 use Rattle.cics_run.specs.Lines.{Pieces, pieces, with_first, completed}
-use Rattle.cics_run.specs.Running.{Played, has_fault, next, start, journal, is_stopped, Answers, ReadsOn, RunsOver}
+use Rattle.cics_run.specs.Running.{Form, Played, has_fault, next, start, journal, is_stopped, Answers, ReadsOn, RunsOver}
 use Rattle.cics_run.specs.Printing.{AppendsFront, Prints}
 use Rattle.cics_run.specs.Standing.{IsNew, Stands, Keeps, Stopped, Finishes, KeepsEnd, fault_of, ended}
 use Rattle.cics_run.specs.Streams.{Tells}
@@ -16,7 +16,6 @@ use Rattle.cics_run.specs.declared.writing.Stop.{Stop}
 use Rattle.cics_run.specs.declared.writing.Stop.TheVariants as stops
 use Rattle.cics_run.specs.declared.running.Status.{Status}
 use Rattle.cics_run.specs.declared.running.Status.TheVariants as status
-use Rattle.cics_run.specs.declared.running.Wanted.{Wanted}
 use Rattle.cics_run.specs.declared.running.TheConstants.{LIMIT, CHUNK}
 use Rattle.cics_run.specs.declared.session.Session.{Session}
 use Rattle.cics_run.proofs.Known.{consumes-append}
@@ -43,8 +42,8 @@ fold-number : (lines : List (List ℕ)) (p : Played) → (fold next p lines).num
 fold-number [] p = omega arith
 fold-number (line ∷ lines) p = omega (arith, fold-number lines (next p line), next-number p line)
 
-pub number-bound : (wanted : Wanted) (bytes : List ℕ) (before now : Option (List ℕ)) (s : Session) → Stands wanted bytes before now s → s.number ≤ length bytes
-number-bound wanted bytes before now s at = omega (arith, at.number, fold-number (completed bytes) start, length-map (pieces bytes).0 (strip_last 13), pieces-lines bytes)
+pub number-bound : (form : Form) (bytes : List ℕ) (before now : Option (List ℕ)) (s : Session) → Stands form bytes before now s → s.number ≤ length bytes
+number-bound form bytes before now s at = omega (arith, at.number, fold-number (completed bytes) start, length-map (pieces bytes).0 (strip_last 13), pieces-lines bytes)
 
 -- the bytes of a read, as `&buffer[..n]` has them
 pub front-of : (n : ℕ) (got rest : List ℕ) → n ≤ length got → take n (got ++ rest) ≡ take n got
@@ -64,39 +63,39 @@ reads-going bytes told going none = (bytes, [], sym (append-nil bytes), omega ar
 pub reads-chunk : (bytes chunk : List ℕ) (told : Option (List ℕ)) → is_stopped bytes ≡ false → length chunk ≤ CHUNK → Tells told chunk → ReadsOn (bytes ++ chunk) told
 reads-chunk bytes chunk told going fits last = (bytes, chunk, refl, fits, going, last)
 
-pub stopped-output : (wanted : Wanted) (bytes : List ℕ) (rest before now : Option (List ℕ)) (s : Session) → Stopped wanted bytes before now s → Answers wanted bytes rest before now (Ok status.LineFault)
-stopped-output wanted bytes rest before now s stop =
-    let (same, faulty) = fault-output wanted bytes stop.fault in
+pub stopped-output : (form : Form) (bytes : List ℕ) (rest before now : Option (List ℕ)) (s : Session) → Stopped form bytes before now s → Answers form bytes rest before now (Ok status.LineFault)
+stopped-output form bytes rest before now s stop =
+    let (same, faulty) = fault-output form bytes stop.fault in
     (subst (λ t. Appends before now t) (sym same) stop.written, faulty, inl stop.fault)
 
 -- the line at which they stopped is kept
-pub stopped-keeps : (wanted : Wanted) (bytes : List ℕ) (input rest before now : Option (List ℕ)) (s : Session) → Consumes input rest bytes → Stopped wanted bytes before now s → KeepsEnd input rest s (Ok status.LineFault)
-stopped-keeps wanted bytes input rest before now s read stop =
+pub stopped-keeps : (form : Form) (bytes : List ℕ) (input rest before now : Option (List ℕ)) (s : Session) → Consumes input rest bytes → Stopped form bytes before now s → KeepsEnd input rest s (Ok status.LineFault)
+stopped-keeps form bytes input rest before now s read stop =
     let same = fault-whole bytes stop.fault in
     (bytes, read, ap has_fault same ∙ stop.fault, subst (Keeps s) (sym same) stop.kept)
 
 -- a run that came to the input's end keeps its final region, or the last line, where that is a fault
-pub ended-keeps : (wanted : Wanted) (bytes : List ℕ) (input rest before now : Option (List ℕ)) (s : Session) (answer : Result Status Stop) → Consumes input rest bytes → Finishes wanted bytes before now s answer → KeepsEnd input rest s (ended answer)
-ended-keeps wanted bytes input rest before now s (Ok status.Done) read (wrote, going, stage) = (bytes, read, going, stage)
-ended-keeps wanted bytes input rest before now s (Ok status.LineFault) read (wrote, faulty, kept) = (bytes, read, faulty, kept)
-ended-keeps wanted bytes input rest before now s (Err stops.NoMemory) read end = tt
-ended-keeps wanted bytes input rest before now s (Err stops.WriteFault) read end = tt
+pub ended-keeps : (form : Form) (bytes : List ℕ) (input rest before now : Option (List ℕ)) (s : Session) (answer : Result Status Stop) → Consumes input rest bytes → Finishes form bytes before now s answer → KeepsEnd input rest s (ended answer)
+ended-keeps form bytes input rest before now s (Ok status.Done) read (wrote, going, stage) = (bytes, read, going, stage)
+ended-keeps form bytes input rest before now s (Ok status.LineFault) read (wrote, faulty, kept) = (bytes, read, faulty, kept)
+ended-keeps form bytes input rest before now s (Err stops.NoMemory) read end = tt
+ended-keeps form bytes input rest before now s (Err stops.WriteFault) read end = tt
 
 -- a new session stands before the first byte
-pub stands-new : (wanted : Wanted) (now : Option (List ℕ)) (s : Session) → IsNew s → Stands wanted [] now now (record s { with_script = wanted.with_script })
-stands-new wanted now s new =
+pub stands-new : (form : Form) (now : Option (List ℕ)) (s : Session) → IsNew s → Stands form [] now now (record s { with_script = form.with_script })
+stands-new form now s new =
     record {
       stage = new.stage;
       number = new.number;
       line = new.line;
       going = refl;
       shows = refl;
-      printed = rw (new.pending, journal-start wanted) (prints-nothing now []);
+      printed = rw (new.pending, journal-start form) (prints-nothing now []);
     }
 
 -- where nothing is pending, the journal is written
-pub all-written : (wanted : Wanted) (bytes : List ℕ) (before now : Option (List ℕ)) (s : Session) → Stands wanted bytes before now s → s.pending.items ≡ [] → Appends before now (journal wanted bytes)
-all-written wanted bytes before now s at none = prints-all before now [] (journal wanted bytes) (subst (λ x. Prints before now [] x (journal wanted bytes)) none at.printed)
+pub all-written : (form : Form) (bytes : List ℕ) (before now : Option (List ℕ)) (s : Session) → Stands form bytes before now s → s.pending.items ≡ [] → Appends before now (journal form bytes)
+all-written form bytes before now s at none = prints-all before now [] (journal form bytes) (subst (λ x. Prints before now [] x (journal form bytes)) none at.printed)
 
 -- one chunk more
 pub read_more : (a b c : Option (List ℕ)) (bytes got rest : List ℕ) (n : ℕ) → n ≤ length got → Consumes a b bytes → Consumes b c (take n got)
@@ -112,15 +111,15 @@ one_more bytes got n limit full one fits =
     (simp (length-append, length-take-le n got fits) (omega (arith, full, one)), rw (← full) (take-append_seam bytes (take n got)))
 
 -- a run that printing stopped
-pub runs-stop : (wanted : Wanted) (bytes : List ℕ) (input rest last before now : Option (List ℕ)) (stop : Stop) → Consumes input rest bytes → length bytes ≤ LIMIT → ReadsOn bytes last
-    → AppendsFront before now (journal wanted bytes) → RunsOver wanted input rest last before now (Err (fault_of stop))
-runs-stop wanted bytes input rest last before now stops.NoMemory read within on front = (bytes, read, within, on, inl front)
-runs-stop wanted bytes input rest last before now stops.WriteFault read within on front = (bytes, read, within, on, inl front)
+pub runs-stop : (form : Form) (bytes : List ℕ) (input rest last before now : Option (List ℕ)) (stop : Stop) → Consumes input rest bytes → length bytes ≤ LIMIT → ReadsOn bytes last
+    → AppendsFront before now (journal form bytes) → RunsOver form input rest last before now (Err (fault_of stop))
+runs-stop form bytes input rest last before now stops.NoMemory read within on front = (bytes, read, within, on, inl front)
+runs-stop form bytes input rest last before now stops.WriteFault read within on front = (bytes, read, within, on, inl front)
 
 -- a run that came to the input's end
-pub runs-ended : (wanted : Wanted) (bytes : List ℕ) (input rest last before now : Option (List ℕ)) (s : Session) (answer : Result Status Stop) → Consumes input rest bytes → length bytes ≤ LIMIT → ReadsOn bytes last
-    → IsAtEnd rest → Finishes wanted bytes before now s answer → RunsOver wanted input rest last before now (ended answer)
-runs-ended wanted bytes input rest last before now s (Ok status.Done) read within on end (wrote, going, stage) = (bytes, read, within, on, (wrote, going, end))
-runs-ended wanted bytes input rest last before now s (Ok status.LineFault) read within on end (wrote, faulty, kept) = (bytes, read, within, on, (wrote, faulty, inr end))
-runs-ended wanted bytes input rest last before now s (Err stops.NoMemory) read within on end front = (bytes, read, within, on, inr (end, front))
-runs-ended wanted bytes input rest last before now s (Err stops.WriteFault) read within on end front = (bytes, read, within, on, inr (end, front))
+pub runs-ended : (form : Form) (bytes : List ℕ) (input rest last before now : Option (List ℕ)) (s : Session) (answer : Result Status Stop) → Consumes input rest bytes → length bytes ≤ LIMIT → ReadsOn bytes last
+    → IsAtEnd rest → Finishes form bytes before now s answer → RunsOver form input rest last before now (ended answer)
+runs-ended form bytes input rest last before now s (Ok status.Done) read within on end (wrote, going, stage) = (bytes, read, within, on, (wrote, going, end))
+runs-ended form bytes input rest last before now s (Ok status.LineFault) read within on end (wrote, faulty, kept) = (bytes, read, within, on, (wrote, faulty, inr end))
+runs-ended form bytes input rest last before now s (Err stops.NoMemory) read within on end front = (bytes, read, within, on, inr (end, front))
+runs-ended form bytes input rest last before now s (Err stops.WriteFault) read within on end front = (bytes, read, within, on, inr (end, front))

@@ -11,9 +11,8 @@ use Rattle.std.specs.Io.BufRead.{strip_last}
 use Rattle.std.specs.Io.KnownBytes.{Appends}
 use Rattle.cics_run.specs.Lines.{pieces, completed, unfinished, is_in_line}
 use Rattle.cics_run.specs.Printing.{AppendsFront, Prints}
-use Rattle.cics_run.specs.Running.{has_fault, next, play, start, stepped, journal_of, journal}
+use Rattle.cics_run.specs.Running.{Form, has_fault, next, play, start, stepped, journal_of, journal}
 use Rattle.cics_run.specs.Standing.{next_step, next_text, ended_line, Ran, Stands, Keeps, Stopped}
-use Rattle.cics_run.specs.declared.running.Wanted.{Wanted}
 use Rattle.cics_run.specs.declared.session.Session.{Session}
 use Rattle.cics_run.proofs.Printing.{prints-prints, prints-all, prints-front, prints-part, front-longer}
 use Rattle.cics_run.proofs.Playing.{pieces-lf, pieces-bytes, next-going, journal-stepped, journal-front, fault-stays}
@@ -25,24 +24,24 @@ completed-lf : (bytes : List ℕ) → completed (bytes ++ 10 ∷ []) ≡ complet
 completed-lf bytes = ap (λ p. map (strip_last 13) p.0) (pieces-lf bytes) ∙ map-append (strip_last 13) (pieces bytes).0 (unfinished bytes ∷ [])
 
 -- the lines up to the one that an LF ends
-play-lf : (wanted : Wanted) (bytes : List ℕ) (before now : Option (List ℕ)) (s : Session) → Stands wanted bytes before now s
+play-lf : (form : Form) (bytes : List ℕ) (before now : Option (List ℕ)) (s : Session) → Stands form bytes before now s
     → play (completed (bytes ++ 10 ∷ [])) ≡ stepped (play (completed bytes)) (ended_line s) (next_step s (ended_line s))
-play-lf wanted bytes before now s at =
+play-lf form bytes before now s at =
     ap play (completed-lf bytes) ∙ fold-append next start (completed bytes) (strip_last 13 (unfinished bytes) ∷ [])
     ∙ next-going (play (completed bytes)) (strip_last 13 (unfinished bytes)) at.going
     ∙ rw (at.number, at.stage, at.line) refl
 
 -- the journal up to that line
-journal-lf : (wanted : Wanted) (bytes : List ℕ) (before now : Option (List ℕ)) (s : Session) → Stands wanted bytes before now s
-    → journal wanted (bytes ++ 10 ∷ []) ≡ journal wanted bytes ++ next_text s (ended_line s)
-journal-lf wanted bytes before now s at =
-    ap (journal_of wanted) (play-lf wanted bytes before now s at)
-    ∙ rw at.shows (journal-stepped wanted (play (completed bytes)) (ended_line s) (next_step s (ended_line s)))
+journal-lf : (form : Form) (bytes : List ℕ) (before now : Option (List ℕ)) (s : Session) → Stands form bytes before now s
+    → journal form (bytes ++ 10 ∷ []) ≡ journal form bytes ++ next_text s (ended_line s)
+journal-lf form bytes before now s at =
+    ap (journal_of form) (play-lf form bytes before now s at)
+    ∙ rw at.shows (journal-stepped form (play (completed bytes)) (ended_line s) (next_step s (ended_line s)))
 
-pub stands-bytes : (wanted : Wanted) (bytes more : List ℕ) (before now : Option (List ℕ)) (s t : Session) → list_all is_in_line more ≡ true → Stands wanted bytes before now s
+pub stands-bytes : (form : Form) (bytes more : List ℕ) (before now : Option (List ℕ)) (s t : Session) → list_all is_in_line more ≡ true → Stands form bytes before now s
     → t.stage ≡ s.stage → t.number ≡ s.number → t.line.items ≡ s.line.items ++ more → t.pending.items ≡ s.pending.items → t.with_script ≡ s.with_script
-    → Stands wanted (bytes ++ more) before now t
-stands-bytes wanted bytes more before now s t all at stage number line pending shows =
+    → Stands form (bytes ++ more) before now t
+stands-bytes form bytes more before now s t all at stage number line pending shows =
     let same : play (completed (bytes ++ more)) ≡ play (completed bytes) = ap play (completed-bytes bytes more all) in
     record {
       stage = stage ∙ at.stage ∙ sym (ap (λ p. p.stage) same);
@@ -50,7 +49,7 @@ stands-bytes wanted bytes more before now s t all at stage number line pending s
       line = line ∙ ap (λ x. x ++ more) at.line ∙ sym (ap (λ p. p.1) (pieces-bytes bytes more all));
       going = ap has_fault same ∙ at.going;
       shows = shows ∙ at.shows;
-      printed = subst (λ j. Prints before now [] t.pending.items j) (sym (ap (journal_of wanted) same)) (subst (λ x. Prints before now [] x (journal wanted bytes)) (sym pending) at.printed);
+      printed = subst (λ j. Prints before now [] t.pending.items j) (sym (ap (journal_of form) same)) (subst (λ x. Prints before now [] x (journal form bytes)) (sym pending) at.printed);
     }
 
 -- A session runs its line without the CR right before the LF: this is what it does next.
@@ -73,69 +72,69 @@ module _ (s : Session) (line : Vec ℕ) (cut : line.items ≡ ended_line s) (t :
   front-cut old now = subst (λ l. AppendsFront old now (s.pending.items ++ next_text s l)) cut
 
 -- what a session has printed that ran a line more
-printed-line : (wanted : Wanted) (bytes : List ℕ) (before old now : Option (List ℕ)) (s t : Session) → Stands wanted bytes before old s
+printed-line : (form : Form) (bytes : List ℕ) (before old now : Option (List ℕ)) (s t : Session) → Stands form bytes before old s
     → Prints old now s.pending.items t.pending.items (next_text s (ended_line s))
-    → Prints before now [] t.pending.items (journal wanted (bytes ++ 10 ∷ []))
-printed-line wanted bytes before old now s t at text =
-    subst (Prints before now [] t.pending.items) (sym (journal-lf wanted bytes before old s at))
-    (prints-prints _ _ _ [] s.pending.items t.pending.items (journal wanted bytes) (next_text s (ended_line s)) at.printed text)
+    → Prints before now [] t.pending.items (journal form (bytes ++ 10 ∷ []))
+printed-line form bytes before old now s t at text =
+    subst (Prints before now [] t.pending.items) (sym (journal-lf form bytes before old s at))
+    (prints-prints _ _ _ [] s.pending.items t.pending.items (journal form bytes) (next_text s (ended_line s)) at.printed text)
 
-pub stands-line : (wanted : Wanted) (bytes : List ℕ) (before old now : Option (List ℕ)) (s t : Session) → Stands wanted bytes before old s
+pub stands-line : (form : Form) (bytes : List ℕ) (before old now : Option (List ℕ)) (s t : Session) → Stands form bytes before old s
     → Ran s (ended_line s) t → t.line.items ≡ []
     → Prints old now s.pending.items t.pending.items (next_text s (ended_line s))
     → false ≡ is_some t.fault
-    → Stands wanted (bytes ++ 10 ∷ []) before now t
-stands-line wanted bytes before old now s t at ran line text going =
-    let after = play-lf wanted bytes before old s at in
+    → Stands form (bytes ++ 10 ∷ []) before now t
+stands-line form bytes before old now s t at ran line text going =
+    let after = play-lf form bytes before old s at in
     record {
       stage = ran.stage ∙ sym (ap (λ p. p.stage) after);
       number = ran.number ∙ ap (λ n. n + 1) at.number ∙ sym (ap (λ p. p.number) after);
       line = line ∙ sym (ap (λ p. p.1) (pieces-lf bytes));
       going = ap has_fault after ∙ sym (going ∙ ap is_some ran.fault);
       shows = ran.shows ∙ at.shows;
-      printed = printed-line wanted bytes before old now s t at text;
+      printed = printed-line form bytes before old now s t at text;
     }
 
 -- a session that ran a line and keeps it
-keeps-line : (wanted : Wanted) (bytes : List ℕ) (before old : Option (List ℕ)) (s t : Session) → Stands wanted bytes before old s
+keeps-line : (form : Form) (bytes : List ℕ) (before old : Option (List ℕ)) (s t : Session) → Stands form bytes before old s
     → Ran s (ended_line s) t → t.line.items ≡ ended_line s → Keeps t (play (completed (bytes ++ 10 ∷ [])))
-keeps-line wanted bytes before old s t at ran line =
-    let after = play-lf wanted bytes before old s at in
+keeps-line form bytes before old s t at ran line =
+    let after = play-lf form bytes before old s at in
     record {
       line = line ∙ sym (ap (λ p. p.line) after);
       number = ran.number ∙ ap (λ n. n + 1) at.number ∙ sym (ap (λ p. p.number) after);
       fault = ran.fault ∙ sym (ap (λ p. p.fault) after);
     }
 
-pub stopped-line : (wanted : Wanted) (bytes more : List ℕ) (before old now : Option (List ℕ)) (s t : Session) → Stands wanted bytes before old s
+pub stopped-line : (form : Form) (bytes more : List ℕ) (before old now : Option (List ℕ)) (s t : Session) → Stands form bytes before old s
     → Ran s (ended_line s) t → t.line.items ≡ ended_line s
     → Prints old now s.pending.items t.pending.items (next_text s (ended_line s)) → t.pending.items ≡ []
     → true ≡ is_some t.fault
-    → Stopped wanted ((bytes ++ 10 ∷ []) ++ more) before now t
-stopped-line wanted bytes more before old now s t at ran line text none fault =
-    let kept = keeps-line wanted bytes before old s t at ran line in
+    → Stopped form ((bytes ++ 10 ∷ []) ++ more) before now t
+stopped-line form bytes more before old now s t at ran line text none fault =
+    let kept = keeps-line form bytes before old s t at ran line in
     let here : has_fault (play (completed (bytes ++ 10 ∷ []))) ≡ true = ap is_some (sym kept.fault) ∙ sym fault in
     let same = fault-stays (bytes ++ 10 ∷ []) more here in
-    let all = printed-line wanted bytes before old now s t at text in
+    let all = printed-line form bytes before old now s t at text in
     record {
       fault = ap has_fault same ∙ here;
-      written = subst (Appends before now) (sym (ap (journal_of wanted) same))
-          (prints-all before now [] (journal wanted (bytes ++ 10 ∷ [])) (subst (λ x. Prints before now [] x (journal wanted (bytes ++ 10 ∷ []))) none all));
+      written = subst (Appends before now) (sym (ap (journal_of form) same))
+          (prints-all before now [] (journal form (bytes ++ 10 ∷ [])) (subst (λ x. Prints before now [] x (journal form (bytes ++ 10 ∷ []))) none all));
       kept = subst (Keeps t) (sym same) kept;
     }
 
 -- a line of whose text the writer took a front
-pub front-line : (wanted : Wanted) (bytes more : List ℕ) (before old now : Option (List ℕ)) (s : Session) → Stands wanted bytes before old s
+pub front-line : (form : Form) (bytes more : List ℕ) (before old now : Option (List ℕ)) (s : Session) → Stands form bytes before old s
     → AppendsFront old now (s.pending.items ++ next_text s (ended_line s))
-    → AppendsFront before now (journal wanted ((bytes ++ 10 ∷ []) ++ more))
-front-line wanted bytes more before old now s at front =
-    front-longer before now (journal wanted (bytes ++ 10 ∷ [])) (journal wanted ((bytes ++ 10 ∷ []) ++ more)) (journal-front wanted (bytes ++ 10 ∷ []) more)
-    (subst (AppendsFront before now) (sym (journal-lf wanted bytes before old s at)) (prints-front before old now [] s.pending.items (journal wanted bytes) (next_text s (ended_line s)) at.printed front))
+    → AppendsFront before now (journal form ((bytes ++ 10 ∷ []) ++ more))
+front-line form bytes more before old now s at front =
+    front-longer before now (journal form (bytes ++ 10 ∷ [])) (journal form ((bytes ++ 10 ∷ []) ++ more)) (journal-front form (bytes ++ 10 ∷ []) more)
+    (subst (AppendsFront before now) (sym (journal-lf form bytes before old s at)) (prints-front before old now [] s.pending.items (journal form bytes) (next_text s (ended_line s)) at.printed front))
 
 -- no more was written
-pub front-here : (wanted : Wanted) (bytes more : List ℕ) (before now : Option (List ℕ)) (s : Session) → Stands wanted bytes before now s → AppendsFront before now (journal wanted (bytes ++ more))
-front-here wanted bytes more before now s at =
-    front-longer before now (journal wanted bytes) (journal wanted (bytes ++ more)) (journal-front wanted bytes more) (prints-part before now [] s.pending.items (journal wanted bytes) at.printed)
+pub front-here : (form : Form) (bytes more : List ℕ) (before now : Option (List ℕ)) (s : Session) → Stands form bytes before now s → AppendsFront before now (journal form (bytes ++ more))
+front-here form bytes more before now s at =
+    front-longer before now (journal form bytes) (journal form (bytes ++ more)) (journal-front form bytes more) (prints-part before now [] s.pending.items (journal form bytes) at.printed)
 
 -- the bytes before an LF, and what follows them: an LF, if anything
 in-front : (bytes : List ℕ) → list_all is_in_line (take (prefix_len is_in_line bytes) bytes) ≡ true

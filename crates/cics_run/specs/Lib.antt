@@ -1,12 +1,10 @@
 pub mod Journal
-pub mod Listings
-pub mod Serial
-pub mod UnitLines
 pub mod Lines
 pub mod Streams
 pub mod Settling
 pub mod Stages
 pub mod Running
+pub mod Wanted
 pub mod Statuses
 pub mod Printing
 pub mod Standing

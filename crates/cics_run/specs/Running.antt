@@ -4,7 +4,7 @@ use Rattle.std.specs.List.{fold}
 use Rattle.std.specs.Io.KnownBytes.{Appends, Consumes, IsAtEnd}
 use Rattle.cics_run.specs.Lines.{completed, all_lines}
 use Rattle.cics_run.specs.Journal.{script_line}
-use Rattle.cics_run.specs.Stages.{step, Step, first_stage, listing_at, replay_at, serial_at}
+use Rattle.cics_run.specs.Stages.{step, Step, first_stage, listing_at, replay_at}
 use Rattle.cics_run.specs.Printing.{AppendsFront}
 use Rattle.cics_run.specs.Streams.{Tells}
 use Rattle.cics_run.specs.declared.running.TheConstants.{CHUNK}
@@ -15,7 +15,6 @@ use Rattle.cics_run.specs.declared.running.Status.TheVariants as status
 use Rattle.cics_run.specs.declared.running.RunFault.{RunFault}
 use Rattle.cics_run.specs.declared.running.RunFault.TheVariants as faults
 use Rattle.cics_run.specs.declared.running.Options.{Options}
-use Rattle.cics_run.specs.declared.running.Wanted.{Wanted}
 
 -- what stands behind some lines: the stage, how many lines there were and the last of them, what was printed, the same with each line
 -- in front of what it led to, and the fault of the last line, where it has one
@@ -59,31 +58,35 @@ start = record { stage = first_stage; number = 0; line = []; journal = []; shown
 abbrev pub play : List (List ℕ) → Played
 play lines = fold next start lines
 
--- the journal of some lines, with the script where that is wanted
-abbrev pub journal_of : Wanted → Played → List ℕ
-journal_of wanted p = if wanted.with_script then p.shown else p.journal
+-- what a run prints: whether each line of the script stands in front of what it led to, and what stands behind the lines, by the stage
+-- in which they end
+pub record Form : Type 0 where
+  pub with_script : Bool
+  pub ending : Stage → List ℕ
+
+-- what stands behind the lines: the listing, unless it is left out, and then the replay, if it is asked for
+abbrev pub listed : Options → Stage → List ℕ
+listed options stage = (if options.no_list then [] else listing_at stage) ++ (if options.replay then replay_at stage else [])
+
+-- no line of the script is printed
+abbrev pub plain : Options → Form
+plain options = record { with_script = false; ending = listed options }
+
+-- the journal of some lines, with the script if that is printed
+abbrev pub journal_of : Form → Played → List ℕ
+journal_of form p = if form.with_script then p.shown else p.journal
 
 -- the journal of the lines that these bytes complete
-abbrev pub journal : Wanted → List ℕ → List ℕ
-journal wanted bytes = journal_of wanted (play (completed bytes))
+abbrev pub journal : Form → List ℕ → List ℕ
+journal form bytes = journal_of form (play (completed bytes))
 
--- a run with these options, and neither a serial run nor the script
-abbrev pub without_serial : Options → Wanted
-without_serial options = record { options = options; serial = false; with_script = false }
-
--- the listing stands behind the journal, unless it is left out, and behind that the replay and the serial run, where they are asked for
-abbrev pub ending : Wanted → Stage → List ℕ
-ending wanted stage =
-    (if wanted.options.no_list then [] else listing_at stage)
-    ++ ((if wanted.options.replay then replay_at stage else []) ++ (if wanted.serial then serial_at stage else []))
-
--- behind a fault stand no listing, no replay and no serial run
-abbrev pub whole : Wanted → Played → List ℕ
-whole wanted p = if has_fault p then journal_of wanted p else journal_of wanted p ++ ending wanted p.stage
+-- nothing stands behind a fault
+abbrev pub whole : Form → Played → List ℕ
+whole form p = if has_fault p then journal_of form p else journal_of form p ++ form.ending p.stage
 
 -- what a run over a whole script writes
-abbrev pub output : Wanted → List ℕ → List ℕ
-output wanted bytes = whole wanted (play (all_lines bytes))
+abbrev pub output : Form → List ℕ → List ℕ
+output form bytes = whole form (play (all_lines bytes))
 
 -- whether a fault is printed by a run over a whole script
 abbrev pub is_faulty : List ℕ → Bool
@@ -95,8 +98,8 @@ is_stopped bytes = has_fault (play (completed bytes))
 
 -- A front is written of what these bytes call for: the journal of the lines that they complete, and only at the input's end,
 -- where the last line may lack its LF, the whole output.
-abbrev pub WritesFront : Wanted → List ℕ → Option (List ℕ) → Option (List ℕ) → Option (List ℕ) → Type 0
-WritesFront wanted bytes rest old new = AppendsFront old new (journal wanted bytes) ⊎ (IsAtEnd rest × AppendsFront old new (output wanted bytes))
+abbrev pub WritesFront : Form → List ℕ → Option (List ℕ) → Option (List ℕ) → Option (List ℕ) → Type 0
+WritesFront form bytes rest old new = AppendsFront old new (journal form bytes) ⊎ (IsAtEnd rest × AppendsFront old new (output form bytes))
 
 -- What a run has done at each answer, where bytes are the bytes that it read:
 -- - Done: the input is at its end, no fault was printed, and the whole output is written;
@@ -106,15 +109,15 @@ WritesFront wanted bytes rest old new = AppendsFront old new (journal wanted byt
 --   journal is written;
 -- - ReadFault: none of the lines that the bytes complete is a fault, and their journal is written;
 -- - WriteFault and NoMemory: a front is written.
-abbrev pub Answers : Wanted → List ℕ → Option (List ℕ) → Option (List ℕ) → Option (List ℕ) → Result Status RunFault → Type 0
-Answers wanted bytes rest old new (Ok status.Done) = Appends old new (output wanted bytes) × (is_faulty bytes ≡ false) × IsAtEnd rest
-Answers wanted bytes rest old new (Ok status.LineFault) =
-    Appends old new (output wanted bytes) × (is_faulty bytes ≡ true) × ((is_stopped bytes ≡ true) ⊎ IsAtEnd rest)
-Answers wanted bytes rest old new (Err faults.InputTooLong) =
-    (length bytes ≡ most_bytes + 1) × (is_stopped (take most_bytes bytes) ≡ false) × Appends old new (journal wanted (take most_bytes bytes))
-Answers wanted bytes rest old new (Err faults.ReadFault) = (is_stopped bytes ≡ false) × Appends old new (journal wanted bytes)
-Answers wanted bytes rest old new (Err faults.WriteFault) = WritesFront wanted bytes rest old new
-Answers wanted bytes rest old new (Err faults.NoMemory) = WritesFront wanted bytes rest old new
+abbrev pub Answers : Form → List ℕ → Option (List ℕ) → Option (List ℕ) → Option (List ℕ) → Result Status RunFault → Type 0
+Answers form bytes rest old new (Ok status.Done) = Appends old new (output form bytes) × (is_faulty bytes ≡ false) × IsAtEnd rest
+Answers form bytes rest old new (Ok status.LineFault) =
+    Appends old new (output form bytes) × (is_faulty bytes ≡ true) × ((is_stopped bytes ≡ true) ⊎ IsAtEnd rest)
+Answers form bytes rest old new (Err faults.InputTooLong) =
+    (length bytes ≡ most_bytes + 1) × (is_stopped (take most_bytes bytes) ≡ false) × Appends old new (journal form (take most_bytes bytes))
+Answers form bytes rest old new (Err faults.ReadFault) = (is_stopped bytes ≡ false) × Appends old new (journal form bytes)
+Answers form bytes rest old new (Err faults.WriteFault) = WritesFront form bytes rest old new
+Answers form bytes rest old new (Err faults.NoMemory) = WritesFront form bytes rest old new
 
 -- how many bytes a run reads at most: as many as a script may have, and one more where it tells that there are more
 abbrev pub most : Result Status RunFault → ℕ
@@ -128,9 +131,9 @@ ReadsOn bytes told = (front : List ℕ) × (last : List ℕ) × (bytes ≡ front
 
 -- Some bytes were read, not too many and no more behind a fault, and what was written is what they call for. What the last read gave
 -- may be told.
-abbrev pub RunsOver : Wanted → Option (List ℕ) → Option (List ℕ) → Option (List ℕ) → Option (List ℕ) → Option (List ℕ) → Result Status RunFault → Type 0
-RunsOver wanted input rest last old new result =
-    (bytes : List ℕ) × Consumes input rest bytes × (length bytes ≤ most result) × ReadsOn bytes last × Answers wanted bytes rest old new result
+abbrev pub RunsOver : Form → Option (List ℕ) → Option (List ℕ) → Option (List ℕ) → Option (List ℕ) → Option (List ℕ) → Result Status RunFault → Type 0
+RunsOver form input rest last old new result =
+    (bytes : List ℕ) × Consumes input rest bytes × (length bytes ≤ most result) × ReadsOn bytes last × Answers form bytes rest old new result
 
 -- how often a run reads at most: each read but the last gives a byte
 abbrev pub most_reads : ℕ

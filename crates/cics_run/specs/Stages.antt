@@ -20,9 +20,8 @@ use Rattle.cics_script.specs.declared.lines.Line.{Line}
 use Rattle.cics_script.specs.declared.lines.Line.TheVariants.{Blank, DefineFile, DefineTsPrefix, DefineTd, LoadFile, LoadTd, Attach, Clock, Issue, Shutdown}
 use Rattle.cics_script.specs.declared.faults.LineFault.{LineFault}
 use Rattle.cics_script.specs.declared.faults.LineFault.TheVariants.{DefineTooLate}
+use Rattle.cics_listing.specs.Listings.{listing_text, replay_text}
 use Rattle.cics_run.specs.Journal.{attached_line, outcome_line, refused_line, clock_line, clock_refused_line, shutdown_line, shutdown_refused_line, line_fault_line, define_fault_line}
-use Rattle.cics_run.specs.Listings.{listing_text, replay_text}
-use Rattle.cics_run.specs.Serial.{serial_text}
 use Rattle.cics_run.specs.Settling.{region_at, Settled, settled}
 use Rattle.cics_run.specs.declared.stage.Fault.{Fault}
 use Rattle.cics_run.specs.declared.stage.Fault.TheVariants as faults
@@ -156,10 +155,6 @@ listing_at stage = listing_text (region_listing (region_of stage))
 -- what is printed of the replay of the history
 abbrev pub replay_at : Stage → List ℕ
 replay_at stage = replay_text (replayed_listing (region_of stage))
-
--- what is printed of the serial run
-abbrev pub serial_at : Stage → List ℕ
-serial_at stage = serial_text (region_of stage).machine.units
 
 -- a line led to this, and to this stage, unless there was no memory
 abbrev pub Leads : {E : Type 0} → Step → Stage → List ℕ → List ℕ → Result (Option Fault) E → Type 0

@@ -5,13 +5,12 @@ use Rattle.std.specs.Io.KnownBytes.{Appends, Consumes}
 use Rattle.cics_run.specs.Lines.{completed, unfinished, all_lines}
 use Rattle.cics_run.specs.Journal.{script_line}
 use Rattle.cics_run.specs.Stages.{step, Step, first_stage, region_of}
-use Rattle.cics_run.specs.Running.{Played, play, has_fault, journal_of, journal, output, is_faulty}
+use Rattle.cics_run.specs.Running.{Form, Played, play, has_fault, journal_of, journal, output, is_faulty}
 use Rattle.cics_run.specs.Printing.{AppendsFront, Prints}
 use Rattle.cics_run.specs.declared.running.RunFault.{RunFault}
 use Rattle.cics_run.specs.declared.running.RunFault.TheVariants as faults
 use Rattle.cics_run.specs.declared.writing.Stop.{Stop}
 use Rattle.cics_run.specs.declared.writing.Stop.TheVariants as stops
-use Rattle.cics_run.specs.declared.running.Wanted.{Wanted}
 use Rattle.cics_run.specs.declared.running.Status.{Status}
 use Rattle.cics_run.specs.declared.running.Status.TheVariants as status
 use Rattle.cics_run.specs.declared.session.Session.{Session}
@@ -30,7 +29,7 @@ pub record IsNew (s : Session) : Type 0 where
 abbrev pub next_step : Session → List ℕ → Step
 next_step s line = step (s.number + 1) s.stage line
 
--- what is printed of that line: its bytes, where the script is wanted, and behind them what it leads to
+-- what is printed of that line: its bytes, if the script is printed, and behind them what it leads to
 abbrev pub next_text : Session → List ℕ → List ℕ
 next_text s line = (if s.with_script then script_line line else []) ++ (next_step s line).text
 
@@ -46,17 +45,17 @@ abbrev pub ended_line : Session → List ℕ
 ended_line s = strip_last 13 s.line.items
 
 -- After these bytes, none of whose lines was a fault, their journal is printed.
-pub record Stands (wanted : Wanted) (bytes : List ℕ) (before now : Option (List ℕ)) (session : Session) : Type 0 where
+pub record Stands (form : Form) (bytes : List ℕ) (before now : Option (List ℕ)) (session : Session) : Type 0 where
   pub stage : session.stage ≡ (play (completed bytes)).stage
   pub number : session.number ≡ (play (completed bytes)).number
   pub line : session.line.items ≡ unfinished bytes
   pub going : has_fault (play (completed bytes)) ≡ false
-  pub shows : session.with_script ≡ wanted.with_script
-  pub printed : Prints before now [] session.pending.items (journal wanted bytes)
+  pub shows : session.with_script ≡ form.with_script
+  pub printed : Prints before now [] session.pending.items (journal form bytes)
 
 -- a call leads to this from each place where its session may stand, behind whatever bytes
-abbrev pub WhereverStands : Wanted → Option (List ℕ) → Session → (List ℕ → Option (List ℕ) → Type 0) → Type 0
-WhereverStands wanted now session LeadsTo = (bytes : List ℕ) (before : Option (List ℕ)) → Stands wanted bytes before now session → LeadsTo bytes before
+abbrev pub WhereverStands : Form → Option (List ℕ) → Session → (List ℕ → Option (List ℕ) → Type 0) → Type 0
+WhereverStands form now session LeadsTo = (bytes : List ℕ) (before : Option (List ℕ)) → Stands form bytes before now session → LeadsTo bytes before
 
 -- A session keeps the line at which these lines end: its bytes, its number and its fault.
 pub record Keeps (session : Session) (p : Played) : Type 0 where
@@ -65,50 +64,50 @@ pub record Keeps (session : Session) (p : Played) : Type 0 where
   pub fault : session.fault ≡ p.fault
 
 -- A line of these bytes was a fault: their journal is written, and the line is kept.
-pub record Stopped (wanted : Wanted) (bytes : List ℕ) (before now : Option (List ℕ)) (session : Session) : Type 0 where
+pub record Stopped (form : Form) (bytes : List ℕ) (before now : Option (List ℕ)) (session : Session) : Type 0 where
   pub fault : has_fault (play (completed bytes)) ≡ true
-  pub written : Appends before now (journal wanted bytes)
+  pub written : Appends before now (journal form bytes)
   pub kept : Keeps session (play (completed bytes))
 
 -- whether a line was a fault, the session goes on or has stopped
-abbrev pub Comes : Wanted → List ℕ → Option (List ℕ) → Option (List ℕ) → Session → Bool → Type 0
-Comes wanted bytes before now session false = Stands wanted bytes before now session
-Comes wanted bytes before now session true = Stopped wanted bytes before now session
+abbrev pub Comes : Form → List ℕ → Option (List ℕ) → Option (List ℕ) → Session → Bool → Type 0
+Comes form bytes before now session false = Stands form bytes before now session
+Comes form bytes before now session true = Stopped form bytes before now session
 
 -- more bytes came
-abbrev pub Feeds : {E : Type 0} → Wanted → List ℕ → Option (List ℕ) → Option (List ℕ) → Session → Result Bool E → Type 0
-Feeds wanted bytes before now session result =
-    MatchResult result (Comes wanted bytes before now session) (λ _. AppendsFront before now (journal wanted bytes))
+abbrev pub Feeds : {E : Type 0} → Form → List ℕ → Option (List ℕ) → Option (List ℕ) → Session → Result Bool E → Type 0
+Feeds form bytes before now session result =
+    MatchResult result (Comes form bytes before now session) (λ _. AppendsFront before now (journal form bytes))
 
 -- all that was printed is written
-abbrev pub Writes : {A E : Type 0} → Wanted → List ℕ → Option (List ℕ) → Option (List ℕ) → Session → Result A E → Type 0
-Writes wanted bytes before now session result =
-    MatchResult result (λ _. Stands wanted bytes before now session × Appends before now (journal wanted bytes))
-    (λ _. AppendsFront before now (journal wanted bytes))
+abbrev pub Writes : {A E : Type 0} → Form → List ℕ → Option (List ℕ) → Option (List ℕ) → Session → Result A E → Type 0
+Writes form bytes before now session result =
+    MatchResult result (λ _. Stands form bytes before now session × Appends before now (journal form bytes))
+    (λ _. AppendsFront before now (journal form bytes))
 
 -- All lines were run, and whether one of them, the last, was a fault: then it is kept.
-pub record IsClosed (wanted : Wanted) (bytes : List ℕ) (before now : Option (List ℕ)) (session : Session) (is_fault : Bool) : Type 0 where
+pub record IsClosed (form : Form) (bytes : List ℕ) (before now : Option (List ℕ)) (session : Session) (is_fault : Bool) : Type 0 where
   pub fault : has_fault (play (all_lines bytes)) ≡ is_fault
   pub stage : (play (all_lines bytes)).stage ≡ session.stage
-  pub printed : Prints before now [] session.pending.items (journal_of wanted (play (all_lines bytes)))
+  pub printed : Prints before now [] session.pending.items (journal_of form (play (all_lines bytes)))
   pub kept : is_fault ≡ true → Keeps session (play (all_lines bytes))
 
 -- the last line was run, where it lacks its LF
-abbrev pub Closes : {E : Type 0} → Wanted → List ℕ → Option (List ℕ) → Option (List ℕ) → Session → Result Bool E → Type 0
-Closes wanted bytes before now session result =
-    MatchResult result (IsClosed wanted bytes before now session) (λ _. AppendsFront before now (journal_of wanted (play (all_lines bytes))))
+abbrev pub Closes : {E : Type 0} → Form → List ℕ → Option (List ℕ) → Option (List ℕ) → Session → Result Bool E → Type 0
+Closes form bytes before now session result =
+    MatchResult result (IsClosed form bytes before now session) (λ _. AppendsFront before now (journal_of form (play (all_lines bytes))))
 
 -- the region in which these lines end, made of the definitions where there is none yet
 abbrev pub final_stage : Played → Stage
 final_stage p = Running (region_of p.stage)
 
 -- the input's end came
-abbrev pub Finishes : {E : Type 0} → Wanted → List ℕ → Option (List ℕ) → Option (List ℕ) → Session → Result Status E → Type 0
-Finishes wanted bytes before now session (Ok status.Done) =
-    Appends before now (output wanted bytes) × (is_faulty bytes ≡ false) × (session.stage ≡ final_stage (play (all_lines bytes)))
-Finishes wanted bytes before now session (Ok status.LineFault) =
-    Appends before now (output wanted bytes) × (is_faulty bytes ≡ true) × Keeps session (play (all_lines bytes))
-Finishes wanted bytes before now session (Err e) = AppendsFront before now (output wanted bytes)
+abbrev pub Finishes : {E : Type 0} → Form → List ℕ → Option (List ℕ) → Option (List ℕ) → Session → Result Status E → Type 0
+Finishes form bytes before now session (Ok status.Done) =
+    Appends before now (output form bytes) × (is_faulty bytes ≡ false) × (session.stage ≡ final_stage (play (all_lines bytes)))
+Finishes form bytes before now session (Ok status.LineFault) =
+    Appends before now (output form bytes) × (is_faulty bytes ≡ true) × Keeps session (play (all_lines bytes))
+Finishes form bytes before now session (Err e) = AppendsFront before now (output form bytes)
 
 -- What a run over some bytes leaves in its session: the region in which their lines end, or the line that has a fault.
 abbrev pub KeepsEnd : Option (List ℕ) → Option (List ℕ) → Session → Result Status RunFault → Type 0

@@ -2,8 +2,9 @@
 
 ghost use Rattle.std.specs.Prelude.{◌≡◌, None};
 ghost use Rattle.cics_run.specs.Streams.{Rises, RisesAtMost};
-ghost use Rattle.cics_run.specs.Running.{RunsOver, without_serial, most_reads, failed_reads_of};
+ghost use Rattle.cics_run.specs.Running.{RunsOver, plain, most_reads, failed_reads_of};
 ghost use Rattle.cics_run.specs.Running.{failed_writes_of};
+ghost use Rattle.cics_run.specs.Wanted.{form_of};
 ghost use Rattle.cics_run.specs.Standing.{IsNew, KeepsEnd, ended, fault_of};
 
 use crate::session::Session;
@@ -75,7 +76,7 @@ pub fn run<R: Read, W: Write>(
     writer: &mut W,
     options: Options,
 ) -> Result<Status, RunFault>
-    ensures whole_run { RunsOver (without_serial options) (R.remaining reader.old)
+    ensures whole_run { RunsOver (plain options) (R.remaining reader.old)
         (R.remaining reader.new) None (W.contents writer.old) (W.contents writer.new) result }
 {
     let wanted = Wanted {
@@ -111,7 +112,7 @@ pub fn run_over<S: Source, K: Sink>(
         (failed_writes_of result) }
     ensures asked { RisesAtMost (S.asked source.old) (S.asked source.new) most_reads }
     ensures kept { KeepsEnd (S.remaining source.old) (S.remaining source.new) session.new result }
-    ensures whole_run { RunsOver wanted (S.remaining source.old) (S.remaining source.new)
+    ensures whole_run { RunsOver (form_of wanted) (S.remaining source.old) (S.remaining source.new)
         (S.last source.new) (K.contents sink.old) (K.contents sink.new) result }
 {
     session.with_script = wanted.with_script;

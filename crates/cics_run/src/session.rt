@@ -7,25 +7,24 @@ ghost use Rattle.std.specs.List.{prefix_len, list_all};
 ghost use Rattle.std.specs.Io.BufRead.{strip_last};
 ghost use Rattle.cics_run.specs.Lines.{is_in_line};
 ghost use Rattle.cics_run.specs.Journal.{script_line};
-ghost use Rattle.cics_run.specs.Stages.{region_of, listing_at, replay_at, serial_at};
+ghost use Rattle.cics_run.specs.Stages.{region_of, listing_at, replay_at};
 ghost use Rattle.cics_run.specs.declared.stage.Stage.TheVariants.{Running};
 ghost use Rattle.cics_run.specs.Printing.{AppendsFront, Prints, stopped_writes};
 ghost use Rattle.cics_run.specs.Streams.{Rises};
 ghost use Rattle.std.specs.Io.KnownBytes.{Appends};
-ghost use Rattle.cics_run.specs.Running.{ending};
+ghost use Rattle.cics_run.specs.Running.{Form, listed};
+ghost use Rattle.cics_run.specs.Wanted.{ending, form_of};
 ghost use Rattle.cics_run.specs.Standing.{IsNew, Ran, next_text, WhereverStands};
 ghost use Rattle.cics_run.specs.Standing.{Feeds, Writes, Closes, Finishes};
-ghost use Rattle.cics_run.specs.declared.running.Wanted.{Wanted};
 
 use crate::journal::push_script_line;
-use crate::listing::{push_listing, push_replay};
-use crate::running::{Status, Wanted};
-use crate::serial::push_serial;
+use crate::running::{Options, Status, Wanted};
 use crate::stage::{Fault, Stage};
 use crate::streams::Sink;
-use crate::undefined::{Named, keep_undefined};
 use crate::writing::{Stop, write_pending, write_printed};
+use cics_advice::{Named, keep_undefined};
 use cics_dispatch::Region;
+use cics_listing::{push_listing, push_replay, push_serial};
 use cics_names::NoMemory;
 use std::alloc::Global;
 
@@ -94,8 +93,8 @@ fn short_line_len(bytes: &[u8]) -> usize
     bytes.iter().take_while(|byte| **byte != LF).count()
 }
 
-// How many bytes stand before the first LF, or before the end where there is none.
-fn line_len(bytes: &[u8]) -> usize
+/// Returns how many bytes stand before the first LF, or before the end if there is none.
+pub fn line_len(bytes: &[u8]) -> usize
     ensures value { result ≡ prefix_len is_in_line bytes.now }
     ensures within { result ≤ length bytes.now }
 {
@@ -141,8 +140,8 @@ impl Session {
 
     // Writes all that was printed and not yet written.
     fn write<K: Sink>(&mut self, sink: &mut K) -> Result<(), Stop>
-        ensures writes { (wanted : Wanted) → WhereverStands wanted (K.contents sink.old) self.old
-            (λ bytes before. Writes wanted bytes before (K.contents sink.new) self.new result) }
+        ensures writes { (form : Form) → WhereverStands form (K.contents sink.old) self.old
+            (λ bytes before. Writes form bytes before (K.contents sink.new) self.new result) }
         ensures left { OnOk result (self.new.pending.items ≡ []) }
         ensures failed { Rises (K.failed sink.old) (K.failed sink.new) (stopped_writes result) }
     {
@@ -186,8 +185,8 @@ impl Session {
     // one. Without a fault what was printed may wait to be written.
     fn run_lines<K: Sink>(&mut self, chunk: &[u8], sink: &mut K) -> Result<bool, Stop>
         requires { self.old.number + length chunk.now < 2 ^ 64 }
-        ensures feeds { (wanted : Wanted) → WhereverStands wanted (K.contents sink.old) self.old
-            (λ bytes before. Feeds wanted (bytes ++ chunk.now) before (K.contents sink.new) self.new
+        ensures feeds { (form : Form) → WhereverStands form (K.contents sink.old) self.old
+            (λ bytes before. Feeds form (bytes ++ chunk.now) before (K.contents sink.new) self.new
             result) }
         ensures failed { Rises (K.failed sink.old) (K.failed sink.new) (stopped_writes result) }
     {
@@ -215,8 +214,8 @@ impl Session {
     /// On `Stop` the first part of the text is written.
     pub(crate) fn feed<K: Sink>(&mut self, chunk: &[u8], sink: &mut K) -> Result<bool, Stop>
         requires { self.old.number + length chunk.now < 2 ^ 64 }
-        ensures feeds { (wanted : Wanted) → WhereverStands wanted (K.contents sink.old) self.old
-            (λ bytes before. Feeds wanted (bytes ++ chunk.now) before (K.contents sink.new) self.new
+        ensures feeds { (form : Form) → WhereverStands form (K.contents sink.old) self.old
+            (λ bytes before. Feeds form (bytes ++ chunk.now) before (K.contents sink.new) self.new
             result) }
         ensures left { IfOk result (λ fault. fault ≡ false → self.new.pending.items ≡ []) }
         ensures failed { Rises (K.failed sink.old) (K.failed sink.new) (stopped_writes result) }
@@ -234,8 +233,8 @@ impl Session {
     // Runs the last line where it lacks its LF.
     fn end_input<K: Sink>(&mut self, sink: &mut K) -> Result<bool, Stop>
         requires { self.old.number + 1 < 2 ^ 64 }
-        ensures closes { (wanted : Wanted) → WhereverStands wanted (K.contents sink.old) self.old
-            (λ bytes before. Closes wanted bytes before (K.contents sink.new) self.new result) }
+        ensures closes { (form : Form) → WhereverStands form (K.contents sink.old) self.old
+            (λ bytes before. Closes form bytes before (K.contents sink.new) self.new result) }
         ensures left { IfOk result (λ fault. fault ≡ true → self.new.pending.items ≡ []) }
         ensures failed { Rises (K.failed sink.old) (K.failed sink.new) (stopped_writes result) }
     {
@@ -250,8 +249,9 @@ impl Session {
     /// the first part of the output is written.
     pub(crate) fn finish<K: Sink>(&mut self, wanted: Wanted, sink: &mut K) -> Result<Status, Stop>
         requires { self.old.number + 1 < 2 ^ 64 }
-        ensures finishes { WhereverStands wanted (K.contents sink.old) self.old (λ bytes before.
-            Finishes wanted bytes before (K.contents sink.new) self.new result) }
+        ensures finishes { WhereverStands (form_of wanted) (K.contents sink.old) self.old
+            (λ bytes before. Finishes (form_of wanted) bytes before (K.contents sink.new) self.new
+            result) }
         ensures failed { Rises (K.failed sink.old) (K.failed sink.new) (stopped_writes result) }
     {
         match self.end_input(sink) {
@@ -302,44 +302,38 @@ fn push_ending(stage: &mut Stage, wanted: Wanted, out: &mut Vec<u8>) -> Result<(
     Ok(())
 }
 
-// Prints the listing of a region, unless it is left out.
-fn push_wanted_listing(region: &Region, no_list: bool, out: &mut Vec<u8>) -> Result<(), NoMemory>
-    ensures { OnOk result (out.new.items
-        ≡ out.old.items ++ (if no_list then [] else listing_at (Running region.now))) }
+fn push_region(region: &Region, out: &mut Vec<u8>) -> Result<(), NoMemory>
+    ensures { OnOk result (out.new.items ≡ out.old.items ++ listing_at (Running region.now)) }
 {
-    if no_list {
-        return Ok(());
-    }
     push_listing(out, &region.listing()?)
 }
 
-// Prints the replay of a region's history, where it is asked for.
-fn push_wanted_replay(region: &Region, replay: bool, out: &mut Vec<u8>) -> Result<(), NoMemory>
-    ensures { OnOk result (out.new.items
-        ≡ out.old.items ++ (if replay then replay_at (Running region.now) else [])) }
+fn push_replayed(region: &Region, out: &mut Vec<u8>) -> Result<(), NoMemory>
+    ensures { OnOk result (out.new.items ≡ out.old.items ++ replay_at (Running region.now)) }
 {
-    if !replay {
-        return Ok(());
-    }
     push_replay(out, &region.replayed()?)
 }
 
-// Prints the serial run of a region's units, where it is asked for.
-fn push_wanted_serial_run(region: &Region, serial: bool, out: &mut Vec<u8>) -> Result<(), NoMemory>
-    ensures { OnOk result (out.new.items
-        ≡ out.old.items ++ (if serial then serial_at (Running region.now) else [])) }
+// Prints what is asked for of the listing of a region and the replay of its history.
+fn push_listed(region: &Region, options: Options, out: &mut Vec<u8>) -> Result<(), NoMemory>
+    ensures { OnOk result (out.new.items ≡ out.old.items ++ listed options (Running region.now)) }
 {
-    if !serial {
-        return Ok(());
+    if !options.no_list {
+        push_region(region, out)?;
     }
-    push_serial(out, region.units())
+    if options.replay {
+        push_replayed(region, out)?;
+    }
+    Ok(())
 }
 
 // Prints what is asked for of the listing of a region, the replay and the serial run.
 fn push_all_wanted(region: &Region, wanted: Wanted, out: &mut Vec<u8>) -> Result<(), NoMemory>
     ensures { OnOk result (out.new.items ≡ out.old.items ++ ending wanted (Running region.now)) }
 {
-    push_wanted_listing(region, wanted.options.no_list, out)?;
-    push_wanted_replay(region, wanted.options.replay, out)?;
-    push_wanted_serial_run(region, wanted.serial, out)
+    push_listed(region, wanted.options, out)?;
+    if wanted.serial {
+        push_serial(out, region.units())?;
+    }
+    Ok(())
 }

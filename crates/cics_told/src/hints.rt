@@ -1,8 +1,8 @@
 //! Hints on names that aren't defined, while they are in capitals.
 
+use cics_advice::Named;
 use cics_dispatch::Region;
 use cics_names::{Name4, Name8, NoMemory};
-use cics_run::Named;
 use cics_script::{push_bare, push_name, push_str};
 use std::alloc::Global;
 

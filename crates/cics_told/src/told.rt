@@ -6,12 +6,12 @@ ghost use Rattle.cics_told.specs.Told.{IsToldOfRegion, IsToldAtEnd};
 
 use crate::deadlocked::push_deadlocks;
 use crate::hints::hints_of;
-use cics_advice::{Cause, push_advice};
+use cics_advice::{Cause, Named, push_advice};
 use cics_deadlock::waiting_count;
 use cics_dispatch::Region;
 use cics_names::NoMemory;
+use cics_run::Session;
 use cics_run::stage::{Fault, Stage};
-use cics_run::{Named, Session};
 use cics_script::{Placed, find_fault, skip_blanks};
 use std::alloc::Global;
 

@@ -1,24 +1,14 @@
 //! The lines of a script that was read whole.
 
-ghost use Rattle.std.specs.Prelude.{◌≡◌, ◌∷◌, ◌<◌, ◌≤◌, [], length, IfNone, IfOk, IfSome};
-ghost use Rattle.std.specs.List.{prefix_len};
+ghost use Rattle.std.specs.Prelude.{◌≡◌, ◌∷◌, ◌<◌, [], length, IfNone, IfOk, IfSome};
 ghost use Rattle.std.specs.Io.BufRead.{strip_last};
-ghost use Rattle.cics_run.specs.Lines.{all_lines, is_in_line};
+ghost use Rattle.cics_run.specs.Lines.{all_lines};
 
 use cics_names::{Items, NoMemory, Record};
+use cics_run::line_len;
 use std::alloc::Global;
 
-const LF: u8 = 10;
-
 const CR: u8 = 13;
-
-// How many bytes stand before the first LF, or before the end if there is none.
-fn line_len(bytes: &[u8]) -> usize
-    ensures value { result ≡ prefix_len is_in_line bytes.now }
-    ensures within { result ≤ length bytes.now }
-{
-    bytes.iter().take_while(|byte| **byte != LF).count()
-}
 
 // A line without the CR right before its LF.
 fn without_cr(line: &[u8]) -> &[u8]

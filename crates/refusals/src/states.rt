@@ -5,8 +5,8 @@ use crate::events::{Event, event_of};
 use crate::guarded_calls::{blocker, parts, value_holder};
 use crate::scripts::Step;
 use cics_history::UnitId;
+use cics_listing::push_listing;
 use cics_names::{NoMemory, Verb};
-use cics_run::listing::push_listing;
 use cics_script::{Line, push_number, push_str, push_text};
 use cics_units::{Entry, Listing, Op, UnitState, Units};
 

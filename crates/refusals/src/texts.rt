@@ -1,12 +1,12 @@
 //! What came of events, as lines of the journal.
 
 use crate::events::Came;
+use cics_listing::push_listing;
 use cics_names::NoMemory;
 use cics_run::journal::{
     push_attached, push_clock, push_clock_refused, push_define_fault, push_expired, push_outcome,
     push_refused, push_shutdown, push_shutdown_refused, push_woken,
 };
-use cics_run::listing::push_listing;
 use cics_script::{push_number, push_str};
 use std::alloc::Global;
 

@@ -1,5 +1,5 @@
 use Rattle.std.proofs.Common.{◌≡◌, ◌++◌, map, take}
-use Rattle.cics_run.specs.Listings.{file_text}
+use Rattle.cics_listing.specs.Listings.{file_text}
 use Rattle.cics_endings.proofs.blocks.add_files.Given as goal
 
 abbrev pub invariant-loop-file : goal.invariant-loop-file

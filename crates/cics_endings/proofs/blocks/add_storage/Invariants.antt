@@ -1,5 +1,5 @@
 use Rattle.std.proofs.Common.{◌≡◌, ◌++◌, map, take}
-use Rattle.cics_run.specs.Listings.{storage_text}
+use Rattle.cics_listing.specs.Listings.{storage_text}
 use Rattle.cics_endings.proofs.blocks.add_storage.Given as goal
 
 abbrev pub invariant-loop-queue : goal.invariant-loop-queue

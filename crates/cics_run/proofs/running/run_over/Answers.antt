@@ -2,6 +2,7 @@ use Rattle.std.proofs.Common.{arith, refl, ◌≡◌, Bool, false, [], ◌++◌,
 use Rattle.std.specs.Io.KnownBytes.{Appends}
 use Rattle.cics_run.specs.Running.{journal, is_stopped}
 use Rattle.cics_run.specs.declared.running.TheConstants.{LIMIT}
+use Rattle.cics_run.specs.Wanted.{form_of}
 use Rattle.cics_run.proofs.Known.{consumes-append, consumes-nothing}
 use Rattle.cics_run.proofs.Counting.{rises-first, rises-rises, rises-nothing}
 use Rattle.cics_run.proofs.RunCounts.{asked-within, stop-reads, stop-writes, ended-reads, ended-writes}
@@ -11,7 +12,7 @@ use Rattle.cics_run.proofs.running.run_over.Goals as goal
 pub finish-requires : goal.finish-requires
 finish-requires g c =
     let (bytes, read, at, none, counts, room, whole) = c.reads.invariant in
-    omega (arith, number-bound c.args.wanted bytes _ _ _ at, room)
+    omega (arith, number-bound (form_of c.args.wanted) bytes _ _ _ at, room)
 
 pub feed-requires : goal.feed-requires
 feed-requires g c =
@@ -19,14 +20,14 @@ feed-requires g c =
     let n = c.in-Ok.field-0 in
     let got = c.read.new.buffer in
     let fits : n ≤ length got = c.in-Ok.ensures.bound.0 in
-    rw (front-of n got (drop c.max-size.result c.reads.buffer) fits) (omega (arith, number-bound c.args.wanted bytes _ _ _ at, room, length-take-le n got fits, fits, c.read.auto.buffer, length-take c.max-size.result c.reads.buffer, c.max-size.ensures, c.min.ensures))
+    rw (front-of n got (drop c.max-size.result c.reads.buffer) fits) (omega (arith, number-bound (form_of c.args.wanted) bytes _ _ _ at, room, length-take-le n got fits, fits, c.read.auto.buffer, length-take c.max-size.result c.reads.buffer, c.max-size.ensures, c.min.ensures))
 
 pub returns-in-Ok-eq0-clause-whole_run : goal.returns-in-Ok-eq0-clause-whole_run
 returns-in-Ok-eq0-clause-whole_run g c =
     let (bytes, read, at, none, counts, room, whole) = c.reads.invariant in
     let zero = c.in-Ok-eq0.field-0-test in
     let some : 0 < length c.read.new.buffer = omega (arith, c.read.auto.buffer, length-take c.max-size.result c.reads.buffer, c.max-size.ensures, whole) in
-    rw c.ended.ensures (runs-ended c.args.wanted bytes _ _ _ _ _ c.finish.new.self c.finish.result
+    rw c.ended.ensures (runs-ended (form_of c.args.wanted) bytes _ _ _ _ _ c.finish.new.self c.finish.result
     (read_nothing _ _ _ bytes c.read.new.buffer c.in-Ok-eq0.field-0 zero read c.in-Ok-eq0.ensures.bytes.0) (omega (arith, room))
     (reads-going bytes _ at.going (rw zero at c.in-Ok-eq0.ensures.last))
     (c.in-Ok-eq0.ensures.bytes.1 zero some) (c.finish.ensures.finishes bytes (g.K.Sink.contents c.args.sink.now) at))
@@ -34,7 +35,7 @@ returns-in-Ok-eq0-clause-whole_run g c =
 pub returns-in-Ok-eq0-clause-kept : goal.returns-in-Ok-eq0-clause-kept
 returns-in-Ok-eq0-clause-kept g c =
     let (bytes, read, at, none, counts, room, whole) = c.reads.invariant in
-    rw c.ended.ensures (ended-keeps c.args.wanted bytes _ _ _ _ c.finish.new.self c.finish.result
+    rw c.ended.ensures (ended-keeps (form_of c.args.wanted) bytes _ _ _ _ c.finish.new.self c.finish.result
     (read_nothing _ _ _ bytes c.read.new.buffer c.in-Ok-eq0.field-0 c.in-Ok-eq0.field-0-test read c.in-Ok-eq0.ensures.bytes.0)
     (c.finish.ensures.finishes bytes (g.K.Sink.contents c.args.sink.now) at))
 
@@ -46,8 +47,8 @@ returns-in-Ok-true-clause-kept g c =
     let rest = drop c.max-size.result c.reads.buffer in
     let fits : n ≤ length got = c.in-Ok.ensures.bound.0 in
     let now = bytes ++ take n (got ++ rest) in
-    stopped-keeps c.args.wanted now _ _ _ _ c.feed.new.self (read_more _ _ _ bytes got rest n fits read c.in-Ok.ensures.bytes.0)
-    (rw c.in-Ok-true.field-0-test at (c.in-Ok-true.ensures.feeds c.args.wanted bytes (g.K.Sink.contents c.args.sink.now) at))
+    stopped-keeps (form_of c.args.wanted) now _ _ _ _ c.feed.new.self (read_more _ _ _ bytes got rest n fits read c.in-Ok.ensures.bytes.0)
+    (rw c.in-Ok-true.field-0-test at (c.in-Ok-true.ensures.feeds (form_of c.args.wanted) bytes (g.K.Sink.contents c.args.sink.now) at))
 
 pub returns-in-Ok-clause-whole_run : goal.returns-in-Ok-clause-whole_run
 returns-in-Ok-clause-whole_run g c =
@@ -65,7 +66,7 @@ returns-in-Ok-clause-whole_run g c =
       (
         over,
         subst (λ b. is_stopped b ≡ false) (sym front) at.going,
-        subst (λ b. Appends (g.K.Sink.contents c.args.sink.now) (g.K.Sink.contents c.reads.sink) (journal c.args.wanted b)) (sym front) (all-written c.args.wanted bytes _ _ _ at none),
+        subst (λ b. Appends (g.K.Sink.contents c.args.sink.now) (g.K.Sink.contents c.reads.sink) (journal (form_of c.args.wanted) b)) (sym front) (all-written (form_of c.args.wanted) bytes _ _ _ at none),
       ),
     )
 
@@ -83,7 +84,7 @@ returns-in-Ok-true-clause-whole_run g c =
       read_more _ _ _ bytes got rest n fits read c.in-Ok.ensures.bytes.0,
       within-chunk bytes (take n (got ++ rest)) n c.reads.room count size.0 room,
       reads-chunk bytes (take n (got ++ rest)) _ at.going (omega (arith, count, size.1)) (rw (front-of n got rest fits) c.in-Ok.ensures.last),
-      stopped-output c.args.wanted now (g.S.Source.remaining c.read.new.self) _ _ c.feed.new.self (rw c.in-Ok-true.field-0-test at (c.in-Ok-true.ensures.feeds c.args.wanted bytes (g.K.Sink.contents c.args.sink.now) at)),
+      stopped-output (form_of c.args.wanted) now (g.S.Source.remaining c.read.new.self) _ _ c.feed.new.self (rw c.in-Ok-true.field-0-test at (c.in-Ok-true.ensures.feeds (form_of c.args.wanted) bytes (g.K.Sink.contents c.args.sink.now) at)),
     )
 
 pub returns-in-Err-feed-clause-whole_run : goal.returns-in-Err-feed-clause-whole_run
@@ -95,10 +96,10 @@ returns-in-Err-feed-clause-whole_run g c =
     let fits : n ≤ length got = c.in-Ok.ensures.bound.0 in
     let count = chunk-length n got rest fits in
     let size : (n ≤ c.reads.room) × (n ≤ 65536) = (omega (arith, fits, c.read.auto.buffer, length-take c.max-size.result c.reads.buffer, c.max-size.ensures, c.min.ensures, c.if-room-eq0.false), omega (arith, fits, c.read.auto.buffer, length-take c.max-size.result c.reads.buffer, whole)) in
-    rw c.fault_of.ensures (runs-stop c.args.wanted (bytes ++ take n (got ++ rest)) _ _ _ _ _ c.in-Err-feed.stop (read_more _ _ _ bytes got rest n fits read c.in-Ok.ensures.bytes.0)
+    rw c.fault_of.ensures (runs-stop (form_of c.args.wanted) (bytes ++ take n (got ++ rest)) _ _ _ _ _ c.in-Err-feed.stop (read_more _ _ _ bytes got rest n fits read c.in-Ok.ensures.bytes.0)
     (within-chunk bytes (take n (got ++ rest)) n c.reads.room count size.0 room)
     (reads-chunk bytes (take n (got ++ rest)) _ at.going (omega (arith, count, size.1)) (rw (front-of n got rest fits) c.in-Ok.ensures.last))
-    (c.in-Err-feed.ensures.feeds c.args.wanted bytes (g.K.Sink.contents c.args.sink.now) at))
+    (c.in-Err-feed.ensures.feeds (form_of c.args.wanted) bytes (g.K.Sink.contents c.args.sink.now) at))
 
 pub reads-preserved : goal.reads-preserved
 reads-preserved g c =
@@ -111,7 +112,7 @@ reads-preserved g c =
     let fit : n ≤ c.reads.room = omega (arith, fits, c.read.auto.buffer, length-take c.max-size.result c.reads.buffer, c.max-size.ensures, c.min.ensures, c.if-room-eq0.false) in (
       bytes ++ take n (got ++ rest),
       read_more _ _ _ bytes got rest n fits read c.in-Ok.ensures.bytes.0,
-      rw c.in-Ok-false.field-0-test at (c.in-Ok-false.ensures.feeds c.args.wanted bytes (g.K.Sink.contents c.args.sink.now) at),
+      rw c.in-Ok-false.field-0-test at (c.in-Ok-false.ensures.feeds (form_of c.args.wanted) bytes (g.K.Sink.contents c.args.sink.now) at),
       c.in-Ok-false.ensures.left c.in-Ok-false.field-0-test,
       (
         (reads + 1, rises-rises _ _ _ reads 1 asked c.in-Ok.ensures.asked, rw length-append (omega (arith, few, count, c.in-Ok.field-0-test.1))),
@@ -126,7 +127,7 @@ pub reads-init : goal.reads-init
 reads-init g c = (
   [],
   consumes-nothing _,
-  stands-new c.args.wanted _ _ c.requires.new,
+  stands-new (form_of c.args.wanted) _ _ c.requires.new,
   c.requires.new.pending,
   ((0, rises-nothing _, omega arith), rises-nothing _, rises-nothing _),
   refl,

@@ -1,0 +1,9 @@
+//! What is printed of files and queues at the end of a run: listings, and the serial run.
+#![tactic(auto)]
+
+mod listing;
+mod serial;
+mod unit_lines;
+
+pub use listing::{push_block, push_listing, push_replay, push_transient_block};
+pub use serial::push_serial;
