@@ -1,4 +1,5 @@
 pub mod Titles
 pub mod Standings
+pub mod Reads
 pub mod Pictures
 pub mod Blocking

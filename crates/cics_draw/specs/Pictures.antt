@@ -15,20 +15,26 @@ use Rattle.cics_run.specs.declared.running.RunFault.TheVariants as faults
 use Rattle.cics_picture.specs.Lanes.{most_rows}
 use Rattle.cics_picture.specs.Drawings.{Printed, Drawn, drawn}
 use Rattle.cics_picture.specs.Sheets.{sheet}
+use Rattle.cics_picture.specs.declared.bars.Standing.{Standing}
 use Rattle.cics_picture.specs.declared.drawing.Undrawn.{Undrawn}
 use Rattle.cics_picture.specs.declared.drawing.Undrawn.TheVariants as undrawns
 use Rattle.cics_history.specs.declared.ops.UnitState.{UnitState}
 use Rattle.cics_draw.specs.Titles.{title_of}
 use Rattle.cics_picture.specs.declared.bars.Look.{Look}
 use Rattle.cics_draw.specs.Standings.{standings_at, entries_at, outcomes_at, looks_at}
+use Rattle.cics_draw.specs.Reads.{shown_at, with_shown}
 use Rattle.cics_draw.specs.declared.picture.NoPicture.{NoPicture}
 use Rattle.cics_draw.specs.declared.picture.NoPicture.TheVariants.{Stopped, TooManyEvents}
+
+-- how the tasks stand behind a line that ran and printed a text, and what its read shows
+abbrev pub standings_behind : ℕ → Stage → List ℕ → List ℕ → List Standing
+standings_behind before stage line text = with_shown (standings_at before stage) (shown_at stage line text)
 
 -- a line, what its step printed, and how the tasks stand behind it
 abbrev pub printed : ℕ → Stage → List ℕ → Printed
 printed number stage line =
     let s = step number stage line in
-    record { number = number; line = line; text = s.text; standings = standings_at (length (entries_at stage)) s.stage }
+    record { number = number; line = line; text = s.text; standings = standings_behind (length (entries_at stage)) s.stage line s.text }
 
 -- the line that a session runs next, and what it prints
 abbrev pub next_printed : Session → List ℕ → Printed

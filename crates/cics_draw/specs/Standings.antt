@@ -32,7 +32,7 @@ IsInDeadlock m label = (labels : List Bytes) × IsDeadlock m labels × (is_key_i
 -- how the task of a label stands, if there is one
 abbrev pub standing_of : Machine → List (List Bytes) → Option Bytes → Standing
 standing_of m found None = nobody
-standing_of m found (Some label) = record { unit = unit_of m label; is_deadlocked = list_any (is_key_in label) found; stays = false }
+standing_of m found (Some label) = record { unit = unit_of m label; is_deadlocked = list_any (is_key_in label) found; stays = false; shows = None }
 
 -- how the task of a number stands
 abbrev pub standing_at : Machine → List (List Bytes) → ℕ → Standing
@@ -56,7 +56,7 @@ any_stays before m (Some unit) = list_any (stays m.units.opening unit) (drop bef
 -- how the task of a number stands behind a line that found so many entries
 abbrev pub marked_at : ℕ → Machine → List (List Bytes) → ℕ → Standing
 marked_at before m found number =
-    let s = standing_at m found number in record { unit = s.unit; is_deadlocked = s.is_deadlocked; stays = any_stays before m s.unit }
+    let s = standing_at m found number in record { unit = s.unit; is_deadlocked = s.is_deadlocked; stays = any_stays before m s.unit; shows = None }
 
 -- how the tasks below a number stand
 abbrev pub standings_below : ℕ → Machine → List (List Bytes) → ℕ → List Standing

@@ -1,15 +1,16 @@
 //! The lines of a script, run and drawn.
 
-ghost use Rattle.std.specs.Prelude.{◌≡◌, ◌↔◌, ◌++◌, ◌<◌, ◌+◌, ◌^◌, [], List, ℕ, IfOk};
+ghost use Rattle.std.specs.Prelude.{◌≡◌, ◌↔◌, ◌++◌, ◌<◌, ◌≤◌, ◌+◌, ◌^◌, [], List, ℕ, IfOk};
 ghost use Rattle.std.specs.Prelude.{IfErr, OnOk, length};
 ghost use Rattle.cics_run.specs.Standing.{IsNew, next_step};
 ghost use Rattle.cics_run.specs.Lines.{all_lines};
 ghost use Rattle.cics_run.specs.Running.{is_faulty, play};
-ghost use Rattle.cics_picture.specs.Lanes.{most_rows};
+ghost use Rattle.cics_picture.specs.Lanes.{most_lanes, most_rows};
 ghost use Rattle.cics_picture.specs.Drawings.{drawn_of, nothing_drawn, with_line, rows_of};
 ghost use Rattle.cics_picture.specs.Drawings.{Row, all_rows, events_of};
 ghost use Rattle.cics_picture.specs.declared.drawing.Undrawn.TheVariants.{TooManyRows};
 ghost use Rattle.cics_draw.specs.Pictures.{next_printed, printed_lines, drawing_of, picture_of};
+ghost use Rattle.cics_draw.specs.Pictures.{standings_behind};
 ghost use Rattle.cics_run.specs.declared.stage.Stage.{Stage};
 ghost use Rattle.cics_draw.specs.Blocking.{NamesBlocker};
 ghost use Rattle.cics_draw.specs.Pictures.{RunsLine, KeepsLast, looks_of, outcomes_of};
@@ -18,13 +19,15 @@ ghost use Rattle.cics_history.specs.declared.ops.UnitState.TheVariants.{Committe
 ghost use Rattle.cics_picture.specs.Bars.{bar_text, filled, hollow};
 ghost use Rattle.cics_picture.specs.declared.bars.Bar.{Bar};
 
+use crate::reads::{shown_at, with_shown};
 use crate::standings::{entries_at, looks_at, standings_at};
 use crate::titles::title_of;
 use cics_advice::keep_undefined;
-use cics_names::NoMemory;
-use cics_picture::{Drawing, Undrawn, push_sheet};
+use cics_names::{Items, NoMemory};
+use cics_picture::{Drawing, Standing, Undrawn, push_sheet};
 use cics_run::Session;
 use cics_whole::next_line;
+use std::alloc::Global;
 
 /// The rows of a picture show what the run prints, in order: their events, each with its LF, are
 /// the journal.
@@ -71,6 +74,22 @@ fn run_line(session: &mut Session, line: &[u8]) -> Result<bool, NoMemory>
     Ok(is_fault)
 }
 
+// Returns how the tasks stand after a line that a session has run, and what its read shows.
+fn standings_behind(
+    alloc: Global,
+    before: usize,
+    session: &Session,
+    line: &[u8],
+) -> Result<Items<Standing>, NoMemory>
+    ensures value { IfOk result (λ standings. standings
+        ≡ standings_behind before session.now.stage line.now session.now.pending.items) }
+    ensures few { IfOk result (λ standings. length standings ≤ most_lanes) }
+{
+    let standings = standings_at(alloc, before, &session.stage)?;
+    let shown = shown_at(&session.stage, line, &session.pending)?;
+    Ok(with_shown(standings, shown))
+}
+
 // Runs a line and draws what it prints, and tells whether that is a fault.
 fn draw_line(session: &mut Session, drawing: &mut Drawing, line: &[u8]) -> Result<bool, Undrawn>
     requires number { session.old.number + 1 < 2 ^ 64 }
@@ -87,7 +106,7 @@ fn draw_line(session: &mut Session, drawing: &mut Drawing, line: &[u8]) -> Resul
         Err(_) => return Err(Undrawn::NoMemory),
     };
     let alloc = *session.pending.allocator();
-    let standings = match standings_at(alloc, before, &session.stage) {
+    let standings = match standings_behind(alloc, before, session, line) {
         Ok(standings) => standings,
         Err(_) => return Err(Undrawn::NoMemory),
     };

@@ -7,6 +7,7 @@
 
 mod drawing;
 mod picture;
+mod reads;
 mod standings;
 mod titles;
 

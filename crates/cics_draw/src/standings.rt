@@ -28,8 +28,8 @@ pub fn deadlocks_are_marked()
         ↔ IsInDeadlock m label }
 {}
 
-// Whether two labels are the same.
-fn is_same(label: &Name8, other: &Name8) -> bool
+/// Returns whether two names are the same.
+pub fn is_same(label: &Name8, other: &Name8) -> bool
     ensures { result ≡ is_same label.now other.now }
 {
     *label == *other
@@ -70,7 +70,8 @@ fn shown_deadlocks(alloc: Global, region: &Region) -> Result<Items<Items<Name8>>
     deadlocks(alloc, region)
 }
 
-fn unit_of(region: &Region, label: &Name8) -> Option<u64>
+/// Returns the number of the open unit of a label's task, if it has one.
+pub fn unit_of(region: &Region, label: &Name8) -> Option<u64>
     ensures { result ≡ unit_of region.now.machine label.now }
 {
     match region.unit(label) {
@@ -88,13 +89,14 @@ fn standing_at(region: &Region, deadlocks: &[Items<Name8>], number: usize) -> St
             unit: unit_of(region, &label),
             is_deadlocked: is_in_one(deadlocks, &label),
             stays: false,
+            shows: None,
         },
         None => NOBODY,
     }
 }
 
-// Returns whether a command is one that changes something: READ UPDATE alone is none.
-fn is_change(op: &Op) -> bool
+/// Returns whether a command is one that changes something: READ UPDATE alone is none.
+pub fn is_change(op: &Op) -> bool
     ensures { result ≡ is_change op.now }
 {
     !matches!(op, Op::ReadUpdate { .. })
@@ -149,6 +151,7 @@ fn marked_at(region: &Region, deadlocks: &[Items<Name8>], before: usize, number:
         unit: standing.unit,
         is_deadlocked: standing.is_deadlocked,
         stays: any_stays(region, before, standing.unit),
+        shows: None,
     }
 }
 

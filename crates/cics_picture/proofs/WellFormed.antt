@@ -1,5 +1,5 @@
 -- Every picture is the text of a document.
-use Rattle.std.proofs.Common.{◌≡◌, ℕ, zero, suc, Bool, true, false, cond, ◌==◌, ◌+◌, ◌-◌, ◌*◌, ◌/◌, List, [], ◌∷◌, ◌++◌, ap, sym, ◌∙◌, append_assoc, length, map, Option, Some, None}
+use Rattle.std.proofs.Common.{◌≡◌, ℕ, zero, suc, Bool, true, false, cond, ◌==◌, ◌+◌, ◌-◌, ◌*◌, ◌/◌, nat_lt, List, [], ◌∷◌, ◌++◌, ap, sym, ◌∙◌, append_assoc, length, map, Option, Some, None}
 use Rattle.std.specs.List.{fold, flat_map}
 use Rattle.cics_picture.specs.declared.bars.Look.{Look}
 use Rattle.cics_markup.specs.declared.names.Tag.{Tag}
@@ -12,12 +12,12 @@ use Rattle.cics_markup.proofs.ReadBack.{read_back}
 use Rattle.cics_picture.specs.declared.events.Kind.{Kind}
 use Rattle.cics_picture.specs.declared.events.Kind.TheVariants as kind
 use Rattle.cics_picture.specs.Events.{first_word, behind_word, kind_of, class_of, shape_of}
-use Rattle.cics_picture.specs.Lanes.{lane_of, tasks_behind, lane_x, row_y}
+use Rattle.cics_picture.specs.Lanes.{most_lanes, lane_of, tasks_behind, lane_x, row_y}
 use Rattle.cics_picture.specs.declared.bars.Standing.{Standing}
 use Rattle.cics_picture.specs.declared.bars.Bar.{Bar}
 use Rattle.cics_picture.specs.Bars.{nobodies, lane_at, is_caught, look_of, look_class, bar_text}
-use Rattle.cics_picture.specs.Elements.{ring_shape, stays_shape, class, words, number_words, shape, stroke, field, spoken, namespace, picture_start, moved_start, tip, head, cut}
-use Rattle.cics_picture.specs.Drawings.{Drawn, nothing_drawn, arrow_to, beside, lane_marks, marks_of, row_number, waited, line_text, event_text, Row, with_row, rows_of, Printed, drawn, ring_if, stays_if, turned, turned_from, any_caught, word_if, with_text, with_end, with_line, finished}
+use Rattle.cics_picture.specs.Elements.{ring_shape, stays_shape, shows_shape, class, words, number_words, shape, stroke, field, spoken, namespace, picture_start, moved_start, tip, head, cut}
+use Rattle.cics_picture.specs.Drawings.{Drawn, nothing_drawn, arrow_to, beside, lane_marks, marks_of, row_number, waited, line_text, event_text, Row, with_row, rows_of, Printed, drawn, ring_if, stays_if, link_if, shows_if, turned, turned_from, any_caught, word_if, with_text, with_end, with_line, finished}
 use Rattle.cics_picture.specs.Sheets.{style_text, bands, lane_lines, headings, legend_item, answers_legend, ways_legend, region_legend, sign_item, units_legend, heading, ground, bars_text, moved_texts, whole_sheet, sheet, width_of, height_of}
 use Rattle.cics_picture.specs.declared.style.TheConstants.{STYLE}
 use Rattle.cics_picture.proofs.Markup.{IsMarkup, nothing, itself, behind, within}
@@ -112,11 +112,18 @@ ring caught lane y = either caught _ _ (shape-there (codes "dl") ring_shape (lan
 diamond : (stays : Bool) (lane y : ℕ) → IsMarkup (stays_if stays lane y)
 diamond stays lane y = either stays _ _ (shape-there (codes "st") stays_shape (lane_x lane) y) nothing
 
+link : (lane changer y : ℕ) → IsMarkup (link_if lane changer y)
+link lane changer y = either (nat_lt changer most_lanes) _ _ (stroke-there (codes "un") (tip changer lane) y (tip lane changer) y) nothing
+
+dashed : (shows : Option ℕ) (lane y : ℕ) → IsMarkup (shows_if shows lane y)
+dashed None lane y = nothing
+dashed (Some changer) lane y = behind _ _ (link lane changer y) (shape-there (codes "un") shows_shape (lane_x lane) y)
+
 turns-drawn : (standings : List Standing) (first lane : ℕ) (d : Drawn) → IsDrawn d → IsDrawn (turned_from first lane standings d)
 turns-drawn [] first lane d p = p
 turns-drawn (s ∷ standings) first lane d p =
     turns-drawn standings first (lane + 1) (turned first lane s d) (
-      behind _ _ p.0 (behind _ _ (ring (is_caught (lane_at d.lanes lane) s) lane (row_y (d.rows - 1))) (diamond s.stays lane (lane_at d.lanes lane).last)),
+      behind _ _ p.0 (behind _ _ (ring (is_caught (lane_at d.lanes lane) s) lane (row_y (d.rows - 1))) (behind _ _ (diamond s.stays lane (lane_at d.lanes lane).last) (dashed s.shows lane (lane_at d.lanes lane).last))),
       p.1,
     )
 
@@ -172,7 +179,7 @@ units : IsMarkup units_legend
 unfolding units_legend
 units =
     behind _ _ (sign-meaning 24 _ _ _) (behind _ _ (sign-meaning 224 _ _ _) (behind _ _ (sign-meaning 344 _ _ _)
-    (behind _ _ (sign-meaning 484 _ _ _) (sign-meaning 664 _ _ _))))
+    (behind _ _ (sign-meaning 484 _ _ _) (behind _ _ (sign-meaning 664 _ _ _) (sign-meaning 894 _ _ _)))))
 
 head-there : (title : List ℕ) → IsMarkup (heading title)
 unfolding heading

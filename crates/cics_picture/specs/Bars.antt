@@ -13,7 +13,7 @@ use lib.Chars.{codes}
 
 -- no unit and no deadlock
 abbrev pub nobody : Standing
-nobody = record { unit = None; is_deadlocked = false; stays = false }
+nobody = record { unit = None; is_deadlocked = false; stays = false; shows = None }
 
 -- a lane before the first event
 abbrev pub new_lane : Lane

@@ -1,5 +1,5 @@
 -- What the rows of a picture draw: one row for each event, in order.
-use Rattle.std.specs.Prelude.{ℕ, ◌==◌, ◌+◌, ◌-◌, ◌*◌, max, Bool, true, false, if◌then◌else◌, List, [], ◌∷◌, ◌++◌, length, slice_get, slice_set, Option, Some, None, unwrap_or}
+use Rattle.std.specs.Prelude.{ℕ, ◌==◌, nat_lt, ◌+◌, ◌-◌, ◌*◌, max, Bool, true, false, if◌then◌else◌, List, [], ◌∷◌, ◌++◌, length, slice_get, slice_set, Option, Some, None, unwrap_or}
 use Rattle.std.specs.List.{fold, flat_map}
 use Rattle.cics_picture.specs.declared.events.Kind.{Kind}
 use Rattle.cics_picture.specs.declared.events.Kind.TheVariants.{Attached, Waiting, Clock, Down}
@@ -8,8 +8,8 @@ use Rattle.cics_picture.specs.declared.bars.Standing.{Standing}
 use Rattle.cics_picture.specs.declared.bars.Lane.{Lane}
 use Rattle.cics_picture.specs.declared.bars.Bar.{Bar}
 use Rattle.cics_picture.specs.Events.{first_word, behind_word, kind_of, class_of}
-use Rattle.cics_picture.specs.Lanes.{lane_of, tasks_behind, lane_x, row_y}
-use Rattle.cics_picture.specs.Elements.{words, number_words, shape, ring_shape, stays_shape, mark, stroke, arrow, cut}
+use Rattle.cics_picture.specs.Lanes.{most_lanes, lane_of, tasks_behind, lane_x, row_y}
+use Rattle.cics_picture.specs.Elements.{words, number_words, shape, ring_shape, stays_shape, shows_shape, mark, stroke, arrow, link, cut}
 use Rattle.cics_picture.specs.Bars.{new_lanes, nobodies, lane_at, lanes_behind, gone, lane_behind, ended, is_caught}
 use lib.Chars.{codes}
 
@@ -136,8 +136,17 @@ ring_if caught lane y = if caught then shape (codes "dl") ring_shape (lane_x lan
 abbrev pub stays_if : Bool → ℕ → ℕ → List ℕ
 stays_if stays lane y = if stays then shape (codes "st") stays_shape (lane_x lane) y else []
 
+-- a line from a read to the lane of the task whose change it shows, if it has one
+abbrev pub link_if : ℕ → ℕ → ℕ → List ℕ
+link_if lane changer y = if nat_lt changer most_lanes then link lane changer y else []
+
+-- a dashed ring round the mark of a read that shows what isn't committed, and that line
+abbrev pub shows_if : Option ℕ → ℕ → ℕ → List ℕ
+shows_if None lane y = []
+shows_if (Some changer) lane y = link_if lane changer y ++ shape (codes "un") shows_shape (lane_x lane) y
+
 -- A lane turns to how its task stands behind a line whose first row has this height: the bar of a unit that its task has no more
--- is done, the diamond stands in the row of its last event, and the ring in the line's last row.
+-- is done, diamond and dashed ring stand in the row of its last event, and the ring in the line's last row.
 abbrev pub turned : ℕ → ℕ → Standing → Drawn → Drawn
 turned first lane s d =
     let l = lane_at d.lanes lane in
@@ -146,7 +155,7 @@ turned first lane s d =
       rows = d.rows;
       lines = d.lines;
       tasks = d.tasks;
-      marks = d.marks ++ (ring_if (is_caught l s) lane (row_y (d.rows - 1)) ++ stays_if s.stays lane l.last);
+      marks = d.marks ++ (ring_if (is_caught l s) lane (row_y (d.rows - 1)) ++ (stays_if s.stays lane l.last ++ shows_if s.shows lane l.last));
       texts = d.texts;
       lanes = slice_set d.lanes lane (lane_behind l y s);
       bars = d.bars ++ ended lane l.top y (gone l.standing.unit s.unit);

@@ -82,6 +82,14 @@ ring_shape = codes "M-10 0a10 10 0 1 0 20 0a10 10 0 1 0 -20 0z"
 abbrev pub arrow : ℕ → ℕ → ℕ → List ℕ
 arrow from to y = stroke (codes "aw") (lane_x from) y (tip from to) y ++ shape (codes "fw") (head from to) (tip from to) y
 
+-- the line from a lane to another
+abbrev pub link : ℕ → ℕ → ℕ → List ℕ
+link from to y = stroke (codes "un") (tip to from) y (tip from to) y
+
+-- the dashed ring round a read that shows what isn't committed
+abbrev pub shows_shape : List ℕ
+shows_shape = codes "M-9 0a9 9 0 1 0 18 0a9 9 0 1 0 -18 0z"
+
 -- the diamond round a change that stays
 abbrev pub stays_shape : List ℕ
 stays_shape = codes "M0 -10l10 10l-10 10l-10 -10z"

@@ -7,7 +7,7 @@ use Rattle.cics_markup.specs.Documents.{end_text}
 use Rattle.cics_picture.specs.declared.events.Kind.{Kind}
 use Rattle.cics_picture.specs.declared.events.Kind.TheVariants as kind
 use Rattle.cics_picture.specs.Lanes.{lane_x, row_y}
-use Rattle.cics_picture.specs.Elements.{words, cut, mark, shape, bar_shape, ring_shape, stays_shape, stroke, field, spoken, picture_start, moved_start}
+use Rattle.cics_picture.specs.Elements.{words, cut, mark, shape, bar_shape, ring_shape, stays_shape, shows_shape, stroke, field, spoken, picture_start, moved_start}
 use Rattle.cics_picture.specs.Bars.{bar_text}
 use Rattle.cics_picture.specs.Drawings.{Drawn, finished}
 use Rattle.cics_picture.specs.declared.style.TheConstants.{STYLE}
@@ -74,7 +74,8 @@ units_legend =
     ++ (sign_item 224 (codes "uh") bar_shape (codes "backed out")
     ++ (sign_item 344 (codes "uo") bar_shape (codes "open at the end")
     ++ (sign_item 484 (codes "dl") ring_shape (codes "caught in a deadlock")
-    ++ sign_item 664 (codes "st") stays_shape (codes "changes what no backout undoes"))))
+    ++ (sign_item 664 (codes "st") stays_shape (codes "changes what no backout undoes")
+    ++ sign_item 894 (codes "un") shows_shape (codes "reads what isn't committed")))))
 
 -- the title, and the legend below it
 unfoldable pub heading : List ℕ → List ℕ

@@ -1,5 +1,5 @@
-//! The bars of units of work in the lanes, the rings of deadlocks, and the diamonds of changes that
-//! no backout undoes.
+//! The bars of units of work in the lanes, the rings of deadlocks, the diamonds of changes that no
+//! backout undoes, and the dashed rings of reads that show what isn't committed.
 
 ghost use Rattle.std.specs.Prelude.{◌≡◌, ◌++◌, ◌-◌, ◌<◌, ◌≤◌, length, IfSome, OnOk};
 ghost use Rattle.std.specs.List.{flat_map};
@@ -7,12 +7,13 @@ ghost use Rattle.cics_picture.specs.Lanes.{most_lanes, row_y};
 ghost use Rattle.cics_picture.specs.Bars.{new_lanes, nobodies, lane_at, lanes_behind, has_same};
 ghost use Rattle.cics_picture.specs.Bars.{noted, gone, lane_behind, ended, is_caught, look_of};
 ghost use Rattle.cics_picture.specs.Bars.{look_class, bar_text};
-ghost use Rattle.cics_picture.specs.Drawings.{drawn_of, ring_if, stays_if, turned, turned_from};
+ghost use Rattle.cics_picture.specs.Drawings.{drawn_of, ring_if, stays_if, link_if, shows_if};
+ghost use Rattle.cics_picture.specs.Drawings.{turned, turned_from};
 ghost use Rattle.cics_picture.specs.Drawings.{any_caught};
 ghost use Rattle.cics_picture.specs.Drawings.{word_if, with_end, finished};
 
 use crate::drawing::Drawing;
-use crate::elements::{push_field, push_shape, push_words};
+use crate::elements::{push_field, push_link, push_shape, push_words};
 use crate::events::Kind;
 use crate::lanes::{MOST_LANES, lane_x, row_y};
 use cics_names::{Items, NoMemory};
@@ -26,6 +27,9 @@ pub struct Standing {
     pub is_deadlocked: bool,
     /// Whether its unit changed an unrecoverable file or queue in the line: no backout undoes that.
     pub stays: bool,
+    /// If it read what another task's unit has changed and not committed: the lane of that task, or
+    /// `MOST_LANES` if it has none.
+    pub shows: Option<usize>,
 }
 
 /// A lane so far: the height of the row of its last event, the row at which its task last waited,
@@ -61,6 +65,7 @@ pub const NOBODY: Standing = Standing {
     unit: None,
     is_deadlocked: false,
     stays: false,
+    shows: None,
 };
 
 /// A lane before the first event.
@@ -200,6 +205,35 @@ fn push_stays_if(out: &mut Vec<u8>, stays: bool, lane: usize, y: u64) -> Result<
     push_shape(out, "st".as_bytes(), diamond.as_bytes(), (lane_x(lane), y))
 }
 
+// Puts a line from a read to the lane of the task whose change it shows, if it has one.
+fn push_link_if(out: &mut Vec<u8>, lane: usize, changer: usize, y: u64) -> Result<(), NoMemory>
+    requires { lane < most_lanes }
+    ensures { OnOk result (out.new.items ≡ out.old.items ++ link_if lane changer y) }
+{
+    if changer >= MOST_LANES {
+        return Ok(());
+    }
+    push_link(out, lane, changer, y)
+}
+
+// Puts a dashed ring round the mark of a read that shows what isn't committed, with that line.
+fn push_shows_if(
+    out: &mut Vec<u8>,
+    shows: Option<usize>,
+    lane: usize,
+    y: u64,
+) -> Result<(), NoMemory>
+    requires { lane < most_lanes }
+    ensures { OnOk result (out.new.items ≡ out.old.items ++ shows_if shows lane y) }
+{
+    let Some(changer) = shows else {
+        return Ok(());
+    };
+    push_link_if(out, lane, changer, y)?;
+    let ring = "M-9 0a9 9 0 1 0 18 0a9 9 0 1 0 -18 0z";
+    push_shape(out, "un".as_bytes(), ring.as_bytes(), (lane_x(lane), y))
+}
+
 // Whether a task is caught in a deadlock.
 fn any_caught(lanes: &[Lane], standings: &[Standing]) -> bool
     ensures { result ≡ any_caught lanes.now 0 standings.now }
@@ -261,6 +295,7 @@ impl Drawing {
         push_ended(&mut self.bars, lane, (before.top, y), unit)?;
         push_ring_if(&mut self.marks, is_caught(before, standing), lane, last_y)?;
         push_stays_if(&mut self.marks, standing.stays, lane, before.last)?;
+        push_shows_if(&mut self.marks, standing.shows, lane, before.last)?;
         self.lanes[lane] = lane_behind(before, y, standing);
         Ok(())
     }

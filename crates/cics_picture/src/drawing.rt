@@ -11,8 +11,8 @@ use cics_names::{Items, Record};
 pub const LIMIT: u64 = 100_000;
 
 /// The rows so far: how many there are, the script's line of each (without bytes if it has none),
-/// the tasks that have lanes, the text of what stands in the lanes and to the left of them, and the text of what stands to the
-/// right. Beside them the lanes, and the bars of units that have ended.
+/// the tasks that have lanes, the text of what stands in the lanes and to the left of them, and the
+/// text of what stands to the right. Beside them the lanes, and the bars of units that have ended.
 #[derive(Drop)]
 pub struct Drawing {
     pub rows: u64,

@@ -6,7 +6,7 @@ ghost use Rattle.cics_picture.specs.Elements.{words_start, words, number_words, 
 ghost use Rattle.cics_picture.specs.Elements.{field, spoken};
 ghost use Rattle.cics_markup.specs.Documents.{attribute_text};
 ghost use Rattle.cics_picture.specs.Elements.{namespace, picture_start, moved_start, mark, tip, head};
-ghost use Rattle.cics_picture.specs.Elements.{arrow, cut};
+ghost use Rattle.cics_picture.specs.Elements.{arrow, link, cut};
 
 use crate::events::Kind;
 use crate::lanes::lane_x;
@@ -193,7 +193,7 @@ pub fn push_mark(out: &mut Vec<u8>, kind: Kind, x: u64, y: u64) -> Result<(), No
     )
 }
 
-// Where the arrow to a lane ends: at the side of it that the arrow comes from.
+// Where the arrow or the line to a lane ends: at the side of it that it comes from.
 fn tip(from: usize, to: usize) -> u64
     requires { to < most_lanes }
     ensures { result ≡ tip from to }
@@ -228,6 +228,15 @@ pub fn push_arrow(out: &mut Vec<u8>, from: usize, to: usize, y: u64) -> Result<(
         head(from, to).as_bytes(),
         (tip(from, to), y),
     )
+}
+
+/// Puts a line from a lane to another.
+pub fn push_link(out: &mut Vec<u8>, from: usize, to: usize, y: u64) -> Result<(), NoMemory>
+    requires from { from < most_lanes }
+    requires to { to < most_lanes }
+    ensures { OnOk result (out.new.items ≡ out.old.items ++ link from to y) }
+{
+    push_stroke(out, "un".as_bytes(), (tip(to, from), y), (tip(from, to), y))
 }
 
 /// Returns the bytes, if there are no more than may be shown, else their front and two dots.

@@ -17,5 +17,6 @@ mod style;
 
 pub use bars::{Look, NOBODY, Standing};
 pub use drawing::{Drawing, LIMIT, Undrawn};
+pub use events::{behind_word, first_word};
 pub use lanes::MOST_LANES;
 pub use sheet::{push_sheet, sheets_are_documents, units_have_bars, waits_have_arrows};
