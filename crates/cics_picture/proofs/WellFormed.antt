@@ -179,7 +179,7 @@ units : IsMarkup units_legend
 unfolding units_legend
 units =
     behind _ _ (sign-meaning 24 _ _ _) (behind _ _ (sign-meaning 224 _ _ _) (behind _ _ (sign-meaning 344 _ _ _)
-    (behind _ _ (sign-meaning 484 _ _ _) (behind _ _ (sign-meaning 664 _ _ _) (sign-meaning 894 _ _ _)))))
+    (behind _ _ (sign-meaning 484 _ _ _) (behind _ _ (sign-meaning 664 _ _ _) (sign-meaning 912 _ _ _)))))
 
 head-there : (title : List ℕ) → IsMarkup (heading title)
 unfolding heading

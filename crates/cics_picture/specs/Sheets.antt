@@ -75,7 +75,7 @@ units_legend =
     ++ (sign_item 344 (codes "uo") bar_shape (codes "open at the end")
     ++ (sign_item 484 (codes "dl") ring_shape (codes "caught in a deadlock")
     ++ (sign_item 664 (codes "st") stays_shape (codes "changes what no backout undoes")
-    ++ sign_item 894 (codes "un") shows_shape (codes "reads what isn't committed")))))
+    ++ sign_item 912 (codes "un") shows_shape (codes "reads what isn't committed")))))
 
 -- the title, and the legend below it
 unfoldable pub heading : List ℕ → List ℕ

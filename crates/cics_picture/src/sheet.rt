@@ -156,7 +156,7 @@ fn push_units_legend(out: &mut Vec<u8>) -> Result<(), NoMemory>
     push_sign_item(out, 484, ("dl", ring), "caught in a deadlock")?;
     push_sign_item(out, 664, ("st", diamond), "changes what no backout undoes")?;
     let dashed = "M-9 0a9 9 0 1 0 18 0a9 9 0 1 0 -18 0z";
-    push_sign_item(out, 894, ("un", dashed), "reads what isn't committed")?;
+    push_sign_item(out, 912, ("un", dashed), "reads what isn't committed")?;
     Ok(())
 }
 
