@@ -70,7 +70,7 @@ sign_item x name path text = shape name path x 74 ++ words (codes "d s") (x + 16
 -- what bars, rings and diamonds mean
 unfoldable pub units_legend : List ℕ
 units_legend =
-    sign_item 24 (codes "uf") bar_shape (codes "unit of work, committed")
+    sign_item 24 (codes "uf") bar_shape (codes "unit of work that commits")
     ++ (sign_item 224 (codes "uh") bar_shape (codes "backed out")
     ++ (sign_item 344 (codes "uo") bar_shape (codes "open at the end")
     ++ (sign_item 484 (codes "dl") ring_shape (codes "caught in a deadlock")

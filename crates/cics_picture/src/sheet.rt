@@ -150,7 +150,7 @@ fn push_units_legend(out: &mut Vec<u8>) -> Result<(), NoMemory>
     let bar = "M-7 -7h14v14h-14z";
     let ring = "M-10 0a10 10 0 1 0 20 0a10 10 0 1 0 -20 0z";
     let diamond = "M0 -10l10 10l-10 10l-10 -10z";
-    push_sign_item(out, 24, ("uf", bar), "unit of work, committed")?;
+    push_sign_item(out, 24, ("uf", bar), "unit of work that commits")?;
     push_sign_item(out, 224, ("uh", bar), "backed out")?;
     push_sign_item(out, 344, ("uo", bar), "open at the end")?;
     push_sign_item(out, 484, ("dl", ring), "caught in a deadlock")?;

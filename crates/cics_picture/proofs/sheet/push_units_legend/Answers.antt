@@ -9,7 +9,7 @@ pub returns : goal.returns
 unfolding units_legend
 returns c =
     let o = c.args.out.now.items in
-    let b1 = sign_item 24 (codes "uf") bar_shape (codes "unit of work, committed") in
+    let b1 = sign_item 24 (codes "uf") bar_shape (codes "unit of work that commits") in
     let b2 = sign_item 224 (codes "uh") bar_shape (codes "backed out") in
     let b3 = sign_item 344 (codes "uo") bar_shape (codes "open at the end") in
     let b4 = sign_item 484 (codes "dl") ring_shape (codes "caught in a deadlock") in
