@@ -2,17 +2,29 @@ use Rattle.std.specs.Prelude.{refl}
 use Rattle.cics_script.specs.Words.{commands}
 use Rattle.cics_script.proofs.lines.common_verb.Goals as goal
 
+pub returns-in-eq82-eq32 : goal.returns-in-eq82-eq32
+returns-in-eq82-eq32 c = c.named.ensures commands refl
+
+pub returns-in-eq82-eq81 : goal.returns-in-eq82-eq81
+returns-in-eq82-eq81 c = c.named-in-eq82-eq81.ensures commands refl
+
+pub returns-in-eq82-eq78 : goal.returns-in-eq82-eq78
+returns-in-eq82-eq78 c = c.named-in-eq82-eq78.ensures commands refl
+
+pub returns-in-eq82-default : goal.returns-in-eq82-default
+returns-in-eq82-default c = c.named-in-eq82-default.ensures commands refl
+
 pub returns-in-None : goal.returns-in-None
-returns-in-None c = c.either_named-in-None.ensures commands refl refl
+returns-in-None c = c.named-in-None.ensures commands refl
 
-pub returns-in-87 : goal.returns-in-87
-returns-in-87 c = c.either_named-in-87.ensures commands refl refl
+pub returns-in-eq69-default : goal.returns-in-eq69-default
+returns-in-eq69-default c = c.named-in-eq69-default.ensures commands refl
 
-pub returns-in-69 : goal.returns-in-69
-returns-in-69 c = c.named.ensures commands refl
+pub returns-in-eq68-eq84 : goal.returns-in-eq68-eq84
+returns-in-eq68-eq84 c = c.named-in-eq68-eq84.ensures commands refl
 
-pub returns-in-68 : goal.returns-in-68
-returns-in-68 c = c.either_named-in-68.ensures commands refl refl
+pub returns-in-eq68-default : goal.returns-in-eq68-default
+returns-in-eq68-default c = c.named-in-eq68-default.ensures commands refl
 
-pub returns-in-83 : goal.returns-in-83
-returns-in-83 c = c.named-in-83.ensures commands refl
+pub returns-in-eq83-default : goal.returns-in-eq83-default
+returns-in-eq83-default c = c.named-in-eq83-default.ensures commands refl
