@@ -1,9 +1,8 @@
 -- Waiting commands that are blocked: what is awaited blocks, and what is blocked may not go on.
-use Rattle.std.specs.Prelude.{◌≡◌, ℕ, Bool, true, false, cond, ◌&&◌, if◌then◌else◌, Option, Some, None, is_none, List, [], ◌∷◌, All, take, length, refl}
+use Rattle.std.specs.Prelude.{◌≡◌, ℕ, Bool, true, false, ◌&&◌, if◌then◌else◌, Option, Some, None, is_none, List, [], ◌∷◌, take, length, refl}
 use Rattle.std.specs.List.{list_any}
 use Rattle.std.proofs.Common.{◌⊎◌, inl, inr, sym, ap, ◌∙◌}
 use Rattle.std.proofs.lemmas.Bool.{false≢true, true≢false, and_from, or_cases, or_left, or_right, lt-ltb}
-use Rattle.std.proofs.lemmas.List.Elements.{All-nil, All-cons, All-head, All-tail}
 use Rattle.cics_names.specs.Keyed.{Bytes}
 use Rattle.cics_enqueue.specs.Resources.{bytes_of}
 use Rattle.cics_enqueue.specs.declared.resources.Resource.{Resource}
@@ -18,8 +17,8 @@ use Rattle.cics_history.specs.declared.ops.Op.TheVariants.{TdRead}
 use Rattle.cics_history.proofs.Waiting.{none_either}
 use Rattle.cics_history.proofs.States.{holder_holds}
 use Rattle.cics_dispatch.specs.Machine.{Machine, Task, Suspended, task_at}
-use Rattle.cics_dispatch.specs.Waking.{awaited_by, may_go_on, is_late, first_late}
-use Rattle.cics_dispatch.specs.Settled.{reads_queue, holds_one, holds_back, IsStarved, Starves, KeepsWaiting, IsBlocked, IsInTime}
+use Rattle.cics_dispatch.specs.Waking.{awaited_by, may_go_on}
+use Rattle.cics_dispatch.specs.Settled.{reads_queue, holds_one, holds_back, IsStarved, Starves, KeepsWaiting, IsBlocked}
 use Rattle.cics_names.specs.declared.commands.Verb.{Verb}
 use Rattle.cics_names.specs.declared.commands.Verb.TheVariants.{Enq}
 use Rattle.cics_dispatch.specs.KeptTasks.{IsReady, AreTasksKept}
@@ -142,25 +141,3 @@ blocked_stays m u w kept is =
       | inl holds ↦ held_for m.units is.task.unit u w.command.verb w.op is.is_open is.other holds
       | inr starves ↦ starved_for m.units is.task.unit u w.command.verb w.op (task_acts m w.label is.task kept is.of_task) is.is_open is.other starves
     ])
-
--- ---- Waits that are in time
-
-pub none_late : (m : Machine) (ws : List Suspended) → All (IsInTime m) ws → first_late m ws ≡ None
-none_late m [] all = refl
-none_late m (w ∷ ws) all =
-    ap (λ b. cond b (task_at m.tasks w.label) (first_late m ws)) (All-head (IsInTime m) w ws all)
-    ∙ none_late m ws (All-tail (IsInTime m) w ws all)
-
--- a task that has waited too long is there
-late_there : (m : Machine) (w : Suspended) (o : Option Task) → is_late m w o ≡ true → o ≡ None → ⊥
-late_there m w None late none = false≢true late
-late_there m w (Some t) late none = cc
-
-pub all_in_time : (m : Machine) (ws : List Suspended) → first_late m ws ≡ None → All (IsInTime m) ws
-all_in_time m [] none = All-nil (IsInTime m)
-all_in_time m (w ∷ ws) none =
-    elim (is_late m w (task_at m.tasks w.label)) as
-    (λ b. is_late m w (task_at m.tasks w.label) ≡ b → cond b (task_at m.tasks w.label) (first_late m ws) ≡ None → All (IsInTime m) (w ∷ ws)) [
-      | true ↦ λ late none. absurd (late_there m w (task_at m.tasks w.label) late none)
-      | false ↦ λ early none. All-cons (IsInTime m) w ws early (all_in_time m ws none)
-    ] refl none

@@ -28,15 +28,13 @@ pub mod ActsAlone
 pub mod KeepsOwn
 pub mod KeptHeld
 pub mod Remembered
-pub mod ShownNotes
-pub mod FiledNotes
-pub mod Noted
-pub mod Looked
+pub mod Pairs
+pub mod Grouped
+pub mod Indexed
+pub mod Known
 pub mod Looks
-mod RegionRemembers
+mod RegionKnown
 pub mod FewerWaits
 pub mod Elements
 pub mod FirstWaits
-pub mod LesserKeys
-pub mod Deadlines
 pub mod Blockers

@@ -1,5 +1,5 @@
 -- A look at a waiting command: the wait of a label is one, and what is found of it is so.
-use Rattle.std.specs.Prelude.{◌≡◌, ℕ, ◌<◌, ◌≤◌, Bool, true, false, cond, Option, Some, None, is_some, is_none, IfSome, List, [], ◌∷◌, All, take, length, slice_get, refl}
+use Rattle.std.specs.Prelude.{◌≡◌, ℕ, ◌<◌, ◌≤◌, Bool, true, false, cond, Option, Some, None, is_some, is_none, IfSome, IfNone, List, [], ◌∷◌, ◌++◌, All, take, length, slice_get, refl}
 use Rattle.std.proofs.Common.{zero, suc, sym, ap, subst, ◌∙◌}
 use Rattle.std.specs.List.{list_any}
 use Rattle.std.specs.Map.{values_of}
@@ -10,7 +10,10 @@ use Rattle.cics_names.specs.KeyedLaws.{is_same-self, is_same-eq}
 use Rattle.cics_names.specs.declared.commands.Verb.TheVariants.{Enq}
 use Rattle.cics_enqueue.specs.Resources.{bytes_of}
 use Rattle.cics_enqueue.specs.declared.resources.Resource.{Resource}
-use Rattle.cics_enqueue.specs.declared.resources.Resource.TheVariants.{User}
+use Rattle.cics_enqueue.specs.declared.resources.Resource.TheVariants.{TdRead as ReadingEnd, TdWrite as WritingEnd, User}
+use Rattle.cics_history.specs.State.{OpeningState, queue_logical}
+use Rattle.cics_history.specs.Holding.{uses_of, named_if, held_by, conflicts}
+use Rattle.cics_history.specs.declared.ops.Op.TheVariants.{TdDelete}
 use Rattle.cics_history.specs.Execution.{IsOpenUnit}
 use Rattle.cics_history.specs.Isolation.{IsSound}
 use Rattle.cics_history.specs.declared.ops.Op.{Op}
@@ -21,14 +24,16 @@ use Rattle.cics_dispatch.specs.Waking.{awaited_by, may_go_on, first_free, went_o
 use Rattle.cics_dispatch.specs.KeptTasks.{IsReady, IsWaitKept, AreTasksKept}
 use Rattle.cics_dispatch.specs.Calls.{OfTask, HasReady}
 use Rattle.cics_dispatch.specs.Settled.{reads_queue, needed_by, IsBlocked}
-use Rattle.cics_dispatch.specs.Notes.{OfWait, IsUse, IsOnlyUse, IsOnlyNeed, OwnerIsElsewhere, IsFirstFreeOf, IsFirstFree}
+use Rattle.cics_dispatch.specs.declared.wait_groups.GroupKey.{GroupKey}
+use Rattle.cics_dispatch.specs.declared.wait_groups.GroupKey.TheVariants.{Uses, Alone}
+use Rattle.cics_dispatch.specs.Known.{OfWait, Fits, IsOnlyUse, IsOnlyNeed, HasNoOnlyUse, HasNoOnlyNeed, key_for, IsKeyOf, OwnerIsElsewhere, IsFirstFreeOf, IsFirstFree}
 use Rattle.cics_dispatch.specs.Steps.{Stepped, with_outcome, by_op}
 use Rattle.cics_dispatch.specs.declared.outcomes.Woken.{Woken}
 use Rattle.cics_dispatch.proofs.WaitTable.{is_waiting-number}
 use Rattle.cics_dispatch.proofs.TaskTable.{label_of-owner}
 use Rattle.cics_dispatch.proofs.Ready.{value_within}
 use Rattle.cics_dispatch.proofs.RegionSteps.{task_there}
-use Rattle.cics_dispatch.proofs.Blocked.{blocked_by}
+use Rattle.cics_dispatch.proofs.Blocked.{blocked_by, held_back}
 use Rattle.cics_dispatch.proofs.RegionWaking.{first_free-goes, free_aside, woken_back}
 
 -- ---- The wait of a label
@@ -188,9 +193,9 @@ module _ (m : Machine) (x : Suspended) (label : Bytes) (at : ℕ) (apart : AreAp
 -- ---- What a waiting command uses
 
 -- that of an updating command
-pub need_used : (x : Suspended) (op : Op) (o : Option Resource) → x.op ≡ Some op → IfSome o (λ r. IsOnlyUse r op) → IfSome o (λ r. IsOnlyNeed r x.command.verb x.op)
-need_used x op None is used = tt
-need_used x op (Some r) is used = subst (λ o. IsOnlyNeed r x.command.verb o) (sym is) (record { only = used.only; no_reader = used.no_reader })
+pub need_used : (x : Suspended) (op : Op) (o : Option Resource) (label : Bytes) → x.op ≡ Some op → IfSome o (λ r. IsOnlyUse r op) → IfNone o (HasNoOnlyUse op) → IsKeyOf label (key_for o label) x
+need_used x op None label is used none = (refl, subst (λ o. HasNoOnlyNeed x.command.verb o) (sym is) none)
+need_used x op (Some r) label is used none = subst (λ o. IsOnlyNeed r x.command.verb o) (sym is) (record { only = used.only; no_reader = used.no_reader })
 
 -- and that of an ENQ
 pub need_value : (x : Suspended) (value : Bytes) (n : ℕ) (nosuspend : Bool) (r : Resource) → x.op ≡ None → x.command.verb ≡ Enq value n nosuspend →
@@ -212,24 +217,40 @@ value_short m x ws label value n nosuspend all found none verb = by (task_at m.t
     by (Some t) is there =
         value_within value n (subst (λ v. IsReady m.units t.unit v None) verb (subst (λ o. IsReady m.units t.unit x.command.verb o) none (kept.ready t is)))
 
--- a command that uses another resource than the line's isn't in it
-pub not_in_line : (m : Machine) (rs : List Resource) (g : ℕ) (label : Bytes) (r : Resource) → OfWait m.waiting label (λ w. IsOnlyNeed r w.command.verb w.op) →
-    (slice_get rs g ≡ Some r → ⊥) → OfWait m.waiting label (λ w. IsUse m.units.opening rs w g → ⊥)
-not_in_line m rs g label r need other = λ j w at same needed.
-    let needs : needed_by m.units.opening w.command.verb w.op ≡ r ∷ [] = (need j w at same).only m.units.opening (λ x. true) (ap (list_any (λ x. true)) needed.needed) in
-    let both : needed.resource ∷ [] ≡ r ∷ [] = sym needed.needed ∙ needs in
-    let one : needed.resource ≡ r = cc in
-    other (needed.there ∙ ap Some one)
+-- DELETEQ TD uses two ends of a queue, or none
+pub uses_two : (o : OpeningState) (q : Bytes) (r : Resource) → uses_of o (TdDelete q) ≡ r ∷ [] → ⊥
+uses_two o q r = by (queue_logical o q)
+  where
+    by : (b : Bool) → named_if b (ReadingEnd q) ++ named_if b (WritingEnd q) ≡ r ∷ [] → ⊥
+    by true is = cc
+    by false is = cc
+
+-- a blocked command has its key
+pub key_fits : (m : Machine) (u : ℕ) (label : Bytes) (key : GroupKey) → OfWait m.waiting label (IsKeyOf label key) → OfWait m.waiting label (IsBlocked m u) → OfWait m.waiting label (Fits m.units.opening key)
+key_fits m u label (Uses r) of blocked i w there own =
+    let need = of i w there own in
+    (need.only m.units.opening (λ x. list_any (conflicts x) (held_by m.units u)) (held_back m u w (blocked i w there own) need.no_reader), need.no_reader)
+key_fits m u label (Alone l) of blocked i w there own = own ∙ sym (of i w there own).0
+
+-- a command of another key doesn't use the resource of a group alone
+pub not_in_group : (m : Machine) (ks : List GroupKey) (g : ℕ) (label : Bytes) (key : GroupKey) → OfWait m.waiting label (IsKeyOf label key) → (slice_get ks g ≡ Some key → ⊥) → (r : Resource) → slice_get ks g ≡ Some (Uses r) →
+    OfWait m.waiting label (λ w. Fits m.units.opening (Uses r) w → ⊥)
+not_in_group m ks g label (Uses q) of other r there i w at own fits =
+    let needs : needed_by m.units.opening w.command.verb w.op ≡ q ∷ [] = (of i w at own).only m.units.opening (λ x. true) (ap (list_any (λ x. true)) fits.0) in
+    let both : r ∷ [] ≡ q ∷ [] = sym fits.0 ∙ needs in
+    let one : r ≡ q = cc in
+    other (there ∙ ap (λ x. Some (Uses x)) one)
+not_in_group m ks g label (Alone l) of other r there i w at own fits = (of i w at own).1 m.units.opening r fits.0 fits.1
 
 -- ---- The owner of a unit
 
-module _ (m : Machine) (rs : List Resource) (g u : ℕ) (label : Bytes) (owners : IsOwn own_unit m.tasks) (is : label ≡ label_of m.tasks u) where
+module _ (m : Machine) (r : Resource) (u : ℕ) (label : Bytes) (owners : IsOwn own_unit m.tasks) (is : label ≡ label_of m.tasks u) where
   -- no command of its task waits
-  pub owner_awake : is_waiting m.waiting label ≡ false → OwnerIsElsewhere m rs g u
-  owner_awake awake = λ i t there has j w at own needed.
+  pub owner_awake : is_waiting m.waiting label ≡ false → OwnerIsElsewhere m r u
+  owner_awake awake = λ i t there has j w at own fits.
       let same : w.label ≡ label = own ∙ sym (is ∙ label_of-owner m.tasks u i t owners there has) in
       false≢true (sym awake ∙ ap (is_waiting m.waiting) (sym same) ∙ waits_at m.waiting j w at)
 
-  -- no command of its task that waits is in the line
-  pub owner_not_in_line : OfWait m.waiting label (λ w. IsUse m.units.opening rs w g → ⊥) → OwnerIsElsewhere m rs g u
-  owner_not_in_line out = λ i t there has j w at own needed. out j w at (own ∙ sym (is ∙ label_of-owner m.tasks u i t owners there has)) needed
+  -- no command of its task that waits uses the resource alone
+  pub owner_elsewhere : OfWait m.waiting label (λ w. Fits m.units.opening (Uses r) w → ⊥) → OwnerIsElsewhere m r u
+  owner_elsewhere out = λ i t there has j w at own fits. out j w at (own ∙ sym (is ∙ label_of-owner m.tasks u i t owners there has)) fits

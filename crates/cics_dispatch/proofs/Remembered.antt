@@ -1,36 +1,25 @@
 -- Task control: what is remembered of the last looks at the waiting commands stays true over a step.
-use Rattle.std.specs.Prelude.{◌≡◌, ◌≢◌, ℕ, ◌==◌, ◌-◌, ◌<◌, ◌≤◌, Bool, true, false, not, cond, if◌then◌else◌, ◌&&◌, nat_lt, nat_le, Option, Some, None, is_some, Result, Err, List, [], ◌∷◌, ◌++◌, All, refl}
+use Rattle.std.specs.Prelude.{◌≡◌, ◌≢◌, ℕ, ◌==◌, ◌-◌, Bool, true, false, if◌then◌else◌, Option, Some, None, Result, Err, refl}
 use Rattle.std.specs.List.{list_any}
-use Rattle.std.proofs.Common.{◌⊎◌, inl, inr, sym, ap, ◌∙◌, subst, arith}
-use Rattle.std.proofs.lemmas.Bool.{false≢true, and_parts, ltb-true, leb-true, false_from_ne_true, eqb-true, eq-eqb}
-use Rattle.std.proofs.lemmas.List.Elements.{All-nil, All-cons, All-head, All-tail, All-filter, All-append}
-use Rattle.cics_names.specs.Keyed.{Bytes, is_same}
-use Rattle.cics_names.specs.KeyedLaws.{is_same-self}
+use Rattle.std.proofs.Common.{◌⊎◌, inl, inr, sym, ap, ◌∙◌, subst}
+use Rattle.std.proofs.lemmas.Bool.{false≢true, eqb-true, eq-eqb}
 use Rattle.cics_enqueue.specs.declared.resources.Resource.{Resource}
 use Rattle.cics_history.specs.Events.{is_live, may_act}
 use Rattle.cics_history.specs.declared.ops.Op.{Op}
 use Rattle.cics_history.specs.declared.ops.Op.TheVariants.{TdRead}
-use Rattle.cics_dispatch.proofs.KeptTasks.{begins_now, not_waiting_then}
 use Rattle.cics_history.specs.State.{UnitsState}
 use Rattle.cics_history.specs.Holding.{held_by, conflicts}
 use Rattle.cics_history.proofs.Waiting.{any_more}
-use Rattle.cics_dispatch.specs.Machine.{Machine, Task, Suspended, RegionValue, task_at, is_waiting, not_waiting, with_waiting}
-use Rattle.cics_dispatch.specs.Checks.{fault_of}
-use Rattle.cics_dispatch.specs.Steps.{Stepped, with_new_task, attach_refusal, attached, new_task, checked, issue_refusal, refused_or, issued_by, issued, by_op}
-use Rattle.cics_dispatch.specs.Waking.{is_late, may_go_on, went_on, woken_first, woken}
-use Rattle.cics_dispatch.specs.Notes.{IsFirstFree}
+use Rattle.cics_dispatch.specs.Machine.{Machine, Task, Suspended, RegionValue}
+use Rattle.cics_dispatch.specs.Steps.{Stepped}
 use Rattle.cics_dispatch.specs.Answers.{IsStep}
-use Rattle.cics_dispatch.specs.KeptTasks.{IsWaitKept, AreTasksKept}
-use Rattle.cics_dispatch.specs.Settled.{needed_by, holds_one, holds_back, Starves, IsBlocked, IsInTime}
-use Rattle.cics_names.specs.declared.commands.Command.{Command}
+use Rattle.cics_dispatch.specs.Settled.{needed_by, holds_one, holds_back, Starves, IsBlocked}
 use Rattle.cics_names.specs.declared.commands.Verb.{Verb}
 use Rattle.cics_dispatch.specs.declared.outcomes.Refused.{Refused}
 use Rattle.cics_dispatch.specs.declared.outcomes.Refused.TheVariants.{NoTask, TaskEnded, TaskWaiting, DuplicateLabel, NoMemory, ClockBack, RegionDown}
-use Rattle.cics_dispatch.proofs.TaskPlaces.{place_of_task, task_at-push}
 use Rattle.cics_dispatch.proofs.KeepsOwn.{Keeps}
 use Rattle.cics_dispatch.proofs.Starved.{LeavesStarved}
-use Rattle.cics_dispatch.proofs.ActsAlone.{LeavesTasks, Waits, by_op_alone, checked_alone}
-use Rattle.cics_dispatch.proofs.RegionWaking.{first_free-goes}
+use Rattle.cics_dispatch.proofs.ActsAlone.{LeavesTasks}
 
 -- ---- A call that is refused
 
@@ -97,32 +86,6 @@ module _ (m n : Machine) (t : Task) (h : ℕ) (others : LeavesTasks t.label t.un
         | false ↦ λ differs. apart (λ is_own. let both : Some u ≡ Some h = sym acts ∙ is_own in let same : u ≡ h = cc in false≢true (sym differs ∙ eq-eqb u h same))
       ] refl
 
--- ---- The waits after a step of a task
-
--- the waits of the other tasks
-others_all : (label : Bytes) (P Q : Suspended → Type 0) → ((w : Suspended) → label ≢ w.label → P w → Q w) → (ws : List Suspended) → is_waiting ws label ≡ false → All P ws → All Q ws
-others_all label P Q follows [] none all = All-nil Q
-others_all label P Q follows (w ∷ ws) none all =
-    elim (is_same w.label label) as (λ b. is_same w.label label ≡ b → cond b true (is_waiting ws label) ≡ false → All Q (w ∷ ws)) [
-      | true ↦ λ same wrong. absurd (false≢true (sym wrong))
-      | false ↦ λ differs rest.
-          All-cons Q w ws (follows w (λ e. false≢true (sym differs ∙ ap (is_same w.label) e ∙ is_same-self w.label)) (All-head P w ws all))
-          (others_all label P Q follows ws rest (All-tail P w ws all))
-    ] refl none
-
-waits_all : (label : Bytes) (m n : Machine) (Q : Suspended → Type 0) → Waits label m n → All Q m.waiting →
-    ((c : Command) (o : Option Op) → n.waiting ≡ m.waiting ++ begins_now label m c o ∷ [] → Q (begins_now label m c o)) → All Q n.waiting
-waits_all label m n Q waits all begins = elim waits [
-  | inl same ↦ subst (All Q) (sym same) all
-  | inr changed ↦ elim changed [
-    | inl more ↦
-        let last = begins_now label m more.0 more.1 in
-        subst (All Q) (sym more.2)
-        (All-append Q m.waiting (last ∷ []) all (All-cons Q last [] (begins more.0 more.1 more.2) (All-nil Q)))
-    | inr less ↦ subst (All Q) (sym less) (All-filter (λ w. not (is_same w.label label)) Q m.waiting all)
-  ]
-]
-
 -- ---- Commands
 
 -- a command that isn't refused is one of a task of which no command waits
@@ -130,99 +93,3 @@ pub not_refused : (has_ended waits : Bool) → (if has_ended then Some TaskEnded
 not_refused true waits is = cc
 not_refused false true is = cc
 not_refused false false is = refl
-
--- ---- The time
-
--- a limit that has just begun isn't over
-just_begun : (d k : ℕ) → k ≡ 0 → (nat_lt 0 d && nat_le d k) ≡ false
-just_begun d k none =
-    false_from_ne_true (nat_lt 0 d && nat_le d k)
-    (λ both.
-    let parts = and_parts (nat_lt 0 d) (nat_le d k) both in
-    let above : 0 < d = ltb-true 0 d parts.0 in
-    let within : d ≤ k = leb-true d k parts.1 in
-    omega (arith, none))
-
-begun_late : (n : Machine) (w : Suspended) (o : Option Task) → n.clock ≡ w.since → is_late n w o ≡ false
-begun_late n w None same = refl
-begun_late n w (Some t) same = just_begun t.dtimout (n.clock - w.since) (omega (arith, same))
-
-same_clock : (m n : Machine) (w : Suspended) (o : Option Task) → n.clock ≡ m.clock → is_late n w o ≡ is_late m w o
-same_clock m n w None same = refl
-same_clock m n w (Some t) same = ap (λ k. nat_lt 0 t.dtimout && nat_le t.dtimout (k - w.since)) same
-
-module _ (m : Machine) (c : Command) (all : All (IsInTime m) m.waiting) where
-  checked_in_time : (t : Task) → is_waiting m.waiting t.label ≡ false → All (IsInTime (checked m t c (fault_of m t c.verb)).machine) (checked m t c (fault_of m t c.verb)).machine.waiting
-  checked_in_time t awake =
-      let n = (checked m t c (fault_of m t c.verb)).machine in
-      let alone = checked_alone m t c in
-      waits_all t.label m n (IsInTime n) alone.waits
-      (others_all t.label (IsInTime m) (IsInTime n)
-      (λ w other early. ap (is_late n w) (alone.others.tasks w.label other) ∙ same_clock m n w (task_at m.tasks w.label) alone.others.clock ∙ early) m.waiting awake all)
-      (λ d o begins. begun_late n (begins_now t.label m d o) (task_at n.tasks t.label) alone.others.clock)
-
-  -- after a command no task has waited too long yet
-  pub issued_in_time : (label : Bytes) → All (IsInTime (issued m label c).machine) (issued m label c).machine.waiting
-  issued_in_time label = by (task_at m.tasks label)
-    where
-      by_refusal : (t : Task) (refusal : Option Refused) → issue_refusal m (Some t) ≡ refusal →
-          All (IsInTime (refused_or m refusal (checked m t c (fault_of m t c.verb))).machine) (refused_or m refusal (checked m t c (fault_of m t c.verb))).machine.waiting
-      by_refusal t (Some refusal) refused = all
-      by_refusal t None refused = checked_in_time t (not_refused t.has_ended (is_waiting m.waiting t.label) refused)
-
-      by : (o : Option Task) → All (IsInTime (issued_by m c o).machine) (issued_by m c o).machine.waiting
-      by None = all
-      by (Some t) = by_refusal t (issue_refusal m (Some t)) refl
-
--- ---- Commands that go on
-
--- and none has after a waiting command has gone on
-pub woken_in_time : (m : Machine) (label : Bytes) → IsFirstFree m label → All (IsInTime m) m.waiting → All (IsInTime (woken m).machine) (woken m).machine.waiting
-woken_in_time m label free all =
-    subst (λ o. All (IsInTime (woken_first m o).machine) (woken_first m o).machine.waiting) (sym free.first) (by (task_at m.tasks w.label) refl)
-  where
-    w : Suspended
-    w = free.wait
-
-    by : (o : Option Task) → task_at m.tasks w.label ≡ o → All (IsInTime (went_on m w o).machine) (went_on m w o).machine.waiting
-    by None is = absurd (false≢true (sym (ap (may_go_on m w) is) ∙ first_free-goes m w m.waiting free.first))
-    by (Some t) is =
-        let ws = not_waiting m.waiting w.label in
-        let a = with_waiting m ws in
-        let n = (by_op a t w.command w.op).machine in
-        let alone = by_op_alone a t w.command w.op in
-        let awake : is_waiting ws t.label ≡ false = ap (is_waiting ws) (place_of_task m.tasks w.label t is).2 ∙ not_waiting_then m.waiting w.label in
-        waits_all t.label a n (IsInTime n) alone.waits
-        (others_all t.label (IsInTime m) (IsInTime n)
-        (λ v other early. ap (is_late n v) (alone.others.tasks v.label other) ∙ same_clock m n v (task_at m.tasks v.label) alone.others.clock ∙ early) ws awake
-        (All-filter (λ v. not (is_same v.label w.label)) (IsInTime m) m.waiting all))
-        (λ d o begins. begun_late n (begins_now t.label a d o) (task_at n.tasks t.label) alone.others.clock)
-
--- ---- Tasks that are attached, and the clock
-
--- a waiting command's task is there yet after a task more
-there_yet : (ts : List Task) (new : Task) (label : Bytes) → is_some (task_at ts label) ≡ true → task_at (ts ++ new ∷ []) label ≡ task_at ts label
-there_yet ts new label there = by (task_at ts label) refl there
-  where
-    by : (o : Option Task) → task_at ts label ≡ o → is_some o ≡ true → task_at (ts ++ new ∷ []) label ≡ o
-    by None is some = absurd (false≢true some)
-    by (Some t) is some = task_at-push ts new label t is
-
--- what holds of each holds of each, by another fact of each
-both_all : (P R Q : Suspended → Type 0) → ((w : Suspended) → P w → R w → Q w) → (ws : List Suspended) → All P ws → All R ws → All Q ws
-both_all P R Q follows [] ps rs = All-nil Q
-both_all P R Q follows (w ∷ ws) ps rs =
-    All-cons Q w ws (follows w (All-head P w ws ps) (All-head R w ws rs)) (both_all P R Q follows ws (All-tail P w ws ps) (All-tail R w ws rs))
-
-pub attached_in_time : (m : Machine) (label : Bytes) (dtimout : ℕ) → AreTasksKept m → All (IsInTime m) m.waiting → All (IsInTime (attached m label dtimout).machine) (attached m label dtimout).machine.waiting
-attached_in_time m label dtimout kept all = by (attach_refusal m label)
-  where
-    one : (w : Suspended) → IsWaitKept m w → IsInTime m w → IsInTime (with_new_task m label dtimout) w
-    one w has early =
-        ap (is_late (with_new_task m label dtimout) w) (there_yet m.tasks (new_task label dtimout) w.label has.of_task)
-        ∙ same_clock m (with_new_task m label dtimout) w (task_at m.tasks w.label) refl ∙ early
-
-    by : (refusal : Option Refused) →
-        All (IsInTime (refused_or m refusal (record { outcome = tt {0}; machine = with_new_task m label dtimout })).machine) (refused_or m refusal (record { outcome = tt {0}; machine = with_new_task m label dtimout })).machine.waiting
-    by None = both_all (IsWaitKept m) (IsInTime m) (IsInTime (with_new_task m label dtimout)) one m.waiting kept.waits all
-    by (Some refusal) = all

@@ -19,9 +19,9 @@ pub mod Regions
 pub mod Waits
 pub mod OwnedUnits
 pub mod Settled
-pub mod Notes
+pub mod WaitGroups
+pub mod WaitIndex
+pub mod Known
 pub mod First
-pub mod Filed
-pub mod Firsts
 pub mod Deadlines
 pub mod Blockers

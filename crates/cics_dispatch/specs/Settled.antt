@@ -15,7 +15,6 @@ use Rattle.cics_history.specs.Events.{is_live}
 use Rattle.cics_history.specs.declared.ops.Op.{Op}
 use Rattle.cics_history.specs.declared.ops.Op.TheVariants.{TdRead}
 use Rattle.cics_dispatch.specs.Machine.{Machine, Task, Suspended, task_at}
-use Rattle.cics_dispatch.specs.Waking.{is_late}
 use Rattle.cics_names.specs.declared.commands.Verb.{Verb}
 use Rattle.cics_names.specs.declared.commands.Verb.TheVariants.{Read, Write, Rewrite, Delete, Unlock, StartBr, ResetBr, ReadNext, ReadPrev, EndBr, WriteqTs, ReadqTs, DeleteqTs, WriteqTd, ReadqTd, DeleteqTd, Enq}
 use Rattle.cics_dispatch.specs.declared.outcomes.Outcome.{Outcome}
@@ -106,7 +105,3 @@ goes_on (Replied r) = true
 goes_on (Waiting holder) = true
 goes_on (Abended code reply) = false
 goes_on Ended = false
-
--- the task of a waiting command hasn't waited too long
-abbrev pub IsInTime : Machine → Suspended → Type 0
-IsInTime m w = is_late m w (task_at m.tasks w.label) ≡ false

@@ -14,7 +14,7 @@ ghost use Rattle.std.specs.Prelude.{IfErr, IfSome, IfNone, if◌then◌else◌, 
 ghost use Rattle.std.specs.Option.{option_copied};
 ghost use Rattle.cics_history.specs.declared.ops.UnitState.TheVariants.{Committed, BackedOut};
 ghost use Rattle.cics_dispatch.specs.Machine.{units_after, definition_of};
-ghost use Rattle.cics_dispatch.specs.Machine.{RegionValue, beginning_region, task_at, abended, is_waiting};
+ghost use Rattle.cics_dispatch.specs.Machine.{RegionValue, beginning_region, task_at, abended};
 ghost use Rattle.cics_dispatch.specs.Machine.{unit_closed};
 ghost use Rattle.cics_dispatch.specs.Checks.{fault_of};
 ghost use Rattle.cics_history.specs.Execution.{IsOpenUnit, IsOpenOrNone};
@@ -131,13 +131,6 @@ impl Dispatcher {
         ensures { result ≡ self.now.machine.is_down }
     {
         self.is_down
-    }
-
-    /// Whether a command of a label's task waits.
-    pub(crate) fn is_waiting(&self, label: &Name8) -> bool
-        ensures { result ≡ is_waiting self.now.machine.waiting label.now }
-    {
-        self.waits.is_waiting(label)
     }
 
     /// The place of the task of a label, or `None` where no task has it.

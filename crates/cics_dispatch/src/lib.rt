@@ -9,8 +9,6 @@ mod browses;
 mod checks;
 mod dispatcher;
 mod faults;
-mod firsts;
-mod notes;
 mod outcomes;
 mod reads;
 mod regions;
@@ -18,6 +16,8 @@ mod replies;
 mod task;
 mod tasks;
 mod updates;
+mod wait_groups;
+mod wait_index;
 mod waits;
 
 pub use cics_names::{Command, Verb};

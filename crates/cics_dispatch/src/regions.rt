@@ -21,8 +21,8 @@ ghost use Rattle.cics_dispatch.specs.Blockers.{waiting_command};
 ghost use Rattle.cics_dispatch.specs.declared.outcomes.Refused.TheVariants.{RegionDown};
 
 use crate::dispatcher::Dispatcher;
-use crate::notes::Notes;
 use crate::outcomes::{Expired, Outcome, Refused, Woken};
+use crate::wait_index::WaitIndex;
 use cics_enqueue::UnitId;
 use cics_names::{Command, Name4, Name8, NoMemory};
 use cics_units::{Listing, Opening, Units};
@@ -47,12 +47,8 @@ use std::marker::Model;
 /// wait group. Of a group `wake` looks no further than the first that must wait.
 pub struct Region {
     dispatcher: Dispatcher,
-    // What is known of the waiting commands, up to those that began to wait since the last `wake`.
-    notes: Notes,
-    // Whether each waiting command has its note, and none has to be looked at.
-    is_settled: bool,
-    // Whether it is known that no task has waited too long yet.
-    is_in_time: bool,
+    // What is known of the waiting commands. It has none, from want of memory until none waits.
+    index: WaitIndex,
 }
 
 // By hand: a derived drop is taken apart wherever a region is dropped.
@@ -60,9 +56,7 @@ impl Drop for Region {
     fn drop(self) {
         let Region {
             dispatcher: _dispatcher,
-            notes: _notes,
-            is_settled: _is_settled,
-            is_in_time: _is_in_time,
+            index: _index,
         } = self;
     }
 }
@@ -70,14 +64,13 @@ impl Drop for Region {
 impl Model for Region {
     ghost use Rattle.cics_dispatch.specs.Machine.{RegionValue};
     ghost use Rattle.cics_dispatch.specs.Regions.{IsRegionKept};
-    ghost use Rattle.cics_dispatch.specs.Notes.{IsRemembered};
+    ghost use Rattle.cics_dispatch.specs.Known.{AreKnown};
 
     ghost Value = { RegionValue };
 
     ghost view = { λ r. r.dispatcher };
 
-    ghost invariant = { λ r. IsRegionKept r.dispatcher
-        × IsRemembered r.dispatcher.machine r.notes r.is_settled r.is_in_time };
+    ghost invariant = { λ r. IsRegionKept r.dispatcher × AreKnown r.dispatcher.machine r.index };
 }
 
 // Returns the unit of a command's task, if it has one, and the command may have released something.
@@ -90,14 +83,6 @@ fn giving_up(keeps: bool, outcome: &Outcome, unit: Option<UnitId>) -> Option<Uni
     } else {
         unit
     }
-}
-
-// Returns whether what was settled stays settled after a command: it released nothing that another
-// waits for, and doesn't wait.
-fn stays_settled(is_settled: bool, was_blocker: bool, waits: bool) -> bool
-    ensures { result ≡ is_settled && (not was_blocker && not waits) }
-{
-    is_settled && !was_blocker && !waits
 }
 
 impl Region {
@@ -113,9 +98,7 @@ impl Region {
         let dispatcher = Dispatcher::new(opening)?;
         Ok(Region {
             dispatcher,
-            notes: Notes::new(alloc),
-            is_settled: false,
-            is_in_time: false,
+            index: WaitIndex::new(alloc),
         })
     }
 
@@ -157,7 +140,6 @@ impl Region {
         ensures serializable { IsSerializableRegion self.new }
     {
         self.refuse_if_down()?;
-        self.is_in_time = false;
         self.dispatcher.set_clock(now)
     }
 
@@ -188,9 +170,8 @@ impl Region {
         let unit = self.dispatcher.unit_at(at);
         let keeps = self.dispatcher.is_keeping(&command.verb);
         let outcome = self.dispatcher.issue(at, label, command)?;
-        let was_blocker = self.notes.forget(giving_up(keeps, &outcome, unit));
-        let waits = self.dispatcher.is_waiting(&label);
-        self.is_settled = stays_settled(self.is_settled, was_blocker, waits);
+        self.index.release(giving_up(keeps, &outcome, unit));
+        self.dispatcher.enter_last(&mut self.index);
         Ok(outcome)
     }
 
@@ -201,7 +182,7 @@ impl Region {
         ensures headline { IsHeadlineRegion self.now }
         ensures serializable { IsSerializableRegion self.now }
     {
-        self.is_settled && self.is_in_time
+        self.dispatcher.is_at_rest(&self.index)
     }
 
     /// Resumes the earliest waiting command that no longer has to wait, and returns the label of
@@ -211,8 +192,8 @@ impl Region {
     /// units hold, and doesn't wait again. The only error is `NoMemory`: nothing changes, and the
     /// command waits as it did.
     ///
-    /// Cost: it looks at no wait if it last returned `None`, and nothing has changed that since. A
-    /// command that began to wait does, and so does a blocker that may have released something.
+    /// Cost: it looks at no wait if it last returned `None`, and no blocker may have released
+    /// something since. After want of memory it looks at each, until no command waits.
     pub fn wake(&mut self) -> Result<Option<Woken>, Refused>
         ensures step { IsStep true self.old (always (woken self.old.machine)) result self.new }
         ensures first { IfOk result (λ woken.
@@ -220,18 +201,13 @@ impl Region {
         ensures headline { IsHeadlineRegion self.new }
         ensures serializable { IsSerializableRegion self.new }
     {
-        if self.is_settled {
-            return Ok(None);
-        }
-        self.dispatcher.note_rest(&mut self.notes)?;
-        let Some(free) = self.dispatcher.first_free(&mut self.notes)? else {
-            self.is_settled = true;
+        let Some(first) = self.dispatcher.first_runnable(&mut self.index)? else {
             return Ok(None);
         };
-        let unit = self.dispatcher.unit_of(&free.label);
-        let woken = self.dispatcher.wake(free.label)?;
-        self.notes.remove(free.place);
-        self.notes.forget(unit);
+        let unit = self.dispatcher.unit_of(&first.label);
+        let woken = self.dispatcher.wake(first.label)?;
+        self.index.remove(first.number);
+        self.index.release(unit);
         Ok(Some(woken))
     }
 
@@ -242,9 +218,8 @@ impl Region {
     /// `dtimout` past the begin of its wait; a `dtimout` of 0 is no limit. Its unit of work is
     /// backed out, its wait ends, and so does the task.
     ///
-    /// Cost: O(log waits). It looks at no wait if it last returned `None` and nobody has asked to
-    /// set the clock since. It looks at all waits only if a command began to wait since the last
-    /// `wake`, and no other task has waited too long.
+    /// Cost: O(log waits) if no task has waited too long. It looks at all waits before that of a task
+    /// that has.
     pub fn expire(&mut self) -> Option<Expired>
         ensures outcome { result ≡ (expired self.old.machine).outcome }
         ensures machine { self.new.machine ≡ (expired self.old.machine).machine }
@@ -252,18 +227,14 @@ impl Region {
         ensures headline { IsHeadlineRegion self.new }
         ensures serializable { IsSerializableRegion self.new }
     {
-        if self.is_in_time {
-            return None;
-        }
-        let Some(late) = self.dispatcher.first_late(&self.notes) else {
-            self.is_in_time = true;
+        let Some(at) = self.dispatcher.first_late(&self.index) else {
             return None;
         };
-        let unit = self.dispatcher.unit_at(late.task);
-        let expired = self.dispatcher.time_out(late.task);
-        self.notes.remove_any(late.note);
-        self.notes.forget(unit);
-        self.is_settled = false;
+        let unit = self.dispatcher.unit_at(at);
+        let expired = self.dispatcher.time_out(at);
+        let number = self.index.number_of(&expired.label);
+        self.index.remove(number);
+        self.index.release(unit);
         Some(expired)
     }
 
@@ -290,9 +261,7 @@ impl Region {
     {
         self.refuse_if_down()?;
         let count = self.dispatcher.shut_down();
-        self.notes.clear();
-        self.is_settled = true;
-        self.is_in_time = true;
+        self.index.clear();
         Ok(count)
     }
 

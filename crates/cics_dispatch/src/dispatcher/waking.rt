@@ -1,19 +1,21 @@
 //! Waiting commands: which one goes on, and which one's time is over.
 
-ghost use Rattle.std.specs.Prelude.{◌≡◌, ◌<◌, ◌≤◌, [], ◌∷◌, All, Some, None, true, false, length};
-ghost use Rattle.std.specs.Prelude.{◌+◌, slice_get, is_ok, IfOk, OnOk, OnErr, IfSome, IfNone};
+ghost use Rattle.std.specs.Prelude.{◌≡◌, ◌<◌, ◌≤◌, [], ◌∷◌, ℕ, All, Some, None, true, false, length};
+ghost use Rattle.std.specs.Prelude.{slice_get, IfOk, OnOk, OnErr, IfSome, IfNone};
+ghost use Rattle.std.specs.Bool.{OnTrue};
 ghost use Rattle.cics_history.specs.Execution.{IsOpenUnit};
 ghost use Rattle.cics_history.specs.Records.{key_of};
 ghost use Rattle.cics_history.specs.Isolation.{IsSound};
 ghost use Rattle.cics_dispatch.specs.Machine.{task_at, timed_out, is_waiting};
 ghost use Rattle.cics_dispatch.specs.KeptTasks.{IsWaitKept, AreTasksKept};
 ghost use Rattle.cics_dispatch.specs.Waking.{expired, woken, woken_first, first_free, first_late};
-ghost use Rattle.cics_dispatch.specs.Waking.{is_late, awaited_by};
+ghost use Rattle.cics_dispatch.specs.Waking.{is_late, awaited_by, IsAtRest};
 ghost use Rattle.cics_dispatch.specs.Steps.{with_outcome};
-ghost use Rattle.cics_dispatch.specs.Notes.{OfWait, IsFound, IsOnlyUse, IsOnlyNeed};
-ghost use Rattle.cics_dispatch.specs.Notes.{AreNotedNow, IsFirstFree, IsFirstFreeOf, IsFirstOpen};
-ghost use Rattle.cics_dispatch.specs.Notes.{MayClose, UseOf, IsLooked, IsFreeAt, AreSettled, count};
-ghost use Rattle.cics_dispatch.specs.Notes.{IsPlaceOf, IsUse, OwnerIsElsewhere};
+ghost use Rattle.cics_dispatch.specs.declared.wait_groups.GroupKey.TheVariants.{Uses as UsesKey};
+ghost use Rattle.cics_enqueue.specs.declared.resources.Resource.{Resource as ResourceValue};
+ghost use Rattle.cics_dispatch.specs.Known.{OfWait, IsFound, IsOnlyUse, HasNoOnlyUse, IsKeyOf, Fits};
+ghost use Rattle.cics_dispatch.specs.Known.{AreKnown, IsFirstFree, IsFirstFreeOf, IsFirstRunnable};
+ghost use Rattle.cics_dispatch.specs.Known.{OwnerIsElsewhere, key_for};
 ghost use Rattle.cics_dispatch.specs.Deadlines.{deadline_of};
 ghost use Rattle.cics_dispatch.specs.Machine.{Task as TaskValue};
 ghost use Rattle.cics_dispatch.specs.Settled.{reads_queue, IsBlocked};
@@ -23,8 +25,9 @@ ghost use Rattle.cics_dispatch.specs.Calls.{IsStepOrRefused};
 ghost use Rattle.cics_dispatch.specs.Calls.{IsAttempt, going_on};
 
 use crate::dispatcher::Dispatcher;
-use crate::notes::{Free, Late, Look, Note, Notes};
 use crate::outcomes::{Attempt, Expired, Outcome, Woken};
+use crate::wait_groups::GroupKey;
+use crate::wait_index::{BlockedWait, Look, OpenWait, Runnable, WaitIndex};
 use crate::waits::{Suspended, Waits};
 use cics_enqueue::{Resource, UnitId};
 use cics_names::{AbendCode, Name4, Name8, NoMemory, Verb};
@@ -55,7 +58,8 @@ fn has_short_key(op: &Op) -> bool
 // but a unit that holds it.
 fn need_of(op: &Op) -> Option<Resource>
     requires { length (key_of op.now) ≤ 255 }
-    ensures { IfSome result (λ r. IsOnlyUse r op.now) }
+    ensures some { IfSome result (λ r. IsOnlyUse r op.now) }
+    ensures none { IfNone result (HasNoOnlyUse op.now) }
 {
     match op {
         Op::Write { file, key, .. } => Some(Resource::record(*file, key.bytes())),
@@ -68,6 +72,17 @@ fn need_of(op: &Op) -> Option<Resource>
         Op::TsDelete { queue } => Some(Resource::TsQueue(*queue)),
         Op::TdWrite { queue, .. } => Some(Resource::TdWrite(*queue)),
         Op::TdRead { .. } | Op::TdDelete { .. } => None,
+    }
+}
+
+// Returns the key of a command that uses this resource and nothing else, or of one of a label that
+// uses no resource alone.
+fn group_key(only: Option<Resource>, label: Name8) -> GroupKey
+    ensures { result ≡ key_for only label }
+{
+    match only {
+        Some(resource) => GroupKey::Uses(resource),
+        None => GroupKey::Alone(label),
     }
 }
 
@@ -115,42 +130,58 @@ impl Dispatcher {
         }
     }
 
-    // The one resource that the waiting command of a label's task uses, where it is one.
-    fn need(&self, label: &Name8) -> Option<Resource>
-        ensures { OfWait self.now.machine.waiting label.now (λ w. IfSome result (λ r.
-            IsOnlyNeed r w.command.verb w.op)) }
+    // Returns the key of the command of a label's task, which waits. `None` if it isn't known. It is
+    // a function of its own, since a resource takes over 255 bytes of the frame.
+    #[inline(never)]
+    fn group_key_of(&self, label: &Name8) -> Option<GroupKey>
+        ensures { OfWait self.now.machine.waiting label.now
+            (λ w. IfSome result (λ key. IsKeyOf label.now key w)) }
     {
         let wait = self.waits.get(label)?;
         if let Some(op) = wait.op() {
-            return if has_short_key(op) { need_of(op) } else { None };
+            if !has_short_key(op) {
+                return None;
+            }
+            return Some(group_key(need_of(op), *label));
         }
         match &wait.command().verb {
             Verb::Enq {
                 resource,
                 length,
                 ..
-            } => Some(Resource::value(&resource.bytes()[..*length as usize])),
+            } => Some(GroupKey::Uses(Resource::value(&resource.bytes()[..*length as usize]))),
             _ => None,
         }
     }
 
-    // Whether the command of a label's task, which waits, may be one of a line: it isn't known to use another resource. It is
-    // a function of its own, since a resource takes over 255 bytes of the frame and few looks at a line need one.
-    #[inline(never)]
-    fn may_be_in_line(&self, notes: &Notes, line: usize, label: &Name8) -> bool
-        ensures { result ≡ false → OfWait self.now.machine.waiting label.now
-            (λ w. IsUse self.now.machine.units.opening notes.now.resources w line → ⊥) }
+    // Returns the key by which the command of a label's task, which a unit blocks, has its group.
+    fn blocked_key_of(&self, label: &Name8, unit: UnitId) -> GroupKey
+        requires { OfWait self.now.machine.waiting label.now (IsBlocked self.now.machine unit) }
+        ensures { OfWait self.now.machine.waiting label.now
+            (Fits self.now.machine.units.opening result) }
     {
-        match self.need(label) {
-            Some(resource) => notes.is_line_of(line, &resource),
+        match self.group_key_of(label) {
+            Some(key) => key,
+            None => GroupKey::Alone(*label),
+        }
+    }
+
+    // Whether the command of a label's task may be one that uses the resource of a group alone.
+    fn may_be_in(&self, index: &WaitIndex, group: usize, label: &Name8) -> bool
+        ensures { result ≡ false → (r : ResourceValue) → slice_get index.now.keys group
+            ≡ Some (UsesKey r) → OfWait self.now.machine.waiting label.now
+            (λ w. Fits self.now.machine.units.opening (UsesKey r) w → ⊥) }
+    {
+        match self.group_key_of(label) {
+            Some(key) => index.has_key(group, &key),
             None => true,
         }
     }
 
-    // Whether the task of a unit has a command that waits, and that may be one of a line.
-    fn owner_waits_in(&self, notes: &Notes, line: usize, unit: UnitId) -> bool
-        ensures { result ≡ false
-            → OwnerIsElsewhere self.now.machine notes.now.resources line unit }
+    // Whether the task of a unit may have a command that waits in a group.
+    fn owner_waits_in(&self, index: &WaitIndex, group: usize, unit: UnitId) -> bool
+        ensures { result ≡ false → (r : ResourceValue) → slice_get index.now.keys group
+            ≡ Some (UsesKey r) → OwnerIsElsewhere self.now.machine r unit }
     {
         let Some(label) = self.tasks.label_of(unit) else {
             return false;
@@ -158,126 +189,121 @@ impl Dispatcher {
         if !self.waits.is_waiting(&label) {
             return false;
         }
-        self.may_be_in_line(notes, line, &label)
+        self.may_be_in(index, group, &label)
     }
 
-    // Whether the commands of a line may all be said to wait for a unit, as one of them has to: they do already, or none of
-    // them is of the unit's own task.
-    fn may_close(&self, notes: &Notes, line: usize, unit: UnitId) -> bool
-        requires { line < length notes.now.blockers }
-        ensures { result ≡ true → MayClose self.now.machine
-            notes.now.resources notes.now.blockers line unit }
-    {
-        match notes.line_blocker(line) {
-            Some(blocker) => blocker == unit,
-            None => !self.owner_waits_in(notes, line, unit),
-        }
-    }
-
-    // Notes that the waiting command of the note at a place, the first that has to be looked at, has to wait for a unit, and
-    // so have all that use the same resource and nothing else. Where memory is refused the command has to be looked at again.
-    fn file(&self, notes: &mut Notes, at: usize, note: &Note, unit: UnitId) -> Result<(), NoMemory>
-        requires first { IsFirstOpen notes.old at note.now }
+    /// Enters the command that began to wait last in the index, if that has all others.
+    pub(crate) fn enter_last(&self, index: &mut WaitIndex)
         requires kept { AreTasksKept self.now.machine }
-        requires noted { AreNotedNow self.now.machine notes.old }
-        requires blocked { OfWait self.now.machine.waiting note.now.label
-            (IsBlocked self.now.machine unit) }
-        ensures { IsLooked self.now.machine notes.old notes.new at (is_ok result) }
+        requires known { AreKnown self.now.machine index.old }
+        ensures { AreKnown self.now.machine index.new }
     {
-        if let Some(line) = note.line {
-            return self.file_in(notes, at, note, line, unit);
+        if self.waits.len().saturating_sub(1) != index.len() {
+            return;
         }
-        let Some(resource) = self.need(&note.label) else {
-            return notes.set_alone(at, note, unit);
+        let Some(wait) = self.waits.last() else {
+            return;
         };
-        match notes.line_of(resource) {
-            Ok(line) => self.file_in(notes, at, note, line, unit),
-            Err(refused) => Err(refused),
-        }
+        let label = wait.label();
+        let Look::IsBlocked(unit) = self.look(&label) else {
+            return;
+        };
+        index.push(BlockedWait {
+            label,
+            key: self.blocked_key_of(&label, unit),
+            until: self.deadline(wait),
+            unit,
+        });
     }
 
-    // The same where the command uses the resource of a line and nothing else.
-    fn file_in(
-        &self,
-        notes: &mut Notes,
-        at: usize,
-        note: &Note,
-        line: usize,
-        unit: UnitId,
-    ) -> Result<(), NoMemory>
-        requires first { IsFirstOpen notes.old at note.now }
-        requires kept { AreTasksKept self.now.machine }
-        requires noted { AreNotedNow self.now.machine notes.old }
-        requires blocked { OfWait self.now.machine.waiting note.now.label
-            (IsBlocked self.now.machine unit) }
-        requires within { line < length notes.old.blockers }
-        requires only { IfSome note.now.line (λ g. g ≡ line) }
-        requires uses { UseOf self.now.machine notes.old.resources note.now line }
-        ensures { IsLooked self.now.machine notes.old notes.new at (is_ok result) }
+    // Returns the first waiting command that needn't wait. Looks at each before it.
+    fn scan_runnable(&self, index: &WaitIndex) -> Option<Runnable>
+        ensures first { IfSome result (IsFirstRunnable self.now.machine index.now.rows) }
+        ensures none { IfNone result
+            (first_free self.now.machine self.now.machine.waiting ≡ None) }
     {
-        if self.may_close(notes, line, unit) {
-            notes.close(at, note, line, unit)
-        } else {
-            notes.set_alone(at, note, unit)
-        }
-    }
-
-    /// Looks at the waiting commands of which it isn't known whom they have to wait for, up to the first that needn't wait, and
-    /// answers that. What it finds is noted; where memory for that is refused it looks no further.
-    pub(crate) fn first_free(&self, notes: &mut Notes) -> Result<Option<Free>, NoMemory>
-        requires kept { AreTasksKept self.now.machine }
-        requires noted { AreNotedNow self.now.machine notes.old }
-        requires all { count notes.old.rows ≡ length self.now.machine.waiting }
-        ensures noted { AreNotedNow self.now.machine notes.new }
-        ensures first { IfOk result (λ found.
-            IfSome found (λ f. IsFreeAt self.now.machine notes.new f.place f.label)) }
-        ensures none { IfOk result (λ found. IfNone found
-            (AreSettled self.now.machine notes.new)) }
-    {
-        while let Some((at, note)) = notes.first_open() {
-            match self.look(&note.label) {
+        for wait in self.waits.iter() {
+            let label = wait.label();
+            match self.look(&label) {
                 Look::MayGoOn => {
-                    return Ok(Some(Free {
-                        place: at,
-                        label: note.label,
+                    return Some(Runnable {
+                        label,
+                        number: index.number_of(&label),
+                    });
+                }
+                Look::IsBlocked(_) => {}
+            }
+        }
+        None
+    }
+
+    /// Returns the first waiting command that needn't wait, if there is one. Looks at those that the
+    /// index doesn't say to be blocked. It says so of those that are looked at, and of their groups.
+    ///
+    /// It looks at each if the index hasn't all waits, or if a command has to wait for a unit whose
+    /// task waits for the same resource.
+    pub(crate) fn first_runnable(&self, index: &mut WaitIndex) -> Result<Option<Runnable>, NoMemory>
+        requires kept { AreTasksKept self.now.machine }
+        requires known { AreKnown self.now.machine index.old }
+        ensures known { AreKnown self.now.machine index.new }
+        ensures first { IfOk result (λ found.
+            IfSome found (IsFirstRunnable self.now.machine index.new.rows)) }
+        ensures none { IfOk result (λ found. IfNone found
+            (first_free self.now.machine self.now.machine.waiting ≡ None)) }
+    {
+        if index.len() != self.waits.len() {
+            return Ok(self.scan_runnable(index));
+        }
+        while let Some(open) = index.first_open()? {
+            match self.look(&open.entry.label) {
+                Look::MayGoOn => {
+                    return Ok(Some(Runnable {
+                        label: open.entry.label,
+                        number: Some(open.number),
                     }));
                 }
-                Look::IsBlocked(unit) => self.file(notes, at, &note, unit)?,
+                Look::IsBlocked(unit) => {
+                    if self.owner_waits_in(index, open.entry.group, unit) {
+                        return Ok(self.scan_runnable(index));
+                    }
+                    index.close(&open, unit)?;
+                }
             }
         }
         Ok(None)
     }
 
-    /// Makes a note of each waiting command that has none yet, as one that has to be looked at; of all of them anew where most
-    /// places are of commands that wait no more. Where memory is refused it makes no more of them.
-    pub(crate) fn note_rest(&self, notes: &mut Notes) -> Result<(), NoMemory>
-        requires noted { AreNotedNow self.now.machine notes.old }
-        ensures noted { AreNotedNow self.now.machine notes.new }
-        ensures all { OnOk result (count notes.new.rows ≡ length self.now.machine.waiting) }
-        ensures once { AreApart self.now.machine.waiting }
+    // Returns true only if no waiting command may go on. Looks at no wait.
+    fn is_settled(&self, index: &WaitIndex) -> bool
+        requires kept { AreTasksKept self.now.machine }
+        requires known { AreKnown self.now.machine index.now }
+        ensures { OnTrue result (first_free self.now.machine self.now.machine.waiting ≡ None) }
     {
-        if notes.have_grown(self.waits.len()) {
-            notes.clear();
+        if index.len() != self.waits.len() {
+            return false;
         }
-        match self.waits.len().checked_sub(notes.count()) {
-            Some(1) => self.note_last(notes),
-            _ => self.note_behind(notes),
-        }
+        index.is_settled()
     }
 
-    // Makes a note of the command that began to wait last, where every other has its note.
-    fn note_last(&self, notes: &mut Notes) -> Result<(), NoMemory>
-        requires noted { AreNotedNow self.now.machine notes.old }
-        requires one { count notes.old.rows + 1 ≡ length self.now.machine.waiting }
-        ensures noted { AreNotedNow self.now.machine notes.new }
-        ensures all { OnOk result (count notes.new.rows ≡ length self.now.machine.waiting) }
-        ensures once { AreApart self.now.machine.waiting }
+    // Returns true only if no task has waited too long. Looks at no wait.
+    fn are_in_time(&self, index: &WaitIndex) -> bool
+        requires { AreKnown self.now.machine index.now }
+        ensures { OnTrue result (first_late self.now.machine self.now.machine.waiting ≡ None) }
     {
-        let Some(wait) = self.waits.last() else {
-            unreachable!();
-        };
-        notes.push(wait.label(), self.deadline(wait))?;
-        Ok(())
+        if index.len() != self.waits.len() {
+            return false;
+        }
+        index.are_in_time(self.clock)
+    }
+
+    /// Returns true only if no waiting command may go on, and no task has waited too long. Looks at
+    /// no wait.
+    pub(crate) fn is_at_rest(&self, index: &WaitIndex) -> bool
+        requires kept { AreTasksKept self.now.machine }
+        requires known { AreKnown self.now.machine index.now }
+        ensures { OnTrue result (IsAtRest self.now.machine) }
+    {
+        self.is_settled(index) && self.are_in_time(index)
     }
 
     // The last clock at which the task of a waiting command hasn't waited too long.
@@ -289,28 +315,6 @@ impl Dispatcher {
             Some(at) => self.tasks.get(at).deadline(wait.since()),
             None => u64::MAX,
         }
-    }
-
-    // Makes a note of each waiting command that has none yet, whatever the places are.
-    fn note_behind(&self, notes: &mut Notes) -> Result<(), NoMemory>
-        requires noted { AreNotedNow self.now.machine notes.old }
-        ensures noted { AreNotedNow self.now.machine notes.new }
-        ensures all { OnOk result (count notes.new.rows ≡ length self.now.machine.waiting) }
-        ensures once { AreApart self.now.machine.waiting }
-    {
-        let noted = notes.count();
-        if noted == self.waits.len() {
-            return Ok(());
-        }
-        let mut passed = 0;
-        for wait in self.waits.iter() {
-            if passed < noted {
-                passed += 1;
-                continue;
-            }
-            notes.push(wait.label(), self.deadline(wait))?;
-        }
-        Ok(())
     }
 
     // Tries a waiting command of the task at a place again, with what it asked for when it was issued.
@@ -411,51 +415,27 @@ impl Dispatcher {
         }
     }
 
-    // The place of the first task that has waited too long. Each wait is looked at.
-    fn first_late_of_all(&self) -> Option<usize>
+    /// The place of the first task that has waited too long, in the order in which the waits began. A
+    /// task has waited too long once the clock is its `dtimout` past the begin of its wait; a
+    /// `dtimout` of 0 is no limit. Waits are looked at only if the index says that one is late, or
+    /// hasn't all waits.
+    pub(crate) fn first_late(&self, index: &WaitIndex) -> Option<usize>
+        requires { AreKnown self.now.machine index.now }
+        ensures once { IfSome result (λ at. AreApart self.now.machine.waiting) }
         ensures task { IfSome result (λ at. slice_get self.now.machine.tasks at
             ≡ first_late self.now.machine self.now.machine.waiting) }
         ensures within { IfSome result (λ at. at < length self.now.machine.tasks) }
         ensures none { IfNone result (first_late self.now.machine self.now.machine.waiting ≡ None) }
     {
+        if self.are_in_time(index) {
+            return None;
+        }
         for wait in self.waits.iter() {
             if let Some(at) = self.late(wait) {
                 return Some(at);
             }
         }
         None
-    }
-
-    /// The first task that has waited too long, in the order in which the waits began. A task has waited too long once the
-    /// clock is its `dtimout` past the begin of its wait; a `dtimout` of 0 is no limit.
-    ///
-    /// The notes are of a front of the waits. So where a deadline of them has come the first of them is the first of all, and
-    /// waits are looked at only where none has and some waits have no note.
-    pub(crate) fn first_late(&self, notes: &Notes) -> Option<Late>
-        requires noted { AreNotedNow self.now.machine notes.now }
-        ensures task { IfSome result (λ late. slice_get self.now.machine.tasks late.task
-            ≡ first_late self.now.machine self.now.machine.waiting) }
-        ensures within { IfSome result (λ late. late.task < length self.now.machine.tasks) }
-        ensures note { IfSome result (λ late. OfTask self.now.machine.tasks late.task
-            (λ t. IsPlaceOf t.label notes.now.rows late.note)) }
-        ensures none { IfNone result (first_late self.now.machine self.now.machine.waiting ≡ None) }
-        ensures once { AreApart self.now.machine.waiting }
-    {
-        let are_all_noted = notes.count() == self.waits.len();
-        let Some(place) = notes.first_late(self.clock) else {
-            if are_all_noted {
-                return None;
-            }
-            let task = self.first_late_of_all()?;
-            return Some(Late { task, note: None });
-        };
-        let Some(task) = self.tasks.find(&notes.label_at(place)) else {
-            unreachable!();
-        };
-        Some(Late {
-            task,
-            note: Some(place),
-        })
     }
 
     /// Abends the task at a place, which is the first that has waited too long, by the code AKCS. Its unit of work is

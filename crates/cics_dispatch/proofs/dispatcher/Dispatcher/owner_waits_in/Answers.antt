@@ -1,19 +1,19 @@
 use Rattle.std.proofs.Common.{◌∙◌, sym, ap, subst}
 use Rattle.cics_dispatch.specs.Machine.{label_of, is_waiting}
 use Rattle.cics_dispatch.specs.Regions.{IsRegionKept}
-use Rattle.cics_dispatch.proofs.Looks.{owner_awake, owner_not_in_line}
+use Rattle.cics_dispatch.proofs.Looks.{owner_awake, owner_elsewhere}
 use Rattle.cics_dispatch.proofs.dispatcher.Dispatcher.owner_waits_in.Goals as goal
 
 pub returns-then-not-is_waiting : goal.returns-then-not-is_waiting
-returns-then-not-is_waiting c = λ awake.
+returns-then-not-is_waiting c = λ awake r there.
     let v = c.args.self.now in
     let label = c.in-Some.label in
-    owner_awake v.machine c.args.notes.now.resources c.args.line c.args.unit label (subst IsRegionKept c.self.view_is c.self.invariant).tasks.owners
+    owner_awake v.machine r c.args.unit label (subst IsRegionKept c.self.view_is c.self.invariant).tasks.owners
     (c.in-Some.ensures.label ∙ ap (λ v. label_of v.machine.tasks c.args.unit) c.self.view_is)
     (ap (λ v. is_waiting v.machine.waiting label) (sym c.self.view_is) ∙ sym c.if-not-is_waiting.ensures.waiting)
 
 pub returns : goal.returns
-returns c = λ out.
+returns c = λ out r there.
     let v = c.args.self.now in
-    owner_not_in_line v.machine c.args.notes.now.resources c.args.line c.args.unit c.in-Some.label (subst IsRegionKept c.self.view_is c.self.invariant).tasks.owners
-    (c.in-Some.ensures.label ∙ ap (λ v. label_of v.machine.tasks c.args.unit) c.self.view_is) (c.may_be_in_line.ensures out)
+    owner_elsewhere v.machine r c.args.unit c.in-Some.label (subst IsRegionKept c.self.view_is c.self.invariant).tasks.owners
+    (c.in-Some.ensures.label ∙ ap (λ v. label_of v.machine.tasks c.args.unit) c.self.view_is) (c.may_be_in.ensures out r there)

@@ -4,7 +4,7 @@ use Rattle.std.specs.Prelude.{[]}
 use Rattle.cics_dispatch.specs.Machine.{Machine, with_waiting}
 use Rattle.cics_dispatch.specs.Steps.{with_outcome}
 use Rattle.cics_dispatch.specs.Waking.{woken}
-use Rattle.cics_dispatch.specs.Notes.{IsFirstFree}
+use Rattle.cics_dispatch.specs.Known.{IsFirstFree}
 use Rattle.cics_dispatch.specs.KeptTasks.{AreTasksKept}
 use Rattle.cics_dispatch.proofs.OwnedUnits.{owned_suspended}
 use Rattle.cics_dispatch.proofs.RegionSteps.{kept_as}

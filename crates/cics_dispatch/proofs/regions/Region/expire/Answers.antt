@@ -1,64 +1,27 @@
-use Rattle.std.proofs.Common.{◌≡◌, ◌∙◌, sym, ap, subst, map, Some}
-use Rattle.cics_dispatch.specs.Notes.{given_up, forgotten, without, without_deadline, IsPlaceOf}
+use Rattle.std.proofs.Common.{◌≡◌, ◌∙◌, sym, ap, subst, Some}
 use Rattle.cics_dispatch.specs.Waking.{expired, first_late}
-use Rattle.cics_dispatch.proofs.Deadlines.{due_dropped}
-use Rattle.cics_dispatch.proofs.Noted.{noted_dropped}
-use Rattle.cics_dispatch.specs.Answers.{IsHeadlineRegion, IsSerializableRegion}
-use Rattle.cics_dispatch.proofs.RegionSteps.{task_there}
-use Rattle.cics_dispatch.proofs.RegionRemembers.{expired_in_time, remembered_early, remembered_expired, note_at}
 use Rattle.cics_dispatch.specs.First.{IsFirstTooLate}
+use Rattle.cics_dispatch.specs.WaitIndex.{IsNumberOf}
+use Rattle.cics_dispatch.proofs.RegionSteps.{task_there}
+use Rattle.cics_dispatch.proofs.RegionKnown.{known_removed, known_expired, expired_label}
 use Rattle.cics_dispatch.proofs.FirstWaits.{first_expired}
 use Rattle.cics_dispatch.proofs.regions.Region.expire.Goals as goal
-
-pub returns-then-self-clause-outcome : goal.returns-then-self-clause-outcome
-returns-then-self-clause-outcome c =
-    let u = c.self.inside in
-    let none = expired_in_time u.dispatcher.machine u.notes u.is_settled u.is_in_time c.self.invariant.1 c.if-self.true in
-    sym (ap (λ v. (expired v.machine).outcome) (sym c.self.view_is) ∙ ap (λ s. s.outcome) none)
-
-pub returns-then-self-clause-machine : goal.returns-then-self-clause-machine
-returns-then-self-clause-machine c =
-    let u = c.self.inside in
-    let none = expired_in_time u.dispatcher.machine u.notes u.is_settled u.is_in_time c.self.invariant.1 c.if-self.true in
-    ap (λ v. v.machine) (sym c.self.view_is) ∙ sym (ap (λ s. s.machine) none) ∙ ap (λ v. (expired v.machine).machine) c.self.view_is
-
-pub returns-then-self-clause-headline : goal.returns-then-self-clause-headline
-returns-then-self-clause-headline c = subst IsHeadlineRegion c.self.view_is c.self.invariant.0.headline
-
-pub returns-then-self-clause-serializable : goal.returns-then-self-clause-serializable
-returns-then-self-clause-serializable c = subst IsSerializableRegion c.self.view_is c.self.invariant.0.serializable
 
 pub invariant_of-self : goal.invariant_of-self
 invariant_of-self c =
     let u = c.self.inside in
-    (c.self.invariant.0, remembered_early u.dispatcher.machine u.notes u.is_settled u.is_in_time c.self.invariant.1 c.in_default.ensures.none)
-
-pub remove_any-requires : goal.remove_any-requires
-remove_any-requires c =
-    let u = c.self.inside in
     let m = u.dispatcher.machine in
-    let late = c.in-Some.late in
-    task_there m.tasks late.task c.in-Some.ensures.within (λ t there. note_at m u.notes t.label late.note c.self.invariant.1.noted (c.in-Some.ensures.note t there))
-
-pub invariant_of-self-2 : goal.invariant_of-self-2
-invariant_of-self-2 c =
-    let u = c.self.inside in
-    let m = u.dispatcher.machine in
-    let v = u.notes in
     let n = c.time_out-expired.new.self.machine in
-    let late = c.in-Some.late in
-    let mid = c.remove_any.ensures in
-    let new = c.forget.ensures in
-    let unit = c.unit_at-unit.result in (
+    let at = c.in-Some.at in
+    let mid = c.remove.new.self in
+    let number = c.number_of-number.result in (
       c.time_out-expired.ensures.kept c.self.invariant.0,
-      task_there m.tasks late.task c.in-Some.ensures.within (λ t there.
+      task_there m.tasks at c.in-Some.ensures.within (λ t there.
           let first : first_late m m.waiting ≡ Some t = sym c.in-Some.ensures.task ∙ there in
-          let place : IsPlaceOf t.label v.rows late.note = c.in-Some.ensures.note t there in
-          let noted = noted_dropped m v.resources v.blockers t.label v.rows m.waiting late.note c.in-Some.ensures.once place c.self.invariant.1.noted.noted in
-          let due = due_dropped m.tasks t.label v.rows m.waiting v.deadlines late.note c.in-Some.ensures.once place c.self.invariant.1.noted.due in
-          remembered_expired m n v c.forget.new.self (without v.rows late.note) (without_deadline v.deadlines late.note) u.is_in_time t unit c.self.invariant.0.tasks noted due first
-          (c.unit_at-unit.ensures.unit t there) (ap (λ s. s.machine) c.time_out-expired.ensures.step) (new.rows ∙ ap (map (forgotten unit)) mid.rows) (new.blockers ∙ ap (map (given_up unit)) mid.blockers)
-          (new.resources ∙ mid.resources) (new.deadlines ∙ mid.deadlines) c.if-self.false),
+          let own = expired_label m n c.time_out-expired.result t c.time_out-expired.ensures.step first in
+          known_expired m n mid c.release.new.self c.unit_at-unit.result c.release.ensures.blockers c.self.invariant.0.tasks c.release.ensures.rows c.release.ensures.keys t
+          (known_removed m u.index mid t.label number c.in-Some.ensures.once (subst (λ l. IsNumberOf l u.index.rows number) own c.number_of-number.ensures) c.self.invariant.1 c.remove.ensures.rows c.remove.ensures.kept)
+          first (c.unit_at-unit.ensures.unit t there) (ap (λ s. s.machine) c.time_out-expired.ensures.step)),
     )
 
 pub returns-clause-first : goal.returns-clause-first

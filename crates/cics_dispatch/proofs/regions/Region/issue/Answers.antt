@@ -6,7 +6,7 @@ use Rattle.cics_dispatch.specs.Shutdown.{IsRegionStep}
 use Rattle.cics_dispatch.proofs.RegionShutdown.{up_step}
 use Rattle.cics_dispatch.specs.declared.outcomes.Refused.TheVariants.{NoTask}
 use Rattle.cics_dispatch.specs.Settled.{goes_on}
-use Rattle.cics_dispatch.proofs.RegionRemembers.{remembered_issued}
+use Rattle.cics_dispatch.proofs.RegionKnown.{known_issued}
 use Rattle.cics_dispatch.proofs.regions.Region.issue.Goals as goal
 
 pub returns-in_default-clause-step : goal.returns-in_default-clause-step
@@ -28,14 +28,16 @@ returns-clause-step c =
     (up_step (may_want d.machine label k) d c.issue.new.self (issued d.machine label k) (Ok outcome)
     (ap (λ v. v.machine.is_down) c.self.view_is ∙ c.in_ok-refuse_if_down.ensures.up) c.in_ok-outcome.ensures.step)
 
-pub invariant_of-self-2 : goal.invariant_of-self-2
-invariant_of-self-2 c =
+pub enter_last-requires-clause-kept : goal.enter_last-requires-clause-kept
+enter_last-requires-clause-kept c = (c.in_ok-outcome.ensures.kept c.self.invariant.0).tasks
+
+pub enter_last-requires-clause-known : goal.enter_last-requires-clause-known
+enter_last-requires-clause-known c =
     let u = c.self.inside in
     let outcome = c.in_ok-outcome.outcome in
-    let forgot = c.forget-was_blocker in (
-      c.in_ok-outcome.ensures.kept c.self.invariant.0,
-      remembered_issued u.dispatcher.machine c.issue.new.self.machine c.args.label c.args.command outcome u.notes forgot.new.self u.is_settled u.is_in_time
-          forgot.result c.is_waiting-waits.result c.stays_settled-self-inside.result c.unit_at-unit.result c.giving_up.result c.self.invariant.0.tasks c.self.invariant.1 (λ t there. c.unit_at-unit.ensures.unit t (c.in-Some.ensures.task ∙ there))
-          c.in_ok-outcome.ensures.step.0 c.in_ok-outcome.ensures.step.1 (c.giving_up.ensures ∙ (λ i. if c.is_keeping-keeps.ensures i && goes_on outcome then None else c.unit_at-unit.result))
-          forgot.ensures.rows forgot.ensures.blockers forgot.ensures.none forgot.ensures.resources forgot.ensures.deadlines c.is_waiting-waits.ensures c.stays_settled-self-inside.ensures,
-    )
+    known_issued u.dispatcher.machine c.issue.new.self.machine c.args.label c.args.command outcome u.index c.release.new.self c.unit_at-unit.result c.giving_up.result c.self.invariant.0.tasks c.self.invariant.1
+    (λ t there. c.unit_at-unit.ensures.unit t (c.in-Some.ensures.task ∙ there)) c.in_ok-outcome.ensures.step.0 c.in_ok-outcome.ensures.step.1
+    (c.giving_up.ensures ∙ (λ i. if c.is_keeping-keeps.ensures i && goes_on outcome then None else c.unit_at-unit.result)) c.release.ensures.blockers c.release.ensures.rows c.release.ensures.keys
+
+pub invariant_of-self-2 : goal.invariant_of-self-2
+invariant_of-self-2 c = (c.in_ok-outcome.ensures.kept c.self.invariant.0, c.enter_last.ensures)

@@ -1,14 +1,6 @@
-use Rattle.std.proofs.lemmas.Bool.{false≢true}
-use Rattle.cics_dispatch.proofs.Noted.{noted_empty}
+use Rattle.cics_dispatch.proofs.RegionKnown.{known_nothing}
 use Rattle.cics_dispatch.proofs.regions.Region.new.Goals as goal
 
--- a region without a task remembers nothing
+-- a region without a task knows nothing
 pub invariant_of-result : goal.invariant_of-result
-invariant_of-result c = (
-  c.in_ok-dispatcher.ensures.kept,
-  record {
-    noted = noted_empty _ c.new-2.result c.new-2.ensures.rows c.new-2.ensures.deadlines;
-    settled = λ y. absurd (false≢true y);
-    in_time = λ y. absurd (false≢true y);
-  },
-)
+invariant_of-result c = (c.in_ok-dispatcher.ensures.kept, known_nothing _ c.new-2.result c.new-2.ensures)

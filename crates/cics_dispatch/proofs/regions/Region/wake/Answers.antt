@@ -1,43 +1,19 @@
-use Rattle.std.proofs.Common.{◌∙◌, sym, ap, subst, IfSome, IfNone, Ok}
-use Rattle.cics_dispatch.specs.declared.notes.Free.{Free}
-use Rattle.cics_dispatch.specs.Notes.{IsFreeAt, AreSettled}
-use Rattle.cics_dispatch.specs.Waking.{woken}
-use Rattle.cics_dispatch.specs.Answers.{IsHeadlineRegion, IsSerializableRegion}
+use Rattle.std.proofs.Common.{◌≡◌, ◌∙◌, sym, ap, subst, IfSome, IfNone, None, Ok}
+use Rattle.cics_dispatch.specs.declared.wait_index.Runnable.{Runnable}
+use Rattle.cics_dispatch.specs.Known.{IsFirstRunnable}
+use Rattle.cics_dispatch.specs.Waking.{woken, first_free}
 use Rattle.cics_dispatch.specs.Tasks.{had_by, own_unit}
-use Rattle.cics_dispatch.proofs.Deadlines.{due_within}
 use Rattle.cics_dispatch.proofs.FirstWaits.{first_woken}
-use Rattle.cics_dispatch.proofs.RegionRemembers.{woken_settled, settled_free, remembered_woken}
+use Rattle.cics_dispatch.proofs.RegionKnown.{none_woken, known_removed, known_woken}
 use Rattle.cics_dispatch.proofs.regions.Region.wake.Goals as goal
-
-pub returns-then-self-clause-step : goal.returns-then-self-clause-step
-returns-then-self-clause-step c =
-    let u = c.self.inside in
-    let none = woken_settled u.dispatcher.machine u.notes u.is_settled u.is_in_time c.self.invariant.0.tasks c.self.invariant.1 c.if-self.true in (
-      ap (λ v. Ok (woken v.machine).outcome) (sym c.self.view_is) ∙ ap (λ s. Ok s.outcome) none,
-      ap (λ v. v.machine) (sym c.self.view_is) ∙ sym (ap (λ s. s.machine) none) ∙ ap (λ v. (woken v.machine).machine) c.self.view_is,
-    )
-
-pub returns-then-self-clause-headline : goal.returns-then-self-clause-headline
-returns-then-self-clause-headline c = subst IsHeadlineRegion c.self.view_is c.self.invariant.0.headline
-
-pub returns-then-self-clause-serializable : goal.returns-then-self-clause-serializable
-returns-then-self-clause-serializable c = subst IsSerializableRegion c.self.view_is c.self.invariant.0.serializable
 
 pub returns-in_default-clause-step : goal.returns-in_default-clause-step
 returns-in_default-clause-step c =
     let m = c.self.inside.dispatcher.machine in
-    let settled = subst (λ o. IfNone o (AreSettled m c.first_free.new.notes)) c.in_default.is c.in_ok-free.ensures.none in
-    let none = settled_free m c.first_free.new.notes c.self.invariant.0.tasks c.first_free.ensures.noted settled in (
+    let none = none_woken m (subst (λ o. IfNone o (first_free m m.waiting ≡ None)) c.in_default.is c.in_ok-first.ensures.none) in (
       ap (λ v. Ok (woken v.machine).outcome) (sym c.self.view_is) ∙ ap (λ s. Ok s.outcome) none,
       sym (ap (λ s. s.machine) none) ∙ ap (λ v. (woken v.machine).machine) c.self.view_is,
     )
-
-pub remove-requires-clause-timed : goal.remove-requires-clause-timed
-remove-requires-clause-timed c =
-    let m = c.self.inside.dispatcher.machine in
-    let v = c.first_free.new.notes in
-    let free = subst (λ o. IfSome o (λ (f : Free). IsFreeAt m v f.place f.label)) c.in-Some.is c.in_ok-free.ensures.first in
-    due_within m.tasks v.rows m.waiting v.deadlines c.in-Some.free.place free.note c.first_free.ensures.noted.due free.there
 
 pub returns : goal.returns
 returns c =
@@ -51,11 +27,12 @@ returns c =
 
 pub invariant_of-self-2 : goal.invariant_of-self-2
 invariant_of-self-2 c =
-    let u = c.self.inside in
-    let m = u.dispatcher.machine in (
+    let m = c.self.inside.dispatcher.machine in
+    let label = c.in-Some.first.label in
+    let mid = c.remove.new.self in
+    let first = subst (λ o. IfSome o (λ (r : Runnable). IsFirstRunnable m c.first_runnable.new.index.rows r)) c.in-Some.is c.in_ok-first.ensures.first in (
       c.in_ok-woken.ensures.kept c.self.invariant.0,
-      remembered_woken m c.wake.new.self.machine c.first_free.new.notes c.remove.new.self c.forget.new.self c.in-Some.free.place c.in-Some.free.label c.unit_of-unit.result u.is_settled u.is_in_time c.self.invariant.0.tasks
-          c.note_rest.ensures.once c.first_free.ensures.noted (subst (λ o. IfSome o (λ (f : Free). IsFreeAt m c.first_free.new.notes f.place f.label)) c.in-Some.is c.in_ok-free.ensures.first)
-          (λ t there. c.unit_of-unit.ensures ∙ ap (had_by own_unit) there) (ap (λ s. s.machine) c.in_ok-woken.ensures.step) c.remove.ensures.rows c.remove.ensures.blockers c.remove.ensures.resources c.remove.ensures.deadlines c.forget.ensures.rows
-          c.forget.ensures.blockers c.forget.ensures.resources c.forget.ensures.deadlines c.if-self.false c.self.invariant.1.in_time,
+      known_woken m c.wake.new.self.machine mid c.release.new.self c.unit_of-unit.result c.release.ensures.blockers c.self.invariant.0.tasks c.release.ensures.rows c.release.ensures.keys label
+          (known_removed m c.first_runnable.new.index mid label c.in-Some.first.number first.once first.number c.first_runnable.ensures.known c.remove.ensures.rows c.remove.ensures.kept)
+          first.first (λ t there. c.unit_of-unit.ensures ∙ ap (had_by own_unit) there) (ap (λ s. s.machine) c.in_ok-woken.ensures.step),
     )
