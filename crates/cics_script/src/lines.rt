@@ -345,6 +345,20 @@ fn read_issued(
     Ok(Line::Issue(label, Command { verb, resp }))
 }
 
+// Reads a common verb that begins with R, but for READ and READQ. `None` says nothing.
+fn other_r_verb(bytes: &[u8]) -> Option<(CommandWord, &[u8])>
+    ensures { IfSome result (λ found. IsNamed commands found.0 bytes.entry.now found.1.now) }
+{
+    match either_named(
+        bytes,
+        (b"REWRITE", CommandWord::Rewrite),
+        (b"READNEXT", CommandWord::ReadNext),
+    ) {
+        Some(found) => Some(found),
+        None => named(bytes, b"RETURN", CommandWord::Return),
+    }
+}
+
 // Reads a common verb, in capitals. `None` says nothing.
 fn common_verb(bytes: &[u8]) -> Option<(CommandWord, &[u8])>
     ensures { IfSome result (λ found. IsNamed commands found.0 bytes.entry.now found.1.now) }
@@ -356,11 +370,7 @@ fn common_verb(bytes: &[u8]) -> Option<(CommandWord, &[u8])>
             (b"READQ", CommandWord::ReadqTs),
         ) {
             Some(found) => Some(found),
-            None => either_named(
-                bytes,
-                (b"REWRITE", CommandWord::Rewrite),
-                (b"READNEXT", CommandWord::ReadNext),
-            ),
+            None => other_r_verb(bytes),
         },
         b'W' => either_named(
             bytes,

@@ -377,6 +377,7 @@ fn common_option(bytes: &[u8]) -> Option<(OptionWord, &[u8])>
     ensures { IfSome result (λ found. IsNamed option_words found.0 bytes.entry.now found.1.now) }
 {
     match bytes.first()? {
+        b'D' => named(bytes, b"DTIMOUT", OptionWord::Dtimout),
         b'F' => either_named(
             bytes,
             (b"FILE", OptionWord::File),
@@ -398,6 +399,7 @@ fn common_option(bytes: &[u8]) -> Option<(OptionWord, &[u8])>
             Some(found) => Some(found),
             None => named(bytes, b"RESP", OptionWord::Resp),
         },
+        b'T' => named(bytes, b"TRANSID", OptionWord::Transid),
         b'U' => named(bytes, b"UPDATE", OptionWord::Update),
         _ => None,
     }

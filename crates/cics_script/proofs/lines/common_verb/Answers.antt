@@ -2,9 +2,6 @@ use Rattle.std.specs.Prelude.{refl}
 use Rattle.cics_script.specs.Words.{commands}
 use Rattle.cics_script.proofs.lines.common_verb.Goals as goal
 
-pub returns-in-None : goal.returns-in-None
-returns-in-None c = c.either_named-in-None.ensures commands refl refl
-
 pub returns-in-87 : goal.returns-in-87
 returns-in-87 c = c.either_named-in-87.ensures commands refl refl
 
