@@ -181,21 +181,20 @@ fn skip_word<'a>(bytes: &'a [u8], wanted: &[u8]) -> Result<&'a [u8], LineFault>
     }
 }
 
-// Writes the capitals of a word over the front of a text.
-fn put_capitals(text: &mut [u8; LABEL], word: &[u8])
+// Writes the capitals of a word over the front of a text, and returns whether they are letters and
+// digits.
+fn put_capitals(text: &mut [u8; LABEL], word: &[u8]) -> bool
     requires { length word.now ≤ 8 }
-    ensures { take (length word.now) text.new ≡ map capital word.now }
+    ensures text { take (length word.now) text.new ≡ map capital word.now }
+    ensures label { result ≡ list_all (λ c. is_capital c || is_digit c) (map capital word.now) }
 {
+    let mut all = true;
     for (i, byte) in word.iter().enumerate() {
-        text[i] = capital_of(*byte);
+        let letter = capital_of(*byte);
+        text[i] = letter;
+        all &= letter.is_ascii_uppercase() || letter.is_ascii_digit();
     }
-}
-
-fn are_letters_and_digits(text: &[u8]) -> bool
-    ensures { result ≡ list_all (λ c. is_capital c || is_digit c) text.now }
-{
-    text.iter()
-        .all(|byte| byte.is_ascii_uppercase() || byte.is_ascii_digit())
+    all
 }
 
 // The label that a word is.
@@ -206,12 +205,10 @@ fn label_of(word: &[u8]) -> Result<Name8, LineFault>
         return Err(LineFault::UnknownWord);
     }
     let mut capitals = [0; LABEL];
-    put_capitals(&mut capitals, word);
-    let text = &capitals[..word.len()];
-    if !are_letters_and_digits(text) {
+    if !put_capitals(&mut capitals, word) {
         return Err(LineFault::UnknownWord);
     }
-    match Name8::new(text) {
+    match Name8::new(&capitals[..word.len()]) {
         Ok(label) => Ok(label),
         Err(_) => Err(LineFault::UnknownWord),
     }

@@ -14,7 +14,7 @@ ghost use Rattle.cics_script.specs.Views.{Opens, Fills, Shuts, HasValue, Enters,
 
 use crate::faults::LineFault;
 use crate::literals::{Encoding, Literal, Notation};
-use crate::tokens::{Token, either_named, named, next_quoted, next_token};
+use crate::tokens::{Token, either_named, named, next_number, next_quoted, next_token};
 use crate::words::{Form, Kind, OptionWord, is_excluded, is_same, kind_of, option_named};
 use arrayvec::ArrayVec;
 use cics_names::{Name4, Name8};
@@ -197,6 +197,29 @@ fn put_literal<'a>(
     Ok(())
 }
 
+// Puts an option with a number behind those that were read.
+fn put_number(
+    kind: Kind,
+    number: u64,
+    option: OptionWord,
+    found: &mut Options<'_>,
+) -> Result<(), LineFault>
+    requires { length found.old.items < 13 }
+    ensures { PutsContent (content_in kind (view (Token.Number number))) option
+        (entries found.old.items) (entries found.new.items) result }
+{
+    match kind {
+        Kind::Number | Kind::Area => {
+            found.push(Found {
+                option,
+                value: Value::Number(number),
+            });
+            Ok(())
+        }
+        _ => Err(wrong_value(kind)),
+    }
+}
+
 // The line behind an opening parenthesis.
 fn read_opening(kind: Kind, bytes: &[u8]) -> Result<&[u8], LineFault>
     ensures { Opens kind bytes.now result }
@@ -225,9 +248,15 @@ fn read_content<'a>(
     ensures { Fills kind option (entries found.old.items) (entries found.new.items)
         bytes.entry.now result }
 {
-    // Most values are literals in quotes, right behind the parenthesis.
+    // Most values are literals in quotes or numbers, right behind the parenthesis.
     if let Some((literal, rest)) = next_quoted(bytes) {
         return match put_literal(alloc, kind, literal, option, found) {
+            Ok(()) => Ok(rest),
+            Err(fault) => Err(fault),
+        };
+    }
+    if let Some((number, rest)) = next_number(bytes) {
+        return match put_number(kind, number, option, found) {
             Ok(()) => Ok(rest),
             Err(fault) => Err(fault),
         };

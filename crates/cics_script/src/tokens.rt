@@ -297,6 +297,21 @@ pub fn next_quoted(bytes: &[u8]) -> Option<(Literal<'_>, &[u8])>
     literal_at(Notation::Quoted, behind_quote)
 }
 
+/// The next token and the line behind it if it is a number with no blank in front. `None` says
+/// nothing of the line: then `next_token` tells.
+pub fn next_number(bytes: &[u8]) -> Option<(u64, &[u8])>
+    ensures { IfSome result (λ found.
+        Takes bytes.now (Ok (Some (Token.Number found.0, found.1)))) }
+{
+    let (first, _) = bytes.split_first()?;
+    if !first.is_ascii_digit() {
+        return None;
+    }
+    let (digits, rest) = bytes.split_at(digits_len(bytes));
+    let number = number_of(digits)?;
+    Some((number, rest))
+}
+
 /// The next token and the line behind it, or nothing at the line's end. Most tokens are read by
 /// quicker ways.
 #[cold]
