@@ -46,7 +46,7 @@ use crate::waits::Waits;
 use cics_history::UnitId;
 use cics_ksds::FileDef;
 use cics_names::{Command, Condition, Name4, Name8, NoMemory, Verb};
-use cics_units::{Op, Opening, Submitted, UnitState, Units};
+use cics_units::{Op, Opening, Submitted, Units};
 use std::alloc::Global;
 use std::marker::Model;
 

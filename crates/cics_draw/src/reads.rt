@@ -5,7 +5,6 @@ ghost use Rattle.std.specs.List.{list_any};
 ghost use Rattle.cics_dispatch.specs.Machine.{is_unit};
 ghost use Rattle.cics_history.specs.Execution.{is_ready_op};
 ghost use Rattle.cics_picture.specs.Lanes.{most_lanes};
-ghost use Rattle.cics_script.specs.Lines as reading;
 ghost use Rattle.cics_draw.specs.Reads.{has_data, ridfld_of, ridfld_in, key_literal};
 ghost use Rattle.cics_draw.specs.Reads.{key_line, key_told, shown_in};
 ghost use Rattle.cics_draw.specs.Reads.{record_of, shown_by, changes_record, writes_item, changes};

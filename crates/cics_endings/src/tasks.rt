@@ -2,7 +2,6 @@
 
 ghost use Rattle.std.specs.Prelude.{◌≡◌, ◌++◌, ◌-◌, OnOk, IfOk, length, slice_get};
 ghost use Rattle.cics_dispatch.specs.Blockers.{blocker_of, waiting_command};
-ghost use Rattle.cics_plans.specs.Taking.{NumberedLine};
 ghost use Rattle.cics_endings.specs.Telling.{end_text, blocker_text, number_text, stand_text};
 ghost use Rattle.cics_endings.specs.Telling.{state_text, task_text, told_text};
 

@@ -1,7 +1,6 @@
 //! The parts of an ending.
 
 ghost use Rattle.std.specs.Prelude.{◌≡◌, ◌++◌, IfOk, OnOk};
-ghost use Rattle.std.specs.List.{flat_map};
 ghost use Rattle.cics_report.specs.Parts.{mark};
 ghost use Rattle.cics_endings.specs.Telling.{told_parts, lane_parts, is_deadlocked, parts_of};
 

@@ -102,13 +102,13 @@ abbrev pub place_of : Resource → Bytes
 place_of r = drop 1 (resource_key r)
 
 -- a resource that conflicts with another, and that a unit other than the asker holds
-abbrev pub IsInTheWay : Table → Resource → Option ℕ → Resource → ℕ → Type 0
-IsInTheWay t r asker s v = (conflicts r s ≡ true) × (holder_of s t ≡ Some v) × (is_other asker v ≡ true)
+abbrev pub IsBlocker : Table → Resource → Option ℕ → Resource → ℕ → Type 0
+IsBlocker t r asker s v = (conflicts r s ≡ true) × (holder_of s t ≡ Some v) × (is_other asker v ≡ true)
 
 -- a unit holds the least of what is in the asker's way, in byte order
 abbrev pub HoldsLeast : Table → Resource → Option ℕ → ℕ → Type 0
 HoldsLeast t r asker v =
-    (s : Resource) × IsInTheWay t r asker s v × ((q : Resource) (w : ℕ) → IsInTheWay t r asker q w → is_below (place_of q) (place_of s) ≡ false)
+    (s : Resource) × IsBlocker t r asker s v × ((q : Resource) (w : ℕ) → IsBlocker t r asker q w → is_below (place_of q) (place_of s) ≡ false)
 
 -- the lesser of two in byte order, the first where their bytes are the same
 abbrev pub lesser : Option (Resource × Held) → Option (Resource × Held) → Option (Resource × Held)

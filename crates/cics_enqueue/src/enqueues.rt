@@ -20,8 +20,8 @@ ghost use Rattle.cics_enqueue.specs.Order.{resource_of};
 
 use crate::borrowed::{Kind, ResourceRef};
 use crate::compact::{compact, held, set_resource, set_value};
+use crate::conflicts::{has_prefixes, key_holder, least_holder, other_unit, shorter_holder};
 use crate::keys::Key;
-use crate::overlaps::{has_prefixes, key_holder, least_holder, other_unit, shorter_holder};
 use crate::owned::{self, Owned};
 use cics_history::{Resource, UnitId};
 use cics_names::{Name8, NoMemory};

@@ -6,10 +6,10 @@
 
 mod borrowed;
 mod compact;
+mod conflicts;
 mod enqueues;
 mod keys;
 pub mod laws;
-mod overlaps;
 mod owned;
 
 pub use borrowed::ResourceRef;

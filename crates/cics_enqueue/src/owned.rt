@@ -9,8 +9,8 @@ ghost use Rattle.cics_names.specs.Keyed.{is_same};
 ghost use Rattle.cics_enqueue.specs.Kept.{finds, owns, own_count, OwnsSame, Adds, Drops};
 ghost use Rattle.cics_history.specs.Holding.{is_other};
 
+use crate::conflicts::is_another;
 use crate::keys::Key;
-use crate::overlaps::is_another;
 use cics_history::UnitId;
 use cics_names::NoMemory;
 use indexmap::IndexMap;

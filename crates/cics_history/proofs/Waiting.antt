@@ -99,7 +99,7 @@ one_begins (x ∷ p) (y ∷ q) (z ∷ b) m n =
 pub begins_same : (p a b : Bytes) → is_same a b ≡ true → has_prefix p a ≡ true → has_prefix p b ≡ true
 begins_same p a b same t = subst (λ c. has_prefix p c ≡ true) (is_same-eq a b same) t
 
--- two resources that take hold of one end overlap
+-- two resources that take hold of one end conflict
 pub covers-conflicts : (x : Cell) (end : End) (r s : Resource) → covers x end r ≡ true →
     covers x end s ≡ true → conflicts r s ≡ true
 covers-conflicts (Key g l) end (FileKey f k) (FileKey h m) a b =

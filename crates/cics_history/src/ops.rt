@@ -229,8 +229,8 @@ pub enum UnitState {
 pub enum Done {
     /// It was executed by this unit, which may have begun with it, and is answered so.
     Answered(UnitId, Answer),
-    /// It wasn't executed: this other unit holds what overlaps what it uses, or wrote what it would
-    /// read.
+    /// It wasn't executed: this other unit holds a resource that conflicts with one that it uses,
+    /// or wrote what it would read.
     MustWait(UnitId),
 }
 

@@ -1,6 +1,6 @@
 //! Every order, one after the other.
 
-ghost use Rattle.std.specs.Prelude.{◌≡◌, ◌≤◌, ◌<◌, ℕ, [], ◌∷◌, ◌++◌, IfOk, OnOk, length};
+ghost use Rattle.std.specs.Prelude.{◌≡◌, ◌≤◌, ◌<◌, ℕ, [], ◌∷◌, ◌++◌, IfOk, length};
 ghost use Rattle.cics_lanes.specs.Orders.{Order, BranchesAt, Reaches, IsFollowed, after, orders};
 ghost use Rattle.cics_lanes.specs.Endings.{run_to};
 ghost use Rattle.cics_lanes.specs.Reports.{IsReport};

@@ -1,4 +1,4 @@
-//! What is printed of files and queues at the end of a run: listings, and the serial run.
+//! Texts of files and queues at the end of a run: listings, replays and the serial run.
 #![tactic(auto)]
 
 mod listing;

@@ -10,9 +10,10 @@ use cics_names::{Items, Record};
 /// How many rows a picture has at most.
 pub const LIMIT: u64 = 100_000;
 
-/// The rows so far: how many there are, the script's line of each (without bytes if it has none),
-/// the tasks that have lanes, the text of what stands in the lanes and to the left of them, and the
-/// text of what stands to the right. Beside them the lanes, and the bars of units that have ended.
+/// The rows so far: their number, and the script's line of each, empty if a row has none.
+///
+/// Beside them the tasks that have lanes, the lanes, and the bars of units that have ended. The
+/// texts are apart: one has the lanes and all to the left of them, the other all to the right.
 #[derive(Drop)]
 pub struct Drawing {
     pub rows: u64,

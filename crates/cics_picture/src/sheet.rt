@@ -1,6 +1,6 @@
 //! The whole picture of what was drawn.
 
-ghost use Rattle.std.specs.Prelude.{◌≡◌, ◌++◌, ◌∷◌, ◌<◌, ◌≤◌, List, ℕ, true, Some, length, slice_get};
+ghost use Rattle.std.specs.Prelude.{◌≡◌, ◌++◌, ◌∷◌, ◌<◌, ◌≤◌, List, ℕ, true, Some, slice_get};
 ghost use Rattle.std.specs.Prelude.{OnOk};
 ghost use Rattle.cics_picture.specs.declared.bars.Look.{Look};
 ghost use Rattle.cics_markup.specs.Documents.{Document};

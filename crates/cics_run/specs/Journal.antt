@@ -25,7 +25,7 @@ use Rattle.cics_script.specs.Texts.{text_of, name_text, bare}
 abbrev pub line : List ℕ → List ℕ
 line text = text ++ 10 ∷ []
 
--- a line of the script in front of what it led to, without its CR and LF
+-- a line of the script in front of its events, without its CR and LF
 abbrev pub script_line : List ℕ → List ℕ
 script_line bytes = line (codes "> " ++ bytes)
 

@@ -58,13 +58,13 @@ start = record { stage = first_stage; number = 0; line = []; journal = []; shown
 abbrev pub play : List (List ℕ) → Played
 play lines = fold next start lines
 
--- what a run prints: whether each line of the script stands in front of what it led to, and what stands behind the lines, by the stage
--- in which they end
+-- what a run prints: with each line of the script in front of its events, or without; and the text
+-- behind the last event, by the stage at the end
 pub record Form : Type 0 where
   pub with_script : Bool
   pub ending : Stage → List ℕ
 
--- what stands behind the lines: the listing, unless it is left out, and then the replay, if it is asked for
+-- the text behind the last event: the listing, unless it is left out, then the replay, if wanted
 abbrev pub listed : Options → Stage → List ℕ
 listed options stage = (if options.no_list then [] else listing_at stage) ++ (if options.replay then replay_at stage else [])
 

@@ -1,4 +1,4 @@
--- What the program prints for what is wanted of it.
+-- What the program prints, by its options.
 use Rattle.std.specs.Prelude.{ℕ, if◌then◌else◌, List, ◌++◌}
 use Rattle.cics_listing.specs.Serial.{serial_text}
 use Rattle.cics_run.specs.Stages.{region_of}

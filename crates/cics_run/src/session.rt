@@ -111,7 +111,7 @@ pub fn line_len(bytes: &[u8]) -> usize
     }
 }
 
-// Prints a line of the script, where that is wanted.
+// Prints a line of the script, if that is wanted.
 fn push_wanted_line(with_script: bool, line: &[u8], out: &mut Vec<u8>) -> Result<(), NoMemory>
     ensures { OnOk result (out.new.items
         ≡ out.old.items ++ (if with_script then script_line line.now else [])) }
@@ -230,7 +230,7 @@ impl Session {
         }
     }
 
-    // Runs the last line where it lacks its LF.
+    // Runs the last line if it lacks its LF.
     fn end_input<K: Sink>(&mut self, sink: &mut K) -> Result<bool, Stop>
         requires { self.old.number + 1 < 2 ^ 64 }
         ensures closes { (form : Form) → WhereverStands form (K.contents sink.old) self.old
@@ -302,12 +302,14 @@ fn push_ending(stage: &mut Stage, wanted: Wanted, out: &mut Vec<u8>) -> Result<(
     Ok(())
 }
 
+// Appends the listing.
 fn push_region(region: &Region, out: &mut Vec<u8>) -> Result<(), NoMemory>
     ensures { OnOk result (out.new.items ≡ out.old.items ++ listing_at (Running region.now)) }
 {
     push_listing(out, &region.listing()?)
 }
 
+// Appends the replay.
 fn push_replayed(region: &Region, out: &mut Vec<u8>) -> Result<(), NoMemory>
     ensures { OnOk result (out.new.items ≡ out.old.items ++ replay_at (Running region.now)) }
 {

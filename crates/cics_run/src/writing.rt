@@ -1,6 +1,6 @@
 //! Printed text, gathered and written when enough of it has come together.
 
-ghost use Rattle.std.specs.Prelude.{◌≡◌, ◌++◌, [], true, OnOk, OnErr};
+ghost use Rattle.std.specs.Prelude.{◌≡◌, [], true, OnOk, OnErr};
 ghost use Rattle.std.specs.Io.KnownBytes.{Appends};
 ghost use Rattle.cics_run.specs.Printing.{AppendsFront, Prints, stopped_writes};
 ghost use Rattle.cics_run.specs.Streams.{Rises, failures};

@@ -1,6 +1,6 @@
 //! A script that is read, and what is written of its orders.
 
-ghost use Rattle.std.specs.Prelude.{◌≡◌, ◌++◌, [], IfOk};
+ghost use Rattle.std.specs.Prelude.{◌≡◌, [], IfOk};
 ghost use Rattle.cics_run.specs.Running.{most_reads};
 ghost use Rattle.cics_run.specs.Streams.{Rises, RisesAtMost, failures};
 ghost use Rattle.cics_whole.specs.Reads.{read_failures, write_failures};

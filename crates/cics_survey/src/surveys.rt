@@ -1,6 +1,6 @@
 //! The orders of a script.
 
-ghost use Rattle.std.specs.Prelude.{◌≡◌, IfOk};
+ghost use Rattle.std.specs.Prelude.{IfOk};
 ghost use Rattle.cics_plans.specs.Taking.{nothing_taken, taken_apart, planned};
 ghost use Rattle.cics_survey.specs.Surveys.{IsReportOf, IsSurvey};
 

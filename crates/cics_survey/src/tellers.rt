@@ -1,7 +1,5 @@
 //! Tellers of endings.
 
-ghost use Rattle.std.specs.Prelude.{◌≡◌, IfOk};
-
 use cics_endings::parts_of;
 use cics_names::{Items, NoMemory, Record};
 use cics_orders::{Tells, Walker};

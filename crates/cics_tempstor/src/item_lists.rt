@@ -1,6 +1,6 @@
 //! The items of one queue.
 
-ghost use Rattle.std.specs.Prelude.{◌≡◌, ◌≤◌, ◌-◌, [], None, not, length, if◌then◌else◌};
+ghost use Rattle.std.specs.Prelude.{◌≡◌, ◌≤◌, ◌-◌, [], None, not, length};
 ghost use Rattle.std.specs.Prelude.{is_some, IfSome, IfOk, OnOk, OnErr};
 ghost use Rattle.std.specs.Option.{option_copied};
 ghost use Rattle.cics_tempstor.specs.Queues.{is_there, has_item, most_items, write_number};

@@ -1,6 +1,6 @@
 //! Temporary storage.
 
-ghost use Rattle.std.specs.Prelude.{◌≡◌, [], true, if◌then◌else◌, Some, T, IfOk, IfSome, OnOk};
+ghost use Rattle.std.specs.Prelude.{◌≡◌, [], true, Some, T, IfOk, IfSome, OnOk};
 ghost use Rattle.std.specs.Prelude.{OnErr};
 ghost use Rattle.cics_names.specs.Keyed.{with_value, without, is_rising};
 ghost use Rattle.cics_tempstor.specs.Queues.{is_there, queue_at, next_place, queues_of};

@@ -31,12 +31,12 @@ abbrev pub taken_all : Table → ℕ → List Resource → Table
 taken_all t u [] = t
 taken_all t u (r ∷ rs) = taken_all (taken t r u) u rs
 
--- no other unit holds what overlaps any of the resources
+-- no other unit holds a resource that conflicts with any of these
 abbrev pub AreFreeFor : Table → List Resource → ℕ → Type 0
 AreFreeFor t [] u = Unit {0}
 AreFreeFor t (r ∷ rs) u = IsFreeFor t r u × AreFreeFor t rs u
 
--- the unit, other than the one that asks, that holds the least of what overlaps the first of the resources that is in its way
+-- the other owner of the least resource that conflicts with the first of these that is blocked
 abbrev pub holder_over_all : List Resource → Option ℕ → Table → Option ℕ
 holder_over_all [] asking t = None
 holder_over_all (r ∷ rs) asking t = first_some (holder_over r asking t) (holder_over_all rs asking t)

@@ -9,7 +9,7 @@ ghost use Rattle.cics_units.specs.Uses.{given_back_if, let_go};
 
 use cics_enqueue::{Enqueues, ResourceRef};
 use cics_history::{Op, UnitId};
-use cics_names::{Name8, NoMemory};
+use cics_names::NoMemory;
 
 /// What a command uses: two resources at most, the reading end of a queue before its writing end.
 /// Their bytes lie in the command.

@@ -113,7 +113,7 @@ impl Holders {
         Ok(())
     }
 
-    // Puts at the end who holds a resource, how often, and who holds the least of what overlaps it.
+    // Appends who holds a resource, how often, and the other owner of the least conflicting one.
     fn push_holding(&self, text: &mut String, resource: &[u8]) -> Result<(), NoMemory> {
         let Ok(Some(resource)) = resource_of(resource) else {
             return Ok(());
@@ -176,7 +176,7 @@ impl Holders {
         }
     }
 
-    // Puts at the end who else holds the least of what overlaps a prefix of keys.
+    // Appends the other owner of the least resource that conflicts with a prefix of keys.
     fn under(&self, prefix: &[u8], unit: UnitId, told: &mut String) -> Result<(), NoMemory> {
         match Name8::new(b"ACCT") {
             Ok(file) if prefix.len() <= 255 => {

@@ -1,6 +1,6 @@
 //! Waiting commands: which one goes on, and which one's time is over.
 
-ghost use Rattle.std.specs.Prelude.{◌≡◌, ◌<◌, ◌≤◌, [], ◌∷◌, All, Some, None, true, false, length};
+ghost use Rattle.std.specs.Prelude.{◌≡◌, ◌<◌, ◌≤◌, [], All, Some, None, true, false, length};
 ghost use Rattle.std.specs.Prelude.{◌+◌, slice_get, is_ok, IfOk, OnOk, OnErr, IfSome, IfNone};
 ghost use Rattle.cics_history.specs.Execution.{IsOpenUnit};
 ghost use Rattle.cics_history.specs.Records.{key_of};

@@ -2,7 +2,7 @@ use Rattle.std.proofs.Common.{◌∙◌, ◌∷◌, ◌++◌, [], sym, ap, is_so
 use Rattle.std.specs.Map.{lookup}
 use Rattle.cics_enqueue.specs.Kept.{finds, first_cover, others_unit}
 use Rattle.cics_enqueue.proofs.Seeking.{first_of-some, drop_there}
-use Rattle.cics_enqueue.proofs.overlaps.shorter_holder.Goals as goal
+use Rattle.cics_enqueue.proofs.conflicts.shorter_holder.Goals as goal
 
 pub returns-then-is_some : goal.returns-then-is_some
 returns-then-is_some c =

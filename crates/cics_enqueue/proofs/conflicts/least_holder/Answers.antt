@@ -2,7 +2,7 @@ use Rattle.std.proofs.Common.{◌≡◌, ◌∙◌, ◌∷◌, ◌++◌, length,
 use Rattle.std.specs.Option.{option_map}
 use Rattle.cics_enqueue.specs.Kept.{first_entry, is_others_under, bytes_and_unit}
 use Rattle.cics_enqueue.proofs.Seeking.{lesser_of-two}
-use Rattle.cics_enqueue.proofs.overlaps.least_holder.Goals as goal
+use Rattle.cics_enqueue.proofs.conflicts.least_holder.Goals as goal
 
 pub returns : goal.returns
 returns c =

@@ -3,7 +3,7 @@ use Rattle.std.specs.Prelude.{drop, if◌then◌else◌}
 use Rattle.std.specs.Ordering.{is_lt, is_some_and}
 use Rattle.std.specs.Cmp.Lexicographic.{lists_agrees}
 use Rattle.cics_names.specs.Keyed.{bytes_cmp, is_below}
-use Rattle.cics_enqueue.proofs.overlaps.lesser_holder.Goals as goal
+use Rattle.cics_enqueue.proofs.conflicts.lesser_holder.Goals as goal
 
 pub returns-then-lt : goal.returns-then-lt
 returns-then-lt c =

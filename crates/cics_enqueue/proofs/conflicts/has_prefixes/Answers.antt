@@ -5,7 +5,7 @@ use Rattle.std.specs.Map.{lookup}
 use Rattle.cics_names.specs.Keyed.{Bytes}
 use Rattle.cics_enqueue.specs.Kept.{finds}
 use Rattle.cics_enqueue.proofs.Seeking.{headed, none_of_kind, on_false_by}
-use Rattle.cics_enqueue.proofs.overlaps.has_prefixes.Goals as goal
+use Rattle.cics_enqueue.proofs.conflicts.has_prefixes.Goals as goal
 
 pub returns-in-Some-first : goal.returns-in-Some-first
 returns-in-Some-first c =

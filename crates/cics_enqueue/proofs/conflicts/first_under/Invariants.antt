@@ -1,7 +1,7 @@
 use Rattle.std.proofs.Common.{◌≡◌}
 use Rattle.cics_enqueue.specs.Kept.{first_entry, is_others_under}
 use Rattle.cics_enqueue.proofs.Seeking.{Rises}
-use Rattle.cics_enqueue.proofs.overlaps.first_under.Given as goal
+use Rattle.cics_enqueue.proofs.conflicts.first_under.Given as goal
 
 -- the entries that are left rise, and the first that is asked for is among them
 abbrev pub invariant-loop-key : goal.invariant-loop-key

@@ -10,7 +10,7 @@ use Rattle.std.specs.Prelude.{length}
 use Rattle.cics_ksds.specs.Prefixes.{has_prefix}
 use Rattle.cics_history.specs.Holding.{is_other}
 use Rattle.cics_enqueue.proofs.Seeking.{Rises, rises_sorted, Rises-filter, first_entry-filter, first_entry-here, first_entry-past, first_entry-passed, before_bound, never}
-use Rattle.cics_enqueue.proofs.overlaps.first_under.Goals as goal
+use Rattle.cics_enqueue.proofs.conflicts.first_under.Goals as goal
 
 pub loop-key-init : goal.loop-key-init
 loop-key-init c =

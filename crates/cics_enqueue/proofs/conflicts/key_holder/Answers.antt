@@ -3,7 +3,7 @@ use Rattle.std.specs.Map.{lookup}
 use Rattle.cics_enqueue.specs.Kept.{finds, others_unit}
 use Rattle.cics_enqueue.specs.Table.{first_of}
 use Rattle.cics_enqueue.proofs.Seeking.{first_cover-none}
-use Rattle.cics_enqueue.proofs.overlaps.key_holder.Goals as goal
+use Rattle.cics_enqueue.proofs.conflicts.key_holder.Goals as goal
 
 -- where no prefix is held the key alone can be
 pub returns-then-not-has_prefixes : goal.returns-then-not-has_prefixes

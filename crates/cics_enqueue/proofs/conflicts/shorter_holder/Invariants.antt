@@ -1,6 +1,6 @@
 use Rattle.std.proofs.Common.{◌≡◌, ◌+◌, ◌∷◌, ◌++◌, [], length, drop}
 use Rattle.cics_enqueue.specs.Kept.{first_cover}
-use Rattle.cics_enqueue.proofs.overlaps.shorter_holder.Given as goal
+use Rattle.cics_enqueue.proofs.conflicts.shorter_holder.Given as goal
 
 -- the key is as long as the bytes that were looked at, and what is looked for is at the key or further on
 abbrev pub invariant-loop-byte : goal.invariant-loop-byte
