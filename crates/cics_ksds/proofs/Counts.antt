@@ -7,7 +7,7 @@ use Rattle.cics_ksds.specs.declared.definition.FileDef.{FileDef}
 use Rattle.cics_ksds.specs.declared.places.Place.{Place}
 use Rattle.cics_ksds.specs.declared.places.Place.TheVariants.{Filled, Empty}
 use Rattle.cics_ksds.specs.Files.{later}
-use Rattle.cics_ksds.specs.Places.{slots, empty_slots, empty_in, empty_count, listed, first_record, last_record}
+use Rattle.cics_ksds.specs.Places.{slots, empty_slots, empty_in, empty_count, listed, last_record}
 use Rattle.cics_ksds.proofs.Bounds.{listed-append}
 
 -- one place in the stead of another

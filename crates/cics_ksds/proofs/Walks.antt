@@ -1,13 +1,11 @@
 -- Places one interval after another, and one area after another.
-use Rattle.std.proofs.Common.{◌≡◌, ℕ, suc, ◌+◌, ◌<◌, ◌≤◌, List, [], ◌∷◌, ◌++◌, length, get_or, take, drop, ◌∙◌, ap, subst, arith, length-append}
-use Rattle.std.specs.List.{All}
-use Rattle.std.proofs.lemmas.List.{drop_more, take_more, append-nil, get_or_append_left, get_or-append-add}
-use Rattle.std.proofs.lemmas.List.Elements.{All-take, All-drop}
+use Rattle.std.proofs.Common.{◌≡◌, ℕ, suc, ◌+◌, ◌<◌, ◌≤◌, List, [], ◌++◌, length, get_or, take, drop, ◌∙◌, ap, arith}
+use Rattle.std.proofs.lemmas.List.{drop_more}
 use Rattle.cics_ksds.specs.declared.places.Place.{Place}
 use Rattle.cics_ksds.specs.declared.places.Position.{Position}
 use Rattle.cics_ksds.specs.Files.{later}
-use Rattle.cics_ksds.specs.Places.{first_record, last_record, listed, joined, places_in, interval_in, interval_at, number_of, index_of, IsThere}
-use Rattle.cics_ksds.proofs.Joins.{joined-append, joined_parts, joined_drop, joined_take}
+use Rattle.cics_ksds.specs.Places.{last_record, listed, joined, places_in, interval_in, interval_at, number_of, index_of, IsThere}
+use Rattle.cics_ksds.proofs.Joins.{joined-append, joined_drop, joined_take}
 use Rattle.cics_ksds.proofs.AreaEdits.{nth, within}
 use Rattle.cics_ksds.proofs.Bounds.{last_record-append, listed-append}
 
