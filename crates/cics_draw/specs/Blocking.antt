@@ -25,8 +25,8 @@ abbrev pub commanded : Stage → Bytes → Command → Stepped (Result Outcome R
 commanded stage label c =
     let m = (region_of stage).machine in unless_down m (issued m label c)
 
--- A line of the script has a command that has to wait. Rows attach its task and the one that it is told, and no more tasks than
--- have lanes.
+-- A line of the script has a command that has to wait. Rows attach its task and its blocker, and no
+-- more tasks than have lanes.
 pub record HasToWait (rows : List Row) (stage : Stage) (line : List ℕ) : Type 0 where
   pub label : Bytes
   pub command : Command
@@ -37,8 +37,8 @@ pub record HasToWait (rows : List Row) (stage : Stage) (line : List ℕ) : Type 
   pub waiter_attached : is_some (lane_of (attached rows) (bare label)) ≡ true
   pub holder_attached : is_some (lane_of (attached rows) (bare holder)) ≡ true
 
--- The first row of a line, behind other rows, draws exactly one arrow: from the lane of a label's task to that of the task that
--- blocks it in this machine.
+-- The first row of a line, after other rows, draws exactly one arrow. It leads from the lane of a
+-- label's task to that of the task that blocks it in this machine.
 pub record ShowsBlocker (before rows : List Row) (m : Machine) (label : Bytes) : Type 0 where
   pub first : Row
   pub rest : List Row
@@ -49,7 +49,7 @@ pub record ShowsBlocker (before rows : List Row) (m : Machine) (label : Bytes) :
   pub to_blocker : awaited first ≡ bare blocker
   pub arrow : DrawsArrow before first
 
--- the rows of a line with a command that has to wait show its blocker, as the region has it behind the command
+-- if a line's command has to wait, its rows show the blocker that the region has after the command
 abbrev pub NamesBlocker : List Row → ℕ → Stage → List ℕ → Type 0
 NamesBlocker before number stage line =
     (w : HasToWait before stage line)

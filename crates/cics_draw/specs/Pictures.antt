@@ -26,11 +26,11 @@ use Rattle.cics_draw.specs.Reads.{shown_at, with_shown}
 use Rattle.cics_draw.specs.declared.picture.NoPicture.{NoPicture}
 use Rattle.cics_draw.specs.declared.picture.NoPicture.TheVariants.{Stopped, TooManyEvents}
 
--- how the tasks stand behind a line that ran and printed a text, and what its read shows
+-- how the tasks stand after a line that ran and printed a text, and what its read shows
 abbrev pub standings_behind : ℕ → Stage → List ℕ → List ℕ → List Standing
 standings_behind before stage line text = with_shown (standings_at before stage) (shown_at stage line text)
 
--- a line, what its step printed, and how the tasks stand behind it
+-- a line, what its step printed, and how the tasks stand after it
 abbrev pub printed : ℕ → Stage → List ℕ → Printed
 printed number stage line =
     let s = step number stage line in
@@ -40,7 +40,7 @@ printed number stage line =
 abbrev pub next_printed : Session → List ℕ → Printed
 next_printed s line = printed (s.number + 1) s.stage line
 
--- What a run prints of each of these lines, from where it stands. Behind a fault no line counts.
+-- What a run prints of each of these lines, from where it stands. After a fault no line counts.
 abbrev pub printed_from : Played → List (List ℕ) → List Printed
 printed_from p [] = []
 printed_from p (line ∷ lines) =
@@ -54,11 +54,11 @@ printed_lines script = printed_from start (all_lines script)
 abbrev pub drawing_of : List ℕ → Drawn
 drawing_of script = drawn (printed_lines script)
 
--- how the bars of the units look behind a script
+-- how the bars of the units look after a script
 abbrev pub looks_of : List ℕ → List Look
 looks_of script = looks_at (play (all_lines script)).stage
 
--- the outcomes of the units behind a script
+-- the outcomes of the units after a script
 abbrev pub outcomes_of : List ℕ → List UnitState
 outcomes_of script = outcomes_at (play (all_lines script)).stage
 
@@ -102,12 +102,13 @@ KeepsFault input rest session (Ok status.LineFault) =
     (bytes : List ℕ) × Consumes input rest bytes × (is_faulty bytes ≡ true) × Keeps session (play (all_lines bytes))
 KeepsFault input rest session _ = ⊤
 
--- none failed, unless this is why there is no picture
+-- how many calls failed: as many as the fault of the run counts, and none if there are too many
+-- events
 abbrev pub failures_of : (RunFault → ℕ) → NoPicture → ℕ
 failures_of count (Stopped fault) = count fault
 failures_of count TooManyEvents = 0
 
--- why there is no picture, where none was drawn
+-- why there is no picture, if drawing was refused
 abbrev pub undrawn : Undrawn → NoPicture
 undrawn undrawns.NoMemory = Stopped faults.NoMemory
 undrawn undrawns.TooManyRows = TooManyEvents

@@ -1,4 +1,4 @@
--- A read that shows what isn't committed: whose unit changed it.
+-- Reads that show what isn't committed: the number of the reader's task, and the unit that wrote.
 use Rattle.std.specs.Prelude.{ℕ, ◌-◌, ◌==◌, Bool, true, false, not, ◌&&◌, ◌||◌, if◌then◌else◌, Option, Some, None, option_map, unwrap_or, slice_get, slice_set, List, [], ◌++◌, length, take, Result, Ok}
 use Rattle.std.specs.List.{list_any, prefix_len}
 use Rattle.std.specs.Str.{bytes_eq}
@@ -29,7 +29,7 @@ use Rattle.cics_picture.specs.Bars.{nobody}
 use Rattle.cics_picture.specs.Events.{first_word, behind_word}
 use lib.Chars.{codes}
 
--- an answer of NORMAL or LENGERR
+-- whether a text is an answer of NORMAL or LENGERR: with these a read gives data
 abbrev pub has_data : List ℕ → Bool
 has_data told = let condition = first_word (behind_word told) in bytes_eq condition (codes "NORMAL") || bytes_eq condition (codes "LENGERR")
 
@@ -38,7 +38,7 @@ abbrev pub ridfld_of : Verb → Option Bytes
 ridfld_of (Read f k given n generic gteq update) = Some k
 ridfld_of verb = None
 
--- the key that such a command on a line names
+-- the key that a line with a READ names
 abbrev pub ridfld_in : Result Line LineFault → Option Bytes
 ridfld_in (Ok (Issue label c)) = ridfld_of c.verb
 ridfld_in read = None
@@ -48,11 +48,11 @@ abbrev pub key_literal : List ℕ → List ℕ
 key_literal told =
     let behind = behind_word (behind_word (behind_word (behind_word told))) in take (length behind - length (token_at behind).1) behind
 
--- a line with a command READ of the key that it says
+-- a line with a READ whose RIDFLD is that literal
 abbrev pub key_line : List ℕ → List ℕ
 key_line told = (codes "T EXEC CICS READ FILE('F') RIDFLD(" ++ key_literal told) ++ codes ")"
 
--- the key that an answer tells
+-- the key in an answer of READNEXT or READPREV
 abbrev pub key_told : List ℕ → Option Bytes
 key_told told = ridfld_in (reading.line (key_line told))
 
@@ -69,7 +69,8 @@ shown_by u (ReadPrev f n) told = record_of u f (key_told told)
 shown_by u (ReadqTs q n item) told = Some (TsDelete q)
 shown_by u verb told = None
 
--- a command changed the record of a key
+-- a command wrote or deleted the record of a key. DELETE GENERIC of a shorter prefix doesn't count:
+-- no read shows what it deleted
 abbrev pub changes_record : Bytes → Bytes → Op → Bool
 changes_record f k op = is_file_op op && (is_change op && (is_same (file_of op) f && bytes_eq (key_of op) k))
 
@@ -79,13 +80,13 @@ writes_item q n (TsWrite p d) number = is_same p q && is_unit number n
 writes_item q n (TsRewrite p i d) number = is_same p q && (i == n)
 writes_item q n op number = false
 
--- an entry changed what is shown: the record of the key, or the item of the queue that was read last
+-- an entry changed what is shown: the record of the key, or the item at the queue's NEXT cursor
 abbrev pub changes : UnitsState → Op → Entry → Bool
 changes s (Delete f k) e = changes_record f k e.op
 changes s (TsDelete q) e = writes_item q (place_at s q) e.op e.answer.number
 changes s op e = false
 
--- a unit changed what is shown
+-- an entry of a unit, answered NORMAL, changed what is shown
 abbrev pub changed : UnitsState → ℕ → Op → Entry → Bool
 changed s unit shown e = (e.unit == unit) && (is_normal e.answer.condition && changes s shown e)
 
@@ -94,7 +95,7 @@ abbrev pub if_changed : UnitsState → Option ℕ → Op → Option ℕ → Opti
 if_changed s own shown None = None
 if_changed s own shown (Some unit) = if is_unit own unit || not (list_any (changed s unit shown) s.trace) then None else Some unit
 
--- the unit that holds what is shown, if that is recoverable and this is such a unit
+-- the other unit that holds and changed what is shown; none if that is unrecoverable
 abbrev pub changer : UnitsState → Option ℕ → Option Op → Option ℕ
 changer s own None = None
 changer s own (Some shown) = if is_recoverable s.opening shown then if_changed s own shown (awaited s None shown) else None
@@ -105,13 +106,13 @@ both None unit = None
 both (Some number) None = None
 both (Some number) (Some unit) = Some (number, unit)
 
--- the number of a command's task, and the open unit of another task that changed last what its read shows
+-- the number of the reader's task, and the other open unit that last changed what the read shows
 abbrev pub shown_of : RegionValue → Bytes → Verb → List ℕ → Option (ℕ × ℕ)
 shown_of r label verb told =
     let u : UnitsValue = record { state = r.machine.units; store = r.store } in
     both (number_of r.machine.tasks label) (changer u.state (unit_of r.machine label) (shown_by u verb told))
 
--- the same of what was read of a line
+-- the same of a line, as the grammar reads it
 abbrev pub shown_in : RegionValue → Result Line LineFault → List ℕ → Option (ℕ × ℕ)
 shown_in r (Ok (Issue label c)) told = shown_of r label c.verb told
 shown_in r read told = None
@@ -125,7 +126,7 @@ shown_at (Running r) line told = if has_data told then shown_in r (reading.line 
 abbrev pub lane_with : ℕ → List Standing → ℕ
 lane_with unit standings = prefix_len (λ s. not (is_unit s.unit unit)) standings
 
--- how the tasks stand, if the task of a number read what a unit changed
+-- how the tasks stand, with the lane whose task wrote what the task of a number read
 abbrev pub with_shown : List Standing → Option (ℕ × ℕ) → List Standing
 with_shown standings None = standings
 with_shown standings (Some found) =

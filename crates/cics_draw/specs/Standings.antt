@@ -1,5 +1,5 @@
--- How the tasks of a region stand that have lanes: the unit of each, whether it is in a deadlock, and
--- whether it made a change that stays.
+-- How the tasks with lanes stand: the unit of each, whether it is in a deadlock, and whether it
+-- made a change that stays.
 use Rattle.std.specs.Prelude.{◌≡◌, ℕ, Bool, true, false, not, ◌&&◌, ◌==◌, zero, suc, nat_lt, if◌then◌else◌, Option, Some, None, length, map, drop, List, [], ◌∷◌, ◌++◌}
 use Rattle.std.specs.List.{list_any}
 use Rattle.cics_names.specs.Keyed.{Bytes, is_key_in}
@@ -38,8 +38,8 @@ standing_of m found (Some label) = record { unit = unit_of m label; is_deadlocke
 abbrev pub standing_at : Machine → List (List Bytes) → ℕ → Standing
 standing_at m found number = standing_of m found (label_at m.tasks number)
 
--- whether a command is one that changes something: READ UPDATE alone is none. DELETEQ TD counts even
--- if the queue is empty
+-- whether a command changes something: each one but READ UPDATE. DELETEQ TD counts even if the
+-- queue is empty
 abbrev pub is_change : Op → Bool
 is_change (ReadUpdate f k) = false
 is_change op = true
@@ -48,12 +48,12 @@ is_change op = true
 abbrev pub stays : OpeningState → ℕ → Entry → Bool
 stays o unit e = (e.unit == unit) && (is_normal e.answer.condition && (is_change e.op && not (is_recoverable o e.op)))
 
--- whether a unit made a change that stays, behind so many entries of the history
+-- whether a unit made a change that stays, after so many entries of the history
 abbrev pub any_stays : ℕ → Machine → Option ℕ → Bool
 any_stays before m None = false
 any_stays before m (Some unit) = list_any (stays m.units.opening unit) (drop before m.units.trace)
 
--- how the task of a number stands behind a line that found so many entries
+-- how the task of a number stands after a line, before which the history had so many entries
 abbrev pub marked_at : ℕ → Machine → List (List Bytes) → ℕ → Standing
 marked_at before m found number =
     let s = standing_at m found number in record { unit = s.unit; is_deadlocked = s.is_deadlocked; stays = any_stays before m s.unit; shows = None }
@@ -67,7 +67,7 @@ standings_below before m found (suc n) = standings_below before m found n ++ mar
 unfoldable pub standings_of : ℕ → Machine → List Standing
 standings_of before m = standings_below before m (shown_deadlocks m) most_lanes
 
--- the same where a run stands
+-- the same at a stage of a run: without a region there are none
 abbrev pub standings_at : ℕ → Stage → List Standing
 standings_at before (Opening o) = []
 standings_at before (Running r) = standings_of before r.machine

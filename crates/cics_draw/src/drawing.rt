@@ -36,8 +36,8 @@ pub fn rows_are_the_journal()
         → events_of (all_rows (printed_lines script)) ≡ (play (all_lines script)).journal }
 {}
 
-/// In the picture of a script the bar of a unit is filled exactly if the unit's outcome is
-/// Committed, and hollow exactly if it is BackedOut.
+/// In the picture of a script a unit's bar is filled exactly if its outcome is Committed, and
+/// hollow exactly if it is BackedOut.
 pub fn bars_tell_outcomes()
     ensures filled { (script : List ℕ) (b : Bar) → (bar_text (looks_of script) b ≡ filled b)
         ↔ (outcome_of (outcomes_of script) b.unit ≡ Committed) }
@@ -45,16 +45,16 @@ pub fn bars_tell_outcomes()
         ↔ (outcome_of (outcomes_of script) b.unit ≡ BackedOut) }
 {}
 
-/// If a command of a line has to wait, and at most sixteen tasks are attached, the row of the line
-/// has exactly one arrow: from the lane of its task to the lane of the task that blocks it then
-/// (`Region::blocker`).
+/// If a command of a line has to wait, the row of the line has exactly one arrow. It leads from the
+/// lane of its task to that of the task that blocks it then (`Region::blocker`). This supposes that
+/// rows before it attach both tasks, and at most sixteen in all.
 pub fn waits_name_blockers()
     ensures { (before : List Row) (number : ℕ) (stage : Stage) (line : List ℕ)
         → NamesBlocker before number stage line }
 {}
 
-// Runs a line and tells whether it is a fault. What it prints is pending then, and a line with a
-// fault is kept, to be told to a person.
+// Runs a line and returns whether it has a fault. What it printed is then pending. The session
+// keeps a line with a fault, for the message on standard error.
 fn run_line(session: &mut Session, line: &[u8]) -> Result<bool, NoMemory>
     requires number { session.old.number + 1 < 2 ^ 64 }
     requires none { session.old.line.items ≡ [] }
@@ -90,7 +90,7 @@ fn standings_behind(
     Ok(with_shown(standings, shown))
 }
 
-// Runs a line and draws what it prints, and tells whether that is a fault.
+// Runs a line, draws what it prints, and returns whether that is a fault.
 fn draw_line(session: &mut Session, drawing: &mut Drawing, line: &[u8]) -> Result<bool, Undrawn>
     requires number { session.old.number + 1 < 2 ^ 64 }
     requires none { session.old.line.items ≡ [] }
@@ -117,8 +117,8 @@ fn draw_line(session: &mut Session, drawing: &mut Drawing, line: &[u8]) -> Resul
     Ok(is_fault)
 }
 
-// Runs the lines of a script up to the first fault, draws what they print, and tells whether there
-// was a fault.
+// Runs the lines of a script up to the first fault, draws what they print, and returns whether
+// there was a fault.
 fn draw_lines(session: &mut Session, drawing: &mut Drawing, script: &[u8]) -> Result<bool, Undrawn>
     requires new { IsNew session.old }
     requires nothing { drawn_of drawing.old ≡ nothing_drawn }
@@ -142,8 +142,8 @@ fn draw_lines(session: &mut Session, drawing: &mut Drawing, script: &[u8]) -> Re
     }
 }
 
-/// Runs a script in a new session, puts its picture at the end of a text, and tells whether a line
-/// of it is a fault. The picture ends with that line's fault then, and the session keeps the line.
+/// Runs a script in a new session, and puts its picture at the end of a text. Returns whether a
+/// line has a fault: the picture then ends with this fault, and the session keeps the line.
 ///
 /// Errors: `TooManyRows` if the run has more events than a picture may have rows; `NoMemory`.
 pub fn draw_script(session: &mut Session, script: &[u8], out: &mut Vec<u8>) -> Result<bool, Undrawn>

@@ -8,7 +8,8 @@ ghost use Rattle.cics_picture.specs.Lanes.{most_lanes};
 ghost use Rattle.cics_draw.specs.Reads.{has_data, ridfld_of, ridfld_in, key_literal};
 ghost use Rattle.cics_draw.specs.Reads.{key_line, key_told, shown_in};
 ghost use Rattle.cics_draw.specs.Reads.{record_of, shown_by, changes_record, writes_item, changes};
-ghost use Rattle.cics_draw.specs.Reads.{changed, changer, shown_of, shown_at, lane_with, with_shown};
+ghost use Rattle.cics_draw.specs.Reads.{changed, changer, shown_of, shown_at};
+ghost use Rattle.cics_draw.specs.Reads.{lane_with, with_shown};
 
 use crate::standings::{is_change, is_same, unit_of};
 use cics_dispatch::Region;
@@ -191,8 +192,8 @@ fn is_changed(units: &Units, unit: u64, shown: &Op) -> bool
     false
 }
 
-// Returns the open unit, other than the reader's own, that changed last what is shown, if that is
-// recoverable. No other unit can have changed it since, as this one holds it.
+// Returns the open unit, other than the reader's own, that last changed what is shown, if that is
+// recoverable. This unit holds what is shown, so no other one has changed it since.
 fn changer(units: &Units, own: Option<u64>, shown: &Op) -> Option<u64>
     requires { IsTrue (is_ready_op units.now.state None shown.now) }
     ensures { result ≡ changer units.now.state own (Some shown.now) }
@@ -208,8 +209,8 @@ fn changer(units: &Units, own: Option<u64>, shown: &Op) -> Option<u64>
     }
 }
 
-// Returns the number of a command's task, and the open unit of another task that changed last what
-// the command's read shows.
+// Returns the number of the reader's task, and the other open unit that last changed what the read
+// shows.
 fn shown_of(
     region: &Region,
     label: &Name8,
@@ -240,10 +241,11 @@ fn shown_in(region: &Region, line: &Line, told: &[u8]) -> Result<Option<(usize, 
     }
 }
 
-/// Returns the number of a task whose read shows what isn't committed, and the open unit of another
-/// task that changed it last. The line has run, and has printed `told`.
+/// Returns the number of the task whose read shows what isn't committed, and the other open unit
+/// that last changed this. The line has run, and has printed `told`.
 ///
-/// Errors: `NoMemory`. Cost: O(log records), and O(history) if another unit holds what is shown.
+/// Errors: `NoMemory`. Cost: O(bytes of the line + log records), and O(history) if another unit
+/// holds what is shown.
 pub fn shown_at(stage: &Stage, line: &[u8], told: &[u8]) -> Result<Option<(usize, u64)>, NoMemory>
     ensures { IfOk result (λ shown. shown ≡ shown_at stage.now line.now told.now) }
 {
@@ -271,8 +273,8 @@ fn lane_with(unit: u64, standings: &[Standing]) -> usize
         .count()
 }
 
-/// Returns how the tasks stand, if the task of a number read what a unit changed. A task without a
-/// lane changes nothing.
+/// Returns the standings with what a read shows: at the reader's lane, the lane of the task that
+/// wrote it. Without a lane of the reader they stay as they are.
 pub fn with_shown(standings: Items<Standing>, shown: Option<(usize, u64)>) -> Items<Standing>
     requires { length standings ≤ most_lanes }
     ensures value { result ≡ with_shown standings shown }

@@ -8,7 +8,8 @@ ghost use Rattle.cics_dispatch.specs.Blockers.{label_at, unit_of};
 ghost use Rattle.cics_picture.specs.Lanes.{most_lanes};
 ghost use Rattle.cics_draw.specs.Standings.{shown_deadlocks, standing_at, standings_of};
 ghost use Rattle.cics_draw.specs.Standings.{is_change, stays, any_stays, marked_at, entries_at};
-ghost use Rattle.cics_draw.specs.Standings.{standings_at, outcomes_at, look_of, looks_at, IsInDeadlock};
+ghost use Rattle.cics_draw.specs.Standings.{standings_at, outcomes_at, look_of, looks_at};
+ghost use Rattle.cics_draw.specs.Standings.{IsInDeadlock};
 
 use cics_deadlock::deadlocks;
 use cics_dispatch::Region;
@@ -19,8 +20,8 @@ use cics_run::stage::Stage;
 use cics_units::Opening;
 use std::alloc::Global;
 
-/// If each task has a lane, a lane is marked exactly if its task is in a deadlock: one of tasks that
-/// wait for each other in a circle, each for the task that blocks it.
+/// If each task has a lane, `is_deadlocked` of a task is true exactly if it is in a deadlock. The
+/// tasks of a deadlock wait in a circle, each for the task that blocks it.
 pub fn deadlocks_are_marked()
     ensures { (m : Machine) (number : ℕ) (label : Bytes) → length m.tasks ≤ most_lanes
         → label_at m.tasks number ≡ Some label
@@ -102,7 +103,7 @@ pub fn is_change(op: &Op) -> bool
     !matches!(op, Op::ReadUpdate { .. })
 }
 
-// Returns whether a unit changed an unrecoverable file or queue by an entry: no backout undoes that.
+// Returns whether a unit changed something unrecoverable by an entry: no backout undoes that.
 fn stays(opening: &Opening, unit: u64, entry: &Entry) -> bool
     ensures { result ≡ stays opening.now unit entry.now }
 {

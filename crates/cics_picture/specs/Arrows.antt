@@ -1,4 +1,4 @@
--- Each wait has an arrow, from the lane of the task that waits to the lane of the one that it waits for.
+-- Each wait has an arrow, from the lane of the task that waits to the lane of its blocker.
 use Rattle.std.specs.Prelude.{◌≡◌, ℕ, true, ◌+◌, ◌≤◌, List, [], ◌∷◌, ◌++◌, length, Some, is_some}
 use Rattle.std.specs.List.{fold, flat_map}
 use Rattle.cics_picture.specs.declared.events.Kind.TheVariants.{Waiting}
@@ -11,11 +11,12 @@ use Rattle.cics_picture.specs.Drawings.{Drawn, nothing_drawn, Row, row_number, w
 abbrev pub attached : List Row → List (List ℕ)
 attached rows = flat_map (λ r. tasks_behind [] r.event) rows
 
--- what is drawn of rows
+-- what is drawn of rows alone, without what `with_end` adds at the end of a line: rings, diamonds,
+-- dashed rings and bars
 abbrev pub rows_drawn : List Row → Drawn
 rows_drawn rows = fold with_row nothing_drawn rows
 
--- the task that a row names as the one that is waited for
+-- the task that a row names as the blocker
 abbrev pub awaited : Row → List ℕ
 awaited r = behind_word (behind_word r.event)
 
@@ -26,8 +27,8 @@ pub record TellsWait (before : List Row) (r : Row) : Type 0 where
   pub waiter_attached : is_some (lane_of (attached before) (first_word r.event)) ≡ true
   pub awaited_attached : is_some (lane_of (attached before) (awaited r)) ≡ true
 
--- A row draws its number, one arrow, from the lane of its task to that of the task that it names, and its mark. Nothing that was
--- drawn before it changes.
+-- A row draws its number, its mark, and one arrow: from the lane of its task to that of the task
+-- that it names. What was drawn before stays as it is.
 pub record DrawsArrow (before : List Row) (r : Row) : Type 0 where
   pub from : ℕ
   pub to : ℕ

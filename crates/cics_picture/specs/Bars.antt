@@ -1,4 +1,5 @@
--- The bars of units of work: each stands in the lane of its task, from the row at which the unit begins to that at which it ends.
+-- The bars of units of work. Each stands in the lane of its task, from the row at which the unit
+-- begins to the row at which it ends.
 use Rattle.std.specs.Prelude.{ℕ, ◌-◌, ◌==◌, Bool, true, false, not, ◌&&◌, if◌then◌else◌, Option, Some, None, unwrap_or, slice_get, slice_set, replicate, List, [], ◌∷◌}
 use Rattle.cics_picture.specs.declared.events.Kind.{Kind}
 use Rattle.cics_picture.specs.declared.events.Kind.TheVariants.{Waiting}
@@ -52,11 +53,12 @@ has_same None (Some unit) = false
 has_same (Some before) None = false
 has_same (Some before) (Some unit) = before == unit
 
--- the unit that a task has no more
+-- the unit that a task had before and hasn't now
 abbrev pub gone : Option ℕ → Option ℕ → Option ℕ
 gone before now = if has_same before now then None else before
 
--- A lane whose task stands so behind a line, its last event at a row of this height. The bar of a unit begins a little above the row.
+-- A lane whose task stands so after a line, its last event at a row of this height. The bar of a
+-- unit begins a little above the row.
 abbrev pub lane_behind : Lane → ℕ → Standing → Lane
 lane_behind l y s = record { last = l.last; asked = l.asked; top = if has_same l.standing.unit s.unit then l.top else y - 8; standing = s }
 
@@ -69,7 +71,7 @@ ended lane top y (Some unit) = record { unit = unit; x = lane_x lane - 7; y = to
 abbrev pub is_bar_of : ℕ → ℕ → Bar → Bool
 is_bar_of lane unit b = (b.unit == unit) && (b.x == lane_x lane - 7)
 
--- whether a task is in a deadlock that wasn't there before
+-- whether a task is in a deadlock, and was in none before
 abbrev pub is_caught : Lane → Standing → Bool
 is_caught l s = s.is_deadlocked && not l.standing.is_deadlocked
 

@@ -13,8 +13,9 @@ use Rattle.cics_picture.specs.Elements.{words, number_words, shape, ring_shape, 
 use Rattle.cics_picture.specs.Bars.{new_lanes, nobodies, lane_at, lanes_behind, gone, lane_behind, ended, is_caught}
 use lib.Chars.{codes}
 
--- the number of rows and the script's line of each, the tasks that have lanes, the texts of what stands in the lanes and to the
--- right of them, the lanes, and the bars of units that have ended
+-- What is drawn so far: the number of rows and the script's line of each, the tasks that have
+-- lanes, and two texts. `marks` has the lanes and all to the left of them, `texts` all to the
+-- right. Then the lanes, and the bars of units that have ended.
 pub record Drawn : Type 0 where
   pub rows : ℕ
   pub lines : List (List ℕ)
@@ -32,7 +33,7 @@ drawn_of d = record { rows = d.rows; lines = d.lines; tasks = d.tasks; marks = d
 abbrev pub nothing_drawn : Drawn
 nothing_drawn = record { rows = 0; lines = []; tasks = []; marks = []; texts = []; lanes = new_lanes; bars = [] }
 
--- an arrow to the task that is waited for, if it has a lane
+-- an arrow to the blocker, if it has a lane
 abbrev pub arrow_to : ℕ → Option ℕ → ℕ → List ℕ
 arrow_to lane None y = []
 arrow_to lane (Some holder) y = arrow lane holder y
@@ -52,7 +53,7 @@ lane_marks tasks y event (Some lane) = beside tasks lane y event (kind_of event)
 abbrev pub across : List (List ℕ) → ℕ → Kind → List ℕ
 across tasks y kind = stroke (class_of kind) 66 y (66 + 60 * length tasks) y
 
--- an event of the region has a line across the lanes, and one of a task its marks, if the task has a lane
+-- an event of the region has a line across the lanes, one of a task its marks if that has a lane
 abbrev pub marks_of : List (List ℕ) → ℕ → List ℕ → Kind → List ℕ
 marks_of tasks y event Clock = across tasks y Clock
 marks_of tasks y event Down = across tasks y Down
@@ -62,7 +63,8 @@ marks_of tasks y event kind = lane_marks tasks y event (lane_of tasks (first_wor
 abbrev pub row_marks : List (List ℕ) → ℕ → List ℕ → List ℕ
 row_marks tasks y event = marks_of tasks y event (kind_of event)
 
--- the number of a line of the script, to the left of the lanes; an event without a line, whose number is 0, has none
+-- the number of the script's line, to the left of the lanes; 0 is that of an event without a line,
+-- and isn't shown
 abbrev pub row_number : ℕ → ℕ → List ℕ
 row_number y number = if number == 0 then [] else number_words (codes "d e") 52 y number
 
@@ -104,12 +106,14 @@ with_row d r =
 abbrev pub row : ℕ → List ℕ → List ℕ → Row
 row number line event = record { number = number; line = line; event = event }
 
--- The rows of what a line printed, behind what has come of the next event. An LF ends each event, and the first row is the line's own.
+-- The rows of what a line printed. `event` has the bytes of the next event so far. An LF ends each
+-- event, and the first row is the line's own.
 abbrev pub rows_from : ℕ → List ℕ → List ℕ → List ℕ → List Row
 rows_from number line event [] = []
 rows_from number line event (c ∷ text) = if c == 10 then row number line event ∷ rows_from 0 [] [] text else rows_from number line (event ++ (c ∷ [])) text
 
--- a line of a script: its number, its text, what it printed, and how the task of each lane stands behind it
+-- a line of a script: its number, its text, what it printed, and how the task of each lane stands
+-- after it
 pub record Printed : Type 0 where
   pub number : ℕ
   pub line : List ℕ
@@ -145,8 +149,9 @@ abbrev pub shows_if : Option ℕ → ℕ → ℕ → List ℕ
 shows_if None lane y = []
 shows_if (Some changer) lane y = link_if lane changer y ++ shape (codes "un") shows_shape (lane_x lane) y
 
--- A lane turns to how its task stands behind a line whose first row has this height: the bar of a unit that its task has no more
--- is done, diamond and dashed ring stand in the row of its last event, and the ring in the line's last row.
+-- A lane turns to how its task stands after a line whose first row has this height. If the task's
+-- unit has ended, its bar ends. Diamond and dashed ring stand in the row of the lane's last event,
+-- the ring of a deadlock in the line's last row.
 abbrev pub turned : ℕ → ℕ → Standing → Drawn → Drawn
 turned first lane s d =
     let l = lane_at d.lanes lane in

@@ -62,7 +62,7 @@ moved_start x = start_text tag.G (moved_to x 0 ∷ [])
 abbrev pub mark : Kind → ℕ → ℕ → List ℕ
 mark kind x y = shape (class_of kind) (shape_of kind) x y
 
--- where the arrow to a lane ends: at the side of it that the arrow comes from
+-- where the arrow or the line to a lane ends: at the side of the lane that it comes from
 abbrev pub tip : ℕ → ℕ → ℕ
 tip from to = if nat_lt from to then lane_x to - 10 else lane_x to + 10
 

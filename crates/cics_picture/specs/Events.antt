@@ -1,5 +1,5 @@
--- What a line of the journal says: a label, and what its task was told, the first word of which says of what kind it is.
--- Behind a word that is no label stands a number.
+-- What a line of the journal says: a label, and what its task was told. The first word of that
+-- says of what kind it is. A first word that is no label has a number after it.
 use Rattle.std.specs.Prelude.{ℕ, Bool, false, not, ◌&&◌, ◌==◌, nat_le, ◌+◌, if◌then◌else◌, List, [], ◌∷◌, take, drop}
 use Rattle.std.specs.List.{prefix_len}
 use Rattle.std.specs.Str.{bytes_eq}
@@ -24,7 +24,8 @@ abbrev pub is_number : List ℕ → Bool
 is_number [] = false
 is_number (c ∷ word) = nat_le 48 c && nat_le c 57
 
--- the kind of an event of the region: its clock was set, or it was shut down, or a line of the script has a fault
+-- the kind of an event of the region: Clock if its clock was set, else Down, for a shutdown or a
+-- fault of a line
 abbrev pub region_kind : List ℕ → Kind
 region_kind word = if bytes_eq word (codes "CLOCK") then kind.Clock else kind.Down
 
@@ -63,8 +64,9 @@ class_of kind.Condition = codes "mc"
 class_of kind.Clock = codes "clk"
 class_of kind.Down = codes "dwn"
 
--- the shape of a kind, as a path round its place: a ring, a dot, an hourglass, an arrowhead, a foot, a cross in a ring, a barred
--- ring, a triangle, and a stroke for each line across the lanes
+-- The shape of a kind, as a path round its place. In the order of the cases: a ring, a dot, an
+-- hourglass, an arrowhead, a foot, a cross in a ring, a barred ring, a triangle. The lines across
+-- the lanes have a stroke each.
 abbrev pub shape_of : Kind → List ℕ
 shape_of kind.Attached = codes "M-6 0a6 6 0 1 0 12 0a6 6 0 1 0 -12 0z"
 shape_of kind.Normal = codes "M-5 0a5 5 0 1 0 10 0a5 5 0 1 0 -10 0z"

@@ -1,5 +1,5 @@
-//! The bars of units of work in the lanes, the rings of deadlocks, the diamonds of changes that no
-//! backout undoes, and the dashed rings of reads that show what isn't committed.
+//! The bars of units of work in the lanes, and the rings of deadlocks. Also the diamonds of changes
+//! that no backout undoes, and the dashed rings of reads that show what isn't committed.
 
 ghost use Rattle.std.specs.Prelude.{◌≡◌, ◌++◌, ◌-◌, ◌<◌, ◌≤◌, length, IfSome, OnOk};
 ghost use Rattle.std.specs.List.{flat_map};
@@ -18,7 +18,7 @@ use crate::events::Kind;
 use crate::lanes::{MOST_LANES, lane_x, row_y};
 use cics_names::{Items, NoMemory};
 
-/// How the task of a lane stands behind a line of the script.
+/// How the task of a lane stands after a line of the script.
 #[derive(Clone, Copy, Debug, PartialEq, Eq)]
 pub struct Standing {
     /// The number of its open unit of work, if it has one.
@@ -32,8 +32,8 @@ pub struct Standing {
     pub shows: Option<usize>,
 }
 
-/// A lane so far: the height of the row of its last event, the row at which its task last waited,
-/// the top of the bar of its open unit, and how its task stands.
+/// A lane so far, and how its task stands. `last` is the height of the row of its last event,
+/// `top` the top of its open unit's bar. `asked` is the row at which the task last waited.
 #[derive(Clone, Copy, Debug, PartialEq, Eq)]
 pub struct Lane {
     pub last: u64,
@@ -51,8 +51,8 @@ pub struct Bar {
     pub height: u64,
 }
 
-/// How the bar of a unit looks: light for one that is open, filled for one that stays, hollow for
-/// one that is undone.
+/// How the bar of a unit looks: light if the unit is open, filled if it committed, hollow if it was
+/// backed out.
 #[derive(Clone, Copy, Debug, PartialEq, Eq)]
 pub enum Look {
     Open,
@@ -125,14 +125,14 @@ fn has_same(before: Option<u64>, now: Option<u64>) -> bool
     }
 }
 
-// The unit that a task has no more.
+// Returns the unit that a task had before and hasn't now.
 fn gone(before: Option<u64>, now: Option<u64>) -> Option<u64>
     ensures { result ≡ gone before now }
 {
     if has_same(before, now) { None } else { before }
 }
 
-// The lane of a task that stands so behind a line, its last event at a row of this height.
+// Returns the lane of a task that stands so after a line, its last event at a row of this height.
 fn lane_behind(before: Lane, y: u64, standing: Standing) -> Lane
     ensures { result ≡ lane_behind before y standing }
 {
@@ -170,7 +170,7 @@ fn push_ended(
     }
 }
 
-// Whether a task is in a deadlock that wasn't there before.
+// Returns whether a task is in a deadlock, and was in none before.
 fn is_caught(before: Lane, standing: Standing) -> bool
     ensures { result ≡ is_caught before standing }
 {
@@ -282,7 +282,7 @@ impl Drawing {
         row_y(self.rows.saturating_sub(1))
     }
 
-    // Turns a lane to how its task stands behind a line whose first row has this height.
+    // Turns a lane to how its task stands after a line whose first row has this height.
     fn turn(&mut self, lane: usize, first: u64, standing: Standing) -> Result<(), NoMemory>
         requires { lane < most_lanes }
         ensures { OnOk result (drawn_of self.new
@@ -311,8 +311,8 @@ impl Drawing {
         Ok(())
     }
 
-    /// Ends a line of the script whose first row has this height: how the task of each lane stands
-    /// behind it.
+    /// Ends a line of the script whose first row has this height. `standings` says how the task of
+    /// each lane stands after it.
     pub fn end_line(&mut self, first: u64, standings: &[Standing]) -> Result<(), NoMemory>
         requires { length standings.now ≤ most_lanes }
         ensures { OnOk result (drawn_of self.new

@@ -5,7 +5,8 @@ ghost use Rattle.cics_picture.specs.Lanes.{most_lanes};
 ghost use Rattle.cics_picture.specs.Elements.{words_start, words, number_words, shape, stroke};
 ghost use Rattle.cics_picture.specs.Elements.{field, spoken};
 ghost use Rattle.cics_markup.specs.Documents.{attribute_text};
-ghost use Rattle.cics_picture.specs.Elements.{namespace, picture_start, moved_start, mark, tip, head};
+ghost use Rattle.cics_picture.specs.Elements.{namespace, picture_start, moved_start, mark};
+ghost use Rattle.cics_picture.specs.Elements.{tip, head};
 ghost use Rattle.cics_picture.specs.Elements.{arrow, link, cut};
 
 use crate::events::Kind;

@@ -1,9 +1,9 @@
 //! A picture of a run: a row for each event, a lane for each task, a bar for each unit of work.
 //!
-//! [`Drawing::push_line`] draws what one line of a script printed, a row for each line of the
-//! journal, and how the tasks stand behind it. [`push_sheet`] puts the whole picture at the end of
-//! a text, as SVG. [`sheets_are_documents`] says that each is well formed, [`waits_have_arrows`]
-//! that each wait has its arrow, and [`units_have_bars`] that each unit of work has its bar.
+//! [`Drawing::push_line`] draws a row for each line of the journal that a line of a script printed,
+//! and how the tasks stand after it. [`push_sheet`] puts the whole picture at the end of a text, as
+//! SVG. Three laws say that each picture is well formed ([`sheets_are_documents`]), that each wait
+//! has its arrow ([`waits_have_arrows`]), and each unit its bar ([`units_have_bars`]).
 #![tactic(auto)]
 
 mod bars;

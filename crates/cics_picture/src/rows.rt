@@ -24,7 +24,7 @@ use std::alloc::Global;
 
 const LF: u8 = 10;
 
-// Puts an arrow to the task that is waited for, if it has a lane.
+// Puts an arrow to the blocker, if it has a lane.
 fn push_arrow_to(
     out: &mut Vec<u8>,
     lane: usize,
@@ -245,9 +245,8 @@ impl Drawing {
         Ok(())
     }
 
-    /// Draws a row for each line of the journal in a text that a line of the script printed, and
-    /// how the task of each lane stands behind it. The first row has the line's number and its
-    /// text.
+    /// Draws a row for each line of the journal in a text that a line of the script printed. Then
+    /// it draws how the task of each lane stands. The first row has the line's number and its text.
     ///
     /// Errors: `TooManyRows` if that is more rows than a picture may have; `NoMemory`. A picture
     /// that was refused a row is of no use.

@@ -8,7 +8,8 @@ ghost use Rattle.cics_markup.specs.Reading.{document_of};
 ghost use Rattle.cics_picture.specs.Lanes.{most_lanes};
 ghost use Rattle.cics_picture.specs.Drawings.{drawn_of, Printed, Row, drawn, finished};
 ghost use Rattle.cics_picture.specs.Arrows.{TellsWait, DrawsArrow};
-ghost use Rattle.cics_picture.specs.Sheets.{style_text, bands, lane_lines, headings, ground, heading};
+ghost use Rattle.cics_picture.specs.Sheets.{style_text, bands, lane_lines, headings, ground};
+ghost use Rattle.cics_picture.specs.Sheets.{heading};
 ghost use Rattle.cics_picture.specs.Sheets.{legend_item, answers_legend, ways_legend};
 ghost use Rattle.cics_picture.specs.Sheets.{region_legend, sign_item, units_legend};
 ghost use Rattle.cics_picture.specs.Sheets.{width_of, height_of, moved_texts, whole_sheet, sheet};
@@ -34,13 +35,13 @@ pub fn sheets_are_documents()
         → (d : Document) × (document_of (sheet (drawn lines) looks title) ≡ Some d) }
 {}
 
-/// If at most sixteen tasks are attached, each event WAITING has exactly one arrow: from the lane
-/// of its task to the lane of the task that it names.
+/// An event WAITING has exactly one arrow: from the lane of its task to that of the task that it
+/// names. This supposes that rows before it attach both tasks, and at most sixteen in all.
 pub fn waits_have_arrows()
     ensures { (before : List Row) (r : Row) → TellsWait before r → DrawsArrow before r }
 {}
 
-/// A task with a lane has a bar in it for each unit of work that it has behind a line of the script.
+/// A task with a lane has a bar in it for each unit of work that it has after a line of the script.
 pub fn units_have_bars()
     ensures { (before after : List Printed) (p : Printed) (lane unit : ℕ) (s : Standing)
         → lane < most_lanes → slice_get p.standings lane ≡ Some s → s.unit ≡ Some unit
