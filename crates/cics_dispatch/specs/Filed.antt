@@ -27,7 +27,7 @@ pub record IsInLine (rows : List (Option Note)) (i g : ℕ) : Type 0 where
   pub there : slice_get rows i ≡ Some (Some note)
   pub own : note.line ≡ Some g
 
--- the key 0 stands at an index of these that isn't above this one
+-- one of these, not above this index, has the key 0
 pub record IsShownBy (s : BTreeSet ℕ) (keys : List ℕ) (i : ℕ) : Type 0 where
   pub place : ℕ
   pub before : place ≤ i
@@ -75,7 +75,7 @@ pub record IsFiled (rows : List (Option Note)) (k : ℕ) (rs : List Resource) (b
 
 -- ---- Changes
 
--- one of these, not above each of them, has the key 0, if no blocker is known
+-- the first of these has the key 0, if no blocker is known, and each that had it keeps it
 pub record IsFirstShown (b : Option ℕ) (s : BTreeSet ℕ) (keys new : List ℕ) : Type 0 where
   pub even : length new ≡ length keys
   pub kept : (i : ℕ) → slice_get keys i ≡ Some 0 → slice_get new i ≡ Some 0
@@ -113,7 +113,7 @@ abbrev pub IsNotOf : List (Option Note) → List (Option ℕ) → ℕ → Parked
 IsNotOf rows bs u (OfRow i) = IsAlone rows i u → ⊥
 IsNotOf rows bs u (OfLine g) = of_line bs g ≡ Some u → ⊥
 
--- some of what a unit blocks must be looked at, and nothing else has changed
+-- some of what a unit blocked must be looked at, and nothing else has changed
 pub record IsReopening (u : ℕ) (rows ns : List (Option Note)) (bs cs : List (Option ℕ)) : Type 0 where
   pub rows_alike : map (forgotten (Some u)) ns ≡ map (forgotten (Some u)) rows
   pub lines_alike : map (given_up (Some u)) cs ≡ map (given_up (Some u)) bs
