@@ -33,7 +33,7 @@ fn take_used(alloc: Global, from: &mut Record, length: Option<u64>) -> Result<Re
     }
 }
 
-// A DELETE of the record of a key, or of each whose key begins with it.
+// Returns a DELETE of the record of a key, or if generic of each record whose key begins with it.
 fn delete_op(file: Name8, key: Record, generic: bool) -> Op
     ensures { result ≡ (if generic then Op.DeleteGeneric file key else Op.Delete file key) }
 {
@@ -44,7 +44,7 @@ fn delete_op(file: Name8, key: Record, generic: bool) -> Op
     }
 }
 
-// A WRITEQ TS of an item, or with REWRITE in place of the item of a number.
+// Returns a WRITEQ TS of an item, or with REWRITE in place of the item of a number.
 fn ts_write_op(queue: Name8, from: Record, item: Option<u64>) -> Op
     ensures { result ≡ ts_write_op queue from item }
 {
