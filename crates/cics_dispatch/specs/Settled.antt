@@ -54,8 +54,8 @@ abbrev pub is_kept_in : Outcomes → Option ℕ → Bool
 is_kept_in fin None = true
 is_kept_in fin (Some u) = not (is_backed_out (fin u))
 
--- a unit has written to a LOGICAL queue, and if it is backed out, the queue has no record for a
--- task whose own unit isn't, however the other open units end
+-- a unit has written to a LOGICAL queue; if it is backed out and the task's own unit isn't, the
+-- queue has no record, however the other open units end
 pub record IsStarved (s : UnitsState) (own : Option ℕ) (u : ℕ) (q : Bytes) : Type 0 where
   pub logical : queue_logical s.opening q ≡ true
   pub writes : used s.trace u (Td q) Writing ≡ true

@@ -60,7 +60,8 @@ woken m = woken_first m (first_free m m.waiting)
 
 -- ---- Time-out
 
--- a task has waited too long once the clock is its DTIMOUT past the wait's begin. A DTIMOUT of 0 is no limit
+-- a task has waited too long once the clock is its DTIMOUT past the wait's begin; a DTIMOUT of 0 is
+-- no limit
 abbrev pub is_late : Machine → Suspended → Option Task → Bool
 is_late m w None = false
 is_late m w (Some t) = nat_lt 0 t.dtimout && nat_le t.dtimout (m.clock - w.since)
