@@ -8,8 +8,8 @@ ghost use Rattle.cics_plans.specs.declared.plans.Plan.{Plan};
 ghost use Rattle.cics_orders.specs.Giving.{lanes, initial_state};
 ghost use Rattle.cics_orders.specs.Ended.{AcceptsReady, Agrees};
 
-/// After each line of an order nothing goes on by itself: no waiting command may resume, and no
-/// task has waited too long.
+/// After each line of an order the region is at rest: no waiting command may resume, and no task
+/// has waited too long.
 pub fn orders_rest()
     ensures { (p : Plan) (o : Order) → IsAtRest (after lanes (initial_state p) o).machine }
 {}
