@@ -9,8 +9,8 @@ Graph = List (Option ℕ)
 abbrev pub next_of : Graph → ℕ → Option ℕ
 next_of g at = unwrap_or (slice_get g at) None
 
--- the way of a task that waits for a next one: it ends if that is the first, continues if the
--- number of that is greater than the first's, and else leads nowhere
+-- the way of a task that waits for a next one: it ends if that is the first, continues if the next
+-- one's number is greater, and else leads nowhere
 abbrev pub way_on : (ℕ → Option (List ℕ)) → ℕ → ℕ → Option ℕ → Option (List ℕ)
 way_on rest first at None = None
 way_on rest first at (Some next) =

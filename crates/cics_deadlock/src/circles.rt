@@ -42,8 +42,8 @@ fn circle_from(
 
 /// Returns the circles of a graph, each once, in the order of their first tasks.
 ///
-/// `waits_for` has for each task, by its number, the number of the task that it waits for, and
-/// `most` is the number of tasks that wait.
+/// `waits_for` has for each task, by its number, the number of the task that it waits for. `most`
+/// is the number of tasks that wait.
 ///
 /// Cost: O(w * w), w the number of tasks that wait, beside O(tasks).
 pub fn circles(

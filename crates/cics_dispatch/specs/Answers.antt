@@ -55,9 +55,8 @@ IsStep wants old s (Err e) new = (s.outcome ≡ Err e) × (new ≡ old)
 abbrev pub always : {X : Type 0} → Stepped X → Stepped (Result X Refused)
 always s = record { outcome = Ok s.outcome; machine = s.machine }
 
--- the headline holds of a region: its store is the replay of the surviving entries, each of them
--- has the answer that the replay gives it, and a backed-out unit whose entries are the last left no
--- trace
+-- the headline holds of a region: its store is the replay of the surviving entries, which gives
+-- each of them its answer; a backed-out unit whose entries are the last left no trace
 pub record IsHeadlineRegion (r : RegionValue) : Type 0 where
   pub headline : IsHeadline (record { state = r.machine.units; store = r.store })
 

@@ -47,8 +47,8 @@ read_fault d open_read key given generic gteq update =
     ∷ []
     )
 
--- REWRITE: the length of its record, then that an update read is open, then that the key in the
--- record is the one that was read
+-- REWRITE: the length of its record; an update read that is open; the key in the record is the one
+-- that was read
 abbrev pub rewrite_fault : FileDef → Option Bytes → Bytes → Option ℕ → Option Condition
 rewrite_fault d None from n = first_fault (from_fault d from n ∷ Some Invreq ∷ [])
 rewrite_fault d (Some key) from n = first_fault (from_fault d from n ∷ own_key_fault d key from n ∷ [])
@@ -91,8 +91,8 @@ browsing_fault d browse (ReadPrev f n) = back_fault browse
 browsing_fault d browse (EndBr f) = browse_fault browse
 browsing_fault d browse _ = None
 
--- the first fault of a command on a defined file, from the key of the task's open update read of
--- the file and its browse of it
+-- the first fault of a command on a defined file, from the key of its open update read and the
+-- task's browse of it
 abbrev pub file_fault : FileDef → Option Bytes → Option Position → Verb → Option Condition
 file_fault d open_read browse (Read f key given n generic gteq update) =
     read_fault d open_read key given generic gteq update

@@ -10,8 +10,8 @@ use Rattle.cics_dispatch.specs.Machine.{Machine, Task, Suspended, task_at}
 use Rattle.cics_dispatch.specs.Checks.{resource_fault}
 use Rattle.cics_dispatch.specs.Tasks.{own_label, own_unit, IsOwn}
 
--- a command that may have to wait is ready: the updating command that it asks for can be executed
--- once nothing blocks it, or it is an ENQ whose LENGTH is right
+-- a command that may have to wait is ready: its updating command can be executed once nothing
+-- blocks it, or it is an ENQ whose LENGTH is right
 abbrev pub IsReady : UnitsState → Option ℕ → Verb → Option Op → Type 0
 IsReady s asking verb (Some o) = is_ready_op s asking o ≡ true
 IsReady s asking (Enq value n nosuspend) None = resource_fault value n ≡ None

@@ -129,8 +129,8 @@ pub record IsUse (o : OpeningState) (rs : List Resource) (w : Suspended) (g : �
   pub needed : needed_by o w.command.verb w.op ≡ resource ∷ []
   pub no_reader : reads_queue w.op ≡ false
 
--- a note is right: it has the label of the command's task, a known blocker blocks the command, and
--- the command uses the resource of its wait group and nothing else
+-- a note is right: it has the label of the command's task, a blocker that is known blocks the
+-- command, which uses the resource of its wait group alone
 pub record IsNoted (m : Machine) (rs : List Resource) (bs : List (Option ℕ)) (n : Note) (w : Suspended) : Type 0 where
   pub label : n.label ≡ w.label
   pub blocked : (u : ℕ) → blocker_in bs n ≡ Some u → IsBlocked m u w
@@ -203,8 +203,8 @@ pub record IsFreeAt (m : Machine) (v : NotesValue) (at : ℕ) (label : Bytes) : 
   pub own : note.label ≡ label
   pub first : IsFirstFree m label
 
--- a command of a note's label uses the resource of a wait group and nothing else, if it so uses
--- that of the note's own group
+-- a command of a note's label uses the resource of a wait group alone, if it so uses that of the
+-- note's group
 abbrev pub UseOf : Machine → List Resource → Note → ℕ → Type 0
 UseOf m rs n g = (w : Suspended) (i : ℕ) → slice_get m.waiting i ≡ Some w → w.label ≡ n.label →
     ((h : ℕ) → n.line ≡ Some h → IsUse m.units.opening rs w h) → IsUse m.units.opening rs w g

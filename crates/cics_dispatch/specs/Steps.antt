@@ -1,7 +1,7 @@
--- The steps of a region (all chapters on commands, and the chapter on the exceptional conditions):
--- what ATTACH and each command answer, and the state that they leave. After its checks a command
--- waits, or is executed and answered. A content longer than LENGTH is LENGERR. A condition that
--- nothing handles abends the task.
+-- The steps of a region (all chapters on commands, and that on the exceptional conditions): what
+-- ATTACH and each command answer, and the state that they leave. After its checks a command waits,
+-- or is executed and answered. A content longer than LENGTH is LENGERR. A condition that nothing
+-- handles abends the task.
 use Rattle.std.specs.Prelude.{ℕ, Bool, true, false, if◌then◌else◌, Option, Some, None, is_some, option_map, Result, Ok, Err, take, [], ◌∷◌, ◌++◌}
 use Rattle.cics_names.specs.Commands.{file_named, length_of}
 use Rattle.cics_names.specs.Keyed.{Bytes, value_at, with_value, without}

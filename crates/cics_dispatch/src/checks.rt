@@ -63,8 +63,8 @@ fn used(from: &[u8], length: Option<u64>) -> Option<&[u8]>
     }
 }
 
-/// Returns the first fault of a WRITE: INVREQ for the length of its key, LENGERR for that of its
-/// record, then INVREQ if the key in the record is another.
+/// Returns the first fault of a WRITE: INVREQ for the length of its key, then LENGERR for that of
+/// its record. Last is INVREQ if the key in the record is another.
 pub(crate) fn write_fault(
     definition: FileDef,
     key: &[u8],

@@ -126,7 +126,7 @@ fn take_own_op(alloc: Global, verb: &mut Verb) -> Result<Option<Op>, NoMemory>
 }
 
 /// Takes the updating command that a verb asks for out of the verb, with its key and the bytes of
-/// FROM that it uses, so that they aren't copied. Returns `None` for a verb that updates nothing.
+/// FROM that it uses. So they aren't copied. Returns `None` for a verb that updates nothing.
 /// `refill` puts back what was taken.
 ///
 /// `open_key` is the key of the task's open update read of the file that the verb names, `None` if

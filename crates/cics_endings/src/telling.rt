@@ -68,9 +68,9 @@ fn is_deadlocked(alloc: Global, region: &Region) -> Result<bool, NoMemory>
     Ok(found.len() > 0)
 }
 
-/// Returns the parts in which an ending is told: its mark, the block of each file and queue, and
-/// the line of each task in the order of attach. If `with_told`, what a task was told of each of
-/// its lines that was answered follows its line.
+/// Returns the parts of an ending: its mark, the block of each file and queue, and the line of each
+/// task in the order of attach. If `with_told`, what a task was told of each of its lines that was
+/// answered follows its line.
 ///
 /// Errors: `NoMemory`.
 pub fn parts_of(

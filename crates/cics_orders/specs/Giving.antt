@@ -30,9 +30,9 @@ use Rattle.cics_plans.specs.declared.plans.Plan.{Plan}
 use Rattle.cics_plans.specs.declared.plans.TaskPlan.{TaskPlan}
 use Rattle.cics_orders.specs.declared.lanes.Lane.{Lane}
 
--- a script's plan, the machine of its region, the lanes that give to it, which task's lane gave
--- last, and whether the order so far is serial: no task within a turn gave a line behind another
--- task's
+-- a script's plan, the machine of its region, the lanes that give to it, the task's lane that gave
+-- last, and whether the order so far is serial; it is if no task within a turn gave a line behind
+-- another task's
 pub record State : Type 0 where
   pub plan : Plan
   pub machine : Machine

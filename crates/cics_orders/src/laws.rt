@@ -19,8 +19,8 @@ pub fn lanes_tell_ended_tasks()
     ensures { (p : Plan) (o : Order) → Agrees (after lanes (initial_state p) o) }
 {}
 
-/// After every order no command is refused of a task that may give a line: one that has not ended,
-/// by its lane, and has no waiting command.
+/// After every order no command is refused of a task that may give a line. That is one that has not
+/// ended, by its lane, and has no waiting command.
 pub fn lines_are_not_refused()
     ensures { (p : Plan) (o : Order) → AcceptsReady (after lanes (initial_state p) o) }
 {}

@@ -16,9 +16,8 @@ use Rattle.cics_run.specs.declared.running.RunFault.{RunFault}
 use Rattle.cics_run.specs.declared.running.RunFault.TheVariants as faults
 use Rattle.cics_run.specs.declared.running.Options.{Options}
 
--- the state after some lines: the stage, how many lines there were and the last of them, what was
--- printed, the same with each line in front of its journal lines, and the fault of the last line,
--- if it has one
+-- the state after some lines: the stage, their number and the last of them, the journal, the same
+-- with each line in front of its journal lines, and the fault of the last line, if any
 pub record Played : Type 0 where
   pub stage : Stage
   pub number : ℕ

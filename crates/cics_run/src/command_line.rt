@@ -184,8 +184,8 @@ fn apart_from_runs<'a>(arg: Arg<'a>) -> Result<Arg<'a>, AllocError> {
     arg.conflicts_with_all(&["no-list", "replay", "serial", "with-script", "strict"])
 }
 
-// Adds an option to a command line. It takes the results of the calls before, so that a row of
-// calls has no `?`, at which all that was made so far would be dropped.
+// Adds an option to a command line. It takes the results of the calls before: so a row of calls has
+// no `?`, which would drop all that was made so far.
 fn with<'a>(
     command: Result<Command<'a>, AllocError>,
     arg: Result<Arg<'a>, AllocError>,
@@ -287,8 +287,8 @@ pub fn exit_status(answer: &Result<Status, RunFault>) -> u8
     }
 }
 
-/// Returns the exit status of a run in which something is amiss or not: 5 if it is done and
-/// something is, else as `exit_status` says.
+/// Returns the exit status of a strict run: 5 if it is done and something is amiss, else as
+/// `exit_status` says.
 pub fn strict_status(answer: &Result<Status, RunFault>, is_amiss: bool) -> u8
     ensures { result ≡ strict_status_of answer.now is_amiss }
 {

@@ -25,7 +25,7 @@ pub const CHUNK: usize = 65_536;
 pub enum Status {
     /// Every line was run; the journal and what was asked for after it are written.
     Done,
-    /// A line or a definition has a fault: the journal up to it is written, with the fault as its
+    /// A line or a definition has a fault. The journal up to it is written, with the fault as its
     /// last line, and nothing behind it.
     LineFault,
 }

@@ -63,7 +63,7 @@ fn push_orders(out: &mut Vec<u8>, script: &[u8], wanted: Orders) -> Result<Surve
     }
 }
 
-/// Follows the orders of the script that a source gives, and writes a report on them, or the first
+/// Follows the orders of the script that a source gives. Writes a report on them, or the first
 /// order of an ending as a script.
 ///
 /// It reads at most `LIMIT` bytes, and one more to see whether there are more, and writes when all
