@@ -39,7 +39,7 @@ IsAwake m at = OfTask m.tasks at (λ t. is_waiting m.waiting t.label ≡ false)
 abbrev pub HasBrowse : Machine → ℕ → Bytes → Type 0
 HasBrowse m at file = OfTask m.tasks at (λ t. is_some (value_at file t.browses) ≡ true)
 
--- a command of the task can be executed once nothing blocks it
+-- a command of the task is ready
 abbrev pub HasReady : Machine → ℕ → Verb → Option Op → Type 0
 HasReady m at verb o = OfTask m.tasks at (λ t. IsReady m.units t.unit verb o)
 

@@ -76,7 +76,7 @@ enum Parked {
 ///
 /// A command's blocker is a unit that it must wait for, as long as that releases nothing. A command
 /// whose blocker isn't known must be looked at. The commands of a wait group, in the code a `line`,
-/// use the same one resource and nothing else, and have one blocker.
+/// use the same one resource and nothing else, and share their blocker.
 ///
 /// On `NoMemory` all notes stay as they are.
 ///

@@ -44,8 +44,8 @@ use std::marker::Model;
 /// The region remembers the blockers that `wake` found. So `wake` looks only at commands that began
 /// to wait since the last look, or whose blocker may have released something since. Commands that
 /// use the same record, prefix, queue name, writing end of a queue or value, and nothing else, are
-/// a wait group. Of a group `wake` looks no further than the first that must wait, unless a command
-/// of its blocker's task is in the group.
+/// a wait group. Of a group `wake` looks no further than the first that must wait, unless its
+/// blocker's own task waits for the same resource.
 pub struct Region {
     dispatcher: Dispatcher,
     // What is known of the waiting commands, up to those that began to wait since the last `wake`.

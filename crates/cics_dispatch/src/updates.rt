@@ -126,8 +126,8 @@ fn take_own_op(alloc: Global, verb: &mut Verb) -> Result<Option<Op>, NoMemory>
 }
 
 /// Takes the updating command that a verb asks for out of the verb, with its key and the bytes of
-/// FROM that it uses. So they aren't copied. Returns `None` for a verb that updates nothing.
-/// `refill` puts back what was taken.
+/// FROM that it uses. So they aren't copied, unless LENGTH cuts FROM. Returns `None` for a verb
+/// that updates nothing. `refill` puts back what was taken.
 ///
 /// `open_key` is the key of the task's open update read of the file that the verb names, `None` if
 /// there is none. REWRITE changes the record of that key, and so does DELETE without RIDFLD.

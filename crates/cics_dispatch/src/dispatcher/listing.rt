@@ -18,7 +18,7 @@ impl Dispatcher {
         &self.units
     }
 
-    // Returns what a task of the region does, if it hasn't ended.
+    // Returns what a task of the region does that hasn't ended.
     fn task_state(&self, task: &Task) -> TaskState
         ensures { result ≡ task_state self.now.machine task.now }
     {
