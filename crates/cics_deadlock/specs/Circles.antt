@@ -1,16 +1,16 @@
--- Circles in a graph of tasks, each of which waits for one other at most.
+-- Circles in a graph of tasks, each of which waits for at most one other.
 use Rattle.std.specs.Prelude.{◌≡◌, ◌<◌, ◌+◌, ℕ, zero, suc, ◌==◌, nat_lt, if◌then◌else◌, Option, Some, None, option_map, unwrap_or, is_some, slice_get, length, List, [], ◌∷◌, ◌++◌}
 
 -- a graph: at the number of each task the number of the one that it waits for, if it waits
 abbrev pub Graph : Type 0
 Graph = List (Option ℕ)
 
--- whom a task waits for
+-- the task that a task waits for, if it waits
 abbrev pub next_of : Graph → ℕ → Option ℕ
 next_of g at = unwrap_or (slice_get g at) None
 
--- the way of a task that waits for a next one: it ends if that is the first, goes on if the number
--- of that is greater than the first's, and else leads nowhere
+-- the way of a task that waits for a next one: it ends if that is the first, continues if the next
+-- one's number is greater, and else leads nowhere
 abbrev pub way_on : (ℕ → Option (List ℕ)) → ℕ → ℕ → Option ℕ → Option (List ℕ)
 way_on rest first at None = None
 way_on rest first at (Some next) =

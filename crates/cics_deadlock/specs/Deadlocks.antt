@@ -6,17 +6,17 @@ use Rattle.cics_dispatch.specs.Machine.{Machine}
 use Rattle.cics_dispatch.specs.Blockers.{blocker_of, label_at, number_of}
 use Rattle.cics_deadlock.specs.Circles.{Graph, circles, IsCircle}
 
--- the number of the task for which the task of a number has to wait now
+-- the number of the task that blocks the task of a number now
 abbrev pub blocker_at : Machine → ℕ → Option ℕ
 blocker_at m number =
     option_and_then (number_of m.tasks) (option_and_then (blocker_of m) (label_at m.tasks number))
 
--- for whom the tasks below a number have to wait
+-- the blockers of the tasks below a number
 abbrev pub waits_below : Machine → ℕ → Graph
 waits_below m zero = []
 waits_below m (suc n) = waits_below m n ++ blocker_at m n ∷ []
 
--- for whom each task has to wait
+-- the blocker of each task
 abbrev pub waits_of : Machine → Graph
 waits_of m = waits_below m (length m.tasks)
 

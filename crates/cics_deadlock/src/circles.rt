@@ -1,4 +1,4 @@
-//! The circles of a graph in which each task waits for one other at most.
+//! The circles of a graph in which each task waits for at most one other.
 
 ghost use Rattle.std.specs.Prelude.{◌≡◌, IfOk};
 ghost use Rattle.cics_deadlock.specs.Circles.{next_of, waiting_count, way_back, circles};
@@ -6,14 +6,14 @@ ghost use Rattle.cics_deadlock.specs.Circles.{next_of, waiting_count, way_back, 
 use cics_names::{Items, NoMemory};
 use std::alloc::Global;
 
-// Returns whom a task waits for, if it waits.
+// Returns the task that a task waits for, if it waits.
 fn next_of(waits_for: &[Option<usize>], at: usize) -> Option<usize>
     ensures { result ≡ next_of waits_for.now at }
 {
     *waits_for.get(at)?
 }
 
-// Returns the circle whose least number is `first`, if there is one of `most` tasks at most.
+// Returns the circle whose least number is `first`, if there is one of at most `most` tasks.
 fn circle_from(
     alloc: Global,
     waits_for: &[Option<usize>],
@@ -42,8 +42,8 @@ fn circle_from(
 
 /// Returns the circles of a graph, each once, in the order of their first tasks.
 ///
-/// `waits_for` has for each task, by its number, the number of the task that it waits for, and
-/// `most` is the number of tasks that wait.
+/// `waits_for` has for each task, by its number, the number of the task that it waits for. `most`
+/// is the number of tasks that wait.
 ///
 /// Cost: O(w * w), w the number of tasks that wait, beside O(tasks).
 pub fn circles(

@@ -19,7 +19,7 @@ fn blocker_at(region: &Region, number: usize) -> Option<usize>
     region.number(&blocker)
 }
 
-// Whether the task of a number waits for another one.
+// Returns whether the task of a number waits for another one.
 #[tactic(auto, using(crate::proofs::Told::next_is))]
 fn is_blocked(region: &Region, number: usize) -> bool
     ensures { result ≡ is_some (next_of (waits_of region.now.machine) number) }
@@ -42,7 +42,7 @@ pub fn waiting_count(region: &Region) -> usize
     count
 }
 
-// For each task, by its number, the number of the one for which it has to wait now.
+// Returns for each task, by its number, the number of the task that blocks it now.
 fn waits_of(alloc: Global, region: &Region) -> Result<Items<Option<usize>>, NoMemory>
     ensures { IfOk result (λ waits. waits ≡ waits_of region.now.machine) }
 {
@@ -53,7 +53,7 @@ fn waits_of(alloc: Global, region: &Region) -> Result<Items<Option<usize>>, NoMe
     Ok(waits)
 }
 
-// The circles of tasks that wait for each other, by their numbers.
+// Returns the circles of tasks that wait for each other, by their numbers.
 fn circles_of(alloc: Global, region: &Region) -> Result<Items<Items<usize>>, NoMemory>
     ensures { IfOk result (λ found. found ≡ circles (waits_of region.now.machine)) }
 {
@@ -61,7 +61,7 @@ fn circles_of(alloc: Global, region: &Region) -> Result<Items<Items<usize>>, NoM
     circles(alloc, waits.as_slice(), waiting_count(region))
 }
 
-// The labels of tasks.
+// Returns the labels of tasks.
 fn labels_of(alloc: Global, region: &Region, numbers: &[usize]) -> Result<Items<Name8>, NoMemory>
     ensures { IfOk result (λ labels. labels ≡ labels_of region.now.machine numbers.now) }
 {
@@ -74,7 +74,7 @@ fn labels_of(alloc: Global, region: &Region, numbers: &[usize]) -> Result<Items<
     Ok(labels)
 }
 
-// The labels of the tasks of circles.
+// Returns the labels of the tasks of circles.
 fn all_labels_of(
     alloc: Global,
     region: &Region,

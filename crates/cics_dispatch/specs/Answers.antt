@@ -1,5 +1,5 @@
--- How a call answers its step: just so, or, where it may want memory, by NoMemory, and then nothing has changed. And what
--- a region lists.
+-- How a call answers its step: by the step's answer, or, if it may take memory, by NoMemory, which
+-- changes nothing. And what a region lists.
 use Rattle.std.specs.Prelude.{◌≡◌, Bool, true, false, not, ◌&&◌, if◌then◌else◌, IsTrue, Option, Some, None, is_some, is_none, Result, Ok, Err, map, filter, List, []}
 use Rattle.cics_names.specs.Keyed.{Bytes}
 use Rattle.cics_history.specs.Headline.{IsHeadline}
@@ -18,7 +18,8 @@ use Rattle.cics_names.specs.declared.commands.Verb.TheVariants.{Unlock, ResetBr,
 use Rattle.cics_dispatch.specs.declared.outcomes.Refused.{Refused}
 use Rattle.cics_dispatch.specs.declared.outcomes.Refused.TheVariants.{NoMemory}
 
--- the verbs that take memory: all but those that only give something up, and RESETBR, which moves a browse that is there
+-- the verbs that take memory: all but those that only release something, and RESETBR, which moves
+-- an open browse
 abbrev pub is_growing : Verb → Bool
 is_growing (Unlock f) = false
 is_growing (ResetBr f key given generic equal) = false
@@ -30,7 +31,7 @@ is_growing Return = false
 is_growing (Abend code) = false
 is_growing _ = true
 
--- an attach may want memory where it isn't refused
+-- an attach may take memory if it isn't refused
 abbrev pub attach_may_want : Machine → Bytes → Bool
 attach_may_want m label = is_none (attach_refusal m label)
 
@@ -39,12 +40,12 @@ abbrev pub passes_checks : Machine → Verb → Option Task → Bool
 passes_checks m verb None = false
 passes_checks m verb (Some t) = is_none (fault_of m t verb)
 
--- a command may want memory where it isn't refused, it is one that takes memory, and its checks have passed
+-- a command may take memory if it isn't refused, its verb does, and its checks have passed
 abbrev pub may_want : Machine → Bytes → Command → Bool
 may_want m label c = is_none (issue_refusal m (task_at m.tasks label)) && is_growing c.verb && passes_checks m c.verb (task_at m.tasks label)
 
--- a call answers its step and leaves the step's state; or where it may want memory, it is refused for want of it, and
--- any refusal leaves the region as it was
+-- a call answers its step and leaves the step's state, or returns NoMemory if it may take memory;
+-- an error leaves the region as it was
 abbrev pub IsStep : {X : Type 0} → Bool → RegionValue → Stepped (Result X Refused) → Result X Refused → RegionValue → Type 0
 IsStep wants old s (Ok x) new = (s.outcome ≡ Ok x) × (new.machine ≡ s.machine)
 IsStep wants old s (Err NoMemory) new = IsTrue wants × (new ≡ old)
@@ -54,8 +55,8 @@ IsStep wants old s (Err e) new = (s.outcome ≡ Err e) × (new ≡ old)
 abbrev pub always : {X : Type 0} → Stepped X → Stepped (Result X Refused)
 always s = record { outcome = Ok s.outcome; machine = s.machine }
 
--- the headline holds of a region: its store is the replay of the kept history, each kept entry has the answer that its place
--- gives, and a backed-out unit whose entries are the last ones left no trace
+-- the headline holds of a region: its store is the replay of the surviving entries, which gives
+-- each of them its answer; a backed-out unit whose entries are the last left no trace
 pub record IsHeadlineRegion (r : RegionValue) : Type 0 where
   pub headline : IsHeadline (record { state = r.machine.units; store = r.store })
 
@@ -81,6 +82,6 @@ region_listing r = record (listing_of r.machine.units.opening r.store) { tasks =
 abbrev pub without_tasks : Listing → Listing
 without_tasks listing = record listing { tasks = [] }
 
--- the listing of what replaying the kept history gives, without tasks
+-- the listing that a replay of the surviving entries gives, without tasks
 abbrev pub replayed_listing : RegionValue → Listing
 replayed_listing r = listing_of r.machine.units.opening (store_of r.machine.units)

@@ -1,4 +1,4 @@
--- Task control: the unit of a task, and the task for which a waiting command has to wait now.
+-- Task control: the unit of a task, and the task whose unit blocks a waiting command now.
 use Rattle.std.specs.Prelude.{ℕ, suc, if◌then◌else◌, Option, Some, None, option_map, slice_get, List, [], ◌∷◌}
 use Rattle.cics_names.specs.Keyed.{Bytes, is_same}
 use Rattle.cics_names.specs.declared.commands.Command.{Command}
@@ -15,17 +15,17 @@ waiting_command m label = option_map (λ w. w.command) (wait_of m.waiting label)
 abbrev pub unit_of : Machine → Bytes → Option ℕ
 unit_of m label = had_by own_unit (task_at m.tasks label)
 
--- the unit for which a command of a task has to wait now, if it waits
+-- the unit that blocks a command of a task now, if the command waits
 abbrev pub awaited_of : Machine → Option Suspended → Option Task → Option ℕ
 awaited_of m None t = None
 awaited_of m (Some w) None = None
 awaited_of m (Some w) (Some t) = awaited_by m.units t.unit w.command.verb w.op
 
--- the unit for which the waiting command of a label's task has to wait now
+-- the unit that blocks the waiting command of a label's task now
 abbrev pub awaited_at : Machine → Bytes → Option ℕ
 awaited_at m label = awaited_of m (wait_of m.waiting label) (task_at m.tasks label)
 
--- the label of the task that has this unit: the task for which a label's task has to wait now
+-- the label of the task whose unit blocks the waiting command of a label's task now
 abbrev pub blocker_of : Machine → Bytes → Option Bytes
 blocker_of m label = option_map (label_of m.tasks) (awaited_at m label)
 

@@ -6,17 +6,18 @@ use Rattle.cics_browse.specs.Positions.{Position}
 use Rattle.cics_browse.specs.contracts.browses.Browse.{the_row as the_browse_row}
 use Rattle.cics_dispatch.specs.contracts.browses.Browses.{the_row}
 
--- the browses with the one of a file at another position, if it is open
+-- the browses, with that of a file at another position, if it is open
 abbrev pub moved : Bytes → Position → Option Position → Map Position → Map Position
 moved file p None browses = browses
 moved file p (Some q) browses = with_value file p browses
 
--- the browses end with the position that was left, and as they were where it is the one that was there
+-- the browses have the position that was left, and are as they were if that is the position that
+-- was there
 pub record IsMoved (file : Bytes) (browses : Map Position) (p : Position) (left : Map Position) : Type 0 where
   pub moved : left ≡ moved file p (value_at file browses) browses
   pub same : value_at file browses ≡ Some p → left ≡ browses
 
--- a browse of the browses is lent; without one of the file they stay as they were
+-- a browse of a file is lent; without one the browses stay as they were
 abbrev pub LendsBrowse : MutBor (Map Position) → Bytes → Option (MutBor Position) → Fml
 LendsBrowse browses file lent =
     LendsSo the_row the_browse_row browses lent (λ left p. IsMoved file browses.now p left) (λ left. left ≡ browses.now)

@@ -1,4 +1,4 @@
--- Words of the clauses on calls: what is said of the task at a place, and of a step of it.
+-- Words of the clauses on calls: what holds of the task at an index, and of a step of it.
 use Rattle.std.specs.Prelude.{◌≡◌, ◌≤◌, ℕ, Bool, true, false, Option, Some, None, is_some, IfSome, length, slice_get, List, Result, Ok, Err}
 use Rattle.cics_names.specs.Keyed.{Bytes, value_at}
 use Rattle.cics_names.specs.declared.records.NoMemory.{NoMemory}
@@ -21,13 +21,13 @@ use Rattle.cics_dispatch.specs.declared.outcomes.Outcome.{Outcome}
 use Rattle.cics_dispatch.specs.declared.outcomes.Attempt.{Attempt}
 use Rattle.cics_dispatch.specs.declared.outcomes.Attempt.TheVariants.{Told, MustWait}
 
--- ---- The task at a place
+-- ---- The task at an index
 
--- something holds of the task at a place, if one is there
+-- something holds of the task at an index, if one is there
 abbrev pub OfTask : List Task → ℕ → (Task → Type 0) → Type 0
 OfTask ts at P = (t : Task) → slice_get ts at ≡ Some t → P t
 
--- tasks are as they were, but that the task at the place is changed so
+-- the tasks are as they were, but that at the index is changed so
 abbrev pub HasChanged : List Task → ℕ → (Task → Task) → List Task → Type 0
 HasChanged ts at change new = OfTask ts at (λ t. new ≡ replaced ts (change t))
 
@@ -39,12 +39,12 @@ IsAwake m at = OfTask m.tasks at (λ t. is_waiting m.waiting t.label ≡ false)
 abbrev pub HasBrowse : Machine → ℕ → Bytes → Type 0
 HasBrowse m at file = OfTask m.tasks at (λ t. is_some (value_at file t.browses) ≡ true)
 
--- what a command of the task goes on with is ready
+-- a command of the task is ready
 abbrev pub HasReady : Machine → ℕ → Verb → Option Op → Type 0
 HasReady m at verb o = OfTask m.tasks at (λ t. IsReady m.units t.unit verb o)
 
--- the task may perform a command: none of its commands waits, and this one passes its checks; an updating command that it
--- asks for has a key of no more bytes than a key may have
+-- the task may perform a command: none of its commands waits, and this one passes its checks; its
+-- updating command, if any, has a key of at most 255 bytes
 pub record MayPerform (m : Machine) (at : ℕ) (verb : Verb) : Type 0 where
   pub awake : IsAwake m at
   pub passed : OfTask m.tasks at (λ t. fault_of m t verb ≡ None)
@@ -56,9 +56,9 @@ reads_or_unlocks (Read f key given n generic gteq update) = true
 reads_or_unlocks (Unlock f) = true
 reads_or_unlocks _ = false
 
--- ---- A step of the task at a place
+-- ---- A step of the task at an index
 
--- what a region keeps it keeps
+-- a call keeps the invariant of a region
 abbrev pub KeepsRegion : RegionValue → RegionValue → Type 0
 KeepsRegion old new = IsRegionKept old → IsRegionKept new
 
@@ -67,7 +67,7 @@ abbrev pub IsStepOf : RegionValue → ℕ → (Task → Stepped Outcome) → Out
 IsStepOf old at step outcome new =
     OfTask old.machine.tasks at (λ t. with_outcome outcome new.machine ≡ step t) × KeepsRegion old new
 
--- a call makes a step of the task; or it is refused for want of memory, and the region is as it was
+-- a call makes a step of the task, or returns NoMemory and leaves the region as it was
 abbrev pub IsStepOrRefused : RegionValue → ℕ → (Task → Stepped Outcome) → Result Outcome NoMemory → RegionValue → Type 0
 IsStepOrRefused old at step (Ok outcome) new = IsStepOf old at step outcome new
 IsStepOrRefused old at step (Err e) new = new ≡ old
@@ -87,7 +87,7 @@ reading_on m resp file limit direction t =
     let records = records_in m file in
     browsed m t resp file limit (value_at file t.browses) (read_on direction records) (after_read_on direction records)
 
--- a command of the task, from the look at what other units hold on, as a step of it
+-- a command of the task, from the look at what other units hold, as a step of it
 abbrev pub going_on : Machine → Command → Option Op → Task → Stepped Outcome
 going_on m c o t = by_op m t c o
 
@@ -95,8 +95,8 @@ going_on m c o t = by_op m t c o
 abbrev pub waiting_for : Machine → Command → Option Op → ℕ → Task → Stepped Outcome
 waiting_for m c o holder t = made_to_wait m t c o holder (busy_of c.verb)
 
--- what comes of trying a command of the task: it is told what its step answers; or it must wait for an open unit, and what it
--- asked for comes back, or it is refused for want of memory, and then the region is as it was
+-- a trial of a command of the task: it is told what its step answers; or an open unit blocks it,
+-- and what it asked for comes back; or it returns NoMemory and leaves the region as it was
 abbrev pub IsAttempt : RegionValue → ℕ → Command → Option Op → Result Attempt NoMemory → RegionValue → Type 0
 IsAttempt old at c o (Ok (Told outcome)) new = IsStepOf old at (going_on old.machine c o) outcome new
 IsAttempt old at c o (Ok (MustWait holder back)) new =

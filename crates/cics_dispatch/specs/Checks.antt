@@ -1,6 +1,7 @@
--- What is checked of a command before it looks at what other units hold. The order is: the file or queue that it names is
--- defined; the length of its key; the length of its FROM or RESOURCE; the update read and the browse of its task; the key
--- in its record. The first check that fails is answered, and takes no memory.
+-- The checks of a command before it looks at what other units hold. The order is: the file or queue
+-- that it names is defined; the length of its key; the length of its FROM or RESOURCE; the update
+-- read and the browse of its task; the key in its record. The first check that fails is answered,
+-- and takes no memory.
 use Rattle.std.specs.Prelude.{ℕ, Bool, not, ◌&&◌, ◌||◌, Option, Some, None, is_some, is_none, nat_le, length, [], ◌∷◌}
 use Rattle.cics_names.specs.Commands.{file_named}
 use Rattle.cics_names.specs.Keyed.{Bytes, value_at, has_key}
@@ -35,7 +36,8 @@ resource_fault value n = fault_unless (nat_le 1 n && nat_le n 255 && nat_le n (l
 abbrev pub open_key : Machine → Task → Bytes → Option Bytes
 open_key m t f = has_read m.units t.unit f
 
--- READ UPDATE goes with neither GTEQ nor GENERIC; its key's length; no second update read of the file
+-- READ UPDATE goes with neither GTEQ nor GENERIC; its key's length; no second update read of the
+-- file
 abbrev pub read_fault : FileDef → Option Bytes → Bytes → Option ℕ → Bool → Bool → Bool → Option Condition
 read_fault d open_read key given generic gteq update =
     first_fault (
@@ -45,7 +47,8 @@ read_fault d open_read key given generic gteq update =
     ∷ []
     )
 
--- REWRITE: the length of its record, then an update read that is open, then the key that was read is the key in the record
+-- REWRITE: the length of its record; an update read that is open; the key in the record is the one
+-- that was read
 abbrev pub rewrite_fault : FileDef → Option Bytes → Bytes → Option ℕ → Option Condition
 rewrite_fault d None from n = first_fault (from_fault d from n ∷ Some Invreq ∷ [])
 rewrite_fault d (Some key) from n = first_fault (from_fault d from n ∷ own_key_fault d key from n ∷ [])
@@ -88,8 +91,8 @@ browsing_fault d browse (ReadPrev f n) = back_fault browse
 browsing_fault d browse (EndBr f) = browse_fault browse
 browsing_fault d browse _ = None
 
--- the first fault of a command on a file that is defined, from the key of the task's open update read of the file and its
--- browse of it
+-- the first fault of a command on a defined file, from the key of its open update read and the
+-- task's browse of it
 abbrev pub file_fault : FileDef → Option Bytes → Option Position → Verb → Option Condition
 file_fault d open_read browse (Read f key given n generic gteq update) =
     read_fault d open_read key given generic gteq update

@@ -1,24 +1,26 @@
--- The deadlines of waiting commands: the last clock at which a task hasn't waited too long, as the key of its note's place.
+-- The deadline of a waiting command: the last clock at which its task hasn't waited too long. It is
+-- the key at the index of its note.
 use Rattle.std.specs.Prelude.{◌≡◌, ℕ, ◌+◌, ◌-◌, ◌^◌, min, if◌then◌else◌, nat_lt, Option, Some, None, List, [], ◌∷◌}
 use Rattle.cics_dispatch.specs.declared.notes.Note.{Note}
 use Rattle.cics_dispatch.specs.Machine.{Task, Suspended, task_at}
 
--- the key of a task that waits without limit, and of a place without a note: no clock is above it
+-- the key of a task that waits without limit, and of an index without a note: no clock is above it
 abbrev pub never : ℕ
 never = 2 ^ 64 - 1
 
--- the last clock at which a task that has waited since then hasn't waited too long
+-- the last clock at which a task that began to wait then hasn't waited too long
 abbrev pub deadline_of : Task → ℕ → ℕ
 deadline_of t since = if nat_lt 0 t.dtimout then min (since + (t.dtimout - 1)) never else never
 
--- a note is that of a command's task, and its key is the deadline of that
+-- a note is that of a command's task, and its key is the task's deadline
 pub record IsDue (ts : List Task) (n : Note) (w : Suspended) (key : ℕ) : Type 0 where
   pub task : Task
   pub label : n.label ≡ w.label
   pub of_task : task_at ts w.label ≡ Some task
   pub deadline : key ≡ deadline_of task w.since
 
--- each command of a front of these has its note, in their order, and each note's place the deadline as its key
+-- each of the earliest of these commands has its note, in order, and the index of the note has its
+-- deadline
 abbrev pub AreDue : List Task → List (Option Note) → List Suspended → List ℕ → Type 0
 AreDue ts [] ws [] = Unit {0}
 AreDue ts (None ∷ ns) ws (k ∷ ks) = (k ≡ never) × AreDue ts ns ws ks

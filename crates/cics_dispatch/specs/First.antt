@@ -1,12 +1,12 @@
--- The first of the waiting commands, in the order in which the waits began: the one that goes on, and the one whose task's time
--- is over.
+-- The earliest waiting commands: the first that may resume, and the first whose task has waited too
+-- long.
 use Rattle.std.specs.Prelude.{◌≡◌, Bool, true, false, List, ◌∷◌, ◌++◌}
 use Rattle.std.specs.List.{list_any}
 use Rattle.cics_names.specs.Keyed.{Bytes}
 use Rattle.cics_dispatch.specs.Machine.{Machine, Suspended, task_at}
 use Rattle.cics_dispatch.specs.Waking.{may_go_on, is_late}
 
--- of these commands the one of a label's task is the first for which something holds: it holds of none before it
+-- the command of a label's task is the first of these for which a test holds
 pub record IsFirstFor (holds : Suspended → Bool) (waits : List Suspended) (label : Bytes) : Type 0 where
   pub before : List Suspended
   pub wait : Suspended
@@ -16,7 +16,7 @@ pub record IsFirstFor (holds : Suspended → Bool) (waits : List Suspended) (lab
   pub this : holds wait ≡ true
   pub none_before : list_any holds before ≡ false
 
--- the command of a label's task is the first that needn't wait any more
+-- the command of a label's task is the first that may resume
 abbrev pub IsFirstToGoOn : Machine → Bytes → Type 0
 IsFirstToGoOn m label = IsFirstFor (λ w. may_go_on m w (task_at m.tasks w.label)) m.waiting label
 

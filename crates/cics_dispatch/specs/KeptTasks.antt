@@ -10,19 +10,20 @@ use Rattle.cics_dispatch.specs.Machine.{Machine, Task, Suspended, task_at}
 use Rattle.cics_dispatch.specs.Checks.{resource_fault}
 use Rattle.cics_dispatch.specs.Tasks.{own_label, own_unit, IsOwn}
 
--- what a command that may have to wait goes on with is ready: the updating command that it asks for can be executed once it
--- needn't wait, or as of an ENQ its value has a right LENGTH
+-- a command that may have to wait is ready: its updating command can be executed once nothing
+-- blocks it, or it is an ENQ whose LENGTH is right
 abbrev pub IsReady : UnitsState → Option ℕ → Verb → Option Op → Type 0
 IsReady s asking verb (Some o) = is_ready_op s asking o ≡ true
 IsReady s asking (Enq value n nosuspend) None = resource_fault value n ≡ None
 IsReady s asking _ None = ⊥
 
--- a waiting command is one of a task, and what it goes on with is ready
+-- a waiting command is of a task, and is ready
 pub record IsWaitKept (m : Machine) (w : Suspended) : Type 0 where
   pub of_task : is_some (task_at m.tasks w.label) ≡ true
   pub ready : (t : Task) → task_at m.tasks w.label ≡ Some t → IsReady m.units t.unit w.command.verb w.op
 
--- no two tasks have one label or one unit, a task's unit is open, and what the waiting commands go on with is ready
+-- no two tasks have one label or one unit, a task's unit is open, and the waiting commands are
+-- ready
 pub record AreTasksKept (m : Machine) : Type 0 where
   pub labels : IsOwn own_label m.tasks
   pub owners : IsOwn own_unit m.tasks

@@ -1,4 +1,5 @@
--- File control: what is checked of the key, of KEYLENGTH and of LENGTH with FROM before a command touches its file.
+-- File control: the checks of the key, of KEYLENGTH and of LENGTH with FROM, before a command
+-- touches its file.
 use Rattle.std.specs.Prelude.{ℕ, ◌==◌, Bool, true, false, ◌&&◌, if◌then◌else◌, Option, Some, None, nat_le, take, length, List, [], ◌∷◌}
 use Rattle.cics_names.specs.Keyed.{Bytes, is_same}
 use Rattle.cics_names.specs.declared.conditions.Condition.{Condition}
@@ -16,7 +17,7 @@ first_fault [] = None
 first_fault (None ∷ rest) = first_fault rest
 first_fault (Some condition ∷ rest) = Some condition
 
--- KEYLENGTH, where it is given, is the length of the key as written
+-- KEYLENGTH, if it is given, is the length of the key as written
 abbrev pub is_length_given : Option ℕ → ℕ → Bool
 is_length_given None n = true
 is_length_given (Some given) n = given == n
@@ -39,11 +40,13 @@ abbrev pub used_of : Bytes → Option ℕ → Bytes
 used_of from None = from
 used_of from (Some n) = take n from
 
--- a record that LENGTH overruns, that is shorter than its key reaches or longer than the record size is LENGERR
+-- a record is LENGERR if LENGTH overruns it, it is too short for its key, or it is longer than the
+-- record size
 abbrev pub from_fault : FileDef → Bytes → Option ℕ → Option Condition
 from_fault d from n = fault_unless (is_within from n && fits_file d (used_of from n)) Lengerr
 
--- the key that RIDFLD of a WRITE gives, or that was read before a REWRITE, is the key in the record, else INVREQ
+-- the key of a WRITE's RIDFLD, or that was read before a REWRITE, is the key in the record, else
+-- INVREQ
 abbrev pub own_key_fault : FileDef → Bytes → Bytes → Option ℕ → Option Condition
 own_key_fault d key from n = fault_unless (is_same (key_of d (used_of from n)) key) Invreq
 

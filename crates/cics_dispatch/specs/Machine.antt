@@ -1,5 +1,5 @@
--- Task control (chapters on task control and on recovery): the state of a region, its tasks, and the ends of their units
--- of work.
+-- Task control (chapters on task control and on recovery): the state of a region, its tasks, and
+-- the ends of their units of work.
 use Rattle.std.specs.Prelude.{ℕ, ◌==◌, Bool, true, false, not, if◌then◌else◌, Option, Some, None, option_map, unwrap_or, filter, List, [], ◌∷◌}
 use Rattle.cics_names.specs.Keyed.{Bytes, Map, value_at, is_same}
 use Rattle.cics_names.specs.declared.conditions.AbendCode.{AbendCode}
@@ -13,8 +13,8 @@ use Rattle.cics_history.specs.declared.ops.UnitState.{UnitState}
 use Rattle.cics_history.specs.declared.ops.UnitState.TheVariants.{BackedOut}
 use Rattle.cics_names.specs.declared.commands.Command.{Command}
 
--- a task: its label, the seconds that it may wait (0: without limit), its open unit of work if it has one, its browses by
--- file, and whether it has ended
+-- a task: its label, the seconds that it may wait (0 for no limit), its open unit of work, its
+-- browses by file, and whether it has ended
 pub record Task : Type 0 where
   pub label : Bytes
   pub dtimout : ℕ
@@ -22,16 +22,16 @@ pub record Task : Type 0 where
   pub browses : Map Position
   pub has_ended : Bool
 
--- a command that waits: its task, the command whole, the updating command that it asks for, if it asks for one, and the
--- clock when the wait began
+-- a waiting command: its task, the command whole, the updating command that it asks for, if any,
+-- and the clock when the wait began
 pub record Suspended : Type 0 where
   pub label : Bytes
   pub command : Command
   pub op : Option Op
   pub since : ℕ
 
--- a region: its units, its tasks in the order of attach, its waiting commands in the order in which the waits began, the
--- clock in seconds, and whether the region is shut down
+-- a region: its units, its tasks in the order of attach, its waits in the order in which they
+-- began, the clock in seconds, and whether it is shut down
 pub record Machine : Type 0 where
   pub units : UnitsState
   pub tasks : List Task
@@ -39,7 +39,7 @@ pub record Machine : Type 0 where
   pub clock : ℕ
   pub is_down : Bool
 
--- a region as callers see it: the machine, and the store that its files and queues themselves hold
+-- a region as callers see it: the machine, and the store that its files and queues hold
 pub record RegionValue : Type 0 where
   pub machine : Machine
   pub store : Store
@@ -53,7 +53,7 @@ abbrev pub task_at : List Task → Bytes → Option Task
 task_at [] label = None
 task_at (t ∷ ts) label = if is_same t.label label then Some t else task_at ts label
 
--- the tasks with one in the place of the task of its label
+-- the tasks, with the task of a label replaced
 abbrev pub replaced : List Task → Task → List Task
 replaced [] t = []
 replaced (u ∷ us) t = if is_same u.label t.label then t ∷ us else u ∷ replaced us t
@@ -63,7 +63,7 @@ abbrev pub is_waiting : List Suspended → Bytes → Bool
 is_waiting [] label = false
 is_waiting (w ∷ ws) label = if is_same w.label label then true else is_waiting ws label
 
--- the waiting commands but the one of the label's task
+-- the waiting commands without that of the label's task
 abbrev pub not_waiting : List Suspended → Bytes → List Suspended
 not_waiting ws label = filter (λ w. not (is_same w.label label)) ws
 
@@ -77,7 +77,7 @@ abbrev pub label_of : List Task → ℕ → Bytes
 label_of [] u = []
 label_of (t ∷ ts) u = if is_unit t.unit u then t.label else label_of ts u
 
--- the region with a task in the place of the one of its label
+-- the region, with the task of a label replaced
 abbrev pub with_task : Machine → Task → Machine
 with_task m t = record m { tasks = replaced m.tasks t }
 
@@ -102,8 +102,8 @@ abbrev pub units_after : UnitsState → Option ℕ → UnitState → UnitsState
 units_after s None outcome = s
 units_after s (Some u) outcome = after_end s u outcome
 
--- the end of a task's unit: it is committed or backed out, and every browse of the task ends with it, also where the task
--- has no unit; has_ended tells whether the task ends too
+-- the end of a task's unit, if it has one, by a commit or a backout; every browse of the task ends
+-- too, and if has_ended the task
 abbrev pub unit_closed : Machine → Task → UnitState → Bool → Machine
 unit_closed m t outcome has_ended =
     with_task (with_units m (units_after m.units t.unit outcome)) (record t { unit = None; browses = []; has_ended = has_ended })

@@ -1,4 +1,4 @@
--- What is known of the commands that wait: for which unit each has to wait as long as that gives nothing up.
+-- What is known of the waiting commands: the blocker of each, and the deadline of its task.
 use Rattle.std.specs.Prelude.{◌≡◌, ◌<◌, ◌≤◌, ◌⊎◌, ℕ, suc, length, Bool, true, false, if◌then◌else◌, Option, Some, None, is_some, unwrap_or, take, List, [], ◌∷◌, All, slice_get, slice_set}
 use Rattle.std.specs.List.{list_any}
 use Rattle.cics_names.specs.Keyed.{Bytes}
@@ -15,38 +15,38 @@ use Rattle.cics_dispatch.specs.Waking.{may_go_on, first_free}
 use Rattle.cics_dispatch.specs.Settled.{reads_queue, needed_by, IsBlocked, IsInTime}
 use Rattle.cics_dispatch.specs.Deadlines.{never, AreDue}
 
--- the notes of a front of the waiting commands, in their order, with the places of those that wait no more; and of each
--- line the resource that its commands use and nothing else, and the unit that they have to wait for, if it is known; and of
--- each place the deadline
+-- the notes of the earliest waiting commands, in order, None for a command that waits no more; for
+-- each wait group, a line, the one resource that its commands use, and its blocker, if known; for
+-- each index the deadline
 pub record NotesValue : Type 0 where
   pub rows : List (Option Note)
   pub resources : List Resource
   pub blockers : List (Option ℕ)
   pub deadlines : List ℕ
 
--- the unit of a line, if it is known
+-- the blocker of a wait group, if it is known
 abbrev pub of_line : List (Option ℕ) → ℕ → Option ℕ
 of_line bs g = unwrap_or (slice_get bs g) None
 
--- the unit that a command has to wait for, if it is known: its line's, or its own where it is in none
+-- the known blocker of a command: its wait group's, or its own if it is in none
 abbrev pub blocker_by : List (Option ℕ) → Option ℕ → Option ℕ → Option ℕ
 blocker_by bs None own = own
 blocker_by bs (Some g) own = of_line bs g
 
--- and so of the command of a note
+-- the known blocker of a note's command
 abbrev pub blocker_in : List (Option ℕ) → Note → Option ℕ
 blocker_in bs n = blocker_by bs n.line n.blocker
 
--- a unit that is known, once a unit, if there is one, may have given something up
+-- a known blocker, after a unit, if one is given, may have released something
 abbrev pub given_up : Option ℕ → Option ℕ → Option ℕ
 given_up None b = b
 given_up (Some u) b = if is_unit b u then None else b
 
--- what a note says then
+-- a note, after a unit may have released something
 abbrev pub given_note : Option ℕ → Note → Note
 given_note unit n = record n { blocker = given_up unit n.blocker }
 
--- and the note at a place
+-- the note at an index, if there is one, after a unit may have released something
 abbrev pub forgotten : Option ℕ → Option Note → Option Note
 forgotten unit None = None
 forgotten unit (Some n) = Some (given_note unit n)
@@ -55,11 +55,11 @@ forgotten unit (Some n) = Some (given_note unit n)
 abbrev pub new_note : Bytes → Note
 new_note label = record { label = label; line = None; blocker = None }
 
--- a note of a command that has to wait for a unit, in no line
+-- a note of a command with a blocker, in no wait group
 abbrev pub alone : ℕ → Note → Note
 alone u n = record { label = n.label; line = None; blocker = Some u }
 
--- a note of a command in a line
+-- a note of a command in a wait group
 abbrev pub in_line : ℕ → Note → Note
 in_line g n = record { label = n.label; line = Some g; blocker = None }
 
@@ -69,19 +69,19 @@ count [] = 0
 count (None ∷ ns) = count ns
 count (Some n ∷ ns) = suc (count ns)
 
--- no command has to be looked at
+-- no command must be looked at
 abbrev pub AreClosed : List (Option ℕ) → List (Option Note) → Type 0
 AreClosed bs [] = Unit {0}
 AreClosed bs (None ∷ ns) = AreClosed bs ns
 AreClosed bs (Some n ∷ ns) = (is_some (blocker_in bs n) ≡ true) × AreClosed bs ns
 
--- the first of these notes whose command has to be looked at stands at a place
+-- the note at an index is the first whose command must be looked at
 pub record IsOpenAt (rows : List (Option Note)) (bs : List (Option ℕ)) (at : ℕ) (n : Note) : Type 0 where
   pub there : slice_get rows at ≡ Some (Some n)
   pub open_yet : blocker_in bs n ≡ None
   pub before : AreClosed bs (take at rows)
 
--- the first command that has to be looked at is the one of the note at a place
+-- the first command that must be looked at is that of the note at an index
 pub record IsFirstOpen (v : NotesValue) (at : ℕ) (n : Note) : Type 0 where
   pub there : slice_get v.rows at ≡ Some (Some n)
   pub open_yet : blocker_in v.blockers n ≡ None
@@ -92,63 +92,63 @@ pub record IsFirstOpen (v : NotesValue) (at : ℕ) (n : Note) : Type 0 where
 abbrev pub HasNone : Bytes → List (Option Note) → Type 0
 HasNone label ns = (i : ℕ) (n : Note) → slice_get ns i ≡ Some (Some n) → n.label ≡ label → ⊥
 
--- a place is that of the note of a label, if there is one
+-- the index is that of the note of a label, or there is no such note
 abbrev pub IsPlaceOf : Bytes → List (Option Note) → Option ℕ → Type 0
 IsPlaceOf label ns None = HasNone label ns
 IsPlaceOf label ns (Some at) = (n : Note) × (slice_get ns at ≡ Some (Some n)) × (n.label ≡ label)
 
--- the notes but the one at a place, if a place is given
+-- the notes without the one at an index, if one is given
 abbrev pub without : List (Option Note) → Option ℕ → List (Option Note)
 without ns None = ns
 without ns (Some at) = slice_set ns at None
 
--- and the deadlines
+-- the deadlines without the one at an index, if one is given
 abbrev pub without_deadline : List ℕ → Option ℕ → List ℕ
 without_deadline ks None = ks
 without_deadline ks (Some at) = slice_set ks at never
 
--- a note stands at a place, and a deadline
+-- an index has a note, and a deadline
 pub record IsNoteAt (v : NotesValue) (at : ℕ) : Type 0 where
   pub note : Note
   pub there : slice_get v.rows at ≡ Some (Some note)
   pub timed : at < length v.deadlines
 
--- what had its place still has it
+-- each wait group keeps its resource
 pub record KeepsResources (old new : List Resource) : Type 0 where
   pub kept : (g : ℕ) (r : Resource) → slice_get old g ≡ Some r → slice_get new g ≡ Some r
 
--- the units of the lines are the same, and of a new line none is known
+-- each wait group keeps its blocker, and a new one has none
 pub record KeepsBlockers (old new : List (Option ℕ)) : Type 0 where
   pub kept : (g : ℕ) → of_line new g ≡ of_line old g
   pub long : length old ≤ length new
 
--- the command uses the resource of a line, and nothing else, and isn't READQ TD
+-- the command uses the resource of a wait group and nothing else, and isn't READQ TD
 pub record IsUse (o : OpeningState) (rs : List Resource) (w : Suspended) (g : ℕ) : Type 0 where
   pub resource : Resource
   pub there : slice_get rs g ≡ Some resource
   pub needed : needed_by o w.command.verb w.op ≡ resource ∷ []
   pub no_reader : reads_queue w.op ≡ false
 
--- a note is right: it has the label of the command's task, the command has to wait for the unit that is known, and uses
--- the resource of its line and nothing else
+-- a note is right: it has the label of the command's task, a blocker that is known blocks the
+-- command, which uses the resource of its wait group alone
 pub record IsNoted (m : Machine) (rs : List Resource) (bs : List (Option ℕ)) (n : Note) (w : Suspended) : Type 0 where
   pub label : n.label ≡ w.label
   pub blocked : (u : ℕ) → blocker_in bs n ≡ Some u → IsBlocked m u w
   pub use_of : (g : ℕ) → n.line ≡ Some g → IsUse m.units.opening rs w g
 
--- each command of a front of these has its note, in their order
+-- each of the earliest of these commands has its note, in order
 abbrev pub AreNoted : Machine → List Resource → List (Option ℕ) → List (Option Note) → List Suspended → Type 0
 AreNoted m rs bs [] ws = Unit {0}
 AreNoted m rs bs (None ∷ ns) ws = AreNoted m rs bs ns ws
 AreNoted m rs bs (Some n ∷ ns) [] = ⊥
 AreNoted m rs bs (Some n ∷ ns) (w ∷ ws) = IsNoted m rs bs n w × AreNoted m rs bs ns ws
 
--- each waiting command of a front of a region's has its note, and the note's place the deadline of its task
+-- each of a region's earliest waiting commands has its note, with the deadline of its task
 pub record AreNotedNow (m : Machine) (v : NotesValue) : Type 0 where
   pub noted : AreNoted m v.resources v.blockers v.rows m.waiting
   pub due : AreDue m.tasks v.rows m.waiting v.deadlines
 
--- each waiting command of a region has a note, and none has to be looked at
+-- each waiting command of a region has a note, and none must be looked at
 pub record AreSettled (m : Machine) (v : NotesValue) : Type 0 where
   pub closed : AreClosed v.blockers v.rows
   pub all : count v.rows ≡ length m.waiting
@@ -159,7 +159,7 @@ pub record AreSettled (m : Machine) (v : NotesValue) : Type 0 where
 abbrev pub OfWait : List Suspended → Bytes → (Suspended → Type 0) → Type 0
 OfWait ws label P = (i : ℕ) (w : Suspended) → slice_get ws i ≡ Some w → w.label ≡ label → P w
 
--- what a look finds is so
+-- what a look finds is true
 abbrev pub IsFound : Machine → Suspended → Look → Type 0
 IsFound m w MayGoOn = may_go_on m w (task_at m.tasks w.label) ≡ true
 IsFound m w (Blocked u) = IsBlocked m u w
@@ -170,44 +170,46 @@ pub record IsOnlyUse (r : Resource) (op : Op) : Type 0 where
       list_any p (uses_of o op) ≡ true → uses_of o op ≡ r ∷ []
   pub no_reader : reads_queue (Some op) ≡ false
 
--- and so does a waiting command
+-- a waiting command uses this resource and nothing else, if it uses any, and isn't READQ TD
 pub record IsOnlyNeed (r : Resource) (verb : Verb) (op : Option Op) : Type 0 where
   pub only : (o : OpeningState) (p : Resource → Bool) →
       list_any p (needed_by o verb op) ≡ true → needed_by o verb op ≡ r ∷ []
   pub no_reader : reads_queue op ≡ false
 
--- the command that waits of the task whose unit this is, if one does, isn't one of a line
+-- if a command waits of the task whose unit this is, it isn't one of the wait group
 abbrev pub OwnerIsElsewhere : Machine → List Resource → ℕ → ℕ → Type 0
 OwnerIsElsewhere m rs g u = (i : ℕ) (t : Task) → slice_get m.tasks i ≡ Some t → t.unit ≡ Some u →
     OfWait m.waiting t.label (λ w. IsUse m.units.opening rs w g → ⊥)
 
--- a unit may be noted of a line: it is already, or no waiting command of the line is of that unit's task
+-- a unit may be noted as a wait group's blocker: it is already, or none of the group waits of its
+-- task
 abbrev pub MayClose : Machine → List Resource → List (Option ℕ) → ℕ → ℕ → Type 0
 MayClose m rs bs g u = (of_line bs g ≡ Some u) ⊎ OwnerIsElsewhere m rs g u
 
--- the first of these commands that may go on is the one of a label's task
+-- the first of these commands that may resume is the one of a label's task
 pub record IsFirstFreeOf (m : Machine) (ws : List Suspended) (label : Bytes) : Type 0 where
   pub wait : Suspended
   pub first : first_free m ws ≡ Some wait
   pub own : wait.label ≡ label
 
--- the first of all waiting commands that may go on is the one of a label's task
+-- the first of all waiting commands that may resume is the one of a label's task
 abbrev pub IsFirstFree : Machine → Bytes → Type 0
 IsFirstFree m label = IsFirstFreeOf m m.waiting label
 
--- it has its note at a place
+-- the first command that may resume has its note at an index
 pub record IsFreeAt (m : Machine) (v : NotesValue) (at : ℕ) (label : Bytes) : Type 0 where
   pub note : Note
   pub there : slice_get v.rows at ≡ Some (Some note)
   pub own : note.label ≡ label
   pub first : IsFirstFree m label
 
--- a command of the label of a note uses the resource of a line and nothing else, as those of the note's line do
+-- a command of a note's label uses the resource of a wait group alone, if it so uses that of the
+-- note's group
 abbrev pub UseOf : Machine → List Resource → Note → ℕ → Type 0
 UseOf m rs n g = (w : Suspended) (i : ℕ) → slice_get m.waiting i ≡ Some w → w.label ≡ n.label →
     ((h : ℕ) → n.line ≡ Some h → IsUse m.units.opening rs w h) → IsUse m.units.opening rs w g
 
--- what a look leaves: right notes, as many, and where memory sufficed none up to the place has to be looked at
+-- what a look leaves: right notes, as many, and on success none up to the index must be looked at
 pub record IsLooked (m : Machine) (old new : NotesValue) (at : ℕ) (done : Bool) : Type 0 where
   pub noted : AreNotedNow m new
   pub closed : done ≡ true → AreClosed new.blockers (take (suc at) new.rows)
@@ -216,8 +218,8 @@ pub record IsLooked (m : Machine) (old new : NotesValue) (at : ℕ) (done : Bool
 
 -- ---- What is remembered
 
--- what is remembered of the last looks at the waiting commands: the notes are right; where they are settled each has one, and
--- none has to be looked at; where they are in time no task has waited too long
+-- what is remembered of the last looks: the notes are right; if settled, each waiting command has
+-- one and none must be looked at; if in time, no task has waited too long
 pub record IsRemembered (m : Machine) (v : NotesValue) (is_settled is_in_time : Bool) : Type 0 where
   pub noted : AreNotedNow m v
   pub settled : is_settled ≡ true → AreSettled m v

@@ -1,4 +1,4 @@
--- A region as it is kept: its machine, and the store of its units.
+-- A region as it is stored: its machine, and the store of its units.
 use Rattle.std.specs.Prelude.{ℕ, Bool, List}
 use Rattle.cics_history.specs.State.{UnitsValue}
 use Rattle.cics_dispatch.specs.Machine.{Task, Suspended, RegionValue}
@@ -6,7 +6,7 @@ use Rattle.cics_dispatch.specs.Answers.{IsHeadlineRegion, IsSerializableRegion}
 use Rattle.cics_dispatch.specs.KeptTasks.{AreTasksKept}
 use Rattle.cics_dispatch.specs.OwnedUnits.{AreUnitsOwned}
 
--- the region that these parts are
+-- the region of these parts
 abbrev pub region_of : UnitsValue → List Task → List Suspended → ℕ → Bool → RegionValue
 region_of units tasks waiting clock is_down =
     record { machine = record { units = units.state; tasks = tasks; waiting = waiting; clock = clock; is_down = is_down }; store = units.store }

@@ -26,11 +26,13 @@ abbrev pub cut_to : Option ℕ → Option Bytes → Option Bytes
 cut_to (Some n) content = option_map (λ bytes. take n bytes) content
 cut_to None content = content
 
--- a longer content than LENGTH is LENGERR, with its first bytes; the record counts as read all the same
+-- a longer content than LENGTH is LENGERR, with its first bytes; the record counts as read all the
+-- same
 abbrev pub cut : Option ℕ → Reply → Reply
 cut n r = if is_longer n r.content then record { condition = Lengerr; key = r.key; content = cut_to n r.content; number = r.number } else r
 
--- READ without UPDATE, of the least record not below the key: with GTEQ that one, else if it has the key, or with GENERIC the prefix
+-- READ without UPDATE, of the least record not below the key: with GTEQ that one, else if it has
+-- the key, or with GENERIC the prefix
 abbrev pub read_found : Bytes → Bool → Bool → Option (Bytes × Bytes) → Reply
 read_found key generic gteq None = plain Notfnd
 read_found key generic gteq (Some found) = if gteq || is_asked_for key generic found.0 then giving found.1 else plain Notfnd

@@ -1,4 +1,5 @@
--- Waiting commands that were looked at: whom they still have to wait for, and whether their tasks have waited too long.
+-- Waiting commands that were looked at: the blocker of each, and whether its task has waited too
+-- long.
 use Rattle.std.specs.Prelude.{◌≡◌, ℕ, ◌==◌, Bool, true, false, not, Option, Some, None, unwrap_or, List, [], ◌∷◌, take}
 use Rattle.std.specs.List.{list_any}
 use Rattle.std.proofs.Common.{◌⊎◌}
@@ -25,7 +26,7 @@ use Rattle.cics_dispatch.specs.declared.outcomes.Outcome.TheVariants.{Replied, W
 abbrev pub is_among : List ℕ → ℕ → Bool
 is_among units u = list_any (λ v. u == v) units
 
--- READQ TD, which may have to wait for a unit that holds nothing of what it uses: a writer of its queue
+-- READQ TD, which a unit may block that holds nothing of what it uses: a writer of its queue
 abbrev pub reads_queue : Option Op → Bool
 reads_queue (Some (TdRead q)) = true
 reads_queue o = false
@@ -36,41 +37,43 @@ needed_by o verb (Some op) = uses_of o op
 needed_by o (Enq value n nosuspend) None = User (bytes_of (take n value)) ∷ []
 needed_by o verb None = []
 
--- a unit holds something of this
+-- a unit holds a resource that conflicts with one of these
 abbrev pub holds_one : UnitsState → ℕ → List Resource → Bool
 holds_one s u rs = list_any (λ r. list_any (conflicts r) (held_by s u)) rs
 
--- a unit holds what keeps a command waiting
+-- a unit holds a resource that conflicts with what a command uses
 abbrev pub holds_back : UnitsState → ℕ → Verb → Option Op → Bool
 holds_back s u verb op = holds_one s u (needed_by s.opening verb op)
 
--- the records of a transient data queue, once the open units have ended so
+-- the records of a transient data queue, if the open units end so
 abbrev pub records_by : UnitsState → Outcomes → Bytes → List Bytes
 records_by s fin q = unwrap_or (value_at q (store_by s.opening fin s.trace).td) []
 
--- a task's own unit, if it has one, isn't backed out in an ending of the open units
+-- a task's own unit, if it has one, isn't backed out if the open units end so
 abbrev pub is_kept_in : Outcomes → Option ℕ → Bool
 is_kept_in fin None = true
 is_kept_in fin (Some u) = not (is_backed_out (fin u))
 
--- a unit has written to a LOGICAL queue, and however the open units end, without what it wrote there is no record for a task
--- whose unit isn't backed out
+-- a unit has written to a LOGICAL queue; if it is backed out and the task's own unit isn't, the
+-- queue has no record, however the other open units end
 pub record IsStarved (s : UnitsState) (own : Option ℕ) (u : ℕ) (q : Bytes) : Type 0 where
   pub logical : queue_logical s.opening q ≡ true
   pub writes : used s.trace u (Td q) Writing ≡ true
   pub nothing : (fin : Outcomes) → Extends (outcome_of s.outcomes) fin → is_backed_out (fin u) ≡ true →
       is_kept_in fin own ≡ true → records_by s fin q ≡ []
 
--- a READQ TD finds nothing as long as a unit isn't committed
+-- a READQ TD finds nothing as long as the unit isn't committed
 abbrev pub Starves : UnitsState → Option ℕ → ℕ → Option Op → Type 0
 Starves s own u (Some (TdRead q)) = IsStarved s own u q
 Starves s own u o = ⊥
 
--- a unit keeps a command waiting: it holds what the command uses, or is the writer of a queue with nothing to read
+-- a unit keeps a command waiting: it holds a conflicting resource, or is the writer of a queue that
+-- has nothing to read
 abbrev pub KeepsWaiting : UnitsState → Option ℕ → ℕ → Verb → Option Op → Type 0
 KeepsWaiting s own u verb op = (holds_back s u verb op ≡ true) ⊎ Starves s own u op
 
--- a waiting command has to wait for a unit: it is open, another than its task's, and keeps the command waiting
+-- a unit blocks a waiting command: it is open, isn't the unit of the command's task, and keeps it
+-- waiting
 pub record IsBlocked (m : Machine) (u : ℕ) (w : Suspended) : Type 0 where
   pub task : Task
   pub of_task : task_at m.tasks w.label ≡ Some task
@@ -78,8 +81,8 @@ pub record IsBlocked (m : Machine) (u : ℕ) (w : Suspended) : Type 0 where
   pub other : is_other task.unit u ≡ true
   pub keeps : KeepsWaiting m.units task.unit u w.command.verb w.op
 
--- a command ends no unit of work and no enqueue, and an update read only of a recoverable file, where the read itself holds
--- nothing: so its unit holds what it held, unless the task is abended
+-- a command releases nothing of its unit, unless the task is abended: it ends no unit of work,
+-- enqueue, or update read of an unrecoverable file
 abbrev pub is_keeping : OpeningState → Verb → Bool
 is_keeping o (Read f key given n generic gteq update) = true
 is_keeping o (Write f key given from n) = true
@@ -100,7 +103,7 @@ is_keeping o (DeleteqTd q) = true
 is_keeping o (Enq value n nosuspend) = true
 is_keeping o _ = false
 
--- the task was told a reply, or waits; it hasn't ended
+-- the task was told a reply, or waits: it hasn't ended
 abbrev pub goes_on : Outcome → Bool
 goes_on (Replied r) = true
 goes_on (Waiting holder) = true

@@ -1,5 +1,6 @@
--- SHUTDOWN IMMEDIATE: no command waits any more, every task ends and its unit of work is backed out, in the order of attach,
--- and from then on ATTACH, a command, the clock and another SHUTDOWN are refused.
+-- SHUTDOWN IMMEDIATE: no command waits any more, and every task ends and its unit of work is backed
+-- out, in the order of attach. From then on ATTACH, a command, the clock and another SHUTDOWN are
+-- refused.
 use Rattle.std.specs.Prelude.{ℕ, suc, Bool, true, not, ◌&&◌, if◌then◌else◌, Option, Some, None, Result, Ok, Err, List, [], ◌∷◌}
 use Rattle.cics_history.specs.declared.ops.UnitState.TheVariants.{BackedOut}
 use Rattle.cics_dispatch.specs.Machine.{Machine, RegionValue, Task, with_waiting, unit_closed}
@@ -12,8 +13,8 @@ use Rattle.cics_dispatch.specs.declared.outcomes.Refused.TheVariants.{RegionDown
 abbrev pub unless_down : {X : Type 0} → Machine → Stepped (Result X Refused) → Stepped (Result X Refused)
 unless_down m s = if m.is_down then record { outcome = Err RegionDown; machine = m } else s
 
--- a call of a region answers its event's step, and wants memory only where that may; once the region is shut down it is
--- refused and wants none
+-- a call of a region answers its event's step, and takes memory only if that may; once the region
+-- is shut down, it is refused and takes none
 abbrev pub IsRegionStep : {X : Type 0} → Bool → RegionValue → Stepped (Result X Refused) → Result X Refused → RegionValue → Type 0
 IsRegionStep wants old s result new = IsStep (not old.machine.is_down && wants) old (unless_down old.machine s) result new
 

@@ -1,6 +1,7 @@
--- The steps of a region (all chapters on commands, and the chapter on the exceptional conditions): what ATTACH and each
--- command answer, and the state that they leave. After its checks a command waits, or it is executed; it is answered by
--- what it acts on; a content that is longer than LENGTH is LENGERR; and a condition that nothing handles abends the task.
+-- The steps of a region (all chapters on commands, and that on the exceptional conditions): what
+-- ATTACH and each command answer, and the state that they leave. After its checks a command waits,
+-- or is executed and answered. A content longer than LENGTH is LENGERR. A condition that nothing
+-- handles abends the task.
 use Rattle.std.specs.Prelude.{ℕ, Bool, true, false, if◌then◌else◌, Option, Some, None, is_some, option_map, Result, Ok, Err, take, [], ◌∷◌, ◌++◌}
 use Rattle.cics_names.specs.Commands.{file_named, length_of}
 use Rattle.cics_names.specs.Keyed.{Bytes, value_at, with_value, without}
@@ -55,7 +56,8 @@ unhandled m t r (Some code) = record { outcome = Abended code (Some r); machine 
 abbrev pub answered : Machine → Task → Bool → Reply → Stepped Outcome
 answered m t resp r = if resp then record { outcome = Replied r; machine = m } else unhandled m t r (default_abend_of r.condition)
 
--- the number that a command is answered: of the records that DELETE GENERIC deleted, else of an item
+-- the number in the answer of a command: of the records that DELETE GENERIC deleted, else of an
+-- item
 abbrev pub told_number : Verb → ℕ → Number
 told_number (Delete f key given generic) k = Numrec k
 told_number _ k = Item k
@@ -76,7 +78,8 @@ busy_of (ReadqTd q n nosuspend) = if nosuspend then Some Qbusy else None
 busy_of (Enq value n nosuspend) = if nosuspend then Some Enqbusy else None
 busy_of _ = None
 
--- a command that must wait waits last of all, and nothing of it is executed; the holder's task is named
+-- a command that must wait waits last of all, and nothing of it is executed; the blocker's task is
+-- named
 abbrev pub suspended : Machine → Task → Command → Option Op → ℕ → Stepped Outcome
 suspended m t c o holder =
     record {
@@ -91,8 +94,8 @@ made_to_wait m t c o holder (Some busy) = answered m t c.resp (plain busy)
 
 -- ---- Updating commands
 
--- DELETE deletes the record of RIDFLD, with GENERIC each whose key begins with it, or without RIDFLD the one that was read
--- for update
+-- DELETE deletes the record of RIDFLD, or with GENERIC each whose key begins with it; without
+-- RIDFLD the one that was read for update
 abbrev pub delete_op : Bytes → Option Bytes → Bool → Option Bytes → Option Op
 delete_op f (Some key) generic open_read = Some (if generic then op.DeleteGeneric f key else op.Delete f key)
 delete_op f None generic open_read = option_map (λ key. op.Delete f key) open_read
@@ -111,7 +114,8 @@ queue_op (ReadqTd q n nosuspend) = Some (op.TdRead q)
 queue_op (DeleteqTd q) = Some (op.TdDelete q)
 queue_op _ = None
 
--- the updating command that a command asks for, if it asks for one, from the key of its task's open update read of its file
+-- the updating command that a command asks for, if any, from the key of its task's open update read
+-- of its file
 abbrev pub asked_op : Option Bytes → Verb → Option Op
 asked_op open_read (Read f key given n generic gteq update) = if update then Some (op.ReadUpdate f key) else None
 asked_op open_read (Write f key given from n) = Some (op.Write f key (used_of from n))
@@ -128,7 +132,8 @@ key_read m t (Some f) = open_key m t f
 abbrev pub op_of : Machine → Task → Verb → Option Op
 op_of m t verb = asked_op (key_read m t (file_named verb)) verb
 
--- an updating command waits; or it is executed, whatever it answers, and its task has the unit that it was executed in
+-- an updating command waits, or is executed, whatever it answers; its task has the unit that it was
+-- executed in
 abbrev pub executed : Machine → Task → Command → Op → Done → Stepped Outcome
 executed m t c o (MustWait holder) = made_to_wait m t c (Some o) holder (busy_of c.verb)
 executed m t c o (Answered unit a) =
@@ -137,7 +142,8 @@ executed m t c o (Answered unit a) =
 
 -- ---- Enqueues
 
--- ENQ waits, or takes its value for the task's unit, which it may begin; a value that is held the most times is INVREQ
+-- ENQ waits, or acquires its value for the task's unit, which it may begin; a value that is held
+-- the most times is INVREQ
 abbrev pub enqueued : Machine → Task → Command → Bytes → Enqueued → Stepped Outcome
 enqueued m t c value (EnqMustWait holder) = made_to_wait m t c None holder (busy_of c.verb)
 enqueued m t c value CountFull = answered m t c.resp (plain Invreq)
@@ -145,12 +151,12 @@ enqueued m t c value (Taken unit) =
     let owner = with_unit t unit in
     answered (with_task (with_units m (after_enqueue m.units t.unit value)) owner) owner c.resp (plain Normal)
 
--- the units once a task's unit has given a value back once; a task without a unit changes none
+-- the units after a task's unit has released a value once; a task without a unit changes none
 abbrev pub units_dequeued : UnitsState → Option ℕ → Bytes → UnitsState
 units_dequeued s None value = s
 units_dequeued s (Some u) value = after_dequeue s u value
 
--- DEQ gives the value back once; a task without a unit holds none
+-- DEQ releases the value once; a task without a unit holds none
 abbrev pub dequeued : Machine → Option ℕ → Bytes → Machine
 dequeued m unit value = with_units m (units_dequeued m.units unit value)
 
@@ -169,7 +175,7 @@ browse_reply b = record { condition = b.condition; key = b.key; content = b.cont
 abbrev pub with_browse : Task → Bytes → Position → Task
 with_browse t f p = with_browses t (with_value f p t.browses)
 
--- STARTBR opens a browse where it finds its start, and is else NOTFND
+-- STARTBR opens a browse if it finds its start, else it is NOTFND
 abbrev pub started : Machine → Task → Bool → Bytes → Bytes → Bool → Bool → Stepped Outcome
 started m t resp f key generic equal =
     let owner = with_browse t f (start_at key generic) in
@@ -177,7 +183,7 @@ started m t resp f key generic equal =
     then answered (with_task m owner) owner resp (plain Normal)
     else answered m t resp (plain Notfnd)
 
--- RESETBR moves the browse to another position; where it finds no start there, the browse stays as it is
+-- RESETBR moves the browse to another position; if it finds no start there, the browse stays
 abbrev pub reset : Machine → Task → Bool → Bytes → Bytes → Bool → Bool → Option Position → Stepped Outcome
 reset m t resp f key generic equal None = answered m t resp (plain Invreq)
 reset m t resp f key generic equal (Some p) =
@@ -197,7 +203,7 @@ browse_ended m t resp f = let owner = with_browses t (without f t.browses) in an
 
 -- ---- Temporary storage: READQ TS
 
--- READQ TS gives an item and moves the NEXT place to it
+-- READQ TS gives an item and moves the cursor NEXT to it
 abbrev pub ts_read : Machine → Task → Bool → Bytes → Option ℕ → ℕ → Stepped Outcome
 ts_read m t resp q n item = answered (with_units m (after_ts_reading m.units q item)) t resp (reply_of (ReadqTs q n (Some item)) (ts_reading m.units q item))
 
@@ -212,7 +218,8 @@ code_of (Some code) = record { 0 = code }
 abbrev pub abended_with : Machine → Task → AbendCode → Stepped Outcome
 abended_with m t code = record { outcome = Abended code None; machine = abended m t }
 
--- the commands that update nothing. An updating verb without its update read is INVREQ, which its checks have told before
+-- the commands that update nothing; an updating verb without its update read is INVREQ, which its
+-- checks answer before
 abbrev pub other_command : Machine → Task → Command → Verb → Stepped Outcome
 other_command m t c (Read f key given n generic gteq update) = answered m t c.resp (cut n (read_reply (records_in m f) key generic gteq))
 other_command m t c (Unlock f) = answered (unlocked m t.unit f) t c.resp (plain Normal)
@@ -230,12 +237,12 @@ other_command m t c Return = record { outcome = Ended; machine = unit_closed m t
 other_command m t c (Abend code) = abended_with m t (code_of code)
 other_command m t c _ = answered m t c.resp (plain Invreq)
 
--- a command that asks for an updating command waits, or that one is executed; another command is answered
+-- a command executes its updating command, unless that waits; a command without one updates nothing
 abbrev pub by_op : Machine → Task → Command → Option Op → Stepped Outcome
 by_op m t c (Some o) = executed m t c o (execution m.units t.unit o)
 by_op m t c None = other_command m t c c.verb
 
--- a command whose checks have passed, from the look at what other units hold on
+-- a command whose checks have passed, from the look at what other units hold
 abbrev pub performed : Machine → Task → Command → Stepped Outcome
 performed m t c = by_op m t c (op_of m t c.verb)
 
@@ -244,7 +251,8 @@ abbrev pub checked : Machine → Task → Command → Option Condition → Stepp
 checked m t c (Some fault) = answered m t c.resp (plain fault)
 checked m t c None = performed m t c
 
--- a command is refused where its label is no task's, its task has ended, or a command of its task waits, in this order
+-- a command is refused, in this order, if its label is no task's, its task has ended, or a command
+-- of its task waits
 abbrev pub issue_refusal : Machine → Option Task → Option Refused
 issue_refusal m None = Some NoTask
 issue_refusal m (Some t) = if t.has_ended then Some TaskEnded else if is_waiting m.waiting t.label then Some TaskWaiting else None
@@ -265,7 +273,7 @@ issued m label c = issued_by m c (task_at m.tasks label)
 
 -- ---- ATTACH
 
--- a task begins without a unit and a browse
+-- a task begins without a unit or a browse
 abbrev pub new_task : Bytes → ℕ → Task
 new_task label dtimout = record { label = label; dtimout = dtimout; unit = None; browses = []; has_ended = false }
 

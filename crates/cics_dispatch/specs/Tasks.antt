@@ -1,4 +1,5 @@
--- Task control: the tasks of a region as they are kept, each under its label, and no two with one label or one unit.
+-- Task control: the tasks of a region as they are stored, each under its label; no two have one
+-- label or one unit.
 use Rattle.std.specs.Prelude.{◌≡◌, ◌≤◌, ◌+◌, ℕ, Option, Some, None, List, [], ◌∷◌, length, nat_eq, slice_get}
 use Rattle.std.specs.Map.{lookup, values_of}
 use Rattle.indexmap.specs.IndexMap.{IndexMap, index_map_len, spare}
@@ -23,11 +24,11 @@ abbrev pub had_by : {X : Type 0} → (Task → Option X) → Option Task → Opt
 had_by own None = None
 had_by own (Some t) = own t
 
--- what the task at a place has
+-- what the task at an index has
 abbrev pub had_at : {X : Type 0} → (Task → Option X) → List Task → ℕ → Option X
 had_at own ts i = had_by own (slice_get ts i)
 
--- no two tasks have one
+-- no two tasks have the same of this
 pub record IsOwn {X : Type 0} (own : Task → Option X) (ts : List Task) : Type 0 where
   pub one : (i j : ℕ) (x : X) → had_at own ts i ≡ Some x → had_at own ts j ≡ Some x → i ≡ j
 
@@ -45,7 +46,8 @@ pub record HasNoOwner (ts : List Task) (u : ℕ) : Type 0 where
 pub record HasRoomForUnits {S : Type 0} (ts : List Task) (owners : IndexMap ℕ (Option ℕ) S) : Type 0 where
   pub room : length ts + length ts ≤ index_map_len owners + spare owners + 1
 
--- each task's open unit is found at the task's place, what is found at a place is such a unit, and there is room
+-- each task's open unit leads to the task's index, what leads to an index is such a unit, and there
+-- is room
 pub record AreOwnersKept {S : Type 0} (ts : List Task) (owners : IndexMap ℕ (Option ℕ) S) : Type 0 where
   pub found : (i u : ℕ) → had_at own_unit ts i ≡ Some u → lookup (nat_eq u) owners.entries ≡ Some (Some i)
   pub owned : (i u : ℕ) → lookup (nat_eq u) owners.entries ≡ Some (Some i) → had_at own_unit ts i ≡ Some u

@@ -1,4 +1,4 @@
--- The browses of the task at a place, lent to be changed.
+-- The browses of the task at an index, lent to be changed.
 use Rattle.std.specs.Prelude.{ℕ, Option, Some, None, List, slice_get}
 use Rattle.std.specs.Borrow.{Lends, MutBor, Fml}
 use Rattle.cics_names.specs.Keyed.{Map}
@@ -12,7 +12,7 @@ abbrev pub with_browses_of : List Task → Map Position → Option Task → List
 with_browses_of ts browses None = ts
 with_browses_of ts browses (Some t) = replaced ts (with_browses t browses)
 
--- the tasks with other browses of the one at a place
+-- the tasks with other browses of the one at an index
 abbrev pub with_browses_at : List Task → ℕ → Map Position → List Task
 with_browses_at ts at browses = with_browses_of ts browses (slice_get ts at)
 

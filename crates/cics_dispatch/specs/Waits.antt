@@ -1,4 +1,4 @@
--- Task control: the commands that wait as they are kept, each under a number.
+-- Task control: the waiting commands as they are stored, each under a number.
 use Rattle.std.specs.Prelude.{◌≡◌, ◌<◌, ℕ, false, if◌then◌else◌, Option, Some, None, List, [], ◌∷◌}
 use Rattle.std.specs.Map.{lookup}
 use Rattle.cics_names.specs.Keyed.{Bytes, is_same}
@@ -13,7 +13,7 @@ abbrev pub wait_of : List Suspended → Bytes → Option Suspended
 wait_of [] label = None
 wait_of (w ∷ ws) label = if is_same w.label label then Some w else wait_of ws label
 
--- no two are of one task
+-- no two waits are of one task
 abbrev pub AreApart : List Suspended → Type 0
 AreApart [] = Unit {0}
 AreApart (w ∷ ws) = (is_waiting ws w.label ≡ false) × AreApart ws

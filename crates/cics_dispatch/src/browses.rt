@@ -14,7 +14,7 @@ use std::alloc::Global;
 use std::collections::BTreeMap;
 use std::marker::Model;
 
-/// Which way a browse reads on.
+/// The direction in which a browse reads on.
 #[derive(Clone, Copy)]
 pub(crate) enum Direction {
     /// READNEXT: towards the greater keys.
@@ -23,9 +23,8 @@ pub(crate) enum Direction {
     Back,
 }
 
-/// Reads on in a browse, as `Browse::next` or `Browse::prev` does. `file` is the browse's own file as it stands.
-///
-/// `Err` comes only where memory for the copies is refused, and then the position stays.
+/// Reads on in a browse, as `Browse::next` or `Browse::prev` does. `file` is the browse's own file
+/// as it stands. On error the position stays.
 pub(crate) fn read_on(
     browse: &mut Browse,
     file: &File,
@@ -43,10 +42,11 @@ pub(crate) fn read_on(
     }
 }
 
-/// The open browses of a task, each under the name of its file: a task has one browse of a file at most.
+/// The open browses of a task, each under the name of its file. A task has at most one of a file.
 ///
-/// Contracts see them as a map from the names to the positions, in the order of the names. A look-up costs the
-/// logarithm of the number of browses.
+/// Contracts see them as a map from the names to the positions, in the order of the names.
+///
+/// Cost: O(log browses) to find one.
 #[derive(Drop)]
 pub(crate) struct Browses {
     rows: BTreeMap<Name8, Browse>,
@@ -65,7 +65,7 @@ impl Model for Browses {
 }
 
 impl Browses {
-    /// No browse yet. `alloc` gives the memory for what is put in.
+    /// Returns no browses. `alloc` gives the memory for those to come.
     pub(crate) fn new(alloc: Global) -> Browses
         ensures { result ≡ [] }
     {
@@ -74,14 +74,15 @@ impl Browses {
         }
     }
 
-    /// The browse of a file, or `None` where none is open.
+    /// Returns the browse of a file, if one is open.
     pub(crate) fn get(&self, file: &Name8) -> Option<&Browse>
         ensures { option_copied result ≡ value_at file.now self.now }
     {
         self.rows.get(file)
     }
 
-    /// The browse of a file, to be moved, or `None` where none is open. A browse that is left where it was changes none.
+    /// Returns the browse of a file, to be moved, if one is open. If it is left where it was, no
+    /// browse changes.
     pub(crate) fn get_mut(&mut self, file: &Name8) -> Option<&mut Browse>
         ensures* writes_back { sem 𝓛 (LendsBrowse self.entry file.now result) }
         ensures browse { option_copied_mut result ≡ value_at file.now self.old }
@@ -89,9 +90,9 @@ impl Browses {
         self.rows.get_mut(file)
     }
 
-    /// Puts a browse of a file in, in the place of the one that was open.
+    /// Puts a browse of a file in, in place of the one that was open, if one was.
     ///
-    /// Where memory is refused all browses stay as they were, and the one that was handed in goes.
+    /// On error all browses stay as they were, and the new one is dropped.
     pub(crate) fn put(&mut self, file: Name8, browse: Browse) -> Result<(), NoMemory>
         ensures ok { OnOk result (self.new ≡ with_value file browse self.old) }
         ensures err { OnErr result (self.new ≡ self.old) }

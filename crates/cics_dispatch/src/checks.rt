@@ -1,4 +1,4 @@
-//! What is checked of a command's key, record or item before its file or queue is touched.
+//! The checks of a command's key, record or item, before its file or queue is touched.
 
 ghost use Rattle.std.specs.Prelude.{◌≡◌, IsTrue, IfOk, Some, None, if◌then◌else◌};
 ghost use Rattle.std.specs.Option.{option_copied};
@@ -13,7 +13,7 @@ use cics_browse::Browse;
 use cics_ksds::FileDef;
 use cics_names::{Condition, NoMemory, Record};
 
-// Whether KEYLENGTH, where it is given, is the length of the key as written.
+// Returns whether KEYLENGTH, if it is given, is the length of the key as written.
 fn is_length_given(given: Option<u64>, length: u64) -> bool
     ensures { result ≡ is_length_given given length }
 {
@@ -23,7 +23,8 @@ fn is_length_given(given: Option<u64>, length: u64) -> bool
     }
 }
 
-/// INVREQ where KEYLENGTH isn't the key's length, or the file's keys have another.
+/// Returns INVREQ if KEYLENGTH isn't the key's length, or the key isn't as long as the file's keys.
+/// A GENERIC key may be shorter.
 pub(crate) fn key_fault(
     definition: FileDef,
     key: &[u8],
@@ -45,7 +46,7 @@ pub(crate) fn key_fault(
     }
 }
 
-// The bytes of FROM that LENGTH uses, if it is from 1 to their count.
+// Returns the bytes of FROM that LENGTH uses. `None` if LENGTH isn't from 1 to their count.
 fn used(from: &[u8], length: Option<u64>) -> Option<&[u8]>
     ensures { option_copied result
         ≡ (if is_within from.now length then Some (used_of from.now length) else None) }
@@ -62,8 +63,8 @@ fn used(from: &[u8], length: Option<u64>) -> Option<&[u8]>
     }
 }
 
-/// The first fault of a WRITE: INVREQ for its key's length, LENGERR for its record's, INVREQ where the
-/// key in the record is another.
+/// Returns the first fault of a WRITE: INVREQ for the length of its key, then LENGERR for that of
+/// its record. Last is INVREQ if the key in the record is another.
 pub(crate) fn write_fault(
     definition: FileDef,
     key: &[u8],
@@ -89,8 +90,9 @@ pub(crate) fn write_fault(
     }
 }
 
-/// The first fault of a READ: INVREQ where UPDATE goes with GTEQ or GENERIC, for its key's length, and with
-/// UPDATE where the task has an open update read of the file, whose key is `open_key`.
+/// Returns the first fault of a READ, which is INVREQ: for UPDATE with GTEQ or GENERIC, and for the
+/// length of its key. Last for UPDATE if the task has an open update read of the file, whose key is
+/// `open_key`.
 pub(crate) fn read_fault(
     definition: FileDef,
     open_key: Option<&[u8]>,
@@ -116,8 +118,9 @@ pub(crate) fn read_fault(
     }
 }
 
-/// The first fault of a REWRITE: LENGERR for its record's length, INVREQ without an open update read of
-/// the file, or where the key in the record isn't `open_key`, the key that was read.
+/// Returns the first fault of a REWRITE: LENGERR for the length of its record, then INVREQ if no
+/// update read of the file is open. It is INVREQ too if the key in the record isn't `open_key`, the
+/// key that was read.
 pub(crate) fn rewrite_fault(
     definition: FileDef,
     open_key: Option<&[u8]>,
@@ -138,7 +141,8 @@ pub(crate) fn rewrite_fault(
     }
 }
 
-// The fault of a DELETE with RIDFLD: INVREQ for the length of its key, which with GENERIC is one byte at least.
+// Returns the fault of a DELETE with RIDFLD: INVREQ for the length of its key, which with GENERIC
+// is at least one byte.
 fn deleted_key_fault(
     definition: FileDef,
     key: &[u8],
@@ -157,8 +161,9 @@ fn deleted_key_fault(
     }
 }
 
-/// The fault of a DELETE: INVREQ for the length of its key, which with GENERIC is one byte at least, and
-/// without RIDFLD where KEYLENGTH or GENERIC is given or the task has no open update read of the file.
+/// Returns the fault of a DELETE. With RIDFLD it is INVREQ for the length of its key, which with
+/// GENERIC is at least one byte. Without RIDFLD it is INVREQ if KEYLENGTH or GENERIC is given, or
+/// the task has no open update read of the file.
 pub(crate) fn delete_fault(
     definition: FileDef,
     open_key: Option<&[u8]>,
@@ -179,8 +184,8 @@ pub(crate) fn delete_fault(
     }
 }
 
-/// LENGERR of a WRITEQ whose LENGTH isn't 1 to the length of FROM, or whose item or record hasn't 1 to 32,767
-/// bytes.
+/// Returns LENGERR for a WRITEQ if LENGTH isn't from 1 to the length of FROM, or its item or record
+/// hasn't 1 to 32,767 bytes.
 pub(crate) fn item_fault(from: &[u8], length: Option<u64>) -> Option<Condition>
     ensures { result ≡ item_fault from.now length }
 {
@@ -190,7 +195,8 @@ pub(crate) fn item_fault(from: &[u8], length: Option<u64>) -> Option<Condition>
     }
 }
 
-/// LENGERR of an ENQ or DEQ whose LENGTH isn't 1 to 255, or is above the length of its value as written.
+/// Returns LENGERR for an ENQ or DEQ if LENGTH isn't from 1 to 255, or is above the length of its
+/// value as written.
 pub(crate) fn resource_fault(value: &[u8], length: u64) -> Option<Condition>
     ensures { result ≡ resource_fault value.now length }
 {
@@ -201,9 +207,10 @@ pub(crate) fn resource_fault(value: &[u8], length: u64) -> Option<Condition>
     }
 }
 
-/// The first fault of a STARTBR: INVREQ for its key's length, and where a browse of the file is open.
+/// Returns the first fault of a STARTBR: INVREQ for the length of its key, or if a browse of the
+/// file is open.
 ///
-/// Here and below `browse` is the task's browse of the file, and None where there is none.
+/// Here and below `browse` is the task's browse of the file, `None` if there is none.
 pub(crate) fn startbr_fault(
     definition: FileDef,
     browse: Option<&Browse>,
@@ -224,7 +231,8 @@ pub(crate) fn startbr_fault(
     }
 }
 
-/// The first fault of a RESETBR: INVREQ for its key's length, and where no browse of the file is open.
+/// Returns the first fault of a RESETBR: INVREQ for the length of its key, or if no browse of the
+/// file is open.
 pub(crate) fn resetbr_fault(
     definition: FileDef,
     browse: Option<&Browse>,
@@ -241,7 +249,7 @@ pub(crate) fn resetbr_fault(
     browse_fault(browse)
 }
 
-/// INVREQ of a READNEXT or ENDBR where no browse of the file is open.
+/// Returns INVREQ for a READNEXT or ENDBR if no browse of the file is open.
 pub(crate) fn browse_fault(browse: Option<&Browse>) -> Option<Condition>
     ensures { result ≡ browse_fault (option_copied browse.entry) }
 {
@@ -252,7 +260,7 @@ pub(crate) fn browse_fault(browse: Option<&Browse>) -> Option<Condition>
     }
 }
 
-/// INVREQ of a READPREV where no browse of the file is open, or a generic one.
+/// Returns INVREQ for a READPREV if no browse of the file is open, or the browse is generic.
 pub(crate) fn back_fault(browse: Option<&Browse>) -> Option<Condition>
     ensures { result ≡ back_fault (option_copied browse.entry) }
 {
@@ -262,7 +270,8 @@ pub(crate) fn back_fault(browse: Option<&Browse>) -> Option<Condition>
     }
 }
 
-/// The record that FROM and LENGTH give. Without LENGTH it is FROM itself, and takes no memory.
+/// Returns the bytes of FROM that LENGTH uses. Without LENGTH they are FROM itself, which takes no
+/// memory.
 pub(crate) fn used_record(from: Record, length: Option<u64>) -> Result<Record, NoMemory>
     requires { IsTrue (is_within from length) }
     ensures { IfOk result (λ content. content ≡ used_of from length) }

@@ -1,4 +1,4 @@
-//! The parts of a region, and each of its steps: tasks that share files and queues, their waits, and their units of work.
+//! The tasks, waits, files, queues and units of a region, and each of its steps.
 
 mod blocking;
 mod browsing;
@@ -50,10 +50,12 @@ use cics_units::{Op, Opening, Submitted, Units};
 use std::alloc::Global;
 use std::marker::Model;
 
-/// The parts of a region: its tasks, their waiting commands, and the files, queues and units of work that they share.
+/// The parts of a region: its tasks, their waiting commands, and the files, queues and units of
+/// work that they share.
 ///
-/// Each call is a step of the region's machine: its answer and the state that it leaves are those of the
-/// step. It remembers nothing of a call but that state; what `wake` and `expire` found is remembered by `Region`.
+/// Each call is a step of the region's machine: it returns what the step does, and leaves its
+/// state. It remembers nothing else: `Region` remembers what `wake` and `expire` found. On error
+/// nothing changes.
 #[derive(Drop)]
 pub(crate) struct Dispatcher {
     units: Units,
@@ -75,7 +77,7 @@ impl Model for Dispatcher {
     ghost invariant = { λ r. IsRegionKept (region_of r.units r.tasks r.waits r.clock r.is_down) };
 }
 
-// What NOSUSPEND tells in place of a wait, where a command has it.
+// Returns what NOSUSPEND answers in place of a wait, if a command has it.
 fn busy_condition(verb: &Verb) -> Option<Condition>
     ensures { result ≡ busy_of verb.now }
 {
@@ -107,8 +109,8 @@ fn end_unit(units: &mut Units, unit: Option<UnitId>, commits: bool)
 }
 
 impl Dispatcher {
-    /// The region of an opening, without a task, its clock at 0. It takes memory for a copy of the files
-    /// and queues; where that is refused the opening comes back.
+    /// Returns the region of an opening, without a task, its clock at 0. It copies the files and
+    /// queues. If memory is refused, returns the opening.
     pub fn new(opening: Opening) -> Result<Dispatcher, Opening>
         ensures machine { IfOk result (λ region. region.machine ≡ beginning_region opening) }
         ensures kept { IfOk result IsRegionKept }
@@ -126,21 +128,21 @@ impl Dispatcher {
         })
     }
 
-    /// Whether the region is shut down.
+    /// Returns whether the region is shut down.
     pub(crate) fn is_down(&self) -> bool
         ensures { result ≡ self.now.machine.is_down }
     {
         self.is_down
     }
 
-    /// Whether a command of a label's task waits.
+    /// Returns whether a command of a label's task waits.
     pub(crate) fn is_waiting(&self, label: &Name8) -> bool
         ensures { result ≡ is_waiting self.now.machine.waiting label.now }
     {
         self.waits.is_waiting(label)
     }
 
-    /// The place of the task of a label, or `None` where no task has it.
+    /// Returns the index of the task of a label, if there is one.
     pub(crate) fn find(&self, label: &Name8) -> Option<usize>
         ensures task { IfSome result (λ at. slice_get self.now.machine.tasks at
             ≡ task_at self.now.machine.tasks label.now) }
@@ -150,7 +152,7 @@ impl Dispatcher {
         self.tasks.find(label)
     }
 
-    /// The open unit of work of the task of a label, if there is one.
+    /// Returns the open unit of work of the task of a label, if there is one.
     pub(crate) fn unit_of(&self, label: &Name8) -> Option<UnitId>
         ensures { result ≡ unit_of self.now.machine label.now }
     {
@@ -158,7 +160,7 @@ impl Dispatcher {
         self.unit_at(at)
     }
 
-    /// The open unit of work of the task at a place, if there is one.
+    /// Returns the open unit of work of the task at an index, if there is one.
     pub(crate) fn unit_at(&self, at: usize) -> Option<UnitId>
         requires within { at < length self.now.machine.tasks }
         ensures unit { OfTask self.now.machine.tasks at (λ t. result ≡ t.unit) }
@@ -166,7 +168,8 @@ impl Dispatcher {
         self.tasks.get(at).unit()
     }
 
-    /// Whether a command gives up nothing of what its task's unit holds, where the task isn't abended.
+    /// Returns true only if a command releases nothing of its task's unit, unless the task is
+    /// abended.
     pub(crate) fn is_keeping(&self, verb: &Verb) -> bool
         ensures { result ≡ is_keeping self.now.machine.units.opening verb.now }
     {
@@ -192,7 +195,7 @@ impl Dispatcher {
         }
     }
 
-    // Whether a file is defined, and recoverable.
+    // Returns whether a file is defined and recoverable.
     fn is_recoverable(&self, name: &Name8) -> bool
         ensures { result ≡ file_recoverable self.now.machine.units.opening name.now }
     {
@@ -202,11 +205,10 @@ impl Dispatcher {
         }
     }
 
-    /// Begins the task of a label: ATTACH. `dtimout` is the seconds that a command of it may wait, 0
-    /// for no limit; the transaction makes no difference.
+    /// Begins the task of a label: ATTACH. `dtimout` is the seconds that a command of it may wait,
+    /// 0 for no limit. The transaction makes no difference.
     ///
-    /// It is refused where a task has or had the label (`DuplicateLabel`), and else for want of memory
-    /// (`NoMemory`). A refusal changes nothing.
+    /// Errors, in this order: `DuplicateLabel` if a task has or had the label, and `NoMemory`.
     pub fn attach(&mut self, label: Name8, _transaction: Name4, dtimout: u64) -> Result<(), Refused>
         ensures step { IsStep (attach_may_want self.old.machine label) self.old
             (attached self.old.machine label dtimout) result self.new }
@@ -219,7 +221,9 @@ impl Dispatcher {
         Ok(())
     }
 
-    /// Sets the clock to so many seconds. It is refused where the clock would go back (`ClockBack`).
+    /// Sets the clock to so many seconds.
+    ///
+    /// Errors: `ClockBack` if the clock would go back.
     pub fn set_clock(&mut self, now: u64) -> Result<(), Refused>
         ensures step { IsStep false self.old (clock_set self.old.machine now) result self.new }
         ensures kept { KeepsRegion self.old self.new }
@@ -231,7 +235,7 @@ impl Dispatcher {
         Ok(())
     }
 
-    // Returns the key of the record that the task at a place has read for update in a command's
+    // Returns the key of the record that the task at an index has read for update in a command's
     // file, if there is one.
     fn open_key(&self, at: usize, verb: &Verb) -> Option<&[u8]>
         requires within { at < length self.now.machine.tasks }
@@ -244,7 +248,8 @@ impl Dispatcher {
         self.units.open_read(unit, file)
     }
 
-    // The definition of a file, if the file is defined. It is lawful, so that its keys have at most 255 bytes.
+    // Returns the definition of a file, if it is defined. It is lawful: its keys have at most 255
+    // bytes.
     fn definition(&self, name: &Name8) -> Option<FileDef>
         ensures definition { result ≡ definition_of self.now.machine name.now }
         ensures lawful { IfSome result (λ d. is_key d ≡ true) }
@@ -253,7 +258,7 @@ impl Dispatcher {
         Some(file.definition())
     }
 
-    // Returns the first fault of a command of the task at a place, by its open key. A file that
+    // Returns the first fault of a command of the task at an index, by its open key. A file that
     // isn't defined is DSIDERR, and a transient data queue that isn't is QIDERR.
     #[inline(never)]
     fn fault(&self, at: usize, verb: &Verb, open_key: Option<&[u8]>) -> Option<Condition>
@@ -276,7 +281,7 @@ impl Dispatcher {
         file_fault(definition, open_key, browse, verb)
     }
 
-    // Ends the unit of the task at a place and its browses; the task ends too where that is said.
+    // Ends the unit of the task at an index and its browses, and if `has_ended` the task too.
     fn close(&mut self, at: usize, commits: bool, has_ended: bool)
         requires within { at < length self.old.machine.tasks }
         requires awake { IsAwake self.old.machine at }
@@ -290,7 +295,7 @@ impl Dispatcher {
         end_unit(&mut self.units, unit, commits);
     }
 
-    // Abends the task at a place: its unit is backed out, its wait ends, and so does the task.
+    // Abends the task at an index: its unit is backed out, its wait ends, and so does the task.
     fn abend(&mut self, at: usize)
         requires within { at < length self.old.machine.tasks }
         ensures machine { OfTask self.old.machine.tasks at
@@ -303,7 +308,8 @@ impl Dispatcher {
         self.waits.remove(&label);
     }
 
-    // Tells the task at a place a reply, or abends it for a condition that nothing handles.
+    // Answers a command of the task at an index, or abends the task for a condition that nothing
+    // handles.
     fn answer(&mut self, at: usize, resp: bool, reply: Reply) -> Outcome
         requires within { at < length self.old.machine.tasks }
         ensures step { IsStepOf self.old at
@@ -318,8 +324,8 @@ impl Dispatcher {
         }
     }
 
-    // Makes a command of the task at a place wait, last of all, for a unit that another task has. `op` is the updating
-    // command that it asks for.
+    // Makes a command of the task at an index wait, last of all, for the open unit `holder`. `op`
+    // is the updating command that it asks for.
     fn suspend(
         &mut self,
         at: usize,
@@ -342,8 +348,8 @@ impl Dispatcher {
         Ok(Outcome::Waiting(owner))
     }
 
-    // Makes a command of the task at a place wait for a unit that another task has, or with NOSUSPEND tells the task
-    // that it would have to wait.
+    // Makes a command of the task at an index wait for the open unit `holder`. If it has NOSUSPEND,
+    // answers that it would have to wait.
     fn make_wait(
         &mut self,
         at: usize,
@@ -364,8 +370,8 @@ impl Dispatcher {
         }
     }
 
-    // Executes an updating command that a command of the task at a place asks for. If it has to
-    // wait, returns it. The command may be without what the updating command took out of it.
+    // Executes an updating command that a command of the task at an index asks for, or returns it
+    // if it must wait. `command` may be without what the updating command took out of it.
     fn execute(&mut self, at: usize, command: &Command, op: Op) -> Result<Attempt, NoMemory>
         requires within { at < length self.old.machine.tasks }
         requires awake { IsAwake self.old.machine at }
@@ -384,8 +390,8 @@ impl Dispatcher {
         }
     }
 
-    // Executes the updating command that was taken out of a command of the task at a place, or makes
-    // the command wait, whole again.
+    // Executes the updating command that was taken out of a command of the task at an index, or
+    // makes the command wait, whole again.
     fn update(&mut self, at: usize, command: Command, op: Op) -> Result<Outcome, NoMemory>
         requires within { at < length self.old.machine.tasks }
         requires may { MayPerform self.old.machine at (whole command (Some op)).verb }

@@ -62,7 +62,7 @@ pub(crate) fn file_fault(
     }
 }
 
-// The first fault of a command of a browse; None of every other command.
+// Returns the first fault of a command of a browse, and None for every other command.
 fn browsing_fault(definition: FileDef, browse: Option<&Browse>, verb: &Verb) -> Option<Condition>
     ensures { result ≡ browsing_fault definition (option_copied browse.entry) verb.now }
 {
@@ -85,7 +85,8 @@ fn browsing_fault(definition: FileDef, browse: Option<&Browse>, verb: &Verb) -> 
     }
 }
 
-/// The fault of ENQ or DEQ, LENGERR for the length of its value; None of every other command.
+/// Returns the fault of ENQ or DEQ: LENGERR for the length of its value. `None` for every other
+/// command.
 pub(crate) fn value_fault(verb: &Verb) -> Option<Condition>
     ensures { result ≡ value_fault verb.now }
 {

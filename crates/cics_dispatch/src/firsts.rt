@@ -10,14 +10,14 @@ use cics_names::NoMemory;
 use std::alloc::Global;
 use std::marker::Model;
 
-/// A row of keys, each a number, that finds the first key below a limit in the logarithm of their number.
+/// A row of keys, each a number.
 ///
-/// To add a key or to put another in the place of one costs the logarithm too.
+/// Cost: O(log keys) to find the first key below a limit, to add a key, and to replace one.
 #[derive(Drop)]
 pub(crate) struct Firsts {
     keys: Vec<u64>,
-    // Levels above the keys: each has the lesser key of each two of the level below it. The last has two keys or fewer,
-    // so there are no more levels than the logarithm of the most keys that there were.
+    // Levels above the keys: each has the lesser key of each pair of the level below it. The last
+    // has at most two keys. So there are O(log n) levels, for n the most keys that there were.
     above: Vec<Vec<u64>>,
 }
 
@@ -32,7 +32,7 @@ impl Model for Firsts {
     ghost invariant = { λ f. AreAbove f.keys.items f.above.items };
 }
 
-// The lesser key of the pair at a place, or the one key where the level ends in the middle of it.
+// Returns the lesser key of a pair, or its one key if the level ends within the pair.
 fn lesser(level: &[u64], pair: usize) -> u64
     requires { pair * 2 < length level.now }
     ensures { slice_get (lesser_of_pairs level.now) pair ≡ Some result }
@@ -45,7 +45,7 @@ fn lesser(level: &[u64], pair: usize) -> u64
     }
 }
 
-// Puts a key in the place of another. As soon as the lesser key of a pair stays, so does all above it.
+// Replaces a key. As soon as the lesser key of a pair stays, so does all above it.
 fn set(level: &mut Vec<u64>, above: &mut [Vec<u64>], at: usize, key: u64)
     requires within { at < length level.old.items }
     requires above { AreAbove level.old.items above.old }
@@ -64,7 +64,7 @@ fn set(level: &mut Vec<u64>, above: &mut [Vec<u64>], at: usize, key: u64)
     set(&mut next[0], rest, at / 2, least);
 }
 
-// Appends a key, where each level has room.
+// Appends a key. Each level has room.
 fn append(level: &mut Vec<u64>, above: &mut [Vec<u64>], key: u64)
     requires room { vec_len level.old < vec_capacity level.old }
     requires rooms { HaveRoom above.old }
@@ -86,7 +86,7 @@ fn append(level: &mut Vec<u64>, above: &mut [Vec<u64>], key: u64)
     }
 }
 
-// The last of the levels, or the keys where there is none.
+// Returns the last of the levels, or the keys if there is none.
 fn last_level<'a>(keys: &'a [u64], above: &'a [Vec<u64>]) -> &'a [u64]
     ensures { result.now ≡ last_of keys.now above.now }
 {
@@ -96,7 +96,7 @@ fn last_level<'a>(keys: &'a [u64], above: &'a [Vec<u64>]) -> &'a [u64]
     }
 }
 
-// The keys, at 0, or the level that stands so many above them.
+// Returns the keys for 0, else the level that stands so many above them.
 fn level_at<'a>(keys: &'a [u64], above: &'a [Vec<u64>], place: usize) -> &'a [u64]
     requires { place ≤ length above.now }
     ensures { result.now ≡ level_at keys.now above.now place }
@@ -108,7 +108,7 @@ fn level_at<'a>(keys: &'a [u64], above: &'a [Vec<u64>], place: usize) -> &'a [u6
     }
 }
 
-// Puts a level of one key above the last where that has two. Where memory is refused the levels stay as they are.
+// Adds a level of one key above the last, if that has two. On error the levels stay as they are.
 fn raise(keys: &Vec<u64>, above: &mut Vec<Vec<u64>>) -> Result<(), NoMemory>
     requires { AreAbove keys.now.items above.old.items }
     ensures { AreAbove keys.now.items above.new.items }
@@ -124,7 +124,7 @@ fn raise(keys: &Vec<u64>, above: &mut Vec<Vec<u64>>) -> Result<(), NoMemory>
     Ok(())
 }
 
-// Makes room for one more key at each level above the keys. The keys stay, whatever the result.
+// Makes room for one more key at each level above the keys. The keys stay, also on error.
 fn make_room_above(levels: &mut [Vec<u64>]) -> Result<(), NoMemory>
     ensures ok { OnOk result (HaveRoom levels.new) }
     ensures above { (keys : List ℕ) → AreAbove keys levels.old → AreAbove keys levels.new }
@@ -137,8 +137,8 @@ fn make_room_above(levels: &mut [Vec<u64>]) -> Result<(), NoMemory>
     make_room_above(above)
 }
 
-// Makes room for one more key, and puts a level of one key above the last where that has two. The keys stay, whatever the
-// result.
+// Makes room for one more key, and adds a level of one key above the last, if that has two. The
+// keys stay, also on error.
 fn make_room(keys: &mut Vec<u64>, above: &mut Vec<Vec<u64>>) -> Result<(), NoMemory>
     requires { AreAbove keys.old.items above.old.items }
     ensures room { OnOk result (vec_len keys.new < vec_capacity keys.new) }
@@ -151,7 +151,7 @@ fn make_room(keys: &mut Vec<u64>, above: &mut Vec<Vec<u64>>) -> Result<(), NoMem
     make_room_above(above.as_mut_slice())
 }
 
-// Takes the keys of all levels away, and keeps their room.
+// Removes the keys of all levels, and keeps their room.
 fn clear_all(levels: &mut [Vec<u64>])
     ensures { AreAbove [] levels.new }
 {
@@ -163,7 +163,8 @@ fn clear_all(levels: &mut [Vec<u64>])
     clear_all(above);
 }
 
-// The place of the first key below a limit: it is of the first pair whose lesser key is below it.
+// Returns the index of the first key below a limit. It is in the first pair whose lesser key is
+// below the limit.
 fn first_of_pair(level: &[u64], pair: usize, limit: u64) -> usize
     requires { IsFirstBelow (lesser_of_pairs level.now) limit pair }
     ensures { IsFirstBelow level.now limit result }
@@ -172,7 +173,7 @@ fn first_of_pair(level: &[u64], pair: usize, limit: u64) -> usize
     if level[at] < limit { at } else { at + 1 }
 }
 
-// The place of the first key of a level that is below a limit. Each key before it is looked at.
+// Returns the index of the first key of a level that is below a limit. Looks at each key up to it.
 fn first_in(level: &[u64], limit: u64) -> Option<usize>
     ensures { MatchOption result
         (All (λ key. limit ≤ key) level.now) (λ at. IsFirstBelow level.now limit at) }
@@ -180,8 +181,8 @@ fn first_in(level: &[u64], limit: u64) -> Option<usize>
     level.iter().position(|key| *key < limit)
 }
 
-// The place of the first key below a limit, or `None` where no key is. Where none is, no more is
-// read than the last level.
+// Returns the index of the first key below a limit, if there is one. If there is none, it reads
+// only the last level.
 fn first_below(keys: &[u64], above: &[Vec<u64>], limit: u64) -> Option<usize>
     requires { AreAbove keys.now above.now }
     ensures { MatchOption result
@@ -197,7 +198,7 @@ fn first_below(keys: &[u64], above: &[Vec<u64>], limit: u64) -> Option<usize>
     Some(at)
 }
 
-/// Adds a key to each of two rows, behind all others. Where memory is refused both rows stay as they are.
+/// Adds a key to each of two rows, last of all. On error both rows stay as they are.
 pub(crate) fn push_each(
     first: &mut Firsts,
     first_key: u64,
@@ -216,7 +217,7 @@ pub(crate) fn push_each(
 }
 
 impl Firsts {
-    /// No key. `alloc` gives the memory for those that will be added.
+    /// Returns a row without keys. `alloc` gives the memory for those to come.
     pub(crate) fn new(alloc: Global) -> Firsts
         ensures { result ≡ [] }
     {
@@ -226,7 +227,7 @@ impl Firsts {
         }
     }
 
-    /// Puts a key in the place `at` of another. Takes no memory.
+    /// Replaces the key at an index. Takes no memory.
     pub(crate) fn set(&mut self, at: usize, key: u64)
         requires { at < length self.old }
         ensures { self.new ≡ slice_set self.old at key }
@@ -234,7 +235,7 @@ impl Firsts {
         set(&mut self.keys, self.above.as_mut_slice(), at, key);
     }
 
-    /// The place of the first key that is below a limit, or `None` where no key is.
+    /// Returns the index of the first key below a limit, if there is one.
     pub(crate) fn first_below(&self, limit: u64) -> Option<usize>
         ensures { MatchOption result
             (All (λ key. limit ≤ key) self.now) (λ at. IsFirstBelow self.now limit at) }
@@ -242,7 +243,7 @@ impl Firsts {
         first_below(self.keys.as_slice(), self.above.as_slice(), limit)
     }
 
-    /// Takes all keys away, and keeps their room. Takes no memory.
+    /// Removes all keys, and keeps their room. Takes no memory.
     pub(crate) fn clear(&mut self)
         ensures { self.new ≡ [] }
     {

@@ -1,4 +1,4 @@
-//! What is known of the commands that wait: for which unit each has to wait as long as that gives nothing up, and until when.
+//! What is known of the waiting commands: the blocker and the deadline of each.
 
 ghost use Rattle.std.specs.Prelude.{◌≡◌, ◌<◌, [], ◌∷◌, ◌++◌, None, Some, false, length, map, is_ok};
 ghost use Rattle.std.specs.Prelude.{slice_get, slice_set, if◌then◌else◌, IfOk, IfSome, IfNone};
@@ -26,31 +26,29 @@ use std::alloc::Global;
 use std::collections::BTreeSet;
 use std::marker::Model;
 
-/// What is known of a command that waits.
+/// What is known of a waiting command.
 #[derive(Clone, Copy)]
 pub(crate) struct Note {
     /// The label of its task.
     pub(crate) label: Name8,
-    /// The number of its line, that of the commands which use the same one resource and nothing else; `None` where it is
-    /// in none.
+    /// The index of its wait group. `None` if it is in none.
     pub(crate) line: Option<usize>,
-    /// The unit that it has to wait for as long as that gives nothing up, where it is in no line; `None` where it has to
-    /// be looked at.
+    /// If it is in no wait group: its blocker, or `None` if it must be looked at.
     pub(crate) blocker: Option<UnitId>,
 }
 
 /// What a look at a waiting command finds.
 pub(crate) enum Look {
-    /// It needn't wait any more.
+    /// It may resume.
     MayGoOn,
-    /// It has to wait as long as this unit gives up nothing.
+    /// It must wait for this unit, as long as that releases nothing.
     IsBlocked(UnitId),
 }
 
-/// A waiting command that needn't wait any more.
+/// A waiting command that may resume.
 #[derive(Clone, Copy)]
 pub(crate) struct Free {
-    /// The place of its note.
+    /// The index of its note.
     pub(crate) place: usize,
     /// The label of its task.
     pub(crate) label: Name8,
@@ -59,47 +57,51 @@ pub(crate) struct Free {
 /// A task that has waited too long.
 #[derive(Clone, Copy)]
 pub(crate) struct Late {
-    /// The place of the task.
+    /// The index of the task.
     pub(crate) task: usize,
-    /// The place of the note of its command; `None` where that has none.
+    /// The index of the note of its command. `None` if that has none.
     pub(crate) note: Option<usize>,
 }
 
-// What waits for a unit.
+// What a unit blocks.
 #[derive(Clone, Copy)]
 enum Parked {
-    // The commands of a line, by its number.
+    // A wait group, by its index.
     Line(usize),
-    // A command in no line, by the place of its note.
+    // A command in no wait group, by the index of its note.
     Row(usize),
 }
 
-/// What is known of a front of the commands that wait, in the order in which the waits began.
+/// Notes of the earliest waiting commands, in the order in which the waits began.
 ///
-/// The commands that use the same one resource and nothing else form a line, so that it is noted of all of them at once whom
-/// they have to wait for. To find the first command that has to be looked at, to add one, to note the unit that it has to wait
-/// for, and to drop one costs the logarithm of their number; to forget a unit the same for each line and each command in no
-/// line that waits for it.
+/// A command's blocker is a unit that it must wait for, as long as that releases nothing. A command
+/// whose blocker isn't known must be looked at. The commands of a wait group, in the code a `line`,
+/// use the same one resource and nothing else, and share their blocker.
+///
+/// On `NoMemory` all notes stay as they are.
+///
+/// Cost: O(log commands) to find the first command that must be looked at, to add a command, to
+/// note its blocker, and to drop it. To forget a unit costs the same for each wait group and each
+/// command in no group that it blocks.
 #[derive(Drop)]
 pub(crate) struct Notes {
     // The notes, and None for each command that waits no more.
     rows: Vec<Option<Note>>,
     // How many notes there are.
     count: usize,
-    // The resource of each line.
+    // The resource of each wait group.
     resources: IndexSet<Resource>,
-    // The unit that the commands of each line have to wait for as long as it gives nothing up; None where they have to be
-    // looked at.
+    // The blocker of each wait group. None if its commands must be looked at.
     lines: Vec<Option<UnitId>>,
-    // The places of the notes of each line.
+    // The indexes of the notes of each wait group.
     members: Vec<BTreeSet<usize>>,
-    // What waits for each unit, and perhaps what did.
+    // What each unit blocks, and perhaps what it blocked before.
     parked: IndexMap<UnitId, Vec<Parked>>,
-    // For each place LOOK where the command has to be looked at, if it is in no line or the first of its line, and perhaps
-    // where it needn't be any more; else WAIT.
+    // For each index LOOK if the command must be looked at, and is in no wait group or the first of
+    // its group. Else WAIT, or perhaps LOOK.
     keys: Firsts,
-    // Of each place the last clock at which its task hasn't waited too long; u64::MAX where the task may wait without
-    // limit, and where no command waits any more.
+    // For each index the last clock at which the task hasn't waited too long. u64::MAX if the task
+    // may wait without limit, or the command waits no more.
     deadlines: Firsts,
     alloc: Global,
 }
@@ -121,13 +123,13 @@ impl Model for Notes {
         n.members.items n.parked.entries n.keys };
 }
 
-// The key of a command that has to be looked at.
+// The key of a command that must be looked at.
 const LOOK: u64 = 0;
 
 // The key of a command that needn't be looked at.
 const WAIT: u64 = 1;
 
-// The unit that a command has to wait for, if it is known.
+// Returns the blocker of a note's command, or of its wait group, if it is known.
 fn note_blocker(lines: &[Option<UnitId>], note: &Note) -> Option<UnitId>
     ensures { result ≡ blocker_in lines.now note.now }
 {
@@ -140,7 +142,7 @@ fn note_blocker(lines: &[Option<UnitId>], note: &Note) -> Option<UnitId>
     }
 }
 
-// The note at a place, if its command has to be looked at.
+// Returns a note, if there is one and its command must be looked at.
 fn open_note(lines: &[Option<UnitId>], row: Option<Note>) -> Option<Note>
     ensures some { IfSome result (λ n. (row ≡ Some n) × (blocker_in lines.now n ≡ None)) }
     ensures none { IfNone result ((n : NoteValue) → row ≡ Some n
@@ -153,8 +155,8 @@ fn open_note(lines: &[Option<UnitId>], row: Option<Note>) -> Option<Note>
     }
 }
 
-// The place and the note of the first command that has to be looked at. Of those that needn't be looked at any more it is
-// noted that they wait.
+// Returns the index and the note of the first command that must be looked at. Sets the key of each
+// that it passes over to WAIT.
 fn first_shown(
     rows: &[Option<Note>],
     lines: &[Option<UnitId>],
@@ -175,7 +177,7 @@ fn first_shown(
     None
 }
 
-// Gives a unit a list, if it has none.
+// Gives a unit an empty list, if it has none.
 fn begin(
     parked: &mut IndexMap<UnitId, Vec<Parked>>,
     unit: UnitId,
@@ -190,7 +192,7 @@ fn begin(
     Ok(())
 }
 
-// Adds what waits for a unit. Where memory is refused all that waited for a unit does yet.
+// Adds to the list of what a unit blocks. On error every list keeps what it has.
 fn park(
     parked: &mut IndexMap<UnitId, Vec<Parked>>,
     unit: UnitId,
@@ -208,7 +210,7 @@ fn park(
     Ok(())
 }
 
-// Adds a line to what waits for a unit, unless it does already: `blocker` is the unit that it waits for.
+// Adds a wait group to what a unit blocks, unless `blocker`, the group's blocker, is that unit.
 fn park_line(
     parked: &mut IndexMap<UnitId, Vec<Parked>>,
     number: usize,
@@ -226,7 +228,7 @@ fn park_line(
     park(parked, unit, Parked::Line(number), alloc)
 }
 
-// Says of the first command of a line that it has to be looked at, if no unit is known that the line has to wait for.
+// Sets the key of a wait group's first command to LOOK, if the group's blocker isn't known.
 fn show_first(keys: &mut Firsts, blocker: Option<UnitId>, members: &BTreeSet<usize>)
     requires within { (i : ℕ) → has members.now i ≡ true → i < length keys.old }
     ensures { IsFirstShown blocker members.now keys.old keys.new }
@@ -239,7 +241,7 @@ fn show_first(keys: &mut Firsts, blocker: Option<UnitId>, members: &BTreeSet<usi
     }
 }
 
-// Takes the command of the note at a place out of its line, if it is in one.
+// Takes the command of the note at an index out of its wait group, if it is in one.
 fn leave(
     lines: &[Option<UnitId>],
     members: &mut Vec<BTreeSet<usize>>,
@@ -261,7 +263,7 @@ fn leave(
     show_first(keys, lines[number], &members[number]);
 }
 
-// Puts the command of the note at a place into a line, if it isn't in it.
+// Puts the command of the note at an index into a wait group, if it isn't in it.
 fn join(members: &mut Vec<BTreeSet<usize>>, number: usize, at: usize) -> Result<(), NoMemory>
     requires { number < length members.old.items }
     ensures ok { OnOk result (HasJoined at number members.old.items members.new.items) }
@@ -271,7 +273,7 @@ fn join(members: &mut Vec<BTreeSet<usize>>, number: usize, at: usize) -> Result<
     Ok(())
 }
 
-// Says of the commands of a line that they have to be looked at, if they wait for a unit.
+// Forgets the blocker of a wait group, if it is this unit. The group must then be looked at.
 fn reopen_line(
     lines: &mut [Option<UnitId>],
     members: &[BTreeSet<usize>],
@@ -296,7 +298,8 @@ fn reopen_line(
     }
 }
 
-// Says of the command of the note at a place that it has to be looked at, if it waits for a unit in no line.
+// Forgets the blocker of a command in no wait group, if it is this unit. The command must then be
+// looked at.
 fn reopen_row(rows: &mut [Option<Note>], keys: &mut Firsts, at: usize, unit: UnitId)
     requires even { length keys.old ≡ length rows.old }
     ensures shown { (bs : List (Option ℕ)) (ms : List (Places ℕ)) → IsShown rows.old bs ms keys.old
@@ -319,7 +322,7 @@ fn reopen_row(rows: &mut [Option<Note>], keys: &mut Firsts, at: usize, unit: Uni
     }
 }
 
-// Says of what stands in a unit's list that it has to be looked at, if it waits for the unit.
+// Forgets a unit as the blocker of an entry of its list.
 fn reopen_one(
     rows: &mut [Option<Note>],
     lines: &mut [Option<UnitId>],
@@ -339,7 +342,7 @@ fn reopen_one(
     }
 }
 
-// Says so of all that stands there.
+// Forgets a unit as the blocker of each entry of its list.
 fn reopen(
     rows: &mut [Option<Note>],
     lines: &mut [Option<UnitId>],
@@ -360,7 +363,7 @@ fn reopen(
 }
 
 impl Notes {
-    /// Nothing is known. `alloc` gives the memory for notes.
+    /// Returns empty notes. `alloc` gives the memory for those to come.
     pub(crate) fn new(alloc: Global) -> Notes
         ensures rows { result.rows ≡ [] }
         ensures deadlines { result.deadlines ≡ [] }
@@ -378,20 +381,21 @@ impl Notes {
         }
     }
 
-    /// How many commands there are notes of.
+    /// Returns how many commands there are notes of.
     pub(crate) fn count(&self) -> usize
         ensures { result ≡ count self.now.rows }
     {
         self.count
     }
 
-    /// Whether an eighth of the places exceeds by more than 1,000 the commands that wait, which are so many. Then it is time
-    /// to note all anew: that costs little beside the notes of those that wait no more.
+    /// Returns true if an eighth of the indexes is more than `waits`, the number of waiting
+    /// commands, plus 1,000. To note all anew then costs little beside the notes of commands that
+    /// wait no more.
     pub(crate) fn have_grown(&self, waits: usize) -> bool {
         self.rows.len() / 8 > waits.saturating_add(1000)
     }
 
-    /// Forgets all notes and lines. Takes no memory.
+    /// Forgets all notes and wait groups. Takes no memory.
     pub(crate) fn clear(&mut self)
         ensures rows { self.new.rows ≡ [] }
         ensures deadlines { self.new.deadlines ≡ [] }
@@ -406,8 +410,8 @@ impl Notes {
         self.deadlines.clear();
     }
 
-    /// Notes that a command of a label's task waits, last of all; it has to be looked at. `deadline` is the last clock at
-    /// which the task hasn't waited too long. Where memory is refused all notes stay as they are.
+    /// Adds the note of a command of a label's task, last of all. The command must be looked at.
+    /// `deadline` is the last clock at which the task hasn't waited too long.
     pub(crate) fn push(&mut self, label: Name8, deadline: u64) -> Result<(), NoMemory>
         ensures rows { self.new.rows ≡ (if is_ok result
             then self.old.rows ++ Some (new_note label) ∷ [] else self.old.rows) }
@@ -430,7 +434,7 @@ impl Notes {
         Ok(())
     }
 
-    /// The place and the note of the first command that has to be looked at.
+    /// Returns the index and the note of the first command that must be looked at.
     pub(crate) fn first_open(&mut self) -> Option<(usize, Note)>
         ensures first { IfSome result (λ p. IsFirstOpen self.new p.0 p.1) }
         ensures none { IfNone result (AreClosed self.new.blockers self.new.rows) }
@@ -439,7 +443,8 @@ impl Notes {
         first_shown(self.rows.as_slice(), self.lines.as_slice(), &mut self.keys)
     }
 
-    /// The place of the first note whose deadline is before a clock, or `None` where none is. Its task has waited too long.
+    /// Returns the index of the first note whose deadline is before `now`, if there is one. Its
+    /// task has waited too long.
     pub(crate) fn first_late(&self, now: u64) -> Option<usize>
         ensures { MatchOption result (All (λ key. now ≤ key) self.now.deadlines)
             (λ at. IsFirstBelow self.now.deadlines now at) }
@@ -447,7 +452,7 @@ impl Notes {
         self.deadlines.first_below(now)
     }
 
-    /// The label of the note at a place.
+    /// Returns the label of the note at an index.
     pub(crate) fn label_at(&self, at: usize) -> Name8
         requires there { (n : NoteValue) × (slice_get self.now.rows at ≡ Some (Some n)) }
         ensures { (n : NoteValue) → slice_get self.now.rows at ≡ Some (Some n)
@@ -459,7 +464,7 @@ impl Notes {
         }
     }
 
-    /// Drops the note at a place, if a place is given, whose command waits no more. Takes no memory.
+    /// Drops the note at an index, if one is given: its command waits no more. Takes no memory.
     pub(crate) fn remove_any(&mut self, at: Option<usize>)
         requires { IfSome at (IsNoteAt self.old) }
         ensures rows { self.new.rows ≡ without self.old.rows at }
@@ -473,7 +478,7 @@ impl Notes {
         self.remove(at);
     }
 
-    /// Drops the note at a place, whose command waits no more. Takes no memory.
+    /// Drops the note at an index: its command waits no more. Takes no memory.
     pub(crate) fn remove(&mut self, at: usize)
         requires there { (n : NoteValue) × (slice_get self.old.rows at ≡ Some (Some n)) }
         requires timed { at < length self.old.deadlines }
@@ -497,8 +502,9 @@ impl Notes {
         self.deadlines.set(at, u64::MAX);
     }
 
-    /// The commands that wait for a unit, if there is one, have to be looked at again: it may have given something up.
-    /// `false` only where there are none. Takes no memory.
+    /// Forgets a unit, if one is given, as a blocker: it may have released something. The commands
+    /// that it blocked must be looked at again. Returns false only if there are none. Takes no
+    /// memory.
     pub(crate) fn forget(&mut self, unit: Option<UnitId>) -> bool
         ensures rows { self.new.rows ≡ map (forgotten unit) self.old.rows }
         ensures blockers { self.new.blockers ≡ map (given_up unit) self.old.blockers }
@@ -524,7 +530,7 @@ impl Notes {
         true
     }
 
-    /// The number of the line of a resource. Where memory is refused all notes stay as they are.
+    /// Returns the index of the wait group of a resource. Adds the group if there is none.
     pub(crate) fn line_of(&mut self, resource: Resource) -> Result<usize, NoMemory>
         ensures line { IfOk result (λ g. slice_get self.new.resources g ≡ Some resource) }
         ensures within { IfOk result (λ g. g < length self.new.blockers) }
@@ -543,7 +549,7 @@ impl Notes {
         Ok(number)
     }
 
-    /// Whether a line is that of a resource.
+    /// Returns whether a wait group is that of a resource.
     pub(crate) fn is_line_of(&self, line: usize, resource: &Resource) -> bool
         ensures { slice_get self.now.resources line ≡ Some resource.now → result ≡ true }
     {
@@ -553,7 +559,7 @@ impl Notes {
         }
     }
 
-    /// The unit that the commands of a line have to wait for, if it is known.
+    /// Returns the blocker of a wait group, if it is known.
     pub(crate) fn line_blocker(&self, line: usize) -> Option<UnitId>
         requires { line < length self.now.blockers }
         ensures { result ≡ of_line self.now.blockers line }
@@ -561,8 +567,7 @@ impl Notes {
         self.lines[line]
     }
 
-    /// Notes the unit that the command of the note at a place has to wait for, in no line. Where memory is refused all notes
-    /// stay as they are.
+    /// Notes the blocker of the command of the note at an index, which is then in no wait group.
     pub(crate) fn set_alone(&mut self, at: usize, note: &Note, unit: UnitId) -> Result<(), NoMemory>
         requires there { slice_get self.old.rows at ≡ Some (Some note.now) }
         ensures rows { self.new.rows ≡ (if is_ok result
@@ -587,8 +592,8 @@ impl Notes {
         Ok(())
     }
 
-    /// Notes the unit that all commands of a line have to wait for, among them the one of the note at a place, which has to be
-    /// looked at and is in no other line. Where memory is refused all notes stay as they are.
+    /// Notes the blocker of a wait group, and puts the command of the note at an index into the
+    /// group. That command is in no other wait group.
     pub(crate) fn close(
         &mut self,
         at: usize,

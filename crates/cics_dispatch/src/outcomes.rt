@@ -1,4 +1,4 @@
-//! What comes of an event.
+//! Results of the calls of a region.
 
 ghost use Rattle.std.specs.Prelude.{◌≡◌};
 ghost use Rattle.cics_dispatch.specs.Refusals.{refusal_number};
@@ -19,51 +19,53 @@ pub enum Number {
 /// What a command was answered.
 #[derive(Debug, PartialEq, Eq, Drop)]
 pub struct Reply {
-    /// The condition. What follows is there at NORMAL, and where the task takes fewer bytes than there
-    /// are at LENGERR.
+    /// The condition. The fields below are there at NORMAL, and at LENGERR if there are more bytes
+    /// than the task takes.
     pub condition: Condition,
     /// The key of the record that a browse gave.
     pub key: Option<Record>,
     /// The record or item that was read, at LENGERR its first bytes.
     pub content: Option<Record>,
-    /// The number of the item that was read or written, or of the records that DELETE GENERIC deleted.
+    /// The number of the item that was read or written, or of the records that DELETE GENERIC
+    /// deleted.
     pub number: Option<Number>,
 }
 
-/// What came of a command.
+/// The outcome of a command.
 #[derive(Debug, PartialEq, Eq, Drop)]
 pub enum Outcome {
     /// The task goes on with this reply.
     Replied(Reply),
-    /// The command waits, and nothing of it was executed. The label is that of a task whose unit of
-    /// work holds what the command needs.
+    /// The command waits, and nothing of it was executed. The label is that of the task whose unit
+    /// of work blocks it.
     Waiting(Name8),
-    /// The task has ended with this code and its unit of work is backed out: by the reply's condition,
-    /// which nothing handled, or without a reply by ABEND.
+    /// The task has ended with this code, and its unit of work is backed out. The reply is the one
+    /// whose condition nothing handled. ABEND has none.
     Abended(AbendCode, Option<Reply>),
     /// The task has ended by RETURN.
     Ended,
 }
 
-/// What comes of trying a command: its task is told something, or it has to wait for a unit.
+/// The result of trying a command: its task is told something, or a unit blocks it.
 #[derive(Drop)]
 pub(crate) enum Attempt {
     /// What the task is told.
     Told(Outcome),
-    /// An open unit that the command has to wait for, and the updating command that it asks for, which comes back.
+    /// The open unit that blocks the command, and the updating command that it asks for, which
+    /// comes back.
     MustWait(UnitId, Option<Op>),
 }
 
-/// A waiting command that went on.
+/// A waiting command that resumed.
 #[derive(Debug, PartialEq, Eq, Drop)]
 pub struct Woken {
     /// The label of its task.
     pub label: Name8,
-    /// What came of it, which is never `Waiting`.
+    /// Its outcome, which is never `Waiting`.
     pub outcome: Outcome,
 }
 
-/// A waiting task whose time was over, and which has been abended.
+/// A task that has waited too long, and was abended.
 #[derive(Clone, Copy, Debug, PartialEq, Eq)]
 pub struct Expired {
     /// The label of the task.
@@ -83,7 +85,7 @@ pub enum Refused {
     TaskWaiting,
     /// The task has ended.
     TaskEnded,
-    /// A task has the label already, be it one that has ended.
+    /// A task has or had the label.
     DuplicateLabel,
     /// The clock would go back.
     ClockBack,
@@ -92,7 +94,7 @@ pub enum Refused {
 }
 
 impl Refused {
-    /// The number of the refusal, from 1 on, by which a journal tells it.
+    /// Returns the number of the refusal, from 1 on, by which a journal tells it.
     pub fn number(&self) -> u64
         ensures { result ≡ refusal_number self.now }
     {

@@ -9,7 +9,7 @@ use crate::outcomes::Reply;
 use cics_ksds::{File, FileDef};
 use cics_names::{Condition, NoMemory, Record};
 
-/// A reply of a condition alone.
+/// Returns a reply of a condition alone.
 pub(crate) fn plain_reply(condition: Condition) -> Reply
     ensures { result ≡ plain condition }
 {
@@ -21,7 +21,7 @@ pub(crate) fn plain_reply(condition: Condition) -> Reply
     }
 }
 
-// Whether EQUAL asks for the record that was found.
+// Returns whether EQUAL asks for the record that was found.
 fn is_wanted(definition: FileDef, found: &Record, key: &[u8], generic: bool) -> bool
     requires { IsTrue (fits_file definition found.now) }
     ensures { result ≡ is_asked_for key.now generic (key_of definition found.now) }
@@ -34,7 +34,8 @@ fn is_wanted(definition: FileDef, found: &Record, key: &[u8], generic: bool) -> 
     }
 }
 
-// The reply that gives a copy of a record, or with LENGTH below its length LENGERR and its first bytes.
+// Returns the reply with a copy of a record. If LENGTH is below its length, that is LENGERR, with
+// its first bytes.
 fn reply_giving(found: &Record, length: Option<u64>) -> Result<Reply, NoMemory>
     ensures { IfOk result (λ reply. reply ≡ cut length (giving found.now)) }
 {
@@ -52,7 +53,7 @@ fn reply_giving(found: &Record, length: Option<u64>) -> Result<Reply, NoMemory>
     })
 }
 
-/// The reply of a READ without UPDATE. Only the copy of the record that is found takes memory.
+/// Returns the reply to a READ without UPDATE. Only the copy of the record found takes memory.
 pub(crate) fn read_plain(
     file: &File,
     key: &[u8],

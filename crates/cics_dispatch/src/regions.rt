@@ -41,17 +41,18 @@ use std::marker::Model;
 ///   out. Each of these commands that was answered NORMAL has in this order the answer that it was
 ///   executed with.
 ///
-/// The region remembers the blocker of each waiting command. So `wake` looks only at commands that
-/// began to wait since the last look, or whose blocker may have released something since. Commands
-/// that use the same record, prefix, queue name, end of a queue or value, and nothing else, are a
-/// wait group. Of a group `wake` looks no further than the first that must wait.
+/// The region remembers the blockers that `wake` found. So `wake` looks only at commands that began
+/// to wait since the last look, or whose blocker may have released something since. Commands that
+/// use the same record, prefix, queue name, writing end of a queue or value, and nothing else, are
+/// a wait group. Of a group `wake` looks no further than the first that must wait, unless its
+/// blocker's own task waits for the same resource.
 pub struct Region {
     dispatcher: Dispatcher,
     // What is known of the waiting commands, up to those that began to wait since the last `wake`.
     notes: Notes,
-    // Whether each waiting command has its note, and none has to be looked at.
+    // If true, each waiting command has its note, and none must be looked at.
     is_settled: bool,
-    // Whether it is known that no task has waited too long yet.
+    // If true, no task has waited too long yet.
     is_in_time: bool,
 }
 
@@ -195,7 +196,7 @@ impl Region {
     }
 
     /// Returns true only if `wake` and `expire` would return `None`: no waiting command may resume,
-    /// and no task has waited too long. May be conservatively false. It looks at no wait.
+    /// and no task has waited too long. May be conservatively false. Cost: O(1).
     pub fn is_at_rest(&self) -> bool
         ensures rest { OnTrue result (IsAtRest self.now.machine) }
         ensures headline { IsHeadlineRegion self.now }
@@ -207,12 +208,11 @@ impl Region {
     /// Resumes the earliest waiting command that no longer has to wait, and returns the label of
     /// its task and its outcome. Returns `None` if each has to wait.
     ///
-    /// The order is that in which the waits began. The command resumes at the look at what other
-    /// units hold, and doesn't wait again. The only error is `NoMemory`: nothing changes, and the
-    /// command waits as it did.
+    /// The order is that in which the waits began. The command isn't checked again, and doesn't
+    /// wait again. The only error is `NoMemory`: nothing changes, and the command waits as it did.
     ///
-    /// Cost: it looks at no wait if it last returned `None`, and nothing has changed that since. A
-    /// command that began to wait does, and so does a blocker that may have released something.
+    /// Cost: O(1) if it last returned `None`, and since then no command began to wait, no task
+    /// expired, and no blocker may have released something.
     pub fn wake(&mut self) -> Result<Option<Woken>, Refused>
         ensures step { IsStep true self.old (always (woken self.old.machine)) result self.new }
         ensures first { IfOk result (λ woken.
@@ -235,16 +235,16 @@ impl Region {
         Ok(Some(woken))
     }
 
-    /// Abends the first task that has waited too long, by the code AKCS, and returns its label.
-    /// Returns `None` if no task has. Takes no memory.
+    /// Abends the first task that has waited too long, with the code AKCS, and returns its label
+    /// and the code. Returns `None` if no task has. Takes no memory.
     ///
     /// The order is that in which the waits began. A task has waited too long once the clock is its
     /// `dtimout` past the begin of its wait; a `dtimout` of 0 is no limit. Its unit of work is
     /// backed out, its wait ends, and so does the task.
     ///
-    /// Cost: O(log waits). It looks at no wait if it last returned `None` and nobody has asked to
-    /// set the clock since. It looks at all waits only if a command began to wait since the last
-    /// `wake`, and no other task has waited too long.
+    /// Cost: O(1) if it last returned `None` and nobody has asked to set the clock since. Else
+    /// O(log waits) to find the task, or O(waits) if it can only be one that began to wait since
+    /// the last `wake`.
     pub fn expire(&mut self) -> Option<Expired>
         ensures outcome { result ≡ (expired self.old.machine).outcome }
         ensures machine { self.new.machine ≡ (expired self.old.machine).machine }

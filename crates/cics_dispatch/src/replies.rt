@@ -9,14 +9,14 @@ use cics_browse::Browsed;
 use cics_names::{Condition, Record, Verb};
 use cics_units::Answer;
 
-// Returns the first bytes of a content. It takes no memory.
+// Returns the first bytes of a content. Takes no memory.
 fn first_bytes(content: Record, count: usize) -> Record
     ensures { result ≡ take count content }
 {
     content.first(count)
 }
 
-// A reply to a command with this LENGTH: a longer content is LENGERR, with its first bytes.
+// Returns a reply to a command with this LENGTH. A longer content is LENGERR, with its first bytes.
 fn cut(reply: Reply, length: Option<u64>) -> Reply
     ensures { result ≡ cut length reply }
 {
@@ -42,8 +42,8 @@ fn cut(reply: Reply, length: Option<u64>) -> Reply
     }
 }
 
-/// What a read of a browse answered as the task is told it, with no more of the content than LENGTH. It
-/// takes no memory.
+/// Returns the reply to a read of a browse, with no more of the content than LENGTH. Takes no
+/// memory.
 pub(crate) fn reply_of_browsed(browsed: Browsed, length: Option<u64>) -> Reply
     ensures { result ≡ cut length (browse_reply browsed) }
 {
@@ -56,7 +56,7 @@ pub(crate) fn reply_of_browsed(browsed: Browsed, length: Option<u64>) -> Reply
     cut(reply, length)
 }
 
-// What was answered as the task is told it, with this number, and with no more of the content than LENGTH.
+// Returns the reply of an answer, with this number, and with no more of the content than LENGTH.
 fn reply_with(answer: Answer, number: Option<Number>, length: Option<u64>) -> Reply
     ensures { result ≡ reply_with length number answer }
 {
@@ -69,8 +69,8 @@ fn reply_with(answer: Answer, number: Option<Number>, length: Option<u64>) -> Re
     cut(reply, length)
 }
 
-/// What READQ TS answered as the task is told it, with the number of the item and no more of its content
-/// than LENGTH. It takes no memory, so nothing fails after the NEXT place has moved.
+/// Returns the reply to READQ TS, with the number of the item and no more of its content than
+/// LENGTH. Takes no memory, so nothing fails after the cursor has moved.
 pub(crate) fn reply_of_item(answer: Answer, length: Option<u64>) -> Reply
     ensures { result ≡ reply_with length (option_map (λ k. Number.Item k) answer.number) answer }
 {
@@ -78,8 +78,8 @@ pub(crate) fn reply_of_item(answer: Answer, length: Option<u64>) -> Reply
     reply_with(answer, number, length)
 }
 
-/// What an executed command answered as the task is told it, with the number of the item or of the records
-/// deleted, and with no more of the content than LENGTH. It takes no memory, so nothing fails after the change.
+/// Returns the reply to an executed command, with no more of the content than LENGTH. Its number is
+/// that of the item or of the records deleted. Takes no memory, so nothing fails after the change.
 pub(crate) fn reply_of_answer(answer: Answer, verb: &Verb) -> Reply
     ensures { result ≡ reply_of verb.now answer }
 {

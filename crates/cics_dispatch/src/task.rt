@@ -13,7 +13,8 @@ use cics_names::Name8;
 use std::alloc::Global;
 use std::marker::Model;
 
-/// A task: its label, how long it may wait, its open unit of work, its browses, and whether it has ended.
+/// A task: its label, how long it may wait, its open unit of work, its browses, and whether it has
+/// ended.
 #[derive(Drop)]
 pub(crate) struct Task {
     label: Name8,
@@ -38,8 +39,8 @@ impl Model for Task {
 }
 
 impl Task {
-    /// A task without a unit and a browse. `alloc` gives the memory for its browses, `dtimout` is the seconds that
-    /// it may wait, 0 for no limit.
+    /// Returns a task without a unit or a browse. `alloc` gives the memory for its browses.
+    /// `dtimout` is the seconds that it may wait, 0 for no limit.
     pub(crate) fn new(alloc: Global, label: Name8, dtimout: u64) -> Task
         ensures { result ≡ new_task label dtimout }
     {
@@ -52,22 +53,23 @@ impl Task {
         }
     }
 
-    /// Its label.
+    /// Returns its label.
     pub(crate) fn label(&self) -> Name8
         ensures { result ≡ self.now.label }
     {
         self.label
     }
 
-    /// The seconds that it may wait, 0 for no limit.
+    /// Returns the seconds that it may wait, 0 for no limit.
     pub(crate) fn dtimout(&self) -> u64
         ensures { result ≡ self.now.dtimout }
     {
         self.dtimout
     }
 
-    /// The last clock, in seconds, at which it hasn't waited too long if it has waited since then. It is u64::MAX, which
-    /// no clock is above, where it may wait without limit or the sum is greater than that.
+    /// Returns the last clock, in seconds, at which it hasn't waited too long, if it waits since
+    /// `since`. If it may wait without limit, or the sum is greater, that is u64::MAX, the last
+    /// clock that there is.
     pub(crate) fn deadline(&self, since: u64) -> u64
         ensures { result ≡ deadline_of self.now since }
     {
@@ -77,28 +79,28 @@ impl Task {
         }
     }
 
-    /// Its open unit of work, if it has one.
+    /// Returns its open unit of work, if it has one.
     pub(crate) fn unit(&self) -> Option<UnitId>
         ensures { result ≡ self.now.unit }
     {
         self.unit
     }
 
-    /// Whether it has ended.
+    /// Returns whether it has ended.
     pub(crate) fn has_ended(&self) -> bool
         ensures { result ≡ self.now.has_ended }
     {
         self.has_ended
     }
 
-    /// Its browses.
+    /// Returns its browses.
     pub(crate) fn browses(&self) -> &Browses
         ensures { result.now ≡ self.now.browses }
     {
         &self.browses
     }
 
-    /// Its browses, to be changed.
+    /// Returns its browses, to be changed.
     pub(crate) fn browses_mut(&mut self) -> &mut Browses
         ensures* writes_back { sem 𝓛 (LendsBrowses self.entry result) }
         ensures browses { result.now ≡ self.old.browses }
@@ -113,8 +115,8 @@ impl Task {
         self.unit = Some(unit);
     }
 
-    /// Takes its unit, if it has one, and all its browses away; `has_ended` says whether it ends too. Answers the unit
-    /// that it had.
+    /// Takes its unit away, if it has one, and all its browses. Returns that unit. `has_ended` says
+    /// whether it ends too.
     pub(crate) fn close_unit(&mut self, has_ended: bool) -> Option<UnitId>
         ensures unit { result ≡ self.old.unit }
         ensures task { self.new

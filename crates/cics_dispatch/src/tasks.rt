@@ -21,14 +21,15 @@ use std::marker::Model;
 
 /// The tasks of a region, in the order of attach, those that have ended included.
 ///
-/// A task has a place, which counts from 0 and stays. It is found by its label, and by its unit of work, without a
-/// look at the others.
+/// A task has an index, from 0 on, which stays. It is found by its label, and by its unit of work,
+/// without a look at the others.
 #[derive(Drop)]
 pub(crate) struct Tasks {
     rows: IndexMap<Name8, Task>,
-    // The place of the task of each open unit. A unit that has ended may still stand here, without a place: a map that an
-    // entry is taken from doesn't tell that its room is free again, so those that have ended go all at once, when the map
-    // is full. It has room for almost twice as many units as there are tasks, so that this comes seldom.
+    // The index of the task of each open unit. A unit that has ended may still stand here, with
+    // None. Those units go all at once, when the map is full: a map doesn't tell that the room of a
+    // removed entry is free again. It has room for almost twice as many units as tasks, so that is
+    // seldom.
     owners: IndexMap<UnitId, Option<usize>>,
     alloc: Global,
 }
@@ -47,7 +48,7 @@ impl Model for Tasks {
         × AreOwnersKept (values_of t.rows.entries) t.owners };
 }
 
-// Enters the units of all tasks anew. It takes no memory.
+// Enters the units of all tasks anew. Takes no memory.
 fn enter_all(rows: &IndexMap<Name8, Task>, owners: &mut IndexMap<UnitId, Option<usize>>)
     requires units { IsOwn own_unit (values_of rows.now.entries) }
     requires room { HasRoomForUnits (values_of rows.now.entries) owners.old }
@@ -65,7 +66,7 @@ fn enter_all(rows: &IndexMap<Name8, Task>, owners: &mut IndexMap<UnitId, Option<
 }
 
 impl Tasks {
-    /// No task yet. `alloc` gives the memory for tasks and their browses.
+    /// Returns no tasks. `alloc` gives the memory for tasks and their browses.
     pub(crate) fn new(alloc: Global) -> Tasks
         ensures { result ≡ [] }
     {
@@ -76,7 +77,7 @@ impl Tasks {
         }
     }
 
-    /// How many tasks were attached. One more could still be counted.
+    /// Returns how many tasks were attached. One more could still be counted.
     pub(crate) fn len(&self) -> usize
         ensures length { result ≡ length self.now }
         ensures fits { length self.now < 0xFFFFFFFFFFFFFFFF }
@@ -84,8 +85,8 @@ impl Tasks {
         self.rows.len()
     }
 
-    /// Begins a task, last of all, where no task has its label. `dtimout` is the seconds that it may wait, 0 for no
-    /// limit. It takes the memory for the task's units too.
+    /// Begins a task, last of all. No task has its label. `dtimout` is the seconds that it may
+    /// wait, 0 for no limit. Takes the memory for the task's units too. On error no task begins.
     pub(crate) fn attach(&mut self, label: Name8, dtimout: u64) -> Result<(), NoMemory>
         requires { task_at self.old label ≡ None }
         ensures ok { OnOk result (self.new ≡ self.old ++ new_task label dtimout ∷ []) }
@@ -99,7 +100,7 @@ impl Tasks {
         Ok(())
     }
 
-    /// The place of the task of a label, or `None` where no task has it.
+    /// Returns the index of the task of a label, if there is one.
     pub(crate) fn find(&self, label: &Name8) -> Option<usize>
         ensures task { IfSome result (λ at. slice_get self.now at ≡ task_at self.now label.now) }
         ensures within { IfSome result (λ at. at < length self.now) }
@@ -108,7 +109,7 @@ impl Tasks {
         self.rows.get_index_of(label)
     }
 
-    /// The task at a place.
+    /// Returns the task at an index.
     pub(crate) fn get(&self, at: usize) -> &Task
         requires { at < length self.now }
         ensures { slice_get self.now at ≡ Some result.now }
@@ -116,7 +117,7 @@ impl Tasks {
         &self.rows[at]
     }
 
-    /// The label of the task whose open unit of work this is, or `None` where it is no task's.
+    /// Returns the label of the task whose open unit of work this is, if it is a task's.
     pub(crate) fn label_of(&self, unit: UnitId) -> Option<Name8>
         ensures label { unwrap_or result [] ≡ label_of self.now unit }
         ensures none { IfNone result (HasNoOwner self.now unit) }
@@ -125,7 +126,8 @@ impl Tasks {
         Some(self.get(at).label())
     }
 
-    /// Gives the task at a place a unit, unless it is its unit already; no other task has it. Takes no memory.
+    /// Gives the task at an index a unit, unless it has it already. No other task has it. Takes no
+    /// memory.
     pub(crate) fn own_unit(&mut self, at: usize, unit: UnitId)
         requires within { at < length self.old }
         requires free { OfTask self.old at (λ t. t.unit ≡ None → HasNoOwner self.old unit) }
@@ -137,8 +139,8 @@ impl Tasks {
             return;
         }
         self.rows[at].begin_unit(unit);
-        // A unit begins once, but that isn't known here; nor is it that the room stays as it is where what stands there
-        // is entered again.
+        // A unit begins once, but that isn't known here. Nor is it known that an entry that is
+        // entered again takes no room.
         if self.owners.len() == self.owners.capacity() || self.owners.contains_key(&unit) {
             enter_all(&self.rows, &mut self.owners);
             return;
@@ -148,8 +150,8 @@ impl Tasks {
         };
     }
 
-    /// Takes the unit of the task at a place, if it has one, and all its browses away; `has_ended` says whether the
-    /// task ends too. Answers the unit that it had. Takes no memory.
+    /// Takes the unit of the task at an index away, if it has one, and all its browses. Returns
+    /// that unit. `has_ended` says whether the task ends too. Takes no memory.
     pub(crate) fn close_unit(&mut self, at: usize, has_ended: bool) -> Option<UnitId>
         requires { at < length self.old }
         ensures unit { (t : TaskValue) → slice_get self.old at ≡ Some t → result ≡ t.unit }
@@ -164,8 +166,8 @@ impl Tasks {
         Some(unit)
     }
 
-    /// The browses of the task at a place, to be changed. Only they are lent, not the task, which is found by its label and
-    /// by its unit.
+    /// Returns the browses of the task at an index, to be changed. Only they are lent: the task is
+    /// found by its label and by its unit.
     pub(crate) fn browses_mut(&mut self, at: usize) -> &mut Browses
         requires { at < length self.old }
         ensures* writes_back { sem 𝓛 (LendsBrowsesAt self.entry at result) }

@@ -33,7 +33,7 @@ fn take_used(alloc: Global, from: &mut Record, length: Option<u64>) -> Result<Re
     }
 }
 
-// A DELETE of the record of a key, or of each whose key begins with it.
+// Returns a DELETE of the record of a key, or if generic of each record whose key begins with it.
 fn delete_op(file: Name8, key: Record, generic: bool) -> Op
     ensures { result ≡ (if generic then Op.DeleteGeneric file key else Op.Delete file key) }
 {
@@ -44,7 +44,7 @@ fn delete_op(file: Name8, key: Record, generic: bool) -> Op
     }
 }
 
-// A WRITEQ TS of an item, or with REWRITE in place of the item of a number.
+// Returns a WRITEQ TS of an item, or with REWRITE in place of the item of a number.
 fn ts_write_op(queue: Name8, from: Record, item: Option<u64>) -> Op
     ensures { result ≡ ts_write_op queue from item }
 {
@@ -126,8 +126,8 @@ fn take_own_op(alloc: Global, verb: &mut Verb) -> Result<Option<Op>, NoMemory>
 }
 
 /// Takes the updating command that a verb asks for out of the verb, with its key and the bytes of
-/// FROM that it uses, so that they aren't copied. Returns `None` for a verb that updates nothing.
-/// `refill` puts back what was taken.
+/// FROM that it uses. So they aren't copied, unless LENGTH cuts FROM. Returns `None` for a verb
+/// that updates nothing. `refill` puts back what was taken.
 ///
 /// `open_key` is the key of the task's open update read of the file that the verb names, `None` if
 /// there is none. REWRITE changes the record of that key, and so does DELETE without RIDFLD.

@@ -1,4 +1,4 @@
-//! The commands of a region that wait.
+//! The waiting commands of a region.
 
 ghost use Rattle.std.specs.Prelude.{◌≡◌, ◌↔◌, [], ◌∷◌, ◌++◌, false, length, IsTrue, OnOk, OnErr};
 ghost use Rattle.std.specs.Prelude.{◌-◌, Some, IfSome, IfNone, slice_get};
@@ -15,7 +15,7 @@ use std::collections::BTreeMap;
 use std::collections::btree_map::Values;
 use std::marker::Model;
 
-/// A command that waits.
+/// A waiting command.
 pub(crate) struct Suspended {
     label: Name8,
     command: Command,
@@ -49,28 +49,28 @@ impl Model for Suspended {
 }
 
 impl Suspended {
-    /// The label of its task.
+    /// Returns the label of its task.
     pub(crate) fn label(&self) -> Name8
         ensures { result ≡ self.now.label }
     {
         self.label
     }
 
-    /// The command, whole.
+    /// Returns the command, whole.
     pub(crate) fn command(&self) -> &Command
         ensures { result.now ≡ self.now.command }
     {
         &self.command
     }
 
-    /// The updating command that it asks for, or `None` of an ENQ, which asks for none.
+    /// Returns the updating command that it asks for. `None` for an ENQ, which asks for none.
     pub(crate) fn op(&self) -> Option<&Op>
         ensures { option_copied result ≡ self.now.op }
     {
         self.op.as_ref()
     }
 
-    /// The clock when the wait began, in seconds.
+    /// Returns the clock when the wait began, in seconds.
     pub(crate) fn since(&self) -> u64
         ensures { result ≡ self.now.since }
     {
@@ -78,9 +78,9 @@ impl Suspended {
     }
 }
 
-/// The commands that wait, in the order in which the waits began. A task has one of them at most.
+/// The waiting commands, in the order in which the waits began. A task has at most one.
 ///
-/// To find the wait of a label, to add one and to take one out costs the logarithm of the number of waits.
+/// Cost: O(log waits) to find the wait of a label, to add one, and to remove one.
 pub(crate) struct Waits {
     // Each wait under a number that is above those of the waits that began before.
     rows: BTreeMap<u64, Suspended>,
@@ -111,7 +111,7 @@ impl Model for Waits {
     ghost invariant = { λ w. AreNumbered w.rows.entries w.numbers.entries };
 }
 
-// A number above those of all waits, or None where the greatest is the last that there is.
+// Returns a number above those of all waits. None if the greatest of them is u64::MAX.
 fn next_number(rows: &BTreeMap<u64, Suspended>) -> Option<u64>
     ensures { IfSome result (λ n. AreBelow n rows.now.entries) }
 {
@@ -137,7 +137,7 @@ fn add(
 }
 
 impl Waits {
-    /// No command waits. `alloc` gives the memory for those that will.
+    /// Returns no waits. `alloc` gives the memory for those to come.
     pub(crate) fn new(alloc: Global) -> Waits
         ensures { result ≡ [] }
     {
@@ -147,7 +147,7 @@ impl Waits {
         }
     }
 
-    /// How many commands wait.
+    /// Returns how many commands wait.
     pub(crate) fn len(&self) -> usize
         ensures count { result ≡ length self.now }
         ensures once { AreApart self.now }
@@ -155,14 +155,14 @@ impl Waits {
         self.rows.len()
     }
 
-    /// Whether no command waits.
+    /// Returns whether no command waits.
     pub(crate) fn is_empty(&self) -> bool
         ensures { IsTrue result ↔ (self.now ≡ []) }
     {
         self.rows.len() == 0
     }
 
-    /// The wait of a label's task, or `None` where no command of it waits.
+    /// Returns the wait of a label's task, if a command of it waits.
     pub(crate) fn get(&self, label: &Name8) -> Option<&Suspended>
         ensures wait { option_copied result ≡ wait_of self.now label.now }
         ensures once { AreApart self.now }
@@ -171,7 +171,7 @@ impl Waits {
         self.rows.get(number)
     }
 
-    /// Whether a command of a label's task waits.
+    /// Returns whether a command of a label's task waits.
     pub(crate) fn is_waiting(&self, label: &Name8) -> bool
         ensures waiting { result ≡ is_waiting self.now label.now }
         ensures once { AreApart self.now }
@@ -183,7 +183,7 @@ impl Waits {
         self.numbers.contains_key(label)
     }
 
-    /// The waits, in the order in which they began.
+    /// Returns the waits, in the order in which they began.
     pub(crate) fn iter(&self) -> Values<'_, u64, Suspended>
         ensures rest { result ≡ self.now }
         ensures runs { ShowsInOrder (deref {X = Suspended}) }
@@ -192,7 +192,7 @@ impl Waits {
         self.rows.values()
     }
 
-    /// The wait that began last, or `None` where no command waits.
+    /// Returns the wait that began last, if a command waits.
     pub(crate) fn last(&self) -> Option<&Suspended>
         ensures last { IfSome result (λ wait.
             slice_get self.now (length self.now - 1) ≡ Some wait.now) }
@@ -203,11 +203,11 @@ impl Waits {
         Some(wait)
     }
 
-    /// Adds the wait of a command, last of all, where none of its task's waits. `op` is the updating command that it
-    /// asks for, `since` the clock, in seconds.
+    /// Adds the wait of a command, last of all. No other command of its task waits. `op` is the
+    /// updating command that it asks for, `since` the clock, in seconds.
     ///
-    /// It is refused where memory is, or where 2^64 - 1 waits have begun while never all had ended. All waits are as
-    /// they were then, and the command goes.
+    /// On `NoMemory` the waits stay as they are, and the command is dropped. That is the error too
+    /// if a wait has the number 2^64 - 1.
     pub(crate) fn begin(
         &mut self,
         label: Name8,

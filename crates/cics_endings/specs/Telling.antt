@@ -33,7 +33,7 @@ end_text (Some Ended) = codes " ENDED"
 end_text (Some (Abended code reply)) = codes " ABEND " ++ bare code.0
 end_text _ = codes " SHUTDOWN"
 
--- the task that another one waits for
+-- the task that blocks another one
 abbrev pub blocker_text : Option Bytes → List ℕ
 blocker_text None = []
 blocker_text (Some label) = bare label

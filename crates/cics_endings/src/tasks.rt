@@ -12,7 +12,7 @@ use cics_run::journal::push_outcome;
 use cics_script::{push_bare, push_number, push_str};
 use std::alloc::Global;
 
-// Puts how a task has ended at the end.
+// Appends how a task has ended.
 fn push_end(out: &mut Vec<u8>, told: &[Outcome]) -> Result<(), NoMemory>
     ensures { OnOk result (out.new.items
         ≡ out.old.items ++ end_text (slice_get told.now (length told.now - 1))) }
@@ -27,7 +27,7 @@ fn push_end(out: &mut Vec<u8>, told: &[Outcome]) -> Result<(), NoMemory>
     }
 }
 
-// Puts the task that another one waits for at the end.
+// Appends the task that blocks another one.
 fn push_blocker(out: &mut Vec<u8>, region: &Region, label: &Name8) -> Result<(), NoMemory>
     ensures { OnOk result (out.new.items
         ≡ out.old.items ++ blocker_text (blocker_of region.now.machine label.now)) }
@@ -38,7 +38,7 @@ fn push_blocker(out: &mut Vec<u8>, region: &Region, label: &Name8) -> Result<(),
     }
 }
 
-// Puts the number of the line that a lane gave last at the end.
+// Appends the number of the line that a lane gave last.
 fn push_last_number(out: &mut Vec<u8>, lane: &Lane) -> Result<(), NoMemory>
     ensures { OnOk result (out.new.items
         ≡ out.old.items ++ number_text (slice_get lane.now.lines (lane.now.given - 1))) }
@@ -49,7 +49,7 @@ fn push_last_number(out: &mut Vec<u8>, lane: &Lane) -> Result<(), NoMemory>
     }
 }
 
-// Puts at the end what a task does that has not ended.
+// Appends what a task does that has not ended.
 fn push_stand(
     out: &mut Vec<u8>,
     region: &Region,
@@ -70,7 +70,7 @@ fn push_stand(
     push_last_number(out, lane)
 }
 
-// Puts at the end what a task does.
+// Appends what a task does.
 fn push_state(
     out: &mut Vec<u8>,
     region: &Region,

@@ -20,7 +20,7 @@ struct Told<'a> {
     with_told: bool,
 }
 
-// The text of a mark.
+// Returns the text of a mark.
 fn mark_text(is_deadlock: bool) -> &'static str
     ensures { result.now ≡ mark is_deadlock }
 {
@@ -60,7 +60,7 @@ fn add_task(told: Told<'_>, parts: &mut Items<Record>, lane: &Lane) -> Result<()
     add_told(told.alloc, parts, label, lane)
 }
 
-// Whether tasks wait for each other in a circle.
+// Returns whether tasks wait for each other in a circle.
 fn is_deadlocked(alloc: Global, region: &Region) -> Result<bool, NoMemory>
     ensures { IfOk result (λ found. found ≡ is_deadlocked region.now.machine) }
 {
@@ -68,9 +68,9 @@ fn is_deadlocked(alloc: Global, region: &Region) -> Result<bool, NoMemory>
     Ok(found.len() > 0)
 }
 
-/// Returns the parts that an ending is told in: its mark, the block of each file and queue, and the
-/// line of each task in the order of attach. `with_told` puts behind a task's line what the task was
-/// told of each of its lines that was answered.
+/// Returns the parts of an ending: its mark, the block of each file and queue, and the line of each
+/// task in the order of attach. If `with_told`, what a task was told of each of its lines that was
+/// answered follows its line.
 ///
 /// Errors: `NoMemory`.
 pub fn parts_of(

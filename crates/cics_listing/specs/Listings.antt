@@ -27,11 +27,12 @@ recovery_title Logical = codes "LOGICAL"
 recovery_title Physical = codes "PHYSICAL"
 recovery_title Unrecovered = codes "NONE"
 
--- the line above a file's or queue's records: what it is, its name, its recovery, how many there are
+-- the line above a file's or queue's records: what it is, its name, its recovery, how many there
+-- are
 abbrev pub heading : List ℕ → List ℕ → List ℕ → List ℕ → ℕ → List ℕ
 heading kind name recovery counted count = line (kind ++ (codes " " ++ (name_text name ++ (codes " " ++ (recovery ++ count_text counted count)))))
 
--- a record stands on a line of its own, behind two blanks
+-- a record stands alone on a line, behind two blanks
 abbrev pub record_line : List ℕ → List ℕ
 record_line bytes = line (codes "  " ++ text_of bytes)
 

@@ -1,5 +1,5 @@
--- The serial run: a script in which the units of work that committed come one after the other, in the order of their commits,
--- with what each did to recoverable files and queues, and behind them the units that are open.
+-- The serial run: a script in which the committed units of work follow one another in commit order,
+-- with what each did to recoverable files and queues. Behind them come the open units.
 use Rattle.std.specs.Prelude.{ℕ, ◌+◌, false, true, None, Some, List, [], ◌∷◌, ◌++◌, codes}
 use Rattle.std.specs.List.{flat_map}
 use Rattle.std.specs.Fmt.{decimal}
@@ -77,7 +77,7 @@ unit_label unit = codes "U" ++ decimal unit
 abbrev pub unit_command_line : ℕ → Verb → List ℕ
 unit_command_line unit asked = line (written_out (unit_label unit) (record { verb = asked; resp = false }))
 
--- what asks for an updating command
+-- the verb that asks for an updating command
 abbrev pub verb_for : Op → Verb
 verb_for (Write file key from) = verb.Write file key None from None
 verb_for (Rewrite file key from) = verb.Rewrite file from None
@@ -91,7 +91,7 @@ verb_for (TdWrite queue from) = verb.WriteqTd queue from None
 verb_for (TdRead queue) = verb.ReadqTd queue None false
 verb_for (TdDelete queue) = verb.DeleteqTd queue
 
--- before READ UPDATE an update read of the file that may be open is given up
+-- before READ UPDATE an update read of the file that may be open is released
 abbrev pub unlock_line : ℕ → Op → List ℕ
 unlock_line unit (ReadUpdate file key) = unit_command_line unit (verb.Unlock file)
 unlock_line unit _ = []
@@ -123,7 +123,8 @@ open_from unit (BackedOut ∷ outcomes) = open_from (unit + 1) outcomes
 abbrev pub open_units : List UnitState → List ℕ
 open_units outcomes = open_from 0 outcomes
 
--- what was opened, each of the committed units in this order, and behind them these units, which are open
+-- what was opened, each of the committed units in this order, and behind them these units, which
+-- are open
 abbrev pub serial_script : OpeningState → List Entry → List ℕ → List ℕ → List ℕ
 serial_script o trace committed unfinished =
     opening_lines o ++ (flat_map (committed_lines (done_lines o trace)) committed ++ flat_map (unit_lines (done_lines o trace)) unfinished)

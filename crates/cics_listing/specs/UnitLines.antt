@@ -6,12 +6,12 @@ use Rattle.cics_history.specs.Serial.{is_done_by}
 use Rattle.cics_history.specs.declared.ops.Entry.{Entry}
 use Rattle.cics_listing.specs.Serial.{entry_lines}
 
--- the bytes of a row, where there is one
+-- the bytes of a row, if there is one
 abbrev pub row_bytes : Option (Vec ℕ) → List ℕ
 row_bytes None = []
 row_bytes (Some row) = row.items
 
--- the lines of a unit: none where it has no row
+-- the lines of a unit: none if it has no row
 abbrev pub lines_at : List (Vec ℕ) → ℕ → List ℕ
 lines_at rows unit = row_bytes (slice_get rows unit)
 

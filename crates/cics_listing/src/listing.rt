@@ -13,7 +13,7 @@ use cics_script::{push_bare, push_name, push_number, push_str, push_text};
 use cics_transdata::Recovery;
 use cics_units::{Listing, TaskState};
 
-/// The listing at the end of a run.
+/// Appends the listing at the end of a run.
 pub fn push_listing(out: &mut Vec<u8>, listing: &Listing) -> Result<(), NoMemory>
     ensures { OnOk result (out.new.items ≡ out.old.items ++ listing_text listing.now) }
 {
@@ -21,7 +21,7 @@ pub fn push_listing(out: &mut Vec<u8>, listing: &Listing) -> Result<(), NoMemory
     push_parts(out, listing)
 }
 
-/// The listing of a replay.
+/// Appends the listing of a replay.
 pub fn push_replay(out: &mut Vec<u8>, listing: &Listing) -> Result<(), NoMemory>
     ensures { OnOk result (out.new.items ≡ out.old.items ++ replay_text listing.now) }
 {
@@ -29,7 +29,7 @@ pub fn push_replay(out: &mut Vec<u8>, listing: &Listing) -> Result<(), NoMemory>
     push_parts(out, listing)
 }
 
-// Files, temporary storage, transient data, tasks.
+// Appends the files, temporary storage, transient data and tasks.
 fn push_parts(out: &mut Vec<u8>, listing: &Listing) -> Result<(), NoMemory>
     ensures { OnOk result (out.new.items ≡ out.old.items ++ parts_text listing.now) }
 {
@@ -39,7 +39,8 @@ fn push_parts(out: &mut Vec<u8>, listing: &Listing) -> Result<(), NoMemory>
     push_tasks(out, listing.tasks.as_slice())
 }
 
-// Files or temporary storage queues: what they are called, what is counted of each, and their rows.
+// Appends the blocks of files or temporary storage queues: what they are called, what is counted of
+// each, and their rows.
 fn push_kept(
     out: &mut Vec<u8>,
     kind: &str,
@@ -55,8 +56,8 @@ fn push_kept(
     Ok(())
 }
 
-/// Puts the block of a file or temporary storage queue: what it is called, what is counted of it,
-/// and its row of a listing.
+/// Appends the block of a file or temporary storage queue: what it is called, what is counted of
+/// it, and its row of a listing.
 ///
 /// Errors: `NoMemory`.
 pub fn push_block(
@@ -85,7 +86,7 @@ fn push_transient(
     Ok(())
 }
 
-/// Puts the block of a transient data queue.
+/// Appends the block of a transient data queue.
 ///
 /// Errors: `NoMemory`.
 pub fn push_transient_block(
@@ -112,7 +113,7 @@ fn push_tasks(out: &mut Vec<u8>, tasks: &[(Name8, TaskState)]) -> Result<(), NoM
     Ok(())
 }
 
-// What a block is of.
+// Appends what a block is of.
 fn push_title(out: &mut Vec<u8>, kind: &str, name: &[u8], recovery: &str) -> Result<(), NoMemory>
     ensures { OnOk result (out.new.items ≡ out.old.items
         ++ (kind.now ++ (codes " " ++ (name_text name.now ++ (codes " " ++ recovery.now))))) }
@@ -124,7 +125,7 @@ fn push_title(out: &mut Vec<u8>, kind: &str, name: &[u8], recovery: &str) -> Res
     push_str(out, recovery)
 }
 
-// How many records there are, and the records.
+// Appends how many records there are, and the records.
 fn push_counted(out: &mut Vec<u8>, counted: &str, records: &[Record]) -> Result<(), NoMemory>
     ensures { OnOk result (out.new.items ≡ out.old.items
         ++ (count_text counted.now (length records.now)
@@ -149,7 +150,7 @@ fn push_records(out: &mut Vec<u8>, records: &[Record]) -> Result<(), NoMemory>
     Ok(())
 }
 
-/// RECOVERABLE or UNRECOVERABLE.
+/// Returns RECOVERABLE or UNRECOVERABLE.
 pub(crate) fn recoverable_title(recoverable: bool) -> &'static str
     ensures { result.now ≡ recoverable_title recoverable }
 {
@@ -160,7 +161,7 @@ pub(crate) fn recoverable_title(recoverable: bool) -> &'static str
     }
 }
 
-/// LOGICAL, PHYSICAL or NONE.
+/// Returns LOGICAL, PHYSICAL or NONE.
 pub(crate) fn recovery_title(recovery: Recovery) -> &'static str
     ensures { result.now ≡ recovery_title recovery }
 {

@@ -20,13 +20,13 @@ use cics_script::{push_name, push_number, push_str, push_text};
 use cics_transdata::Recovery;
 use cics_units::{Opening, UnitState, Units};
 
-/// Puts the serial run of units of work, behind its heading: a script that defines and loads what
-/// was opened. It has a task for each committed unit, in the order of the commits. The task does
-/// what the unit did to recoverable files and queues, and commits. Behind them come the open units,
-/// in the order of their numbers, which don't commit.
+/// Appends the serial run of units of work, behind its heading: a script that defines and loads
+/// what was opened. It has a task for each committed unit, in commit order. The task does what the
+/// unit did to recoverable files and queues, and commits. Behind them come the open units, in the
+/// order of their numbers, which don't commit.
 ///
 /// It takes memory for the lines of each unit, for the text and for copies of its records. On
-/// `NoMemory`, the only error, `out` holds a front of the text behind what it held.
+/// `NoMemory`, the only error, `out` holds the first part of the text behind what it held.
 pub fn push_serial(out: &mut Vec<u8>, units: &Units) -> Result<(), NoMemory>
     ensures { OnOk result (out.new.items ≡ out.old.items ++ serial_text units.now.state) }
 {
@@ -38,7 +38,7 @@ pub fn push_serial(out: &mut Vec<u8>, units: &Units) -> Result<(), NoMemory>
     Ok(())
 }
 
-// What was defined and loaded.
+// Appends what was defined and loaded.
 fn push_opening(out: &mut Vec<u8>, opening: &Opening) -> Result<(), NoMemory>
     ensures { OnOk result (out.new.items ≡ out.old.items ++ opening_lines opening.now) }
 {
@@ -91,7 +91,7 @@ fn push_queues(
     Ok(())
 }
 
-// A file, and what was loaded into it.
+// Appends a file, and what was loaded into it.
 fn push_file(out: &mut Vec<u8>, file: &(Name8, FileDef, Items<Record>)) -> Result<(), NoMemory>
     ensures { OnOk result (out.new.items ≡ out.old.items ++ file_lines file.now) }
 {
@@ -110,7 +110,7 @@ fn push_file_line(out: &mut Vec<u8>, name: &[u8], definition: FileDef) -> Result
     push_str(out, "\n")
 }
 
-// Where a file's keys lie, and how long its records may be.
+// Appends where a file's keys lie, and how long its records may be.
 #[tactic(auto, unfolding(crate::specs::Serial::key_and_size_options))]
 fn push_numbers(out: &mut Vec<u8>, definition: FileDef) -> Result<(), NoMemory>
     ensures { OnOk result (out.new.items ≡ out.old.items ++ key_and_size_options definition) }
@@ -128,7 +128,7 @@ fn push_prefix(out: &mut Vec<u8>, prefix: &Name8) -> Result<(), NoMemory>
     push_str(out, "\n")
 }
 
-// A transient data queue, and what was loaded into it.
+// Appends a transient data queue, and what was loaded into it.
 fn push_queue(out: &mut Vec<u8>, queue: &(Name4, Recovery, Items<Record>)) -> Result<(), NoMemory>
     ensures { OnOk result (out.new.items ≡ out.old.items ++ queue_lines queue.now) }
 {
@@ -146,7 +146,7 @@ fn push_queue_line(out: &mut Vec<u8>, name: &[u8], recovery: Recovery) -> Result
     push_str(out, "\n")
 }
 
-// The records that were loaded into a file or queue.
+// Appends the records that were loaded into a file or queue.
 fn push_loads(
     out: &mut Vec<u8>,
     kind: &str,
@@ -172,7 +172,7 @@ fn push_load(out: &mut Vec<u8>, kind: &str, name: &[u8], loaded: &[u8]) -> Resul
     push_str(out, "\n")
 }
 
-// A word that stands alone.
+// Appends a word that stands alone.
 #[tactic(auto, unfolding(crate::specs::Serial::bare_option))]
 fn push_flag(out: &mut Vec<u8>, title: &str) -> Result<(), NoMemory>
     ensures { OnOk result (out.new.items ≡ out.old.items ++ bare_option title.now) }
@@ -181,7 +181,7 @@ fn push_flag(out: &mut Vec<u8>, title: &str) -> Result<(), NoMemory>
     push_str(out, title)
 }
 
-// An option that gives a name.
+// Appends an option that gives a name.
 #[tactic(auto, unfolding(crate::specs::Serial::option_with_value))]
 fn push_named(out: &mut Vec<u8>, title: &str, name: &[u8]) -> Result<(), NoMemory>
     ensures { OnOk result (out.new.items
@@ -194,7 +194,7 @@ fn push_named(out: &mut Vec<u8>, title: &str, name: &[u8]) -> Result<(), NoMemor
     push_str(out, ")")
 }
 
-// An option that gives a record.
+// Appends an option that gives a record.
 #[tactic(auto, unfolding(crate::specs::Serial::option_with_value))]
 fn push_content(out: &mut Vec<u8>, title: &str, content: &[u8]) -> Result<(), NoMemory>
     ensures { OnOk result (out.new.items
@@ -207,7 +207,7 @@ fn push_content(out: &mut Vec<u8>, title: &str, content: &[u8]) -> Result<(), No
     push_str(out, ")")
 }
 
-// An option that gives a number.
+// Appends an option that gives a number.
 #[tactic(auto, unfolding(crate::specs::Serial::option_with_value))]
 fn push_amount(out: &mut Vec<u8>, title: &str, number: u64) -> Result<(), NoMemory>
     ensures { OnOk result (out.new.items
@@ -220,7 +220,7 @@ fn push_amount(out: &mut Vec<u8>, title: &str, number: u64) -> Result<(), NoMemo
     push_str(out, ")")
 }
 
-// The units that committed, in this order.
+// Appends the committed units, in this order.
 fn push_committed(out: &mut Vec<u8>, rows: &[Vec<u8>], commits: &[UnitId]) -> Result<(), NoMemory>
     ensures { OnOk result (out.new.items ≡ out.old.items
         ++ flat_map (committed_lines (lines_at rows.now)) commits.now) }
@@ -239,7 +239,7 @@ fn push_committed_unit(out: &mut Vec<u8>, rows: &[Vec<u8>], unit: UnitId) -> Res
     push_command(out, unit, Verb::Syncpoint)
 }
 
-// The units that are open.
+// Appends the open units.
 fn push_open(out: &mut Vec<u8>, rows: &[Vec<u8>], outcomes: &[UnitState]) -> Result<(), NoMemory>
     ensures { OnOk result (out.new.items ≡ out.old.items
         ++ flat_map (unit_lines (lines_at rows.now)) (open_units outcomes.now)) }
@@ -250,7 +250,7 @@ fn push_open(out: &mut Vec<u8>, rows: &[Vec<u8>], outcomes: &[UnitState]) -> Res
     Ok(())
 }
 
-// A unit with this outcome, if it is open.
+// Appends a unit with this outcome, if it is open.
 fn push_if_open(
     out: &mut Vec<u8>,
     rows: &[Vec<u8>],
@@ -266,7 +266,7 @@ fn push_if_open(
     }
 }
 
-// A unit: its task is attached, and does what the unit did.
+// Appends a unit: its task is attached, and does what the unit did.
 fn push_unit(out: &mut Vec<u8>, rows: &[Vec<u8>], unit: UnitId) -> Result<(), NoMemory>
     ensures { OnOk result (out.new.items
         ≡ out.old.items ++ unit_lines (lines_at rows.now) unit) }
@@ -279,7 +279,7 @@ fn push_unit(out: &mut Vec<u8>, rows: &[Vec<u8>], unit: UnitId) -> Result<(), No
     Ok(())
 }
 
-// The lines of a unit.
+// Returns the lines of a unit.
 fn lines_of(rows: &[Vec<u8>], unit: UnitId) -> &[u8]
     ensures { result.now ≡ lines_at rows.now unit }
 {

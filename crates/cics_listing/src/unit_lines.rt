@@ -12,9 +12,9 @@ use cics_script::{push_number, push_str, write_out};
 use cics_units::{Entry, Op, Opening};
 use std::alloc::Global;
 
-/// The lines of what each unit did to recoverable files and queues, in its order: a row for each
-/// unit by its number, as far as there are units that did something. The commands are walked once.
-/// `alloc` gives the memory for the rows, and an `Err` comes only where it is refused.
+/// Returns the lines of what each unit did to recoverable files and queues, in its order. There is
+/// a row for each unit by its number, up to the last one that did something. It walks the commands
+/// once. `alloc` gives the memory for the rows. The only error is `NoMemory`.
 pub fn gathered(alloc: Global, opening: &Opening, trace: &[Entry]) -> Result<Vec<Vec<u8>>, NoMemory>
     ensures { IfOk result (λ rows. (unit : ℕ) →
         lines_at rows.items unit ≡ done_lines opening.now trace.now unit) }
@@ -26,7 +26,7 @@ pub fn gathered(alloc: Global, opening: &Opening, trace: &[Entry]) -> Result<Vec
     Ok(rows)
 }
 
-// Adds the lines of a command to those of its unit, where it was done.
+// Adds the lines of a command to those of its unit, if the command was done.
 fn gather(
     rows: &mut Vec<Vec<u8>>,
     alloc: Global,
@@ -45,7 +45,7 @@ fn gather(
     Ok(())
 }
 
-// Whether a command was answered NORMAL, in a recoverable file or queue.
+// Returns whether a command was answered NORMAL, on a recoverable file or queue.
 fn is_done(opening: &Opening, entry: &Entry) -> bool
     ensures { result ≡ (is_normal entry.now.answer.condition
         && is_recoverable opening.now entry.now.op) }
@@ -53,7 +53,7 @@ fn is_done(opening: &Opening, entry: &Entry) -> bool
     entry.answer.condition == Condition::Normal && opening.is_recoverable(&entry.op)
 }
 
-// Makes an empty row for each unit up to this one that has none.
+// Adds an empty row for each unit up to this one that has none.
 fn grow(rows: &mut Vec<Vec<u8>>, alloc: Global, last: usize) -> Result<(), NoMemory>
     ensures same { OnOk result ((unit : ℕ) →
         lines_at rows.new.items unit ≡ lines_at rows.old.items unit) }
@@ -65,7 +65,7 @@ fn grow(rows: &mut Vec<Vec<u8>>, alloc: Global, last: usize) -> Result<(), NoMem
     Ok(())
 }
 
-// The lines of a command.
+// Appends the lines of a command.
 fn push_entry(out: &mut Vec<u8>, entry: &Entry) -> Result<(), NoMemory>
     ensures { OnOk result (out.new.items ≡ out.old.items ++ entry_lines entry.now) }
 {
@@ -73,7 +73,7 @@ fn push_entry(out: &mut Vec<u8>, entry: &Entry) -> Result<(), NoMemory>
     push_command(out, entry.unit, verb_for(&entry.op)?)
 }
 
-// Prints an UNLOCK before a READ UPDATE, since an update read of the file may be open.
+// Appends an UNLOCK before a READ UPDATE, since an update read of the file may be open.
 fn push_unlock(out: &mut Vec<u8>, unit: UnitId, op: &Op) -> Result<(), NoMemory>
     ensures { OnOk result (out.new.items ≡ out.old.items ++ unlock_line unit op.now) }
 {
@@ -83,7 +83,7 @@ fn push_unlock(out: &mut Vec<u8>, unit: UnitId, op: &Op) -> Result<(), NoMemory>
     }
 }
 
-/// A command of the task of a unit.
+/// Appends a command of the task of a unit.
 pub fn push_command(out: &mut Vec<u8>, unit: UnitId, verb: Verb) -> Result<(), NoMemory>
     ensures { OnOk result (out.new.items ≡ out.old.items ++ unit_command_line unit verb) }
 {
@@ -94,7 +94,7 @@ pub fn push_command(out: &mut Vec<u8>, unit: UnitId, verb: Verb) -> Result<(), N
     push_str(out, "\n")
 }
 
-/// The label of the task of a unit.
+/// Appends the label of the task of a unit.
 pub fn push_label(out: &mut Vec<u8>, unit: UnitId) -> Result<(), NoMemory>
     ensures { OnOk result (out.new.items ≡ out.old.items ++ unit_label unit) }
 {
@@ -102,7 +102,7 @@ pub fn push_label(out: &mut Vec<u8>, unit: UnitId) -> Result<(), NoMemory>
     push_number(out, unit.number())
 }
 
-// What asks for an updating command. It takes memory for copies of its records.
+// Returns the verb that asks for an updating command. It takes memory for copies of its records.
 fn verb_for(op: &Op) -> Result<Verb, NoMemory>
     ensures { IfOk result (λ verb. verb ≡ verb_for op.now) }
 {

@@ -1,4 +1,5 @@
--- Whether a task has ended: the machine tells it, and so does its lane. A task that has not, and doesn't wait, is not refused.
+-- Whether a task has ended: the machine tells it, and so does its lane. A task that has not, and
+-- doesn't wait, is not refused.
 use Rattle.std.specs.Prelude.{◌≡◌, Bool, true, if◌then◌else◌, List, [], ◌∷◌, Option, Some, None, option_map, Result, Ok}
 use Rattle.cics_names.specs.Keyed.{Bytes}
 use Rattle.cics_names.specs.declared.commands.Command.{Command}
@@ -13,7 +14,7 @@ use Rattle.cics_orders.specs.declared.lanes.Lane.{Lane}
 abbrev pub ended_task : List Task → Bytes → Option Bool
 ended_task ts label = option_map (λ t. t.has_ended) (task_at ts label)
 
--- and as its lane tells it
+-- whether the task of a label has ended, as its lane tells it
 abbrev pub ended_lane : List Lane → Bytes → Option Bool
 ended_lane [] label = None
 ended_lane (x ∷ xs) label = if is_of x label then Some x.has_ended else ended_lane xs label

@@ -30,8 +30,9 @@ use Rattle.cics_plans.specs.declared.plans.Plan.{Plan}
 use Rattle.cics_plans.specs.declared.plans.TaskPlan.{TaskPlan}
 use Rattle.cics_orders.specs.declared.lanes.Lane.{Lane}
 
--- a script's plan, the machine of its region, the lanes that give to it, which task's lane gave last, and whether the order so
--- far is serial: no task within a turn gave a line behind another task's
+-- a script's plan, the machine of its region, the lanes that give to it, the task's lane that gave
+-- last, and whether the order so far is serial; it is if no task within a turn gave a line behind
+-- another task's
 pub record State : Type 0 where
   pub plan : Plan
   pub machine : Machine
@@ -73,7 +74,7 @@ shut lane = record lane { has_ended = true }
 
 -- ---- What a line does
 
--- an event that was not refused for want of memory
+-- an event that was not refused for memory
 abbrev pub IsAnswered : {X : Type 0} → Result X Refused → Type 0
 IsAnswered (Err NoMemory) = ⊥
 IsAnswered _ = Unit {0}
@@ -87,15 +88,15 @@ Happens m step None n = (e : Refused) × (step.outcome ≡ Err e) × (n ≡ m)
 unfoldable pub issuing : Machine → Bytes → Command → Stepped (Result Outcome Refused)
 issuing m label command = unless_down m (issued m label command)
 
--- that of the clock
+-- the step of the clock
 unfoldable pub timing : Machine → ℕ → Stepped (Result (Unit {0}) Refused)
 timing m seconds = unless_down m (clock_set m seconds)
 
--- that of the shutdown
+-- the step of the shutdown
 unfoldable pub shutting : Machine → Stepped (Result ℕ Refused)
 shutting m = unless_down m (shut_down m)
 
--- that of an attach
+-- the step of an attach
 unfoldable pub attaching : Machine → Bytes → ℕ → Stepped (Result (Unit {0}) Refused)
 attaching m label dtimout = unless_down m (attached m label dtimout)
 
@@ -114,7 +115,7 @@ after_line s (Ok Shutdown) =
     let step = shutting s.machine in left_by s (λ _. map shut s.lanes) step.outcome step.machine
 after_line s _ = s
 
--- ---- What goes on by itself
+-- ---- Draining
 
 -- a task that has waited too long is abended
 abbrev pub late : Machine → Option Expired → Machine → Stepped (Option (Bytes × Outcome))
@@ -153,13 +154,14 @@ abbrev pub after_step : State → Option State → (State → State) → State
 after_step s None more = s
 after_step s (Some next) more = more next
 
--- so many steps at most
+-- at most so many steps
 unfoldable pub drained_within : ℕ → State → State
 drained_within zero s = s
 drained_within (suc steps) s = after_step s (drained_once s) (drained_within steps)
 
--- The region drains: it takes steps until there is none. Each ends the wait of a command, so as many steps as commands wait are
--- enough. After them nothing goes on by itself (`drained_rests` of proofs/Draining).
+-- The region drains: it takes steps until there is none. Each ends the wait of a command, so as
+-- many steps as commands wait are enough. After them it is at rest (`drained_rests` of
+-- proofs/Draining).
 unfoldable pub drained : State → State
 drained s = drained_within (length s.machine.waiting) s
 
@@ -200,7 +202,8 @@ is_lane (Some k) l = k == l
 abbrev pub with_given : Lane → Bool → Lane
 with_given lane ends = record lane { given = lane.given + 1; is_in_turn = is_some lane.label && not ends }
 
--- the state in which a lane's line counts as given, before it does anything; it may end the task's turn
+-- the state in which a lane's line counts as given, before it does anything; it may end the task's
+-- turn
 abbrev pub counted : State → ℕ → Lane → Bool → State
 counted s l lane ends = record s {
   lanes = slice_set s.lanes l (with_given lane ends);
@@ -273,6 +276,6 @@ initial_lanes p = map task_lane p.tasks ++ fresh_lane None p.clock ∷ []
 unfoldable pub initial_state : Plan → State
 initial_state p = record { plan = p; machine = initial_machine p; lanes = initial_lanes p; last = None; is_serial = true }
 
--- how many lines an order may have at most
+-- at most how many lines an order may have
 abbrev pub line_count : Plan → ℕ
 line_count p = fold (λ n t. n + length t.lines) (length p.clock) p.tasks

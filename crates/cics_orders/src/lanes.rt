@@ -27,7 +27,7 @@ pub struct Lane {
     pub is_in_turn: bool,
 }
 
-// Whether a task has ended that is told this.
+// Returns whether an outcome ends its task.
 fn is_last(outcome: &Outcome) -> bool
     ensures { result ≡ is_last outcome.now }
 {
@@ -49,7 +49,7 @@ fn copied(alloc: Global, lines: &[(u64, Record)]) -> Result<Items<(u64, Record)>
 }
 
 impl Lane {
-    // A lane of which no line is given.
+    // Returns a lane of which no line is given.
     fn new(alloc: Global, label: Option<Name8>, lines: &[(u64, Record)]) -> Result<Lane, NoMemory>
         ensures { IfOk result (λ lane. lane ≡ fresh_lane label lines.now) }
     {
@@ -63,7 +63,7 @@ impl Lane {
         })
     }
 
-    // Whether it is the lane of the task of a label.
+    // Returns whether it is the lane of the task of a label.
     fn is_of(&self, label: &Name8) -> bool
         ensures { result ≡ is_of self.now label.now }
     {
@@ -92,7 +92,7 @@ impl Lane {
     }
 }
 
-/// The lanes of a script before the first line.
+/// Returns the lanes of a script before the first line.
 pub(crate) fn initial_lanes(alloc: Global, plan: &Plan) -> Result<Vec<Lane>, NoMemory>
     ensures { IfOk result (λ lanes. lanes.items ≡ initial_lanes plan.now) }
 {
@@ -104,7 +104,7 @@ pub(crate) fn initial_lanes(alloc: Global, plan: &Plan) -> Result<Vec<Lane>, NoM
     Ok(lanes)
 }
 
-// The place of the lane of a label.
+// Returns the index of the lane of a label.
 fn place_of(lanes: &[Lane], label: &Name8) -> Option<usize>
     ensures { result ≡ first_place (λ lane. is_of lane label.now) lanes.now }
 {

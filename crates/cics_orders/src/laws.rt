@@ -8,8 +8,8 @@ ghost use Rattle.cics_plans.specs.declared.plans.Plan.{Plan};
 ghost use Rattle.cics_orders.specs.Giving.{lanes, initial_state};
 ghost use Rattle.cics_orders.specs.Ended.{AcceptsReady, Agrees};
 
-/// After each line of an order nothing goes on by itself: no waiting command may resume, and no
-/// task has waited too long.
+/// After each line of an order the region is at rest: no waiting command may resume, and no task
+/// has waited too long.
 pub fn orders_rest()
     ensures { (p : Plan) (o : Order) → IsAtRest (after lanes (initial_state p) o).machine }
 {}
@@ -19,8 +19,8 @@ pub fn lanes_tell_ended_tasks()
     ensures { (p : Plan) (o : Order) → Agrees (after lanes (initial_state p) o) }
 {}
 
-/// After every order no command is refused of a task that may give a line: one that has not ended,
-/// by its lane, and has no waiting command.
+/// After every order no command is refused of a task that may give a line. That is one that has not
+/// ended, by its lane, and has no waiting command.
 pub fn lines_are_not_refused()
     ensures { (p : Plan) (o : Order) → AcceptsReady (after lanes (initial_state p) o) }
 {}

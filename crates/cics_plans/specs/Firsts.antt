@@ -1,7 +1,7 @@
 -- The first element of a list that is one.
 use Rattle.std.specs.Prelude.{ℕ, suc, Bool, if◌then◌else◌, List, [], ◌∷◌, Option, Some, None, option_map}
 
--- the place of the first that is one
+-- the index of the first that is one
 abbrev pub first_place : {X : Type 0} → (X → Bool) → List X → Option ℕ
 first_place is [] = None
 first_place is (x ∷ xs) = if is x then Some 0 else option_map suc (first_place is xs)

@@ -1,4 +1,5 @@
--- How a script is taken apart: what its lines define, the tasks with their lines, and the clock's lines.
+-- How a script is taken apart: what its lines define, the tasks with their lines, and the clock's
+-- lines.
 use Rattle.std.specs.Prelude.{◌≡◌, ℕ, ◌+◌, Bool, true, false, if◌then◌else◌, List, [], ◌∷◌, ◌++◌, Option, Some, None, is_some, Result, Ok, Err, IfOk}
 use Rattle.cics_names.specs.Keyed.{Bytes, is_same}
 use Rattle.cics_history.specs.State.{OpeningState}
@@ -24,7 +25,8 @@ use Rattle.cics_plans.specs.declared.plans.ScriptFault.TheVariants as fault
 abbrev pub NumberedLine : Type 0
 NumberedLine = ℕ × Bytes
 
--- the lines so far: what they define, whether all are definitions or blank, the plan, and the refused lines
+-- the lines so far: what they define, whether all are definitions or blank, the plan, and the
+-- refused lines
 pub record Taken : Type 0 where
   pub opening : OpeningState
   pub is_opening : Bool
@@ -68,7 +70,7 @@ defined t next definition =
 abbrev pub is_task : TaskPlan → Bytes → Bool
 is_task task label = is_same task.label label
 
--- whether one of these tasks has it
+-- whether one of these tasks has a label
 abbrev pub has_task : List TaskPlan → Bytes → Bool
 has_task tasks label = is_some (first_place (λ task. is_task task label) tasks)
 

@@ -47,7 +47,7 @@ impl Model for Planner {
     } };
 }
 
-// The place of the task of a label.
+// Returns the index of the task of a label.
 fn place_of(tasks: &[TaskPlan], label: &Name8) -> Option<usize>
     ensures { result ≡ first_place (λ task. is_task task label.now) tasks.now }
 {

@@ -43,7 +43,7 @@ pub struct Plan {
 }
 
 /// A line that is refused in every order: the second ATTACH of a label, or a command of a label
-/// that no line before it attaches.
+/// that isn't attached before it.
 #[derive(Clone, Copy, Debug, PartialEq, Eq)]
 pub struct RefusedLine {
     pub number: u64,

@@ -17,7 +17,7 @@ lane_lines p l = by (slice_get p.tasks l) where
   by (Some task) = task.lines
   by None = p.clock
 
--- a lane gives a line, if it has one left
+-- the next line of a lane is added, if it has one left
 abbrev pub with_given : Along → ℕ → Option NumberedLine → Along
 with_given a l None = a
 with_given a l (Some next) = (slice_set a.0 l (get_or a.0 l 0 + 1), a.1 ++ next ∷ [])

@@ -6,7 +6,8 @@ use Rattle.cics_plans.specs.Taking.{Taken, nothing_taken, taken_apart}
 use Rattle.cics_plans.specs.declared.plans.ScriptFault.{ScriptFault}
 use Rattle.cics_report.specs.Reporting.{as_fault}
 
--- a script that is taken apart has no fault in its plain run; another has this fault there, at the last line that is run
+-- a script that is taken apart has no fault in its plain run; another has this fault there, at the
+-- last line that is run
 abbrev pub HasFaultOf : Played → Result Taken (ℕ × ScriptFault) → Type 0
 HasFaultOf p (Ok t) = p.fault ≡ None
 HasFaultOf p (Err (number, f)) = (p.number ≡ number) × (p.fault ≡ Some (as_fault f))

@@ -41,7 +41,7 @@ refused_text r = codes "LINE " ++ (decimal r.number ++ (codes " " ++ refused_lin
 
 -- ---- Numbers
 
--- how a number is told that is too low if orders were left out
+-- the words before a number, which is a lower bound if orders were left out
 abbrev pub bound_text : Bool → List ℕ
 bound_text is_whole = if is_whole then [] else codes "AT LEAST "
 
@@ -81,7 +81,7 @@ word_of (Ok (Clock seconds)) = codes "CLOCK"
 word_of (Ok Shutdown) = codes "SHUTDOWN"
 word_of _ = []
 
--- the same behind a blank
+-- the word of a line behind a blank
 abbrev pub word_text : NumberedLine → List ℕ
 word_text next = codes " " ++ word_of (line next.1)
 
@@ -145,7 +145,7 @@ title_text r k e =
 abbrev pub script_text : Plan → Report → ℕ → Reported → List ℕ
 script_text p r k e = title_text r k e ++ run_text p e.order
 
--- the same of the ending of a number, if there is one
+-- the first order of the ending of a number as a script, if there is one
 abbrev pub script_at : Plan → Report → ℕ → Option (List ℕ)
 script_at p r k = option_map (script_text p r k) (ending_at r.endings k)
 

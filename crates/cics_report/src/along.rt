@@ -7,7 +7,7 @@ use cics_names::{Items, NoMemory, Record};
 use cics_plans::Plan;
 use std::alloc::Global;
 
-// The lines of a lane.
+// Returns the lines of a lane.
 fn lane_lines(plan: &Plan, lane: usize) -> &[(u64, Record)]
     ensures { result.now ≡ lane_lines plan.now lane }
 {
@@ -17,7 +17,7 @@ fn lane_lines(plan: &Plan, lane: usize) -> &[(u64, Record)]
     }
 }
 
-// How many lines a lane has given.
+// Returns how many lines a lane has given.
 fn given_by(given: &[usize], lane: usize) -> usize
     ensures { result ≡ get_or given.now lane 0 }
 {
@@ -27,7 +27,7 @@ fn given_by(given: &[usize], lane: usize) -> usize
     }
 }
 
-// Counts a line more of a lane, if that is there.
+// Sets how many lines a lane has given, if the lane is there.
 fn set_given(given: &mut Vec<usize>, lane: usize, count: usize)
     ensures { given.new.items ≡ slice_set given.old.items lane count }
 {
@@ -36,7 +36,7 @@ fn set_given(given: &mut Vec<usize>, lane: usize, count: usize)
     }
 }
 
-// A lane gives its next line, if it has one left.
+// Adds the next line of a lane, if it has one left.
 fn give(
     plan: &Plan,
     given: &mut Vec<usize>,

@@ -10,14 +10,14 @@ use cics_lanes::{Ending, Report};
 use cics_names::NoMemory;
 use cics_script::{push_number, push_str};
 
-// How a number is told that is too low if orders were left out.
+// Returns the words before a number, which is a lower bound if orders were left out.
 fn bound_text(is_whole: bool) -> &'static str
     ensures { result.now ≡ bound_text is_whole }
 {
     if is_whole { "" } else { "AT LEAST " }
 }
 
-/// Puts a number at the end, which is too low if orders were left out.
+/// Appends a number, which is a lower bound if orders were left out.
 pub(crate) fn push_count(out: &mut Vec<u8>, is_whole: bool, count: u64) -> Result<(), NoMemory>
     ensures { OnOk result (out.new.items ≡ out.old.items ++ count_text is_whole count) }
 {
@@ -25,7 +25,7 @@ pub(crate) fn push_count(out: &mut Vec<u8>, is_whole: bool, count: u64) -> Resul
     push_number(out, count)
 }
 
-// Puts two numbers at the end: of all, and of the serial ones.
+// Appends two numbers: of all, and of the serial ones.
 fn push_both(out: &mut Vec<u8>, is_whole: bool, all: u64, serial: u64) -> Result<(), NoMemory>
     ensures { OnOk result (out.new.items ≡ out.old.items ++ both_text is_whole all serial) }
 {
@@ -34,7 +34,7 @@ fn push_both(out: &mut Vec<u8>, is_whole: bool, all: u64, serial: u64) -> Result
     push_count(out, is_whole, serial)
 }
 
-/// Puts at the end how many orders lead to an ending, and its mark.
+/// Appends how many orders lead to an ending, and its mark.
 pub(crate) fn push_heading(
     out: &mut Vec<u8>,
     is_whole: bool,
@@ -48,7 +48,7 @@ pub(crate) fn push_heading(
     push_str(out, "\n")
 }
 
-// How many serial orders lead to endings.
+// Returns how many serial orders lead to endings.
 fn serial_orders(endings: &[Ending]) -> u64
     ensures { result ≡ serial_orders endings.now }
 {
@@ -59,7 +59,7 @@ fn serial_orders(endings: &[Ending]) -> u64
     count
 }
 
-// To how many endings a serial order leads.
+// Returns to how many endings a serial order leads.
 fn serial_endings(endings: &[Ending]) -> usize
     ensures { result ≡ serial_endings endings.now }
 {
@@ -72,7 +72,7 @@ fn serial_endings(endings: &[Ending]) -> usize
     count
 }
 
-/// Puts the line on a limit at the end, if it left orders out.
+/// Appends the line on a limit, if it left orders out.
 pub(crate) fn push_limit(out: &mut Vec<u8>, is_whole: bool, limit: u64) -> Result<(), NoMemory>
     ensures { OnOk result (out.new.items ≡ out.old.items ++ limit_text is_whole limit) }
 {
@@ -84,7 +84,7 @@ pub(crate) fn push_limit(out: &mut Vec<u8>, is_whole: bool, limit: u64) -> Resul
     push_str(out, " REACHED\n")
 }
 
-/// Puts the numbers of orders and endings at the end.
+/// Appends the numbers of orders and endings.
 pub(crate) fn push_totals(out: &mut Vec<u8>, report: &Report) -> Result<(), NoMemory>
     ensures { OnOk result (out.new.items ≡ out.old.items ++ totals_text report.now) }
 {

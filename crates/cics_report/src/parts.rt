@@ -9,7 +9,7 @@ use cics_lanes::Ending;
 use cics_names::{Items, NoMemory, Record};
 use std::alloc::Global;
 
-/// The mark of an ending.
+/// Returns the mark of an ending.
 pub(crate) fn mark_in(parts: &[Record]) -> &[u8]
     ensures { result.now ≡ mark_in parts.now }
 {
@@ -19,7 +19,7 @@ pub(crate) fn mark_in(parts: &[Record]) -> &[u8]
     }
 }
 
-/// The other parts of an ending.
+/// Returns the other parts of an ending.
 pub(crate) fn told_in(parts: &[Record]) -> &[Record]
     ensures { result.now ≡ told_in parts.now }
 {
@@ -29,14 +29,14 @@ pub(crate) fn told_in(parts: &[Record]) -> &[Record]
     }
 }
 
-// Whether a part is among these.
+// Returns whether a part is among these.
 fn is_in(parts: &[Record], part: &Record) -> bool
     ensures { result ≡ is_in parts.now part.now }
 {
     parts.contains(part)
 }
 
-// Whether each ending has a part.
+// Returns whether each ending has a part.
 fn is_in_each(endings: &[Ending], part: &Record) -> bool
     ensures { result ≡ is_in_each endings.now part.now }
 {
@@ -48,7 +48,7 @@ fn is_in_each(endings: &[Ending], part: &Record) -> bool
     true
 }
 
-// The parts of the first ending.
+// Returns the parts of the first ending.
 fn first_told(endings: &[Ending]) -> &[Record]
     ensures { result.now ≡ first_told endings.now }
 {
@@ -58,7 +58,7 @@ fn first_told(endings: &[Ending]) -> &[Record]
     }
 }
 
-// Those of some parts that each ending has.
+// Returns those of some parts that each ending has.
 fn common(alloc: Global, endings: &[Ending], parts: &[Record]) -> Result<Items<Record>, NoMemory>
     ensures { IfOk result (λ all. all ≡ filter (is_in_each endings.now) parts.now) }
 {
@@ -71,7 +71,7 @@ fn common(alloc: Global, endings: &[Ending], parts: &[Record]) -> Result<Items<R
     Ok(all)
 }
 
-/// The parts that each of two endings or more has.
+/// Returns the parts that each of two endings or more has.
 pub(crate) fn shared(alloc: Global, endings: &[Ending]) -> Result<Items<Record>, NoMemory>
     ensures { IfOk result (λ all. all ≡ shared endings.now) }
 {
@@ -82,7 +82,7 @@ pub(crate) fn shared(alloc: Global, endings: &[Ending]) -> Result<Items<Record>,
     }
 }
 
-// Puts a part at the end, unless each ending has it.
+// Appends a part, unless each ending has it.
 fn push_own_part(out: &mut Vec<u8>, all: &[Record], part: &Record) -> Result<(), NoMemory>
     ensures { OnOk result (out.new.items ≡ out.old.items ++ own_text all.now part.now) }
 {
@@ -93,7 +93,7 @@ fn push_own_part(out: &mut Vec<u8>, all: &[Record], part: &Record) -> Result<(),
     Ok(())
 }
 
-/// Puts those of some parts at the end that not each ending has.
+/// Appends those of some parts that not each ending has.
 pub(crate) fn push_own(out: &mut Vec<u8>, all: &[Record], parts: &[Record]) -> Result<(), NoMemory>
     ensures { OnOk result (out.new.items
         ≡ out.old.items ++ flat_map (own_text all.now) parts.now) }
@@ -104,7 +104,7 @@ pub(crate) fn push_own(out: &mut Vec<u8>, all: &[Record], parts: &[Record]) -> R
     Ok(())
 }
 
-/// Puts parts at the end.
+/// Appends parts.
 pub(crate) fn push_parts(out: &mut Vec<u8>, parts: &[Record]) -> Result<(), NoMemory>
     ensures { OnOk result (out.new.items ≡ out.old.items ++ flat_map (λ part. part) parts.now) }
 {

@@ -15,8 +15,7 @@ use cics_plans::{Plan, Planned, RefusedLine, ScriptFault, read};
 use cics_run::journal::{push_define_fault, push_line_fault, push_refused};
 use cics_script::{Line, LineFault, push_bare, push_number, push_str};
 
-/// Puts the fault of a script at the end, as a plain run prints it: that of the line with this
-/// number.
+/// Appends the fault of a script, as a plain run prints it: that of the line with this number.
 ///
 /// Errors: `NoMemory`.
 pub fn push_fault(out: &mut Vec<u8>, number: u64, fault: ScriptFault) -> Result<(), NoMemory>
@@ -28,7 +27,7 @@ pub fn push_fault(out: &mut Vec<u8>, number: u64, fault: ScriptFault) -> Result<
     }
 }
 
-// Puts a line at the end that is refused in every order.
+// Appends a line that is refused in every order.
 fn push_refused_line(out: &mut Vec<u8>, line: &RefusedLine) -> Result<(), NoMemory>
     ensures { OnOk result (out.new.items ≡ out.old.items ++ refused_text line.now) }
 {
@@ -47,7 +46,7 @@ fn push_refused_lines(out: &mut Vec<u8>, lines: &[RefusedLine]) -> Result<(), No
     Ok(())
 }
 
-// Puts the word of a line that was read at the end.
+// Appends the word of a line that was read.
 fn push_word(out: &mut Vec<u8>, says: &Result<Line, LineFault>) -> Result<(), NoMemory>
     ensures { OnOk result (out.new.items ≡ out.old.items ++ word_of says.now) }
 {
@@ -59,7 +58,7 @@ fn push_word(out: &mut Vec<u8>, says: &Result<Line, LineFault>) -> Result<(), No
     }
 }
 
-// Puts the word of a line in an order at the end.
+// Appends the word of a line in an order.
 fn push_next_word(out: &mut Vec<u8>, next: &(u64, Record)) -> Result<(), NoMemory>
     ensures { OnOk result (out.new.items ≡ out.old.items ++ word_text next.now) }
 {
@@ -77,7 +76,7 @@ fn push_words(out: &mut Vec<u8>, lines: &[(u64, Record)]) -> Result<(), NoMemory
     Ok(())
 }
 
-// Puts an order at the end.
+// Appends an order.
 fn push_order(out: &mut Vec<u8>, plan: &Plan, order: &[usize]) -> Result<(), NoMemory>
     ensures { OnOk result (out.new.items ≡ out.old.items ++ order_text plan.now order.now) }
 {
@@ -87,7 +86,7 @@ fn push_order(out: &mut Vec<u8>, plan: &Plan, order: &[usize]) -> Result<(), NoM
     push_str(out, "\n")
 }
 
-// Puts the number of an ending at the end, and how many orders lead to it.
+// Appends the number of an ending, and how many orders lead to it.
 fn push_numbered(
     out: &mut Vec<u8>,
     is_whole: bool,
@@ -102,7 +101,7 @@ fn push_numbered(
     push_heading(out, is_whole, ending)
 }
 
-// Puts the first order of an ending at the end, and the parts that not each ending has.
+// Appends the first order of an ending, and the parts that not each ending has.
 fn push_ending(
     out: &mut Vec<u8>,
     plan: &Plan,
@@ -116,7 +115,7 @@ fn push_ending(
     push_own(out, all, told_in(ending.parts()))
 }
 
-// Puts each ending at the end.
+// Appends each ending.
 #[tactic(auto, unfolding(crate::specs::Reporting::endings_text))]
 fn push_endings(
     out: &mut Vec<u8>,
@@ -135,7 +134,7 @@ fn push_endings(
     Ok(())
 }
 
-// Puts the parts at the end that each ending has.
+// Appends the parts that each ending has.
 fn push_every(out: &mut Vec<u8>, all: &[Record]) -> Result<(), NoMemory>
     ensures { OnOk result (out.new.items ≡ out.old.items ++ every_text all.now) }
 {
@@ -149,7 +148,7 @@ fn push_every(out: &mut Vec<u8>, all: &[Record]) -> Result<(), NoMemory>
     }
 }
 
-/// Puts the report on the orders of a script's lines at the end, which were followed within a limit.
+/// Appends the report on the orders of a script's lines, which were followed within a limit.
 ///
 /// Errors: `NoMemory`. Cost: O(endings * parts * parts of the first ending) beside the bytes.
 pub fn push_report(

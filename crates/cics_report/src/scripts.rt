@@ -12,7 +12,7 @@ use cics_names::{NoMemory, Record};
 use cics_plans::{Plan, TaskPlan};
 use cics_script::{push_number, push_str};
 
-// Puts a line at the end as it stands in the script.
+// Appends a line as it stands in the script.
 fn push_line(out: &mut Vec<u8>, line: &(u64, Record)) -> Result<(), NoMemory>
     ensures { OnOk result (out.new.items ≡ out.old.items ++ script_line line.now) }
 {
@@ -29,7 +29,7 @@ fn push_lines(out: &mut Vec<u8>, lines: &[(u64, Record)]) -> Result<(), NoMemory
     Ok(())
 }
 
-// Puts the lines at the end that attach tasks.
+// Appends the lines that attach tasks.
 fn push_attaches(out: &mut Vec<u8>, tasks: &[TaskPlan]) -> Result<(), NoMemory>
     ensures { OnOk result (out.new.items ≡ out.old.items ++ flat_map attach_line tasks.now) }
 {
@@ -39,7 +39,7 @@ fn push_attaches(out: &mut Vec<u8>, tasks: &[TaskPlan]) -> Result<(), NoMemory>
     Ok(())
 }
 
-// Puts the lines at the end that define and attach, and behind them those of an order.
+// Appends the lines that define and attach, and behind them those of an order.
 fn push_run(out: &mut Vec<u8>, plan: &Plan, order: &[usize]) -> Result<(), NoMemory>
     ensures { OnOk result (out.new.items ≡ out.old.items ++ run_text plan.now order.now) }
 {
@@ -49,7 +49,7 @@ fn push_run(out: &mut Vec<u8>, plan: &Plan, order: &[usize]) -> Result<(), NoMem
     push_lines(out, lines.as_slice())
 }
 
-// The ending of a number, from 1 on.
+// Returns the ending of a number, from 1 on.
 fn ending_at(endings: &[Ending], number: u64) -> Option<&Ending>
     ensures { option_copied result ≡ ending_at endings.now number }
 {
@@ -59,7 +59,7 @@ fn ending_at(endings: &[Ending], number: u64) -> Option<&Ending>
     endings.get((number - 1) as usize)
 }
 
-// Puts at the end which ending a script leads to, and how many orders do.
+// Appends which ending a script leads to, and how many orders do.
 fn push_title(
     out: &mut Vec<u8>,
     report: &Report,
@@ -76,8 +76,8 @@ fn push_title(
     push_heading(out, report.is_whole, ending)
 }
 
-/// Puts the first order of the ending with this number at the end, as a script. Returns whether
-/// there is such an ending; they are numbered from 1 on.
+/// Appends the first order of the ending with this number, as a script. Returns whether there is
+/// such an ending. Endings are numbered from 1 on.
 ///
 /// Errors: `NoMemory`.
 pub fn push_script(

@@ -37,12 +37,12 @@ numbered number title = decimal number ++ (codes " " ++ title)
 abbrev pub condition_text : Condition → List ℕ
 condition_text condition = title_of condition ++ (codes " " ++ decimal (number_of condition))
 
--- a key or a content, where a reply has it
+-- a key or a content, if a reply has it
 abbrev pub part : List ℕ → Option (List ℕ) → List ℕ
 part title None = []
 part title (Some bytes) = title ++ text_of bytes
 
--- a number, where a reply has it
+-- a number, if a reply has it
 abbrev pub number_part : Option Number → List ℕ
 number_part None = []
 number_part (Some (Item n)) = codes " ITEM " ++ decimal n
@@ -54,12 +54,12 @@ reply_text reply =
     condition_text reply.condition
     ++ (part (codes " KEY ") reply.key ++ (number_part reply.number ++ part (codes " DATA ") reply.content))
 
--- the code of an abend, and the condition that brought it, where one did
+-- the code of an abend, and the condition that brought it, if one did
 abbrev pub abend_text : AbendCode → Option Reply → List ℕ
 abend_text code None = codes "ABEND " ++ bare code.0
 abend_text code (Some reply) = codes "ABEND " ++ (bare code.0 ++ (codes " " ++ condition_text reply.condition))
 
--- what came of a command
+-- the outcome of a command
 abbrev pub outcome_text : Outcome → List ℕ
 outcome_text (Replied reply) = reply_text reply
 outcome_text (Waiting holder) = codes "WAITING " ++ bare holder
@@ -78,11 +78,11 @@ attached_line label transaction = task_line label (codes "ATTACHED " ++ name_tex
 abbrev pub outcome_line : List ℕ → Outcome → List ℕ
 outcome_line label outcome = task_line label (outcome_text outcome)
 
--- a waiting command was executed
+-- a waiting command resumed
 abbrev pub woken_line : Woken → List ℕ
 woken_line woken = task_line woken.label (codes "WOKEN " ++ outcome_text woken.outcome)
 
--- a waiting task's time was over
+-- a task had waited too long
 abbrev pub expired_line : Expired → List ℕ
 expired_line expired = task_line expired.label (abend_text expired.code None)
 

@@ -16,7 +16,7 @@ abbrev pub pieces : List ℕ → Pieces
 pieces [] = ([], [])
 pieces (c ∷ bytes) = if c == 10 then ([] ∷ (pieces bytes).0, (pieces bytes).1) else with_first c (pieces bytes)
 
--- the lines whose LF is there: one CR right before the LF is no part of the line
+-- the lines that have their LF: one CR right before the LF is no part of the line
 abbrev pub completed : List ℕ → List (List ℕ)
 completed bytes = map (strip_last 13) (pieces bytes).0
 

@@ -4,11 +4,11 @@ use Rattle.std.specs.Io.KnownBytes.{Appends}
 use Rattle.cics_run.specs.declared.writing.Stop.{Stop}
 use Rattle.cics_run.specs.declared.writing.Stop.TheVariants as stops
 
--- a text begins with a front
+-- a text begins with a first part
 abbrev pub IsFront : List ℕ → List ℕ → Type 0
 IsFront front text = (more : List ℕ) × (text ≡ front ++ more)
 
--- the sink took a front of the text, and no more
+-- the sink took a first part of the text, and no more
 abbrev pub AppendsFront : Option (List ℕ) → Option (List ℕ) → List ℕ → Type 0
 AppendsFront old new text = (front : List ℕ) × IsFront front text × Appends old new front
 

@@ -16,8 +16,8 @@ use Rattle.cics_run.specs.declared.running.RunFault.{RunFault}
 use Rattle.cics_run.specs.declared.running.RunFault.TheVariants as faults
 use Rattle.cics_run.specs.declared.running.Options.{Options}
 
--- what stands behind some lines: the stage, how many lines there were and the last of them, what was printed, the same with each line
--- in front of what it led to, and the fault of the last line, where it has one
+-- the state after some lines: the stage, their number and the last of them, the journal, the same
+-- with each line in front of its journal lines, and the fault of the last line, if any
 pub record Played : Type 0 where
   pub stage : Stage
   pub number : ℕ
@@ -30,7 +30,8 @@ pub record Played : Type 0 where
 abbrev pub has_fault : Played → Bool
 has_fault p = is_some p.fault
 
--- a line was run: its text is printed behind the journal so far, and the line itself in front of its text
+-- a line was run: its text is printed behind the journal so far, and the line itself in front of
+-- its text
 abbrev pub stepped : Played → List ℕ → Step → Played
 stepped p line s =
     record {
@@ -58,8 +59,8 @@ start = record { stage = first_stage; number = 0; line = []; journal = []; shown
 abbrev pub play : List (List ℕ) → Played
 play lines = fold next start lines
 
--- what a run prints: with each line of the script in front of its events, or without; and the text
--- behind the last event, by the stage at the end
+-- what a run prints: whether each line of the script comes in front of its journal lines; and the
+-- text behind the last event, from the stage at the end
 pub record Form : Type 0 where
   pub with_script : Bool
   pub ending : Stage → List ℕ
@@ -96,19 +97,19 @@ is_faulty bytes = has_fault (play (all_lines bytes))
 abbrev pub is_stopped : List ℕ → Bool
 is_stopped bytes = has_fault (play (completed bytes))
 
--- A front is written of what these bytes call for: the journal of the lines that they complete, and only at the input's end,
--- where the last line may lack its LF, the whole output.
+-- A first part is written of the journal of the lines that these bytes complete; or at the input's
+-- end, where the last line may lack its LF, of the whole output.
 abbrev pub WritesFront : Form → List ℕ → Option (List ℕ) → Option (List ℕ) → Option (List ℕ) → Type 0
 WritesFront form bytes rest old new = AppendsFront old new (journal form bytes) ⊎ (IsAtEnd rest × AppendsFront old new (output form bytes))
 
 -- What a run has done at each answer, where bytes are the bytes that it read:
 -- - Done: the input is at its end, no fault was printed, and the whole output is written;
--- - LineFault: a fault was printed, of a line that is complete, or at the input's end of the last line; the output is written up to
---   its end, the fault;
--- - InputTooLong: one byte more came than a script may have; none of the lines that those before it complete is a fault, and their
---   journal is written;
+-- - LineFault: a fault was printed, of a complete line, or at the input's end of the last one; the
+--   output is written up to its end, the fault;
+-- - InputTooLong: one byte more came than a script may have; none of the lines that the bytes
+--   before it complete is a fault, and their journal is written;
 -- - ReadFault: none of the lines that the bytes complete is a fault, and their journal is written;
--- - WriteFault and NoMemory: a front is written.
+-- - WriteFault and NoMemory: a first part is written.
 abbrev pub Answers : Form → List ℕ → Option (List ℕ) → Option (List ℕ) → Option (List ℕ) → Result Status RunFault → Type 0
 Answers form bytes rest old new (Ok status.Done) = Appends old new (output form bytes) × (is_faulty bytes ≡ false) × IsAtEnd rest
 Answers form bytes rest old new (Ok status.LineFault) =
@@ -119,18 +120,19 @@ Answers form bytes rest old new (Err faults.ReadFault) = (is_stopped bytes ≡ f
 Answers form bytes rest old new (Err faults.WriteFault) = WritesFront form bytes rest old new
 Answers form bytes rest old new (Err faults.NoMemory) = WritesFront form bytes rest old new
 
--- how many bytes a run reads at most: as many as a script may have, and one more where it tells that there are more
+-- how many bytes a run reads at most: as many as a script may have, and one more if it finds that
+-- there are more
 abbrev pub most : Result Status RunFault → ℕ
 most (Err faults.InputTooLong) = most_bytes + 1
 most _ = most_bytes
 
--- No more is read behind a fault: no line is one that is complete without what the last read gave, which is no more than is asked for
--- at once.
+-- Nothing is read behind a fault: no line that is complete without the last read is a fault. The
+-- last read gave no more than is asked for at once.
 abbrev pub ReadsOn : List ℕ → Option (List ℕ) → Type 0
 ReadsOn bytes told = (front : List ℕ) × (last : List ℕ) × (bytes ≡ front ++ last) × (length last ≤ CHUNK) × (is_stopped front ≡ false) × Tells told last
 
--- Some bytes were read, not too many and no more behind a fault, and what was written is what they call for. What the last read gave
--- may be told.
+-- Some bytes were read, not too many and nothing behind a fault, and what they call for was
+-- written. What the last read gave may be known.
 abbrev pub RunsOver : Form → Option (List ℕ) → Option (List ℕ) → Option (List ℕ) → Option (List ℕ) → Option (List ℕ) → Result Status RunFault → Type 0
 RunsOver form input rest last old new result =
     (bytes : List ℕ) × Consumes input rest bytes × (length bytes ≤ most result) × ReadsOn bytes last × Answers form bytes rest old new result
@@ -139,12 +141,12 @@ RunsOver form input rest last old new result =
 abbrev pub most_reads : ℕ
 most_reads = most_bytes + 1
 
--- how many reads failed in a run: the last one, where it says so
+-- how many reads failed in a run: the last one, if it says so
 abbrev pub failed_reads_of : Result Status RunFault → ℕ
 failed_reads_of (Err faults.ReadFault) = 1
 failed_reads_of _ = 0
 
--- how many writes failed in a run: the last one, where it says so
+-- how many writes failed in a run: the last one, if it says so
 abbrev pub failed_writes_of : Result Status RunFault → ℕ
 failed_writes_of (Err faults.WriteFault) = 1
 failed_writes_of _ = 0

@@ -1,4 +1,4 @@
--- What the lines of a script lead to: at first to definitions, and from the first line that is none to a region.
+-- The stages of a run: definitions, and from the first line that is none a region.
 use Rattle.std.specs.Prelude.{◌≡◌, ℕ, List, [], ◌++◌, length, Option, Some, None, Result, Ok, Err, MatchResult, OnOk}
 use Rattle.cics_names.specs.Keyed.{Bytes, value_at, has_key, is_key_in}
 use Rattle.cics_transdata.specs.declared.queues.Recovery.{Recovery}
@@ -28,7 +28,8 @@ use Rattle.cics_run.specs.declared.stage.Fault.TheVariants as faults
 use Rattle.cics_run.specs.declared.stage.Stage.{Stage}
 use Rattle.cics_run.specs.declared.stage.Stage.TheVariants.{Opening, Running}
 
--- what a line does: the stage behind it, the text that it prints, and its fault, where it has one, which ends the run
+-- what a line does: the stage behind it, the text that it prints, and its fault, if it has one,
+-- which ends the run
 pub record Step : Type 0 where
   pub stage : Stage
   pub text : List ℕ
@@ -51,7 +52,7 @@ faulty number stage fault = record { stage = stage; text = fault_line number fau
 abbrev pub first_stage : Stage
 first_stage = Opening nothing_defined
 
--- the region, which is made of the definitions where there is none yet
+-- the region, which is made of the definitions if there is none yet
 abbrev pub region_of : Stage → RegionValue
 region_of (Opening o) = region_at (beginning_region o)
 region_of (Running r) = r
@@ -90,11 +91,11 @@ abbrev pub queue_loaded : ℕ → Stage → Bytes → Bytes → Step
 queue_loaded number (Opening o) name content = defined number o (load_td_fault (value_at name o.queues) content) (with_td_record o name content)
 queue_loaded number (Running r) name content = too_late number r
 
--- the line of an event, and then what the region prints while it settles
+-- the line of an event, and then what the region prints while it drains
 abbrev pub told : List ℕ → Settled → Step
 told text s = record { stage = Running (region_at s.machine); text = text ++ s.text; fault = None }
 
--- an event that left this machine: its line is printed, and the region settles
+-- an event that left this machine: its line is printed, and the region drains
 abbrev pub event : List ℕ → Machine → Step
 event text m = told text (settled (length m.waiting) m)
 
@@ -103,12 +104,12 @@ abbrev pub told_line : {X : Type 0} → (X → List ℕ) → (Refused → List �
 told_line answer refusal (Ok x) = answer x
 told_line answer refusal (Err e) = refusal e
 
--- an event that was not refused for want of memory
+-- an event that wasn't refused for memory
 abbrev pub IsAnswered : {X : Type 0} → Result X Refused → Type 0
 IsAnswered (Err NoMemory) = ⊥
 IsAnswered _ = Unit {0}
 
--- an event is answered, or refused; a refusal changes nothing, and the region settles all the same
+-- an event is answered, or refused; a refusal changes nothing, and the region drains all the same
 abbrev pub answered : {X : Type 0} → Machine → (X → List ℕ) → (Refused → List ℕ) → Result X Refused → Machine → Step
 answered m answer refusal (Ok x) next = event (answer x) next
 answered m answer refusal (Err e) next = event (refusal e) m
@@ -156,10 +157,10 @@ listing_at stage = listing_text (region_listing (region_of stage))
 abbrev pub replay_at : Stage → List ℕ
 replay_at stage = replay_text (replayed_listing (region_of stage))
 
--- a line led to this, and to this stage, unless there was no memory
+-- a line led to this, and to this stage, unless memory was refused
 abbrev pub Leads : {E : Type 0} → Step → Stage → List ℕ → List ℕ → Result (Option Fault) E → Type 0
 Leads s stage before now result = MatchResult result (λ fault. (stage ≡ s.stage) × (now ≡ before ++ s.text) × (fault ≡ s.fault)) (λ _. Unit {0})
 
--- an event led to this, and to this region, unless there was no memory
+-- an event led to this, and to this region, unless memory was refused
 abbrev pub Happens : {E : Type 0} → Step → RegionValue → List ℕ → List ℕ → Result (Unit {0}) E → Type 0
 Happens s region before now result = OnOk result ((Running region ≡ s.stage) × (now ≡ before ++ s.text))

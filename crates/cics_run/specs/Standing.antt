@@ -29,7 +29,8 @@ pub record IsNew (s : Session) : Type 0 where
 abbrev pub next_step : Session → List ℕ → Step
 next_step s line = step (s.number + 1) s.stage line
 
--- what is printed of that line: its bytes, if the script is printed, and behind them what it leads to
+-- what is printed of that line: its bytes, if the script is printed, and behind them its journal
+-- lines
 abbrev pub next_text : Session → List ℕ → List ℕ
 next_text s line = (if s.with_script then script_line line else []) ++ (next_step s line).text
 
@@ -53,7 +54,7 @@ pub record Stands (form : Form) (bytes : List ℕ) (before now : Option (List �
   pub shows : session.with_script ≡ form.with_script
   pub printed : Prints before now [] session.pending.items (journal form bytes)
 
--- a call leads to this from each place where its session may stand, behind whatever bytes
+-- a call leads to this from each state of its session, after whatever bytes
 abbrev pub WhereverStands : Form → Option (List ℕ) → Session → (List ℕ → Option (List ℕ) → Type 0) → Type 0
 WhereverStands form now session LeadsTo = (bytes : List ℕ) (before : Option (List ℕ)) → Stands form bytes before now session → LeadsTo bytes before
 
@@ -92,12 +93,12 @@ pub record IsClosed (form : Form) (bytes : List ℕ) (before now : Option (List 
   pub printed : Prints before now [] session.pending.items (journal_of form (play (all_lines bytes)))
   pub kept : is_fault ≡ true → Keeps session (play (all_lines bytes))
 
--- the last line was run, where it lacks its LF
+-- the last line was run, if it lacks its LF
 abbrev pub Closes : {E : Type 0} → Form → List ℕ → Option (List ℕ) → Option (List ℕ) → Session → Result Bool E → Type 0
 Closes form bytes before now session result =
     MatchResult result (IsClosed form bytes before now session) (λ _. AppendsFront before now (journal_of form (play (all_lines bytes))))
 
--- the region in which these lines end, made of the definitions where there is none yet
+-- the region in which these lines end, made of the definitions if there is none yet
 abbrev pub final_stage : Played → Stage
 final_stage p = Running (region_of p.stage)
 
@@ -109,7 +110,8 @@ Finishes form bytes before now session (Ok status.LineFault) =
     Appends before now (output form bytes) × (is_faulty bytes ≡ true) × Keeps session (play (all_lines bytes))
 Finishes form bytes before now session (Err e) = AppendsFront before now (output form bytes)
 
--- What a run over some bytes leaves in its session: the region in which their lines end, or the line that has a fault.
+-- What a run over some bytes leaves in its session: the region in which their lines end, or the
+-- line that has a fault.
 abbrev pub KeepsEnd : Option (List ℕ) → Option (List ℕ) → Session → Result Status RunFault → Type 0
 KeepsEnd input rest session (Ok status.Done) =
     (bytes : List ℕ) × Consumes input rest bytes × (is_faulty bytes ≡ false) × (session.stage ≡ final_stage (play (all_lines bytes)))

@@ -14,7 +14,7 @@ status_of (Err faults.ReadFault) = 4
 status_of (Err faults.WriteFault) = 4
 status_of (Err faults.InputTooLong) = 4
 
--- the exit status of a strict run, where something is amiss or not
+-- the exit status of a strict run, if something is amiss or not
 abbrev pub strict_status_of : Result Status RunFault → Bool → ℕ
 strict_status_of (Ok status.Done) true = 5
 strict_status_of result amiss = status_of result

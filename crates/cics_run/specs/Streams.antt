@@ -18,7 +18,7 @@ abbrev pub Tells : Option (List ℕ) → List ℕ → Type 0
 Tells None bytes = ⊤
 Tells (Some told) bytes = told ≡ bytes
 
--- what a read gave: nothing where it failed
+-- what a read gave: nothing if it failed
 abbrev pub given : {E : Type 0} → Result ℕ E → List ℕ → List ℕ
 given (Ok n) buffer = take n buffer
 given (Err e) buffer = []
@@ -28,7 +28,7 @@ abbrev pub failed_reads : {E : Type 0} → Result ℕ E → ℕ
 failed_reads (Ok n) = 0
 failed_reads (Err e) = 1
 
--- how many writes failed, of one: it also fails where it takes none of some bytes
+-- how many writes failed, of one: it also fails if it takes none of some bytes
 abbrev pub failed_writes : {E : Type 0} → Result ℕ E → List ℕ → ℕ
 failed_writes (Ok n) [] = 0
 failed_writes (Ok n) (c ∷ bytes) = if n == 0 then 1 else 0

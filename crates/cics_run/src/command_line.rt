@@ -77,11 +77,11 @@ T2 EXEC CICS READ FILE('ACCT') RIDFLD('0001') UPDATE
 T1 EXEC CICS SYNCPOINT ROLLBACK
 END";
 
-/// What is wanted of the orders in which a script's tasks may give their lines.
+/// The options of a report on the orders in which a script's tasks may give their lines.
 ///
 /// - `told`: whether endings with different answers are different.
 /// - `limit`: how many orders are followed at most.
-/// - `ending`: the number of the ending that is wanted as a script, if one is.
+/// - `ending`: the number of the ending to print as a script, if one is given.
 #[derive(Clone, Copy, Debug, PartialEq, Eq)]
 pub struct Orders {
     pub told: bool,
@@ -117,8 +117,8 @@ pub enum Asked {
 ///
 /// - an option that is given twice;
 /// - `--serial` beside `--with-script`, and any option beside `--picture`;
-/// - `--told`, `--limit` and `--ending` without `--orders`, any other option beside it, and a number
-///   that isn't from 1 on;
+/// - `--told`, `--limit` and `--ending` without `--orders`, any other option beside it, and a
+///   number that isn't from 1 on;
 /// - each other word but a `--`, after which no option may stand.
 ///
 /// The only error is `NoMemory`.
@@ -161,7 +161,7 @@ fn unknown_word(text: &str) -> Option<(&str, &str)> {
     Some((word, behind))
 }
 
-// An option that is given or not, and what the help says of it.
+// Returns an option that is given or not, with what the help says of it.
 fn flag<'a>(alloc: Global, name: &'a str, help: &'a str) -> Arg<'a> {
     Arg::new(alloc, name)
         .long(name)
@@ -179,13 +179,13 @@ fn number<'a>(alloc: Global, name: &'a str, help: &'a str) -> Result<Arg<'a>, Al
     apart_from_runs(number.requires_arg("orders")?)
 }
 
-// An option that goes with no option of a run.
+// Returns an option that goes with no option of a run.
 fn apart_from_runs<'a>(arg: Arg<'a>) -> Result<Arg<'a>, AllocError> {
     arg.conflicts_with_all(&["no-list", "replay", "serial", "with-script", "strict"])
 }
 
-// Adds an option to a command line. It takes the results of the calls before, so that a row of
-// calls has no `?`, at which all that was made so far would be dropped.
+// Adds an option to a command line. It takes the results of the calls before: so a row of calls has
+// no `?`, which would drop all that was made so far.
 fn with<'a>(
     command: Result<Command<'a>, AllocError>,
     arg: Result<Arg<'a>, AllocError>,
@@ -231,7 +231,7 @@ fn with_runs<'a>(alloc: Global, command: Command<'a>) -> Result<Command<'a>, All
     with(command, Ok(picture))
 }
 
-// The command line, with its options in the order of the help.
+// Returns the command line, with its options in the order of the help.
 fn command<'a>(alloc: Global) -> Result<Command<'a>, AllocError> {
     let named = Command::new(alloc, "cicsrun")
         .version(VERSION)
@@ -272,7 +272,7 @@ fn chosen(matches: &ArgMatches) -> Asked {
     Asked::Run(wanted)
 }
 
-/// Returns the exit status that tells the answer of a run.
+/// Returns the exit status of a run.
 ///
 /// It is 0 if the run is done, 1 at a fault of a line or a definition, and 3 without memory. It is
 /// 4 if a read or a write failed, or the script is too long.
@@ -287,8 +287,8 @@ pub fn exit_status(answer: &Result<Status, RunFault>) -> u8
     }
 }
 
-/// Returns the exit status of a run in which something is amiss or not: 5 if it is done and
-/// something is, else as `exit_status` says.
+/// Returns the exit status of a strict run: 5 if it is done and something is amiss, else as
+/// `exit_status` says.
 pub fn strict_status(answer: &Result<Status, RunFault>, is_amiss: bool) -> u8
     ensures { result ≡ strict_status_of answer.now is_amiss }
 {

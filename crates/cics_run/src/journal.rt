@@ -1,4 +1,4 @@
-//! The lines of the journal.
+//! The lines of the journal. Each public call appends one, and its only error is `NoMemory`.
 
 ghost use Rattle.std.specs.Prelude.{◌≡◌, ◌++◌, OnOk};
 ghost use Rattle.cics_run.specs.Journal.{numbered, condition_text, part, number_part, reply_text};
@@ -13,7 +13,7 @@ use cics_names::{AbendCode, Condition, Name4, Name8, NoMemory, Record};
 use cics_script::{LineFault, push_bare, push_name, push_number, push_str, push_text};
 use cics_units::DefineFault;
 
-/// A line of the script, in front of what it led to.
+/// Appends a line of the script, which its journal lines follow.
 pub fn push_script_line(out: &mut Vec<u8>, line: &[u8]) -> Result<(), NoMemory>
     ensures { OnOk result (out.new.items ≡ out.old.items ++ script_line line.now) }
 {
@@ -22,7 +22,7 @@ pub fn push_script_line(out: &mut Vec<u8>, line: &[u8]) -> Result<(), NoMemory>
     push_str(out, "\n")
 }
 
-/// A task was attached, for a transaction.
+/// Appends the line of a task that was attached for a transaction.
 pub fn push_attached(out: &mut Vec<u8>, label: Name8, transaction: Name4) -> Result<(), NoMemory>
     ensures { OnOk result (out.new.items ≡ out.old.items ++ attached_line label transaction) }
 {
@@ -32,7 +32,7 @@ pub fn push_attached(out: &mut Vec<u8>, label: Name8, transaction: Name4) -> Res
     push_str(out, "\n")
 }
 
-/// What came of a command that was issued.
+/// Appends the line of a command that was issued, with its outcome.
 pub fn push_outcome(out: &mut Vec<u8>, label: Name8, outcome: &Outcome) -> Result<(), NoMemory>
     ensures { OnOk result (out.new.items ≡ out.old.items ++ outcome_line label outcome.now) }
 {
@@ -42,7 +42,7 @@ pub fn push_outcome(out: &mut Vec<u8>, label: Name8, outcome: &Outcome) -> Resul
     push_str(out, "\n")
 }
 
-/// A waiting command was executed.
+/// Appends the line of a waiting command that resumed, with its outcome.
 pub fn push_woken(out: &mut Vec<u8>, woken: &Woken) -> Result<(), NoMemory>
     ensures { OnOk result (out.new.items ≡ out.old.items ++ woken_line woken.now) }
 {
@@ -52,7 +52,7 @@ pub fn push_woken(out: &mut Vec<u8>, woken: &Woken) -> Result<(), NoMemory>
     push_str(out, "\n")
 }
 
-/// A waiting task was abended, since its time was over.
+/// Appends the line of a task that was abended, as it had waited too long.
 pub fn push_expired(out: &mut Vec<u8>, expired: &Expired) -> Result<(), NoMemory>
     ensures { OnOk result (out.new.items ≡ out.old.items ++ expired_line expired.now) }
 {
@@ -62,7 +62,7 @@ pub fn push_expired(out: &mut Vec<u8>, expired: &Expired) -> Result<(), NoMemory
     push_str(out, "\n")
 }
 
-/// The clock was set, in seconds.
+/// Appends the line of a clock that was set, in seconds.
 pub fn push_clock(out: &mut Vec<u8>, now: u64) -> Result<(), NoMemory>
     ensures { OnOk result (out.new.items ≡ out.old.items ++ clock_line now) }
 {
@@ -71,7 +71,7 @@ pub fn push_clock(out: &mut Vec<u8>, now: u64) -> Result<(), NoMemory>
     push_str(out, "\n")
 }
 
-/// An attach or a command was refused.
+/// Appends the line of an attach or a command that was refused.
 pub fn push_refused(out: &mut Vec<u8>, label: Name8, refusal: Refused) -> Result<(), NoMemory>
     ensures { OnOk result (out.new.items ≡ out.old.items ++ refused_line label refusal) }
 {
@@ -81,7 +81,7 @@ pub fn push_refused(out: &mut Vec<u8>, label: Name8, refusal: Refused) -> Result
     push_str(out, "\n")
 }
 
-/// A setting of the clock was refused.
+/// Appends the line of a setting of the clock that was refused.
 pub fn push_clock_refused(out: &mut Vec<u8>, refusal: Refused) -> Result<(), NoMemory>
     ensures { OnOk result (out.new.items ≡ out.old.items ++ clock_refused_line refusal) }
 {
@@ -90,7 +90,7 @@ pub fn push_clock_refused(out: &mut Vec<u8>, refusal: Refused) -> Result<(), NoM
     push_str(out, "\n")
 }
 
-/// The region was shut down, and so many units of work were backed out.
+/// Appends the line of a shutdown that backed out so many units of work.
 pub fn push_shutdown(out: &mut Vec<u8>, units: u64) -> Result<(), NoMemory>
     ensures { OnOk result (out.new.items ≡ out.old.items ++ shutdown_line units) }
 {
@@ -99,7 +99,7 @@ pub fn push_shutdown(out: &mut Vec<u8>, units: u64) -> Result<(), NoMemory>
     push_str(out, "\n")
 }
 
-/// A shutdown was refused.
+/// Appends the line of a shutdown that was refused.
 pub fn push_shutdown_refused(out: &mut Vec<u8>, refusal: Refused) -> Result<(), NoMemory>
     ensures { OnOk result (out.new.items ≡ out.old.items ++ shutdown_refused_line refusal) }
 {
@@ -108,7 +108,7 @@ pub fn push_shutdown_refused(out: &mut Vec<u8>, refusal: Refused) -> Result<(), 
     push_str(out, "\n")
 }
 
-/// A definition or a load was refused, at this line of the script.
+/// Appends the line of a definition or a load that was refused, at this line of the script.
 pub fn push_define_fault(out: &mut Vec<u8>, at: u64, fault: DefineFault) -> Result<(), NoMemory>
     ensures { OnOk result (out.new.items ≡ out.old.items ++ define_fault_line at fault) }
 {
@@ -119,7 +119,7 @@ pub fn push_define_fault(out: &mut Vec<u8>, at: u64, fault: DefineFault) -> Resu
     push_str(out, "\n")
 }
 
-/// A line of the script can't be read, or stands where it may not.
+/// Appends the line of a script line that can't be read, or stands where it may not.
 pub fn push_line_fault(out: &mut Vec<u8>, at: u64, fault: LineFault) -> Result<(), NoMemory>
     ensures { OnOk result (out.new.items ≡ out.old.items ++ line_fault_line at fault) }
 {
@@ -130,7 +130,7 @@ pub fn push_line_fault(out: &mut Vec<u8>, at: u64, fault: LineFault) -> Result<(
     push_str(out, "\n")
 }
 
-// A number and its name.
+// Appends a number and its name.
 fn push_numbered(out: &mut Vec<u8>, number: u64, title: &str) -> Result<(), NoMemory>
     ensures { OnOk result (out.new.items ≡ out.old.items ++ numbered number title.now) }
 {
@@ -194,7 +194,7 @@ fn push_abend(out: &mut Vec<u8>, code: AbendCode, reply: &Option<Reply>) -> Resu
     Ok(())
 }
 
-// What stands after the label where a command was issued or woken.
+// Appends the outcome of a command that was issued or resumed.
 fn push_what_came(out: &mut Vec<u8>, outcome: &Outcome) -> Result<(), NoMemory>
     ensures { OnOk result (out.new.items ≡ out.old.items ++ outcome_text outcome.now) }
 {

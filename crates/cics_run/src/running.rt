@@ -25,29 +25,30 @@ pub const CHUNK: usize = 65_536;
 pub enum Status {
     /// Every line was run; the journal and what was asked for after it are written.
     Done,
-    /// A line or a definition has a fault: the journal up to it is written, with the fault as its
+    /// A line or a definition has a fault. The journal up to it is written, with the fault as its
     /// last line, and nothing behind it.
     LineFault,
 }
 
-/// Why a run stopped. A front of what the whole run writes is written then.
+/// Why a run stopped. The first part of what the whole run would write is written then.
 #[derive(Debug, Drop, Error)]
 pub enum RunFault {
     /// A request for memory was refused.
     #[error("no memory")]
     NoMemory,
-    /// The reader failed, and wasn't asked again: all that the lines before print is written.
+    /// The reader failed, and wasn't asked again. The journal of the complete lines is written.
     #[error("read fault")]
     ReadFault,
     /// The writer failed, or took nothing, and wasn't asked again: it has the bytes that it took.
     #[error("write fault")]
     WriteFault,
-    /// The reader has more than `LIMIT` bytes: what the lines up to there print is written.
+    /// The reader has more than `LIMIT` bytes. The journal of the lines that the first `LIMIT`
+    /// bytes complete is written.
     #[error("input too long")]
     InputTooLong,
 }
 
-/// What a run prints beside the journal.
+/// What `run` prints beside the journal.
 #[derive(Clone, Copy, Debug, PartialEq, Eq)]
 pub struct Options {
     /// Print the replay behind the listing.
@@ -62,7 +63,7 @@ pub struct Wanted {
     pub options: Options,
     /// Print the serial run behind the listing and the replay.
     pub serial: bool,
-    /// Print each line of the script in front of what it leads to.
+    /// Print each line of the script in front of its journal lines.
     pub with_script: bool,
 }
 
@@ -142,7 +143,7 @@ fn fault_of(stop: Stop) -> RunFault
     }
 }
 
-// The answer of a run that came to the input's end.
+// Returns the answer of a run that came to the input's end.
 fn ended(answer: Result<Status, Stop>) -> Result<Status, RunFault>
     ensures { result ≡ ended answer }
 {

@@ -34,7 +34,7 @@ const CR: u8 = 13;
 
 /// Run state between reads.
 pub struct Session {
-    /// What the lines so far have led to.
+    /// The definitions or the region after the lines so far.
     pub stage: Stage,
     /// How many lines there were.
     pub number: u64,
@@ -44,7 +44,7 @@ pub struct Session {
     pub pending: Vec<u8>,
     /// The fault of the last line.
     pub fault: Option<Fault>,
-    /// Whether each line is printed in front of what it leads to.
+    /// Whether each line is printed in front of its journal lines.
     pub with_script: bool,
     /// Names that commands had and that aren't defined, each once, at most 64.
     pub undefined: Vec<Named>,
@@ -74,7 +74,8 @@ fn drop_cr(line: &mut Vec<u8>)
     }
 }
 
-// Whether bytes have no LF. The loop doesn't stop at one, so that the bytes are compared together.
+// Returns whether bytes have no LF. The loop doesn't stop at one, so that the bytes are compared
+// together.
 fn are_in_line(bytes: &[u8]) -> bool
     ensures { result ≡ list_all is_in_line bytes.now }
 {
@@ -85,7 +86,7 @@ fn are_in_line(bytes: &[u8]) -> bool
     all
 }
 
-// The same as `line_len`, byte by byte.
+// Returns the same as `line_len`, byte by byte.
 fn short_line_len(bytes: &[u8]) -> usize
     ensures value { result ≡ prefix_len is_in_line bytes.now }
     ensures within { result ≤ length bytes.now }
@@ -123,7 +124,7 @@ fn push_wanted_line(with_script: bool, line: &[u8], out: &mut Vec<u8>) -> Result
 }
 
 impl Session {
-    /// Before the first byte.
+    /// Returns a session before its first byte.
     pub fn new(alloc: Global) -> Self
         ensures new { IsNew result }
     {
@@ -148,7 +149,7 @@ impl Session {
         write_pending(&mut self.pending, sink)
     }
 
-    // Runs the line that is kept, prints what comes of it, and tells whether it has a fault. A
+    // Runs the line that is kept, prints its journal lines, and returns whether it has a fault. A
     // fault is written at once, and its line stays, to be told to a person.
     fn run_kept<K: Sink>(&mut self, sink: &mut K) -> Result<bool, Stop>
         requires { self.old.number + 1 < 2 ^ 64 }
@@ -181,8 +182,8 @@ impl Session {
         Ok(false)
     }
 
-    // Runs the lines that more bytes complete, up to the first fault, and tells whether there was
-    // one. Without a fault what was printed may wait to be written.
+    // Runs the lines that more bytes complete, up to the first fault, and returns whether there was
+    // one. Without a fault the printed text may wait to be written.
     fn run_lines<K: Sink>(&mut self, chunk: &[u8], sink: &mut K) -> Result<bool, Stop>
         requires { self.old.number + length chunk.now < 2 ^ 64 }
         ensures feeds { (form : Form) → WhereverStands form (K.contents sink.old) self.old
@@ -209,9 +210,9 @@ impl Session {
         }
     }
 
-    /// Runs the lines that more bytes complete, up to the first fault, and tells whether there was
-    /// one. All that they print is written, and the bytes of a line that isn't whole are kept.
-    /// On `Stop` the first part of the text is written.
+    /// Runs the lines that more bytes complete, up to the first fault, and returns whether there
+    /// was one. All that they print is written, and the bytes of an unfinished line are kept. On
+    /// error the first part of the text is written.
     pub(crate) fn feed<K: Sink>(&mut self, chunk: &[u8], sink: &mut K) -> Result<bool, Stop>
         requires { self.old.number + length chunk.now < 2 ^ 64 }
         ensures feeds { (form : Form) → WhereverStands form (K.contents sink.old) self.old
@@ -230,7 +231,7 @@ impl Session {
         }
     }
 
-    // Runs the last line if it lacks its LF.
+    // Runs the last line if it lacks its LF, and returns whether it has a fault.
     fn end_input<K: Sink>(&mut self, sink: &mut K) -> Result<bool, Stop>
         requires { self.old.number + 1 < 2 ^ 64 }
         ensures closes { (form : Form) → WhereverStands form (K.contents sink.old) self.old
@@ -245,7 +246,7 @@ impl Session {
     }
 
     /// Runs the last line if it lacks its LF. Without a fault it writes what is wanted of the
-    /// listing, the replay and the serial run. The status tells whether there was one. On `Stop`
+    /// listing, the replay and the serial run. The status tells whether there was a fault. On error
     /// the first part of the output is written.
     pub(crate) fn finish<K: Sink>(&mut self, wanted: Wanted, sink: &mut K) -> Result<Status, Stop>
         requires { self.old.number + 1 < 2 ^ 64 }
@@ -288,8 +289,8 @@ fn write_end<K: Sink>(
     }
 }
 
-// Prints what is asked for of the listing, the replay and the serial run. Where no line has made
-// the region yet, it is made here.
+// Prints what is asked for of the listing, the replay and the serial run. Makes the region if no
+// line has made it yet.
 fn push_ending(stage: &mut Stage, wanted: Wanted, out: &mut Vec<u8>) -> Result<(), NoMemory>
     ensures stage { OnOk result (stage.new ≡ Running (region_of stage.old)) }
     ensures text { OnOk result (out.new.items ≡ out.old.items ++ ending wanted stage.old) }

@@ -1,4 +1,4 @@
-//! What a region does by itself after an event.
+//! The wake-ups and time-outs that a region runs after an event.
 
 ghost use Rattle.std.specs.Prelude.{◌≡◌, ◌++◌, None, length, IfOk, OnOk};
 ghost use Rattle.cics_run.specs.Journal.{woken_line};
@@ -18,14 +18,14 @@ pub fn settle(region: &mut Region, out: &mut Vec<u8>) -> Result<(), NoMemory>
         (settled (length region.old.machine.waiting) region.old.machine).text) }
     ensures quiet { OnOk result (turn region.new.machine ≡ None) }
 {
-    // Behind most lines nothing comes, and that is known.
+    // After most lines neither applies, and that is known.
     if region.is_at_rest() {
         return Ok(());
     }
     take_turns(region, out)
 }
 
-// Takes turns until there is none to take.
+// Runs wake-ups and time-outs until neither applies.
 #[inline(never)]
 fn take_turns(region: &mut Region, out: &mut Vec<u8>) -> Result<(), NoMemory>
     ensures region { OnOk result (region.new
@@ -39,7 +39,7 @@ fn take_turns(region: &mut Region, out: &mut Vec<u8>) -> Result<(), NoMemory>
     Ok(())
 }
 
-// Takes one turn and prints its line, and tells whether there was one to take.
+// Runs a wake-up, or if none applies a time-out, and prints its line. Returns whether one applied.
 fn turn(region: &mut Region, out: &mut Vec<u8>) -> Result<bool, NoMemory>
     ensures { IfOk result (Turns region.old.machine region.new out.old.items out.new.items) }
 {
@@ -59,7 +59,8 @@ fn turn(region: &mut Region, out: &mut Vec<u8>) -> Result<bool, NoMemory>
     }
 }
 
-// Prints the line of a command that resumed. It owns the command, so that it is dropped by one call.
+// Prints the line of a command that resumed. It owns the command, so that it is dropped by one
+// call.
 fn tell_woken(woken: Woken, out: &mut Vec<u8>) -> Result<(), NoMemory>
     ensures { OnOk result (out.new.items ≡ out.old.items ++ woken_line woken) }
 {

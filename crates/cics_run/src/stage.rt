@@ -1,4 +1,4 @@
-//! What the lines of a script lead to.
+//! The stages of a run: the definitions, then the region.
 
 ghost use Rattle.std.specs.Prelude.{◌≡◌, ◌++◌, List, ℕ, OnOk, OnErr, IfOk, Ok, Option, Some};
 ghost use Rattle.cics_history.specs.State.{OpeningState};
@@ -34,7 +34,7 @@ pub enum Fault {
     Definition(DefineFault),
 }
 
-/// Definitions, until the first line that is neither blank nor one; then a region.
+/// The definitions, until the first line that is neither blank nor a definition; then the region.
 pub enum Stage {
     Opening(Opening),
     Running(Region),
@@ -51,15 +51,15 @@ impl Drop for Stage {
 }
 
 impl Stage {
-    /// Before the first line: nothing is defined.
+    /// Returns the stage before the first line: nothing is defined.
     pub fn new(alloc: Global) -> Stage
         ensures { result ≡ first_stage }
     {
         Stage::Opening(Opening::new(alloc))
     }
 
-    /// Runs the line with this number, prints what comes of it, and returns its fault, which ends
-    /// the run.
+    /// Runs the line with this number, prints its journal lines, and returns its fault, if it has
+    /// one. A fault ends the run.
     pub fn run_line(
         &mut self,
         number: u64,
@@ -173,8 +173,7 @@ impl Stage {
         Ok(None)
     }
 
-    /// Makes the region of the definitions, where there is none yet. Without memory the definitions
-    /// stay.
+    /// Makes the region of the definitions, if there is none yet. On error the definitions stay.
     pub fn open(&mut self) -> Result<(), NoMemory>
         ensures ok { OnOk result (self.new ≡ Running (region_of self.old)) }
         ensures err { OnErr result (self.new ≡ self.old) }
@@ -185,8 +184,8 @@ impl Stage {
         }
     }
 
-    // Makes the region of the definitions: once in a run, where `open` comes with every line of a
-    // task.
+    // Makes the region of the definitions. That is once in a run, but `open` is called at every
+    // line of a task.
     #[cold]
     fn make_region(&mut self) -> Result<(), NoMemory>
         ensures ok { OnOk result (self.new ≡ Running (region_of self.old)) }
@@ -222,8 +221,8 @@ fn print_fault(number: u64, fault: Fault, out: &mut Vec<u8>) -> Result<Option<Fa
     Ok(Some(fault))
 }
 
-// Prints the fault of a definition, if it has one, and returns it. The clause speaks of the opening
-// that the definition left, `now`.
+// Prints the fault of a definition, if it has one, and returns it. In the clause `now` is the
+// opening that the definition left.
 fn tell_defined(
     number: u64,
     answer: Result<(), DefineFault>,
@@ -241,7 +240,7 @@ fn tell_defined(
     }
 }
 
-// Gives a task's beginning to the region, and prints what comes of it.
+// Attaches a task, prints the line of that, and drains the region.
 fn attach(
     region: &mut Region,
     label: Name8,
@@ -275,7 +274,7 @@ fn tell_attached(
     }
 }
 
-// Sets the clock of the region, and prints what comes of it.
+// Sets the clock, prints the line of that, and drains the region.
 fn set_clock(region: &mut Region, seconds: u64, out: &mut Vec<u8>) -> Result<(), NoMemory>
     ensures { Happens (clock_moved region.old.machine seconds) region.new out.old.items
         out.new.items result }
@@ -297,7 +296,7 @@ fn tell_clock(seconds: u64, answer: Result<(), Refused>, out: &mut Vec<u8>) -> R
     }
 }
 
-// Gives a task's command to the region, and prints what comes of it.
+// Issues a task's command, prints the line of that, and drains the region.
 fn issue(
     region: &mut Region,
     label: Name8,
@@ -328,7 +327,7 @@ fn tell_issued(
     }
 }
 
-// Shuts the region down, and prints what comes of it.
+// Shuts the region down, prints the line of that, and drains the region.
 fn shutdown(region: &mut Region, out: &mut Vec<u8>) -> Result<(), NoMemory>
     ensures { Happens (region_shut region.old.machine) region.new out.old.items out.new.items
         result }
@@ -350,7 +349,7 @@ fn tell_shutdown(answer: Result<u64, Refused>, out: &mut Vec<u8>) -> Result<(), 
     }
 }
 
-// Goes on behind the line of an event: the region settles.
+// Drains the region after the line of an event.
 fn go_on(region: &mut Region, out: &mut Vec<u8>) -> Result<(), NoMemory>
     ensures { (before text : List ℕ) → out.old.items ≡ before ++ text →
         Happens (event text region.old.machine) region.new before out.new.items result }

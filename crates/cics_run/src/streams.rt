@@ -13,19 +13,19 @@ pub struct Failed;
 
 /// Gives the bytes of a script.
 pub trait Source {
-    /// The bytes that reads will give from here on, where they are known.
+    /// The bytes that reads will give from here on, if they are known.
     ghost remaining: { Self → Option (List ℕ) } = { λ _. None };
 
-    /// How many reads there were, where they are counted.
+    /// How many reads there were, if they are counted.
     ghost asked: { Self → Option ℕ } = { λ _. None };
 
-    /// How many reads failed, where they are counted.
+    /// How many reads failed, if they are counted.
     ghost failed: { Self → Option ℕ } = { λ _. None };
 
-    /// What the last read gave, where it is known.
+    /// What the last read gave, if it is known.
     ghost last: { Self → Option (List ℕ) } = { λ _. None };
 
-    /// Reads into the front of a buffer, and returns how many bytes: none only at the end, or if
+    /// Reads into the first bytes of a buffer, and returns how many: none only at the end, or if
     /// the buffer has no room.
     fn read(&mut self, buffer: &mut [u8]) -> Result<usize, Failed>
         ensures bound { ReadsAtMost result buffer.new }
@@ -37,13 +37,13 @@ pub trait Source {
 
 /// Takes the bytes that a run writes.
 pub trait Sink {
-    /// The bytes that it holds, where they are known.
+    /// The bytes that it holds, if they are known.
     ghost contents: { Self → Option (List ℕ) } = { λ _. None };
 
-    /// How many writes failed, where they are counted. One that takes none of some bytes counts.
+    /// How many writes failed, if they are counted. One that takes none of some bytes counts.
     ghost failed: { Self → Option ℕ } = { λ _. None };
 
-    /// Takes bytes from the front of a buffer, and returns how many.
+    /// Takes the first bytes of a buffer, and returns how many.
     fn write(&mut self, buffer: &[u8]) -> Result<usize, Failed>
         ensures bound { WritesAtMost result buffer.now }
         ensures bytes { WriteAppends (contents self.old) (contents self.new) result buffer.now }

@@ -29,9 +29,10 @@ impl From<NoMemory> for Stop {
     }
 }
 
-/// Writes all the bytes. A write of no byte is a fault, and nothing is tried again.
+/// Writes all the bytes. Nothing is tried again.
 ///
-/// Errors: `Failed` if a write failed. Then a front of the bytes is written.
+/// Errors: `Failed` if a write failed, or took nothing. The first part of the bytes is written
+/// then.
 pub fn write_all<K: Sink>(sink: &mut K, bytes: &[u8]) -> Result<(), Failed>
     ensures failed { Rises (K.failed sink.old) (K.failed sink.new) (failures (λ _. 1) result) }
     ensures ok { OnOk result (Appends (K.contents sink.old) (K.contents sink.new) bytes.now) }
@@ -50,6 +51,8 @@ pub fn write_all<K: Sink>(sink: &mut K, bytes: &[u8]) -> Result<(), Failed>
 }
 
 /// Writes what is pending.
+///
+/// Errors: `WriteFault` if a write failed, or took nothing. The first part is written then.
 pub fn write_pending<K: Sink>(pending: &mut Vec<u8>, sink: &mut K) -> Result<(), Stop>
     ensures ok { OnOk result
         (Appends (K.contents sink.old) (K.contents sink.new) pending.old.items) }
@@ -67,7 +70,7 @@ pub fn write_pending<K: Sink>(pending: &mut Vec<u8>, sink: &mut K) -> Result<(),
     }
 }
 
-/// Writes what is pending, if that is to be at once or enough of it has come together.
+/// Writes what is pending, if `at_once` or enough of it has come together.
 pub fn write_printed<K: Sink>(
     pending: &mut Vec<u8>,
     sink: &mut K,

@@ -43,7 +43,7 @@ IsPrinted script w text status = IsPrintedOf (planned (taken_apart nothing_taken
 
 -- What stands in the sink at each answer, where bytes are the bytes that were read:
 -- - without a fault: the whole text;
--- - WriteFault: a front of the text;
+-- - WriteFault: a first part of the text;
 -- - every other one: nothing more than before.
 abbrev pub Answers : Orders → List ℕ → Option (List ℕ) → Option (List ℕ) → Option (List ℕ) → Result Surveyed RunFault → Type 0
 Answers w bytes rest old new (Ok status) = IsAtEnd rest × (text : List ℕ) × IsPrinted bytes w text status × Appends old new text

@@ -24,7 +24,7 @@ pub enum Surveyed {
     NoEnding(u64),
 }
 
-// How a script was told of an ending, if there is one.
+// Returns how a script was told, by whether the ending is there.
 fn ending_of(survey: &Survey, is_there: bool) -> Surveyed
     ensures { result ≡ ending_of survey.now is_there }
 {
@@ -35,7 +35,7 @@ fn ending_of(survey: &Survey, is_there: bool) -> Surveyed
     }
 }
 
-// Puts at the end what is wanted of a survey.
+// Appends what is wanted of a survey.
 fn push_survey(out: &mut Vec<u8>, survey: &Survey, wanted: Orders) -> Result<Surveyed, NoMemory>
     ensures { IfOk result (Writes wanted survey.now out.old.items out.new.items) }
 {
@@ -47,7 +47,7 @@ fn push_survey(out: &mut Vec<u8>, survey: &Survey, wanted: Orders) -> Result<Sur
     Ok(ending_of(survey, is_there))
 }
 
-// Puts at the end of a text what is wanted of a script's orders.
+// Appends to a text what is wanted of a script's orders.
 fn push_orders(out: &mut Vec<u8>, script: &[u8], wanted: Orders) -> Result<Surveyed, NoMemory>
     requires { out.old.items ≡ [] }
     ensures { IfOk result (IsPrinted script.now wanted out.new.items) }
@@ -63,7 +63,7 @@ fn push_orders(out: &mut Vec<u8>, script: &[u8], wanted: Orders) -> Result<Surve
     }
 }
 
-/// Follows the orders of the script that a source gives, and writes a report on them, or the first
+/// Follows the orders of the script that a source gives. Writes a report on them, or the first
 /// order of an ending as a script.
 ///
 /// It reads at most `LIMIT` bytes, and one more to see whether there are more, and writes when all

@@ -29,9 +29,9 @@ fn follow(alloc: Global, plan: Plan, with_told: bool, limit: u64) -> Result<Repo
     }
 }
 
-/// Takes a script apart, and follows the orders of its lines, at most `limit`. `lines` are its lines,
-/// each without its line end. `with_told` tells endings apart by what tasks were told too. If a line
-/// has a fault, returns the number of the first such line and its fault instead.
+/// Takes a script apart, and follows the orders of its lines, at most `limit`. `lines` are its
+/// lines, each without its line end. `with_told` tells endings apart by what tasks were told too.
+/// If a line has a fault, returns the number of the first such line and its fault instead.
 ///
 /// Errors: `NoMemory`. Cost: each order is run from the start.
 pub fn survey_script(

@@ -52,7 +52,8 @@ is_of_script line = has_front (codes ">") line
 abbrev pub is_amiss : List ℕ → Bool
 is_amiss line = not (is_of_script line) && is_told_amiss (without_woken (behind_label line))
 
--- what was seen of a journal: the first bytes of the line that isn't whole yet, and whether a line was amiss
+-- what was seen of a journal: the first bytes of the line that isn't whole yet, and whether a line
+-- was amiss
 abbrev pub Seen : Type 0
 Seen = List ℕ × Bool
 

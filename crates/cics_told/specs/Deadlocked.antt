@@ -41,12 +41,12 @@ abbrev pub awaited_text : Option Command → List ℕ
 awaited_text None = []
 awaited_text (Some c) = codes " (" ++ (resource_text c.verb ++ codes ")")
 
--- the task that another one waits for
+-- the task that blocks another one
 abbrev pub blocker_text : Option Bytes → List ℕ
 blocker_text None = []
 blocker_text (Some label) = bare label
 
--- a task, the one that it waits for, and what for
+-- a task, the one that blocks it, and what it waits for
 abbrev pub wait_text : Machine → Bytes → List ℕ
 wait_text m label = bare label ++ (codes " waits for " ++ (blocker_text (blocker_of m label) ++ awaited_text (waiting_command m label)))
 

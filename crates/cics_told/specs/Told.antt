@@ -23,7 +23,8 @@ use Rattle.cics_told.specs.declared.told.TheConstants.{MOST_WAITING}
 abbrev pub first_column : List ℕ → ℕ
 first_column bytes = (length bytes - length (after_blanks bytes)) + 1
 
--- where a fault of a line is: in the column that is found; a line that can be read is at fault from its first byte on
+-- where a fault of a line is: in the column that is found; a line that can be read is at fault from
+-- its first byte on
 abbrev pub IsPlaced : List ℕ → LineFault → Placed → Type 0
 IsPlaced bytes fault placed =
     IsFoundIn bytes (Some placed) ⊎ (IsFoundIn bytes None × (placed ≡ record { fault = fault; column = Some (first_column bytes) }))

@@ -1,4 +1,4 @@
-//! What is told of the deadlocks in which a run leaves its tasks.
+//! The lines on the deadlocks in which a run leaves its tasks.
 
 ghost use Rattle.std.specs.Prelude.{◌≡◌, ◌∷◌, ◌++◌, take, OnOk};
 ghost use Rattle.std.specs.List.{flat_map};
@@ -12,7 +12,7 @@ use cics_dispatch::Region;
 use cics_names::{Name8, NoMemory, Record, Verb};
 use cics_script::{push_bare, push_name, push_str, push_text};
 
-// A record of a file, or the records whose keys have a prefix.
+// Appends a record of a file, or the records whose keys have a prefix.
 fn push_keys(out: &mut Vec<u8>, what: &str, key: &Record, file: &Name8) -> Result<(), NoMemory>
     ensures { OnOk result (out.new.items
         ≡ out.old.items ++ keys_text what.now key.now file.now) }
@@ -30,7 +30,7 @@ fn push_queue(out: &mut Vec<u8>, name: &[u8]) -> Result<(), NoMemory>
     push_name(out, name)
 }
 
-// The value of an ENQ: the first bytes of its resource.
+// Returns the value of an ENQ: the first bytes of its resource.
 fn value_of(resource: &[u8], length: u64) -> &[u8]
     ensures { result.now ≡ take length resource.now }
 {
@@ -49,7 +49,7 @@ fn push_value(out: &mut Vec<u8>, resource: &Record, length: u64) -> Result<(), N
     push_text(out, value_of(resource.bytes(), length))
 }
 
-// What a command waits for: a record, a prefix, a queue or a value.
+// Appends what a command waits for: a record, a prefix, a queue or a value.
 fn push_resource(out: &mut Vec<u8>, verb: &Verb) -> Result<(), NoMemory>
     ensures { OnOk result (out.new.items ≡ out.old.items ++ resource_text verb.now) }
 {
@@ -81,7 +81,7 @@ fn push_resource(out: &mut Vec<u8>, verb: &Verb) -> Result<(), NoMemory>
     }
 }
 
-// The task that another one waits for.
+// Appends the task that blocks another one.
 fn push_blocker(out: &mut Vec<u8>, region: &Region, label: &Name8) -> Result<(), NoMemory>
     ensures { OnOk result (out.new.items
         ≡ out.old.items ++ blocker_text (blocker_of region.now.machine label.now)) }
@@ -92,7 +92,7 @@ fn push_blocker(out: &mut Vec<u8>, region: &Region, label: &Name8) -> Result<(),
     }
 }
 
-// What a task waits for, in parentheses.
+// Appends what a task waits for, in parentheses.
 fn push_awaited(out: &mut Vec<u8>, region: &Region, label: &Name8) -> Result<(), NoMemory>
     ensures { OnOk result (out.new.items
         ≡ out.old.items ++ awaited_text (waiting_command region.now.machine label.now)) }
@@ -105,7 +105,7 @@ fn push_awaited(out: &mut Vec<u8>, region: &Region, label: &Name8) -> Result<(),
     push_str(out, ")")
 }
 
-// A task, the one that it waits for, and what for.
+// Appends a task, the one that blocks it, and what it waits for.
 fn push_wait(out: &mut Vec<u8>, region: &Region, label: &Name8) -> Result<(), NoMemory>
     ensures { OnOk result (out.new.items
         ≡ out.old.items ++ wait_text region.now.machine label.now) }
@@ -117,7 +117,7 @@ fn push_wait(out: &mut Vec<u8>, region: &Region, label: &Name8) -> Result<(), No
     Ok(())
 }
 
-// The same of a task behind another one.
+// Appends the same of a task behind another one.
 fn push_next_wait(out: &mut Vec<u8>, region: &Region, label: &Name8) -> Result<(), NoMemory>
     ensures { OnOk result (out.new.items
         ≡ out.old.items ++ next_wait_text region.now.machine label.now) }
@@ -137,7 +137,8 @@ fn push_next_waits(out: &mut Vec<u8>, region: &Region, labels: &[Name8]) -> Resu
     Ok(())
 }
 
-// A line on a task and others that wait for each other: each for the next one, the last for it.
+// Appends a line on a task and others that wait for each other: each for the next one, the last for
+// it.
 fn push_circle(
     out: &mut Vec<u8>,
     region: &Region,
@@ -164,7 +165,7 @@ fn push_deadlock(out: &mut Vec<u8>, region: &Region, labels: &[Name8]) -> Result
     }
 }
 
-/// Puts a line for each deadlock of a region, in the order of `cics_deadlock::deadlocks`: which
+/// Appends a line for each deadlock of a region, in the order of `cics_deadlock::deadlocks`: which
 /// task waits for which, and for what.
 ///
 /// Errors: `NoMemory`. Cost: that of `deadlocks`.

@@ -1,4 +1,4 @@
-//! Hints on names that aren't defined, while they are in capitals.
+//! Hints on names that aren't defined, if their capitals are.
 
 use cics_advice::Named;
 use cics_dispatch::Region;
@@ -20,7 +20,7 @@ fn has_queue(region: &Region, characters: &[u8]) -> bool {
     }
 }
 
-// Puts a line on a name, if its capitals are defined.
+// Appends a line on a name, if its capitals are defined.
 fn push_hint(out: &mut Vec<u8>, region: &Region, named: &Named) -> Result<(), NoMemory> {
     let name = named.bytes();
     let mut capitals = Vec::new(*out.allocator());

@@ -1,5 +1,5 @@
-//! What a run leaves a person to know: what its faulty line needs, its deadlocks, names that aren't
-//! defined, and what a strict run finds amiss.
+//! What a run leaves a person to know: what its faulty line needs, its deadlocks, undefined names,
+//! and what a strict run finds amiss.
 #![tactic(auto)]
 
 mod deadlocked;

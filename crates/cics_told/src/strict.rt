@@ -35,7 +35,7 @@ pub struct Watched<W> {
     is_amiss: bool,
 }
 
-// The length of the label that begins a line.
+// Returns the length of the label that begins a line.
 fn label_len(line: &[u8]) -> usize
     ensures value { result ≡ prefix_len is_in_label line.now }
     ensures within { result ≤ length line.now }
@@ -58,7 +58,7 @@ fn without_woken(told: &[u8]) -> &[u8]
     }
 }
 
-// Whether a refusal is told. Its number sets it apart from a task of that name.
+// Returns whether a refusal is told. Its number sets it apart from a task of that name.
 fn is_refusal(told: &[u8]) -> bool
     ensures { result ≡ is_refusal told.now }
 {
@@ -71,8 +71,8 @@ fn is_refusal(told: &[u8]) -> bool
     }
 }
 
-// Whether an abend is told that no task asked for. One that a task asks for has a code of four
-// characters, and no more behind it; AKCS is the code of a time-out.
+// Returns whether an abend is told that no task asked for. One that a task asks for has a code of
+// four characters, and no more behind it. AKCS is the code of a time-out.
 fn is_abend(told: &[u8]) -> bool
     ensures { result ≡ is_abend told.now }
 {
@@ -88,15 +88,15 @@ fn is_told_amiss(told: &[u8]) -> bool
     is_refusal(told) || is_abend(told)
 }
 
-// A line of the script begins with `>`.
+// Returns whether a line is one of the script: it begins with `>`.
 fn is_of_script(line: &[u8]) -> bool
     ensures { result ≡ is_of_script line.now }
 {
     line.strip_prefix(">".as_bytes()).is_some()
 }
 
-// Whether a line of a journal tells that an event was refused, or that a task was abended by a
-// condition or a time-out.
+// Returns whether a line of a journal tells that an event was refused, or that a task was abended
+// by a condition or a time-out.
 fn is_amiss(line: &[u8]) -> bool
     ensures { result ≡ is_amiss line.now }
 {
@@ -106,7 +106,7 @@ fn is_amiss(line: &[u8]) -> bool
 /// Says what a strict run finds amiss, in the journal's terms:
 ///
 /// - an event that was refused;
-/// - an abend by a condition, as a task issued a command or was woken;
+/// - an abend by a condition, as a task issued a command or a command resumed;
 /// - an abend with the code of a time-out.
 ///
 /// The line of any other event isn't amiss, and no line of the script is.

@@ -1,4 +1,4 @@
-//! What is told to a person of a run when it has ended.
+//! What a person is told of a run when it has ended.
 
 ghost use Rattle.std.specs.Prelude.{◌≡◌, ◌++◌, OnOk, IfOk};
 ghost use Rattle.cics_told.specs.Told.{first_column, IsCauseOf, IsToldOf, few_deadlock_lines};
@@ -15,11 +15,11 @@ use cics_run::stage::{Fault, Stage};
 use cics_script::{Placed, find_fault, skip_blanks};
 use std::alloc::Global;
 
-// How many tasks may wait at a run's end for its deadlocks to be told. The search takes time by the
-// square.
+// How many tasks may wait at a run's end for its deadlocks to be told. The search is O(n^2) for n
+// waiting tasks.
 const MOST_WAITING: usize = 10_000;
 
-// The column of the first byte that is no blank.
+// Returns the column of the first byte that is no blank.
 fn first_column(line: &[u8]) -> usize
     ensures { result ≡ first_column line.now }
 {
@@ -28,7 +28,8 @@ fn first_column(line: &[u8]) -> usize
         .saturating_add(1)
 }
 
-// A fault of a line, with its column. A line that can be read is at fault as a whole.
+// Returns the cause of a line's fault, with its column. A line that can be read is at fault as a
+// whole.
 fn cause_of(alloc: Global, line: &[u8], fault: Fault) -> Result<Cause, NoMemory>
     ensures { IfOk result (IsCauseOf line.now fault) }
 {
@@ -44,8 +45,8 @@ fn cause_of(alloc: Global, line: &[u8], fault: Fault) -> Result<Cause, NoMemory>
     }
 }
 
-/// Returns what is to be told of the line at which a run ended with `Status::LineFault`: a message,
-/// the line, and a caret (`cics_advice`). The session is the one that was run: clause `kept` of
+/// Returns what to tell of the line at which a run ended with `Status::LineFault`: a message, the
+/// line, and a caret (`cics_advice`). The session is the one that was run: clause `kept` of
 /// `run_over` says that it keeps that line, its number and its fault. Else returns nothing.
 pub fn told_of(alloc: Global, session: &Session) -> Result<Vec<u8>, NoMemory>
     ensures told { IfOk result (λ text. IsToldOf session.now session.now.fault text.items) }
@@ -59,7 +60,7 @@ pub fn told_of(alloc: Global, session: &Session) -> Result<Vec<u8>, NoMemory>
     Ok(text)
 }
 
-// Puts a line for each deadlock of a region, unless too many tasks wait.
+// Appends a line for each deadlock of a region, unless too many tasks wait.
 fn push_few_deadlocks(out: &mut Vec<u8>, region: &Region) -> Result<(), NoMemory>
     ensures { OnOk result (out.new.items
         ≡ out.old.items ++ few_deadlock_lines region.now.machine) }
@@ -71,7 +72,7 @@ fn push_few_deadlocks(out: &mut Vec<u8>, region: &Region) -> Result<(), NoMemory
     push_deadlocks(out, region)
 }
 
-// What is told of a region.
+// Returns what is told of a region.
 fn told_of_region(alloc: Global, region: &Region, names: &[Named]) -> Result<Vec<u8>, NoMemory>
     ensures { IfOk result (λ text. IsToldOfRegion region.now.machine text.items) }
 {
@@ -82,10 +83,10 @@ fn told_of_region(alloc: Global, region: &Region, names: &[Named]) -> Result<Vec
     Ok(text)
 }
 
-/// Returns what is to be told at the end of a run that ended with `Status::Done`. That is a line
-/// for each deadlock, if at most 10,000 tasks wait, and one for each undefined name whose capitals
-/// are defined. The session is the one that was run: clause `kept` of `run_over` says that its
-/// region is the one in which the script's lines ended.
+/// Returns what to tell at the end of a run that ended with `Status::Done`. That is a line for each
+/// deadlock, if at most 10,000 tasks wait, and one for each undefined name whose capitals are
+/// defined. The session is the one that was run: clause `kept` of `run_over` says that its region
+/// is the one in which the script's lines ended.
 ///
 /// Errors: `NoMemory`, if a task waits or a name is undefined. Cost: that of `deadlocks`.
 pub fn told_at_end(alloc: Global, session: &Session) -> Result<Vec<u8>, NoMemory>

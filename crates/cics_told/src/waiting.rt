@@ -7,7 +7,7 @@ use cics_dispatch::Region;
 use cics_run::Session;
 use cics_run::stage::Stage;
 
-// Whether the task of a number waits.
+// Returns whether the task of a number waits.
 fn waits_at(region: &Region, number: usize) -> bool
     ensures { result ≡ waits_at region.now.machine number }
 {
@@ -17,7 +17,7 @@ fn waits_at(region: &Region, number: usize) -> bool
     }
 }
 
-// Whether one of the tasks of a region waits.
+// Returns whether one of the tasks of a region waits.
 fn one_waits(region: &Region) -> bool
     ensures { result ≡ one_waits_below region.now.machine (length region.now.machine.tasks) }
 {

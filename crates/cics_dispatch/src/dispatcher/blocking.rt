@@ -1,4 +1,4 @@
-//! Whom a task has to wait for, and the numbers of tasks.
+//! The blockers of waiting commands, and the numbers of tasks.
 
 ghost use Rattle.std.specs.Prelude.{◌≡◌, IfSome, length};
 ghost use Rattle.cics_history.specs.Execution.{IsOpenUnit};
@@ -19,7 +19,7 @@ impl Dispatcher {
         Some(wait.command())
     }
 
-    // The unit for which the waiting command of a label's task has to wait now, if it has to.
+    // Returns the unit that blocks the waiting command of a label's task now, if one does.
     fn awaited_at(&self, label: &Name8) -> Option<UnitId>
         ensures unit { result ≡ awaited_at self.now.machine label.now }
         ensures is_open { IfSome result (IsOpenUnit self.now.machine.units) }
@@ -29,7 +29,7 @@ impl Dispatcher {
         self.awaited(at, wait)
     }
 
-    /// Returns the label of the task for which the waiting command of a label's task has to wait.
+    /// Returns the label of the task whose unit blocks the waiting command of a label's task.
     pub(crate) fn blocker(&self, label: &Name8) -> Option<Name8>
         ensures { result ≡ blocker_of self.now.machine label.now }
     {

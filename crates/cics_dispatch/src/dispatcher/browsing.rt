@@ -39,7 +39,7 @@ fn unlock_file(units: &mut Units, unit: Option<UnitId>, name: &Name8)
 }
 
 impl Dispatcher {
-    // READ without UPDATE.
+    // Executes READ without UPDATE.
     pub(super) fn read(
         &mut self,
         at: usize,
@@ -62,7 +62,7 @@ impl Dispatcher {
         Ok(self.answer(at, resp, reply))
     }
 
-    // UNLOCK.
+    // Executes UNLOCK.
     pub(super) fn unlock(&mut self, at: usize, resp: bool, name: &Name8) -> Outcome
         requires within { at < length self.old.machine.tasks }
         requires awake { IsAwake self.old.machine at }
@@ -75,7 +75,7 @@ impl Dispatcher {
         self.answer(at, resp, plain_reply(Condition::Normal))
     }
 
-    // STARTBR.
+    // Executes STARTBR.
     pub(super) fn start_browse(
         &mut self,
         at: usize,
@@ -101,7 +101,7 @@ impl Dispatcher {
         Ok(self.answer(at, resp, plain_reply(Condition::Normal)))
     }
 
-    // RESETBR.
+    // Executes RESETBR.
     pub(super) fn reset_browse(
         &mut self,
         at: usize,
@@ -129,7 +129,7 @@ impl Dispatcher {
         self.answer(at, resp, plain_reply(condition))
     }
 
-    // READNEXT, forward, and READPREV, back.
+    // Executes READNEXT, forward, or READPREV, back.
     pub(super) fn read_on(
         &mut self,
         at: usize,
@@ -155,7 +155,7 @@ impl Dispatcher {
         Ok(self.answer(at, resp, reply_of_browsed(browsed, limit)))
     }
 
-    // ENDBR.
+    // Executes ENDBR.
     pub(super) fn end_browse(&mut self, at: usize, resp: bool, name: &Name8) -> Outcome
         requires within { at < length self.old.machine.tasks }
         requires awake { IsAwake self.old.machine at }

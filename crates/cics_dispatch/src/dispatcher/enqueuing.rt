@@ -17,7 +17,7 @@ use cics_history::UnitId;
 use cics_names::{Command, Condition, NoMemory, Verb};
 use cics_units::{Enqueued, Units};
 
-// Frees a value once for a unit, if there is one.
+// Releases a value once for a unit, if there is one.
 fn free_value(units: &mut Units, unit: Option<UnitId>, value: &[u8])
     requires is_open { IsOpenOrNone units.old.state unit }
     requires most { length value.now ≤ 255 }
@@ -34,7 +34,7 @@ fn free_value(units: &mut Units, unit: Option<UnitId>, value: &[u8])
 }
 
 impl Dispatcher {
-    // Takes the value of an ENQ of the task at a place, unless it has to wait.
+    // Acquires the value of an ENQ of the task at an index, unless it must wait.
     pub(super) fn take_value(&mut self, at: usize, command: &Command) -> Result<Attempt, NoMemory>
         requires within { at < length self.old.machine.tasks }
         requires awake { IsAwake self.old.machine at }
@@ -64,7 +64,7 @@ impl Dispatcher {
         }
     }
 
-    // ENQ.
+    // Executes ENQ.
     pub(super) fn enqueue(&mut self, at: usize, command: Command) -> Result<Outcome, NoMemory>
         requires within { at < length self.old.machine.tasks }
         requires awake { IsAwake self.old.machine at }
@@ -78,7 +78,7 @@ impl Dispatcher {
         }
     }
 
-    // DEQ, of a value.
+    // Executes DEQ of a value.
     pub(super) fn dequeue(&mut self, at: usize, resp: bool, value: &[u8]) -> Outcome
         requires within { at < length self.old.machine.tasks }
         requires awake { IsAwake self.old.machine at }

@@ -1,4 +1,4 @@
-//! What a region lists: its files, queues and tasks, and what replaying its history gives.
+//! What a region lists: its files, queues and tasks, and what a replay of its history gives.
 
 ghost use Rattle.std.specs.Prelude.{◌≡◌, IfOk};
 ghost use Rattle.cics_dispatch.specs.Answers.{region_listing, replayed_listing, task_state};
@@ -10,15 +10,15 @@ use cics_names::{Items, Name8, NoMemory};
 use cics_units::{Listing, TaskState, Units, plain_replay};
 
 impl Dispatcher {
-    /// The units of work of the region, with the files and queues that they share, their history and its
-    /// outcomes.
+    /// Returns the units of work of the region, with the files and queues that they share, their
+    /// history and its outcomes.
     pub fn units(&self) -> &Units
         ensures { result.now ≡ record { state = self.now.machine.units; store = self.now.store } }
     {
         &self.units
     }
 
-    // What a task of the region does, if it hasn't ended.
+    // Returns what a task of the region does that hasn't ended.
     fn task_state(&self, task: &Task) -> TaskState
         ensures { result ≡ task_state self.now.machine task.now }
     {
@@ -31,7 +31,7 @@ impl Dispatcher {
         }
     }
 
-    // The label and state of each task that hasn't ended, in the order of attach.
+    // Returns the label and state of each task that hasn't ended, in the order of attach.
     fn tasks_listed(&self) -> Result<Items<(Name8, TaskState)>, NoMemory>
         ensures { IfOk result (λ tasks. tasks ≡ tasks_listed self.now.machine) }
     {
@@ -45,13 +45,11 @@ impl Dispatcher {
         Ok(tasks)
     }
 
-    /// What stands in the files and queues, the changes of open units included, and what each task that
-    /// hasn't ended does, in the order in which the tasks were attached. This is what a user is shown of
-    /// the region.
+    /// Returns what stands in the files and queues, the changes of open units included. It also
+    /// returns what each task that hasn't ended does, in the order of attach.
     ///
-    /// It is refused only for want of memory, which it takes for a copy of each record and for the
-    /// tasks (`NoMemory`). It changes nothing. Each task costs one look-up of its wait, however many
-    /// commands wait.
+    /// It copies each record and the tasks, and `NoMemory` is its only error. Each task costs one
+    /// look-up of its wait, however many commands wait.
     pub fn listing(&self) -> Result<Listing, NoMemory>
         ensures { IfOk result (λ listing. listing ≡ region_listing self.now) }
     {
@@ -60,14 +58,12 @@ impl Dispatcher {
         Ok(listing)
     }
 
-    /// What stands in the files and queues after the history of the region is applied anew, command by
-    /// command, to what was loaded; a command on a recoverable file or queue whose unit was backed out is
-    /// left out. It has no tasks. It goes by no before image, so the files and queues of `listing` can be
-    /// held against it.
+    /// Returns the listing that a replay of the surviving entries gives: they are applied anew, one
+    /// by one, to what was loaded. It has no tasks. Uses no before images.
     ///
-    /// It is refused only for want of memory, which it takes for a copy of each record (`NoMemory`).
-    /// It changes nothing. It takes time in proportion to the records that were loaded and the
-    /// commands that were executed, each with the logarithm of the records in its file.
+    /// It copies each record, and `NoMemory` is its only error.
+    ///
+    /// Cost: O(log n) for each record loaded and each command executed, for n records in its file.
     pub fn replayed(&self) -> Result<Listing, NoMemory>
         ensures { IfOk result (λ listing. listing ≡ replayed_listing self.now) }
     {

@@ -1,4 +1,4 @@
-//! The commands of the tasks of a region, from the look at what other units hold on.
+//! The commands of the tasks of a region, from the look at what other units hold.
 
 ghost use Rattle.std.specs.Prelude.{◌≡◌, ◌<◌, true, false, None, is_some, length, if◌then◌else◌, slice_get};
 ghost use Rattle.std.specs.Prelude.{IsTrue, OnErr};
@@ -22,7 +22,7 @@ use crate::updates::{take, take_op};
 use cics_names::{AbendCode, Command, Condition, Name4, Name8, NoMemory, Verb};
 use cics_units::Op;
 
-// The code of an ABEND: four question marks where it gives none.
+// Returns the code of an ABEND: four question marks if it gives none.
 fn abend_code(code: Option<Name4>) -> AbendCode
     ensures { result ≡ code_of code }
 {
@@ -36,7 +36,7 @@ fn abend_code(code: Option<Name4>) -> AbendCode
 }
 
 impl Dispatcher {
-    // A command of the task at a place that updates nothing.
+    // Executes a command of the task at this index that updates nothing.
     fn perform_other(&mut self, at: usize, command: Command) -> Result<Outcome, NoMemory>
         requires within { at < length self.old.machine.tasks }
         requires may { MayPerform self.old.machine at command.verb }
@@ -153,7 +153,7 @@ impl Dispatcher {
         }
     }
 
-    // SYNCPOINT, with ROLLBACK or without.
+    // Executes SYNCPOINT: with ROLLBACK unless `commits`.
     fn end_of_unit(&mut self, at: usize, commits: bool) -> Outcome
         requires within { at < length self.old.machine.tasks }
         requires awake { IsAwake self.old.machine at }
@@ -168,7 +168,7 @@ impl Dispatcher {
         Outcome::Replied(plain_reply(Condition::Normal))
     }
 
-    // Performs a command of the task at a place whose checks have passed. `op` is the updating
+    // Performs a command of the task at this index whose checks have passed. `op` is the updating
     // command that it asks for, taken out of it.
     fn perform(&mut self, at: usize, command: Command, op: Option<Op>) -> Result<Outcome, NoMemory>
         requires within { at < length self.old.machine.tasks }
@@ -185,14 +185,18 @@ impl Dispatcher {
         }
     }
 
-    /// Executes a command of the task of a label, which is at this place: it is answered, or it
+    /// Executes a command of the task of a label, which is at this index: it is answered, or it
     /// waits, or its task ends.
     ///
-    /// It is refused where the task has ended (`TaskEnded`), where a command of it waits (`TaskWaiting`),
-    /// in this order; and once its checks have passed, for want of memory (`NoMemory`), but for UNLOCK,
-    /// RESETBR, ENDBR, DEQ, SYNCPOINT, ROLLBACK, RETURN and ABEND, which take none. A refusal changes
-    /// nothing. A condition that neither RESP nor NOHANDLE handles abends the task with the condition's
+    /// A condition that neither RESP nor NOHANDLE handles abends the task with the condition's
     /// default code (chapter on the exceptional conditions).
+    ///
+    /// Errors, in this order:
+    ///
+    /// - `TaskEnded`: the task has ended.
+    /// - `TaskWaiting`: a command of it waits.
+    /// - `NoMemory`, once its checks have passed. UNLOCK, RESETBR, ENDBR, DEQ, SYNCPOINT, ROLLBACK,
+    ///   RETURN and ABEND take no memory.
     pub fn issue(&mut self, at: usize, label: Name8, command: Command) -> Result<Outcome, Refused>
         requires task { slice_get self.old.machine.tasks at ≡ task_at self.old.machine.tasks label }
         requires within { at < length self.old.machine.tasks }

@@ -12,7 +12,7 @@ use crate::replies::reply_of_item;
 use cics_names::{Condition, Name4, Name8, NoMemory, Verb};
 
 impl Dispatcher {
-    // QIDERR of a transient data queue that isn't defined.
+    // Returns QIDERR if a transient data queue isn't defined.
     fn queue_fault(&self, queue: &Name4) -> Option<Condition>
         ensures { result ≡ queue_fault self.now.machine queue.now }
     {
@@ -22,7 +22,7 @@ impl Dispatcher {
         }
     }
 
-    // The first fault of a command that names no file.
+    // Returns the first fault of a command that names no file.
     pub(super) fn other_fault(&self, verb: &Verb) -> Option<Condition>
         ensures { result ≡ other_fault self.now.machine verb.now }
     {
@@ -41,7 +41,7 @@ impl Dispatcher {
         }
     }
 
-    // READQ TS.
+    // Executes READQ TS.
     pub(super) fn read_item(
         &mut self,
         at: usize,

@@ -11,7 +11,8 @@ use crate::dispatcher::Dispatcher;
 use crate::waits::Waits;
 
 impl Dispatcher {
-    // Ends each task, in the order of attach, and backs its unit out. Answers how many units there were.
+    // Ends each task, in the order of attach, and backs its unit out. Returns how many units there
+    // were.
     fn end_tasks(&mut self) -> u64
         requires alone { self.old.machine.waiting ≡ [] }
         ensures machine { self.new.machine ≡ all_ended self.old.machine self.old.machine.tasks }
@@ -30,10 +31,10 @@ impl Dispatcher {
         count
     }
 
-    /// Shuts the region down, and answers how many units were backed out: SHUTDOWN IMMEDIATE.
+    /// Shuts the region down, and returns how many units were backed out: SHUTDOWN IMMEDIATE.
     ///
-    /// No command waits any more; then each task ends, in the order of attach, and its unit of work is
-    /// backed out. After it no unit is open. It takes no memory, and is never refused.
+    /// No command waits any more. Then each task ends, in the order of attach, and its unit of work
+    /// is backed out. After it no unit is open. Takes no memory.
     pub fn shut_down(&mut self) -> u64
         ensures machine { with_outcome (Ok result) self.new.machine ≡ shut_down self.old.machine }
         ensures none_open { (u : ℕ) → is_live self.new.machine.units u ≡ false }

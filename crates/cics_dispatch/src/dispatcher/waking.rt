@@ -1,4 +1,4 @@
-//! Waiting commands: which one goes on, and which one's time is over.
+//! Waiting commands: which one resumes, and which task has waited too long.
 
 ghost use Rattle.std.specs.Prelude.{◌≡◌, ◌<◌, ◌≤◌, [], All, Some, None, true, false, length};
 ghost use Rattle.std.specs.Prelude.{◌+◌, slice_get, is_ok, IfOk, OnOk, OnErr, IfSome, IfNone};
@@ -31,7 +31,7 @@ use cics_names::{AbendCode, Name4, Name8, NoMemory, Verb};
 use cics_units::Op;
 use std::mem;
 
-// The code of a task that has waited too long: AKCS.
+// Returns the code of a task that has waited too long: AKCS.
 fn time_out_code() -> AbendCode
     ensures { result ≡ timed_out }
 {
@@ -41,7 +41,8 @@ fn time_out_code() -> AbendCode
     }
 }
 
-// Whether a command's key has no more bytes than a key may have. One that names no file has no key.
+// Returns whether an updating command's key has at most 255 bytes. One that names no file has no
+// key.
 fn has_short_key(op: &Op) -> bool
     ensures { result ≡ true → length (key_of op.now) ≤ 255 }
 {
@@ -51,8 +52,8 @@ fn has_short_key(op: &Op) -> bool
     }
 }
 
-// The one resource that an updating command uses if it uses any, where it uses no two, and may have to wait for nothing
-// but a unit that holds it.
+// Returns the one resource that an updating command uses, if it uses any. `None` for DELETEQ TD,
+// which may use two, and READQ TD, which may also wait for a writer of its queue.
 fn need_of(op: &Op) -> Option<Resource>
     requires { length (key_of op.now) ≤ 255 }
     ensures { IfSome result (λ r. IsOnlyUse r op.now) }
@@ -72,7 +73,7 @@ fn need_of(op: &Op) -> Option<Resource>
 }
 
 impl Dispatcher {
-    // The unit that a waiting command of the task at a place has to wait for, if it has to wait.
+    // Returns the unit that blocks a waiting command of the task at an index, if one does.
     pub(super) fn awaited(&self, at: usize, wait: &Suspended) -> Option<UnitId>
         requires within { at < length self.now.machine.tasks }
         requires ready { HasReady self.now.machine at wait.now.command.verb wait.now.op }
@@ -97,7 +98,7 @@ impl Dispatcher {
             .value_holder(asking, &resource.bytes()[..*length as usize])
     }
 
-    /// Looks at the command of a label's task, which waits: whether it has to wait yet, and for whom.
+    /// Looks at the waiting command of a label's task: it may resume, or a unit blocks it.
     pub(crate) fn look(&self, label: &Name8) -> Look
         requires { is_waiting self.now.machine.waiting label.now ≡ true }
         ensures { OfWait self.now.machine.waiting label.now
@@ -115,7 +116,8 @@ impl Dispatcher {
         }
     }
 
-    // The one resource that the waiting command of a label's task uses, where it is one.
+    // Returns the one resource that the waiting command of a label's task uses, if it is known to
+    // use no other.
     fn need(&self, label: &Name8) -> Option<Resource>
         ensures { OfWait self.now.machine.waiting label.now (λ w. IfSome result (λ r.
             IsOnlyNeed r w.command.verb w.op)) }
@@ -134,8 +136,9 @@ impl Dispatcher {
         }
     }
 
-    // Whether the command of a label's task, which waits, may be one of a line: it isn't known to use another resource. It is
-    // a function of its own, since a resource takes over 255 bytes of the frame and few looks at a line need one.
+    // Returns false only if the waiting command of a label's task can't be one of a wait group. It
+    // is a function of its own: a resource takes over 255 bytes of the frame, and few looks need
+    // one.
     #[inline(never)]
     fn may_be_in_line(&self, notes: &Notes, line: usize, label: &Name8) -> bool
         ensures { result ≡ false → OfWait self.now.machine.waiting label.now
@@ -147,7 +150,7 @@ impl Dispatcher {
         }
     }
 
-    // Whether the task of a unit has a command that waits, and that may be one of a line.
+    // Returns whether a command of a unit's own task waits that may be one of a wait group.
     fn owner_waits_in(&self, notes: &Notes, line: usize, unit: UnitId) -> bool
         ensures { result ≡ false
             → OwnerIsElsewhere self.now.machine notes.now.resources line unit }
@@ -161,8 +164,8 @@ impl Dispatcher {
         self.may_be_in_line(notes, line, &label)
     }
 
-    // Whether the commands of a line may all be said to wait for a unit, as one of them has to: they do already, or none of
-    // them is of the unit's own task.
+    // Returns whether a unit that blocks a command of a wait group may be noted for all of the
+    // group. It may if it is noted already, or none of the group is of the unit's own task.
     fn may_close(&self, notes: &Notes, line: usize, unit: UnitId) -> bool
         requires { line < length notes.now.blockers }
         ensures { result ≡ true → MayClose self.now.machine
@@ -174,8 +177,8 @@ impl Dispatcher {
         }
     }
 
-    // Notes that the waiting command of the note at a place, the first that has to be looked at, has to wait for a unit, and
-    // so have all that use the same resource and nothing else. Where memory is refused the command has to be looked at again.
+    // Notes the blocker of the first command that must be looked at, and of all in its wait group.
+    // On error the command must be looked at again.
     fn file(&self, notes: &mut Notes, at: usize, note: &Note, unit: UnitId) -> Result<(), NoMemory>
         requires first { IsFirstOpen notes.old at note.now }
         requires kept { AreTasksKept self.now.machine }
@@ -196,7 +199,7 @@ impl Dispatcher {
         }
     }
 
-    // The same where the command uses the resource of a line and nothing else.
+    // Does the same for a command that uses the resource of a wait group and nothing else.
     fn file_in(
         &self,
         notes: &mut Notes,
@@ -222,8 +225,8 @@ impl Dispatcher {
         }
     }
 
-    /// Looks at the waiting commands of which it isn't known whom they have to wait for, up to the first that needn't wait, and
-    /// answers that. What it finds is noted; where memory for that is refused it looks no further.
+    /// Looks at the waiting commands without a known blocker, up to the first that may resume, and
+    /// returns that one. Notes the blockers that it finds. On `NoMemory` it looks no further.
     pub(crate) fn first_free(&self, notes: &mut Notes) -> Result<Option<Free>, NoMemory>
         requires kept { AreTasksKept self.now.machine }
         requires noted { AreNotedNow self.now.machine notes.old }
@@ -248,8 +251,8 @@ impl Dispatcher {
         Ok(None)
     }
 
-    /// Makes a note of each waiting command that has none yet, as one that has to be looked at; of all of them anew where most
-    /// places are of commands that wait no more. Where memory is refused it makes no more of them.
+    /// Adds a note of each waiting command that has none, as one that must be looked at. Notes all
+    /// anew if most indexes are of commands that wait no more. On `NoMemory` it adds no more.
     pub(crate) fn note_rest(&self, notes: &mut Notes) -> Result<(), NoMemory>
         requires noted { AreNotedNow self.now.machine notes.old }
         ensures noted { AreNotedNow self.now.machine notes.new }
@@ -265,7 +268,7 @@ impl Dispatcher {
         }
     }
 
-    // Makes a note of the command that began to wait last, where every other has its note.
+    // Adds a note of the command that began to wait last. Every other has its note.
     fn note_last(&self, notes: &mut Notes) -> Result<(), NoMemory>
         requires noted { AreNotedNow self.now.machine notes.old }
         requires one { count notes.old.rows + 1 ≡ length self.now.machine.waiting }
@@ -280,7 +283,7 @@ impl Dispatcher {
         Ok(())
     }
 
-    // The last clock at which the task of a waiting command hasn't waited too long.
+    // Returns the last clock at which the task of a waiting command hasn't waited too long.
     fn deadline(&self, wait: &Suspended) -> u64
         ensures { (t : TaskValue) → task_at self.now.machine.tasks wait.now.label ≡ Some t
             → result ≡ deadline_of t wait.now.since }
@@ -291,7 +294,7 @@ impl Dispatcher {
         }
     }
 
-    // Makes a note of each waiting command that has none yet, whatever the places are.
+    // Adds a note of each waiting command that has none.
     fn note_behind(&self, notes: &mut Notes) -> Result<(), NoMemory>
         requires noted { AreNotedNow self.now.machine notes.old }
         ensures noted { AreNotedNow self.now.machine notes.new }
@@ -313,7 +316,7 @@ impl Dispatcher {
         Ok(())
     }
 
-    // Tries a waiting command of the task at a place again, with what it asked for when it was issued.
+    // Tries a waiting command of the task at an index again, with what it asked for when issued.
     fn attempt(&mut self, at: usize, wait: &Suspended) -> Result<Attempt, NoMemory>
         requires within { at < length self.old.machine.tasks }
         requires awake { IsAwake self.old.machine at }
@@ -326,7 +329,7 @@ impl Dispatcher {
         }
     }
 
-    // A command of the task at a place that waited, and needn't wait any more, goes on.
+    // Resumes a waiting command of the task at an index. It no longer has to wait.
     fn go_on(&mut self, at: usize, wait: &Suspended) -> Result<Outcome, NoMemory>
         requires within { at < length self.old.machine.tasks }
         requires awake { IsAwake self.old.machine at }
@@ -342,7 +345,8 @@ impl Dispatcher {
         }
     }
 
-    // Lets the waiting command of a label's task go on that is the first of these, where no other command waits.
+    // Resumes the waiting command of a label's task, the first of `waits` that may resume. The
+    // dispatcher itself has no waits.
     fn go_on_first(&mut self, waits: &Waits, label: Name8) -> Result<Woken, NoMemory>
         requires alone { self.old.machine.waiting ≡ [] }
         requires kept { All (IsWaitKept self.old.machine) waits.now }
@@ -362,11 +366,11 @@ impl Dispatcher {
         Ok(Woken { label, outcome })
     }
 
-    /// Lets the waiting command of a label's task go on, which is the first that needn't wait any more, and answers
-    /// what came of it.
+    /// Resumes the waiting command of a label's task, the first that may resume, and returns its
+    /// outcome.
     ///
-    /// It goes on from the look at what other units hold, and doesn't wait again. It is refused for want of memory alone
-    /// (`NoMemory`), and changes nothing then: the command waits as it did.
+    /// It isn't checked again, and doesn't wait again. On `NoMemory` nothing changes: the command
+    /// waits as it did.
     pub(crate) fn wake(&mut self, label: Name8) -> Result<Woken, NoMemory>
         requires first { IsFirstFree self.old.machine label }
         ensures step { IfOk result (λ w.
@@ -374,7 +378,7 @@ impl Dispatcher {
         ensures kept { KeepsRegion self.old self.new }
         ensures err { OnErr result (self.new ≡ self.old) }
     {
-        // The waits are taken out whole, so that a command that wants memory waits as it did.
+        // The waits are taken out whole, so that on `NoMemory` the command waits as it did.
         let mut waits = mem::replace(&mut self.waits, Waits::new(self.alloc));
         match self.go_on_first(&waits, label) {
             Ok(woken) => {
@@ -389,7 +393,7 @@ impl Dispatcher {
         }
     }
 
-    // The place of a waiting command's task, if the task has waited too long.
+    // Returns the index of a waiting command's task, if the task has waited too long.
     fn late(&self, wait: &Suspended) -> Option<usize>
         ensures late { IfSome result (λ at.
             is_late self.now.machine wait.now (task_at self.now.machine.tasks wait.now.label)
@@ -411,7 +415,8 @@ impl Dispatcher {
         }
     }
 
-    // The place of the first task that has waited too long. Each wait is looked at.
+    // Returns the index of the first task that has waited too long. It looks at each wait up to
+    // that.
     fn first_late_of_all(&self) -> Option<usize>
         ensures task { IfSome result (λ at. slice_get self.now.machine.tasks at
             ≡ first_late self.now.machine self.now.machine.waiting) }
@@ -426,11 +431,12 @@ impl Dispatcher {
         None
     }
 
-    /// The first task that has waited too long, in the order in which the waits began. A task has waited too long once the
-    /// clock is its `dtimout` past the begin of its wait; a `dtimout` of 0 is no limit.
+    /// Returns the first task that has waited too long, in the order in which the waits began. A
+    /// task has waited too long once the clock is its `dtimout` past the begin of its wait. A
+    /// `dtimout` of 0 is no limit.
     ///
-    /// The notes are of a front of the waits. So where a deadline of them has come the first of them is the first of all, and
-    /// waits are looked at only where none has and some waits have no note.
+    /// The notes are of the earliest waits: the first of them whose deadline is past is the first
+    /// of all. It looks at waits only if there is none, and some waits have no note.
     pub(crate) fn first_late(&self, notes: &Notes) -> Option<Late>
         requires noted { AreNotedNow self.now.machine notes.now }
         ensures task { IfSome result (λ late. slice_get self.now.machine.tasks late.task
@@ -458,8 +464,8 @@ impl Dispatcher {
         })
     }
 
-    /// Abends the task at a place, which is the first that has waited too long, by the code AKCS. Its unit of work is
-    /// backed out, its wait ends, and so does the task. Takes no memory.
+    /// Abends the task at an index, the first that has waited too long, with the code AKCS. Its
+    /// unit of work is backed out, its wait ends, and so does the task. Takes no memory.
     pub(crate) fn time_out(&mut self, at: usize) -> Expired
         requires within { at < length self.old.machine.tasks }
         requires first { slice_get self.old.machine.tasks at
