@@ -1,4 +1,4 @@
-use Rattle.std.proofs.Common.{rules, ap, sym, ◌∙◌, ◌++◌}
+use Rattle.std.proofs.Common.{rules, ap, ◌∙◌, ◌++◌}
 use Rattle.cics_script.proofs.PlainTexts.{put-plain}
 use Rattle.cics_script.proofs.texts.push_plain.Goals as goal
 
