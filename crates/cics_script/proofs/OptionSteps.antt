@@ -15,7 +15,7 @@ use Rattle.cics_script.specs.Faults.{◌>>=◌, Refuses}
 use Rattle.cics_script.specs.Tokens.{Token, word, number, literal, opening, closing, broken, tokens}
 use Rattle.cics_script.specs.Words.{lookup, option_words, kind_in}
 use Rattle.cics_script.specs.Options.{Content, Entry, Place, at_option, at_opening, at_value, at_closing, at_end, behind_option, reads, moves, named, entered, allowed, content_in}
-use Rattle.cics_script.specs.Views.{Enters, Ends, GivesEntries, PutsContent, content, entries}
+use Rattle.cics_script.specs.Views.{Enters, Ends, GivesEntries, content, entries}
 
 -- a fault behind a step is the fault of the whole
 pub refuses_behind : {A : Type 0} (read rest : Result A LineFault) (fault : LineFault) → read ≡ rest → Refuses rest fault → Refuses read fault
@@ -96,8 +96,3 @@ pub ended : (form : Form) (bytes : List ℕ) (found : ArrayVec Found) (whole : R
     → GivesEntries whole (result_map_both (λ done. found) (λ fault. fault) result)
 ended form bytes found whole (Ok end) so_far ends = sym so_far ∙ ends form (entries found.items)
 ended form bytes found whole (Err fault) so_far ends = refuses_behind whole _ fault (sym so_far) (ends form (entries found.items))
-
--- an option put behind others, with the content that was read
-pub put-one : (read : Result Content LineFault) (found after : List Found) (one : Found) → read ≡ Ok (content one.value) → after ≡ found ++ one ∷ []
-    → PutsContent read one.option (entries found) (entries after) (Ok tt)
-put-one read found after one is items = (content one.value, is, ap entries items ∙ entries-more found one)

@@ -1,13 +1,12 @@
 -- Tables are read as functions of the index.
 use Rattle.std.proofs.Common.{◌≡◌, ◌<◌, ℕ, zero, suc, ◌+◌, ◌==◌, ◌&&◌, Bool, true, false, List, [], ◌∷◌, length, get_or, refl, ap, ◌∙◌, arith, zero-add}
-use Rattle.std.specs.Prelude.{not}
+use Rattle.std.specs.Prelude.{not, nat_lt}
 use Rattle.std.proofs.lemmas.Bool.{and_parts}
 use Rattle.cics_names.specs.Ebcdic.{code_of, character_of}
 use Rattle.cics_script.specs.Tokens.{is_word_byte}
 use Rattle.cics_script.specs.Literals.{is_plain, ebcdic}
 use Rattle.cics_script.specs.Texts.{plain}
-use Rattle.cics_script.specs.declared.tokens.TheConstants.{IN_WORD}
-use Rattle.cics_script.specs.declared.literals.TheConstants.{PLAIN, EBCDIC}
+use Rattle.cics_script.specs.declared.literals.TheConstants.{CLASSES, EBCDIC}
 use Rattle.cics_script.specs.declared.texts.TheConstants.{CHARACTERS}
 
 -- whether each entry, from an index on, is read as what a function tells, by a test of when two are one
@@ -46,13 +45,13 @@ alike-eq true false e = cc
 alike-eq false true e = cc
 alike-eq false false e = refl
 
-pub read-IN_WORD : (n : ℕ) → n < 256 → not (get_or IN_WORD n 0 == 0) ≡ is_word_byte n
+pub read-word : (n : ℕ) → n < 256 → nat_lt 1 (get_or CLASSES n 0) ≡ is_word_byte n
 unfolding tells
-read-IN_WORD n within = table_read (λ n. not (n == 0)) alike alike-eq is_word_byte IN_WORD 0 refl n within
+read-word n within = table_read (λ n. nat_lt 1 n) alike alike-eq is_word_byte CLASSES 0 refl n within
 
-pub read-PLAIN : (n : ℕ) → n < 256 → not (get_or PLAIN n 0 == 0) ≡ is_plain n
+pub read-plain : (n : ℕ) → n < 256 → not (get_or CLASSES n 0 == 0) ≡ is_plain n
 unfolding tells code_of
-read-PLAIN n within = table_read (λ n. not (n == 0)) alike alike-eq is_plain PLAIN 0 refl n within
+read-plain n within = table_read (λ n. not (n == 0)) alike alike-eq is_plain CLASSES 0 refl n within
 
 -- tables of numbers
 eqb-eq : (a b : ℕ) → (a == b) ≡ true → a ≡ b

@@ -6,12 +6,12 @@ use Rattle.std.specs.List.{prefix_len}
 use Rattle.std.specs.Prelude.{nat_lt, if◌then◌else◌, IfSome, is_some, option_map, unwrap_or}
 use Rattle.cics_names.specs.Ebcdic.{code_of}
 use Rattle.cics_script.specs.declared.faults.LineFault.{LineFault}
-use Rattle.cics_script.specs.declared.faults.LineFault.TheVariants.{UnknownWord, BadLiteral}
+use Rattle.cics_script.specs.declared.faults.LineFault.TheVariants.{UnknownWord, BadLiteral, BadNumber}
 use Rattle.cics_script.specs.declared.literals.Notation.{Notation}
 use Rattle.cics_script.specs.declared.literals.Notation.TheVariants.{Quoted, Hexadecimal}
 use Rattle.cics_script.specs.Literals.{said}
 use Rattle.cics_script.specs.Tokens.{Text, Token, word, word_at, broken, literal, opening, closing, with_byte, with_pair, characters_from, digit_pairs, text_in, hex_value, as_literal}
-use Rattle.cics_script.specs.Tokens.{as_number, behind_x, hexadecimal_or, plain_at, token_at, tokens_in, tokens, after_blanks, is_quote, is_letter, is_digit, is_word_byte, capital}
+use Rattle.cics_script.specs.Tokens.{as_number, number_at, value_of, behind_x, hexadecimal_or, plain_at, token_at, tokens_in, tokens, after_blanks, is_blank, is_quote, is_letter, is_digit, is_word_byte, capital, number}
 
 some-same : {A : Type 0} (x y : A) → Some y ≡ Some x → x ≡ y
 some-same x y e = ap (λ o. unwrap_or o y) (sym e)
@@ -184,3 +184,36 @@ taken_quoted bytes behind rest c is quote ends =
     let here : bytes ≡ 39 ∷ behind = is ∙ ap (λ q. q ∷ behind) same in
     subst (λ b. (tokens b ≡ literal Quoted (said (text_in Quoted behind)) ∷ tokens rest) × (length rest < length b)) (sym here)
     (taken (39 ∷ behind) _ rest (omega arith) (quote-front behind ∙ as_literal-ends Quoted (text_in Quoted behind) rest ends))
+
+-- a number, with no blank in front
+digit-front : (c : ℕ) (others : List ℕ) → is_digit c ≡ true → token_at (c ∷ others) ≡ number_at (c ∷ others)
+digit-front c [] digit =
+    let letter : is_letter c ≡ false = grind (arith, nat_tests, digit) in
+    rw (letter, digit) refl
+digit-front c (d ∷ others) digit =
+    let letter : is_letter c ≡ false = grind (arith, nat_tests, digit) in
+    let no_x : (capital c == 88) ≡ false = grind (arith, nat_tests, digit) in
+    rw (no_x, letter, digit) refl
+
+fitting : (n value : ℕ) (rest : List ℕ) → Some value ≡ (if nat_lt n (2 ^ 64) then Some n else None) → as_number n rest ≡ (number value, rest)
+fitting n value rest e =
+    elim (cases_Bool (nat_lt n (2 ^ 64))) [
+      | inl fits ↦
+          let same : Some value ≡ Some n = e ∙ ap (λ b. if b then Some n else None) fits in
+          ap (λ b. if b then (number n, rest) else (broken BadNumber, [])) fits ∙ ap (λ v. (number v, rest)) (some-same n value same)
+      | inr over ↦
+          let none : Some value ≡ None = e ∙ ap (λ b. if b then Some n else None) over in
+          cc
+    ]
+
+pub taken_number : (bytes digits rest : List ℕ) (c : ℕ) (others : List ℕ) (n value : ℕ) → bytes ≡ c ∷ others → is_digit c ≡ true
+    → n ≡ prefix_len is_digit bytes → digits ≡ take n bytes → rest ≡ drop n bytes
+    → Some value ≡ (if nat_lt (value_of digits) (2 ^ 64) then Some (value_of digits) else None)
+    → (tokens bytes ≡ number value ∷ tokens rest) × (length rest < length bytes)
+taken_number bytes digits rest c others n value is digit count whole behind fits =
+    let blank : is_blank c ≡ false = grind (arith, nat_tests, digit) in
+    let front : after_blanks bytes ≡ bytes = rw is (rw blank refl) in
+    let some : 0 < length (after_blanks bytes) = rw front (rw is (omega arith)) in
+    let read : number_at bytes ≡ as_number (value_of digits) rest = rw (whole, behind, count) refl in
+    taken bytes (number value) rest some
+    (ap token_at front ∙ ap token_at is ∙ digit-front c others digit ∙ ap number_at (sym is) ∙ read ∙ fitting (value_of digits) value rest fits)

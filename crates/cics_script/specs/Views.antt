@@ -96,11 +96,6 @@ abbrev pub GivesContent : Result Content LineFault → Result Value LineFault �
 GivesContent read (Ok value) = read ≡ Ok (content value)
 GivesContent read (Err fault) = Refuses read fault
 
--- what putting an option with its content behind others gave
-abbrev pub PutsContent : Result Content LineFault → OptionWord → List Entry → List Entry → Result (Unit {0}) LineFault → Type 0
-PutsContent read option before after (Ok done) = (c : Content) × (read ≡ Ok c) × (after ≡ before ++ (option, c) ∷ [])
-PutsContent read option before after (Err fault) = Refuses read fault
-
 -- what a step of the options gave: a place further on, with the same reading from there, or the reading's fault
 abbrev pub Steps : {X : Type 0} → Form → List Entry → Place → List ℕ → (X → Place × List Entry × List ℕ) → Result X LineFault → Type 0
 Steps form found place bytes after (Ok x) =
@@ -111,6 +106,11 @@ Steps form found place bytes after (Err fault) = Refuses (reads form place found
 abbrev pub Opens : Kind → List ℕ → Result (Bor (List ℕ)) LineFault → Type 0
 Opens kind bytes result = (f : Form) (found : List Entry) (w : OptionWord)
     → Steps f found (at_opening w kind) bytes (λ rest. (at_value w kind, found, rest.now)) result
+
+-- what reading the token that stands as a value gave, whichever option it belongs to
+abbrev pub GivesValue : Kind → List ℕ → Result (made.Token × Bor (List ℕ)) LineFault → Type 0
+GivesValue kind bytes (Ok found) = (tokens bytes ≡ view found.0 ∷ tokens found.1.now) × (length found.1.now < length bytes)
+GivesValue kind bytes (Err fault) = (f : Form) (found : List Entry) (w : OptionWord) → reads f (at_value w kind) found (tokens bytes) ≡ Err fault
 
 -- what reading the content of parentheses gave, with the option put behind others
 abbrev pub Fills : Kind → OptionWord → List Entry → List Entry → List ℕ → Result (Bor (List ℕ)) LineFault → Type 0

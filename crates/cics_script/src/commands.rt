@@ -95,36 +95,20 @@ fn has_key_option(found: &[Found<'_>]) -> bool
         || has_option(found, OptionWord::NumRec)
 }
 
-// DELETE of what its options name.
-fn delete_named(file: Name8, ridfld: Option<Record>, found: &[Found<'_>]) -> Result<Verb, LineFault>
-    ensures { result ≡ delete_of file ridfld (entries found.now) }
-{
-    match ridfld {
-        Some(key) => {
-            let generic = has_option(found, OptionWord::Generic);
-            Ok(Verb::Delete {
-                file,
-                ridfld: Some(key),
-                key_length: number_of(found, OptionWord::KeyLength),
-                generic,
-            })
-        }
-        None if has_key_option(found) => Err(LineFault::MissingOption),
-        None => Ok(Verb::Delete {
-            file,
-            ridfld: None,
-            key_length: None,
-            generic: false,
-        }),
-    }
-}
-
 fn delete_verb(alloc: Global, found: &[Found<'_>]) -> Result<Verb, LineFault>
     ensures { Reads (verb_in CommandWord.Delete (entries found.now)) result }
 {
     let file = file_of(found)?;
     let ridfld = optional_text_of(alloc, found, OptionWord::Ridfld)?;
-    delete_named(file, ridfld, found)
+    if ridfld.is_none() && has_key_option(found) {
+        return Err(LineFault::MissingOption);
+    }
+    Ok(Verb::Delete {
+        file,
+        ridfld,
+        key_length: number_of(found, OptionWord::KeyLength),
+        generic: has_option(found, OptionWord::Generic),
+    })
 }
 
 fn startbr_verb(alloc: Global, found: &[Found<'_>]) -> Result<Verb, LineFault>

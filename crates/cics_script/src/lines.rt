@@ -6,11 +6,10 @@ ghost use Rattle.std.specs.List.{list_all};
 ghost use lib.Chars.{codes};
 ghost use Rattle.cics_script.specs.Faults.{◌>>=◌ as ◌and_next◌, Reads};
 ghost use Rattle.cics_script.specs.Tokens.{capital, tokens, after_blanks, is_capital, is_digit};
-ghost use Rattle.cics_script.specs.Words.{commands, queue_words};
+ghost use Rattle.cics_script.specs.Words.{commands};
 ghost use Rattle.cics_script.specs.Views.{entries, GivesWord, GivesVerb, GivesNumber, GivesRest};
 ghost use Rattle.cics_script.specs.Views.{IsNamed};
 ghost use Rattle.cics_script.specs.Lines.{recovery_in, queue_recovery_in, definition_in};
-ghost use Rattle.cics_script.specs.Lines.{load_in, attach_in};
 ghost use Rattle.cics_script.specs.Lines.{word_first, behind, label_in, define, load, attach};
 ghost use Rattle.cics_script.specs.Lines.{verb_first, number_first, clock, shutdown, command_at, issued};
 ghost use Rattle.cics_script.specs.Lines.{command_line, issue, statement};
@@ -18,15 +17,12 @@ ghost use Rattle.cics_script.specs.Lines.{is_script_byte, is_empty_or_comment, l
 
 use crate::commands::{is_handled, verb_of};
 use crate::faults::LineFault;
-use crate::options::{Found, Options, has_option, read_options};
-use crate::tokens::{
-    Token, begins_with, behind_word, either_named, named, next_token, next_word, skip_blanks,
-};
+use crate::options::{Found, Options, has_option, read_options, skip_one_blank};
+use crate::tokens::{Token, begins_with, behind_word, named, next_token, next_word, skip_blanks};
 use crate::values::{name4_of, name8_of, needed, number_of, text_of};
 use crate::words::{
     CommandWord, DefineObject, Form, LoadObject, OptionWord, Start, capital_of, command_named,
-    define_object, is_of_queue, is_spelled, load_object, queue_command, start_of, td_command,
-    ts_command,
+    define_object, is_spelled, load_object, queue_command, start_of, td_command,
 };
 use cics_ksds::FileDef;
 use cics_names::{Command, Name4, Name8, Record};
@@ -113,45 +109,6 @@ fn file_definition(found: &[Found<'_>]) -> Result<Line, LineFault>
     Ok(Line::DefineFile(name, definition))
 }
 
-fn prefix_definition(found: &[Found<'_>]) -> Result<Line, LineFault>
-    ensures { result ≡ definition_in DefineObject.TsPrefix (entries found.now) }
-{
-    let prefix = needed(name8_of(found, OptionWord::TsPrefix))?;
-    Ok(Line::DefineTsPrefix(prefix))
-}
-
-fn queue_definition(found: &[Found<'_>]) -> Result<Line, LineFault>
-    ensures { result ≡ definition_in DefineObject.TdQueue (entries found.now) }
-{
-    let name = needed(name4_of(found, OptionWord::TdQueue))?;
-    let recovery = needed(queue_recovery_of(found))?;
-    Ok(Line::DefineTd(name, recovery))
-}
-
-fn file_load(alloc: Global, found: &[Found<'_>]) -> Result<Line, LineFault>
-    ensures { Reads (load_in LoadObject.File (entries found.now)) result }
-{
-    let name = needed(name8_of(found, OptionWord::File))?;
-    Ok(Line::LoadFile(name, text_of(alloc, found, OptionWord::From)?))
-}
-
-fn queue_load(alloc: Global, found: &[Found<'_>]) -> Result<Line, LineFault>
-    ensures { Reads (load_in LoadObject.TdQueue (entries found.now)) result }
-{
-    let name = needed(name4_of(found, OptionWord::TdQueue))?;
-    Ok(Line::LoadTd(name, text_of(alloc, found, OptionWord::From)?))
-}
-
-fn attach_line(label: Name8, found: &[Found<'_>]) -> Result<Line, LineFault>
-    ensures { result ≡ attach_in label (entries found.now) }
-{
-    Ok(Line::Attach {
-        label,
-        transaction: needed(name4_of(found, OptionWord::Transid))?,
-        dtimout: number_of(found, OptionWord::Dtimout).unwrap_or(0),
-    })
-}
-
 // The word in front, and the line behind it.
 fn first_word(bytes: &[u8]) -> Result<(&[u8], &[u8]), LineFault>
     ensures { GivesWord (word_first (tokens bytes.now)) result }
@@ -181,21 +138,20 @@ fn skip_word<'a>(bytes: &'a [u8], wanted: &[u8]) -> Result<&'a [u8], LineFault>
     }
 }
 
-// Writes the capitals of a word over the front of a text.
-fn put_capitals(text: &mut [u8; LABEL], word: &[u8])
+// Writes the capitals of a word over the front of a text, and returns whether they are letters and
+// digits.
+fn put_capitals(text: &mut [u8; LABEL], word: &[u8]) -> bool
     requires { length word.now ≤ 8 }
-    ensures { take (length word.now) text.new ≡ map capital word.now }
+    ensures text { take (length word.now) text.new ≡ map capital word.now }
+    ensures label { result ≡ list_all (λ c. is_capital c || is_digit c) (map capital word.now) }
 {
+    let mut all = true;
     for (i, byte) in word.iter().enumerate() {
-        text[i] = capital_of(*byte);
+        let letter = capital_of(*byte);
+        text[i] = letter;
+        all &= letter.is_ascii_uppercase() || letter.is_ascii_digit();
     }
-}
-
-fn are_letters_and_digits(text: &[u8]) -> bool
-    ensures { result ≡ list_all (λ c. is_capital c || is_digit c) text.now }
-{
-    text.iter()
-        .all(|byte| byte.is_ascii_uppercase() || byte.is_ascii_digit())
+    all
 }
 
 // The label that a word is.
@@ -206,12 +162,10 @@ fn label_of(word: &[u8]) -> Result<Name8, LineFault>
         return Err(LineFault::UnknownWord);
     }
     let mut capitals = [0; LABEL];
-    put_capitals(&mut capitals, word);
-    let text = &capitals[..word.len()];
-    if !are_letters_and_digits(text) {
+    if !put_capitals(&mut capitals, word) {
         return Err(LineFault::UnknownWord);
     }
-    match Name8::new(text) {
+    match Name8::new(&capitals[..word.len()]) {
         Ok(label) => Ok(label),
         Err(_) => Err(LineFault::UnknownWord),
     }
@@ -229,8 +183,14 @@ fn read_define(alloc: Global, bytes: &[u8]) -> Result<Line, LineFault>
     read_options(alloc, Form::Define(object), bytes, &mut found)?;
     match object {
         DefineObject::File => file_definition(&found),
-        DefineObject::TsPrefix => prefix_definition(&found),
-        DefineObject::TdQueue => queue_definition(&found),
+        DefineObject::TsPrefix => {
+            let prefix = needed(name8_of(&found, OptionWord::TsPrefix))?;
+            Ok(Line::DefineTsPrefix(prefix))
+        }
+        DefineObject::TdQueue => {
+            let name = needed(name4_of(&found, OptionWord::TdQueue))?;
+            Ok(Line::DefineTd(name, needed(queue_recovery_of(&found))?))
+        }
     }
 }
 
@@ -245,8 +205,14 @@ fn read_load(alloc: Global, bytes: &[u8]) -> Result<Line, LineFault>
     let mut found = Options::new();
     read_options(alloc, Form::Load(object), bytes, &mut found)?;
     match object {
-        LoadObject::File => file_load(alloc, &found),
-        LoadObject::TdQueue => queue_load(alloc, &found),
+        LoadObject::File => {
+            let name = needed(name8_of(&found, OptionWord::File))?;
+            Ok(Line::LoadFile(name, text_of(alloc, &found, OptionWord::From)?))
+        }
+        LoadObject::TdQueue => {
+            let name = needed(name4_of(&found, OptionWord::TdQueue))?;
+            Ok(Line::LoadTd(name, text_of(alloc, &found, OptionWord::From)?))
+        }
     }
 }
 
@@ -258,7 +224,11 @@ fn read_attach(alloc: Global, bytes: &[u8]) -> Result<Line, LineFault>
     let label = label_of(word)?;
     let mut found = Options::new();
     read_options(alloc, Form::Attach, rest, &mut found)?;
-    attach_line(label, &found)
+    Ok(Line::Attach {
+        label,
+        transaction: needed(name4_of(&found, OptionWord::Transid))?,
+        dtimout: number_of(&found, OptionWord::Dtimout).unwrap_or(0),
+    })
 }
 
 // The number in front, and the line behind it.
@@ -293,32 +263,20 @@ fn read_shutdown(alloc: Global, bytes: &[u8]) -> Result<Line, LineFault>
     Ok(Line::Shutdown)
 }
 
-// Reads TS or TD behind a verb, in capitals. `None` says nothing.
-fn common_queue_command(verb: CommandWord, bytes: &[u8]) -> Option<(CommandWord, &[u8])>
-    ensures { IfSome result (λ found. IsNamed (queue_words verb) found.0 bytes.entry.now
-        found.1.now) }
-{
-    if let Some(rest) = behind_word(bytes, b"TS") {
-        return Some((ts_command(verb)?, rest));
-    }
-    if let Some(rest) = behind_word(bytes, b"TD") {
-        return Some((td_command(verb)?, rest));
-    }
-    None
-}
-
 // The command that a verb and the word right behind it are, and the line behind them.
 fn placed_command(verb: CommandWord, bytes: &[u8]) -> (CommandWord, &[u8])
     ensures { command_at verb (tokens bytes.now) ≡ (result.0, tokens result.1.now) }
 {
-    if !is_of_queue(verb) {
+    let Some(of_td) = td_command(verb) else {
         return (verb, bytes);
-    }
+    };
     // Most lines have one blank and such a word behind the verb.
-    if let Some((b' ', front)) = bytes.split_first() {
-        if let Some(placed) = common_queue_command(verb, front) {
-            return placed;
-        }
+    let front = skip_one_blank(bytes);
+    if let Some(rest) = behind_word(front, b"TS") {
+        return (verb, rest);
+    }
+    if let Some(rest) = behind_word(front, b"TD") {
+        return (of_td, rest);
     }
     match next_token(bytes) {
         Ok(Some((Token::Word(word), rest))) => match queue_command(verb, word) {
@@ -349,31 +307,21 @@ fn read_issued(
 fn common_verb(bytes: &[u8]) -> Option<(CommandWord, &[u8])>
     ensures { IfSome result (λ found. IsNamed commands found.0 bytes.entry.now found.1.now) }
 {
-    match bytes.first()? {
-        b'R' => match either_named(
-            bytes,
-            (b"READ", CommandWord::Read),
-            (b"READQ", CommandWord::ReadqTs),
-        ) {
+    // These verbs, but for WRITE and WRITEQ, differ in their first and fifth bytes.
+    match (bytes.first()?, bytes.get(4)?) {
+        (b'R', b' ') => named(bytes, b"READ", CommandWord::Read),
+        (b'R', b'Q') => named(bytes, b"READQ", CommandWord::ReadqTs),
+        (b'R', b'N') => named(bytes, b"READNEXT", CommandWord::ReadNext),
+        (b'R', b'R') => named(bytes, b"RETURN", CommandWord::Return),
+        (b'R', _) => named(bytes, b"REWRITE", CommandWord::Rewrite),
+        (b'W', _) => match named(bytes, b"WRITE", CommandWord::Write) {
             Some(found) => Some(found),
-            None => either_named(
-                bytes,
-                (b"REWRITE", CommandWord::Rewrite),
-                (b"READNEXT", CommandWord::ReadNext),
-            ),
+            None => named(bytes, b"WRITEQ", CommandWord::WriteqTs),
         },
-        b'W' => either_named(
-            bytes,
-            (b"WRITE", CommandWord::Write),
-            (b"WRITEQ", CommandWord::WriteqTs),
-        ),
-        b'E' => named(bytes, b"ENQ", CommandWord::Enq),
-        b'D' => either_named(
-            bytes,
-            (b"DEQ", CommandWord::Deq),
-            (b"DELETE", CommandWord::Delete),
-        ),
-        b'S' => named(bytes, b"SYNCPOINT", CommandWord::Syncpoint),
+        (b'E', _) => named(bytes, b"ENQ", CommandWord::Enq),
+        (b'D', b'T') => named(bytes, b"DELETE", CommandWord::Delete),
+        (b'D', _) => named(bytes, b"DEQ", CommandWord::Deq),
+        (b'S', _) => named(bytes, b"SYNCPOINT", CommandWord::Syncpoint),
         _ => None,
     }
 }
@@ -417,10 +365,8 @@ fn skip_exec_cics(bytes: &[u8]) -> Result<&[u8], LineFault>
 fn read_issue(alloc: Global, label: Name8, bytes: &[u8]) -> Result<Line, LineFault>
     ensures { Reads (issue label (tokens bytes.now)) result }
 {
-    match skip_exec_cics(bytes) {
-        Ok(rest) => read_command(alloc, label, rest),
-        Err(fault) => Err(fault),
-    }
+    let rest = skip_exec_cics(bytes)?;
+    read_command(alloc, label, rest)
 }
 
 /// Reads a line that is neither blank nor a comment.

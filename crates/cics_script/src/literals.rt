@@ -124,13 +124,14 @@ fn next_piece(notation: Notation, bytes: &[u8]) -> Piece<'_>
     }
 }
 
-// 1 for each character that stands for itself: it has a code, and is no quote. A table, as each byte
-// of a literal is looked at.
-static PLAIN: [u8; 256] = [
+/// Classes of bytes: 2 for one that may stand in a word (a letter, a digit or a hyphen), 1 for any
+/// other character that stands for itself in a literal (it has a code, and is no quote), else 0. A
+/// table, as each byte of a literal is looked at.
+pub static CLASSES: [u8; 256] = [
     0, 0, 0, 0, 0, 0, 0, 0, 0, 0, 0, 0, 0, 0, 0, 0, 0, 0, 0, 0, 0, 0, 0, 0, 0, 0, 0, 0, 0, 0, 0, 0,
-    1, 0, 1, 1, 1, 1, 1, 0, 1, 1, 1, 1, 1, 1, 1, 1, 1, 1, 1, 1, 1, 1, 1, 1, 1, 1, 1, 1, 1, 1, 1, 1,
-    1, 1, 1, 1, 1, 1, 1, 1, 1, 1, 1, 1, 1, 1, 1, 1, 1, 1, 1, 1, 1, 1, 1, 1, 1, 1, 1, 0, 0, 0, 0, 1,
-    0, 1, 1, 1, 1, 1, 1, 1, 1, 1, 1, 1, 1, 1, 1, 1, 1, 1, 1, 1, 1, 1, 1, 1, 1, 1, 1, 0, 0, 0, 0, 0,
+    1, 0, 1, 1, 1, 1, 1, 0, 1, 1, 1, 1, 1, 2, 1, 1, 2, 2, 2, 2, 2, 2, 2, 2, 2, 2, 1, 1, 1, 1, 1, 1,
+    1, 2, 2, 2, 2, 2, 2, 2, 2, 2, 2, 2, 2, 2, 2, 2, 2, 2, 2, 2, 2, 2, 2, 2, 2, 2, 2, 0, 0, 0, 0, 1,
+    0, 2, 2, 2, 2, 2, 2, 2, 2, 2, 2, 2, 2, 2, 2, 2, 2, 2, 2, 2, 2, 2, 2, 2, 2, 2, 2, 0, 0, 0, 0, 0,
     0, 0, 0, 0, 0, 0, 0, 0, 0, 0, 0, 0, 0, 0, 0, 0, 0, 0, 0, 0, 0, 0, 0, 0, 0, 0, 0, 0, 0, 0, 0, 0,
     0, 0, 0, 0, 0, 0, 0, 0, 0, 0, 0, 0, 0, 0, 0, 0, 0, 0, 0, 0, 0, 0, 0, 0, 0, 0, 0, 0, 0, 0, 0, 0,
     0, 0, 0, 0, 0, 0, 0, 0, 0, 0, 0, 0, 0, 0, 0, 0, 0, 0, 0, 0, 0, 0, 0, 0, 0, 0, 0, 0, 0, 0, 0, 0,
@@ -140,7 +141,7 @@ static PLAIN: [u8; 256] = [
 fn is_plain_byte(byte: u8) -> bool
     ensures { result ≡ is_plain byte }
 {
-    PLAIN[usize::from(byte)] != 0
+    CLASSES[usize::from(byte)] != 0
 }
 
 // Whether every character stands for itself. The loop doesn't stop at one that doesn't, so that
@@ -337,19 +338,14 @@ fn hexadecimal_at(behind_quote: &[u8]) -> Option<(Literal<'_>, &[u8])>
     ensures literal { IfSome result (λ found. (found.0.notation ≡ Notation.Hexadecimal)
         × (found.0.behind_quote.now ≡ behind_quote.now)) }
 {
-    let notation = Notation::Hexadecimal;
-    match behind_pieces(notation, behind_quote) {
-        Some(rest) => Some((
-            Literal {
-                notation,
-                is_plain: false,
-                plain_len: 0,
-                behind_quote,
-            },
-            rest,
-        )),
-        None => None,
-    }
+    let rest = behind_pieces(Notation::Hexadecimal, behind_quote)?;
+    let literal = Literal {
+        notation: Notation::Hexadecimal,
+        is_plain: false,
+        plain_len: 0,
+        behind_quote,
+    };
+    Some((literal, rest))
 }
 
 /// The literal behind a first quote, and the line behind it, or nothing where the bytes are no

@@ -1,20 +1,19 @@
 //! Reads the options of a line.
 
 ghost use Rattle.std.specs.Prelude.{◌≡◌, ◌<◌, ◌≤◌, ℕ, true, List, [], ◌∷◌, ◌++◌};
-ghost use Rattle.std.specs.Prelude.{Option, Some, None, Ok, Err, IfSome};
-ghost use Rattle.std.specs.Prelude.{IfOk, IfErr, length};
+ghost use Rattle.std.specs.Prelude.{Option, Some, None, Ok, Err, IfSome, IfOk, IfErr, length};
 ghost use Rattle.std.specs.Result.{result_map_both};
 ghost use Rattle.std.specs.List.{list_any};
 ghost use Rattle.cics_script.specs.Words.{lookup, option_words, same, excludes, kind_in};
 ghost use Rattle.cics_script.specs.Tokens.{tokens};
 ghost use Rattle.cics_script.specs.Options.{fault_of, quoted, content_in, surplus, allowed};
 ghost use Rattle.cics_script.specs.Options.{Content, Entry, reads, at_option, options};
-ghost use Rattle.cics_script.specs.Views.{view, entries, GivesText, GivesName, GivesContent, PutsContent, GivesEntries};
+ghost use Rattle.cics_script.specs.Views.{view, entries, GivesText, GivesName, GivesContent, GivesValue, GivesEntries};
 ghost use Rattle.cics_script.specs.Views.{Opens, Fills, Shuts, HasValue, Enters, Ends, IsNamed};
 
 use crate::faults::LineFault;
 use crate::literals::{Encoding, Literal, Notation};
-use crate::tokens::{Token, either_named, named, next_quoted, next_token};
+use crate::tokens::{Token, named, next_number, next_quoted, next_token};
 use crate::words::{Form, Kind, OptionWord, is_excluded, is_same, kind_of, option_named};
 use arrayvec::ArrayVec;
 use cics_names::{Name4, Name8};
@@ -103,12 +102,10 @@ fn name8_of(alloc: Global, literal: Literal<'_>) -> Result<Name8, LineFault>
     ensures { GivesName Content.name8
         (content_in Kind.Name8 (view (Token.Literal literal.entry))) result }
 {
-    match quoted_text(alloc, literal) {
-        Ok(text) => match Name8::new(&text) {
-            Ok(name) => Ok(name),
-            Err(_) => Err(LineFault::BadLiteral),
-        },
-        Err(fault) => Err(fault),
+    let text = quoted_text(alloc, literal)?;
+    match Name8::new(&text) {
+        Ok(name) => Ok(name),
+        Err(_) => Err(LineFault::BadLiteral),
     }
 }
 
@@ -116,12 +113,10 @@ fn name4_of(alloc: Global, literal: Literal<'_>) -> Result<Name4, LineFault>
     ensures { GivesName Content.name4
         (content_in Kind.Name4 (view (Token.Literal literal.entry))) result }
 {
-    match quoted_text(alloc, literal) {
-        Ok(text) => match Name4::new(&text) {
-            Ok(name) => Ok(name),
-            Err(_) => Err(LineFault::BadLiteral),
-        },
-        Err(fault) => Err(fault),
+    let text = quoted_text(alloc, literal)?;
+    match Name4::new(&text) {
+        Ok(name) => Ok(name),
+        Err(_) => Err(LineFault::BadLiteral),
     }
 }
 
@@ -139,64 +134,6 @@ fn value_of<'a>(alloc: Global, kind: Kind, token: Token<'a>) -> Result<Value<'a>
     }
 }
 
-// Puts an option with a token as a value of its kind behind those that were read.
-#[inline(never)]
-fn put_token<'a>(
-    alloc: Global,
-    kind: Kind,
-    token: Token<'a>,
-    option: OptionWord,
-    found: &mut Options<'a>,
-) -> Result<(), LineFault>
-    requires { length found.old.items < 13 }
-    ensures { PutsContent (content_in kind (view token.entry)) option
-        (entries found.old.items) (entries found.new.items) result }
-{
-    match value_of(alloc, kind, token) {
-        Ok(value) => {
-            found.push(Found { option, value });
-            Ok(())
-        }
-        Err(fault) => Err(fault),
-    }
-}
-
-// Pushes an option with a literal. Texts and names are made in place, as a move costs.
-fn put_literal<'a>(
-    alloc: Global,
-    kind: Kind,
-    literal: Literal<'a>,
-    option: OptionWord,
-    found: &mut Options<'a>,
-) -> Result<(), LineFault>
-    requires { length found.old.items < 13 }
-    ensures { PutsContent (content_in kind (view (Token.Literal literal.entry))) option
-        (entries found.old.items) (entries found.new.items) result }
-{
-    match kind {
-        Kind::Text => found.push(Found {
-            option,
-            value: Value::Text(literal),
-        }),
-        Kind::Name8 => match name8_of(alloc, literal) {
-            Ok(name) => found.push(Found {
-                option,
-                value: Value::Name8(name),
-            }),
-            Err(fault) => return Err(fault),
-        },
-        Kind::Name4 => match name4_of(alloc, literal) {
-            Ok(name) => found.push(Found {
-                option,
-                value: Value::Name4(name),
-            }),
-            Err(fault) => return Err(fault),
-        },
-        _ => return put_token(alloc, kind, Token::Literal(literal), option, found),
-    }
-    Ok(())
-}
-
 // The line behind an opening parenthesis.
 fn read_opening(kind: Kind, bytes: &[u8]) -> Result<&[u8], LineFault>
     ensures { Opens kind bytes.now result }
@@ -212,8 +149,25 @@ fn read_opening(kind: Kind, bytes: &[u8]) -> Result<&[u8], LineFault>
     }
 }
 
-// Puts an option with what stands as its value behind those that were read. The line behind the
-// value.
+// Reads the token that stands as a value, and returns it with the line behind it.
+fn value_token(kind: Kind, bytes: &[u8]) -> Result<(Token<'_>, &[u8]), LineFault>
+    ensures { GivesValue kind bytes.now result }
+{
+    // Most values are literals in quotes or numbers, right behind the parenthesis.
+    if let Some((literal, rest)) = next_quoted(bytes) {
+        return Ok((Token::Literal(literal), rest));
+    }
+    if let Some((number, rest)) = next_number(bytes) {
+        return Ok((Token::Number(number), rest));
+    }
+    match next_token(bytes) {
+        Ok(Some(found)) => Ok(found),
+        Ok(None) => Err(wrong_value(kind)),
+        Err(fault) => Err(fault),
+    }
+}
+
+// Adds an option with what stands as its value, and returns the line behind the value.
 fn read_content<'a>(
     alloc: Global,
     kind: Kind,
@@ -225,21 +179,15 @@ fn read_content<'a>(
     ensures { Fills kind option (entries found.old.items) (entries found.new.items)
         bytes.entry.now result }
 {
-    // Most values are literals in quotes, right behind the parenthesis.
-    if let Some((literal, rest)) = next_quoted(bytes) {
-        return match put_literal(alloc, kind, literal, option, found) {
-            Ok(()) => Ok(rest),
-            Err(fault) => Err(fault),
-        };
+    let (token, rest) = match value_token(kind, bytes) {
+        Ok(found) => found,
+        Err(fault) => return Err(fault),
+    };
+    match value_of(alloc, kind, token) {
+        Ok(value) => found.push(Found { option, value }),
+        Err(fault) => return Err(fault),
     }
-    match next_token(bytes) {
-        Ok(Some((token, rest))) => match put_token(alloc, kind, token, option, found) {
-            Ok(()) => Ok(rest),
-            Err(fault) => Err(fault),
-        },
-        Ok(None) => Err(wrong_value(kind)),
-        Err(fault) => Err(fault),
-    }
+    Ok(rest)
 }
 
 // The line behind a closing parenthesis.
@@ -271,18 +219,9 @@ fn read_value<'a>(
     ensures value { HasValue kind option (entries found.old.items) (entries found.new.items)
         bytes.entry.now result }
 {
-    let inside = match read_opening(kind, bytes) {
-        Ok(inside) => inside,
-        Err(fault) => return Err(fault),
-    };
-    let behind = match read_content(alloc, kind, inside, option, found) {
-        Ok(behind) => behind,
-        Err(fault) => return Err(fault),
-    };
-    match read_closing(kind, behind) {
-        Ok(rest) => Ok(rest),
-        Err(fault) => Err(fault),
-    }
+    let inside = read_opening(kind, bytes)?;
+    let behind = read_content(alloc, kind, inside, option, found)?;
+    read_closing(kind, behind)
 }
 
 /// Whether an option is among those that were read.
@@ -324,7 +263,7 @@ fn allowed_kind(form: Form, found: &[Found<'_>], option: OptionWord) -> Result<K
     Ok(kind)
 }
 
-// Puts an option, with its value, behind those that were read.
+// Adds an option with its value.
 fn read_option<'a>(
     alloc: Global,
     form: Form,
@@ -342,10 +281,7 @@ fn read_option<'a>(
         Enters form last (entries found.old.items) (entries found.new.items)
         w bytes.entry.now result }
 {
-    let kind = match allowed_kind(form, found, option) {
-        Ok(kind) => kind,
-        Err(fault) => return Err(fault),
-    };
+    let kind = allowed_kind(form, found, option)?;
     match kind {
         Kind::Flag | Kind::Last => {
             found.push(Found {
@@ -376,35 +312,27 @@ fn read_end(bytes: &[u8]) -> Result<(), LineFault>
 fn common_option(bytes: &[u8]) -> Option<(OptionWord, &[u8])>
     ensures { IfSome result (λ found. IsNamed option_words found.0 bytes.entry.now found.1.now) }
 {
-    match bytes.first()? {
-        b'F' => either_named(
-            bytes,
-            (b"FILE", OptionWord::File),
-            (b"FROM", OptionWord::From),
-        ),
-        b'I' => either_named(
-            bytes,
-            (b"ITEM", OptionWord::Item),
-            (b"INTO", OptionWord::Into),
-        ),
-        b'L' => named(bytes, b"LENGTH", OptionWord::Length),
-        b'N' => named(bytes, b"NOSUSPEND", OptionWord::NoSuspend),
-        b'Q' => named(bytes, b"QUEUE", OptionWord::Queue),
-        b'R' => match either_named(
-            bytes,
-            (b"RIDFLD", OptionWord::Ridfld),
-            (b"RESOURCE", OptionWord::Resource),
-        ) {
-            Some(found) => Some(found),
-            None => named(bytes, b"RESP", OptionWord::Resp),
-        },
-        b'U' => named(bytes, b"UPDATE", OptionWord::Update),
+    // These words differ in their first and fourth letters.
+    match (bytes.first()?, bytes.get(3)?) {
+        (b'D', _) => named(bytes, b"DTIMOUT", OptionWord::Dtimout),
+        (b'F', b'E') => named(bytes, b"FILE", OptionWord::File),
+        (b'F', _) => named(bytes, b"FROM", OptionWord::From),
+        (b'I', b'M') => named(bytes, b"ITEM", OptionWord::Item),
+        (b'I', _) => named(bytes, b"INTO", OptionWord::Into),
+        (b'L', _) => named(bytes, b"LENGTH", OptionWord::Length),
+        (b'N', _) => named(bytes, b"NOSUSPEND", OptionWord::NoSuspend),
+        (b'Q', _) => named(bytes, b"QUEUE", OptionWord::Queue),
+        (b'R', b'F') => named(bytes, b"RIDFLD", OptionWord::Ridfld),
+        (b'R', b'O') => named(bytes, b"RESOURCE", OptionWord::Resource),
+        (b'R', _) => named(bytes, b"RESP", OptionWord::Resp),
+        (b'T', _) => named(bytes, b"TRANSID", OptionWord::Transid),
+        (b'U', _) => named(bytes, b"UPDATE", OptionWord::Update),
         _ => None,
     }
 }
 
-// The line behind the blank with which it begins, or all of it where it begins with none.
-fn skip_one_blank(bytes: &[u8]) -> &[u8]
+/// The line behind the blank with which it begins, or all of it where it begins with none.
+pub fn skip_one_blank(bytes: &[u8]) -> &[u8]
     ensures tokens { tokens result.now ≡ tokens bytes.now }
     ensures within { length result.now ≤ length bytes.now }
 {

@@ -1,10 +1,11 @@
 //! The texts of byte strings, names and numbers, each put at the end of what was printed before.
 
-ghost use Rattle.std.specs.Prelude.{◌≡◌, ◌++◌, ◌+◌, ◌<◌, true, length, map, take, OnOk};
+ghost use Rattle.std.specs.Prelude.{◌≡◌, ◌++◌, ◌+◌, ◌<◌, length, map, take, OnOk, IfOk};
 ghost use Rattle.std.specs.List.{flat_map, list_all};
 ghost use Rattle.std.specs.Fmt.{decimal};
 ghost use Rattle.cics_script.specs.Texts.{has_character, quoted, digit, hexadecimal, text_of};
 ghost use Rattle.cics_script.specs.Texts.{unfilled, name_text, bare, shown, plain, is_plain};
+ghost use lib.Chars.{codes};
 
 use cics_names::{NoMemory, from_ebcdic};
 
@@ -36,11 +37,12 @@ pub fn push_text(out: &mut Vec<u8>, bytes: &[u8]) -> Result<(), NoMemory>
     ensures { OnOk result (out.new.items ≡ out.old.items ++ text_of bytes.now) }
 {
     // Most texts are characters with no quote among them, which are put there at once.
-    if are_plain(bytes) {
-        push_plain(out, bytes)
-    } else {
-        push_any(out, bytes)
+    let start = out.len();
+    if push_plain(out, bytes)? {
+        return Ok(());
     }
+    out.truncate(start);
+    push_any(out, bytes)
 }
 
 /// Puts a name at the end, in quotes and without the blanks that fill it up.
@@ -62,7 +64,6 @@ pub fn push_bare(out: &mut Vec<u8>, name: &[u8]) -> Result<(), NoMemory>
 }
 
 // The character of each byte that is the code of one other than the quote, and 0 for any other byte.
-// A table, as each byte of a text is looked at twice.
 static CHARACTERS: [u8; 256] = [
     0, 0, 0, 0, 0, 0, 0, 0, 0, 0, 0, 0, 0, 0, 0, 0, 0, 0, 0, 0, 0, 0, 0, 0, 0, 0, 0, 0, 0, 0, 0, 0,
     0, 0, 0, 0, 0, 0, 0, 0, 0, 0, 0, 0, 0, 0, 0, 0, 0, 0, 0, 0, 0, 0, 0, 0, 0, 0, 0, 0, 0, 0, 0, 0,
@@ -83,39 +84,36 @@ fn plain_character(code: u8) -> u8
     CHARACTERS[usize::from(code)]
 }
 
-// Whether every byte is the code of a character other than the quote.
-fn are_plain(bytes: &[u8]) -> bool
-    ensures { result ≡ list_all is_plain bytes.now }
+// Puts the character of each code over the end of a text, from this place on. Returns whether each
+// has one.
+fn put_characters(text: &mut [u8], start: usize, codes: &[u8]) -> bool
+    requires { start + length codes.now ≡ length text.old }
+    ensures text { text.new ≡ take start text.old ++ map plain codes.now }
+    ensures plain { result ≡ list_all is_plain codes.now }
 {
-    // Each is looked at, also behind one that is none: most texts have no other.
+    // Each is looked at, also behind one that has none: most texts have no other.
     let mut all = true;
-    for code in bytes {
-        all &= plain_character(*code) != 0;
+    for (i, code) in codes.iter().enumerate() {
+        let character = plain_character(*code);
+        text[start + i] = character;
+        all &= character != 0;
     }
     all
 }
 
-// Puts the character of each code over the end of a text, from this place on.
-fn put_characters(text: &mut [u8], start: usize, codes: &[u8])
-    requires { start + length codes.now ≡ length text.old }
-    ensures { text.new ≡ take start text.old ++ map plain codes.now }
-{
-    for (i, code) in codes.iter().enumerate() {
-        text[start + i] = plain_character(*code);
-    }
-}
-
-// A text of characters with no quote among them.
-fn push_plain(out: &mut Vec<u8>, bytes: &[u8]) -> Result<(), NoMemory>
-    requires { list_all is_plain bytes.now ≡ true }
-    ensures { OnOk result (out.new.items ≡ out.old.items ++ text_of bytes.now) }
+// Puts the characters of a text in quotes, and returns whether that is the text: each byte is the
+// code of one other than the quote.
+fn push_plain(out: &mut Vec<u8>, bytes: &[u8]) -> Result<bool, NoMemory>
+    ensures text { OnOk result (out.new.items
+        ≡ out.old.items ++ (codes "'" ++ (map plain bytes.now ++ codes "'"))) }
+    ensures plain { IfOk result (λ all. all ≡ list_all is_plain bytes.now) }
 {
     out.push(b'\'')?;
     let start = out.len();
     out.extend_from_slice(bytes)?;
-    put_characters(out, start, bytes);
+    let all = put_characters(out, start, bytes);
     out.push(b'\'')?;
-    Ok(())
+    Ok(all)
 }
 
 // A text of any bytes.

@@ -12,7 +12,7 @@ ghost use Rattle.cics_script.specs.Views.{GivesToken, StartsWith, Takes, IsNamed
 ghost use Rattle.cics_script.specs.Words.{lookup};
 
 use crate::faults::LineFault;
-use crate::literals::{Literal, Notation, is_quote_byte, literal_at};
+use crate::literals::{CLASSES, Literal, Notation, is_quote_byte, literal_at};
 use crate::words::capital_of;
 
 /// A token where it stands in its line.
@@ -38,23 +38,10 @@ fn is_letter_byte(byte: u8) -> bool
     byte.is_ascii_alphabetic()
 }
 
-// 1 for each byte that may stand in a word: a letter, a digit or a hyphen. A table, as the ranges
-// would be a branch each for every byte of a word.
-static IN_WORD: [u8; 256] = [
-    0, 0, 0, 0, 0, 0, 0, 0, 0, 0, 0, 0, 0, 0, 0, 0, 0, 0, 0, 0, 0, 0, 0, 0, 0, 0, 0, 0, 0, 0, 0, 0,
-    0, 0, 0, 0, 0, 0, 0, 0, 0, 0, 0, 0, 0, 1, 0, 0, 1, 1, 1, 1, 1, 1, 1, 1, 1, 1, 0, 0, 0, 0, 0, 0,
-    0, 1, 1, 1, 1, 1, 1, 1, 1, 1, 1, 1, 1, 1, 1, 1, 1, 1, 1, 1, 1, 1, 1, 1, 1, 1, 1, 0, 0, 0, 0, 0,
-    0, 1, 1, 1, 1, 1, 1, 1, 1, 1, 1, 1, 1, 1, 1, 1, 1, 1, 1, 1, 1, 1, 1, 1, 1, 1, 1, 0, 0, 0, 0, 0,
-    0, 0, 0, 0, 0, 0, 0, 0, 0, 0, 0, 0, 0, 0, 0, 0, 0, 0, 0, 0, 0, 0, 0, 0, 0, 0, 0, 0, 0, 0, 0, 0,
-    0, 0, 0, 0, 0, 0, 0, 0, 0, 0, 0, 0, 0, 0, 0, 0, 0, 0, 0, 0, 0, 0, 0, 0, 0, 0, 0, 0, 0, 0, 0, 0,
-    0, 0, 0, 0, 0, 0, 0, 0, 0, 0, 0, 0, 0, 0, 0, 0, 0, 0, 0, 0, 0, 0, 0, 0, 0, 0, 0, 0, 0, 0, 0, 0,
-    0, 0, 0, 0, 0, 0, 0, 0, 0, 0, 0, 0, 0, 0, 0, 0, 0, 0, 0, 0, 0, 0, 0, 0, 0, 0, 0, 0, 0, 0, 0, 0,
-];
-
 fn is_in_word(byte: u8) -> bool
     ensures { result ≡ is_word_byte byte }
 {
-    IN_WORD[usize::from(byte)] != 0
+    CLASSES[usize::from(byte)] > 1
 }
 
 fn blanks_len(bytes: &[u8]) -> usize
@@ -252,25 +239,6 @@ pub fn named<'a, X: Copy>(bytes: &'a [u8], capitals: &[u8], meaning: X) -> Optio
     Some((meaning, rest))
 }
 
-/// What one of two words in capitals names, where the line begins with it, and the line behind it.
-/// `None` says nothing of the line.
-pub fn either_named<'a, X: Copy>(
-    bytes: &'a [u8],
-    first: (&[u8], X),
-    second: (&[u8], X),
-) -> Option<(X, &'a [u8])>
-    requires first { is_word first.0.now ≡ true }
-    requires second { is_word second.0.now ≡ true }
-    ensures { (rows : List (List ℕ × X)) → lookup first.entry.0.now rows ≡ Some first.entry.1 →
-        lookup second.entry.0.now rows ≡ Some second.entry.1 →
-        IfSome result (λ found. IsNamed rows found.0 bytes.entry.now found.1.now) }
-{
-    match named(bytes, first.0, first.1) {
-        Some(found) => Some(found),
-        None => named(bytes, second.0, second.1),
-    }
-}
-
 /// Reads the next token if it is a word that doesn't begin with X. On `None` ask `next_token`.
 pub fn next_word(bytes: &[u8]) -> Option<(&[u8], &[u8])>
     ensures { IfSome result (λ found.
@@ -295,6 +263,21 @@ pub fn next_quoted(bytes: &[u8]) -> Option<(Literal<'_>, &[u8])>
         return None;
     }
     literal_at(Notation::Quoted, behind_quote)
+}
+
+/// The next token and the line behind it if it is a number with no blank in front. `None` says
+/// nothing of the line: then `next_token` tells.
+pub fn next_number(bytes: &[u8]) -> Option<(u64, &[u8])>
+    ensures { IfSome result (λ found.
+        Takes bytes.now (Ok (Some (Token.Number found.0, found.1)))) }
+{
+    let (first, _) = bytes.split_first()?;
+    if !first.is_ascii_digit() {
+        return None;
+    }
+    let (digits, rest) = bytes.split_at(digits_len(bytes));
+    let number = number_of(digits)?;
+    Some((number, rest))
 }
 
 /// The next token and the line behind it, or nothing at the line's end. Most tokens are read by

@@ -1,13 +1,13 @@
 //! The words of the grammar: which word begins which line, and what each line and command takes.
 
-ghost use Rattle.std.specs.Prelude.{◌≡◌, ◌||◌, false, [], map};
+ghost use Rattle.std.specs.Prelude.{◌≡◌, ◌||◌, [], ◌∷◌, IfSome, None, map};
 ghost use Rattle.std.specs.List.{list_any};
 ghost use Rattle.std.specs.Str.{bytes_eq};
 ghost use Rattle.cics_script.specs.Tokens.{capital};
 ghost use Rattle.cics_script.specs.Words.{lookup, starts, define_objects, load_objects};
 ghost use Rattle.cics_script.specs.Words.{commands, queue_words, option_words, option_word};
 ghost use Rattle.cics_script.specs.Words.{word_among, same, own_options, options_of_command};
-ghost use Rattle.cics_script.specs.Words.{shared_options, usual_kind, kind_but, kind_at, kind_in};
+ghost use Rattle.cics_script.specs.Words.{shared_options, usual_kind, kind_at, kind_in};
 ghost use Rattle.cics_script.specs.Words.{excluded_by, excludes};
 ghost use lib.Chars.{codes};
 
@@ -291,43 +291,27 @@ pub fn command_named(word: &[u8]) -> Option<CommandWord>
     find_row(&COMMANDS, word)
 }
 
-/// Returns whether TS or TD may follow the verb. If false, neither may.
-pub fn is_of_queue(verb: CommandWord) -> bool
-    ensures { result ≡ false → queue_words verb ≡ [] }
-{
-    matches!(
-        verb,
-        CommandWord::WriteqTs | CommandWord::ReadqTs | CommandWord::DeleteqTs
-    )
-}
-
 /// Returns the command of a verb and TS or TD, or `None` if the word is neither or the verb takes
 /// none.
 pub fn queue_command(verb: CommandWord, word: &[u8]) -> Option<CommandWord>
     ensures { result ≡ lookup (map capital word.now) (queue_words verb) }
 {
+    let of_td = td_command(verb)?;
     if is_spelled(word, b"TS") {
-        ts_command(verb)
+        Some(verb)
     } else if is_spelled(word, b"TD") {
-        td_command(verb)
+        Some(of_td)
     } else {
         None
     }
 }
 
-/// Returns the command of a verb and TS, or `None` if the verb takes none.
-pub fn ts_command(verb: CommandWord) -> Option<CommandWord>
-    ensures { result ≡ lookup (codes "TS") (queue_words verb) }
-{
-    match verb {
-        CommandWord::WriteqTs | CommandWord::ReadqTs | CommandWord::DeleteqTs => Some(verb),
-        _ => None,
-    }
-}
-
-/// Returns the command of a verb and TD, or `None` if the verb takes none.
+/// Returns the command of a verb and TD, or `None` if the verb takes neither TS nor TD. The command
+/// of a verb and TS is the verb's.
 pub fn td_command(verb: CommandWord) -> Option<CommandWord>
-    ensures { result ≡ lookup (codes "TD") (queue_words verb) }
+    ensures none { result ≡ None → queue_words verb ≡ [] }
+    ensures some { IfSome result (λ of_td.
+        queue_words verb ≡ (codes "TS", verb) ∷ (codes "TD", of_td) ∷ []) }
 {
     match verb {
         CommandWord::WriteqTs => Some(CommandWord::WriteqTd),
@@ -461,29 +445,17 @@ fn usual_kind(option: OptionWord) -> Kind
     }
 }
 
-// Returns `kind` for the option `other`, and the usual kind for any other option.
-fn kind_but(other: OptionWord, kind: Kind, option: OptionWord) -> Kind
-    ensures { result ≡ kind_but other kind option }
-{
-    if is_same(option, other) {
-        kind
-    } else {
-        usual_kind(option)
-    }
-}
-
 // What an option takes in a line that has it.
 fn kind_at(form: Form, option: OptionWord) -> Kind
     ensures { result ≡ kind_at form option }
 {
-    match form {
-        Form::Command(CommandWord::ReadNext | CommandWord::ReadPrev) => {
-            kind_but(Ridfld, Kind::Area, option)
-        }
-        Form::Command(CommandWord::WriteqTs) => kind_but(Item, Kind::Area, option),
-        Form::Command(CommandWord::WriteqTd | CommandWord::ReadqTd | CommandWord::DeleteqTd) => {
-            kind_but(Queue, Kind::Name4, option)
-        }
+    match (form, option) {
+        (Form::Command(CommandWord::ReadNext | CommandWord::ReadPrev), Ridfld)
+        | (Form::Command(CommandWord::WriteqTs), Item) => Kind::Area,
+        (
+            Form::Command(CommandWord::WriteqTd | CommandWord::ReadqTd | CommandWord::DeleteqTd),
+            Queue,
+        ) => Kind::Name4,
         _ => usual_kind(option),
     }
 }

@@ -13,9 +13,9 @@ as_one : {A B C : Type 0} (read : Result A LineFault) (more : A → Result B Lin
 as_one (Ok part) more last = refl
 as_one (Err fault) more last = refl
 
-pub returns-in-Ok : goal.returns-in-Ok
-returns-in-Ok c =
-    let same : issue c.args.label (tokens c.args.bytes.now) ≡ command_line c.args.label (tokens c.in-Ok.rest.now) =
+pub returns : goal.returns
+returns c =
+    let same : issue c.args.label (tokens c.args.bytes.now) ≡ command_line c.args.label (tokens c.in_ok-rest.rest.now) =
     as_one (behind (codes "EXEC") (tokens c.args.bytes.now)) (behind (codes "CICS")) (command_line c.args.label)
-    ∙ ap (λ read. read >>= command_line c.args.label) c.in-Ok.ensures in
+    ∙ ap (λ read. read >>= command_line c.args.label) c.in_ok-rest.ensures in
     rw same c.read_command.ensures
