@@ -270,7 +270,7 @@ after_ts_reading s q n =
     then record { opening = s.opening; trace = s.trace; outcomes = s.outcomes; commits = s.commits; reads = s.reads; counts = s.counts; next = with_value q n s.next }
     else s
 
--- ---- What a caller sees to before a command is executed
+-- ---- What a caller ensures before a command is executed
 
 -- a unit that has begun and not ended
 abbrev pub IsOpenUnit : UnitsState → ℕ → Type 0

@@ -20,7 +20,7 @@ use Rattle.cics_history.specs.declared.ops.UnitState.{UnitState}
 abbrev pub store_of : UnitsState → Store
 store_of s = replay (initial_store s.opening) (kept s.opening s.trace s.outcomes)
 
--- ---- Resources: what a unit can hold, of six kinds
+-- ---- Resources: what a unit can own, of six kinds
 
 -- the record of a file under a key, whether it is there or not
 abbrev pub record_at : Bytes → Bytes → Resource

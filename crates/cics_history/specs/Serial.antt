@@ -11,7 +11,7 @@ use Rattle.cics_history.specs.Cells.{Cell, content, recovers, IsOrdered}
 use Rattle.cics_history.specs.declared.ops.Entry.{Entry}
 use Rattle.cics_history.specs.declared.ops.UnitState.TheVariants.{BackedOut}
 
--- ---- The order in which units committed
+-- ---- Commit order
 
 -- a unit is among these
 abbrev pub among : ℕ → List ℕ → Bool
@@ -106,7 +106,7 @@ pub record IsSerializable (v : UnitsValue) : Type 0 where
   -- and so do their entries alone, in the order in which they were executed
   pub committed : NoneIsOpen v.state → HoldsCommitted v
 
--- ---- What every step keeps
+-- ---- The invariant of every step
 
 -- run one after the other, these units give each recoverable cell what it holds after these
 -- outcomes. Each command has the answer that its task was given
