@@ -1,4 +1,4 @@
-//! Resources as the bytes that a table keeps, and what it keeps under them.
+//! Resources as bytes, the keys of a table, and look-ups of their holdings.
 
 ghost use Rattle.std.specs.Prelude.{◌≡◌, ◌≤◌, ◌+◌, ◌∷◌, ◌++◌, OnOk, [], length};
 ghost use Rattle.std.specs.Option.{option_copied};
@@ -30,8 +30,7 @@ const VALUE: u8 = 5;
 
 // Puts bytes at the end of a key that has room for them.
 //
-// A key is filled where it stands: handed from one function to the next, all its places would be
-// moved each time.
+// A key is filled in place: to return it would move all its bytes each time.
 fn put(key: &mut ArrayVec<u8, MOST>, bytes: &[u8])
     requires room { length key.old.items + length bytes.now ≤ 265 }
     ensures { key.new.items ≡ key.old.items ++ bytes.now }
@@ -100,7 +99,8 @@ fn put_resource(key: &mut ArrayVec<u8, MOST>, resource: &ResourceRef<'_>)
     }
 }
 
-// A resource as bytes, by which a table is ordered: for where there is no room for a key of it.
+// Returns a resource as bytes, by which a table is ordered. It is used if there is no room for a
+// key.
 pub(crate) fn compact(resource: &ResourceRef<'_>) -> ArrayVec<u8, MOST>
     ensures { result.items ≡ resource_key resource.now }
 {
@@ -150,8 +150,8 @@ pub(crate) fn set_resource(key: &mut Key, resource: &ResourceRef<'_>) -> Result<
     }
 }
 
-// What is kept under bytes, found by going through the whole table: for where there is no room for
-// a key of them.
+// Returns the holding of bytes, found by going through the whole table. It is used if there is no
+// room for a key.
 fn find_among<'t>(table: &'t BTreeMap<Key, Holding>, bytes: &[u8]) -> Option<&'t Holding>
     ensures { option_copied result ≡ lookup (finds bytes.now) table.now.entries }
 {
@@ -163,7 +163,7 @@ fn find_among<'t>(table: &'t BTreeMap<Key, Holding>, bytes: &[u8]) -> Option<&'t
     None
 }
 
-// What is kept under a resource, found by going through the whole table.
+// Returns the holding of a resource, found by going through the whole table.
 #[inline(never)]
 fn find_resource<'t>(
     table: &'t BTreeMap<Key, Holding>,
@@ -174,7 +174,7 @@ fn find_resource<'t>(
     find_among(table, compact(resource).as_slice())
 }
 
-// What is kept under these bytes, which a key is filled with.
+// Returns the holding of these bytes, with which a key is filled.
 pub(crate) fn held_under<'t>(
     table: &'t BTreeMap<Key, Holding>,
     key: &mut Key,
@@ -192,7 +192,7 @@ pub(crate) fn held_under<'t>(
     }
 }
 
-// What is kept under a resource.
+// Returns the holding of a resource.
 pub(crate) fn held<'t>(
     table: &'t BTreeMap<Key, Holding>,
     key: &mut Key,
