@@ -181,8 +181,8 @@ pub(crate) fn least_holder(
     Some(lesser_holder(key.0, key.1, prefix.0, prefix.1))
 }
 
-// Returns the owner, other than the asker, of the first resource that conflicts with a key: a
-// shorter prefix, the key, or the prefix with its bytes.
+// Returns the owner, other than the asker, of the first resource that conflicts with a key. That is
+// a shorter prefix, the key, or the prefix with its bytes.
 pub(crate) fn key_holder(
     table: &BTreeMap<Key, Holding>,
     bound: &mut Key,

@@ -311,8 +311,8 @@ impl Enqueues {
         least
     }
 
-    // Returns the owner, other than the asker, of the smallest resource that conflicts with a key:
-    // a shorter prefix, the key, or the prefix with its bytes.
+    // Returns the owner, other than the asker, of the smallest resource that conflicts with a key.
+    // That is a shorter prefix, the key, or the prefix with its bytes.
     fn holder_of_key(&self, file: Name8, key: &[u8], asker: &Option<UnitId>) -> Option<UnitId>
         requires most { length key.now ≤ 255 }
         ensures { result ≡ holder_over (FileKey file (bytes_of key.now)) asker.now self.now }
