@@ -52,7 +52,7 @@ fn put_file(key: &mut ArrayVec<u8, MOST>, kind: u8, file: &Name8, bytes: &[u8])
     put(key, bytes);
 }
 
-// A key of a file, or a prefix of keys, as bytes.
+// Returns a key of a file, or a prefix of keys, as bytes.
 pub(crate) fn file_bytes(kind: u8, file: Name8, bytes: &[u8]) -> ArrayVec<u8, MOST>
     requires most { length bytes.now ≤ 255 }
     ensures value { result.items ≡ kind ∷ length file ∷ (file ++ bytes.now) }
@@ -63,7 +63,7 @@ pub(crate) fn file_bytes(kind: u8, file: Name8, bytes: &[u8]) -> ArrayVec<u8, MO
     key
 }
 
-// A temporary storage queue as bytes.
+// Returns a temporary storage queue as bytes.
 fn ts_bytes(queue: &Name8) -> [u8; 9]
     ensures { result ≡ 2 ∷ queue.now }
 {
@@ -72,7 +72,7 @@ fn ts_bytes(queue: &Name8) -> [u8; 9]
     bytes
 }
 
-// An end of a transient data queue, of this kind, as bytes.
+// Returns an end of a transient data queue, of this kind, as bytes.
 fn td_bytes(kind: u8, queue: &Name4) -> [u8; 5]
     ensures { result ≡ kind ∷ queue.now }
 {
@@ -109,7 +109,7 @@ pub(crate) fn compact(resource: &ResourceRef<'_>) -> ArrayVec<u8, MOST>
     key
 }
 
-// What the bytes of a key of a file, or of a prefix of keys, begin with.
+// Returns what the bytes of a key of a file, or of a prefix of keys, begin with.
 fn file_front(kind: u8, file: &Name8) -> [u8; 10]
     ensures { result ≡ kind ∷ length file.now ∷ file.now }
 {

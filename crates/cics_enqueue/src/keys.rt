@@ -27,7 +27,7 @@ pub(crate) struct Numbers {
     pub(crate) third: u64,
 }
 
-// The first eight bytes as a number.
+// Returns the first eight bytes as a number.
 fn word_of(bytes: &[u8]) -> u64
     requires { 8 ≤ length bytes.now }
     ensures value { result ≡ filled 8 0 bytes.now }
@@ -88,7 +88,7 @@ fn refill(bytes: &mut Vec<u8>, front: &[u8], rest: &[u8]) -> Result<(), NoMemory
 }
 
 impl Key {
-    // The key of no bytes.
+    // Returns the key of no bytes.
     pub(crate) fn new(alloc: Global) -> Key
         ensures { result.items ≡ [] }
     {
@@ -102,14 +102,14 @@ impl Key {
         }
     }
 
-    // Its bytes.
+    // Returns its bytes.
     pub(crate) fn as_slice(&self) -> &[u8]
         ensures { result.now ≡ self.now.items }
     {
         self.bytes.as_slice()
     }
 
-    // A key of the same bytes.
+    // Returns a key of the same bytes.
     pub(crate) fn copy(&self, alloc: Global) -> Result<Key, NoMemory>
         ensures { IfOk result (λ copy. copy.items ≡ self.now.items) }
     {

@@ -76,7 +76,7 @@ pub(crate) fn remove(owned: &mut Owned, unit: UnitId, key: &Key)
     }
 }
 
-// The key of these bytes among those of a unit.
+// Returns the key of these bytes among those of a unit.
 pub(crate) fn find<'o>(owned: &'o Owned, unit: UnitId, bytes: &[u8]) -> Option<&'o Key>
     ensures found { IfSome result (λ key. key.now.items ≡ bytes.now) }
     ensures none { IfNone result ((k : Vec ℕ) → k.items ≡ bytes.now

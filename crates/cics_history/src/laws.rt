@@ -6,8 +6,8 @@
 //! too.
 //!
 //! A unit's number is its position in the list of outcomes. A command or an ENQ without a unit
-//! begins the next one. If it must wait, it changes nothing. Nor does an event of a unit that isn't
-//! open. READQ TS belongs to no unit.
+//! begins the next one. A command or an ENQ that must wait changes nothing. Neither does an event
+//! of a unit that isn't open. READQ TS belongs to no unit.
 //!
 //! Most laws of whole runs suppose an opening in order: its names rise, and so do the keys of each
 //! file. `Opening` makes no other. A delete by prefix is answered a number of records, which cells

@@ -15,8 +15,8 @@ pub data Piece : Type 0 where
   Sign : ℕ → Piece
 
 -- Where the reader is: among the pieces or in a reference there; in the name of a tag; in a start
--- tag, behind its name or a value. Or it is in the name of an attribute, in a value, or in a
--- reference in a value. It has read the parts that are named.
+-- tag, behind its name or a value. Or it is in an attribute's name, in a value, or in a reference
+-- in one. It has read the parts that are named.
 pub data Place : Type 0 where
   Between : Place
   Reference : Place
