@@ -1,7 +1,8 @@
 -- Recovery and task control (chapters on recovery and on task control): which unit owns what, what
 -- conflicts, and which unit blocks a command. All is read off the history; there is no table of it.
--- A unit owns what its commands have used until it ends, and the values of its ENQ until their DEQ.
--- It owns a record of an unrecoverable file while its update read is open.
+-- Until it ends, a unit owns what its commands answered NORMAL used of recoverable files and
+-- queues. It owns the value of an ENQ until its DEQ, and a record of an unrecoverable file while
+-- its update read is open.
 use Rattle.std.specs.Prelude.{ℕ, ◌+◌, ◌==◌, Bool, true, false, not, ◌&&◌, ◌||◌, if◌then◌else◌, Option, Some, None, unwrap_or, option_map, filter, map, flat_map, List, [], ◌∷◌, ◌++◌}
 use Rattle.cics_names.specs.Keyed.{Bytes, value_at, is_same, is_below}
 use Rattle.cics_ksds.specs.Prefixes.{has_prefix}
