@@ -3,7 +3,7 @@
 use cics_names::{Name4, Name8, Verb};
 use cics_script::{Line, read_line};
 
-// How many names are kept.
+// How many names are kept at most.
 const ENOUGH: usize = 64;
 
 const BLANK: u8 = 0x40;

@@ -13,7 +13,7 @@ use arrayvec::ArrayVec;
 use cics_names::{Name4, Name8, NoMemory};
 use std::collections::BTreeMap;
 
-// What the bytes of a prefix of keys begin with, the least kind, and those of a key of a file.
+// What the bytes of a prefix of keys begin with, the smallest kind, and those of a key of a file.
 pub(crate) const PREFIX: u8 = 0;
 
 pub(crate) const KEY: u8 = 1;

@@ -26,7 +26,7 @@ runs =
     ∷ run 58 0x7A 1 ∷ run 35 0x7B 1 ∷ run 64 0x7C 1 ∷ run 39 0x7D 1 ∷ run 61 0x7E 1 ∷ run 34 0x7F 1
     ∷ []
 
--- whether a number is one of so many that follow one another from the first on
+-- whether a number is one of these, which follow one another from the first on
 abbrev pub is_within : ℕ → ℕ → ℕ → Bool
 is_within first count n = nat_le first n && nat_lt n (first + count)
 

@@ -61,7 +61,8 @@ impl From<NoMemory> for DefineFault {
     }
 }
 
-/// Returns whether so many bytes are lawful, as a file's record size or for a record of a queue.
+/// Returns whether this number of bytes is lawful, as a file's record size or for a record of a
+/// queue.
 fn is_record_size(size: u64) -> bool
     ensures { result ≡ is_record_size size }
 {

@@ -336,7 +336,8 @@ impl UnitsCore {
         }
     }
 
-    /// Executes a command that nothing blocks, and answers it. Its unit may be the next to begin.
+    /// Executes a command that nothing blocks, and returns its answer. Its unit may be the next to
+    /// begin.
     ///
     /// READ UPDATE leaves the store: if there is a record (`given`), it acquires that and opens the
     /// read. Every other command takes the same steps. Make room for its images. Acquire what it
