@@ -127,8 +127,8 @@ abbrev pub first_of : Option ℕ → Option ℕ → Option ℕ
 first_of None y = y
 first_of (Some x) y = Some x
 
--- the owner, other than the asker, of the shortest prefix of keys that is p and a front of the
--- rest, but not all of it. The shortest is the smallest
+-- the owner, other than the asker, of the shortest prefix of keys that is p and a proper front of
+-- the rest. The shortest is the smallest
 abbrev pub holder_of_shorter : Bytes → Bytes → Bytes → Option ℕ → Table → Option ℕ
 holder_of_shorter f p [] asker t = None
 holder_of_shorter f p (x ∷ rest) asker t = first_of (other_than asker (holder_of (FilePrefix f (bytes_of p)) t)) (holder_of_shorter f (p ++ x ∷ []) rest asker t)

@@ -14,8 +14,8 @@ pub data Piece : Type 0 where
   End : Tag → Piece
   Sign : ℕ → Piece
 
--- Where the reader is: among the pieces or in a reference there; in the name of a tag; in a start
--- tag, behind its name or a value. Or it is in an attribute's name, in a value, or in a reference
+-- Where the reader is: among the pieces, or in a reference there. Or in the name of a tag, or in a
+-- start tag, behind its name or a value. Or in an attribute's name, in a value, or in a reference
 -- in one. It has read the parts that are named.
 pub data Place : Type 0 where
   Between : Place

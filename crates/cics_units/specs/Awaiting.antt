@@ -31,8 +31,8 @@ abbrev pub has_none_for : Bool → Option TransState → Bool
 has_none_for past_fresh None = false
 has_none_for past_fresh (Some t) = is_logical t.kind && is_none (first_of t past_fresh)
 
--- the unit at the writing end, other than the one that asks, if a reader of a LOGICAL queue finds
--- no record that it may read
+-- if a reader of a LOGICAL queue finds no record that it may read: the unit at the writing end that
+-- isn't the one asking
 abbrev pub writer_of : Table → Option TransState → Bytes → Option ℕ → ℕ → Option ℕ
 writer_of t queue q asking acting = if has_none_for (is_writer t acting q) queue then holder_over (WritingEnd q) asking t else None
 

@@ -34,8 +34,8 @@ load_fault (Some file) r =
     else if has_key (key_of file.definition r) file.records then Some Duplicate
     else None
 
--- the first fault of a record to be loaded into a transient data queue: no such queue, or a record
--- of no bytes or too many
+-- the first fault of a record to be loaded into a transient data queue: no such queue, or no bytes
+-- or too many
 abbrev pub load_td_fault : Option QueueOpening → Bytes → Option DefineFault
 load_td_fault None r = Some NotThere
 load_td_fault (Some queue) r = if is_record_size (length r) then None else Some BadLength
