@@ -1,4 +1,5 @@
--- What a person is told of a faulty line: a message, the line round a column, and a caret under the column.
+-- What a person is told of a faulty line: a message, the line round a column, and a caret under the
+-- column.
 use Rattle.std.specs.Prelude.{◌≡◌, ℕ, ◌-◌, ◌==◌, ◌&&◌, nat_le, min, max, if◌then◌else◌, Option, Some, None, is_some, true, List, ◌++◌, map, length, take, drop, replicate, codes}
 use Rattle.std.specs.Fmt.{decimal}
 use Rattle.cics_advice.specs.declared.showing.TheConstants.{WIDTH, BEFORE}
@@ -38,11 +39,12 @@ marked bytes column = ended (map shown (part_of bytes column)) ++ ended (caret b
 abbrev pub advice : ℕ → ℕ → List ℕ → List ℕ → List ℕ
 advice number column message bytes = message_line number column message ++ marked bytes column
 
--- of a line that is too long there is no column
+-- a line that is too long has no column
 abbrev pub too_long : ℕ → List ℕ
 too_long number = codes "cicsrun: line " ++ (decimal number ++ codes ": a line has at most 70,000 bytes\n")
 
--- a text is put behind what was there: the three lines on a column, with some message, or without a column the one
+-- a text is put behind what was there: the three lines on a column, with some message, or without a
+-- column the one
 abbrev pub Tells : ℕ → List ℕ → List ℕ → List ℕ → Option ℕ → Type 0
 Tells number bytes before now None = now ≡ before ++ too_long number
 Tells number bytes before now (Some column) = (message : List ℕ) × (now ≡ before ++ advice number column message bytes)

@@ -1,10 +1,10 @@
 //! What a faulty line of a script needs, told to a person: a message, the line, and a caret.
 //!
-//! `push_advice` puts three lines behind what was printed. `specs/Advice` says them to the byte,
+//! `push_advice` adds three lines behind what was printed. `specs/Advice` states them to the byte,
 //! but for the words of the message. The fault and its column are those of
-//! `cics_script::find_fault`. What is to be mended stands in tables, by what stands in front of the
-//! column (`tables`, `messages`). These words are tested, and no clause says them. So are the names
-//! that aren't defined, which `keep_undefined` keeps while lines run.
+//! `cics_script::find_fault`. Tables say what to mend, by what stands in front of the column
+//! (`tables`, `messages`). These words are tested, and no clause states them. So are the names that
+//! aren't defined, which `keep_undefined` keeps while lines run.
 #![tactic(auto)]
 
 mod context;

@@ -84,8 +84,8 @@ fn column_of(alloc: Global, line: &[u8], cause: Cause) -> Result<Option<usize>, 
     }
 }
 
-// The text of a message, and the option that it speaks of. In it `%` stands for the token, `$`
-// for the option, `+` for how that is written, `&` for the line's subject, and `!` for a reference.
+// The text of a message, and its option. In the text `%` stands for the token, and `$` for the
+// option. `+` stands for how that is written, `&` for the line's subject, and `!` for a reference.
 type Told<'a> = (&'static str, &'a [u8]);
 
 fn push_filled(out: &mut Vec<u8>, context: &Context<'_>, told: Told<'_>) -> Result<(), NoMemory> {
@@ -165,7 +165,7 @@ fn told_of<'a>(context: &Context<'a>, fault: LineFault) -> Told<'a> {
     (text, &[])
 }
 
-// An option that stands twice. Only FILE has another word.
+// Returns the text for an option that stands twice. FILE has another word.
 fn of_doubled(context: &Context<'_>) -> &'static str {
     for place in 0..context.front.len() {
         if context.word_at(place).eq_ignore_ascii_case(context.token) {
@@ -216,7 +216,8 @@ fn of_not_here<'a>(context: &Context<'a>) -> Told<'a> {
     ("& has no option %", &[])
 }
 
-// A word that is not known where it stands, a sign that begins no token, or no word.
+// Returns the text for a word that isn't known where it stands, for a sign that begins no token, or
+// for no word.
 fn of_unknown<'a>(context: &Context<'a>) -> Told<'a> {
     if is_word(context.before(1), "END-EXEC") {
         return match context.token.first() {
@@ -243,7 +244,7 @@ fn of_unknown<'a>(context: &Context<'a>) -> Told<'a> {
     }
 }
 
-// A sign that begins no token, also in a label or right behind it.
+// Returns the text for a sign that begins no token, also in a label or right behind it.
 fn of_sign(context: &Context<'_>) -> &'static str {
     let is_in_label = match context.front.len() {
         1 => start_of(context.at(0)).is_none(),
@@ -261,7 +262,7 @@ fn of_sign(context: &Context<'_>) -> &'static str {
     NO_OPTION
 }
 
-// A value that is wrong or missing, or its parentheses.
+// Returns the text for a value that is wrong or missing, or for its parentheses.
 fn of_value<'a>(context: &Context<'a>) -> Told<'a> {
     if is_broken(context.token) {
         return (of_broken(context.token), &[]);

@@ -13,7 +13,7 @@ const WIDTH: usize = 100;
 // How many columns stand before the caret, if as many follow as can be shown.
 const BEFORE: usize = 70;
 
-// A byte as it is shown: a tab as a blank, and what can't be printed as a question mark.
+// Returns a byte as it is shown: a tab as a blank, and what can't be printed as a question mark.
 fn shown(byte: u8) -> u8
     ensures { result ≡ shown byte }
 {
@@ -42,7 +42,7 @@ fn push_blanks(out: &mut Vec<u8>, count: usize) -> Result<(), NoMemory>
     Ok(())
 }
 
-// How many bytes in front of a column are left out.
+// Returns how many bytes in front of a column are left out.
 fn left_out(line: &[u8], column: usize) -> usize
     ensures { result ≡ left_out line.now column }
 {
@@ -50,7 +50,7 @@ fn left_out(line: &[u8], column: usize) -> usize
     column.saturating_sub(BEFORE).min(most)
 }
 
-// The part of a line round a column. A line that fits is shown whole.
+// Returns the part of a line round a column. A line that fits is shown whole.
 #[tactic(auto, using(std::proofs::lemmas::List::take_min, std::proofs::lemmas::List::drop_min))]
 fn part_of(line: &[u8], column: usize) -> &[u8]
     ensures { result.now ≡ part_of line.now column }

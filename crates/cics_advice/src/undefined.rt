@@ -3,7 +3,7 @@
 use cics_names::{Name4, Name8, Verb};
 use cics_script::{Line, read_line};
 
-// How many names are kept.
+// How many names are kept at most.
 const ENOUGH: usize = 64;
 
 const BLANK: u8 = 0x40;
@@ -35,14 +35,15 @@ impl Named {
 
 // Returns how many of eight bytes stand before the first blank.
 fn count_before_blank(bytes: [u8; 8]) -> usize {
-    // A blank becomes 0, and of the bytes up to the first 0 that one alone gets its highest bit set.
+    // A blank becomes 0, and of the bytes up to the first 0 that one alone gets its highest bit
+    // set.
     let others = u64::from_le_bytes(bytes) ^ 0x2020_2020_2020_2020;
     let blanks = others.wrapping_sub(0x0101_0101_0101_0101) & !others & 0x8080_8080_8080_8080;
     blanks.trailing_zeros() as usize / 8
 }
 
-// Whether what a line printed tells of a file or a queue that isn't defined. Its second letter
-// tells that of nearly every other line apart.
+// Returns whether what a line printed tells of a file or a queue that isn't defined. The second
+// letter tells nearly every other line apart.
 fn is_undefined(printed: &[u8]) -> bool {
     let Some((label, _)) = printed.split_first_chunk::<8>() else {
         return false;
@@ -56,7 +57,7 @@ fn is_undefined(printed: &[u8]) -> bool {
     }
 }
 
-// The file or the queue of transient data that a command names.
+// Returns the file or the queue of transient data that a command names.
 fn named_by(verb: &Verb) -> Option<Named> {
     match verb {
         Verb::WriteqTd { queue, .. } | Verb::ReadqTd { queue, .. } | Verb::DeleteqTd { queue } => {
@@ -81,7 +82,7 @@ fn keep(names: &mut Vec<Named>, line: &[u8]) {
     }
 }
 
-/// Keeps the name in a line that was run, if what it printed behind so many bytes says that the
+/// Keeps the name in a line that was run, if what it printed behind `before` bytes says that the
 /// name isn't defined. Each name is kept once, and at most 64 are.
 pub fn keep_undefined(names: &mut Vec<Named>, line: &[u8], printed: &[u8], before: usize) {
     if let Some(text) = printed.get(before..) {

@@ -1,5 +1,5 @@
 -- File control, browsing (the file control chapter of the Application Programmer's Reference
--- Manual): a position is the key asked for, or the key last read with the direction of its read.
+-- Manual). A position is the key asked for, or the key last read with the direction of its read.
 use Rattle.std.specs.Prelude.{◌==◌, Bool, true, false, not, ◌&&◌, ◌||◌, if◌then◌else◌, Option, Some, None, is_some, nat_eq}
 use Rattle.std.specs.List.{list_all, starts_with}
 use Rattle.cics_names.specs.Keyed.{Bytes, Map, is_same}
@@ -20,7 +20,7 @@ pub record Position : Type 0 where
 abbrev pub is_end : Bytes → Bool → Bool
 is_end key generic = not generic && list_all (λ b. b == 255) key
 
--- EQUAL asks for the key itself, or with GENERIC for a key that begins with the prefix
+-- with EQUAL the start is the key itself, or with GENERIC a key that begins with the prefix
 abbrev pub is_asked_for : Bytes → Bool → Bytes → Bool
 is_asked_for key generic k = if generic then starts_with nat_eq k key else is_same key k
 
@@ -29,7 +29,7 @@ abbrev pub passes : (Bytes → Bool) → Option (Bytes × Bytes) → Bool
 passes test None = false
 passes test (Some e) = test e.0
 
--- whether STARTBR or RESETBR finds its place: with EQUAL the key asked for, else any key not below
+-- whether STARTBR or RESETBR finds its start: with EQUAL the key asked for, else any key not below
 -- it
 abbrev pub finds_start : Map Bytes → Bytes → Bool → Bool → Bool
 finds_start records key generic equal =
@@ -62,24 +62,24 @@ prev_entry_at records key generic Start = if is_end key generic then last_to rec
 prev_entry_at records key generic Forward = last_to records key false
 prev_entry_at records key generic Back = last_to records key true
 
--- what READPREV answers without a record: NOTFND for a key that was asked for, ENDFILE at the
+-- what READPREV is answered without a record: NOTFND for a key that was asked for, ENDFILE at the
 -- file's end and past a key that was read
 abbrev pub prev_none : Bytes → Bool → Place → Condition
 prev_none key generic Start = if is_end key generic then Endfile else Notfnd
 prev_none key generic Forward = Endfile
 prev_none key generic Back = Endfile
 
--- the record that is found is given with its key, and else the condition alone
+-- the answer has the record that was found, with its key, or the condition alone
 abbrev pub reply_of : Condition → Option (Bytes × Bytes) → Browsed
 reply_of none None = record { condition = none; key = None; content = None }
 reply_of none (Some e) = record { condition = Normal; key = Some e.0; content = Some e.1 }
 
--- the key that was read is the position then; without one the position stays
+-- the key that was read becomes the position; without one the position stays
 abbrev pub position_after : Position → Place → Option (Bytes × Bytes) → Position
 position_after p place None = p
 position_after p place (Some e) = record { key = e.0; place = place; generic = p.generic }
 
--- READNEXT: ENDFILE where there is no entry
+-- READNEXT is answered ENDFILE if there is no entry
 abbrev pub read_next : Map Bytes → Position → Browsed
 read_next records p = reply_of Endfile (next_entry records p)
 
@@ -87,7 +87,7 @@ read_next records p = reply_of Endfile (next_entry records p)
 abbrev pub after_next : Map Bytes → Position → Position
 after_next records p = position_after p Forward (next_entry records p)
 
--- after a GENERIC start READPREV is INVREQ
+-- READPREV is answered INVREQ after a GENERIC start
 abbrev pub read_prev : Map Bytes → Position → Browsed
 read_prev records p =
     if p.generic
@@ -98,7 +98,7 @@ read_prev records p =
 abbrev pub after_prev : Map Bytes → Position → Position
 after_prev records p = if p.generic then p else position_after p Back (prev_entry_at records p.key p.generic p.place)
 
--- RESETBR: NOTFND where its start is not found
+-- RESETBR is answered NOTFND if its start isn't found
 abbrev pub reset_condition : Map Bytes → Bytes → Bool → Bool → Condition
 reset_condition records key generic equal = if finds_start records key generic equal then Normal else Notfnd
 

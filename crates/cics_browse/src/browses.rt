@@ -20,22 +20,23 @@ pub enum Place {
     Back,
 }
 
-/// What a read of a browse answers.
+/// What a read of a browse is answered.
 #[derive(Drop)]
 pub struct Browsed {
-    /// NORMAL where a record is given, else NOTFND, ENDFILE or INVREQ.
+    /// NORMAL if there is a record, else NOTFND, ENDFILE or INVREQ.
     pub condition: Condition,
-    /// The key of the record that is given, and None without one.
+    /// The key of the record, or None without one.
     pub key: Option<Record>,
-    /// The record that is given, whole, and None without one.
+    /// The whole record, or None without one.
     pub content: Option<Record>,
 }
 
 /// A browse of one file (the browsing part of the file control chapter of the Application
 /// Programmer's Reference Manual).
 ///
-/// It holds a key and never a number of a record, so the file may change in any way between two
-/// calls. Each call takes the file anew, and it is the caller that hands in the same file.
+/// It holds a key and never the number of a record, so the file may change in any way between two
+/// calls. Each call takes the file anew. The caller must pass the same file each time. Unchanged on
+/// error.
 #[derive(Drop)]
 pub struct Browse {
     key: Record,
@@ -51,7 +52,7 @@ impl Model for Browse {
     ghost view = { λ b. record { key = b.key; place = b.place; generic = b.generic } };
 }
 
-/// An answer that gives no record.
+/// Returns an answer without a record.
 fn nothing(condition: Condition) -> Browsed
     ensures { result ≡ record { condition = condition; key = None; content = None } }
 {
@@ -68,15 +69,15 @@ impl Browse {
     ghost use Rattle.cics_browse.specs.Positions.{read_next, after_next, read_prev, after_prev};
     ghost use Rattle.cics_browse.specs.Positions.{reply_of, position_after};
 
-    /// STARTBR: a browse whose position is the key, or None where its start isn't found, which is
-    /// NOTFND. The key moves in, and no memory is taken.
+    /// STARTBR: returns a browse whose position is the key, or None if its start isn't found, which
+    /// is NOTFND. The key moves in. It takes no memory.
     ///
     /// `generic` says that the key is only the first bytes of one. With `equal` the key itself must
-    /// be there, or with `generic` a key that begins with it; without `equal` any key that isn't
+    /// be there, or with `generic` a key that begins with it. Without `equal` any key that isn't
     /// below it will do. A key that isn't generic and has nothing but bytes X'FF' means the end of
-    /// the file: without `equal` it is found in every file.
+    /// the file. Without `equal` every file has it.
     ///
-    /// Without `generic` a region hands in keys of the file's length. No record has any other key:
+    /// Without `generic` a region passes keys of the file's length. No record has any other key:
     /// reads then begin where its bytes would stand. An empty key means the end of the file too.
     pub fn start<F: Ordered>(file: &F, key: Record, generic: bool, equal: bool) -> Option<Browse>
         ensures { result
@@ -94,15 +95,15 @@ impl Browse {
         }
     }
 
-    /// Whether the browse was started, or last reset, with GENERIC.
+    /// Returns whether the browse was started, or last reset, with GENERIC.
     pub fn is_generic(&self) -> bool
         ensures { result ≡ self.now.generic }
     {
         self.generic
     }
 
-    /// RESETBR: makes the key the position, as `start` with the same arguments would. Where that
-    /// finds nothing the answer is NOTFND, and the position and its `generic` stay.
+    /// RESETBR: makes the key the position, as `start` with the same arguments would. If its start
+    /// isn't found, it is answered NOTFND, and the position and its `generic` stay.
     pub fn reset<F: Ordered>(
         &mut self,
         file: &F,
@@ -123,11 +124,11 @@ impl Browse {
         Condition::Normal
     }
 
-    /// READNEXT: gives the record of the least key that isn't below the position, or after a
-    /// READNEXT is above it, and makes its key the position. ENDFILE where there is none, and then
-    /// the position stays. A prefix that the browse was started with bounds nothing here.
+    /// READNEXT: reads the record of the smallest key that isn't below the position, or after a
+    /// READNEXT is above it. Its key becomes the position. ENDFILE if there is none, and then the
+    /// position stays. A prefix with which the browse was started is no bound here.
     ///
-    /// `Err` comes only where memory for the copies is refused, and then the position stays.
+    /// It copies the key and the record. The only error is `NoMemory`.
     pub fn next<F: Ordered>(&mut self, file: &F) -> Result<Browsed, NoMemory>
         ensures reply { IfOk result (λ reply. reply
             ≡ read_next (F.file_records file.now) self.old) }
@@ -138,15 +139,15 @@ impl Browse {
         self.give(file.definition(), found, Place::Forward, Condition::Endfile)
     }
 
-    /// READPREV: gives the record of the greatest key that isn't above the position, or after a
-    /// READPREV is below it, and makes its key the position. ENDFILE where there is none.
+    /// READPREV: reads the record of the greatest key that isn't above the position, or after a
+    /// READPREV is below it. Its key becomes the position. ENDFILE if there is none.
     ///
-    /// At the key that STARTBR or RESETBR asked for it gives the record of that very key, or NOTFND
-    /// without one; where that key has nothing but bytes X'FF' it means the end of the file, so it
-    /// gives the last record, and ENDFILE in an empty file. INVREQ where that STARTBR or RESETBR
-    /// was generic. On any of these conditions the position stays.
+    /// At the key that STARTBR or RESETBR asked for, it reads the record of that very key, or is
+    /// answered NOTFND. If that key has nothing but bytes X'FF', it means the end of the file. Then
+    /// it reads the last record, or is answered ENDFILE in an empty file. INVREQ if that STARTBR or
+    /// RESETBR was generic. On any of these conditions the position stays.
     ///
-    /// `Err` comes only where memory for the copies is refused, and then the position stays.
+    /// It copies the key and the record. The only error is `NoMemory`.
     pub fn prev<F: Ordered>(&mut self, file: &F) -> Result<Browsed, NoMemory>
         ensures reply { IfOk result (λ reply. reply
             ≡ read_prev (F.file_records file.now) self.old) }
@@ -161,7 +162,7 @@ impl Browse {
         self.give(file.definition(), found, Place::Back, none)
     }
 
-    /// Gives the record that was found and takes its key as the position, or answers the condition.
+    /// Returns the record that was found and makes its key the position, or returns the condition.
     fn give(
         &mut self,
         definition: FileDef,
@@ -206,7 +207,7 @@ fn is_all_high(key: &[u8]) -> bool
 ghost use Rattle.cics_browse.specs.Positions.{finds_start as found_at, prev_entry_at, prev_none};
 ghost use Rattle.cics_browse.specs.Positions.{only_same};
 
-/// Whether STARTBR or RESETBR finds its start.
+/// Returns whether STARTBR or RESETBR finds its start.
 fn finds<F: Ordered>(file: &F, key: &[u8], generic: bool, equal: bool) -> bool
     ensures { result ≡ found_at (F.file_records file.now) key.now generic equal }
 {
@@ -221,7 +222,7 @@ fn finds<F: Ordered>(file: &F, key: &[u8], generic: bool, equal: bool) -> bool
     }
 }
 
-/// The record that READPREV gives from a position that no generic key set.
+/// Returns the record that READPREV reads from a position that no generic key set.
 fn entry_before<'a, F: Ordered>(file: &'a F, key: &[u8], place: Place) -> Option<&'a Record>
     ensures found { prev_entry_at (F.file_records file.now) key.now false place
         ≡ option_map (entry_of (F.file_definition file.now)) (option_copied result) }
@@ -240,7 +241,7 @@ fn entry_before<'a, F: Ordered>(file: &'a F, key: &[u8], place: Place) -> Option
     }
 }
 
-/// The record of the key itself.
+/// Returns the record of the key itself.
 fn own_entry<'a, F: Ordered>(file: &'a F, key: &[u8]) -> Option<&'a Record>
     ensures found { only_same key.now (last_to (F.file_records file.now) key.now false)
         ≡ option_map (entry_of (F.file_definition file.now)) (option_copied result) }
@@ -254,8 +255,8 @@ fn own_entry<'a, F: Ordered>(file: &'a F, key: &[u8]) -> Option<&'a Record>
     }
 }
 
-/// What READPREV answers where it gives no record: the key asked for must be there, but the file's
-/// end may be that of an empty file.
+/// Returns what READPREV is answered without a record. The key asked for must be there, but the
+/// file's end may be that of an empty file.
 fn none_before(key: &[u8], place: Place) -> Condition
     ensures { result ≡ prev_none key.now false place }
 {

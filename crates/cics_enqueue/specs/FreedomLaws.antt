@@ -1,4 +1,4 @@
--- Where no other unit holds anything that conflicts with a resource, a unit may take it.
+-- If no other unit owns anything that conflicts with a resource, a unit may acquire it.
 use Rattle.std.specs.Prelude.{◌≡◌, ℕ, ◌==◌, ◌&&◌, ◌||◌, Bool, true, false, not, if◌then◌else◌, Option, Some, None, IfNone, option_map, [], ◌∷◌, ◌++◌, length, refl}
 use Rattle.std.proofs.Common.{sym, ap, ◌∙◌, ◌⊎◌, inl, inr, append_assoc, append-nil}
 use Rattle.std.specs.Ordering.{is_eq}
@@ -15,12 +15,12 @@ use Rattle.cics_enqueue.specs.Table.{Table, Held, IsFreeFor, IsFreeBut, is_under
 use Rattle.cics_history.specs.ResourceLaws.{is_one-eq, has_prefix-self}
 use Rattle.cics_enqueue.specs.Order.{is_one-cmp}
 
--- where neither an entry nor the rest is found, neither is there
+-- if neither an entry nor the rest is found, neither is there
 if_none : (b : Bool) (e : Resource × Held) (o : Option (Resource × Held)) → (if b then Some e else o) ≡ None → (b ≡ false) × (o ≡ None)
 if_none true e o h = cc
 if_none false e o h = (refl, h)
 
--- where no entry passes a test, what is held doesn't
+-- if no entry passes a test, no owned resource does
 absent : (test : Resource × Held → Bool) (t : Table) → first_that test t ≡ None → (s : Resource) (h : Held) → held_at s t ≡ Some h → test (s, h) ≡ false
 absent test [] none s h = λ at. cc
 absent test (e ∷ es) none s h =
@@ -32,15 +32,15 @@ absent test (e ∷ es) none s h =
       | false ↦ λ other at. absent test es parts.1 s h at
     ] refl
 
--- a holder that isn't another is the asker
+-- an owner that isn't another unit is the asker
 pub own_of : (u v : ℕ) → is_other (Some u) v ≡ false → v ≡ u
 own_of u v = elim (v == u) as (λ b. v == u ≡ b → not b ≡ false → v ≡ u) [ true ↦ λ t n. eqb-true v u t | false ↦ λ f n. cc ] refl
 
--- nor is a holder whom the asker doesn't find
+-- so is an owner whom the asker doesn't find
 pub own_holder : (asker : Option ℕ) (v : ℕ) → other_than asker (Some v) ≡ None → is_other asker v ≡ false
 own_holder asker v = elim (is_other asker v) as (λ b. (if b then Some v else None) ≡ None → b ≡ false) [ true ↦ λ n. cc | false ↦ λ n. refl ]
 
--- what is under a resource, while no other unit holds such a thing
+-- what is under a resource, if no other unit owns such a thing
 pub under_own : (r : Resource) (asker : Option ℕ) (t : Table) → first_that (λ e. is_under r e.0 && is_other asker e.1.unit) t ≡ None → (s : Resource) → is_under r s ≡ true → (v : ℕ) → holder_of s t ≡ Some v → is_other asker v ≡ false
 under_own r asker t none s under v holds = by (held_at s t) refl holds
   where
@@ -51,7 +51,7 @@ under_own r asker t none s under v holds = by (held_at s t) refl holds
         let fails : is_other asker h.unit ≡ false = sym (ap (λ b. b && is_other asker h.unit) under) ∙ absent (λ e. is_under r e.0 && is_other asker e.1.unit) t none s h at in
         ap (is_other asker) (sym same) ∙ fails
 
--- where the first of two isn't there, neither is
+-- if the first of two isn't there, neither is
 pub none_parts : (a b : Option ℕ) → first_of a b ≡ None → (a ≡ None) × (b ≡ None)
 none_parts None b h = (refl, h)
 none_parts (Some x) b h = cc
@@ -89,7 +89,7 @@ begins_after (x ∷ f) p k h = and_from _ _ (eq-eqb x x refl) (begins_after f p 
 pub under_file : (n m : ℕ) (f p k : Bytes) → has_prefix p k ≡ true → has_prefix (n ∷ m ∷ (f ++ p)) (n ∷ m ∷ (f ++ k)) ≡ true
 under_file n m f p k h = and_from _ _ (eq-eqb n n refl) (and_from _ _ (eq-eqb m m refl) (begins_after f p k h))
 
--- where the lesser of two isn't there, neither is
+-- if the smaller of two isn't there, neither is
 least_none : (a b : Option (Resource × Held)) → option_map (λ e. e.1.unit) (lesser a b) ≡ None → (a ≡ None) × (b ≡ None)
 least_none None None h = (refl, refl)
 least_none None (Some y) h = cc
@@ -142,7 +142,7 @@ module _ (t : Table) (asker : Option ℕ) (v : ℕ) where
       ]
   prefix_own f p none _ meets at = cc
 
--- where none is found to hold what conflicts with a resource, nobody but the asker does
+-- if no blocker of a resource is found, nobody but the asker owns what conflicts with it
 pub free_where_none : (t : Table) (r : Resource) (asker : Option ℕ) → holder_over r asker t ≡ None → IsFreeBut t r asker
 free_where_none t (FileKey f k) asker none s v meets at = key_own t asker v f k none s meets at
 free_where_none t (FilePrefix f p) asker none s v meets at = prefix_own t asker v f p none s meets at
@@ -151,11 +151,11 @@ free_where_none t (TdRead q) asker none s v meets at = same_own t asker v (TdRea
 free_where_none t (TdWrite q) asker none s v meets at = same_own t asker v (TdWrite q) s none meets at
 free_where_none t (User w) asker none s v meets at = same_own t asker v (User w) s none meets at
 
--- so does an answer of none
+-- the same for a result that is `None`
 pub free_if_none : (o : Option ℕ) (t : Table) (r : Resource) (asker : Option ℕ) → o ≡ holder_over r asker t → IfNone o (IsFreeBut t r asker)
 free_if_none None t r asker is = free_where_none t r asker (sym is)
 free_if_none (Some x) t r asker is = tt
 
--- what nobody but a unit holds the unit may take
+-- a unit may acquire what nobody but it owns
 pub free_for : (t : Table) (r : Resource) (u : ℕ) → IsFreeBut t r (Some u) → IsFreeFor t r u
 free_for t r u free s v meets at = own_of u v (free s v meets at)

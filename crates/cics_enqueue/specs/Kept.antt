@@ -1,5 +1,4 @@
--- The table as it is kept: what each unit holds can be found without a look at what the others
--- hold.
+-- The table as the code has it: finds what a unit owns without a look at what others own.
 use Rattle.std.specs.Prelude.{◌≡◌, ℕ, ◌==◌, ◌+◌, nat_le, Bool, true, false, ◌&&◌, ◌++◌, if◌then◌else◌, T, Option, Some, None, option_map, nat_eq, length, drop, List, [], ◌∷◌}
 use Rattle.std.specs.List.{list_any}
 use Rattle.std.specs.Global.{Vec}
@@ -14,12 +13,11 @@ use Rattle.cics_history.specs.Holding.{is_other}
 use Rattle.cics_enqueue.specs.Table.{Table, Held, resource_key, is_in_order, first_of}
 use Rattle.cics_enqueue.specs.Order.{resource_of}
 
--- the entries that are kept: a resource as bytes, and its holding
+-- the entries of the table: a resource as bytes, and its holding
 abbrev pub Entries : Type 0
 Entries = List (Vec ℕ × Holding)
 
--- for each unit the keys that it took, in this order, among which may be some that it gave back
--- since
+-- for each unit the keys that it acquired, in this order; some of them it may have released since
 abbrev pub Owned : Type 0
 Owned = List (ℕ × Vec (Vec ℕ))
 
@@ -46,7 +44,7 @@ abbrev pub has_in : Option (Vec (Vec ℕ)) → Vec ℕ → Bool
 has_in None k = false
 has_in (Some keys) k = list_any (finds k.items) keys.items
 
--- whether a key is among those that a unit took
+-- whether a key is among those that a unit acquired
 abbrev pub owns : Owned → ℕ → Vec ℕ → Bool
 owns owned u k = has_in (lookup (nat_eq u) owned) k
 
@@ -75,11 +73,11 @@ Adds unit key old new = (u : ℕ) (k : Vec ℕ) → (if is_place unit key u k th
 abbrev pub Drops : ℕ → Bytes → Owned → Owned → Type 0
 Drops unit key old new = (u : ℕ) (k : Vec ℕ) → is_place unit key u k ≡ false → owns old u k ≡ true → owns new u k ≡ true
 
--- the count of a holding after one take more of it
+-- the count of a holding after it is acquired once more
 abbrev pub count_after : Bool → Holding → ℕ
 count_after user h = if user then h.count + 1 else h.count
 
--- whether a user's value is held as often as it can be
+-- whether a user's value is owned as often as it can be
 abbrev pub is_held_full : Bool → Holding → Bool
 is_held_full user h = user && nat_le most_count h.count
 
@@ -92,15 +90,15 @@ is_units u (Some h) = h.unit == u
 abbrev pub key_cmp : Vec ℕ → Vec ℕ → Ordering
 key_cmp k l = bytes_cmp k.items l.items
 
--- the entries with a new one at its place, and what they say of each key then
+-- the entries with a new one in order, and what they say of each key then
 abbrev pub PutsNew : Vec ℕ → Holding → Entries → Entries → Type 0
 PutsNew key h es fs = (fs ≡ insert_entry key_cmp es key h) × ((k : Vec ℕ) → lookup (finds k.items) fs ≡ (if finds key.items k then Some h else lookup (finds k.items) es))
 
--- the keys that a unit holds stand in its list
+-- the keys that a unit owns are in its list
 abbrev pub AreOwned : Entries → Owned → Type 0
 AreOwned es owned = (u : ℕ) (k : Vec ℕ) → is_units u (lookup (finds k.items) es) ≡ true → owns owned u k ≡ true
 
--- the entries without a key where it is this unit's
+-- the entries without a key, if it is this unit's
 abbrev pub without_own : ℕ → Bytes → Entries → Entries
 without_own u key es = if is_units u (lookup (finds key) es) then remove_entry (finds key) es else es
 
@@ -134,29 +132,28 @@ bytes_and_unit e = (e.0.items, e.1.unit)
 abbrev pub first_shown : Bytes → Option ℕ → Entries → Option (Bytes × ℕ)
 first_shown start asker es = option_map bytes_and_unit (first_entry (is_others_under start asker) es)
 
--- the unit of a holding, where it is another than the asker
+-- the unit of a holding, if it isn't the asker
 abbrev pub others_unit : Option ℕ → Option Holding → Option ℕ
 others_unit asker None = None
 others_unit asker (Some h) = if is_other asker h.unit then Some h.unit else None
 
--- the unit of the first entry, another unit's than the asker's, whose bytes are some or these with
--- more of the rest
+-- the unit of the first entry, not the asker's, whose bytes are some or these with more of the rest
 abbrev pub first_cover : Option ℕ → Entries → Bytes → Bytes → Option ℕ
 first_cover asker es key [] = None
 first_cover asker es key (x ∷ rest) = first_of (others_unit asker (lookup (finds key) es)) (first_cover asker es (key ++ x ∷ []) rest)
 
--- the lesser of two in byte order, without their kinds
+-- the smaller of two in byte order, without their kinds
 abbrev pub lesser_shown : Option (Bytes × ℕ) → Option (Bytes × ℕ) → Option (Bytes × ℕ)
 lesser_shown None y = y
 lesser_shown (Some x) None = Some x
 lesser_shown (Some x) (Some y) = if is_below (drop 1 y.0) (drop 1 x.0) then Some y else Some x
 
--- the unit of the first entry, another unit's than the asker's, that is a prefix of a file shorter
--- than some bytes and with which they begin
+-- the unit of the first prefix of a file, not the asker's, that is shorter than some bytes and with
+-- which they begin
 abbrev pub first_shorter : Option ℕ → Entries → Bytes → Bytes → Option ℕ
 first_shorter asker es f b = first_cover asker es (0 ∷ length f ∷ (f ++ [])) b
 
--- the unit, other than the asker, of the lesser of the first key and the first prefix of a file
+-- the unit, other than the asker, of the smaller of the first key and the first prefix of a file
 -- that begin with a prefix
 abbrev pub least_shown : Bytes → Bytes → Option ℕ → Entries → Option ℕ
 least_shown f p asker es =

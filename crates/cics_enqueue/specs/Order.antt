@@ -1,4 +1,4 @@
--- The order of resources: two are one resource exactly where they tie. What a unit may take.
+-- The order of resources: two are the same exactly if they tie. What a unit may acquire.
 use Rattle.std.specs.Prelude.{◌≡◌, ℕ, ◌==◌, Some, true, if◌then◌else◌, length, take, drop, [], ◌∷◌, ◌++◌, refl}
 use Rattle.std.proofs.Common.{sym, ap, ◌∙◌, subst}
 use Rattle.std.specs.declared.cmp.Ordering.{Ordering}
@@ -63,7 +63,7 @@ pub same_resources : (r s : Resource) → resource_cmp r s ≡ Equal → r ≡ s
 same_resources r s tied =
     sym (resource_of-resource_key r) ∙ ap resource_of (is_same-eq (resource_key r) (resource_key s) (ap is_eq tied)) ∙ resource_of-resource_key s
 
--- two are one resource exactly where they tie
+-- two are the same resource exactly if they tie
 pub is_one-cmp : (r s : Resource) → is_one r s ≡ is_eq (resource_cmp r s)
 is_one-cmp r s = same_test _ _
     (λ e. subst (λ t. is_eq (resource_cmp r t) ≡ true) (is_one-eq r s e) (is_same-self (resource_key r)))
@@ -74,8 +74,8 @@ is_one-cmp r s = same_test _ _
     tied Equal e = refl
     tied Greater e = cc
 
--- ---- What a unit may take
+-- ---- What a unit may acquire
 
--- what a unit may take, and somebody holds, the unit holds
+-- if a unit may acquire a resource that is owned, the unit owns it
 pub free_own : (t : Table) (r : Resource) (u : ℕ) → IsFreeFor t r u → (v : ℕ) → holder_of r t ≡ Some v → v ≡ u
 free_own t r u free v at = free r v (conflicts-self r) at

@@ -10,7 +10,7 @@ use cics_history::Resource;
 use cics_names::{Name4, Name8};
 use std::marker::Model;
 
-// The kinds of resources, each with where its bytes lie.
+// The kinds of resources, each with a borrow of its bytes.
 #[derive(Clone, Copy)]
 pub(crate) enum Kind<'a> {
     FileKey(Name8, &'a [u8]),
@@ -21,8 +21,8 @@ pub(crate) enum Kind<'a> {
     FilePrefix(Name8, &'a [u8]),
 }
 
-/// A resource to look up or to take, whose bytes lie elsewhere: it is small where a `Resource` has
-/// room for 255 bytes. Contracts see the resource.
+/// A resource to look up or to acquire, whose bytes are borrowed. So it is small, while a
+/// `Resource` has room for 255 bytes. Contracts see the resource.
 #[derive(Drop)]
 pub struct ResourceRef<'a> {
     pub(crate) kind: Kind<'a>,
@@ -40,7 +40,8 @@ impl<'a> Model for ResourceRef<'a> {
 }
 
 impl<'a> ResourceRef<'a> {
-    /// The record of a file under this key, of at most 255 bytes, whether it is there or not.
+    /// Returns the record of a file under this key, of at most 255 bytes, whether it is there or
+    /// not.
     pub fn record(file: Name8, key: &'a [u8]) -> ResourceRef<'a>
         requires most { length key.now ≤ 255 }
         ensures { result ≡ FileKey file (bytes_of key.now) }
@@ -50,8 +51,8 @@ impl<'a> ResourceRef<'a> {
         }
     }
 
-    /// The records of a file under every key that begins with these at most 255 bytes, whether they
-    /// are there or not.
+    /// Returns the records of a file under every key that begins with these at most 255 bytes,
+    /// whether they are there or not.
     pub fn prefix(file: Name8, bytes: &'a [u8]) -> ResourceRef<'a>
         requires most { length bytes.now ≤ 255 }
         ensures { result ≡ FilePrefix file (bytes_of bytes.now) }
@@ -61,7 +62,7 @@ impl<'a> ResourceRef<'a> {
         }
     }
 
-    /// A user's value of at most 255 bytes.
+    /// Returns a user's value of at most 255 bytes.
     pub fn value(bytes: &'a [u8]) -> ResourceRef<'a>
         requires most { length bytes.now ≤ 255 }
         ensures { result ≡ User (bytes_of bytes.now) }
@@ -71,7 +72,7 @@ impl<'a> ResourceRef<'a> {
         }
     }
 
-    /// A temporary storage queue.
+    /// Returns a temporary storage queue.
     pub fn ts_queue(queue: Name8) -> ResourceRef<'a>
         ensures { result ≡ TsQueue queue }
     {
@@ -80,7 +81,7 @@ impl<'a> ResourceRef<'a> {
         }
     }
 
-    /// The end of a transient data queue at which records are read.
+    /// Returns the end of a transient data queue at which records are read.
     pub fn reading_end(queue: Name4) -> ResourceRef<'a>
         ensures { result ≡ TdRead queue }
     {
@@ -89,7 +90,7 @@ impl<'a> ResourceRef<'a> {
         }
     }
 
-    /// The end of a transient data queue at which records are written.
+    /// Returns the end of a transient data queue at which records are written.
     pub fn writing_end(queue: Name4) -> ResourceRef<'a>
         ensures { result ≡ TdWrite queue }
     {
@@ -98,7 +99,7 @@ impl<'a> ResourceRef<'a> {
         }
     }
 
-    /// A resource, its bytes borrowed.
+    /// Returns a resource with its bytes borrowed.
     pub fn of(resource: &'a Resource) -> ResourceRef<'a>
         ensures { result ≡ resource.now }
     {

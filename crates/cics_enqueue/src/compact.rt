@@ -1,4 +1,4 @@
-//! Resources as the bytes that a table keeps, and what it keeps under them.
+//! Resources as bytes, the keys of a table, and look-ups of their holdings.
 
 ghost use Rattle.std.specs.Prelude.{◌≡◌, ◌≤◌, ◌+◌, ◌∷◌, ◌++◌, OnOk, [], length};
 ghost use Rattle.std.specs.Option.{option_copied};
@@ -13,7 +13,7 @@ use arrayvec::ArrayVec;
 use cics_names::{Name4, Name8, NoMemory};
 use std::collections::BTreeMap;
 
-// What the bytes of a prefix of keys begin with, the least kind, and those of a key of a file.
+// What the bytes of a prefix of keys begin with, the smallest kind, and those of a key of a file.
 pub(crate) const PREFIX: u8 = 0;
 
 pub(crate) const KEY: u8 = 1;
@@ -30,8 +30,7 @@ const VALUE: u8 = 5;
 
 // Puts bytes at the end of a key that has room for them.
 //
-// A key is filled where it stands: handed from one function to the next, all its places would be
-// moved each time.
+// A key is filled in place: to return it would move all its bytes each time.
 fn put(key: &mut ArrayVec<u8, MOST>, bytes: &[u8])
     requires room { length key.old.items + length bytes.now ≤ 265 }
     ensures { key.new.items ≡ key.old.items ++ bytes.now }
@@ -53,7 +52,7 @@ fn put_file(key: &mut ArrayVec<u8, MOST>, kind: u8, file: &Name8, bytes: &[u8])
     put(key, bytes);
 }
 
-// A key of a file, or a prefix of keys, as bytes.
+// Returns a key of a file, or a prefix of keys, as bytes.
 pub(crate) fn file_bytes(kind: u8, file: Name8, bytes: &[u8]) -> ArrayVec<u8, MOST>
     requires most { length bytes.now ≤ 255 }
     ensures value { result.items ≡ kind ∷ length file ∷ (file ++ bytes.now) }
@@ -64,7 +63,7 @@ pub(crate) fn file_bytes(kind: u8, file: Name8, bytes: &[u8]) -> ArrayVec<u8, MO
     key
 }
 
-// A temporary storage queue as bytes.
+// Returns a temporary storage queue as bytes.
 fn ts_bytes(queue: &Name8) -> [u8; 9]
     ensures { result ≡ 2 ∷ queue.now }
 {
@@ -73,7 +72,7 @@ fn ts_bytes(queue: &Name8) -> [u8; 9]
     bytes
 }
 
-// An end of a transient data queue, of this kind, as bytes.
+// Returns an end of a transient data queue, of this kind, as bytes.
 fn td_bytes(kind: u8, queue: &Name4) -> [u8; 5]
     ensures { result ≡ kind ∷ queue.now }
 {
@@ -100,7 +99,8 @@ fn put_resource(key: &mut ArrayVec<u8, MOST>, resource: &ResourceRef<'_>)
     }
 }
 
-// A resource as bytes, by which a table is ordered: for where there is no room for a key of it.
+// Returns a resource as bytes, by which a table is ordered. It is used if there is no room for a
+// key.
 pub(crate) fn compact(resource: &ResourceRef<'_>) -> ArrayVec<u8, MOST>
     ensures { result.items ≡ resource_key resource.now }
 {
@@ -109,7 +109,7 @@ pub(crate) fn compact(resource: &ResourceRef<'_>) -> ArrayVec<u8, MOST>
     key
 }
 
-// What the bytes of a key of a file, or of a prefix of keys, begin with.
+// Returns what the bytes of a key of a file, or of a prefix of keys, begin with.
 fn file_front(kind: u8, file: &Name8) -> [u8; 10]
     ensures { result ≡ kind ∷ length file.now ∷ file.now }
 {
@@ -150,8 +150,8 @@ pub(crate) fn set_resource(key: &mut Key, resource: &ResourceRef<'_>) -> Result<
     }
 }
 
-// What is kept under bytes, found by going through the whole table: for where there is no room for
-// a key of them.
+// Returns the holding of bytes, found by going through the whole table. It is used if there is no
+// room for a key.
 fn find_among<'t>(table: &'t BTreeMap<Key, Holding>, bytes: &[u8]) -> Option<&'t Holding>
     ensures { option_copied result ≡ lookup (finds bytes.now) table.now.entries }
 {
@@ -163,7 +163,7 @@ fn find_among<'t>(table: &'t BTreeMap<Key, Holding>, bytes: &[u8]) -> Option<&'t
     None
 }
 
-// What is kept under a resource, found by going through the whole table.
+// Returns the holding of a resource, found by going through the whole table.
 #[inline(never)]
 fn find_resource<'t>(
     table: &'t BTreeMap<Key, Holding>,
@@ -174,7 +174,7 @@ fn find_resource<'t>(
     find_among(table, compact(resource).as_slice())
 }
 
-// What is kept under these bytes, which a key is filled with.
+// Returns the holding of these bytes, with which a key is filled.
 pub(crate) fn held_under<'t>(
     table: &'t BTreeMap<Key, Holding>,
     key: &mut Key,
@@ -192,7 +192,7 @@ pub(crate) fn held_under<'t>(
     }
 }
 
-// What is kept under a resource.
+// Returns the holding of a resource.
 pub(crate) fn held<'t>(
     table: &'t BTreeMap<Key, Holding>,
     key: &mut Key,

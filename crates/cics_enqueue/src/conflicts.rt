@@ -1,4 +1,4 @@
-//! Look-ups of what conflicts with a resource and is another unit's.
+//! Look-ups of what conflicts with a resource and belongs to another unit.
 
 ghost use Rattle.std.specs.Prelude.{◌≡◌, ◌≤◌, ◌∷◌, ◌++◌, [], length, drop, None, true};
 ghost use Rattle.std.specs.Prelude.{if◌then◌else◌, option_map};
@@ -19,7 +19,7 @@ use cics_history::UnitId;
 use cics_names::Name8;
 use std::collections::BTreeMap;
 
-// Whether a unit is another than the asker.
+// Returns whether a unit isn't the asker.
 pub(crate) fn is_another(asker: &Option<UnitId>, unit: UnitId) -> bool
     ensures { result ≡ is_other asker.now unit }
 {
@@ -29,7 +29,7 @@ pub(crate) fn is_another(asker: &Option<UnitId>, unit: UnitId) -> bool
     }
 }
 
-// The unit of a holding, if it is another than the asker.
+// Returns the unit of a holding, if it isn't the asker.
 pub(crate) fn other_unit(held: Option<&Holding>, asker: &Option<UnitId>) -> Option<UnitId>
     ensures { result ≡ others_unit asker.now (option_copied held.entry) }
 {
@@ -45,7 +45,7 @@ pub(crate) fn other_unit(held: Option<&Holding>, asker: &Option<UnitId>) -> Opti
     }
 }
 
-// The unit that holds what is kept under bytes, if it is another than the asker.
+// Returns the owner of some bytes, if it isn't the asker.
 pub(crate) fn other_holder(
     table: &BTreeMap<Key, Holding>,
     bound: &mut Key,
@@ -67,8 +67,8 @@ fn set_bound(bound: &mut Key, start: &[u8])
     let _ = bound.set(&[], start);
 }
 
-// The bytes and the unit of the first entry that begins with some bytes and is another unit's than
-// the asker's.
+// Returns the bytes and the unit of the first entry that begins with some bytes and isn't the
+// asker's.
 pub(crate) fn first_under<'t>(
     table: &'t BTreeMap<Key, Holding>,
     bound: &mut Key,
@@ -97,7 +97,7 @@ pub(crate) fn first_under<'t>(
     None
 }
 
-// Whether a prefix of keys can be held: the bytes of one come before those of all else.
+// Returns whether a prefix of keys may be owned: the bytes of one come before those of all else.
 pub(crate) fn has_prefixes(table: &BTreeMap<Key, Holding>) -> bool
     ensures { OnFalse result ((b : Bytes) → lookup (finds (0 ∷ b)) table.now.entries ≡ None) }
 {
@@ -110,8 +110,8 @@ pub(crate) fn has_prefixes(table: &BTreeMap<Key, Holding>) -> bool
     }
 }
 
-// The unit, another than the asker, that holds the shortest prefix of keys with which bytes begin,
-// but these themselves.
+// Returns the owner, if it isn't the asker, of the shortest prefix of keys with which bytes begin,
+// other than these themselves.
 pub(crate) fn shorter_holder(
     table: &BTreeMap<Key, Holding>,
     bound: &mut Key,
@@ -143,7 +143,8 @@ fn after_kind(bytes: &[u8]) -> &[u8]
     }
 }
 
-// The holder of a key, or that of a prefix of keys where its bytes come first, without their kinds.
+// Returns the owner of a key, or that of a prefix of keys if its bytes come first, without their
+// kinds.
 fn lesser_holder(key: &[u8], holder: UnitId, prefix: &[u8], other: UnitId) -> UnitId
     ensures { result ≡ (if is_below (drop 1 prefix.now) (drop 1 key.now) then other else holder) }
 {
@@ -154,7 +155,7 @@ fn lesser_holder(key: &[u8], holder: UnitId, prefix: &[u8], other: UnitId) -> Un
     }
 }
 
-// The unit, another than the asker, that holds the least key or prefix of keys that begins with a
+// Returns the owner, other than the asker, of the smallest key or prefix of keys that begins with a
 // prefix.
 pub(crate) fn least_holder(
     table: &BTreeMap<Key, Holding>,
@@ -180,8 +181,8 @@ pub(crate) fn least_holder(
     Some(lesser_holder(key.0, key.1, prefix.0, prefix.1))
 }
 
-// The unit, another than the asker, that holds the first of what conflicts with a key: a shorter
-// prefix, the key, or the prefix that has its bytes.
+// Returns the owner, other than the asker, of the first resource that conflicts with a key. That is
+// a shorter prefix, the key, or the prefix with its bytes.
 pub(crate) fn key_holder(
     table: &BTreeMap<Key, Holding>,
     bound: &mut Key,

@@ -31,12 +31,12 @@ use std::cell::Cell;
 use std::collections::BTreeMap;
 use std::marker::Model;
 
-/// Why a resource wasn't taken.
+/// Why a resource wasn't acquired.
 #[derive(Clone, Copy, Debug, PartialEq, Eq)]
 pub enum TakeFault {
     /// Memory was refused.
     NoMemory,
-    /// The value is held 65,535 times already.
+    /// The unit owns the value 65,535 times already.
     Full,
 }
 
@@ -62,24 +62,23 @@ impl From<AllocError> for TakeFault {
     }
 }
 
-// The unit that holds a resource, and how many times.
+// The owner of a resource, and how many times it owns it.
 #[derive(Clone, Copy)]
 pub(crate) struct Holding {
     pub(crate) unit: UnitId,
     pub(crate) count: u16,
 }
 
-/// Which unit holds which resource.
+/// The table of enqueues: which unit owns which resource. Unchanged on error.
 ///
-/// Contracts see it as the list of what is held, in the order of the resources, each with its unit
-/// and how many times.
+/// Contracts see it as the list of owned resources, in their order, each with its owner and count.
 #[derive(Drop)]
 pub struct Enqueues {
     table: BTreeMap<Key, Holding>,
     owned: Owned,
-    // The key that takes and look-ups fill with the bytes that they look for. A take makes room in
-    // it for any, so that no look-up needs memory. One that has no room is dropped where that is
-    // refused, and an empty one stands here.
+    // The key that acquires and look-ups fill with the bytes that they look for. An acquire makes
+    // room in it for any bytes, so no look-up needs memory. A key without room is dropped if that
+    // is refused, and an empty one takes its place.
     bound: Cell<Key>,
     alloc: Global,
 }
@@ -96,7 +95,7 @@ impl Model for Enqueues {
     ghost invariant = { λ t. IsKept t.table.entries t.owned.entries };
 }
 
-// Counts one take more of what is held, where it is a user's value.
+// Raises the count of a holding, if it is of a user's value.
 fn raise(holding: &mut Holding, user: bool) -> Result<(), TakeFault>
     ensures unit { holding.new.unit ≡ holding.old.unit }
     ensures count { OnOk result (holding.new.count ≡ count_after user holding.old) }
@@ -114,7 +113,7 @@ fn raise(holding: &mut Holding, user: bool) -> Result<(), TakeFault>
     Ok(())
 }
 
-// What is kept under a key, which is this holding where nothing was.
+// Returns the holding of a key, which is this one if there was none.
 fn or_put(
     table: &mut BTreeMap<Key, Holding>,
     key: Key,
@@ -133,7 +132,7 @@ fn or_put(
     Ok(*table.entry(key)?.or_insert(holding))
 }
 
-// Puts a holding under a key where nothing is kept there, and answers what is, in one look-up.
+// Puts a holding under a key that has none, and returns the one that it has else, in one look-up.
 fn put_first(
     table: &mut BTreeMap<Key, Holding>,
     key: Key,
@@ -154,8 +153,8 @@ fn put_first(
     }
 }
 
-// Frees what is kept under a key, if it is this unit's, whatever its count: one that the unit gave
-// back may be another's by now.
+// Removes a key, whatever its count, if it is this unit's. A key that the unit released may be
+// another's by now.
 fn free_key(table: &mut BTreeMap<Key, Holding>, key: &Key, unit: UnitId)
     ensures entries { table.new.entries ≡ without_own unit key.now.items table.old.entries }
     ensures each { Frees unit key.now.items table.old.entries table.new.entries }
@@ -169,8 +168,7 @@ fn free_key(table: &mut BTreeMap<Key, Holding>, key: &Key, unit: UnitId)
     }
 }
 
-// Takes one take away from what is kept under a key, if it is this unit's, and tells whether
-// nothing is left of it.
+// Releases a key once, if it is this unit's. Returns whether it is free then.
 fn lessen(table: &mut BTreeMap<Key, Holding>, key: &Key, unit: UnitId) -> bool
     requires key { resource_key (resource_of key.now.items) ≡ key.now.items }
     ensures kept { (own : List (ℕ × Vec (Vec ℕ))) →
@@ -198,7 +196,7 @@ fn lessen(table: &mut BTreeMap<Key, Holding>, key: &Key, unit: UnitId) -> bool
 }
 
 impl Enqueues {
-    /// An empty table: no unit holds anything. What it grows by comes from `alloc`.
+    /// Returns an empty table. `alloc` gives the memory for all that units acquire.
     pub fn new(alloc: Global) -> Enqueues
         ensures { result ≡ [] }
     {
@@ -210,14 +208,14 @@ impl Enqueues {
         }
     }
 
-    /// The unit that holds a resource, or None where it is free.
+    /// Returns the owner of a resource, or None if it is free.
     pub fn holder(&self, resource: &Resource) -> Option<UnitId>
         ensures { result ≡ holder_of resource.now self.now }
     {
         self.holder_of(&ResourceRef::of(resource))
     }
 
-    /// The unit that holds a resource whose bytes are borrowed, or None where it is free.
+    /// Returns the owner of a resource whose bytes are borrowed, or None if it is free.
     pub fn holder_of(&self, resource: &ResourceRef<'_>) -> Option<UnitId>
         ensures { result ≡ holder_of resource.now self.now }
     {
@@ -230,8 +228,8 @@ impl Enqueues {
         unit
     }
 
-    /// How many times a resource is held: 0 where it is free, and more than 1 only for a user's
-    /// value.
+    /// Returns how many times a resource is owned: 0 if it is free, and more than 1 only for a
+    /// user's value.
     pub fn count(&self, resource: &Resource) -> u16
         ensures { result ≡ count_of resource.now self.now }
     {
@@ -244,14 +242,15 @@ impl Enqueues {
         count
     }
 
-    /// The unit, another than `but_not`, that holds the least of what conflicts with a resource, or
-    /// None where no other unit holds any of it: then `but_not` may take the resource.
+    /// Returns the blocker at a resource: the owner, other than `but_not`, of the smallest
+    /// conflicting resource. None if there is none: then `but_not` may acquire the resource.
     ///
-    /// A key of a file conflicts with itself and with each held prefix of it, and a prefix with all
-    /// that begins with it, too. The least is that in byte order, a held prefix by its own bytes.
-    /// Where no other unit that is open has taken anything it costs no look-up. While any prefix is
-    /// held it costs one for each byte of the key or prefix, and for a prefix what
-    /// `held_with_prefix` costs.
+    /// A key of a file conflicts with itself and with each prefix of it. A prefix conflicts also
+    /// with all that begins with it. Conflicting resources are compared in byte order, prefixes by
+    /// their own bytes.
+    ///
+    /// Cost: no look-up if no other open unit has acquired anything. Else one look-up for each byte
+    /// of the key or prefix while any prefix is owned, and for a prefix that of `held_with_prefix`.
     pub fn holder_over(&self, resource: &ResourceRef<'_>, but_not: Option<UnitId>) -> Option<UnitId>
         ensures value { result ≡ holder_over resource.now but_not self.now }
         ensures free { IfNone result (IsFreeBut self.now resource.now but_not) }
@@ -267,7 +266,7 @@ impl Enqueues {
         }
     }
 
-    // The unit, another than the asker, that holds a resource.
+    // Returns the owner of a resource, if it isn't the asker.
     fn other_of(&self, resource: &ResourceRef<'_>, asker: &Option<UnitId>) -> Option<UnitId>
         ensures { result ≡ other_than asker.now (holder_of resource.now self.now) }
     {
@@ -277,13 +276,15 @@ impl Enqueues {
         unit
     }
 
-    /// The unit, another than `but_not`, that holds the least key of a file or prefix of keys that
-    /// conflicts with a prefix of at most 255 bytes, or None where no other unit holds one. It
-    /// begins with the prefix, or the prefix with it.
+    /// Returns the blocker at a prefix of at most 255 bytes: the owner, other than `but_not`, of
+    /// the smallest conflicting key or prefix of keys. None if there is none. What conflicts begins
+    /// with the prefix, or the prefix with it.
     ///
-    /// The least is that in byte order, a held prefix by its own bytes. It costs the logarithm of
-    /// what is held, for each byte of the prefix where any prefix is held, and what `but_not`
-    /// itself holds under the prefix. It takes no memory.
+    /// Conflicting resources are compared in byte order, prefixes by their own bytes. It takes no
+    /// memory.
+    ///
+    /// Cost: O(log resources), for each byte of the prefix if any prefix is owned, and O(what
+    /// `but_not` itself owns under the prefix).
     pub fn held_with_prefix(
         &self,
         file: Name8,
@@ -310,8 +311,8 @@ impl Enqueues {
         least
     }
 
-    // The unit, another than the asker, that holds the least of what conflicts with a key: a
-    // shorter prefix, the key, or the prefix that has its bytes.
+    // Returns the owner, other than the asker, of the smallest resource that conflicts with a key.
+    // That is a shorter prefix, the key, or the prefix with its bytes.
     fn holder_of_key(&self, file: Name8, key: &[u8], asker: &Option<UnitId>) -> Option<UnitId>
         requires most { length key.now ≤ 255 }
         ensures { result ≡ holder_over (FileKey file (bytes_of key.now)) asker.now self.now }
@@ -322,10 +323,10 @@ impl Enqueues {
         holder
     }
 
-    /// Takes a resource for a unit that may take it: no other unit holds anything that conflicts
-    /// with it. A user's value is taken once more where the unit holds it already; any other
-    /// resource stays at count 1. Full where the unit holds the value 65,535 times, and NoMemory
-    /// where memory is refused: then nothing has changed.
+    /// Acquires a resource for a unit. No other unit may own anything that conflicts with it. If
+    /// the unit owns it already, the count of a user's value rises, and any other stays 1.
+    ///
+    /// Errors: `Full` if the unit owns the value 65,535 times, and `NoMemory`.
     pub fn take(&mut self, resource: Resource, unit: UnitId) -> Result<(), TakeFault>
         requires free { IsFreeFor self.old resource unit }
         ensures taken { OnOk result (self.new ≡ taken self.old resource unit) }
@@ -343,7 +344,7 @@ impl Enqueues {
         answer
     }
 
-    // Why a resource can't be taken where there is no memory to look for it by its key.
+    // Returns why a resource can't be acquired, if there is no memory to look for it by its key.
     fn refusal(&self, resource: &Resource) -> TakeFault
         ensures { (result ≡ TakeFault.Full) ↔ IsTrue (is_full resource.now self.now) }
     {
@@ -354,7 +355,7 @@ impl Enqueues {
         }
     }
 
-    // Takes a resource, by its key, as `take` does.
+    // Acquires a resource, by its key, as `take` does.
     fn take_key(&mut self, key: &Key, unit: UnitId, user: bool) -> Result<(), TakeFault>
         requires key { resource_key (resource_of key.now.items) ≡ key.now.items }
         requires user { user ≡ is_user (resource_of key.now.items) }
@@ -365,7 +366,7 @@ impl Enqueues {
             ↔ IsTrue (is_full (resource_of key.now.items) self.old)) }
         ensures err { OnErr result (self.new ≡ self.old) }
     {
-        // What the unit holds is taken once more without memory.
+        // What the unit owns is acquired once more without memory.
         if self.table.contains_key(key) {
             return self.take_again(key, user);
         }
@@ -373,12 +374,11 @@ impl Enqueues {
         Ok(())
     }
 
-    /// Takes a user's value of at most 255 bytes for a unit where it is free or the unit's own, and
-    /// else answers the other unit that holds it: all that `holder_over` and `take` do, in one
-    /// look-up where it isn't the unit's own.
+    /// Acquires a user's value of at most 255 bytes for a unit, if no other unit owns it. Else
+    /// returns its owner. This is all that `holder_over` and `take` do, in one look-up unless the
+    /// unit owns the value.
     ///
-    /// Full where the unit holds the value 65,535 times, and NoMemory where memory is refused. What
-    /// isn't taken leaves all as it was.
+    /// Errors: `Full` if the unit owns the value 65,535 times, and `NoMemory`.
     pub fn enq(&mut self, value: &[u8], unit: UnitId) -> Result<Option<UnitId>, TakeFault>
         requires most { length value.now ≤ 255 }
         ensures holder { IfOk result (λ holder. holder
@@ -401,8 +401,7 @@ impl Enqueues {
         answer
     }
 
-    // Takes a user's value, by its key, where it is free or the unit's own, and else answers who
-    // holds it.
+    // Acquires a user's value, by its key, if no other unit owns it. Else returns its owner.
     fn enq_key(&mut self, key: &Key, unit: UnitId) -> Result<Option<UnitId>, TakeFault>
         requires key { resource_key (resource_of key.now.items) ≡ key.now.items }
         requires user { is_user (resource_of key.now.items) ≡ true }
@@ -429,9 +428,9 @@ impl Enqueues {
         Ok(None)
     }
 
-    /// Takes a resource, any but a user's value, for a unit that may take it, unless the unit holds
-    /// it already, and tells whether it was free: where it was, `let_go` undoes the take. NoMemory
-    /// where memory is refused: then nothing has changed.
+    /// Acquires a resource, any but a user's value, for a unit that may, unless the unit owns it
+    /// already. Returns whether it was free: if so, `let_go` undoes this. The only error is
+    /// `NoMemory`.
     pub fn hold(&mut self, resource: &ResourceRef<'_>, unit: UnitId) -> Result<bool, NoMemory>
         requires plain { is_user resource.now ≡ false }
         requires free { IsFreeFor self.old resource.now unit }
@@ -450,7 +449,7 @@ impl Enqueues {
         answer
     }
 
-    // Takes a resource, by its key, as `hold` does.
+    // Acquires a resource, by its key, as `hold` does.
     fn hold_key(&mut self, key: &Key, unit: UnitId) -> Result<bool, NoMemory>
         requires key { resource_key (resource_of key.now.items) ≡ key.now.items }
         requires plain { is_user (resource_of key.now.items) ≡ false }
@@ -471,8 +470,8 @@ impl Enqueues {
         Ok(was_held.is_none())
     }
 
-    // Takes a resource, by its key, for a unit where nobody holds it, and else answers how it is
-    // held: in one look-up.
+    // Acquires a resource, by its key, for a unit if it is free. Else returns its holding, in one
+    // look-up.
     #[tactic(auto, using(crate::proofs::Tables::in_order))]
     fn take_free(&mut self, key: &Key, unit: UnitId) -> Result<Option<Holding>, NoMemory>
         requires key { resource_key (resource_of key.now.items) ≡ key.now.items }
@@ -497,8 +496,7 @@ impl Enqueues {
         Ok(None)
     }
 
-    // Takes a resource once more, by its key, for the unit that holds it. NoMemory where nobody
-    // does.
+    // Acquires a resource once more, by its key, for its owner. `NoMemory` if nobody owns it.
     fn take_again(&mut self, key: &Key, user: bool) -> Result<(), TakeFault>
         requires key { resource_key (resource_of key.now.items) ≡ key.now.items }
         requires user { user ≡ is_user (resource_of key.now.items) }
@@ -516,20 +514,19 @@ impl Enqueues {
         raise(holding, user)
     }
 
-    /// Gives back one take of a resource, if the unit holds it: with the last one the resource is
-    /// free. Takes no memory.
+    /// Releases a resource once, if the unit owns it. If its count was 1, the resource is free.
+    /// Takes no memory.
     pub fn give_back(&mut self, resource: &Resource, unit: UnitId)
         ensures { self.new ≡ given_back self.old resource.now unit }
     {
         self.let_go(&ResourceRef::of(resource), unit);
     }
 
-    /// Gives back one take of a resource whose bytes are borrowed, as `give_back` does. Takes no
-    /// memory.
+    /// Releases once a resource whose bytes are borrowed, as `give_back` does. Takes no memory.
     pub fn let_go(&mut self, resource: &ResourceRef<'_>, unit: UnitId)
         ensures { self.new ≡ given_back self.old resource.now unit }
     {
-        // Where nothing is held no key is made, which might ask for memory.
+        // If nothing is owned, no key is made, which might request memory.
         if self.table.is_empty() {
             return;
         }
@@ -541,7 +538,7 @@ impl Enqueues {
         self.bound.set(key);
     }
 
-    // Gives back one take of a resource, where there is no room for a key of it.
+    // Releases a resource once, if there is no room for a key of it.
     #[inline(never)]
     fn let_go_keyless(&mut self, resource: &ResourceRef<'_>, unit: UnitId)
         ensures { self.new ≡ given_back self.old resource.now unit }
@@ -549,8 +546,8 @@ impl Enqueues {
         self.let_go_listed(compact(resource).as_slice(), unit);
     }
 
-    // Gives back one take of a resource, by its bytes, where there is no room for a key: by that in
-    // the unit's list.
+    // Releases a resource once, by its bytes, if there is no room for a key: by the one in the
+    // unit's list.
     fn let_go_listed(&mut self, bytes: &[u8], unit: UnitId)
         requires key { resource_key (resource_of bytes.now) ≡ bytes.now }
         ensures { self.new ≡ given_back self.old (resource_of bytes.now) unit }
@@ -560,7 +557,7 @@ impl Enqueues {
         }
     }
 
-    // Gives back one take of a resource, by its key.
+    // Releases a resource once, by its key.
     fn let_go_key(&mut self, key: &Key, unit: UnitId)
         requires key { resource_key (resource_of key.now.items) ≡ key.now.items }
         ensures { self.new ≡ given_back self.old (resource_of key.now.items) unit }
@@ -570,12 +567,13 @@ impl Enqueues {
         }
     }
 
-    /// Frees all that a unit holds, at a cost that goes by what it took since it began, and may
-    /// have given back. Takes no memory.
+    /// Releases all that a unit owns. Takes no memory.
+    ///
+    /// Cost: O(resources that it ever acquired).
     pub fn release_all(&mut self, unit: UnitId)
         ensures { self.new ≡ released self.old unit }
     {
-        // Where nobody else holds anything, all goes at once, with no look-up for each key.
+        // If nobody else owns anything, all goes at once, with no look-up for each key.
         if owned::is_alone(&self.owned, &Some(unit)) {
             self.table.clear();
             self.owned.swap_remove(&unit);

@@ -1,4 +1,4 @@
-//! The keys of the table, with their first bytes as numbers beside them.
+//! The keys of the table, each with its head: its first bytes as numbers.
 
 ghost use Rattle.std.specs.Prelude.{◌≡◌, ◌≤◌, ◌+◌, ◌++◌, OnOk, OnErr, IfOk, [], length};
 ghost use Rattle.std.specs.Ordering.{nat_cmp};
@@ -13,13 +13,13 @@ use std::marker::Model;
 // Two bytes, a name of eight and a key of 255.
 pub(crate) const MOST: usize = 265;
 
-// How many bytes a number holds.
+// How many bytes a number has.
 const WORD: usize = 8;
 
-// How many bytes the three numbers hold.
+// How many bytes a key head has.
 const HEAD: usize = 24;
 
-// The first 24 bytes of a key as three numbers, zeros where there are fewer.
+// A key head: the first 24 bytes of a key as three numbers, with zeros for bytes that aren't there.
 #[derive(Clone, Copy)]
 pub(crate) struct Numbers {
     pub(crate) first: u64,
@@ -27,7 +27,7 @@ pub(crate) struct Numbers {
     pub(crate) third: u64,
 }
 
-// The first eight bytes as a number.
+// Returns the first eight bytes as a number.
 fn word_of(bytes: &[u8]) -> u64
     requires { 8 ≤ length bytes.now }
     ensures value { result ≡ filled 8 0 bytes.now }
@@ -38,7 +38,7 @@ fn word_of(bytes: &[u8]) -> u64
     ])
 }
 
-// The numbers of a key.
+// Returns the head of a key.
 fn numbers_of(bytes: &[u8]) -> Numbers
     ensures { AreNumbers bytes.now result }
 {
@@ -54,8 +54,8 @@ fn numbers_of(bytes: &[u8]) -> Numbers
     }
 }
 
-// The bytes of a resource, and their numbers: nearly all keys are told apart by these alone, which
-// lie in the node of the tree, where the bytes lie elsewhere in memory.
+// The bytes of a resource, and their head. Heads tell nearly all keys apart. They are in the node
+// of the tree, while the bytes are elsewhere in memory.
 #[derive(Drop)]
 pub(crate) struct Key {
     numbers: Numbers,
@@ -74,7 +74,7 @@ impl Model for Key {
     ghost invariant = { λ k. AreNumbers k.bytes.items k.numbers };
 }
 
-// Empties bytes and fills them with two parts, or leaves them empty where there is no room.
+// Empties bytes and fills them with two parts, or leaves them empty if there is no room.
 fn refill(bytes: &mut Vec<u8>, front: &[u8], rest: &[u8]) -> Result<(), NoMemory>
     requires most { length front.now + length rest.now ≤ 265 }
     ensures filled { OnOk result (bytes.new.items ≡ front.now ++ rest.now) }
@@ -88,7 +88,7 @@ fn refill(bytes: &mut Vec<u8>, front: &[u8], rest: &[u8]) -> Result<(), NoMemory
 }
 
 impl Key {
-    // The key of no bytes.
+    // Returns the key of no bytes.
     pub(crate) fn new(alloc: Global) -> Key
         ensures { result.items ≡ [] }
     {
@@ -102,14 +102,14 @@ impl Key {
         }
     }
 
-    // Its bytes.
+    // Returns its bytes.
     pub(crate) fn as_slice(&self) -> &[u8]
         ensures { result.now ≡ self.now.items }
     {
         self.bytes.as_slice()
     }
 
-    // A key of the same bytes.
+    // Returns a key of the same bytes.
     pub(crate) fn copy(&self, alloc: Global) -> Result<Key, NoMemory>
         ensures { IfOk result (λ copy. copy.items ≡ self.now.items) }
     {
@@ -119,8 +119,8 @@ impl Key {
         })
     }
 
-    // Makes it the key of these few bytes, and of none where there is no room for any key. It
-    // doesn't read the key's bytes back, as `set` does.
+    // Makes it the key of these few bytes, or of none if there is no room for any key. It doesn't
+    // read the key's bytes back, as `set` does.
     pub(crate) fn set_short<const N: usize>(&mut self, bytes: &[u8; N]) -> Result<(), NoMemory>
         requires most { length bytes.now ≤ 265 }
         ensures set { OnOk result (self.new.items ≡ bytes.now) }
@@ -135,8 +135,8 @@ impl Key {
         Ok(())
     }
 
-    // Makes it the key of these bytes and what comes after them, and of none where there is no room
-    // for them.
+    // Makes it the key of these bytes and what comes after them, or of none if there is no room for
+    // them.
     pub(crate) fn set(&mut self, front: &[u8], rest: &[u8]) -> Result<(), NoMemory>
         requires most { length front.now + length rest.now ≤ 265 }
         ensures set { OnOk result (self.new.items ≡ front.now ++ rest.now) }
@@ -148,8 +148,8 @@ impl Key {
     }
 }
 
-// The order of the bytes of two keys whose numbers are equal: that of their lengths, where neither
-// has more bytes than the numbers.
+// Returns the order of the bytes of two keys with equal heads. That is the order of their lengths,
+// if neither has more bytes than a head.
 fn order_behind(left: &[u8], right: &[u8]) -> Ordering
     requires level { length left.now ≤ 24 → length right.now ≤ 24
         → nat_cmp (length left.now) (length right.now) ≡ bytes_cmp left.now right.now }

@@ -1,7 +1,7 @@
-//! Enqueues: which unit of work holds which resource, and how many times.
+//! Enqueues: which unit of work owns which resource, and how many times.
 //!
-//! A resource has one holder at most, and so have those that conflict: a key of a file and a prefix
-//! of it. What a unit holds can be freed without a look at what the others hold.
+//! A resource has at most one owner. Conflicting resources, such as a key of a file and a prefix of
+//! it, have the same. A unit releases what it owns without a look at what others own.
 #![tactic(auto)]
 
 mod borrowed;

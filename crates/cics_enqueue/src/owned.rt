@@ -1,4 +1,4 @@
-//! For each unit, the keys that it took.
+//! For each unit, the keys that it acquired.
 
 ghost use Rattle.std.specs.Prelude.{◌≡◌, ◌<◌, ℕ, true, false, IfSome, IfNone};
 ghost use Rattle.std.specs.Prelude.{OnOk, OnErr};
@@ -16,12 +16,13 @@ use cics_names::NoMemory;
 use indexmap::IndexMap;
 use std::alloc::Global;
 
-// For each unit its keys in the order in which it took them. One that is given back before later
-// ones stands here until the unit ends: to look for it would cost more than to pass it over then.
+// For each unit its keys in the order in which it acquired them. A key that is released before
+// later ones stays here until the unit ends. To look for it would cost more than to pass it over
+// then.
 pub(crate) type Owned = IndexMap<UnitId, Vec<Key>>;
 
-// True only where no unit but the asker has any keys; false says nothing, as a unit that gave all
-// its keys back stands here until it ends. It costs the same whatever the units have.
+// Returns true only if no unit but the asker has any keys. May be conservatively false: a unit that
+// released all its keys may be here until it ends. Cost: O(1).
 pub(crate) fn is_alone(owned: &Owned, asker: &Option<UnitId>) -> bool
     ensures { OnTrue result ((u : ℕ) (k : Vec ℕ) →
         is_other asker.now u ≡ true → owns owned.now.entries u k ≡ false) }
@@ -51,7 +52,7 @@ pub(crate) fn add(owned: &mut Owned, alloc: Global, unit: UnitId, key: &Key) -> 
     Ok(())
 }
 
-// Takes a key away where it is the last one.
+// Removes a key if it is the last one.
 fn drop_last(keys: &mut Vec<Key>, key: &Key)
     ensures { (k : Vec ℕ) → is_same key.now.items k.items ≡ false →
         list_any (finds k.items) keys.old.items ≡ true →
@@ -66,8 +67,7 @@ fn drop_last(keys: &mut Vec<Key>, key: &Key)
     }
 }
 
-// Takes a key from those of a unit where it is the one that the unit took last, and else leaves it
-// there.
+// Removes a key of a unit if it is the one that the unit acquired last, and else leaves it there.
 pub(crate) fn remove(owned: &mut Owned, unit: UnitId, key: &Key)
     ensures { Drops unit key.now.items owned.old.entries owned.new.entries }
 {
@@ -76,7 +76,7 @@ pub(crate) fn remove(owned: &mut Owned, unit: UnitId, key: &Key)
     }
 }
 
-// The key of these bytes among those of a unit.
+// Returns the key of these bytes among those of a unit.
 pub(crate) fn find<'o>(owned: &'o Owned, unit: UnitId, bytes: &[u8]) -> Option<&'o Key>
     ensures found { IfSome result (λ key. key.now.items ≡ bytes.now) }
     ensures none { IfNone result ((k : Vec ℕ) → k.items ≡ bytes.now
@@ -90,7 +90,7 @@ pub(crate) fn find<'o>(owned: &'o Owned, unit: UnitId, bytes: &[u8]) -> Option<&
     None
 }
 
-// Takes one of a unit's keys, if it has any.
+// Removes and returns one of a unit's keys, if it has any.
 pub(crate) fn pop(owned: &mut Owned, unit: UnitId) -> Option<Key>
     ensures fewer { IfSome result (λ key. own_count owned.new.entries unit
         < own_count owned.old.entries unit) }

@@ -1,5 +1,5 @@
--- Recovery: a store read by cells, the smallest parts that a command can change, and what a command
--- does to one of them.
+-- Recovery: a store as cells, the smallest parts that a command can change, and what a command does
+-- to one of them.
 use Rattle.std.specs.Prelude.{◌≡◌, Bool, true, false, if◌then◌else◌, ◌&&◌, Option, Some, None, List, [], ◌∷◌, ◌++◌}
 use Rattle.cics_names.specs.Keyed.{Bytes, Map, value_at, is_same, is_rising}
 use Rattle.cics_names.specs.declared.conditions.Condition.TheVariants.{Normal, Dsiderr, Notfnd, Duprec, Qzero, Qiderr}
@@ -19,8 +19,8 @@ pub data Cell : Type 0 where
   Ts : (queue : Bytes) → Cell
   Td : (queue : Bytes) → Cell
 
--- what a cell holds: nothing where its file or queue isn't defined; else the record of a key or
--- none, or the records of a queue
+-- what a cell holds: `None` if its file or queue isn't defined; else a list, of a key's record or
+-- of none, or of a queue's records
 abbrev pub Content : Type 0
 Content = Option (List Bytes)
 
@@ -40,12 +40,12 @@ content s (Key f k) = record_in k (value_at f s.files)
 content s (Ts q) = Some (ts_queue s q)
 content s (Td q) = value_at q s.td
 
--- DELETE GENERIC acts on every key that begins with a prefix, any other command on one cell
+-- DELETE GENERIC acts on every key that begins with a prefix, another command on one cell
 abbrev pub is_generic : Op → Bool
 is_generic (DeleteGeneric f p) = true
 is_generic _ = false
 
--- the cell that a command names; for DELETE GENERIC the key that is the prefix itself
+-- the cell that a command names; for DELETE GENERIC the prefix itself as a key
 abbrev pub cell_of : Op → Cell
 cell_of (Write f k r) = Key f k
 cell_of (Rewrite f k r) = Key f k
@@ -59,7 +59,7 @@ cell_of (TdWrite q d) = Td q
 cell_of (TdRead q) = Td q
 cell_of (TdDelete q) = Td q
 
--- two are one cell where they are of one kind and have the same names and keys
+-- two are the same cell if they are of one kind and have the same names and keys
 abbrev pub same_cell : Cell → Cell → Bool
 same_cell (Key f k) (Key g l) = is_same f g && is_same k l
 same_cell (Ts q) (Ts r) = is_same q r
@@ -71,27 +71,27 @@ abbrev pub is_under : Bytes → Bytes → Cell → Bool
 is_under f p (Key g l) = is_same f g && has_prefix p l
 is_under f p _ = false
 
--- a command acts on the cell that it names, DELETE GENERIC on every key of the file that begins
--- with the prefix
+-- a command acts on the cell that it names. DELETE GENERIC acts on every key of the file that
+-- begins with the prefix
 abbrev pub touches : Op → Cell → Bool
 touches (DeleteGeneric f p) x = is_under f p x
 touches op x = same_cell (cell_of op) x
 
--- what a command answers, and what a cell that it acts on holds from then on
+-- a command's answer, and what a cell that it acts on holds from then on
 pub record Effect : Type 0 where
   pub answer : Answer
   pub cell : Content
 
--- a command answers this, and the cell holds that
+-- this answer, and this content of the cell
 abbrev pub gives : Answer → Content → Effect
 gives a c = record { answer = a; cell = c }
 
--- a command that isn't answered NORMAL leaves the cell
+-- a command that isn't answered NORMAL leaves the cell as it was
 abbrev pub effected : Answer → List Bytes → List Bytes → Effect
 effected a c changed = gives a (Some (if is_normal a.condition then changed else c))
 
--- what each command answers and leaves, by what its cell holds; DELETE GENERIC, by what one of its
--- cells holds
+-- the answer of each command and what it leaves, by what its cell holds; for DELETE GENERIC, by
+-- what one of its cells holds
 abbrev pub effect : Op → Content → Effect
 effect (Write f k r) None = gives (only Dsiderr) None
 effect (Write f k r) (Some []) = gives (only Normal) (Some (r ∷ []))
@@ -123,18 +123,18 @@ effect (TdRead q) (Some (x ∷ xs)) = gives (with_content Normal (Some x)) (Some
 effect (TdDelete q) None = gives (only Qiderr) None
 effect (TdDelete q) (Some c) = gives (only Normal) (Some [])
 
--- the two ends of a cell: a transient data queue is read at the one and written at the other; a key
--- and a temporary storage queue are used whole, which is both ends
+-- the two ends of a cell: a transient data queue is read at one and written at the other. A key and
+-- a temporary storage queue are used whole, which is both ends
 pub data End : Type 0 where
   Reading Writing : End
 
--- a write of a transient data queue leaves the reading end alone, a read the writing end
+-- a write of a transient data queue doesn't use the reading end, a read doesn't use the writing end
 abbrev pub uses : Op → End → Bool
 uses (TdWrite q d) Reading = false
 uses (TdRead q) Writing = false
 uses _ _ = true
 
--- a cell is recoverable where its file or queue is
+-- a cell is recoverable if its file or queue is
 abbrev pub recovers : OpeningState → Cell → Bool
 recovers o (Key f k) = file_recoverable o f
 recovers o (Ts q) = has_prefix_in o.prefixes q
@@ -144,8 +144,7 @@ recovers o (Td q) = queue_logical o q
 abbrev pub IsOrdered : Store → Type 0
 IsOrdered s = (f : Bytes) → is_in_order (value_at f s.files) ≡ true
 
--- a store is in order where the names and the keys rise and no temporary storage queue is without
--- an item
+-- a store is in order if names and keys rise, and no temporary storage queue is without an item
 pub record IsCanonical (s : Store) : Type 0 where
   pub files : is_rising s.files ≡ true
   pub records : IsOrdered s

@@ -1,4 +1,4 @@
--- Recovery, transient data: what the queues in place and the images of their marks keep true,
+-- Recovery, transient data: the invariant of the queues in place and of the images of their marks,
 -- however the open units end.
 use Rattle.std.specs.Prelude.{◌≡◌, ℕ, ◌+◌, ◌≤◌, ◌==◌, ◌&&◌, Bool, true, false, if◌then◌else◌, Option, Some, List, [], ◌∷◌, ◌++◌, length, MatchBool}
 use Rattle.std.specs.List.{list_any}
@@ -14,7 +14,7 @@ use Rattle.cics_history.specs.Isolation.{Outcomes, store_by, used, Extends}
 use Rattle.cics_history.specs.Marks.{MarkedQueue, seen, Queues, queues_opened, queues_executed, queues_committed}
 use Rattle.cics_history.specs.MarkImages.{MarkImage, OfReading, OfWriting, marks_queue, marks_undone, mark_images}
 
--- the open units that used this end of the cell are backed out in this ending, or are kept in it
+-- the open units that used this end of the cell are backed out in this ending, or aren't
 abbrev pub AreBackedOut : List Entry → Outcomes → Cell → End → Outcomes → Bool → Type 0
 AreBackedOut es out x end fin gone = (u : ℕ) → is_open (out u) ≡ true → used es u x end ≡ true →
     is_backed_out (fin u) ≡ gone
@@ -44,21 +44,21 @@ pub record IsQueue (o : OpeningState) (es : List Entry) (out : Outcomes) (q : By
   -- without a unit at the reading end none is marked as read
   pub unread : IsUnheld es out (Td q) Reading → m.taken ≡ 0
 
--- the reading end's images lead from one number of marks to another
+-- the reading end's images lead from the first number of marks to the second
 abbrev pub LeadsTaken : List MarkImage → Bytes → ℕ → ℕ → Type 0
 LeadsTaken [] q t to = t ≡ to
 LeadsTaken (OfReading n before made ∷ is) q t to =
     MatchBool (is_same n q) ((t ≡ made) × LeadsTaken is q before to) (LeadsTaken is q t to)
 LeadsTaken (OfWriting n before made ∷ is) q t to = LeadsTaken is q t to
 
--- the writing end's images lead from one list of written records to another
+-- the writing end's images lead from the first list of written records to the second
 abbrev pub LeadsFresh : List MarkImage → Bytes → List Bytes → List Bytes → Type 0
 LeadsFresh [] q f to = f ≡ to
 LeadsFresh (OfWriting n before made ∷ is) q f to =
     MatchBool (is_same n q) ((f ≡ made) × LeadsFresh is q before to) (LeadsFresh is q f to)
 LeadsFresh (OfReading n before made ∷ is) q f to = LeadsFresh is q f to
 
--- where a write is undone its record is not marked as read: s records are settled, and t are marked
+-- when a write is undone its record isn't marked as read: s records are settled, and t are marked
 -- as read
 abbrev pub Fits : List MarkImage → Bytes → ℕ → ℕ → Type 0
 Fits [] q s t = Unit {0}
@@ -76,19 +76,18 @@ abbrev pub is_of_writing : Bytes → MarkImage → Bool
 is_of_writing q (OfWriting n before made) = is_same n q
 is_of_writing q (OfReading n before made) = false
 
--- one unit's images of one queue, where the unit holds the reading end or not, and the writing end
+-- one unit's images of one queue, whether the unit owns the reading end or not, and the writing end
 -- or not
 pub record HasEnds (reads writes : Bool) (is : List MarkImage) (q : Bytes) (m : MarkedQueue) : Type 0 where
-  -- what is undone of an end that the unit holds leaves it without a mark; an end that it doesn't
-  -- hold stays
+  -- undone, they leave an end that the unit owns without a mark, and another end as it is
   pub taken : LeadsTaken is q m.taken (if reads then 0 else m.taken)
   pub fresh : LeadsFresh is q m.fresh (if writes then [] else m.fresh)
   pub fits : Fits is q (length m.settled) m.taken
-  -- a unit has no image of an end that it doesn't hold
+  -- a unit has no image of an end that it doesn't own
   pub none_of_reading : reads ≡ false → list_any (is_of_reading q) is ≡ false
   pub none_of_writing : writes ≡ false → list_any (is_of_writing q) is ≡ false
 
--- the queues in place, and each open unit's images of its marks, the newest first
+-- the queues in place, and each open unit's images of its marks, newest first
 pub record Marks : Type 0 where
   pub queues : Queues
   pub images : ℕ → List MarkImage
@@ -116,22 +115,22 @@ mark o p unit op = record {
   images = λ u. if (u == unit) && is_recoverable o op then mark_images op p.queues ++ p.images u else p.images u;
 }
 
--- so does a command of a unit, or of the next one
+-- the same for a command of a unit, or of the next one
 abbrev pub marks_executed : UnitsState → Marks → Option ℕ → Op → Marks
 marks_executed s p u op = mark s.opening p (unit_or_next u s.outcomes) op
 
--- the images after a unit's end: it has none
+-- the images after a unit's end: the unit has none
 abbrev pub mark_images_without : (ℕ → List MarkImage) → ℕ → ℕ → List MarkImage
 mark_images_without images unit u = if u == unit then [] else images u
 
--- a commit settles the ends that the unit holds, and its images go
+-- a commit settles the ends that the unit owns, and drops its images
 abbrev pub marks_committed : UnitsState → Marks → ℕ → Marks
 marks_committed s p u = record {
   queues = queues_committed s p.queues u;
   images = mark_images_without p.images u;
 }
 
--- a backout undoes the unit's images, the newest first, and they go
+-- a backout undoes the unit's images, newest first, and drops them
 abbrev pub marks_backed_out : Marks → ℕ → Marks
 marks_backed_out p u = record {
   queues = marks_undone p.queues (p.images u);

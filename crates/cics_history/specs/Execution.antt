@@ -1,5 +1,5 @@
--- Recovery and task control: what each call on the units of a region answers, and what it leaves:
--- executing a command, ENQ and DEQ, UNLOCK, the end of a unit, READQ TS.
+-- Recovery and task control: what each call on the units of a region returns, and what it leaves.
+-- The calls are executing a command, ENQ and DEQ, UNLOCK, the end of a unit, READQ TS.
 use Rattle.std.specs.Prelude.{ℕ, ◌+◌, ◌-◌, ◌==◌, ◌<◌, Bool, true, false, not, ◌&&◌, ◌||◌, if◌then◌else◌, IsTrue, Option, Some, None, is_some, unwrap_or, filter, slice_set, nat_lt, nat_le, slice_get, List, [], ◌∷◌, ◌++◌, length}
 use Rattle.cics_names.specs.Keyed.{Bytes, Map, value_at, has_key, with_value, without, is_same, is_below}
 use Rattle.cics_names.specs.declared.conditions.Condition.{Condition}
@@ -24,7 +24,7 @@ use Rattle.cics_history.specs.declared.ops.UnitState.TheVariants.{Open, Committe
 
 -- ---- Units
 
--- the unit that is handed in, or else the next one, which begins
+-- the given unit, or else the next one, which begins
 abbrev pub unit_or_next : Option ℕ → List UnitState → ℕ
 unit_or_next None outcomes = length outcomes
 unit_or_next (Some u) outcomes = u
@@ -36,7 +36,7 @@ outcomes_with (Some u) outcomes = outcomes
 
 -- ---- Update reads: at most one for each unit and file
 
--- an update read is a unit's read of a file
+-- an update read is of this unit and this file
 abbrev pub is_read_of : ℕ → Bytes → UpdateRead → Bool
 is_read_of u f r = (r.unit == u) && is_same r.file f
 
@@ -45,12 +45,13 @@ abbrev pub read_at : List UpdateRead → ℕ → Bytes → Option Bytes
 read_at [] u f = None
 read_at (r ∷ rs) u f = if is_read_of u f r then Some r.key else read_at rs u f
 
--- the key that a unit has read for update in a file; a task without a unit has none
+-- the same for a task, which has no key if it has no unit
 abbrev pub has_read : UnitsState → Option ℕ → Bytes → Option Bytes
 has_read s None f = None
 has_read s (Some u) f = read_at s.reads u f
 
--- update reads are kept by their units, and those of a unit by the names of their files
+-- update reads are in the order of their units, and those of a unit in the order of their files'
+-- names
 abbrev pub is_read_before : UpdateRead → UpdateRead → Bool
 is_read_before r x = nat_lt r.unit x.unit || ((r.unit == x.unit) && is_below r.file x.file)
 
@@ -59,8 +60,8 @@ abbrev pub with_read : UpdateRead → List UpdateRead → List UpdateRead
 with_read r [] = r ∷ []
 with_read r (x ∷ xs) = if is_read_before r x then r ∷ x ∷ xs else x ∷ with_read r xs
 
--- REWRITE, DELETE of the key that was read, and DELETE GENERIC of a prefix that it begins with
--- cover the unit's update read
+-- a command covers the unit's update read if it is REWRITE or DELETE of the key that was read. So
+-- does DELETE GENERIC of a prefix with which that key begins
 abbrev pub covers : ℕ → Op → UpdateRead → Bool
 covers u (Rewrite f k r) x = is_read_of u f x && is_same x.key k
 covers u (Delete f k) x = is_read_of u f x && is_same x.key k
@@ -85,13 +86,14 @@ reads_after u op c reads = if is_normal c then opened u op (filter (λ r. not (c
 
 -- ---- Executing a command
 
--- the write that makes a temporary storage queue, and its delete, set the NEXT place to 0
+-- the write that makes a temporary storage queue sets the queue's NEXT cursor to 0, and so does its
+-- delete
 abbrev pub next_after : Store → Op → Condition → Map ℕ → Map ℕ
 next_after s (TsWrite q d) c next = if has_key q s.ts then next else without q next
 next_after s (TsDelete q) c next = if is_normal c then without q next else next
 next_after s _ c next = next
 
--- an executed command is entered in the history with its unit and its answer
+-- an executed command enters the history with its unit and its answer
 abbrev pub entered : UnitsState → Option ℕ → Op → Answer → UnitsState
 entered s u op answer =
     let unit = unit_or_next u s.outcomes in
@@ -105,33 +107,32 @@ entered s u op answer =
       next = next_after (store_of s) op answer.condition s.next;
     }
 
--- a command waits for the unit that it awaits; where it awaits none it has the answer that the
--- store gives
+-- a command with a blocker must wait for it; otherwise its answer is the one that the store gives
 abbrev pub done_of : UnitsState → Option ℕ → Op → Option ℕ → Done
 done_of s u op (Some holder) = MustWait holder
 done_of s u op None = Answered (unit_or_next u s.outcomes) (apply (store_of s) op).answer
 
--- a command that waits changes nothing; one that is executed is entered
+-- a command that must wait changes nothing; one that is executed enters the history
 abbrev pub state_of : UnitsState → Option ℕ → Op → Option ℕ → UnitsState
 state_of s u op (Some holder) = s
 state_of s u op None = entered s u op (apply (store_of s) op).answer
 
--- what holds of the unit that is to be waited for, where a command has to wait
+-- a property of the blocker, if the command must wait
 abbrev pub IfMustWait : Done → (ℕ → Type 0) → Type 0
 IfMustWait (Answered unit a) P = Unit {0}
 IfMustWait (MustWait holder) P = P holder
 
--- what comes of a command of a unit, or of a task without one
+-- the result of a command of a unit, or of a task without one
 abbrev pub execution : UnitsState → Option ℕ → Op → Done
 execution s u op = done_of s u op (awaited s u op)
 
--- the units after a command
+-- the state after a command
 abbrev pub after_execution : UnitsState → Option ℕ → Op → UnitsState
 after_execution s u op = state_of s u op (awaited s u op)
 
 -- ---- ENQ and DEQ
 
--- a count is a unit's of a value
+-- a count is of this unit and this value
 abbrev pub is_count : ℕ → Bytes → EnqCount → Bool
 is_count u v c = (c.unit == u) && is_same c.value v
 
@@ -140,7 +141,7 @@ abbrev pub count_at : List EnqCount → ℕ → Bytes → ℕ
 count_at [] u v = 0
 count_at (c ∷ cs) u v = if is_count u v c then c.count else count_at cs u v
 
--- a unit enqueues on a value once more; the counts are kept in the rising order of their values
+-- a unit enqueues on a value once more; the counts are in rising order of their values
 abbrev pub counted : List EnqCount → ℕ → Bytes → List EnqCount
 counted [] u v = record { value = v; unit = u; count = 1 } ∷ []
 counted (c ∷ cs) u v =
@@ -148,55 +149,56 @@ counted (c ∷ cs) u v =
     else if is_below v c.value then record { value = v; unit = u; count = 1 } ∷ c ∷ cs
     else c ∷ counted cs u v
 
--- a unit dequeues from a value once, with the last time altogether; what it doesn't hold stays as
--- it is
+-- a unit dequeues from a value once. If its count is 1, the count goes; if it has none, nothing
+-- changes
 abbrev pub uncounted : List EnqCount → ℕ → Bytes → List EnqCount
 uncounted [] u v = []
 uncounted (c ∷ cs) u v =
     if is_count u v c then (if nat_lt 1 c.count then record { value = c.value; unit = u; count = c.count - 1 } ∷ cs else cs)
     else c ∷ uncounted cs u v
 
--- the units with these outcomes and counts, else as they were
+-- the state with these outcomes and counts, else as it was
 abbrev pub with_counts : UnitsState → List UnitState → List EnqCount → UnitsState
 with_counts s outcomes counts = record { opening = s.opening; trace = s.trace; outcomes = outcomes; commits = s.commits; reads = s.reads; counts = counts; next = s.next }
 
--- ENQ waits for another unit that holds the value; a unit that holds it the most times gets it no
--- more
+-- ENQ must wait for another unit that owns the value. A unit whose count of the value is at its
+-- greatest doesn't acquire it again
 abbrev pub enq_of : UnitsState → Option ℕ → Bytes → Option ℕ → Enqueued
 enq_of s u v (Some holder) = EnqMustWait holder
 enq_of s u v None = if nat_le most_count (count_at s.counts (unit_or_next u s.outcomes) v) then CountFull else Taken (unit_or_next u s.outcomes)
 
--- what holds of the unit that is to be waited for, where ENQ has to wait
+-- a property of the blocker, if ENQ must wait
 abbrev pub IfEnqMustWait : Enqueued → (ℕ → Type 0) → Type 0
 IfEnqMustWait (Taken unit) P = Unit {0}
 IfEnqMustWait (EnqMustWait holder) P = P holder
 IfEnqMustWait CountFull P = Unit {0}
 
--- what comes of an ENQ
+-- the result of an ENQ
 abbrev pub enqueue : UnitsState → Option ℕ → Bytes → Enqueued
 enqueue s u v = enq_of s u v (value_holder s u v)
 
--- an ENQ that takes its value adds one to its count, and nothing else changes
+-- an ENQ that acquires its value adds one to its count, and nothing else changes
 abbrev pub after_enqueued : UnitsState → Option ℕ → Bytes → Enqueued → UnitsState
 after_enqueued s u v (Taken unit) = with_counts s (outcomes_with u s.outcomes) (counted s.counts unit v)
 after_enqueued s u v (EnqMustWait holder) = s
 after_enqueued s u v CountFull = s
 
--- the units after an ENQ
+-- the state after an ENQ
 abbrev pub after_enqueue : UnitsState → Option ℕ → Bytes → UnitsState
 after_enqueue s u v = after_enqueued s u v (enqueue s u v)
 
--- the units after a DEQ
+-- the state after a DEQ
 abbrev pub after_dequeue : UnitsState → ℕ → Bytes → UnitsState
 after_dequeue s u v = with_counts s s.outcomes (uncounted s.counts u v)
 
 -- ---- UNLOCK
 
--- the units with these update reads, else as they were
+-- the state with these update reads, else as it was
 abbrev pub with_reads : UnitsState → List UpdateRead → UnitsState
 with_reads s reads = record { opening = s.opening; trace = s.trace; outcomes = s.outcomes; commits = s.commits; reads = reads; counts = s.counts; next = s.next }
 
--- UNLOCK ends the unit's update read of the file, if it has one; what its entries hold stays held
+-- UNLOCK ends the unit's update read of the file, if it has one; the unit still owns what its
+-- entries used
 abbrev pub after_unlock : UnitsState → ℕ → Bytes → UnitsState
 after_unlock s u f = with_reads s (filter (λ r. not (is_read_of u f r)) s.reads)
 
@@ -208,7 +210,7 @@ commits_with Committed u commits = commits ++ u ∷ []
 commits_with BackedOut u commits = commits
 commits_with Open u commits = commits
 
--- a unit that ends has this outcome, and no update read and no count any more
+-- a unit that ends has this outcome, and no longer any update read or count
 abbrev pub ended_as : UnitsState → ℕ → UnitState → UnitsState
 ended_as s u outcome =
     record {
@@ -221,7 +223,7 @@ ended_as s u outcome =
       next = s.next;
     }
 
--- the NEXT place of a queue that isn't there is 0
+-- the NEXT cursor of a queue that isn't there is 0
 abbrev pub places_there : UnitsState → UnitsState
 places_there s =
     record {
@@ -234,13 +236,13 @@ places_there s =
       next = filter (λ e. has_key e.0 (store_of s).ts) s.next;
     }
 
--- the units after a unit's commit or backout: the NEXT places of queues that are there stay
+-- the state after a unit's commit or backout: the NEXT cursors of queues that are there stay
 abbrev pub after_end : UnitsState → ℕ → UnitState → UnitsState
 after_end s u outcome = places_there (ended_as s u outcome)
 
 -- ---- READQ TS
 
--- the NEXT place of a queue, at first 0
+-- the NEXT cursor of a queue, at first 0
 abbrev pub place_at : UnitsState → Bytes → ℕ
 place_at s q = unwrap_or (value_at q s.next) 0
 
@@ -250,8 +252,8 @@ abbrev pub item_asked : UnitsState → Bytes → Option ℕ → ℕ
 item_asked s q None = place_at s q + 1
 item_asked s q (Some n) = n
 
--- READQ TS gives the item, an open unit's changes included; an absent queue is QIDERR, an absent
--- item ITEMERR
+-- READQ TS is answered the item, an open unit's changes included. For an absent queue it is
+-- answered QIDERR, for an absent item ITEMERR
 abbrev pub ts_reading : UnitsState → Bytes → ℕ → Answer
 ts_reading s q n =
     let items = ts_queue (store_of s) q in
@@ -261,14 +263,14 @@ ts_reading s q n =
       number = number_if (has_item items n) n;
     }
 
--- a READQ TS that gives an item sets the NEXT place to its number
+-- a READQ TS that is answered an item sets the NEXT cursor to its number
 abbrev pub after_ts_reading : UnitsState → Bytes → ℕ → UnitsState
 after_ts_reading s q n =
     if has_item (ts_queue (store_of s) q) n
     then record { opening = s.opening; trace = s.trace; outcomes = s.outcomes; commits = s.commits; reads = s.reads; counts = s.counts; next = with_value q n s.next }
     else s
 
--- ---- What a caller sees to before a command is executed
+-- ---- What a caller ensures before a command is executed
 
 -- a unit that has begun and not ended
 abbrev pub IsOpenUnit : UnitsState → ℕ → Type 0
@@ -292,9 +294,9 @@ is_item d = is_record_size (length d)
 abbrev pub is_short_key : Bytes → Bool
 is_short_key k = nat_le (length k) 255
 
--- a command is ready to be executed where its file or queue is defined, its record fits, its key or
--- prefix has no more bytes than a key may have, REWRITE has the key of the open update read, and
--- READ UPDATE finds none open. The key of a record that fits has the length which its file defines
+-- a command is ready to be executed if its file or queue is defined, its record fits, and its key
+-- or prefix isn't too long. REWRITE must have the key of the open update read, and READ UPDATE must
+-- find none open. The key of a record that fits has the length that its file defines
 abbrev pub is_ready_op : UnitsState → Option ℕ → Op → Bool
 is_ready_op s u (Write f k r) = is_fit_for (value_at f s.opening.files) k r
 is_ready_op s u (Rewrite f k r) = is_fit_for (value_at f s.opening.files) k r && same_key (has_read s u f) k where

@@ -1,5 +1,5 @@
--- Task control and recovery: at most one unit holds a resource, and the least of what is held is
--- found.
+-- Task control and recovery: a resource has at most one owner, and the smallest conflicting
+-- resource is found.
 use Rattle.std.specs.Prelude.{◌≡◌, ℕ, ◌<◌, ◌==◌, Bool, true, false, Option, List, length}
 use Rattle.std.specs.List.{list_any}
 use Rattle.cics_names.specs.Keyed.{Bytes, is_below}
@@ -14,16 +14,16 @@ abbrev pub end_of : Bytes → End → Resource
 end_of q Reading = end_read_of q
 end_of q Writing = end_written_of q
 
--- a resource among the first conflicts with one among the second
+-- a resource of the first list conflicts with one of the second
 abbrev pub meet : List Resource → List Resource → Bool
 meet rs ts = list_any (λ r. list_any (conflicts r) ts) rs
 
--- two units that hold resources which conflict are one unit
+-- two units that own conflicting resources are the same unit
 abbrev pub IsHeldByOne : UnitsState → Type 0
 IsHeldByOne s = (u n : ℕ) → meet (held_by s u) (held_by s n) ≡ true → u ≡ n
 
--- an entry is of another unit than the one that asks, which holds it, and it conflicts with the
--- resource; and nothing of which that is so comes before it in byte order
+-- an entry's owner isn't the unit that asks, and its resource conflicts with this one. No other
+-- such resource comes before it in byte order
 pub record IsLeastHeld (s : UnitsState) (asking : Option ℕ) (r : Resource) (e : Resource × ℕ) : Type 0 where
   pub meets : conflicts r e.0 ≡ true
   pub other : is_other asking e.1 ≡ true

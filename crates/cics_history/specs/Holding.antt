@@ -1,7 +1,8 @@
--- Recovery and task control (chapters on recovery and on task control): which unit owns what, read
--- off the history, what conflicts, and which unit blocks a command. No table is kept of it: a unit
--- owns what its commands have used until it ends, the values of its ENQ until their DEQ, and a
--- record of an unrecoverable file while its update read is open.
+-- Recovery and task control (chapters on recovery and on task control): which unit owns what, what
+-- conflicts, and which unit blocks a command. All is read off the history; there is no table of it.
+-- Until it ends, a unit owns what its commands answered NORMAL used of recoverable files and
+-- queues. It owns the value of an ENQ until its DEQ, and a record of an unrecoverable file while
+-- its update read is open.
 use Rattle.std.specs.Prelude.{ℕ, ◌+◌, ◌==◌, Bool, true, false, not, ◌&&◌, ◌||◌, if◌then◌else◌, Option, Some, None, unwrap_or, option_map, filter, map, flat_map, List, [], ◌∷◌, ◌++◌}
 use Rattle.cics_names.specs.Keyed.{Bytes, value_at, is_same, is_below}
 use Rattle.cics_ksds.specs.Prefixes.{has_prefix}
@@ -16,11 +17,11 @@ use Rattle.cics_history.specs.declared.ops.Op.TheVariants.{Write, Rewrite, Delet
 use Rattle.cics_history.specs.declared.ops.Entry.{Entry}
 use Rattle.cics_history.specs.declared.ops.UnitState.{UnitState}
 
--- the store is what replaying the kept history from the opening gives
+-- the store is the replay of the surviving entries, from the opening
 abbrev pub store_of : UnitsState → Store
 store_of s = replay (initial_store s.opening) (kept s.opening s.trace s.outcomes)
 
--- ---- Resources: what a unit can hold, of six kinds
+-- ---- Resources: what a unit can own, of six kinds
 
 -- the record of a file under a key, whether it is there or not
 abbrev pub record_at : Bytes → Bytes → Resource
@@ -42,17 +43,17 @@ end_read_of q = ReadingEnd q
 abbrev pub end_written_of : Bytes → Resource
 end_written_of q = WritingEnd q
 
--- a value of a program's own
+-- a value of a program
 abbrev pub own_value : Bytes → Resource
 own_value v = User (bytes_of v)
 
--- a resource where it is recoverable, else none
+-- the resource if it is recoverable, else none
 abbrev pub named_if : Bool → Resource → List Resource
 named_if b r = if b then r ∷ [] else []
 
 -- what a command uses: its record, there or not, or all under its prefix; the name of a recoverable
--- temporary storage queue; of a LOGICAL queue the reading end for a read, the writing end for a
--- write, both for a delete
+-- temporary storage queue. Of a LOGICAL queue a read uses the reading end, a write the writing end,
+-- a delete both
 abbrev pub uses_of : OpeningState → Op → List Resource
 uses_of o (Write f k r) = record_at f k ∷ []
 uses_of o (Rewrite f k r) = record_at f k ∷ []
@@ -66,34 +67,34 @@ uses_of o (TdWrite q d) = named_if (queue_logical o q) (end_written_of q)
 uses_of o (TdRead q) = named_if (queue_logical o q) (end_read_of q)
 uses_of o (TdDelete q) = named_if (queue_logical o q) (end_read_of q) ++ named_if (queue_logical o q) (end_written_of q)
 
--- a command answered NORMAL makes its unit hold what it used of a recoverable file or queue
+-- a command answered NORMAL makes its unit own what it used of a recoverable file or queue
 abbrev pub held_by_entry : OpeningState → ℕ → Entry → List Resource
 held_by_entry o u e = if (e.unit == u) && (is_normal e.answer.condition && is_recoverable o e.op) then uses_of o e.op else []
 
--- in an unrecoverable file an update read holds its record as long as it is open
+-- in an unrecoverable file the unit owns the record of its update read while the read is open
 abbrev pub held_by_read : OpeningState → ℕ → UpdateRead → List Resource
 held_by_read o u r = if (r.unit == u) && not (file_recoverable o r.file) then record_at r.file r.key ∷ [] else []
 
--- a value that is counted is held: no count is 0
+-- a unit owns each value that it has a count of: no count is 0
 abbrev pub held_by_count : ℕ → EnqCount → List Resource
 held_by_count u c = if c.unit == u then own_value c.value ∷ [] else []
 
--- all that a unit holds, as long as it is open
+-- all that a unit owns, while it is open
 abbrev pub held_by : UnitsState → ℕ → List Resource
 held_by s u =
     if is_open (outcome_of s.outcomes u)
     then flat_map (held_by_entry s.opening u) s.trace ++ flat_map (held_by_read s.opening u) s.reads ++ flat_map (held_by_count u) s.counts
     else []
 
--- the numbers of the units, from a first one on
+-- the numbers of the units, beginning with this one
 abbrev pub units_from : ℕ → List UnitState → List ℕ
 units_from n [] = []
 units_from n (x ∷ xs) = n ∷ units_from (n + 1) xs
 
 -- ---- Conflicts
 
--- two resources conflict where they are one, and a prefix of keys with all of its file that begins
--- with it or that it begins with
+-- two resources conflict if they are the same. A prefix of keys also conflicts with the keys of its
+-- file that begin with it. Two prefixes of a file conflict if one begins with the other
 abbrev pub conflicts : Resource → Resource → Bool
 conflicts (FileKey f k) (FileKey g l) = is_same f g && is_same k.items l.items
 conflicts (FileKey f k) (FilePrefix g p) = is_same f g && has_prefix p.items k.items
@@ -105,7 +106,7 @@ conflicts (WritingEnd q) (WritingEnd r) = is_same q r
 conflicts (User v) (User w) = is_same v.items w.items
 conflicts _ _ = false
 
--- the bytes in whose order resources that conflict stand: the key, the prefix, the name, the value
+-- the bytes by which conflicting resources are ordered: the key, the prefix, the name, the value
 abbrev pub bytes_in : Resource → Bytes
 bytes_in (FileKey f k) = k.items
 bytes_in (FilePrefix f p) = p.items
@@ -124,19 +125,19 @@ Owned = List (Resource × ℕ)
 abbrev pub owned : UnitsState → Owned
 owned s = flat_map (λ u. map (λ r. (r, u)) (held_by s u)) (units_from 0 s.outcomes)
 
--- a unit is another than the one that asks, which may have begun none yet
+-- a unit isn't the one that asks, which may not have begun yet
 abbrev pub is_other : Option ℕ → ℕ → Bool
 is_other None v = true
 is_other (Some u) v = not (v == u)
 
--- of two the smaller in byte order, the first where their bytes are the same
+-- the smaller of two in byte order, or the first if their bytes are the same
 abbrev pub smaller : Option (Resource × ℕ) → Option (Resource × ℕ) → Option (Resource × ℕ)
 smaller None y = y
 smaller (Some x) None = Some x
 smaller (Some x) (Some y) = if is_below (bytes_in y.0) (bytes_in x.0) then Some y else Some x
 
--- the smallest, in byte order, of what conflicts with a resource and has another owner than the one
--- that asks
+-- the smallest, in byte order, of the resources that conflict with this one and have another owner
+-- than the unit that asks
 abbrev pub smallest_conflict : Owned → Option ℕ → Resource → Option (Resource × ℕ)
 smallest_conflict [] u r = None
 smallest_conflict (e ∷ es) u r =
@@ -160,8 +161,8 @@ blocker_among t u (r ∷ rs) = first_some (blocker_at t u r) (blocker_among t u 
 abbrev pub is_own : Option ℕ → ℕ → Bool
 is_own u v = not (is_other u v)
 
--- the records of a queue that a unit may read: those that the ended units and itself have left, and
--- no other unit's
+-- the records of a queue that a unit may read: those that ended units and itself have left, without
+-- what other open units did
 abbrev pub committed_for : UnitsState → Option ℕ → Bytes → List Bytes
 committed_for s u q =
     let seen = filter (λ e. is_own u e.unit || not (is_open (outcome_of s.outcomes e.unit))) (kept s.opening s.trace s.outcomes) in
@@ -172,8 +173,8 @@ abbrev pub is_nothing : List Bytes → Bool
 is_nothing [] = true
 is_nothing (x ∷ xs) = false
 
--- READQ TD that finds no record which it may read waits for another unit at the writing end of the
--- LOGICAL queue
+-- READQ TD of a LOGICAL queue that finds no record which it may read waits for another unit at the
+-- writing end
 abbrev pub writer_awaited : UnitsState → Option ℕ → Op → Option ℕ
 writer_awaited s u (TdRead q) = if queue_logical s.opening q && is_nothing (committed_for s u q) then blocker_at (owned s) u (WritingEnd q) else None
 writer_awaited s u (TdWrite q d) = None
@@ -187,8 +188,8 @@ writer_awaited s u (TsWrite q d) = None
 writer_awaited s u (TsRewrite q n d) = None
 writer_awaited s u (TsDelete q) = None
 
--- the blocker of a command, if it must wait: that of what it uses, else the writer of what it would
--- read
+-- the blocker of a command, if it must wait: the blocker at what it uses, else the writer of what
+-- it would read
 abbrev pub awaited : UnitsState → Option ℕ → Op → Option ℕ
 awaited s u op = first_some (blocker_among (owned s) u (uses_of s.opening op)) (writer_awaited s u op)
 

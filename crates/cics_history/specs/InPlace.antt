@@ -1,5 +1,5 @@
--- Recovery: all that the units change in place, through executions, commits, backouts and all other
--- calls in any order.
+-- Recovery: all that units change in place, through executions, commits, backouts and all other
+-- calls, in any order.
 use Rattle.std.specs.Prelude.{ℕ, ◌&&◌, not, if◌then◌else◌, Option, Some, is_some, List, [], ◌∷◌}
 use Rattle.cics_history.specs.State.{OpeningState, queue_logical, UnitsState}
 use Rattle.cics_history.specs.Holding.{store_of, awaited}
@@ -15,7 +15,7 @@ pub record Parts : Type 0 where
   pub place : Place
   pub marks : Marks
 
--- what a cell in place holds; of a LOGICAL queue the records that aren't marked as read
+-- what a cell in place holds; in a LOGICAL queue, the records that aren't marked as read
 abbrev pub content_in_place : OpeningState → Parts → Cell → Content
 content_in_place o p (Key f k) = p.place.cells (Key f k)
 content_in_place o p (Ts q) = p.place.cells (Ts q)
@@ -26,16 +26,16 @@ content_in_place o p (Td q) =
 abbrev pub parts_opened : OpeningState → Parts
 parts_opened o = record { place = placed o; marks = marks_opened o }
 
--- a command changes its cells where they stand, and gives its unit an image of each change
+-- a command changes its cells in place, and adds to its unit an image of each change
 abbrev pub parts_executed : UnitsState → Parts → Option ℕ → Op → Parts
 parts_executed s p u op = record {
   place = place_executed s p.place u op (images_by (store_of s) op p.place.cells);
   marks = marks_executed s p.marks u op;
 }
 
--- an event changes the parts: none reads the history, but for what a unit holds and for the keys
--- under a prefix. A commit drops the images of its unit, a backout undoes them, the newest first;
--- ENQ, DEQ, UNLOCK and READQ TS change no cell, no image and no mark
+-- an event changes the parts. It reads the history only for what a unit owns and for the keys under
+-- a prefix. A commit drops its unit's images, a backout undoes them, newest first. ENQ, DEQ, UNLOCK
+-- and READQ TS change no cell, no image and no mark
 abbrev pub happens_in_place : UnitsState → Parts → Event → Parts
 happens_in_place s p (Execute u op) =
     if may_act s u && not (is_some (awaited s u op)) then parts_executed s p u op else p
@@ -48,7 +48,7 @@ happens_in_place s p (Dequeue u v) = p
 happens_in_place s p (Unlock u f) = p
 happens_in_place s p (ReadItem q n) = p
 
--- and so does each of a list of events
+-- the parts after a list of events
 abbrev pub run_in_place : UnitsState → Parts → List Event → Parts
 run_in_place s p [] = p
 run_in_place s p (e ∷ es) = run_in_place (happens s e) (happens_in_place s p e) es

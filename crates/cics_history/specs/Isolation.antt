@@ -1,6 +1,6 @@
--- Recovery: the open units are kept apart. Everything is said of every way in which the open units
--- may still end, an ending: so a commit or a backout, after which fewer endings are left, has
--- nothing to prove.
+-- Recovery: the open units are isolated. Each statement is about every ending, a way in which the
+-- open units may still end. After a commit or a backout fewer endings are left, so these need no
+-- proof.
 use Rattle.std.specs.Prelude.{◌≡◌, ℕ, ◌<◌, Bool, true, false, ◌&&◌, not, Some, None, List, [], ◌∷◌, ◌++◌, length, filter}
 use Rattle.std.specs.List.{list_any}
 use Rattle.std.proofs.Common.{eqb, ◌⊎◌}
@@ -26,15 +26,16 @@ Begins None (Some d) = ⊥
 Begins (Some c) None = ⊥
 Begins (Some c) (Some d) = IsFront c d
 
--- how each unit stands, or may stand in the end
+-- the outcome of each unit, now or in an ending
 abbrev pub Outcomes : Type 0
 Outcomes = ℕ → UnitState
 
--- an entry stays unless it acts on something recoverable and its unit is backed out
+-- an entry survives these outcomes unless it acts on something recoverable and its unit is backed
+-- out
 abbrev pub stays : OpeningState → Outcomes → Entry → Bool
 stays o out e = not (is_recoverable o e.op && is_backed_out (out e.unit))
 
--- the entries that these outcomes leave
+-- the entries that survive these outcomes
 abbrev pub left_by : OpeningState → Outcomes → List Entry → List Entry
 left_by o out es = filter (stays o out) es
 
@@ -55,51 +56,52 @@ abbrev pub Each : (Entry → Type 0) → List Entry → Type 0
 Each P [] = Unit {0}
 Each P (e ∷ es) = P e × Each P es
 
--- the entry makes its unit hold this end of the cell, while the unit is open
+-- the entry makes its unit own this end of the cell, while the unit is open
 abbrev pub claims : Cell → End → Entry → Bool
 claims x end e = touches e.op x && (is_normal e.answer.condition && uses e.op end)
 
--- the unit did something that makes it hold this end of the cell, until it ends
+-- the unit did something that makes it own this end of the cell, until it ends
 abbrev pub used : List Entry → ℕ → Cell → End → Bool
 used es unit x end = list_any (λ e. claims x end e && eqb e.unit unit) es
 
--- an ending of the open units: who has ended stays as it is
+-- an ending of the open units: a unit that has ended keeps its outcome
 abbrev pub Extends : Outcomes → Outcomes → Type 0
 Extends out fin = (u : ℕ) → is_open (out u) ≡ false → fin u ≡ out u
 
--- the units that used this end of the cell are kept in both, or in neither
+-- the units that used this end of the cell are backed out in both endings, or in neither
 abbrev pub Alike : List Entry → Cell → End → Outcomes → Outcomes → Type 0
 Alike es x end fin more = (u : ℕ) → used es u x end ≡ true → is_backed_out (fin u) ≡ is_backed_out (more u)
 
--- the units that used this end of the cell and are kept in the first are kept in the second
+-- each unit that used this end of the cell and is backed out in the second ending is so in the
+-- first
 abbrev pub AtMost : List Entry → Cell → End → Outcomes → Outcomes → Type 0
 AtMost es x end fin more = (u : ℕ) → used es u x end ≡ true → is_backed_out (more u) ≡ true →
     is_backed_out (fin u) ≡ true
 
--- what the cell holds depends on how the units that used it end, and the writers only add at its
--- end
+-- take two endings that back out the same readers of a recoverable cell. If the second backs out no
+-- writer that the first doesn't, its content begins with that of the first
 abbrev pub FrontsAt : OpeningState → List Entry → Outcomes → Cell → Type 0
 FrontsAt o es out x =
     recovers o x ≡ true → (fin more : Outcomes) → Extends out fin → Extends out more →
     Alike es x Reading fin more → AtMost es x Writing fin more →
     Begins (content (store_by o fin es) x) (content (store_by o more es) x)
 
--- the open units are kept apart
+-- the open units are isolated
 pub record IsIsolated (o : OpeningState) (es : List Entry) (out : Outcomes) : Type 0 where
   -- the keys of each file rise when it is opened
   pub ordered : IsOrdered (initial_store o)
-  -- however the open units end, the answers that remain are right
+  -- however the open units end, the surviving entries have the right answers
   pub answers : (fin : Outcomes) → Extends out fin → Agrees (initial_store o) (left_by o fin es)
-  -- and what an open unit sees of a recoverable cell doesn't depend on how the other open units end
+  -- and what an open unit sees of a recoverable cell doesn't depend on how the others end
   pub fronts : (x : Cell) → FrontsAt o es out x
 
--- at most one open unit holds an end of a recoverable cell
+-- at most one open unit owns an end of a recoverable cell
 abbrev pub IsOneAtEachEnd : OpeningState → List Entry → Outcomes → Type 0
 IsOneAtEachEnd o es out =
     (x : Cell) → recovers o x ≡ true → (end : End) (u n : ℕ) → is_open (out u) ≡ true → is_open (out n) ≡ true →
     used es u x end ≡ true → used es n x end ≡ true → u ≡ n
 
--- no other open unit holds the end: those that used it are this unit and units that ended
+-- no other open unit owns the end: those that used it are this unit and units that ended
 abbrev pub IsFree : List Entry → Outcomes → ℕ → Cell → End → Type 0
 IsFree es out v x end = (u : ℕ) → used es u x end ≡ true → (u ≡ v) ⊎ (is_open (out u) ≡ false)
 
@@ -107,8 +109,8 @@ IsFree es out v x end = (u : ℕ) → used es u x end ≡ true → (u ≡ v) ⊎
 abbrev pub AreKnown : UnitsState → Type 0
 AreKnown s = Each (λ e. e.unit < length s.outcomes) s.trace
 
--- what every call of the units keeps: the open units are kept apart, each unit that the state names
--- has begun, and each resource has one holder
+-- the invariant of every call: open units are isolated, units that the state names have begun, and
+-- a resource has at most one owner
 pub record IsSound (s : UnitsState) : Type 0 where
   pub isolated : IsIsolated s.opening s.trace (outcome_of s.outcomes)
   pub known : AreKnown s

@@ -10,14 +10,14 @@ use Rattle.cics_history.specs.declared.ops.Op.TheVariants.{TdWrite, TdRead, TdDe
 use Rattle.cics_history.specs.Cells.{Td, touches, Reading, Writing}
 use Rattle.cics_history.specs.Isolation.{used}
 
--- a queue in place: the records that no open unit wrote, behind them those that an open unit wrote,
--- and how many at the front an open unit has read
+-- a queue in place: the records that no open unit wrote, and behind them those that one wrote. Also
+-- how many at the front an open unit has read
 pub record MarkedQueue : Type 0 where
   pub settled : List Bytes
   pub fresh : List Bytes
   pub taken : ℕ
 
--- the queue's records if its reader and its writer are backed out, or not
+-- the queue's records, if its reader and its writer are backed out or not
 abbrev pub seen : (reader_gone writer_gone : Bool) → MarkedQueue → List Bytes
 seen reader_gone writer_gone m =
     drop (if reader_gone then 0 else m.taken) (m.settled ++ (if writer_gone then [] else m.fresh))
@@ -26,8 +26,8 @@ seen reader_gone writer_gone m =
 abbrev pub shown : MarkedQueue → List Bytes
 shown m = seen false false m
 
--- a write marks its record as written; a read marks the first record as read, a delete all that
--- there are
+-- a write marks its record as written. A read marks the first record as read, a delete marks all
+-- records as read
 abbrev pub marked : Op → MarkedQueue → MarkedQueue
 marked (TdWrite q d) m = record m { fresh = m.fresh ++ d ∷ [] }
 marked (TdRead q) m = if is_nothing (shown m) then m else record m { taken = m.taken + 1 }
@@ -39,7 +39,7 @@ abbrev pub writer_settled : Bool → MarkedQueue → MarkedQueue
 writer_settled false m = m
 writer_settled true m = record { settled = m.settled ++ m.fresh; fresh = []; taken = m.taken }
 
--- the unit at the reading end commits: the records marked as read go
+-- the unit at the reading end commits: the records marked as read are removed
 abbrev pub reader_settled : Bool → MarkedQueue → MarkedQueue
 reader_settled false m = m
 reader_settled true m = record { settled = drop m.taken m.settled; fresh = m.fresh; taken = 0 }
@@ -49,12 +49,12 @@ abbrev pub reader_undone : Bool → MarkedQueue → MarkedQueue
 reader_undone false m = m
 reader_undone true m = record m { taken = 0 }
 
--- the unit at the writing end is backed out: the records marked as written go
+-- the unit at the writing end is backed out: the records marked as written are removed
 abbrev pub writer_undone : Bool → MarkedQueue → MarkedQueue
 writer_undone false m = m
 writer_undone true m = record m { fresh = [] }
 
--- the commit of a unit that holds the reading end or not, and the writing end or not
+-- the commit of a unit that owns the reading end or not, and the writing end or not
 abbrev pub queue_committed : (reads writes : Bool) → MarkedQueue → MarkedQueue
 queue_committed reads writes m = reader_settled reads (writer_settled writes m)
 
@@ -66,7 +66,7 @@ queue_backed_out reads writes m = writer_undone writes (reader_undone reads m)
 abbrev pub Queues : Type 0
 Queues = Bytes → MarkedQueue
 
--- the queues as the opening has them: nothing is marked
+-- the queues as the opening has them, without a mark
 abbrev pub queues_opened : OpeningState → Queues
 queues_opened o q = record { settled = unwrap_or (value_at q (initial_store o).td) []; fresh = []; taken = 0 }
 
@@ -74,15 +74,15 @@ queues_opened o q = record { settled = unwrap_or (value_at q (initial_store o).t
 abbrev pub queues_executed : Queues → Op → Queues
 queues_executed queues op = λ q. if touches op (Td q) then marked op (queues q) else queues q
 
--- the commit of a unit settles the ends that it holds
+-- a unit's commit settles the ends that it owns
 abbrev pub queues_committed : UnitsState → Queues → ℕ → Queues
 queues_committed s queues u =
     λ q. queue_committed (used s.trace u (Td q) Reading) (used s.trace u (Td q) Writing) (queues q)
 
--- of the records in place those in front weren't written by an open unit
+-- how many records in place, from the front on, no open unit wrote
 abbrev pub unwritten : TransState → ℕ
 unwritten s = length s.placed - s.written
 
--- a queue's records in place with their two counts, as a marked queue
+-- a queue's records in place and its two counts, as a marked queue
 abbrev pub marks_of : TransState → MarkedQueue
 marks_of s = record { settled = take (unwritten s) s.placed; fresh = drop (unwritten s) s.placed; taken = s.read }

@@ -1,7 +1,6 @@
--- What a region opens with: the files, the prefixes of the recoverable temporary storage queues,
--- and the transient data queues, each file and queue with what was loaded into it. The files,
--- queues and prefixes are this profile's own way to say what the manual leaves to the system's
--- tables.
+-- What a region opens with: the files, the prefixes of recoverable temporary storage queues, and
+-- the transient data queues. Each file and queue has the records loaded into it. Definitions are
+-- this profile's own way to say what the manual leaves to the system's tables.
 use Rattle.std.specs.Prelude.{◌≡◌, ℕ, ◌+◌, Bool, true, ◌&&◌, Option, Some, None, option_map, nat_le, [], ◌∷◌, ◌++◌}
 use Rattle.cics_names.specs.Keyed.{Bytes, Map, value_at, with_value, is_rising}
 use Rattle.cics_ksds.specs.Files.{key_of}
@@ -33,7 +32,7 @@ with_prefix o p = record { files = o.files; prefixes = o.prefixes ++ p ∷ []; q
 abbrev pub with_queue : OpeningState → Bytes → Recovery → OpeningState
 with_queue o name recovery = record { files = o.files; prefixes = o.prefixes; queues = with_value name (record { recovery = recovery; records = [] }) o.queues }
 
--- a file with a record more, under the key that lies in it
+-- a file with one more record, under the key that lies in it
 abbrev pub loaded_file : FileOpening → Bytes → FileOpening
 loaded_file file r = record { definition = file.definition; records = with_value (key_of file.definition r) r file.records }
 
@@ -51,7 +50,7 @@ with_td_record o name r = record { files = o.files; prefixes = o.prefixes; queue
   changed None = o.queues
   changed (Some queue) = with_value name (record { recovery = queue.recovery; records = queue.records ++ r ∷ [] }) o.queues
 
--- the keys of a file's records rise, where the file is defined
+-- if the file is defined, the keys of its records rise
 abbrev pub is_in_order : Option (Map Bytes) → Bool
 is_in_order None = true
 is_in_order (Some records) = is_rising records
@@ -65,8 +64,8 @@ pub record HasFilesAlone (o : OpeningState) : Type 0 where
   pub prefixes : o.prefixes ≡ []
   pub queues : o.queues ≡ []
 
--- an opening is in order: the names of its files and of its queues rise, and so do the keys of each
--- file
+-- an opening is in order if the names of its files and of its queues rise, and so do the keys of
+-- each file
 pub record IsOpeningInOrder (o : OpeningState) : Type 0 where
   pub files : is_rising o.files ≡ true
   pub records : (f : Bytes) → is_in_order (option_map (λ e. e.records) (value_at f o.files)) ≡ true

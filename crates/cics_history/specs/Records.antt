@@ -27,7 +27,7 @@ file_of (DeleteGeneric f p) = f
 file_of (ReadUpdate f k) = f
 file_of _ = []
 
--- the key that such a command names, or the prefix of keys
+-- the key or prefix of keys that such a command names
 abbrev pub key_of : Op → Bytes
 key_of (Write f k r) = k
 key_of (Rewrite f k r) = k

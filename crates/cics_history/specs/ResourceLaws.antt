@@ -1,4 +1,4 @@
--- Resources that are one are equal, and those that conflict conflict either way round.
+-- Resources that are the same are equal, and conflicts go both ways.
 use Rattle.std.specs.Prelude.{◌≡◌, ◌||◌, Bool, true, false, [], ◌∷◌, refl}
 use Rattle.std.proofs.Common.{sym, ap, subst}
 use Rattle.std.proofs.lemmas.Bool.{and_parts, and_from, eq-eqb}
@@ -19,7 +19,7 @@ is_one-self (TdWrite q) = is_same-self q
 is_one-self (User v) = is_same-self v.items
 is_one-self (FilePrefix f p) = and_from _ _ (is_same-self f) (is_same-self p.items)
 
--- two that are one resource are equal
+-- two that are the same resource are equal
 pub is_one-eq : (r s : Resource) → is_one r s ≡ true → r ≡ s
 is_one-eq (FileKey f k) (FileKey g l) e = let parts = and_parts _ _ e in λ i. FileKey (is_same-eq f g parts.0 i) (bytes_of (is_same-eq k.items l.items parts.1 i))
 is_one-eq (TsQueue q) (TsQueue r) e = ap TsQueue (is_same-eq q r e)
@@ -43,7 +43,7 @@ conflicts-self (TdWrite q) = is_one-self (TdWrite q)
 conflicts-self (User v) = is_one-self (User v)
 conflicts-self (FilePrefix f p) = and_from _ _ (is_same-self f) (ap (λ b. b || b) (has_prefix-self p.items))
 
--- two tests that pass together are one
+-- two tests that pass together are equal
 pub same_test : (a b : Bool) → (a ≡ true → b ≡ true) → (b ≡ true → a ≡ true) → a ≡ b
 same_test true b there back = sym (there refl)
 same_test false true there back = back refl
@@ -53,7 +53,7 @@ same_test false false there back = refl
 turned : (a b : Bytes) → is_same a b ≡ true → is_same b a ≡ true
 turned a b h = subst (λ c. is_same c a ≡ true) (is_same-eq a b h) (is_same-self a)
 
--- of two that conflict each conflicts with the other
+-- if one resource conflicts with another, that one conflicts with it
 pub conflicts-turned : (r s : Resource) → conflicts r s ≡ true → conflicts s r ≡ true
 conflicts-turned (FileKey f k) (FilePrefix g p) h = let b = and_parts (is_same f g) (has_prefix p.items k.items) h in and_from _ _ (turned f g b.0) b.1
 conflicts-turned (FilePrefix f p) (FileKey g k) h = let b = and_parts (is_same f g) (has_prefix p.items k.items) h in and_from _ _ (turned f g b.0) b.1

@@ -1,5 +1,5 @@
--- The state of the units of a region, and the store of files and queues that they change. And what
--- of both is recoverable. Of a file's definition it reads `recoverable` alone, which says what
+-- The state of the units of a region, and the store of files and queues that they change. Also
+-- which of these are recoverable. Of a file's definition only `recoverable` is read, which is what
 -- DEFINE FILE asked for.
 use Rattle.std.specs.Prelude.{ℕ, ◌==◌, Bool, true, false, ◌||◌, if◌then◌else◌, Option, Some, None, nat_eq, List, [], ◌∷◌, map}
 use Rattle.std.specs.List.{starts_with}
@@ -17,8 +17,7 @@ pub record FileOpening : Type 0 where
   pub definition : FileDef
   pub records : Map Bytes
 
--- a transient data queue that is defined: its recovery, and the records that were loaded, the first
--- first
+-- a transient data queue that is defined: its recovery, and its loaded records, first to last
 pub record QueueOpening : Type 0 where
   pub recovery : Recovery
   pub records : List Bytes
@@ -38,12 +37,12 @@ unpadded (b ∷ bs) = without_blank b (unpadded bs) where
   without_blank b [] = if b == 0x40 then [] else b ∷ []
   without_blank b (c ∷ cs) = b ∷ c ∷ cs
 
--- a temporary storage queue is recoverable where one of the defined prefixes begins its name
+-- a temporary storage queue is recoverable if one of the defined prefixes begins its name
 abbrev pub has_prefix_in : List Bytes → Bytes → Bool
 has_prefix_in [] q = false
 has_prefix_in (p ∷ ps) q = starts_with nat_eq q (unpadded p) || has_prefix_in ps q
 
--- a file is recoverable where its definition says so
+-- a file is recoverable if its definition says so
 abbrev pub file_recoverable : OpeningState → Bytes → Bool
 file_recoverable o f = is_yes (value_at f o.files) where
   is_yes : Option FileOpening → Bool
@@ -56,7 +55,7 @@ is_logical Logical = true
 is_logical Physical = false
 is_logical Unrecovered = false
 
--- a transient data queue is recoverable where it is LOGICAL
+-- a transient data queue is recoverable if it is LOGICAL
 abbrev pub queue_logical : OpeningState → Bytes → Bool
 queue_logical o q = is_yes (value_at q o.queues) where
   is_yes : Option QueueOpening → Bool
@@ -65,8 +64,8 @@ queue_logical o q = is_yes (value_at q o.queues) where
 
 -- ---- Files and queues
 
--- the records of each defined file by key, the items of each temporary storage queue that is there,
--- and the records of each defined transient data queue
+-- the records of each defined file by key, the items of each temporary storage queue, and the
+-- records of each defined transient data queue
 pub record Store : Type 0 where
   pub files : Map (Map Bytes)
   pub ts : Map (List Bytes)
@@ -90,9 +89,14 @@ pub record EnqCount : Type 0 where
   pub unit : ℕ
   pub count : ℕ
 
--- the units of a region: what it opened with, the executed commands in their order, the outcome of
--- each unit that began, those that committed in the order in which they did, the open update reads
--- by unit and file, the counts of ENQ by value, and the NEXT places that aren't 0 by queue
+-- the units of a region:
+-- - what it opened with
+-- - the executed commands, in order of execution
+-- - the outcome of each unit that began
+-- - the units that committed, in commit order
+-- - the open update reads by unit and file
+-- - the counts of ENQ by value
+-- - the NEXT cursors that aren't 0, by queue
 pub record UnitsState : Type 0 where
   pub opening : OpeningState
   pub trace : List Entry
@@ -107,6 +111,6 @@ pub record UnitsValue : Type 0 where
   pub state : UnitsState
   pub store : Store
 
--- an opening begins with no command executed, no unit, and nothing held
+-- the initial state: no command executed, no unit, and nothing owned
 abbrev pub beginning : OpeningState → UnitsState
 beginning o = record { opening = o; trace = []; outcomes = []; commits = []; reads = []; counts = []; next = [] }

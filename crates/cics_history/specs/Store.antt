@@ -1,5 +1,5 @@
--- Recovery (chapters on file control, temporary storage control, transient data control): what each
--- updating command answers, and the store of files and queues that it leaves.
+-- Recovery (chapters on file control, temporary storage control, transient data control): each
+-- updating command's answer, and the store of files and queues that it leaves.
 use Rattle.std.specs.Prelude.{Bool, true, false, not, ◌&&◌, if◌then◌else◌, ℕ, ◌+◌, ◌-◌, nat_lt, nat_le, nat_eq, Option, Some, None, unwrap_or, List, [], ◌∷◌, ◌++◌, length, slice_set}
 use Rattle.std.specs.List.{filter, starts_with}
 use Rattle.cics_names.specs.Keyed.{Bytes, Map, value_at, has_key, with_value, without}
@@ -10,12 +10,12 @@ use Rattle.cics_history.specs.declared.ops.Op.{Op}
 use Rattle.cics_history.specs.declared.ops.Op.TheVariants.{Write, Rewrite, Delete, DeleteGeneric, ReadUpdate, TsWrite, TsRewrite, TsDelete, TdWrite, TdRead, TdDelete}
 use Rattle.cics_history.specs.declared.ops.Answer.{Answer}
 
--- what a command answers, and the store that it leaves
+-- a command's answer, and the store that it leaves
 pub record Applied : Type 0 where
   pub answer : Answer
   pub store : Store
 
--- an answer of a condition alone
+-- an answer with a condition alone
 abbrev pub only : Condition → Answer
 only c = record { condition = c; content = None; number = None }
 
@@ -40,11 +40,11 @@ answered s a changed = record { answer = a; store = if is_normal a.condition the
 abbrev pub with_file : Store → Bytes → Map Bytes → Store
 with_file s f records = record { files = with_value f records s.files; ts = s.ts; td = s.td }
 
--- the items of a temporary storage queue, none where it is absent
+-- the items of a temporary storage queue, none if it is absent
 abbrev pub ts_queue : Store → Bytes → List Bytes
 ts_queue s q = unwrap_or (value_at q s.ts) []
 
--- the store with these items in a temporary storage queue, which with no item is absent
+-- the store with these items in a temporary storage queue; a queue without an item is absent
 abbrev pub with_ts : Store → Bytes → List Bytes → Store
 with_ts s q [] = record { files = s.files; ts = without q s.ts; td = s.td }
 with_ts s q (d ∷ ds) = record { files = s.files; ts = with_value q (d ∷ ds) s.ts; td = s.td }
@@ -55,17 +55,18 @@ with_td s q records = record { files = s.files; ts = s.ts; td = with_value q rec
 
 -- ---- Files
 
--- a record that isn't found is NOTFND
+-- a record that isn't found is answered NOTFND
 abbrev pub found_condition : Option Bytes → Condition
 found_condition None = Notfnd
 found_condition (Some r) = Normal
 
--- WRITE adds a record; a key that is there is DUPREC, and a file that isn't defined DSIDERR
+-- WRITE adds a record. It is answered DUPREC if the key is there, and DSIDERR if the file isn't
+-- defined
 abbrev pub apply_write : Store → Bytes → Bytes → Bytes → Option (Map Bytes) → Applied
 apply_write s f k r None = answered s (only Dsiderr) s
 apply_write s f k r (Some records) = answered s (only (if has_key k records then Duprec else Normal)) (with_file s f (if has_key k records then records else with_value k r records))
 
--- a key that has no record is NOTFND
+-- a key that has no record is answered NOTFND
 abbrev pub change_condition : Map Bytes → Bytes → Condition
 change_condition records k = if has_key k records then Normal else Notfnd
 
@@ -74,7 +75,7 @@ abbrev pub apply_rewrite : Store → Bytes → Bytes → Bytes → Option (Map B
 apply_rewrite s f k r None = answered s (only Dsiderr) s
 apply_rewrite s f k r (Some records) = answered s (only (change_condition records k)) (with_file s f (if has_key k records then with_value k r records else records))
 
--- DELETE takes the record of its key away; an absent key is NOTFND
+-- DELETE removes the record of its key; an absent key is answered NOTFND
 abbrev pub apply_delete : Store → Bytes → Bytes → Option (Map Bytes) → Applied
 apply_delete s f k None = answered s (only Dsiderr) s
 apply_delete s f k (Some records) = answered s (only (change_condition records k)) (with_file s f (without k records))
@@ -83,29 +84,30 @@ apply_delete s f k (Some records) = answered s (only (change_condition records k
 abbrev pub has_prefix : Bytes → Bytes → Bool
 has_prefix p k = starts_with nat_eq k p
 
--- as many as there are under a prefix; where there is none it is NOTFND
+-- the number of records under a prefix, or NOTFND if there is none
 abbrev pub counted_answer : {X : Type 0} → List X → Answer
 counted_answer [] = only Notfnd
 counted_answer (x ∷ xs) = numbered Normal (Some (length (x ∷ xs)))
 
--- DELETE GENERIC takes each record away whose key begins with the prefix, and answers how many they
--- were; none is NOTFND
+-- DELETE GENERIC removes each record whose key begins with the prefix. It is answered their number,
+-- or NOTFND if there is none
 abbrev pub apply_delete_generic : Store → Bytes → Bytes → Option (Map Bytes) → Applied
 apply_delete_generic s f p None = answered s (only Dsiderr) s
 apply_delete_generic s f p (Some records) = answered s (counted_answer (filter (λ e. has_prefix p e.0) records)) (with_file s f (filter (λ e. not (has_prefix p e.0)) records))
 
--- READ UPDATE gives the record of its key and changes nothing; an absent key is NOTFND
+-- READ UPDATE is answered the record of its key and changes nothing; an absent key is answered
+-- NOTFND
 abbrev pub apply_read : Store → Bytes → Option (Map Bytes) → Applied
 apply_read s k None = answered s (only Dsiderr) s
 apply_read s k (Some records) = answered s (with_content (found_condition (value_at k records)) (value_at k records)) s
 
 -- ---- Temporary storage
 
--- a queue has room for one more item, of 32,767
+-- a queue has room for one more item if it has fewer than 32,767
 abbrev pub has_room : List Bytes → Bool
 has_room items = nat_lt (length items) 32767
 
--- a queue is there where it has an item
+-- a queue is there if it has an item
 abbrev pub is_there : List Bytes → Bool
 is_there [] = false
 is_there (x ∷ xs) = true
@@ -114,48 +116,48 @@ is_there (x ∷ xs) = true
 abbrev pub has_item : List Bytes → ℕ → Bool
 has_item items n = nat_lt 0 n && nat_le n (length items)
 
--- WRITEQ TS adds an item and answers its number; the most items are ITEMERR
+-- WRITEQ TS adds an item and is answered its number; a full queue is answered ITEMERR
 abbrev pub apply_ts_write : Store → Bytes → Bytes → List Bytes → Applied
 apply_ts_write s q d items =
     answered s (numbered (if has_room items then Normal else Itemerr) (if has_room items then Some (length items + 1) else None))
     (with_ts s q (if has_room items then items ++ d ∷ [] else items))
 
--- an absent queue is QIDERR, an absent item ITEMERR
+-- an absent queue is answered QIDERR, an absent item ITEMERR
 abbrev pub item_condition : List Bytes → ℕ → Condition
 item_condition items n = if has_item items n then Normal else if is_there items then Itemerr else Qiderr
 
--- WRITEQ TS REWRITE replaces an item and answers its number; an absent queue is QIDERR, an absent
--- item ITEMERR
+-- WRITEQ TS REWRITE replaces an item and is answered its number. An absent queue is answered
+-- QIDERR, an absent item ITEMERR
 abbrev pub apply_ts_rewrite : Store → Bytes → ℕ → Bytes → List Bytes → Applied
 apply_ts_rewrite s q n d items =
     answered s (numbered (item_condition items n) (if has_item items n then Some n else None))
     (with_ts s q (if has_item items n then slice_set items (n - 1) d else items))
 
--- DELETEQ TS takes the whole queue away; an absent queue is QIDERR
+-- DELETEQ TS removes the whole queue; an absent queue is answered QIDERR
 abbrev pub apply_ts_delete : Store → Bytes → List Bytes → Applied
 apply_ts_delete s q items = answered s (only (if is_there items then Normal else Qiderr)) (with_ts s q [])
 
 -- ---- Transient data
 
--- WRITEQ TD adds a record last; a queue that isn't defined is QIDERR
+-- WRITEQ TD adds a record last; a queue that isn't defined is answered QIDERR
 abbrev pub apply_td_write : Store → Bytes → Bytes → Option (List Bytes) → Applied
 apply_td_write s q d None = answered s (only Qiderr) s
 apply_td_write s q d (Some records) = answered s (only Normal) (with_td s q (records ++ d ∷ []))
 
--- READQ TD gives the first record and takes it away; an empty queue is QZERO
+-- READQ TD is answered the first record and removes it; an empty queue is answered QZERO
 abbrev pub apply_td_read : Store → Bytes → Option (List Bytes) → Applied
 apply_td_read s q None = answered s (only Qiderr) s
 apply_td_read s q (Some []) = answered s (only Qzero) s
 apply_td_read s q (Some (d ∷ ds)) = answered s (with_content Normal (Some d)) (with_td s q ds)
 
--- DELETEQ TD takes all records away
+-- DELETEQ TD removes all records
 abbrev pub apply_td_delete : Store → Bytes → Option (List Bytes) → Applied
 apply_td_delete s q None = answered s (only Qiderr) s
 apply_td_delete s q (Some records) = answered s (only Normal) (with_td s q [])
 
 -- ---- Every command
 
--- what each updating command answers and leaves
+-- each updating command's answer, and the store that it leaves
 abbrev pub apply : Store → Op → Applied
 apply s (Write f k r) = apply_write s f k r (value_at f s.files)
 apply s (Rewrite f k r) = apply_rewrite s f k r (value_at f s.files)

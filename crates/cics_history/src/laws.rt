@@ -1,17 +1,17 @@
-//! The laws of backout: what stands after commands, commits and backouts of any number of units, in
-//! any interleaving, with ENQ, DEQ, UNLOCK and READQ TS anywhere among them.
+//! The laws of backout: what files and queues hold after any interleaving of commands, commits and
+//! backouts. Any number of units may act, with ENQ, DEQ, UNLOCK and READQ TS anywhere among them.
 //!
-//! The contract of each function is a law, and its body is empty: nothing is computed here. The
-//! laws speak of the same definitions as the contracts of the calls, so that each of them is a
-//! lemma about the program too.
+//! The contract of each function is a law. Its body is empty: nothing is computed here. The laws
+//! use the definitions that the contracts of the calls use. So each is a lemma about the program
+//! too.
 //!
-//! Units are numbered by the list of outcomes; a unit that isn't handed in is the next one, which
-//! begins with its first command or ENQ. A command or an ENQ that must wait, and an event of a unit
-//! that isn't open, changes nothing. READQ TS is of no unit.
+//! A unit's number is its position in the list of outcomes. A command or an ENQ without a unit
+//! begins the next one. A command or an ENQ that must wait changes nothing. Neither does an event
+//! of a unit that isn't open. READQ TS belongs to no unit.
 //!
-//! What is said of whole runs supposes an opening in order, one whose names and keys rise;
-//! `Opening` makes no other. The answer of a delete by prefix counts records, which cells tell only
-//! there.
+//! Most laws of whole runs suppose an opening in order: its names rise, and so do the keys of each
+//! file. `Opening` makes no other. A delete by prefix is answered a number of records, which cells
+//! determine only if keys rise.
 
 ghost use Rattle.std.specs.Prelude.{◌≡◌, ◌≤◌, ℕ, ◌==◌, Bool, true, false, not, ◌&&◌, length};
 ghost use Rattle.std.specs.Prelude.{slice_get};
@@ -76,19 +76,19 @@ pub fn answers_stay()
         Agrees (initial_store o) (kept o s.trace s.outcomes) }
 {}
 
-/// What files and queues hold in place is what replaying what is kept gives. In place a command
-/// changes the cells that it acts on, a commit drops the unit's images, and a backout undoes them,
-/// the newest first; a LOGICAL queue is marked at its two ends, each by itself. ENQ, DEQ, UNLOCK
-/// and READQ TS change nothing there. Cells are no list, so which keys are under a prefix the run
-/// in place takes from the store.
+/// Files and queues, changed in place, hold what a replay of the surviving entries gives. In place
+/// a command changes the cells that it acts on. A commit drops the unit's images, and a backout
+/// undoes them, newest first. A LOGICAL queue is marked at each of its two ends separately. ENQ,
+/// DEQ, UNLOCK and READQ TS change nothing there. Cells are no list, so the run in place takes the
+/// keys under a prefix from the store.
 ///
 /// - `cells`: each key of a file, each temporary storage queue and each transient data queue holds
 ///   what the replay gives.
-/// - `whole`: so a store in order that holds what is in place is the replay, as whole maps.
-/// - `images`: an open unit's images of keys and temporary storage queues are ready one after the
-///   other, the newest first: each finds what its change made.
-/// - `marks`: so are its images of the ends of LOGICAL queues; no record that is to go is marked as
-///   read.
+/// - `whole`: so a store in order that holds what is in place equals the replay, as whole maps.
+/// - `images`: an open unit's images of keys and temporary storage queues are ready in turn, newest
+///   first. Each finds what its change made.
+/// - `marks`: so are its images of the ends of LOGICAL queues. No record that their undo removes is
+///   marked as read.
 pub fn parts_stay()
     ensures cells { (o : OpeningState) (events : List Event) (x : Cell) → IsOpeningInOrder o →
         content_in_place o (run_in_place (beginning o) (parts_opened o) events) x
@@ -108,12 +108,12 @@ pub fn parts_stay()
         AllMarksReady p.marks.queues (p.marks.images unit) }
 {}
 
-/// A unit that runs alone and is backed out is the identity on what is recoverable: where all
-/// entries from some place on are its own, each recoverable file and queue holds what the entries
-/// before give.
+/// A unit that runs alone and is backed out changes nothing recoverable. Suppose that all entries
+/// from some point on are its own. Then each recoverable file and queue holds what the surviving
+/// entries before them give.
 ///
-/// - `alone`: so it is in the history, whenever it runs.
-/// - `call`: so it is for the call that backs the unit out, where the store is the replay.
+/// - `alone`: this holds of every history, whenever the unit runs.
+/// - `call`: it holds after the call that backs the unit out, if the store is the replay.
 pub fn runs_alone()
     ensures alone { (o : OpeningState) (outcomes : List UnitState) (unit : ℕ)
         (before own : List Entry) →
@@ -128,22 +128,22 @@ pub fn runs_alone()
         store ≡ store_of new → LeavesNoTrace old (record { state = new; store = store }) unit }
 {}
 
-/// What interleaved units did to recoverable files and queues is what they would have done one
-/// after the other, in the order in which they committed. Each command that a unit was answered
-/// NORMAL there has then the very answer that its task was given, and the files and queues hold
-/// what this gives. A command that was answered otherwise changed nothing and holds nothing, so it
-/// is left out; so is a command on something unrecoverable, which no unit holds.
+/// Committed units are serializable in commit order. Suppose that each unit's commands on
+/// recoverable files and queues ran together, one unit after the other. Each command that was
+/// answered NORMAL would have the very answer that its task was given. The recoverable files and
+/// queues would hold what they hold. Commands with another answer changed nothing and lock nothing,
+/// so they are left out. So are commands on something unrecoverable.
 ///
-/// Units that are still open come behind those that committed, in any order; those that are left
-/// out count as backed out.
+/// Units that are still open come behind those that committed, in any order. Open units that are
+/// left out count as backed out.
 ///
-/// - `order`: the list that the state keeps has the units that committed, in the order in which the
+/// - `order`: the state's list of commits has the units that committed, in the order in which the
 ///   events commit them.
-/// - `opening`: what was opened stays as it was.
+/// - `opening`: the opening stays as it was.
 /// - `serializable`: in that order, with any open units behind it, each command has the answer that
-///   it was given, none is lost and none comes twice. They give what stands once every other open
-///   unit is backed out: with all open units behind the others, and where no unit is open, what
-///   stands. Where no unit is open, so do the entries of those that committed alone.
+///   it was given. None is lost and none comes twice. They give what stands once every other open
+///   unit is backed out. With all open units behind, they give what stands. If no unit is open,
+///   committed units alone give what stands, and so do their entries in order of execution.
 pub fn units_are_serializable()
     ensures order { (o : OpeningState) (events : List Event) →
         (run (beginning o) events).commits ≡ commit_order (beginning o) events }
@@ -154,9 +154,9 @@ pub fn units_are_serializable()
         IsSerializable (record { state = s; store = store_of s }) }
 {}
 
-/// Each call keeps the units in the order in which they committed: a commit adds its unit at the
-/// end, and no other call changes the list. `serializable` is what this gives, where files and
-/// queues hold the replay.
+/// Each call keeps the committed units in commit order (`IsInOrder`). A commit adds its unit at the
+/// end, and no other call changes the list. `serializable` follows, if the state is sound and the
+/// store is the replay.
 pub fn calls_keep_the_order()
     ensures begins { (o : OpeningState) → IsOpeningInOrder o → IsInOrder (beginning o) }
     ensures executes { (s : UnitsState) (unit : Option ℕ) (op : Op) → IsSound s → IsInOrder s →
@@ -178,18 +178,19 @@ pub fn calls_keep_the_order()
         IsSerializable v }
 {}
 
-/// A resource has one owner.
+/// A resource has at most one owner.
 ///
-/// - `one`: after every run, two units that own resources which conflict are one unit.
-/// - `ends`: so at most one open unit owns an end of a recoverable cell.
-/// - `found`: whoever owns what conflicts with a resource that is no prefix of keys, and isn't the
-///   unit that asks, is the blocker.
-/// - `holds`: for any resource, the blocker is another unit than the one that asks, and owns
-///   something that conflicts with it.
-/// - `least`: the smallest conflict is owned by another unit and conflicts with the resource, and
-///   nothing of which that is so comes before it in byte order.
-/// - `somebody`: where another unit owns what conflicts with it, there is a blocker.
-/// - `none`: where no other unit owns what conflicts with it, there is none.
+/// - `one`: after every run, two units that own conflicting resources are the same unit.
+/// - `ends`: so at most one open unit has used an end of a recoverable cell.
+/// - `found`: if the resource is no prefix of keys, another unit that owns something conflicting is
+///   the blocker.
+/// - `holds`: the blocker at any resource isn't the unit that asks, and owns something that
+///   conflicts with the resource.
+/// - `least`: the smallest conflict is owned by another unit and conflicts with the resource. No
+///   other such resource comes before it in byte order.
+/// - `somebody`: if another unit owns something that conflicts with the resource, there is a
+///   blocker.
+/// - `none`: if no other unit owns something that conflicts with it, there is no blocker.
 pub fn each_resource_has_one_holder()
     ensures one { (o : OpeningState) (events : List Event) → IsOpeningInOrder o →
         IsHeldByOne (run (beginning o) events) }
@@ -214,12 +215,12 @@ pub fn each_resource_has_one_holder()
         blocker_at (owned s) asking r ≡ None }
 {}
 
-/// A unit holds an end of a LOGICAL queue exactly where it is open and has used that end, and no
-/// unit holds an end of another queue. So what a unit holds, and the list of all that is owned,
-/// tell at which ends a commit of the unit has to commit.
+/// A unit owns an end of a LOGICAL queue exactly if it is open and has used that end. No unit owns
+/// an end of another queue. So both what a unit owns and the list of owners tell at which ends its
+/// commit has to commit.
 ///
-/// - `held`: so it is of what a unit holds.
-/// - `table`: so it is of the list of owners, which names units that have begun.
+/// - `held`: this holds of what a unit owns.
+/// - `table`: it holds of the list of owners, which names only units that have begun.
 pub fn ends_are_held_by_use()
     ensures held { (s : UnitsState) (unit : ℕ) (queue : Bytes) (end : End) →
         list_any (is_one (end_of queue end)) (held_by s unit)
@@ -247,11 +248,11 @@ pub fn stores_are_their_cells()
 /// A command acts by cells.
 ///
 /// - `cells`: it changes each cell that it touches by what the cell holds, and no other.
-/// - `answer`: its answer is the one that its cell gives, where it acts on one cell.
-/// - `generic`: DELETE GENERIC, which acts on every key that begins with its prefix, answers how
-///   many of them have records, and NOTFND where none has.
-/// - `local`: so the answer depends on the touched cells alone, where the keys rise.
-/// - `ordered`: the keys of each file go on rising.
+/// - `answer`: if it acts on one cell, its answer is the one that this cell gives.
+/// - `generic`: DELETE GENERIC acts on every key that begins with its prefix. It is answered the
+///   number of their records, or NOTFND if there is none.
+/// - `local`: so if keys rise, the answer depends on the touched cells alone.
+/// - `ordered`: if the keys of each file rise, they still do.
 pub fn commands_act_by_cells()
     ensures cells { (s : Store) (op : Op) (x : Cell) →
         content (apply s op).store x ≡ (if touches op x then (effect op (content s x)).cell
@@ -267,8 +268,8 @@ pub fn commands_act_by_cells()
     ensures ordered { (s : Store) (op : Op) → IsOrdered s → IsOrdered (apply s op).store }
 {}
 
-/// Each call keeps the open units apart, and each resource with one holder; `agrees` is what this
-/// gives. The unit that is handed in is open.
+/// Each call keeps the open units isolated, and at most one owner for each resource (`IsSound`).
+/// The unit that executes, ends or enqueues is open, or begins. `agrees` follows.
 pub fn calls_keep_apart()
     ensures begins { (o : OpeningState) → IsOpeningInOrder o → IsSound (beginning o) }
     ensures executes { (s : UnitsState) (unit : Option ℕ) (op : Op) → IsSound s →
@@ -290,15 +291,14 @@ pub fn calls_keep_apart()
         Agrees (initial_store s.opening) (kept s.opening s.trace s.outcomes) }
 {}
 
-/// A command, a commit and a backout keep the cells in place as the history gives them, and the
-/// open units' images as those that lead back. All cells are meant but those of LOGICAL queues.
+/// After a command, a commit or a backout, the cells in place hold what the history gives. The open
+/// units' images still lead back. All cells are meant but those of LOGICAL queues.
 ///
 /// - `enqueues`, `dequeues`, `unlocks`, `reads`: ENQ, DEQ, UNLOCK and READQ TS leave cells and
-///   images as they are, and those are right after each of these calls too: an ENQ may begin a
-///   unit, which has no image.
-/// - `image`: the image of a command's own cell is the one that is asked for, where it acts on one.
-/// - `prefix`: those of DELETE GENERIC are the images of the records under its prefix, that of the
-///   last key the newest, in cells that hold at each key what a store does.
+///   images as they are, and both stay right. An ENQ may begin a unit, which has no image.
+/// - `image`: if a command acts on one cell, `image_of` gives its images.
+/// - `prefix`: the images of DELETE GENERIC are those of the records under its prefix, that of the
+///   last key newest. At each key the cells hold what the store holds.
 pub fn calls_keep_places()
     ensures begins { (o : OpeningState) → IsPlaceOf (beginning o) (placed o) }
     ensures executes { (s : UnitsState) (p : Place) (unit : Option ℕ) (op : Op) (new : List Image) →
@@ -326,17 +326,16 @@ pub fn calls_keep_places()
         AreImages (DeleteGeneric file prefix) cells (prefix_images s file prefix cells) }
 {}
 
-/// A command, a commit and a backout keep the LOGICAL queues in place as the history gives them,
-/// however the units at their two ends end. They keep the open units' images of the marks as those
-/// that lead back.
+/// After a command, a commit or a backout, LOGICAL queues in place hold what the history gives,
+/// however the units at their ends end. The open units' images of the marks still lead back.
 ///
 /// - `enqueues`, `dequeues`, `unlocks`, `reads`: ENQ, DEQ, UNLOCK and READQ TS leave the marks and
-///   their images as they are, and those are right after each of these calls too.
+///   their images as they are, and both stay right.
 /// - `shown`: what a queue shows is what the history gives.
-/// - `committed`: where no other unit holds the reading end, what a task may read is what is shown,
-///   without what another unit wrote.
-/// - `sees`: a task that need not wait for its read sees a record exactly where the queue shows
-///   one; so its read marks what a read of all that is shown marks.
+/// - `committed`: if no other unit owns the reading end, a task may read what is shown, without
+///   what another unit wrote.
+/// - `sees`: a task whose read needn't wait sees a record exactly if the queue shows one. So its
+///   read marks what a read of all shown records marks.
 pub fn calls_keep_marks()
     ensures begins { (o : OpeningState) → AreMarksOf (beginning o) (marks_opened o) }
     ensures executes { (s : UnitsState) (p : Marks) (unit : Option ℕ) (op : Op) → IsSound s →
@@ -375,13 +374,12 @@ pub fn calls_keep_marks()
         ≡ is_nothing (shown (p.queues queue)) }
 {}
 
-/// An open unit's images, the newest first, each ready in its turn, lead each cell to what the
-/// history gives without that unit.
+/// An open unit's images lead each cell to what the history gives without that unit. They are
+/// undone newest first, and each is ready in its turn.
 ///
-/// - `leads`, `ready`: the images of keys, of temporary storage queues and of queues that aren't
-///   LOGICAL.
-/// - `unmarks`, `marks_ready`: the images of the ends of LOGICAL queues; undone, they clear the
-///   ends that the unit holds and leave the other end to its holder.
+/// - `leads`, `ready`: the images of keys and of temporary storage queues.
+/// - `unmarks`, `marks_ready`: the images of the ends of LOGICAL queues. Undone, they clear the
+///   ends that the unit owns, and leave the other end to its owner.
 pub fn images_lead_back()
     ensures leads { (s : UnitsState) (p : Place) (unit : ℕ) (x : Cell) → IsPlaceOf s p →
         is_live s unit ≡ true →
@@ -401,17 +399,15 @@ pub fn images_lead_back()
         AllMarksReady p.queues (p.images unit) }
 {}
 
-/// A transient data queue, which has its records in place and two counts, is a queue with marks:
-/// what each change does to it is what the change does to the marks. So the laws of marked queues
-/// are laws of it.
+/// A transient data queue has its records in place and two counts, which stand for its marks. A
+/// change does to the queue what it does to the marks. So the laws of marked queues are laws of it.
 ///
-/// - `shown`: its records are those that are shown.
-/// - `first`: a reader that may see uncommitted records or not is given the first of those that it
-///   sees.
-/// - `read`: a reader that may not see them reads as if it might, where it sees something or there
-///   is nothing else to see, as is so of each that need not wait (`sees` of `calls_keep_marks`).
-/// - `reader_commits`: the unit at the reading end commits; what it read was no record of another
-///   open unit.
+/// - `shown`: its records are those that its marks show.
+/// - `first`: a reader gets the first record that it sees, whether or not it may see uncommitted
+///   ones.
+/// - `read`: a reader that may not see uncommitted records reads as if it might, if it sees a
+///   record or none is shown. That is so if its read needn't wait (`sees` of `calls_keep_marks`).
+/// - `reader_commits`: a commit at the reading end removes what was read, if no open unit wrote it.
 pub fn queues_carry_their_marks()
     ensures shown { (s : TransState) → queue_of s ≡ shown (marks_of s) }
     ensures first { (s : TransState) (past_fresh : Bool) →
@@ -430,15 +426,14 @@ pub fn queues_carry_their_marks()
         marks_of (writer_committed s) ≡ writer_settled true (marks_of s) }
 {}
 
-/// The before images that a LOGICAL queue gives are images of its marks, and to undo the one is to
-/// undo the other. So the laws of the images of marks are laws of them.
+/// The before images of a LOGICAL queue are images of its marks, and to undo the one is to undo the
+/// other. So the laws of the images of marks are laws of them.
 ///
-/// - `written`, `read`, `deleted`: the image that a change gives is the one that its marks have; a
-///   read gives none exactly where the reader sees nothing.
-/// - `ready`: it is ready where that one is.
+/// - `written`, `read`, `deleted`: the image of a change is the one that the marks have. A read has
+///   none exactly if the reader sees nothing.
+/// - `ready`: it is ready if the image of the marks is.
 /// - `undone`: undone, both leave the same marks.
-/// - `marked`: and the queue is one of which all this holds again, so it holds along a list of
-///   images.
+/// - `marked`: the undone queue is marked again, so all this holds along a list of images.
 pub fn queues_give_the_images_of_their_marks()
     ensures written { (s : TransState) (queues : Queues) (queue from : Bytes) →
         is_logical s.kind ≡ true →

@@ -1,8 +1,8 @@
-//! Histories of commands: what files and queues hold after any list of commands, commits and
-//! backouts of interleaved units of work, who holds what, and who has to wait.
+//! Histories of commands: what files and queues hold after any commands, commits and backouts of
+//! interleaved units of work. Which unit owns what, and which command has to wait.
 //!
-//! The definitions stand in specs/, and `laws` says what follows from them. No state is kept here:
-//! the units of work that execute commands are in the crate above.
+//! The definitions are in specs/, and `laws` says what follows from them. There is no state here:
+//! the crate above has the units of work that execute commands.
 #![tactic(auto)]
 
 pub mod laws;

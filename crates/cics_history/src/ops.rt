@@ -8,36 +8,36 @@ ghost use Rattle.cics_history.specs.Records.{is_file_op, file_of, key_of};
 use crate::resources::UnitId;
 use cics_names::{Condition, Name4, Name8, NoMemory, Record};
 
-/// An updating command. A key is the one that lies in the record, a record or an item its bytes.
+/// An updating command. `from` has the bytes of a record or an item. `key` is the record's key.
 pub enum Op {
-    /// Adds the record of a key that isn't there.
+    /// Adds the record of a key that has none.
     Write {
         file: Name8,
         key: Record,
         from: Record,
     },
-    /// Replaces the record of a key, which is the one that the unit has read for update.
+    /// Replaces the record of the key that the unit has read for update.
     Rewrite {
         file: Name8,
         key: Record,
         from: Record,
     },
-    /// Takes the record of a key away.
+    /// Removes the record of a key.
     Delete {
         file: Name8,
         key: Record,
     },
-    /// Takes every record away whose key begins with the prefix.
+    /// Removes every record whose key begins with the prefix.
     DeleteGeneric {
         file: Name8,
         prefix: Record,
     },
-    /// Reads the record of a key, to be rewritten or deleted by the same unit.
+    /// Reads the record of a key, for the same unit to rewrite or delete.
     ReadUpdate {
         file: Name8,
         key: Record,
     },
-    /// Adds an item to a temporary storage queue, and makes the queue where it is absent.
+    /// Adds an item to a temporary storage queue, and makes the queue if it is absent.
     TsWrite {
         queue: Name8,
         from: Record,
@@ -48,7 +48,7 @@ pub enum Op {
         item: u64,
         from: Record,
     },
-    /// Takes a whole temporary storage queue away.
+    /// Removes a whole temporary storage queue.
     TsDelete {
         queue: Name8,
     },
@@ -57,7 +57,7 @@ pub enum Op {
         queue: Name4,
         from: Record,
     },
-    /// Gives the first record of a transient data queue and takes it away.
+    /// Reads the first record of a transient data queue, and removes it.
     TdRead {
         queue: Name4,
     },
@@ -67,7 +67,7 @@ pub enum Op {
     },
 }
 
-// By hand: a derived drop is taken apart, with a case for each variant, wherever a command is
+// Written by hand: a derived drop is split into a case for each variant wherever a command is
 // dropped.
 impl Drop for Op {
     fn drop(self) {
@@ -109,8 +109,8 @@ impl Drop for Op {
 }
 
 impl Op {
-    /// The file that a command on a file names, and the key, or the prefix of the keys whose
-    /// records it takes away; one on a queue names none.
+    /// Returns the file of a command on a file, and the key or the prefix of keys that it names.
+    /// Returns `None` for a command on a queue.
     pub fn record(&self) -> Option<(&Name8, &Record)>
         ensures there { is_some result ≡ is_file_op self.now }
         ensures file { IfSome result (λ named. named.0.now ≡ file_of self.now) }
@@ -126,7 +126,7 @@ impl Op {
         }
     }
 
-    /// A copy of the command. It takes memory for the copies of its records.
+    /// Returns a copy of the command, with copies of its records. The only error is `NoMemory`.
     pub fn copy(&self) -> Result<Op, NoMemory>
         ensures { IfOk result (λ copy. copy ≡ self.now) }
     {
@@ -173,20 +173,20 @@ impl Op {
     }
 }
 
-/// What an executed command answers.
+/// What an executed command is answered.
 #[derive(Drop)]
 pub struct Answer {
-    /// NORMAL where the command did what it asks for; at every other condition it changed nothing.
+    /// NORMAL if the command did what it asks for. With any other condition it changed nothing.
     pub condition: Condition,
     /// The record that was read, whole.
     pub content: Option<Record>,
-    /// The number of the item that was written, from 1 on, or of the records that were taken away
+    /// The number of the item that was written, from 1 on, or of the records that were deleted
     /// under a prefix.
     pub number: Option<u64>,
 }
 
 impl Answer {
-    /// A copy of the answer. It takes memory for the copy of its record, if it has one.
+    /// Returns a copy of the answer. The only error is `NoMemory`.
     pub fn copy(&self) -> Result<Answer, NoMemory>
         ensures { IfOk result (λ copy. copy ≡ self.now) }
     {
@@ -216,7 +216,7 @@ pub struct Entry {
 /// Whether a unit has ended, and how.
 #[derive(Clone, Copy, Debug, PartialEq, Eq)]
 pub enum UnitState {
-    /// It goes on.
+    /// It hasn't ended.
     Open,
     /// It ended, and what it did stays.
     Committed,
@@ -224,23 +224,23 @@ pub enum UnitState {
     BackedOut,
 }
 
-/// What came of a command.
+/// Result of a command.
 #[derive(Drop)]
 pub enum Done {
-    /// It was executed by this unit, which may have begun with it, and is answered so.
+    /// This unit executed it, which may have begun with it, and this is its answer.
     Answered(UnitId, Answer),
-    /// It wasn't executed: this other unit holds a resource that conflicts with one that it uses,
-    /// or wrote what it would read.
+    /// It wasn't executed. This other unit owns a resource that conflicts with one that it uses, or
+    /// wrote what it would read.
     MustWait(UnitId),
 }
 
-/// What came of an enqueue.
+/// Result of an ENQ.
 #[derive(Clone, Copy, Debug, PartialEq, Eq)]
 pub enum Enqueued {
-    /// This unit, which may have begun with it, holds the value once more.
+    /// This unit, which may have begun with it, owns the value once more.
     Taken(UnitId),
-    /// Nothing was taken: this other unit holds the value.
+    /// Nothing was acquired: this other unit owns the value.
     MustWait(UnitId),
-    /// Nothing was taken: the unit holds the value 65,535 times.
+    /// Nothing was acquired: the unit owns the value 65,535 times already.
     CountFull,
 }

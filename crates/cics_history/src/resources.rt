@@ -1,4 +1,4 @@
-//! Resources, and the units that hold them.
+//! Resources, and the units that own them.
 
 ghost use Rattle.std.specs.Prelude.{◌≡◌, ◌≤◌, length};
 ghost use Rattle.cics_history.specs.Resources.{is_user, bytes_of};
@@ -26,14 +26,14 @@ impl Model for UnitId {
 }
 
 impl UnitId {
-    /// The unit of this number: 0 for the first that begins.
+    /// Returns the unit of this number: 0 for the first that begins.
     pub fn new(number: u64) -> UnitId
         ensures { result ≡ number }
     {
         UnitId { number }
     }
 
-    /// Its number.
+    /// Returns its number.
     pub fn number(self) -> u64
         ensures { result ≡ self }
     {
@@ -41,7 +41,7 @@ impl UnitId {
     }
 }
 
-/// What a unit can hold.
+/// What a unit can own.
 #[derive(PartialEq, Eq, Hash, Drop)]
 pub enum Resource {
     /// The record of a file under a key, whether it is there or not.
@@ -59,7 +59,7 @@ pub enum Resource {
     FilePrefix(Name8, ArrayVec<u8, 255>),
 }
 
-// Bytes as a resource keeps them.
+// Returns bytes as a resource has them.
 fn kept(bytes: &[u8]) -> ArrayVec<u8, 255>
     requires most { length bytes.now ≤ 255 }
     ensures { result ≡ bytes_of bytes.now }
@@ -72,7 +72,8 @@ fn kept(bytes: &[u8]) -> ArrayVec<u8, 255>
 }
 
 impl Resource {
-    /// The record of a file under this key, of at most 255 bytes, whether it is there or not.
+    /// Returns the resource of a file's record under this key, of at most 255 bytes, whether it is
+    /// there or not.
     pub fn record(file: Name8, key: &[u8]) -> Resource
         requires most { length key.now ≤ 255 }
         ensures { result ≡ FileKey file (bytes_of key.now) }
@@ -80,8 +81,8 @@ impl Resource {
         Resource::FileKey(file, kept(key))
     }
 
-    /// The records of a file under every key that begins with these at most 255 bytes, whether they
-    /// are there or not.
+    /// Returns the resource of a file's records under every key that begins with these at most 255
+    /// bytes, whether they are there or not.
     pub fn prefix(file: Name8, bytes: &[u8]) -> Resource
         requires most { length bytes.now ≤ 255 }
         ensures { result ≡ FilePrefix file (bytes_of bytes.now) }
@@ -89,7 +90,7 @@ impl Resource {
         Resource::FilePrefix(file, kept(bytes))
     }
 
-    /// A user's value of at most 255 bytes.
+    /// Returns the resource of a user's value of at most 255 bytes.
     pub fn value(bytes: &[u8]) -> Resource
         requires most { length bytes.now ≤ 255 }
         ensures { result ≡ User (bytes_of bytes.now) }
@@ -97,7 +98,7 @@ impl Resource {
         Resource::User(kept(bytes))
     }
 
-    /// Whether it is a user's value: only such a resource can be held more than once.
+    /// Returns whether it is a user's value. Only such a resource can be acquired more than once.
     pub fn is_user(&self) -> bool
         ensures { result ≡ is_user self.now }
     {

@@ -1,5 +1,5 @@
--- What a change of one value is among the values by name: its image is an image of them all, the
--- other cells keep what they have, and no more is held back than at the value.
+-- What a change of one value is among the values by name. Its image is an image of them all, the
+-- other cells stay, and no more is held back than at the value.
 use Rattle.std.specs.Prelude.{◌≡◌, ◌≢◌, Bool, true, false, Option, Some, None}
 use Rattle.std.proofs.Common.{sym, ap, ◌∙◌, subst, refl, inl, inr}
 use Rattle.std.specs.Option.{option_map}
@@ -21,7 +21,7 @@ module _ {M : Type 0} (name : Bytes) (f g : M) (values : Map M) (there : value_a
     | inr apart ↦ subst (P q (value_at q values)) (sym (value_at-with_value_other q name g values apart)) (others q)
   ]
 
-  -- where nothing more is held back at the value, nothing more is among them all
+  -- if nothing more is held back at the value, nothing more is among them all
   pub held_among : (holds_back : M → Cell → Bool) (p : Cell → Bool) → ((k : Cell) → p (cell_of name k) ≡ true → holds_back g k ≡ true → holds_back f k ≡ true) →
       (c : Cell) → p c ≡ true → named_holds holds_back (with_value name g values) c ≡ true → named_holds holds_back values c ≡ true
   held_among holds_back p held c pass has = by (split c) refl has

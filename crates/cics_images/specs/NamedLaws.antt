@@ -23,7 +23,7 @@ same_or_other a b = by (bytes_eq a b) (bytes_eq-Decides a b)
 
 -- ---- what has a value after a change
 module _ {M : Type 0} (step : M → M) (name : Bytes) (s : Map M) where
-  -- the changed name has its value changed, where it has one
+  -- the changed name has its value changed, if it has one
   here_in : (o : Option M) → value_at name s ≡ o → value_at name (changed_where step name o s) ≡ option_map step o
   here_in None e = e
   here_in (Some m) e = value_at-with_value_same name (step m) s
@@ -88,7 +88,7 @@ unsplit_other k c e none some = by (bytes_eq c k) (bytes_eq-Decides c k)
     by true h = let wrong : Some e ≡ None = sym some ∙ ap split (h.0 refl) ∙ none in cc
     by false h = refl
 
--- what the cell of a value gives
+-- a function of the cell of a value
 pub of_cell : {M A : Type 0} (none : A) (f : M → Cell → A) (s : Map M) (name : Bytes) (c : Cell) →
     of_split none f s (split (cell_of name c)) ≡ of_value none (λ m. f m c) (value_at name s)
 of_cell none f s name c = ap (of_split none f s) (split_cell name c)
@@ -143,14 +143,14 @@ other_name name other k q apart = by (bytes_eq (cell_of other q) (cell_of name k
         absurd (apart (names_eq name other k q long rest))
     by false h = refl
 
--- ---- what is kept
+-- ---- what stays
 module _ {M : Type 0} (Keeps : (Cell → Bool) → M → M → Type 0) where
   module _ (itself : (p : Cell → Bool) (m : M) → Keeps p m m) where
     pub keeps_itself_in : (p : Cell → Bool) (o : Option M) → KeepsIn Keeps p o o
     keeps_itself_in p None = tt
     keeps_itself_in p (Some m) = itself p m
 
-    -- values keep what they have
+    -- values stay if nothing changes
     pub keeps_itself : (p : Cell → Bool) (s : Map M) → NamedKeep Keeps p s s
     keeps_itself p s name = keeps_itself_in (λ c. p (cell_of name c)) (value_at name s)
 
@@ -161,7 +161,7 @@ module _ {M : Type 0} (Keeps : (Cell → Bool) → M → M → Type 0) where
     fewer_in p q (Some m) None less k = k
     fewer_in p q (Some m) (Some n) less k = fewer p q m n less k
 
-    -- what is kept at some cells is kept at fewer
+    -- what stays at some cells stays at fewer
     pub keeps_fewer : (p q : Cell → Bool) (s t : Map M) → ((c : Cell) → q c ≡ true → p c ≡ true) → NamedKeep Keeps p s t → NamedKeep Keeps q s t
     keeps_fewer p q s t less kept name = fewer_in (λ c. p (cell_of name c)) (λ c. q (cell_of name c)) (value_at name s) (value_at name t) (λ c. less (cell_of name c)) (kept name)
 
@@ -173,7 +173,7 @@ module _ {M : Type 0} (Keeps : (Cell → Bool) → M → M → Type 0) where
     on_in p (Some m) (Some n) None h k = k
     on_in p (Some m) (Some n) (Some l) h k = on p m n l h k
 
-    -- what is kept twice is kept
+    -- what stays in two steps stays
     pub keeps_on : (p : Cell → Bool) (s t u : Map M) → NamedKeep Keeps p s t → NamedKeep Keeps p t u → NamedKeep Keeps p s u
     keeps_on p s t u h k name = on_in (λ c. p (cell_of name c)) (value_at name s) (value_at name t) (value_at name u) (h name) (k name)
 
@@ -186,7 +186,7 @@ module _ {M : Type 0} (Keeps : (Cell → Bool) → M → M → Type 0) where
     content_in p (Some m) None c k pass = absurd k
     content_in p (Some m) (Some n) c k pass = kept_content p m n c k pass
 
-    -- cells that are kept have the same content
+    -- cells that stay have the same content
     pub keeps_content : (p : Cell → Bool) (s t : Map M) (c : Cell) → NamedKeep Keeps p s t → p c ≡ true →
         named_content content t c ≡ named_content content s c
     keeps_content p s t c kept pass = by (split c) refl
@@ -202,7 +202,7 @@ module _ {M : Type 0} (Keeps : (Cell → Bool) → M → M → Type 0) where
     ready_in p (Some m) None i k pass ready = absurd k
     ready_in p (Some m) (Some n) i k pass ready = kept_ready p m n i k pass ready
 
-    -- images of cells that are kept stay ready
+    -- images of cells that stay are still ready
     pub keeps_ready : (p : Cell → Bool) (s t : Map M) (i : NamedImage I) → NamedKeep Keeps p s t → p (named_cell cell i) ≡ true →
         IsNamedReady IsReady s i → IsNamedReady IsReady t i
     keeps_ready p s t i kept pass ready = ready_in (λ c. p (cell_of i.name c)) (value_at i.name s) (value_at i.name t) i.image (kept i.name) pass ready
@@ -216,7 +216,7 @@ module _ {M : Type 0} (Keeps : (Cell → Bool) → M → M → Type 0) where
       undone_in p (Some m) None i k pass ready = k
       undone_in p (Some m) (Some n) i k pass ready = kept_undone p m n i k pass ready
 
-      -- cells that are kept are kept when an image of one of them is undone in both
+      -- cells that stay also stay when an image of one of them is undone in both
       pub keeps_undone : (p : Cell → Bool) (s t : Map M) (i : NamedImage I) → NamedKeep Keeps p s t → p (named_cell cell i) ≡ true →
           IsNamedReady IsReady s i → NamedKeep Keeps p (named_undone undone s i) (named_undone undone t i)
       keeps_undone p s t i kept pass ready q =
@@ -230,7 +230,7 @@ module _ {M : Type 0} (Keeps : (Cell → Bool) → M → M → Type 0) where
                 (subst (KeepsIn Keeps (λ c. p (cell_of q c)) (value_at q s)) (sym (elsewhere step i.name t q apart)) (kept q))
           ]
 
-  -- a step of one value that keeps its other cells keeps all other cells
+  -- a step of one value that leaves its other cells leaves all other cells
   module _ (itself : (p : Cell → Bool) (m : M) → Keeps p m m)
       (fewer : (p q : Cell → Bool) (m n : M) → ((c : Cell) → q c ≡ true → p c ≡ true) → Keeps p m n → Keeps q m n) where
     pub step_keeps : (step : M → M) (name : Bytes) (k : Cell) (s : Map M) →
@@ -246,7 +246,7 @@ module _ {M : Type 0} (Keeps : (Cell → Bool) → M → M → Type 0) where
       undone_kept None i ready = tt
       undone_kept (Some m) i ready = one_undone m i ready
 
-      -- undoing keeps every other cell
+      -- undoing leaves every other cell
       pub undone_keeps : (s : Map M) (i : NamedImage I) → IsNamedReady IsReady s i → NamedKeep Keeps (is_other (named_cell cell i)) s (named_undone undone s i)
       undone_keeps s i ready = step_keeps (λ m. undone m i.image) i.name (cell i.image) s (undone_kept (value_at i.name s) i.image ready)
 
@@ -255,7 +255,7 @@ module _ {M : Type 0} (Keeps : (Cell → Bool) → M → M → Type 0) where
       swept_kept None c = tt
       swept_kept (Some m) c = one_swept m c
 
-      -- sweeping keeps every other cell
+      -- sweeping leaves every other cell
       pub swept_keeps : (s : Map M) (c : Cell) → NamedKeep Keeps (is_other c) s (named_swept swept s c)
       swept_keeps s c = by (split c) refl
         where
@@ -264,7 +264,7 @@ module _ {M : Type 0} (Keeps : (Cell → Bool) → M → M → Type 0) where
           by (Some e) is = subst (λ c. NamedKeep Keeps (is_other c) s (changed_at (λ m. swept m e.1) e.0 s)) (joined c e is)
               (step_keeps (λ m. swept m e.1) e.0 e.1 s (swept_kept (value_at e.0 s) e.1))
 
--- ---- what undoing gives back
+-- ---- what undoing restores
 module _ {M I : Type 0} (content : M → Cell → Content) (cell : I → Cell) (leads : I → Content → Content → Type 0) (IsReady : M → I → Type 0) (undone : M → I → M)
     (one_leads : (m : M) (i : I) → IsReady m i → leads i (content m (cell i)) (content (undone m i) (cell i))) where
   -- a ready image leads back what a name has, which has something
@@ -312,7 +312,7 @@ module _ {M F : Type 0} (fixed : M → F) where
 -- ---- sweeping leaves the contents
 module _ {M : Type 0} (content : M → Cell → Content) (swept : M → Cell → M)
     (one_content : (m : M) (s c : Cell) → content (swept m s) c ≡ content m c) where
-  -- to sweep what a name has leaves its contents, where it has something
+  -- sweeping what a name has leaves its contents, if it has something
   contents_in : (o : Option M) (k c : Cell) → of_value None (λ m. content m c) (option_map (λ m. swept m k) o) ≡ of_value None (λ m. content m c) o
   contents_in None k c = refl
   contents_in (Some m) k c = one_content m k c
@@ -364,7 +364,7 @@ module _ {M : Type 0} (holds_back : M → Cell → Bool) where
     held_other : (o : Option M) (c : Cell) (b : Bool) → b ≡ true → held c o ≡ (held c o && b)
     held_other o c b pass = and_true (held c o) ∙ ap (λ x. held c o && x) (sym pass)
 
-    -- where a cell is swept nothing is held back any more
+    -- at a swept cell nothing is held back any more
     pub swept_holds : (s : Map M) (k c : Cell) → named_holds holds_back (named_swept swept s k) c ≡ (named_holds holds_back s c && is_other k c)
     swept_holds s k c = by (split k) refl (split c) refl
       where

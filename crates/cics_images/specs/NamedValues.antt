@@ -1,5 +1,5 @@
 -- Values by name as one value whose changes are undone: a cell is a name with a cell of the value
--- that has the name. Every law ranges over all lists, also over those whose names do not rise.
+-- of that name. Every law ranges over all lists, also over those whose names don't rise.
 use Rattle.std.specs.Prelude.{Bool, false, if◌then◌else◌, nat_le, Option, Some, None, [], ◌∷◌, ◌++◌, length, take, drop}
 use Rattle.std.specs.Option.{option_map}
 use Rattle.cics_names.specs.Keyed.{Bytes, Map, value_at, with_value}
@@ -10,23 +10,23 @@ use Rattle.cics_images.specs.declared.named.NamedImage.{NamedImage}
 abbrev pub cell_of : Bytes → Cell → Cell
 cell_of name c = length name ∷ (name ++ c)
 
--- a cell as a name and a cell of the value; none where the bytes are too short to have a name of
--- that length
+-- a cell as a name and a cell of the value; none if the bytes are too short for a name of that
+-- length
 abbrev pub split : Cell → Option (Bytes × Cell)
 split [] = None
 split (n ∷ rest) = if nat_le n (length rest) then Some (take n rest, drop n rest) else None
 
--- what a value that may be there gives
+-- a function of a value that may be there
 abbrev pub of_value : {M A : Type 0} → A → (M → A) → Option M → A
 of_value none f None = none
 of_value none f (Some m) = f m
 
--- what the value gives that a cell is of
+-- a function of the value that a cell is of
 abbrev pub of_split : {M A : Type 0} → A → (M → Cell → A) → Map M → Option (Bytes × Cell) → A
 of_split none f s None = none
 of_split none f s (Some e) = of_value none (λ m. f m e.1) (value_at e.0 s)
 
--- what a cell contains: nothing where no value has its name
+-- what a cell contains: nothing if no value has its name
 abbrev pub named_content : {M : Type 0} → (M → Cell → Content) → Map M → Cell → Content
 named_content content s c = of_split None content s (split c)
 
@@ -38,7 +38,7 @@ named_holds holds_back s c = of_split false holds_back s (split c)
 abbrev pub named_cell : {I : Type 0} → (I → Cell) → NamedImage I → Cell
 named_cell cell i = cell_of i.name (cell i.image)
 
--- an image is ready where its value is there and finds it ready
+-- an image is ready if its value is there and finds it ready
 abbrev pub IsReadyIn : {M I : Type 0} → (M → I → Type 0) → Option M → I → Type 0
 IsReadyIn IsReady None i = ⊥
 IsReadyIn IsReady (Some m) i = IsReady m i
@@ -69,7 +69,7 @@ split_swept swept s (Some e) = changed_at (λ m. swept m e.1) e.0 s
 abbrev pub named_swept : {M : Type 0} → (M → Cell → M) → Map M → Cell → Map M
 named_swept swept s c = split_swept swept s (split c)
 
--- neither value is there, or the second keeps what the first has at the cells that pass
+-- neither value is there, or the second has what the first has at the cells that pass
 abbrev pub KeepsIn : {M : Type 0} → ((Cell → Bool) → M → M → Type 0) → (Cell → Bool) → Option M → Option M → Type 0
 KeepsIn Keeps p None None = Unit {0}
 KeepsIn Keeps p None (Some n) = ⊥
@@ -80,12 +80,12 @@ KeepsIn Keeps p (Some m) (Some n) = Keeps p m n
 abbrev pub NamedKeep : {M : Type 0} → ((Cell → Bool) → M → M → Type 0) → (Cell → Bool) → Map M → Map M → Type 0
 NamedKeep Keeps p s t = (name : Bytes) → KeepsIn Keeps (λ c. p (cell_of name c)) (value_at name s) (value_at name t)
 
--- what was fixed for each name. By name and not as a list, since in a list whose names do not rise
--- a change may add an entry
+-- what was fixed for each name. By name and not as a list, since in a list whose names don't rise a
+-- change may add an entry
 abbrev pub named_fixed : {M F : Type 0} → (M → F) → Map M → Bytes → Option F
 named_fixed fixed s name = option_map fixed (value_at name s)
 
--- a value takes the place of the one that has its name
+-- a value replaces the one of its name
 abbrev pub replaced : {M : Type 0} → Map M → Bytes → M → Option M → Map M
 replaced s name m None = s
 replaced s name m (Some old) = with_value name m s

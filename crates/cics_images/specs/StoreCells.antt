@@ -1,5 +1,5 @@
--- Files, temporary storage and transient data side by side as one value whose changes are undone: a
--- cell is one of the three, told apart by the first byte, with a cell of it.
+-- Files, temporary storage and transient data side by side as one value whose changes are undone. A
+-- cell is one of the three, told by the first byte, with a cell of it.
 use Rattle.std.specs.Prelude.{zero, suc, Bool, false, None, [], ◌∷◌}
 use Rattle.cics_images.specs.Cells.{Cell, Content}
 use Rattle.cics_images.specs.declared.stores.Stores.{Stores}
@@ -18,7 +18,7 @@ temp_cell c = 1 ∷ c
 abbrev pub trans_cell : Cell → Cell
 trans_cell c = 2 ∷ c
 
--- by which of the three a cell is of; this where it is of none
+-- by which of the three a cell is of; the first value if it is of none
 abbrev pub by_part : {A : Type 0} → A → (Cell → A) → (Cell → A) → (Cell → A) → Cell → A
 by_part none f t d [] = none
 by_part none f t d (zero ∷ c) = f c
@@ -84,7 +84,7 @@ module _ {F T D : Type 0} where
   stores_fixed f t d s = record { files = f s.files; temp_storage = t s.temp_storage; trans_data = d s.trans_data }
 
   module _ {I J K : Type 0} where
-    -- an image is ready where that of the three is which it is of
+    -- an image is ready if the one of its part is
     abbrev pub IsStoresReady : (F → I → Type 0) → (T → J → Type 0) → (D → K → Type 0) → Stores F T D → StoreImage I J K → Type 0
     IsStoresReady f t d s (File i) = f s.files i
     IsStoresReady f t d s (TempStorage i) = t s.temp_storage i

@@ -1,6 +1,6 @@
 -- What a change of the files, of temporary storage or of transient data is among the three: its
--- image is an image of them together. That the other cells keep what they have is `files_keep`,
--- `temp_storage_keeps` and `trans_data_keeps` of the laws.
+-- image is an image of them together. The other cells stay by `files_keep`, `temp_storage_keeps`
+-- and `trans_data_keeps` of the laws.
 use Rattle.std.specs.Prelude.{Bool, true}
 use Rattle.std.proofs.Common.{ap}
 use Rattle.cics_images.specs.Cells.{Cell, Content}

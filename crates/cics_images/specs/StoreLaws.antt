@@ -157,7 +157,7 @@ module _ {F T D : Type 0} where
       abbrev sweep : Stores F T D → Cell → Stores F T D
       sweep s k = stores_swept swept_f swept_t swept_d s k
 
-      -- where a cell is swept nothing is held back any more
+      -- at a swept cell nothing is held back any more
       pub swept_holds : (s : Stores F T D) (k c : Cell) → holds (sweep s k) c ≡ (holds s c && is_other k c)
       swept_holds s [] c = none c
         where
@@ -197,13 +197,13 @@ module _ {F T D : Type 0} where
           none (suc (suc zero) ∷ c) = with_true (holds_d s.trans_data c) _ (apart (suc (suc (suc n))) 2 k c (λ e. omega (arith, e)))
           none (suc (suc (suc m)) ∷ c) = refl
 
-  -- ---- what is kept
+  -- ---- what stays
   module _ (keeps_f : (Cell → Bool) → F → F → Type 0) (keeps_t : (Cell → Bool) → T → T → Type 0) (keeps_d : (Cell → Bool) → D → D → Type 0) where
     abbrev Keeps : (Cell → Bool) → Stores F T D → Stores F T D → Type 0
     Keeps p s n = StoresKeep keeps_f keeps_t keeps_d p s n
 
     module _ (f : (p : Cell → Bool) (m : F) → keeps_f p m m) (t : (p : Cell → Bool) (m : T) → keeps_t p m m) (d : (p : Cell → Bool) (m : D) → keeps_d p m m) where
-      -- the three keep what they have
+      -- the three stay if nothing changes
       pub keeps_itself : (p : Cell → Bool) (s : Stores F T D) → Keeps p s s
       keeps_itself p s = record {
         files = f (λ c. p (file_cell c)) s.files;
@@ -211,7 +211,7 @@ module _ {F T D : Type 0} where
         trans_data = d (λ c. p (trans_cell c)) s.trans_data;
       }
 
-      -- where one of the three changes and keeps its other cells, all other cells are kept
+      -- if one of the three changes and leaves its other cells, all other cells stay
       pub files_keep : (c : Cell) (s : Stores F T D) (new : F) → keeps_f (is_other c) s.files new → Keeps (is_other (file_cell c)) s (with_files s new)
       files_keep c s new kept = record {
         files = kept;
@@ -238,7 +238,7 @@ module _ {F T D : Type 0} where
     module _ (f : (p q : Cell → Bool) (m n : F) → ((c : Cell) → q c ≡ true → p c ≡ true) → keeps_f p m n → keeps_f q m n)
         (t : (p q : Cell → Bool) (m n : T) → ((c : Cell) → q c ≡ true → p c ≡ true) → keeps_t p m n → keeps_t q m n)
         (d : (p q : Cell → Bool) (m n : D) → ((c : Cell) → q c ≡ true → p c ≡ true) → keeps_d p m n → keeps_d q m n) where
-      -- what is kept at some cells is kept at fewer
+      -- what stays at some cells stays at fewer
       pub keeps_fewer : (p q : Cell → Bool) (s n : Stores F T D) → ((c : Cell) → q c ≡ true → p c ≡ true) → Keeps p s n → Keeps q s n
       keeps_fewer p q s n less kept = record {
         files = f (λ c. p (file_cell c)) (λ c. q (file_cell c)) s.files n.files (λ c. less (file_cell c)) kept.files;
@@ -249,7 +249,7 @@ module _ {F T D : Type 0} where
     module _ (f : (p : Cell → Bool) (l m n : F) → keeps_f p l m → keeps_f p m n → keeps_f p l n)
         (t : (p : Cell → Bool) (l m n : T) → keeps_t p l m → keeps_t p m n → keeps_t p l n)
         (d : (p : Cell → Bool) (l m n : D) → keeps_d p l m → keeps_d p m n → keeps_d p l n) where
-      -- what is kept twice is kept
+      -- what stays in two steps stays
       pub keeps_on : (p : Cell → Bool) (l m n : Stores F T D) → Keeps p l m → Keeps p m n → Keeps p l n
       keeps_on p l m n first second = record {
         files = f (λ c. p (file_cell c)) l.files m.files n.files first.files second.files;
@@ -261,7 +261,7 @@ module _ {F T D : Type 0} where
         (f : (p : Cell → Bool) (m n : F) (c : Cell) → keeps_f p m n → p c ≡ true → content_f n c ≡ content_f m c)
         (t : (p : Cell → Bool) (m n : T) (c : Cell) → keeps_t p m n → p c ≡ true → content_t n c ≡ content_t m c)
         (d : (p : Cell → Bool) (m n : D) (c : Cell) → keeps_d p m n → p c ≡ true → content_d n c ≡ content_d m c) where
-      -- cells that are kept have the same content
+      -- cells that stay have the same content
       pub keeps_content : (p : Cell → Bool) (s n : Stores F T D) (c : Cell) → Keeps p s n → p c ≡ true →
           stores_content content_f content_t content_d n c ≡ stores_content content_f content_t content_d s c
       keeps_content p s n [] kept pass = refl
@@ -275,7 +275,7 @@ module _ {F T D : Type 0} where
       module _ (f : (p : Cell → Bool) (m n : F) (i : I) → keeps_f p m n → p (cell_f i) ≡ true → ready_f m i → ready_f n i)
           (t : (p : Cell → Bool) (m n : T) (i : J) → keeps_t p m n → p (cell_t i) ≡ true → ready_t m i → ready_t n i)
           (d : (p : Cell → Bool) (m n : D) (i : K) → keeps_d p m n → p (cell_d i) ≡ true → ready_d m i → ready_d n i) where
-        -- images of cells that are kept stay ready
+        -- images of cells that stay are still ready
         pub keeps_ready : (p : Cell → Bool) (s n : Stores F T D) (i : StoreImage I J K) → Keeps p s n → p (image_cell cell_f cell_t cell_d i) ≡ true →
             IsStoresReady ready_f ready_t ready_d s i → IsStoresReady ready_f ready_t ready_d n i
         keeps_ready p s n (File i) kept pass ready = f (λ c. p (file_cell c)) s.files n.files i kept.files pass ready
@@ -286,7 +286,7 @@ module _ {F T D : Type 0} where
         module _ (f : (p : Cell → Bool) (m n : F) (i : I) → keeps_f p m n → p (cell_f i) ≡ true → ready_f m i → keeps_f p (undone_f m i) (undone_f n i))
             (t : (p : Cell → Bool) (m n : T) (i : J) → keeps_t p m n → p (cell_t i) ≡ true → ready_t m i → keeps_t p (undone_t m i) (undone_t n i))
             (d : (p : Cell → Bool) (m n : D) (i : K) → keeps_d p m n → p (cell_d i) ≡ true → ready_d m i → keeps_d p (undone_d m i) (undone_d n i)) where
-          -- cells that are kept are kept when an image of one of them is undone in both
+          -- cells that stay also stay when an image of one of them is undone in both
           pub keeps_undone : (p : Cell → Bool) (s n : Stores F T D) (i : StoreImage I J K) → Keeps p s n → p (image_cell cell_f cell_t cell_d i) ≡ true →
               IsStoresReady ready_f ready_t ready_d s i → Keeps p (stores_undone undone_f undone_t undone_d s i) (stores_undone undone_f undone_t undone_d n i)
           keeps_undone p s n (File i) kept pass ready = record { files = f (λ c. p (file_cell c)) s.files n.files i kept.files pass ready; temp_storage = kept.temp_storage; trans_data = kept.trans_data }
@@ -297,7 +297,7 @@ module _ {F T D : Type 0} where
             (f : (m : F) (i : I) → ready_f m i → keeps_f (is_other (cell_f i)) m (undone_f m i))
             (t : (m : T) (i : J) → ready_t m i → keeps_t (is_other (cell_t i)) m (undone_t m i))
             (d : (m : D) (i : K) → ready_d m i → keeps_d (is_other (cell_d i)) m (undone_d m i)) where
-          -- undoing keeps every other cell
+          -- undoing leaves every other cell
           pub undone_keeps : (s : Stores F T D) (i : StoreImage I J K) → IsStoresReady ready_f ready_t ready_d s i →
               Keeps (is_other (image_cell cell_f cell_t cell_d i)) s (stores_undone undone_f undone_t undone_d s i)
           undone_keeps s (File i) ready = files_keep self_f self_t self_d (cell_f i) s (undone_f s.files i) (f s.files i ready)
@@ -309,7 +309,7 @@ module _ {F T D : Type 0} where
         (f : (m : F) (c : Cell) → keeps_f (is_other c) m (swept_f m c))
         (t : (m : T) (c : Cell) → keeps_t (is_other c) m (swept_t m c))
         (d : (m : D) (c : Cell) → keeps_d (is_other c) m (swept_d m c)) where
-      -- sweeping keeps every other cell
+      -- sweeping leaves every other cell
       pub swept_keeps : (s : Stores F T D) (c : Cell) → Keeps (is_other c) s (stores_swept swept_f swept_t swept_d s c)
       swept_keeps s [] = keeps_itself self_f self_t self_d (is_other []) s
       swept_keeps s (zero ∷ c) = files_keep self_f self_t self_d c s (swept_f s.files c) (f s.files c)

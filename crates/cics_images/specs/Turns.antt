@@ -1,4 +1,4 @@
--- Images that are ready in turn stay so where their cells are kept.
+-- Images that are ready in turn stay so if their cells stay.
 use Rattle.std.specs.Prelude.{◌≡◌, Bool, true, List, [], ◌∷◌}
 use Rattle.std.proofs.Common.{sym, ◌∙◌, subst}
 use Rattle.cics_images.specs.Cells.{Cell, Content, LeadBack, AreReadyInTurn, AreOf}
@@ -9,7 +9,7 @@ module _ {M I : Type 0} (cell : I → Cell) (IsReady : M → I → Type 0) (undo
     IsReady n i)
     (keeps_undone : (p : Cell → Bool) (m n : M) (i : I) → Keeps p m n → p (cell i) ≡ true → IsReady m i →
     Keeps p (undone m i) (undone n i)) where
-  -- images that are ready in turn stay so where the cells that they name are kept
+  -- images that are ready in turn stay so if the cells that they name stay
   pub in_turn_kept : (p : Cell → Bool) (m n : M) (images : List I) → Keeps p m n → AreOf cell p images →
       AreReadyInTurn IsReady undone m images → AreReadyInTurn IsReady undone n images
   in_turn_kept p m n [] kept named ready = tt

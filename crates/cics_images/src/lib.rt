@@ -1,8 +1,8 @@
 //! Before images: what a change leaves so that it can be undone.
 //!
-//! A resource whose changes can be undone is `Undoable`; each change of it gives an image. A unit
-//! of work keeps its images in `Images`, and ends in one of two ways: a backout undoes them, newest
-//! first, and a commit gives them up.
+//! A resource whose changes can be undone is `Undoable`; each change of it makes an image. A unit
+//! of work has its images in `Images`. A backout undoes them, newest first, and a commit drops
+//! them.
 #![tactic(auto)]
 
 mod images;

@@ -27,13 +27,13 @@ all_stored old new kept [] made ready = subst (λ f. AreReadyInTurn IsReadyImage
 all_stored old new kept (i ∷ is) made ready =
     all_stored made.0 new (i ∷ kept) is made.2 (images_stored old made.0 (key_of_image i) (Some i) i kept made.1 refl ready)
 
--- each entry stands in the file under its own key, and their keys rise
+-- each entry is in the file under its own key, and their keys rise
 abbrev pub AreThere : FileValue → Map Bytes → Type 0
 AreThere f [] = Unit {0}
 AreThere f (e ∷ es) = (value_at e.0 f.records ≡ Some e.1) × (key_of f.definition e.1 ≡ e.0) × T (below_all bytes_cmp e.0 es) × AreThere f es
 
 -- ---- in the order of the keys
--- where two tests hold, the first holds
+-- if two tests hold, the first holds
 pub front : (a b : Bool) → T (a && b) → T a
 front true b p = tt
 front false b p = p
@@ -101,7 +101,7 @@ deleted_keeps keep f key = by (has_key key f.records) keep
     by true false = dropped_keeps f key
     by false keep = keeps_itself (is_other key) f
 
--- a key that is there is emptied, or without keep dropped
+-- a key that is there is emptied, or without `keep` dropped
 pub emptied_there : (f : FileValue) (key r : Bytes) → value_at key f.records ≡ Some r → deleted true f key ≡ emptied f key
 emptied_there f key r there = ap (λ (o : Option Bytes). if is_some o then emptied f key else f) there
 

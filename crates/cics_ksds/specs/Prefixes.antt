@@ -1,5 +1,5 @@
--- DELETE with GENERIC: the records whose keys begin with the same bytes are deleted, each as DELETE
--- of its key deletes it.
+-- DELETE with GENERIC: it deletes the records whose keys begin with the same bytes, each as DELETE
+-- of its key does.
 use Rattle.std.specs.Prelude.{◌≡◌, Bool, not, if◌then◌else◌, List, [], ◌∷◌, map, fold, nat_eq}
 use Rattle.std.specs.List.{filter, starts_with}
 use Rattle.cics_names.specs.Keyed.{Bytes, Map}
@@ -40,11 +40,11 @@ without_prefix keep f prefix = all_deleted keep f (keys_under prefix f.records)
 abbrev pub removed_entry : FileDef → Bytes × Bytes → ImageValue
 removed_entry d e = record { definition = d; before = Removed e.1 }
 
--- the image of its key alone, which takes the record up as it is deleted
+-- the image of its key alone, into which the record moves when it is deleted
 abbrev pub added_entry : FileDef → Bytes × Bytes → ImageValue
 added_entry d e = record { definition = d; before = Added e.0 }
 
--- the images of the deleted records in the order of their keys, where they are kept
+-- the images of the deleted records in the order of their keys, if they are stored
 abbrev pub prefix_images : Bool → FileValue → Bytes → List ImageValue
 prefix_images keep f prefix = if keep then map (removed_entry f.definition) (under prefix f.records) else []
 
@@ -53,6 +53,6 @@ abbrev pub AreFileImages : FileValue → FileValue → List ImageValue → Type 
 AreFileImages old new [] = new ≡ old
 AreFileImages old new (image ∷ images) = (mid : FileValue) × IsFileImage old mid (key_of_image image) image × AreFileImages mid new images
 
--- the images, put one after another on those that a unit of work keeps, newest first
+-- the images, stored one after another behind those of a unit of work, newest first
 abbrev pub stored_on : List ImageValue → List ImageValue → List ImageValue
 stored_on kept images = fold (λ kept image. image ∷ kept) kept images

@@ -9,12 +9,12 @@ abbrev pub number : ℕ → List ℕ → ℕ
 number high [] = high
 number high (byte ∷ bytes) = number (high * 256 + byte) bytes
 
--- the first so many of these numbers are bytes
+-- the first of these numbers, this many, are bytes
 abbrev pub AreBytes : ℕ → List ℕ → Type 0
 AreBytes count bytes = (i : ℕ) → i < count → slice_index bytes i < 256
 
--- where the second eight bytes of a key begin: behind the first, or so that they end with the key
--- where it has fewer than 16
+-- where the second eight bytes of a key begin: behind the first, or if it has fewer than 16, so
+-- that they end with it
 abbrev pub second_at : List ℕ → ℕ
 second_at key = 8 - (16 - length key)
 
@@ -26,6 +26,6 @@ pub record AreNumbers (key : List ℕ) (n : Numbers) : Type 0 where
   pub first_bytes : AreBytes 8 key
   pub second_bytes : AreBytes 8 (drop (second_at key) key)
 
--- where the mark has numbers, they are those of the key that lies in the bytes
+-- if the key head has numbers, they are those of the key that lies in the bytes
 abbrev pub IsMarked : List ℕ → Mark → Type 0
 IsMarked bytes mark = 0 < mark.length → AreNumbers (take mark.length (drop mark.offset bytes)) mark.numbers

@@ -14,18 +14,18 @@ use cics_names::NoMemory;
 use std::alloc::Global;
 use std::marker::Model;
 
-/// How many intervals an area has at the most.
+/// How many intervals an area has at most.
 pub(crate) const FULL: usize = 64;
 
 /// How many intervals of a full area stay in it when it is split.
 pub(crate) const HALF: usize = 32;
 
 /// Up to 64 intervals, in the order of their keys. It is made with room for all 64, so that no edit
-/// of it takes memory. Contracts see the list of its intervals, each as the list of its places.
+/// of it takes memory. Contracts see the list of its intervals, each as the list of its slots.
 #[derive(Debug, Drop)]
 pub(crate) struct Area {
     intervals: Vec<Interval>,
-    /// The mark of the first place, by which an area is found without reading its intervals.
+    /// The key head of the first slot, by which an area is found without reading its intervals.
     head: Mark,
 }
 
@@ -46,7 +46,7 @@ impl Model for Area {
 }
 
 impl Area {
-    /// An area without intervals, which the caller will fill.
+    /// Returns an area without intervals, which the caller will fill.
     pub(crate) fn new(alloc: Global) -> Result<Area, NoMemory>
         ensures { IfOk result (λ made. made ≡ []) }
     {
@@ -56,21 +56,21 @@ impl Area {
         })
     }
 
-    /// The intervals, in the order of their keys.
+    /// Returns the intervals, in the order of their keys.
     pub(crate) fn intervals(&self) -> &[Interval]
         ensures intervals { result.now ≡ self.now }
     {
         self.intervals.as_slice()
     }
 
-    /// The mark of the first place, where there is one. It is kept beside the intervals.
+    /// Returns the key head of the first slot, if there is one. It is stored beside the intervals.
     pub(crate) fn head(&self) -> Mark
         ensures { IsAreaHead self.now result }
     {
         self.head
     }
 
-    /// How many intervals there are.
+    /// Returns how many intervals there are.
     pub(crate) fn count(&self) -> usize
         ensures count { result ≡ length self.now }
         ensures at_most { length self.now ≤ 64 }
@@ -78,7 +78,7 @@ impl Area {
         self.intervals.len()
     }
 
-    /// An area with the same intervals.
+    /// Returns an area with the same intervals.
     pub(crate) fn copy(&self, alloc: Global) -> Result<Area, NoMemory>
         ensures { IfOk result (λ copy. copy ≡ self.now) }
     {
@@ -93,7 +93,7 @@ impl Area {
         })
     }
 
-    /// Puts a place in the stead of another, and answers that one.
+    /// Replaces a slot, and returns the old one.
     pub(crate) fn put(&mut self, interval: usize, at: usize, place: Place) -> Place
         requires interval { interval < length self.old }
         requires at { at < length (interval_in self.old interval) }
@@ -106,7 +106,7 @@ impl Area {
         old
     }
 
-    /// Puts a place into an interval that has room for it.
+    /// Inserts a slot into an interval that has room for it.
     pub(crate) fn insert(&mut self, interval: usize, at: usize, place: Place)
         requires interval { interval < length self.old }
         requires at { at ≤ length (interval_in self.old interval) }
@@ -118,7 +118,7 @@ impl Area {
         self.head = head_of(self.intervals.as_slice());
     }
 
-    /// Takes a place out, and answers it. The interval may be left without places.
+    /// Removes a slot, and returns it. The interval may be left without slots.
     pub(crate) fn remove(&mut self, interval: usize, at: usize) -> Place
         requires interval { interval < length self.old }
         requires at { at < length (interval_in self.old interval) }
@@ -131,7 +131,7 @@ impl Area {
         old
     }
 
-    /// Takes an interval out, and answers it.
+    /// Removes an interval, and returns it.
     pub(crate) fn remove_interval(&mut self, interval: usize) -> Interval
         requires { interval < length self.old }
         ensures intervals { self.new ≡ remove self.old interval }
@@ -181,7 +181,7 @@ impl Area {
     }
 }
 
-/// The mark of the first place of the first interval, or of none.
+/// Returns the key head of the first slot of the first interval, or of none.
 fn head_of(intervals: &[Interval]) -> Mark
     ensures { IsAreaHead intervals.now result }
 {

@@ -1,4 +1,4 @@
-//! The order of keys, by which the places of a file stand.
+//! The order of keys, by which the slots of a file stand.
 
 ghost use Rattle.std.specs.Prelude.{◌≡◌, ◌≤◌, length, take};
 ghost use Rattle.std.specs.Ordering.{nat_cmp, ordering_then};
@@ -10,7 +10,7 @@ use std::cmp::Ordering;
 /// How many bytes are compared as one number.
 pub(crate) const WORD: usize = 8;
 
-/// The first eight bytes of a key as a number, whose highest digit is the first of them.
+/// Returns the first eight bytes of a key as a number, whose highest digit is the first of them.
 fn word_of(key: &[u8]) -> u64
     requires { 8 ≤ length key.now }
     ensures value { result ≡ number 0 (take 8 key.now) }
@@ -21,11 +21,11 @@ fn word_of(key: &[u8]) -> u64
     ])
 }
 
-/// The first 16 bytes of a key as two numbers, by which keys of the same length are compared
+/// The first 16 bytes of a key as two numbers. Keys of the same length are compared by these,
 /// without their bytes.
 ///
-/// Of a key with fewer than 16 bytes, the second number is that of its last eight: those that it
-/// has in common with the first don't change the order where the first numbers are equal.
+/// If a key has fewer than 16 bytes, the second number is that of its last eight. Bytes that it
+/// shares with the first don't change the order of keys with equal first numbers.
 #[derive(Clone, Copy, Debug)]
 pub(crate) struct Numbers {
     /// The first eight bytes.
@@ -38,7 +38,7 @@ impl Numbers {
     /// How many bytes of a key the two numbers hold.
     pub(crate) const BYTES: usize = 16;
 
-    /// The numbers of a key that has eight bytes.
+    /// Returns the numbers of a key that has eight bytes.
     pub(crate) fn of(key: &[u8]) -> Numbers
         requires { 8 ≤ length key.now }
         ensures { AreNumbers key.now result }
@@ -50,7 +50,7 @@ impl Numbers {
         }
     }
 
-    /// The order of the first numbers, or that of the second where those are equal.
+    /// Returns the order of the first numbers, or if those are equal, that of the second.
     pub(crate) fn order(self, other: Numbers) -> Ordering
         ensures { result ≡ ordering_then (nat_cmp self.first other.first)
             (nat_cmp self.second other.second) }
@@ -63,10 +63,11 @@ impl Numbers {
     }
 }
 
-/// The order of two keys: that of the first bytes that differ, unsigned, or else of their lengths.
+/// Returns the order of two keys: that of the first bytes that differ, unsigned, or else of their
+/// lengths.
 ///
-/// Where both have eight bytes the first eight are compared as one number, which has the order of
-/// the bytes.
+/// If both have eight bytes, the first eight are compared as one number, which has the order of the
+/// bytes.
 pub(crate) fn order_of(left: &[u8], right: &[u8]) -> Ordering
     ensures { result ≡ bytes_cmp left.now right.now }
 {
@@ -81,8 +82,8 @@ pub(crate) fn order_of(left: &[u8], right: &[u8]) -> Ordering
     }
 }
 
-/// The order of two keys that have eight bytes: where they are of one length, most often that of
-/// their numbers.
+/// Returns the order of two keys that have eight bytes. If they have the same length, that is most
+/// often the order of their numbers.
 fn order_of_long(left: &[u8], right: &[u8]) -> Ordering
     requires left { 8 ≤ length left.now }
     requires right { 8 ≤ length right.now }

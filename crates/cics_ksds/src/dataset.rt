@@ -1,4 +1,4 @@
-//! All places of a file, in intervals, and those in areas.
+//! All slots of a file, in intervals, and those in areas.
 
 ghost use Rattle.std.specs.Prelude.{◌≡◌, ◌+◌, ◌*◌, ◌^◌, ◌<◌, ◌≤◌, [], ◌∷◌, All, IfOk, OnOk, OnErr};
 ghost use Rattle.std.specs.Prelude.{length, slice_set, slice_index_or, vec_len, vec_capacity};
@@ -15,19 +15,19 @@ use cics_names::NoMemory;
 use std::alloc::Global;
 use std::marker::Model;
 
-/// The places of a file, in the order of their keys: in intervals of 1 to 16 places, and those in
-/// areas of 1 to 64 intervals. So a place that comes in or goes moves only a few others.
+/// The slots of a file, in the order of their keys. They are in intervals of 1 to 16 slots, and
+/// those in areas of 1 to 64 intervals. So an insert or a removal moves only a few slots.
 ///
 /// Contracts see the list of the areas, each as the list of its intervals, each as the list of its
-/// places.
+/// slots.
 #[derive(Debug, Drop)]
 pub(crate) struct Dataset {
     areas: Vec<Area>,
     /// How many intervals there are in all areas.
     count: u64,
-    /// How many places there are in all intervals.
+    /// How many slots there are in all intervals.
     len: u64,
-    /// How many of the places are empty.
+    /// How many of the slots are empty.
     empties: u64,
 }
 
@@ -49,7 +49,7 @@ impl Model for Dataset {
 }
 
 impl Dataset {
-    /// No places. It takes no memory.
+    /// Returns a list without slots. It takes no memory.
     pub(crate) fn new(alloc: Global) -> Dataset
         ensures { result ≡ [] }
     {
@@ -61,7 +61,7 @@ impl Dataset {
         }
     }
 
-    /// The areas, in the order of their keys.
+    /// Returns the areas, in the order of their keys.
     pub(crate) fn areas(&self) -> &[Area]
         ensures areas { result.now ≡ self.now }
         ensures each { All IsArea self.now }
@@ -69,7 +69,7 @@ impl Dataset {
         self.areas.as_slice()
     }
 
-    /// The intervals of an area, in the order of their keys.
+    /// Returns the intervals of an area, in the order of their keys.
     pub(crate) fn intervals(&self, area: usize) -> &[Interval]
         requires { area < length self.now }
         ensures { result.now ≡ slice_index_or self.now area [] }
@@ -77,7 +77,7 @@ impl Dataset {
         self.areas[area].intervals()
     }
 
-    /// The places of an interval, in the order of their keys.
+    /// Returns the slots of an interval, in the order of their keys.
     pub(crate) fn places(&self, area: usize, interval: usize) -> &[Place]
         requires area { area < length self.now }
         requires interval { interval < length (slice_index_or self.now area []) }
@@ -86,7 +86,7 @@ impl Dataset {
         self.intervals(area)[interval].places()
     }
 
-    /// Where the place at a position is, or the next one where its interval ends there.
+    /// Returns where the slot at a position is, or if its interval ends there, the next one.
     pub(crate) fn next(&self, at: Position) -> Option<Position>
         requires there { 0 < length self.now → IsThere self.now at }
         requires place { at.place ≤ length (interval_at self.now at) }
@@ -117,7 +117,7 @@ impl Dataset {
         None
     }
 
-    /// Where the place before a position is.
+    /// Returns where the slot before a position is.
     pub(crate) fn previous(&self, at: Position) -> Option<Position>
         requires there { 0 < length self.now → IsThere self.now at }
         requires place { at.place ≤ length (interval_at self.now at) }
@@ -152,7 +152,7 @@ impl Dataset {
         })
     }
 
-    /// How many intervals there are. It is kept beside the areas, and not counted anew.
+    /// Returns how many intervals there are. Cost: O(1).
     pub(crate) fn count(&self) -> u64
         ensures count { result ≡ length (joined self.now) }
         ensures at_least { length (places_in self.now) ≤ 16 * result }
@@ -161,21 +161,21 @@ impl Dataset {
         self.count
     }
 
-    /// How many places there are. It is kept beside them, and not counted anew.
+    /// Returns how many slots there are. Cost: O(1).
     pub(crate) fn len(&self) -> u64
         ensures { result ≡ length (places_in self.now) }
     {
         self.len
     }
 
-    /// How many of the places are empty. It is kept beside them, and not counted anew.
+    /// Returns how many of the slots are empty. Cost: O(1).
     pub(crate) fn empties(&self) -> u64
         ensures { result ≡ empty_count (places_in self.now) }
     {
         self.empties
     }
 
-    /// Places like these in the same intervals, those in the same areas.
+    /// Returns slots like these in the same intervals, and those in the same areas.
     pub(crate) fn copy(&self, alloc: Global) -> Result<Dataset, NoMemory>
         ensures { IfOk result (λ copy. copy ≡ self.now) }
     {
@@ -192,7 +192,7 @@ impl Dataset {
         })
     }
 
-    /// Puts a place in the stead of another, and answers that one. It takes no memory.
+    /// Replaces a slot, and returns the old one. It takes no memory.
     pub(crate) fn put(&mut self, at: Position, place: Place) -> Place
         requires there { IsThere self.old at }
         requires place { at.place < length (interval_at self.old at) }
@@ -206,9 +206,9 @@ impl Dataset {
         old
     }
 
-    /// Puts a place in. A full interval is split first, and so is a full area.
+    /// Inserts a slot. A full interval is split first, and so is a full area.
     ///
-    /// All memory is taken before anything changes: `NoMemory` where it is refused.
+    /// All memory is requested before anything changes. The only error is `NoMemory`.
     pub(crate) fn insert(
         &mut self,
         alloc: Global,
@@ -230,7 +230,7 @@ impl Dataset {
         }
     }
 
-    /// Puts the first place of all in.
+    /// Inserts the first slot of all.
     fn insert_first(&mut self, alloc: Global, place: Place) -> Result<(), NoMemory>
         requires { self.old ≡ [] }
         ensures ok { OnOk result (self.new ≡ ((place ∷ []) ∷ []) ∷ []) }
@@ -248,7 +248,7 @@ impl Dataset {
         Ok(())
     }
 
-    /// Puts a place in where there are others.
+    /// Inserts a slot, if there are others.
     fn insert_among(&mut self, alloc: Global, at: Position, place: Place) -> Result<(), NoMemory>
         requires there { IsThere self.old at }
         requires place { at.place ≤ length (interval_at self.old at) }
@@ -258,7 +258,7 @@ impl Dataset {
             ≡ with_place (joined self.old) (number_of self.old at) at.place place) }
         ensures err { OnErr result (self.new ≡ self.old) }
     {
-        // More places than a number can tell are refused as memory is: no machine holds them.
+        // More slots than a number can tell are refused as memory is: no machine has them.
         let Some(len) = self.len.checked_add(1) else {
             return Err(NoMemory);
         };
@@ -270,8 +270,8 @@ impl Dataset {
         Ok(())
     }
 
-    /// Splits an interval that is full, and answers where the new place goes then: between the two
-    /// halves it goes to the end of the first.
+    /// Splits a full interval, and returns where the new slot goes then. Between the two halves it
+    /// goes to the end of the first.
     fn make_room(&mut self, alloc: Global, at: Position) -> Result<Position, NoMemory>
         requires there { IsThere self.old at }
         requires place { at.place ≤ length (interval_at self.old at) }
@@ -281,7 +281,7 @@ impl Dataset {
         if places_at(&self.areas, at) < intervals::FULL {
             return Ok(at);
         }
-        // More intervals than a count can tell are refused as memory is: no machine holds them.
+        // More intervals than a count can tell are refused as memory is: no machine has them.
         let Some(count) = self.count.checked_add(1) else {
             return Err(NoMemory);
         };
@@ -299,7 +299,7 @@ impl Dataset {
         })
     }
 
-    /// Splits an area that is full, and answers where the position is then.
+    /// Splits a full area, and returns where the position is then.
     fn make_area_room(&mut self, alloc: Global, at: Position) -> Result<Position, NoMemory>
         requires { IsThere self.old at }
         ensures intervals { joined self.new ≡ joined self.old }
@@ -314,8 +314,8 @@ impl Dataset {
         Ok(split_area(&mut self.areas, at, right))
     }
 
-    /// Takes a place out, and answers it. An interval that it leaves without places goes too, and
-    /// an area without intervals.
+    /// Removes a slot, and returns it. An interval that is left without slots is removed too, and
+    /// so is an area without intervals.
     pub(crate) fn remove(&mut self, at: Position) -> Place
         requires there { IsThere self.old at }
         requires place { at.place < length (interval_at self.old at) }
@@ -338,7 +338,7 @@ impl Dataset {
     }
 }
 
-/// How many places there are in the interval of a position.
+/// Returns how many slots there are in the interval of a position.
 fn places_at(areas: &Vec<Area>, at: Position) -> usize
     requires { IsThere areas.now.items at }
     ensures count { result ≡ length (interval_at areas.now.items at) }
@@ -386,8 +386,7 @@ fn split_area(areas: &mut Vec<Area>, at: Position, mut right: Area) -> Position
     }
 }
 
-/// Takes the interval of a place out, and its area with it where it has no other; answers the
-/// place.
+/// Removes the interval of a slot, and its area if that has no other. Returns the slot.
 fn remove_last(areas: &mut Vec<Area>, at: Position) -> Place
     requires each { All IsArea areas.old.items }
     requires there { IsThere areas.old.items at }

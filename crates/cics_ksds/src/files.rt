@@ -17,16 +17,17 @@ use cics_names::{Condition, Items, NoMemory, Record};
 use std::alloc::Global;
 use std::marker::Model;
 
-/// A key-sequenced file: records in the rising order of their keys, the bytes of a key unsigned,
-/// and keys whose place is held empty for an undo. No read and no listing sees an empty place.
+/// A key-sequenced file: records in the rising order of their keys, whose bytes are unsigned. A
+/// deleted key may have an empty slot for an undo, which no read and no listing sees. Unchanged on
+/// error.
 ///
-/// Contracts see a file as its definition, its records by key, and the keys of its empty places.
-/// A look-up costs the logarithm of the number of places, and one for the first or last record
-/// also passes over the empty places on its way: one by one in an interval that has a record, and
-/// in one step over an interval that has none. The places lie in control intervals of up to 16,
-/// and those in control areas of up to 64. A write of a new key and a delete that leaves no place
-/// also move the places behind it in its interval. If an interval comes or goes, the intervals
-/// behind it in its area move too, and if an area does, the areas behind it.
+/// Contracts see a file as its definition, its records by key, and the keys of its empty slots.
+/// Slots are in control intervals of up to 16, and those in control areas of up to 64.
+///
+/// Cost of a look-up: O(log slots). One for the first or last record also passes over the empty
+/// slots on its way, and in one step over an interval without records. A write of a new key and a
+/// delete that leaves no slot move the slots behind it in its interval. If an interval is added or
+/// removed, those behind it in its area move too. If an area is, so do the areas behind it.
 #[derive(Debug, Drop)]
 pub struct File {
     pub(crate) definition: FileDef,
@@ -45,7 +46,7 @@ impl Model for File {
     ghost invariant = { λ f. ArePlaces f.definition (places_in f.places) };
 }
 
-/// A change that was made, with its image where one is kept.
+/// Returns a change that was made, with its image if one is stored.
 fn made(image: Option<FileImage>) -> Changed<FileImage>
     ensures { result ≡ record { condition = Condition.Normal; image = image } }
 {
@@ -55,7 +56,7 @@ fn made(image: Option<FileImage>) -> Changed<FileImage>
     }
 }
 
-/// A change that wasn't made: it has no image.
+/// Returns a change that wasn't made: it has no image.
 fn not_made(condition: Condition) -> Changed<FileImage>
     ensures { result ≡ record { condition = condition; image = None } }
 {
@@ -72,8 +73,8 @@ impl File {
     ghost use Rattle.cics_ksds.specs.Undo.{IsFileImage, KeepsKeys};
     ghost use Rattle.cics_ksds.specs.Undo.{written_image, rewritten_image, deleted_image};
 
-    /// A file without records, defined so. `alloc` gives the memory for all that it will hold; an
-    /// empty file takes none.
+    /// Returns a file without records, with this definition. `alloc` gives the memory for all that
+    /// it will hold. An empty file takes none.
     pub fn new(alloc: Global, definition: FileDef) -> Self
         ensures { result ≡ record { definition = definition; records = []; empties = [] } }
     {
@@ -84,8 +85,8 @@ impl File {
         }
     }
 
-    /// A file of its own with the same definition, the same records and the same empty places. It
-    /// takes memory for each of them, and an `Err` comes only where memory is refused.
+    /// Returns a copy: a file with the same definition, records and empty slots. The only error is
+    /// `NoMemory`.
     pub fn copy(&self) -> Result<File, NoMemory>
         ensures { IfOk result (λ copy. copy ≡ self.now) }
     {
@@ -96,8 +97,8 @@ impl File {
         })
     }
 
-    /// How the file was defined when it was made. No call changes it, and every record fits it and
-    /// stands under the key that lies in it.
+    /// Returns the definition with which the file was made. No call changes it. Every record fits
+    /// it and is under the key that lies in it.
     pub fn definition(&self) -> FileDef
         ensures definition { result ≡ self.now.definition }
         ensures content { IsContent self.now.definition self.now.records }
@@ -105,17 +106,17 @@ impl File {
         self.definition
     }
 
-    /// The record of a key, or None where the file has none: READ of a full key (the file control
-    /// chapter of the Application Programmer's Reference Manual).
+    /// Returns the record of a key, or None if the file has none: READ of a full key (the file
+    /// control chapter of the Application Programmer's Reference Manual).
     pub fn read(&self, key: &[u8]) -> Option<&Record>
         ensures { option_copied result ≡ value_at key.now self.now.records }
     {
         record_of(self.definition, &self.places, key)
     }
 
-    /// The record of the least key that isn't below the bound, or with `strict` is above it. None
-    /// where there is no such key. The bound may have any number of bytes: the first bytes of a
-    /// key find the least key that begins with them or comes after them.
+    /// Returns the record of the smallest key that isn't below the bound, or with `strict` is above
+    /// it. None if there is no such key. The bound may have any number of bytes. The first bytes of
+    /// a key find the smallest key that begins with them or comes after them.
     pub fn first_from(&self, bound: &[u8], strict: bool) -> Option<&Record>
         ensures found { first_from self.now.records bound.now strict
             ≡ option_map (entry_of self.now.definition) (option_copied result) }
@@ -124,8 +125,8 @@ impl File {
         first_record_from(self.definition, &self.places, bound, strict)
     }
 
-    /// The record of the greatest key that isn't above the bound, or with `strict` is below it.
-    /// None where there is no such key. The bound may have any number of bytes.
+    /// Returns the record of the greatest key that isn't above the bound, or with `strict` is below
+    /// it. None if there is no such key. The bound may have any number of bytes.
     pub fn last_to(&self, bound: &[u8], strict: bool) -> Option<&Record>
         ensures found { last_to self.now.records bound.now strict
             ≡ option_map (entry_of self.now.definition) (option_copied result) }
@@ -134,17 +135,16 @@ impl File {
         last_record_to(self.definition, &self.places, bound, strict)
     }
 
-    /// Copies of all records, in the order of their keys. An `Err` comes only where memory is
-    /// refused.
+    /// Returns copies of all records, in the order of their keys. The only error is `NoMemory`.
     pub fn listing(&self) -> Result<Items<Record>, NoMemory>
         ensures { IfOk result (λ records. records ≡ records_of self.now.records) }
     {
         copies(self.alloc, &self.places)
     }
 
-    /// How many control intervals the file has. An interval has 1 to 16 places side by side in key
-    /// order; a new key goes where its neighbours stand, and a full interval is halved first. It
-    /// takes no memory.
+    /// Returns how many control intervals the file has. An interval has 1 to 16 slots in key order.
+    /// A new key goes beside its neighbours, and a full interval is halved first. It takes no
+    /// memory.
     pub fn interval_count(&self) -> u64
         ensures at_least { length self.now.records + length self.now.empties ≤ 16 * result }
         ensures at_most { result ≤ length self.now.records + length self.now.empties }
@@ -152,11 +152,12 @@ impl File {
         self.places.count()
     }
 
-    /// WRITE: adds a record under the key that lies in it. A key that has a record is DUPREC, and
-    /// nothing changes. An empty place of the key is filled. The record has to fit the definition.
+    /// WRITE: adds a record under the key that lies in it. It is answered DUPREC, and nothing
+    /// changes, if the key has a record. An empty slot of the key is filled. The record has to fit
+    /// the definition.
     ///
-    /// With `keep` a NORMAL answer has the image that undoes the write. `Err` comes only where
-    /// memory is refused, for the place or for the image, and then nothing has changed.
+    /// With `keep` a NORMAL answer has the image that undoes the write. The only error is
+    /// `NoMemory`, for the slot or for the image.
     pub fn write(&mut self, content: Record, keep: bool) -> Result<Changed<FileImage>, NoMemory>
         requires { IsTrue (fits_file self.old.definition content) }
         ensures condition { IfOk result (λ changed. changed.condition
@@ -189,8 +190,8 @@ impl File {
         }
     }
 
-    /// REWRITE: replaces the record whose key lies in this one. A key without a record is NOTFND,
-    /// and nothing changes. The record has to fit the definition. It takes no memory.
+    /// REWRITE: replaces the record whose key lies in this one. It is answered NOTFND, and nothing
+    /// changes, if the key has no record. The record has to fit the definition. It takes no memory.
     ///
     /// With `keep` a NORMAL answer has the image that undoes the change, with the old record.
     pub fn rewrite(&mut self, content: Record, keep: bool) -> Changed<FileImage>
@@ -215,11 +216,12 @@ impl File {
         }
     }
 
-    /// DELETE: removes the record of a key. A key without a record is NOTFND, and nothing changes.
+    /// DELETE: removes the record of a key. It is answered NOTFND, and nothing changes, if the key
+    /// has no record.
     ///
-    /// With `keep` the place stays, empty, and a NORMAL answer has the image that undoes the
-    /// delete, with the old record. Only then is memory taken, for the key of the empty place:
-    /// `Err` comes where it is refused (`refusal`), and then nothing has changed.
+    /// With `keep` the slot stays, empty, and a NORMAL answer has the image that undoes the delete,
+    /// with the old record. Only then is memory requested, for the key of the empty slot. The only
+    /// error is `NoMemory` (`refusal`).
     pub fn delete(&mut self, key: &[u8], keep: bool) -> Result<Changed<FileImage>, NoMemory>
         ensures condition { IfOk result (λ changed. changed.condition
             ≡ change_condition self.old.records key.now) }
@@ -248,13 +250,13 @@ impl File {
         }
     }
 
-    /// Takes the empty place of a key away, where there is one: no image of the key will be undone
-    /// any more. No record changes, and it takes no memory.
+    /// Removes the empty slot of a key, if there is one: no image of the key will be undone any
+    /// more. No record changes, and it takes no memory.
     pub fn sweep(&mut self, key: &[u8])
         ensures value { self.new ≡ swept self.old key.now }
         ensures others { KeepsKeys (is_other key.now) self.old self.new }
     {
-        // Most often no empty place stands anywhere, and nothing is looked for.
+        // Most often there is no empty slot, and nothing is looked for.
         if self.places.empties() == 0 {
             return;
         }

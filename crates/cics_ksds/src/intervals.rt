@@ -1,4 +1,4 @@
-//! Control intervals: up to 16 places side by side in one block of memory.
+//! Control intervals: up to 16 slots side by side in one block of memory.
 
 ghost use Rattle.std.specs.Prelude.{◌≡◌, ◌<◌, ◌≤◌, [], IfOk, length, take, drop};
 ghost use Rattle.std.specs.Prelude.{slice_set, slice_index_or};
@@ -14,20 +14,20 @@ use std::alloc::Global;
 use std::marker::Model;
 use std::mem;
 
-/// How many places an interval has at the most.
+/// How many slots an interval has at most.
 pub(crate) const FULL: usize = 16;
 
-/// How many places of a full interval stay in it when it is split.
+/// How many slots of a full interval stay in it when it is split.
 pub(crate) const HALF: usize = 8;
 
-/// Up to 16 places, in the order of their keys. It is made with room for all 16, so that no edit
-/// of it takes memory. Contracts see the list of its places.
+/// Up to 16 slots, in the order of their keys. It is made with room for all 16, so that no edit of
+/// it takes memory. Contracts see the list of its slots.
 #[derive(Debug, Drop)]
 pub(crate) struct Interval {
     places: Vec<Place>,
-    /// How many of the places have a record.
+    /// How many of the slots have a record.
     records: u64,
-    /// The mark of the first place, by which an interval is found without reading its places.
+    /// The key head of the first slot, by which an interval is found without reading its slots.
     head: Mark,
 }
 
@@ -50,7 +50,7 @@ impl Model for Interval {
 }
 
 impl Interval {
-    /// An interval without places, which the caller will fill.
+    /// Returns an interval without slots, which the caller will fill.
     pub(crate) fn new(alloc: Global) -> Result<Interval, NoMemory>
         ensures { IfOk result (λ made. made ≡ []) }
     {
@@ -61,14 +61,14 @@ impl Interval {
         })
     }
 
-    /// The places, in the order of their keys.
+    /// Returns the slots, in the order of their keys.
     pub(crate) fn places(&self) -> &[Place]
         ensures { result.now ≡ self.now }
     {
         self.places.as_slice()
     }
 
-    /// How many places there are.
+    /// Returns how many slots there are.
     pub(crate) fn count(&self) -> usize
         ensures count { result ≡ length self.now }
         ensures at_most { length self.now ≤ 16 }
@@ -76,21 +76,21 @@ impl Interval {
         self.places.len()
     }
 
-    /// The mark of the first place, where there is one. It is kept beside the places.
+    /// Returns the key head of the first slot, if there is one. It is stored beside the slots.
     pub(crate) fn head(&self) -> Mark
         ensures { IsHead self.now result }
     {
         self.head
     }
 
-    /// How many of the places have a record. It is kept beside them, and not counted anew.
+    /// Returns how many of the slots have a record. Cost: O(1).
     pub(crate) fn records(&self) -> u64
         ensures { result ≡ length (listed self.now) }
     {
         self.records
     }
 
-    /// An interval with the same places.
+    /// Returns an interval with the same slots.
     pub(crate) fn copy(&self, alloc: Global) -> Result<Interval, NoMemory>
         ensures { IfOk result (λ copy. copy ≡ self.now) }
     {
@@ -106,7 +106,7 @@ impl Interval {
         })
     }
 
-    /// Puts a place in the stead of another, and answers that one.
+    /// Replaces a slot, and returns the old one.
     pub(crate) fn put(&mut self, at: usize, place: Place) -> Place
         requires { at < length self.old }
         ensures places { self.new ≡ slice_set self.old at place }
@@ -119,7 +119,7 @@ impl Interval {
         old
     }
 
-    /// Puts a place in before the one at an index, or at the end. There must be room for it.
+    /// Inserts a slot before the one at an index, or at the end. There must be room for it.
     pub(crate) fn insert(&mut self, at: usize, place: Place)
         requires in_range { at ≤ length self.old }
         requires room { length self.old < 16 }
@@ -130,7 +130,7 @@ impl Interval {
         self.head = head_of(self.places.as_slice());
     }
 
-    /// Takes a place out, and answers it.
+    /// Removes a slot, and returns it.
     pub(crate) fn remove(&mut self, at: usize) -> Place
         requires { at < length self.old }
         ensures places { self.new ≡ remove self.old at }
@@ -142,7 +142,7 @@ impl Interval {
         old
     }
 
-    /// Moves all places but the first 8 to an interval that has none.
+    /// Moves all slots but the first 8 to an interval that has none.
     pub(crate) fn split(&mut self, right: &mut Interval)
         requires full { length self.old ≡ 16 }
         requires none { right.old ≡ [] }
@@ -157,7 +157,7 @@ impl Interval {
     }
 }
 
-/// The mark of the first of the places, or of none.
+/// Returns the key head of the first of the slots, or of none.
 fn head_of(places: &[Place]) -> Mark
     ensures { IsHead places.now result }
 {
@@ -167,7 +167,7 @@ fn head_of(places: &[Place]) -> Mark
     places[0].mark()
 }
 
-/// How many of the places have a record.
+/// Returns how many of the slots have a record.
 fn records_in(places: &[Place]) -> u64
     ensures { result ≡ length (listed places.now) }
 {

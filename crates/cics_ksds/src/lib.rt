@@ -1,5 +1,5 @@
-//! Key-sequenced files: a map from keys to records in the order of the keys, with before images
-//! by which each change is undone without taking memory.
+//! Key-sequenced files: maps from keys to records in key order, with before images that undo each
+//! change without taking memory.
 #![tactic(auto)]
 
 mod areas;

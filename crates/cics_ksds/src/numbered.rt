@@ -1,4 +1,4 @@
-//! Records beside the numbers of their keys.
+//! Records beside their key heads: the first bytes of their keys as numbers.
 
 ghost use Rattle.std.specs.Prelude.{◌≡◌, ◌<◌, IfOk, length};
 ghost use Rattle.cics_ksds.specs.Words.{AreNumbers, IsMarked};
@@ -8,23 +8,23 @@ use cics_names::{NoMemory, Record};
 use std::alloc::Global;
 use std::marker::Model;
 
-/// Where a key lies in a record, and the numbers of that key.
+/// A key head: where a key lies in a record, and its first bytes as numbers.
 #[derive(Clone, Copy, Debug)]
 pub(crate) struct Mark {
     /// How many bytes of the record stand before the key.
     pub(crate) offset: u32,
-    /// How many bytes the key has. It is 0 where there are no numbers of it.
+    /// How many bytes the key has. It is 0 if there are no numbers of it.
     pub(crate) length: u32,
     /// Its first bytes, by which it is compared.
     pub(crate) numbers: Numbers,
 }
 
-/// How far into a record a key may begin that has numbers, and how long it may be: no key of a
-/// record of up to 32,767 bytes is left out.
+/// How far into a record a key may begin that has numbers, and how long it may be. This leaves out
+/// no key of a record of up to 32,767 bytes.
 const FARTHEST: u64 = 32_767;
 
 impl Mark {
-    /// The mark of no key.
+    /// Returns the key head of no key.
     pub(crate) fn none() -> Mark
         ensures { result.length ≡ 0 }
     {
@@ -38,8 +38,8 @@ impl Mark {
         }
     }
 
-    /// The mark of the key of `length` bytes at `offset`. It has no numbers where that key is
-    /// shorter than a number, or reaches out of the record.
+    /// Returns the key head of the key of `length` bytes at `offset`. It has no numbers if that key
+    /// is shorter than a number, or reaches out of the record.
     fn of(bytes: &[u8], offset: u64, length: u64) -> Mark
         ensures { IsMarked bytes.now result }
     {
@@ -60,8 +60,8 @@ impl Mark {
     }
 }
 
-/// A record, or the key of one, and beside it the numbers of the key that lies in it: so a search
-/// compares keys without reading the records, which lie elsewhere in memory.
+/// A record, or the key of one, and beside it the head of the key that lies in it. So a search
+/// compares keys without reading the records, which are elsewhere in memory.
 ///
 /// Contracts see the bytes of the record alone.
 #[derive(Debug, Drop)]
@@ -83,7 +83,7 @@ impl Model for Numbered {
 }
 
 impl Numbered {
-    /// The record with the numbers of the key of `length` bytes at `offset`.
+    /// Returns the record with the numbers of the key of `length` bytes at `offset`.
     pub(crate) fn new(content: Record, offset: u64, length: u64) -> Numbered
         ensures { result ≡ content }
     {
@@ -91,7 +91,7 @@ impl Numbered {
         Numbered { content, mark }
     }
 
-    /// A record with the same bytes and numbers. `NoMemory` where the memory for it is refused.
+    /// Returns a record with the same bytes and key head. The only error is `NoMemory`.
     pub(crate) fn copy(&self, alloc: Global) -> Result<Numbered, NoMemory>
         ensures { IfOk result (λ copy. copy ≡ self.now) }
     {
@@ -101,35 +101,35 @@ impl Numbered {
         })
     }
 
-    /// The record.
+    /// Returns the record.
     pub(crate) fn record(&self) -> &Record
         ensures { result.now ≡ self.now }
     {
         &self.content
     }
 
-    /// The bytes of the record.
+    /// Returns the bytes of the record.
     pub(crate) fn bytes(&self) -> &[u8]
         ensures { result.now ≡ self.now }
     {
         self.content.bytes()
     }
 
-    /// The record alone.
+    /// Returns the record alone.
     pub(crate) fn into_record(self) -> Record
         ensures { result ≡ self }
     {
         self.content
     }
 
-    /// The mark of the key that lies in the record.
+    /// Returns the key head of the key that lies in the record.
     pub(crate) fn mark(&self) -> Mark
         ensures { IsMarked self.now result }
     {
         self.mark
     }
 
-    /// The mark of a key that is all there is, or of none.
+    /// Returns the key head of a key that is all there is, or of none.
     pub(crate) fn whole_mark(&self) -> Mark
         ensures { 0 < result.length
             → (length self.now ≡ result.length) × AreNumbers self.now result.numbers }

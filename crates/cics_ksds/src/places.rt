@@ -1,7 +1,7 @@
-//! The places of a file, in the order of their keys, and how one is found.
+//! The slots of a file (`Place`), in the order of their keys, and how one is found.
 //!
-//! A place has a record, or it is empty: its record was deleted in a unit of work that may still be
-//! backed out, and the place is kept so that putting the record back takes no memory.
+//! A slot has a record, or it is empty. Then its record was deleted in a unit of work that may
+//! still be backed out. The slot stays so that putting the record back takes no memory.
 
 ghost use Rattle.std.specs.Prelude.{◌≡◌, ◌<◌, [], ◌∷◌, All, length, slice_index_or};
 ghost use Rattle.std.specs.Prelude.{IfOk, IfErr, IfSome, OnOk, OnErr};
@@ -26,24 +26,24 @@ use cics_names::{NoMemory, Record};
 use std::alloc::Global;
 use std::cmp::Ordering;
 
-/// One place of a file.
+/// One slot of a file.
 #[derive(Debug, Drop)]
 pub(crate) enum Place {
-    /// A record, which holds its own key.
+    /// A record, which has its own key.
     Filled(Numbered),
-    /// The key of a place without a record.
+    /// The key of a slot without a record.
     Empty(Numbered),
 }
 
 impl Place {
-    /// The place of a record.
+    /// Returns the slot of a record.
     pub(crate) fn filled(definition: FileDef, content: Record) -> Place
         ensures { result ≡ Filled content }
     {
         Place::Filled(Numbered::new(content, definition.key_offset, definition.key_length))
     }
 
-    /// The empty place of a key.
+    /// Returns the empty slot of a key.
     pub(crate) fn empty(key: Record) -> Place
         ensures { result ≡ Empty key }
     {
@@ -51,7 +51,7 @@ impl Place {
         Place::Empty(Numbered::new(key, 0, length))
     }
 
-    /// The key that the place is found by.
+    /// Returns the key that the slot is found by.
     pub(crate) fn key(&self, definition: FileDef) -> &[u8]
         requires { IsPlace definition self.now }
         ensures { result.now ≡ place_key definition self.now }
@@ -62,7 +62,7 @@ impl Place {
         }
     }
 
-    /// The mark of the key.
+    /// Returns the key head of the key.
     pub(crate) fn mark(&self) -> Mark
         ensures { IsPlaceMark self.now result }
     {
@@ -72,7 +72,7 @@ impl Place {
         }
     }
 
-    /// How the key stands to one that is sought, whose numbers are known where it is a whole key.
+    /// Compares the key with one that is sought, whose numbers are known if it is a whole key.
     fn order_to(&self, definition: FileDef, key: &[u8], sought: Option<Numbers>) -> Ordering
         requires place { IsPlace definition self.now }
         requires sought { IfSome sought (AreKeyNumbers definition key.now) }
@@ -84,7 +84,7 @@ impl Place {
         }
     }
 
-    /// 1 where the place is empty, else 0.
+    /// Returns 1 if the slot is empty, else 0.
     pub(crate) fn empties(&self) -> u64
         ensures { result ≡ empty_in self.now }
     {
@@ -94,7 +94,7 @@ impl Place {
         }
     }
 
-    /// 1 where the place has a record, else 0.
+    /// Returns 1 if the slot has a record, else 0.
     pub(crate) fn records(&self) -> u64
         ensures { result ≡ length (listed (self.now ∷ [])) }
     {
@@ -104,7 +104,7 @@ impl Place {
         }
     }
 
-    /// A place like this one. `NoMemory` where the memory for it is refused.
+    /// Returns a copy of the slot. The only error is `NoMemory`.
     pub(crate) fn copy(&self, alloc: Global) -> Result<Place, NoMemory>
         ensures { IfOk result (λ copy. copy ≡ self.now) }
     {
@@ -115,7 +115,7 @@ impl Place {
     }
 }
 
-/// Where a place is, or would be put in: by the numbers of its area, of its interval there, and of
+/// Where a slot is, or would be inserted: the index of its area, of its interval there, and of
 /// itself in that, each from 0.
 #[derive(Clone, Copy, Debug)]
 pub(crate) struct Position {
@@ -124,18 +124,18 @@ pub(crate) struct Position {
     pub(crate) place: usize,
 }
 
-/// Where the place of a key is.
+/// Where the slot of a key is.
 #[derive(Clone, Copy, Debug)]
 pub(crate) enum Spot {
-    /// A place with a record.
+    /// A slot with a record.
     At(Position),
-    /// A place without one.
+    /// A slot without one.
     AtEmpty(Position),
-    /// The key has no place, and here it would be put in.
+    /// The key has no slot, and would have it here.
     Gap(Position),
 }
 
-/// The numbers of a key that is sought, where it is a whole key and long enough.
+/// Returns the numbers of a key that is sought, if it is a whole key and long enough.
 fn numbers_of(definition: FileDef, key: &[u8]) -> Option<Numbers>
     ensures { IfSome result (AreKeyNumbers definition key.now) }
 {
@@ -145,7 +145,7 @@ fn numbers_of(definition: FileDef, key: &[u8]) -> Option<Numbers>
     Some(Numbers::of(key))
 }
 
-/// How a key with this mark stands to one that is sought. None where the numbers don't tell.
+/// Compares a key with this head with one that is sought. None if the numbers don't tell.
 fn marked_order(
     mark: Mark,
     definition: FileDef,
@@ -169,8 +169,8 @@ fn marked_order(
     Some(order)
 }
 
-/// The index of a key's place in an interval, or else the one where it would be put in. The keys
-/// rise, so half of the places that are left fall away at each step.
+/// Returns the index of a key's slot in an interval, or else the one where it would be inserted.
+/// The keys rise, so each step leaves out half of the slots that are left.
 fn search(
     definition: FileDef,
     places: &[Place],
@@ -195,7 +195,7 @@ fn search(
     Err(low)
 }
 
-/// How the key of the first place of an interval stands to one that is sought.
+/// Compares the key of the first slot of an interval with one that is sought.
 fn first_order(
     definition: FileDef,
     interval: &Interval,
@@ -212,7 +212,7 @@ fn first_order(
     }
 }
 
-/// How the first key of an area stands to one that is sought.
+/// Compares the first key of an area with one that is sought.
 fn area_order(definition: FileDef, area: &Area, key: &[u8], sought: Option<Numbers>) -> Ordering
     requires some { 0 < length area.now }
     requires first { HasFirst definition (interval_in area.now 0) }
@@ -225,7 +225,8 @@ fn area_order(definition: FileDef, area: &Area, key: &[u8], sought: Option<Numbe
     }
 }
 
-/// The number of the last interval whose first key isn't above the key, or else of the first one.
+/// Returns the index of the last interval whose first key isn't above the key, or else of the first
+/// one.
 fn interval_of(
     definition: FileDef,
     intervals: &[Interval],
@@ -251,7 +252,8 @@ fn interval_of(
     low
 }
 
-/// The number of the last area whose first key isn't above the key, or else of the first one.
+/// Returns the index of the last area whose first key isn't above the key, or else of the first
+/// one.
 fn area_of(definition: FileDef, areas: &[Area], key: &[u8], sought: Option<Numbers>) -> usize
     requires some { 0 < length areas.now }
     requires each { All (λ area. (0 < length area) × HasFirst definition (interval_in area 0))
@@ -273,8 +275,8 @@ fn area_of(definition: FileDef, areas: &[Area], key: &[u8], sought: Option<Numbe
     low
 }
 
-/// Where a key's place is, or else where it would be put in: into the last interval that doesn't
-/// begin above the key, or into the first one where all do.
+/// Returns where a key's slot is, or else where it would be inserted. That is in the last interval
+/// that doesn't begin above the key, or if all do, in the first one.
 pub(crate) fn find(definition: FileDef, places: &Dataset, key: &[u8]) -> Result<Position, Position>
     requires { ArePlaces definition (places_in places.now) }
     ensures found { IfOk result (IsPlaceOf definition places.now key.now) }
@@ -304,7 +306,7 @@ pub(crate) fn find(definition: FileDef, places: &Dataset, key: &[u8]) -> Result<
     }
 }
 
-/// The place at a position.
+/// Returns the slot at a position.
 pub(crate) fn place_at(places: &Dataset, at: Position) -> &Place
     requires there { IsThere places.now at }
     requires place { at.place < length (interval_at places.now at) }
@@ -314,7 +316,7 @@ pub(crate) fn place_at(places: &Dataset, at: Position) -> &Place
     &places.places(at.area, at.interval)[at.place]
 }
 
-/// Where the place of a key is, and whether it has a record: what each change starts from.
+/// Returns where the slot of a key is, and whether it has a record: what each change starts from.
 pub(crate) fn spot_of(definition: FileDef, places: &Dataset, key: &[u8]) -> Spot
     requires { ArePlaces definition (places_in places.now) }
     ensures { IsSpot definition places.now key.now result }
@@ -328,7 +330,7 @@ pub(crate) fn spot_of(definition: FileDef, places: &Dataset, key: &[u8]) -> Spot
     }
 }
 
-/// The record of a key. An empty place has none.
+/// Returns the record of a key. An empty slot has none.
 pub(crate) fn record_of<'a>(
     definition: FileDef,
     places: &'a Dataset,
@@ -346,7 +348,7 @@ pub(crate) fn record_of<'a>(
     }
 }
 
-/// Puts a place over the one of the same key, and answers what stood there. It takes no memory.
+/// Replaces the slot of the same key, and returns the old one. It takes no memory.
 pub(crate) fn put_at(definition: FileDef, places: &mut Dataset, at: Position, place: Place) -> Place
     requires places { ArePlaces definition (places_in places.old) }
     requires at { IsPlaceOf definition places.old (place_key definition place) at }
@@ -361,7 +363,7 @@ pub(crate) fn put_at(definition: FileDef, places: &mut Dataset, at: Position, pl
     places.put(at, place)
 }
 
-/// Puts a place into the gap for its key. A full interval is split first. All memory is taken
+/// Inserts a slot into the gap for its key. A full interval is split first. All memory is requested
 /// before anything changes.
 pub(crate) fn insert_at(
     alloc: Global,
@@ -382,7 +384,7 @@ pub(crate) fn insert_at(
     Ok(())
 }
 
-/// Takes a place out, and answers it. It takes no memory.
+/// Removes a slot, and returns it. It takes no memory.
 pub(crate) fn take_at(definition: FileDef, places: &mut Dataset, at: Position) -> Place
     requires places { ArePlaces definition (places_in places.old) }
     requires there { IsThere places.old at }
@@ -396,8 +398,7 @@ pub(crate) fn take_at(definition: FileDef, places: &mut Dataset, at: Position) -
     places.remove(at)
 }
 
-/// Puts a place over the one of the same key, which is there, and answers what stood there. It
-/// takes no memory.
+/// Replaces the slot of the same key, which is there, and returns the old one. It takes no memory.
 pub(crate) fn exchanged(definition: FileDef, places: &mut Dataset, place: Place) -> Place
     requires places { ArePlaces definition (places_in places.old) }
     requires place { IsPlace definition place }

@@ -1,4 +1,4 @@
-//! The records whose keys begin with the same bytes: how many they are, and deleting them.
+//! The records whose keys begin with the same bytes: counting and deleting them.
 
 ghost use Rattle.std.specs.Prelude.{◌≡◌, ◌<◌, ◌^◌, true, false, not, length, map};
 ghost use Rattle.std.specs.Prelude.{IfOk, IfSome, OnOk, OnErr};
@@ -15,9 +15,9 @@ use crate::ranges::{behind, start_of};
 use cics_names::{Items, NoMemory, Record};
 use std::alloc::Global;
 
-/// Where the first record from a bound on is, or strictly above it, if its key begins with the
-/// prefix. Of the places beyond the prefix it looks at no more than one, and of an interval without
-/// records at one too.
+/// Returns where the first record from a bound on is, or strictly above it, if its key begins with
+/// the prefix. It looks at most at one slot beyond the prefix, and at one of an interval without
+/// records.
 fn next_under(
     definition: FileDef,
     places: &Dataset,
@@ -46,7 +46,7 @@ fn next_under(
     None
 }
 
-/// How many records have keys that begin with the prefix.
+/// Returns how many records have keys that begin with the prefix.
 fn count_under(definition: FileDef, places: &Dataset, prefix: &[u8]) -> u64
     requires { ArePlaces definition (places_in places.now) }
     ensures { result ≡ length (under prefix.now (file_of definition places.now).records) }
@@ -83,7 +83,7 @@ fn images_under(
     Ok(images)
 }
 
-/// Takes the places of all records under the prefix out, and answers how many they were.
+/// Removes the slots of all records under the prefix, and returns how many they were.
 fn drop_under(definition: FileDef, places: &mut Dataset, prefix: &[u8]) -> u64
     requires { ArePlaces definition (places_in places.old) }
     ensures places { ArePlaces definition (places_in places.new) }
@@ -116,8 +116,9 @@ impl File {
     ghost use Rattle.cics_ksds.specs.Prefixes.{prefix_images, AreFileImages};
     ghost use Rattle.cics_ksds.specs.Undo.{KeepsKeys, key_of_image};
 
-    /// How many records have keys that begin with the prefix. It costs a look-up for each of them,
-    /// one more, and the empty places that it passes over, and takes no memory.
+    /// Returns how many records have keys that begin with the prefix. It takes no memory.
+    ///
+    /// Cost: a look-up for each of them, one more, and the empty slots that it passes over.
     pub fn count_prefix(&self, prefix: &[u8]) -> u64
         ensures { result ≡ length (under prefix.now self.now.records) }
     {
@@ -125,18 +126,17 @@ impl File {
     }
 
     /// DELETE with GENERIC (the file control chapter of the Application Programmer's Reference
-    /// Manual): removes each record whose key begins with the prefix, as `delete` of the keys one
-    /// after another would, and no other. The prefix may have any number of bytes: with none of
-    /// them it is all records, and with more than a key has it is none. A number of 0 is what
-    /// DELETE answers NOTFND for, and then nothing changes.
+    /// Manual). Removes each record whose key begins with the prefix, as `delete` of one key after
+    /// another would, and no other. The prefix may have any number of bytes. With none it removes
+    /// all records, with more than a key has none. If the number is 0, DELETE is answered NOTFND,
+    /// and nothing changes.
     ///
-    /// It costs a look-up for each record that it removes, with `keep` two, and one more, and
-    /// passes once over the empty places under the prefix, in one step over an interval without
+    /// Cost: one look-up, and for each record that it removes one more, or two with `keep`. It
+    /// passes once over the empty slots under the prefix, in one step over an interval without
     /// records.
     ///
-    /// With `keep` the places stay, empty, and the images that undo it are answered. Only then is
-    /// memory taken, for those and for the keys: `Err` comes where it is refused, and then nothing
-    /// has changed.
+    /// With `keep` the slots stay, empty, and it returns the images that undo it. Only then is
+    /// memory requested, for the images and for the keys. The only error is `NoMemory`.
     pub fn delete_prefix(&mut self, prefix: &[u8], keep: bool) -> Result<Removed, NoMemory>
         ensures number { IfOk result (λ removed. removed.number
             ≡ length (under prefix.now self.old.records)) }
@@ -165,7 +165,7 @@ impl File {
         })
     }
 
-    /// Leaves the places of all records under the prefix empty, and answers the images of those.
+    /// Leaves the slots of all records under the prefix empty, and returns their images.
     fn empty_under(&mut self, prefix: &[u8]) -> Result<Vec<FileImage>, NoMemory>
         ensures value { OnOk result (self.new ≡ without_prefix true self.old prefix.now) }
         ensures plain { OnOk result (self.new.records ≡ outside prefix.now self.old.records) }
@@ -177,7 +177,7 @@ impl File {
         ensures others { KeepsKeys (λ key. not (has_prefix prefix.now key)) self.old self.new }
         ensures err { OnErr result (self.new ≡ self.old) }
     {
-        // All memory comes first: an image each, with the key of the place that will be empty.
+        // All memory comes first: an image each, with the key of the slot that will be empty.
         let mut images = images_under(self.alloc, self.definition, &self.places, prefix)?;
         for at in 0..images.len() {
             self.exchange(&mut images[at]);

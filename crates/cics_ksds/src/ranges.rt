@@ -16,7 +16,7 @@ use crate::places::{Place, Position, find, place_at};
 use cics_names::{Items, NoMemory, Record};
 use std::alloc::Global;
 
-/// Where the keys from a bound on begin, or strictly above it.
+/// Returns where the keys from a bound on begin, or strictly above it.
 pub(crate) fn start_of(
     definition: FileDef,
     places: &Dataset,
@@ -44,7 +44,7 @@ pub(crate) fn start_of(
     }
 }
 
-/// Where to look on behind an empty place: behind its whole interval where that has no record.
+/// Returns where to look on behind an empty slot: behind its whole interval if that has no record.
 pub(crate) fn behind(places: &Dataset, here: Position) -> Position
     requires there { IsThere places.now here }
     requires place { here.place < length (interval_at places.now here) }
@@ -66,7 +66,7 @@ pub(crate) fn behind(places: &Dataset, here: Position) -> Position
     Position { place, ..here }
 }
 
-/// Where to look on before an empty place: before its whole interval where that has no record.
+/// Returns where to look on before an empty slot: before its whole interval if that has no record.
 fn before(places: &Dataset, here: Position) -> Position
     requires there { IsThere places.now here }
     requires place { here.place < length (interval_at places.now here) }
@@ -82,7 +82,7 @@ fn before(places: &Dataset, here: Position) -> Position
     here
 }
 
-/// The record of the least key from a bound on, or strictly above it.
+/// Returns the record of the smallest key from a bound on, or strictly above it.
 pub(crate) fn first_record_from<'a>(
     definition: FileDef,
     places: &'a Dataset,
@@ -104,7 +104,7 @@ pub(crate) fn first_record_from<'a>(
     None
 }
 
-/// The record of the greatest key up to a bound, or strictly below it.
+/// Returns the record of the greatest key up to a bound, or strictly below it.
 pub(crate) fn last_record_to<'a>(
     definition: FileDef,
     places: &'a Dataset,
@@ -116,7 +116,7 @@ pub(crate) fn last_record_to<'a>(
         ≡ option_map (entry_of definition) (option_copied result) }
     ensures fits { IfSome result (λ r. IsTrue (fits_file definition r.now)) }
 {
-    // What is up to a bound ends where what is above it begins.
+    // Keys up to a bound end where those above it begin.
     let mut at = start_of(definition, places, bound, !strict);
     while let Some(here) = places.previous(at) {
         match place_at(places, here) {
@@ -127,7 +127,7 @@ pub(crate) fn last_record_to<'a>(
     None
 }
 
-/// Copies of the records in places, in the same order, added to others.
+/// Adds copies of the records in slots to others, in the same order.
 fn copy_places(alloc: Global, places: &[Place], records: &mut Items<Record>) -> Result<(), NoMemory>
     ensures { OnOk result (records.new ≡ records.old ++ listed places.now) }
 {
@@ -139,7 +139,7 @@ fn copy_places(alloc: Global, places: &[Place], records: &mut Items<Record>) -> 
     Ok(())
 }
 
-/// Copies of the records in intervals, in the same order, added to others.
+/// Adds copies of the records in intervals to others, in the same order.
 fn copy_intervals(
     alloc: Global,
     intervals: &[Interval],
@@ -153,7 +153,7 @@ fn copy_intervals(
     Ok(())
 }
 
-/// Copies of all records, in the order of their keys.
+/// Returns copies of all records, in the order of their keys.
 pub(crate) fn copies(alloc: Global, places: &Dataset) -> Result<Items<Record>, NoMemory>
     ensures { IfOk result (λ records. records ≡ listed (places_in places.now)) }
 {

@@ -1,11 +1,10 @@
-//! Lists that were made with room for all that they will ever hold: an edit of them takes no
-//! memory.
+//! Lists that were made with room for all that they will ever hold, so that no edit takes memory.
 
 ghost use Rattle.std.specs.Prelude.{◌≡◌, ◌+◌, ◌<◌, ◌≤◌, [], length, take, drop};
 ghost use Rattle.std.specs.Prelude.{vec_len, vec_capacity};
 ghost use Rattle.std.specs.List.{insert};
 
-/// Puts a value in before the one at an index, or at the end, where there is room for it.
+/// Inserts a value before the one at an index, or at the end, if there is room for it.
 pub(crate) fn insert_reserved<T: Drop>(values: &mut Vec<T>, at: usize, value: T)
     requires in_range { at ≤ length values.old.items }
     requires room { vec_len values.old < vec_capacity values.old }

@@ -27,7 +27,8 @@ character_text c = if is_plain c then c ∷ [] else codes "&#" ++ (digits (suc c
 abbrev pub text_of : List ℕ → List ℕ
 text_of characters = flat_map character_text characters
 
--- The character that is shown for a byte: a tab is a blank, and what ASCII can't print is the sign for no character.
+-- The character that is shown for a byte: a tab is a blank, and what ASCII can't print is the sign
+-- for no character.
 abbrev pub shown : ℕ → ℕ
 shown b = if b == 10 || (nat_le 32 b && nat_le b 126) then b else if b == 9 then 32 else 65533
 

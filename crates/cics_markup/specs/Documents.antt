@@ -14,7 +14,8 @@ pub record Attribute : Type 0 where
   pub key : Key
   pub value : List ℕ
 
--- Characters and elements, in order. An element has a name, attributes, what is inside, and what follows it.
+-- Characters and elements, in order. An element has a name, attributes, what is inside, and what
+-- follows it.
 pub data Document : Type 0 where
   Empty : Document
   Character : ℕ → Document → Document
@@ -69,10 +70,10 @@ joined (Element tag attributes inside d) next = Element tag attributes inside (j
 abbrev pub number_of : Key → ℕ → Attribute
 number_of key n = attribute key (decimal n)
 
--- the place that an element is moved to
+-- the attribute that moves an element to a point
 abbrev pub moved_to : ℕ → ℕ → Attribute
 moved_to x y = attribute Transform (codes "translate(" ++ (decimal x ++ (codes " " ++ (decimal y ++ codes ")"))))
 
--- the text of that place
+-- the text of that attribute
 abbrev pub move_text : ℕ → ℕ → List ℕ
 move_text x y = codes " transform=\"translate(" ++ (text_of (decimal x) ++ (codes " " ++ (text_of (decimal y) ++ codes ")\"")))

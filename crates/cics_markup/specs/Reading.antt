@@ -14,8 +14,9 @@ pub data Piece : Type 0 where
   End : Tag → Piece
   Sign : ℕ → Piece
 
--- Where the reader is: among the pieces; in a reference there; in the name of a tag; in a start tag, behind its name or a
--- value; in the name of an attribute; in a value; in a reference in a value. It has read the parts that are named.
+-- Where the reader is: among the pieces, or in a reference there. Or in the name of a tag, or in a
+-- start tag, behind its name or a value. Or in an attribute's name, in a value, or in a reference
+-- in one. It has read the parts that are named.
 pub data Place : Type 0 where
   Between : Place
   Reference : Place
@@ -25,7 +26,7 @@ pub data Place : Type 0 where
   Value : Tag → List Attribute → Key → List ℕ → Place
   ValueReference : Tag → List Attribute → Key → List ℕ → Place
 
--- whether a byte is only gathered at a place
+-- whether a byte is only gathered where the reader is
 abbrev pub is_gathered : Place → ℕ → Bool
 is_gathered Reference c = not (c == 59)
 is_gathered Name c = not (c == 32) && not (c == 62)
@@ -46,7 +47,7 @@ Turn = Option (List Piece × Place)
 abbrev pub behind : Tag → List Attribute → ℕ → Turn
 behind tag before c = if c == 32 then Some ([], KeyName tag before) else if c == 62 then Some (Start tag before ∷ [], Between) else None
 
--- the name of a tag has ended: of an end tag where it begins with /
+-- the name of a tag has ended: of an end tag if it begins with /
 abbrev pub named : List ℕ → ℕ → Turn
 named [] c = None
 named (first ∷ name) c =
@@ -80,7 +81,7 @@ abbrev pub at_end : Place → Option (List Piece)
 at_end Between = Some []
 at_end place = None
 
--- the pieces that a text is read as from a place on, with what was gathered there
+-- the pieces that a text is read as from here on, with what was gathered before
 unfoldable pub pieces_from : List ℕ → Place → List ℕ → Option (List Piece)
 pieces_from [] place gathered = at_end place
 pieces_from (c ∷ bytes) place gathered = elim (is_gathered place c) as (λ _. Option (List Piece)) [
@@ -88,7 +89,8 @@ pieces_from (c ∷ bytes) place gathered = elim (is_gathered place c) as (λ _. 
   | false ↦ from_turn (turn place gathered c) (λ next. pieces_from bytes next [])
 ]
 
--- the document that pieces begin with, and what follows each element whose end tag comes behind that document
+-- the document that pieces begin with, and what follows each element whose end tag comes behind
+-- that document
 pub record Paired : Type 0 where
   pub document : Document
   pub open_ends : List (Tag × Document)

@@ -1,8 +1,8 @@
 //! Markup that is well formed by construction.
 //!
-//! What the functions here put at the end of a text is the text of a piece of a document: a start
-//! tag, a character, an end tag. A caller's contract names the document, and
-//! [`documents_read_back`] says that every document's text is read back as that document.
+//! The functions here add the text of a piece of a document to a text: a start tag, a character, an
+//! end tag. A caller's contract names the document. By [`documents_read_back`], every document's
+//! text is read back as that document.
 #![tactic(auto)]
 
 mod names;

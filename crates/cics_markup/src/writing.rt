@@ -13,7 +13,7 @@ ghost use Rattle.cics_markup.specs.Reading.{document_of};
 use crate::names::{Key, Tag};
 use cics_names::NoMemory;
 
-/// The text of every document is read back as that document: each of its elements is closed, and no
+/// The text of every document is read back as that document. Each of its elements is closed, and no
 /// text or value ends before its end.
 pub fn documents_read_back()
     ensures { (d : Document) → document_of (document_text d) ≡ Some d }
@@ -38,7 +38,7 @@ fn is_plain(byte: u8) -> bool
     byte == b'\n' || (byte >= b' ' && byte <= b'~' && !is_special(byte))
 }
 
-// The text of the character that is shown for a byte that isn't plain.
+// Returns the text of the character that is shown for a byte that isn't plain.
 #[tactic(auto, using(crate::proofs::Shown::unprintable), unfolding(crate::specs::Characters::digits))]
 fn reference(byte: u8) -> &'static str
     requires { is_plain byte ≡ false }

@@ -6,7 +6,7 @@ use Rattle.cics_names.specs.declared.conditions.Condition.TheVariants.{Normal, D
 use Rattle.cics_names.specs.declared.conditions.AbendCode.{AbendCode}
 use lib.Chars.{codes}
 
--- the number that RESP gives
+-- the number that RESP returns
 abbrev pub number_of : Condition → ℕ
 number_of Normal = 0
 number_of Dsiderr = 12
@@ -41,8 +41,8 @@ title_of Enqbusy = codes "ENQBUSY"
 abbrev pub code_ae : ℕ → ℕ → Option AbendCode
 code_ae third fourth = Some (record { 0 = 0xC1 ∷ 0xC5 ∷ third ∷ fourth ∷ [] })
 
--- the code that a task is abended with where it handles the condition nowhere; three conditions
--- abend no task
+-- the code that a task is abended with if it handles the condition nowhere; three conditions abend
+-- no task
 abbrev pub default_abend_of : Condition → Option AbendCode
 default_abend_of Normal = None
 default_abend_of Dsiderr = code_ae 0xC9 0xD3

@@ -1,5 +1,5 @@
--- The characters of EBCDIC code page 037 that this project reads and prints, as runs of characters
--- whose codes follow one another: the first character (as in ASCII), its code, and how many there
+-- The characters of EBCDIC code page 037 that this project reads and prints, in runs whose codes
+-- follow one another. A run has its first character (as in ASCII), its code, and how many there
 -- are.
 use Rattle.std.specs.Prelude.{ℕ, Bool, ◌+◌, ◌-◌, ◌==◌, ◌&&◌, slice_get, nat_le, nat_lt, if◌then◌else◌, Option, Some, None, List, [], ◌∷◌, option_map, option_and_then}
 
@@ -26,7 +26,7 @@ runs =
     ∷ run 58 0x7A 1 ∷ run 35 0x7B 1 ∷ run 64 0x7C 1 ∷ run 39 0x7D 1 ∷ run 61 0x7E 1 ∷ run 34 0x7F 1
     ∷ []
 
--- whether a number is one of so many that follow one another from the first on
+-- whether a number is one of these, which follow one another from the first on
 abbrev pub is_within : ℕ → ℕ → ℕ → Bool
 is_within first count n = nat_le first n && nat_lt n (first + count)
 
@@ -40,7 +40,7 @@ abbrev pub character_in : List Run → ℕ → Option ℕ
 character_in [] b = None
 character_in (r ∷ rs) b = if is_within r.code r.count b then Some (r.character + (b - r.code)) else character_in rs b
 
--- the code of a character, given as in ASCII
+-- the code of an ASCII character
 unfoldable pub code_of : ℕ → Option ℕ
 code_of c = code_in runs c
 
@@ -57,7 +57,7 @@ unless_zero (Some x) = if x == 0 then None else Some x
 abbrev pub entry_at : List ℕ → ℕ → Option ℕ
 entry_at table i = unless_zero (slice_get table i)
 
--- the codes of a text, where each of its characters has one
+-- the codes of a text, if each of its characters has one
 abbrev pub codes_of : List ℕ → Option (List ℕ)
 codes_of [] = Some []
 codes_of (c ∷ cs) = option_and_then (λ code. option_map (λ rest. code ∷ rest) (codes_of cs)) (code_of c)

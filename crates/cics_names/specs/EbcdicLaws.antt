@@ -53,7 +53,7 @@ is_within-apart : (r s : Run) (c b : ℕ) → is_within s.character s.count c �
     s.code + (c - s.character) ≡ b → are_apart r s ≡ true → is_within r.code r.count b ≡ false
 is_within-apart r s c b within is apart = grind arith
 
--- what one table gives is the code of no run that lies apart from all of it
+-- a code of one table is the code of no run that lies apart from all of it
 is_within-elsewhere : (r : Run) (rs : List Run) (c b : ℕ) → list_all (are_apart r) rs ≡ true →
     code_in rs c ≡ Some b → is_within r.code r.count b ≡ false
 is_within-elsewhere r [] c b apart is = cc
@@ -64,7 +64,7 @@ is_within-elsewhere r (s ∷ rs) c b apart is =
       | false ↦ λ within later. is_within-elsewhere r rs c b parts.1 later
     ] refl is
 
--- where no code is in two runs, the character of a character's code is the character
+-- if no code is in two runs, the character of a character's code is the character
 character_in-code_in : (rs : List Run) (c b : ℕ) → are_all_apart rs ≡ true → code_in rs c ≡ Some b →
     character_in rs b ≡ Some c
 character_in-code_in [] c b apart is = cc

@@ -86,7 +86,7 @@ module _ (q k : Bytes) (other : q ≢ k) where
         ]
       ]
 
-  -- to take out a key takes out no other
+  -- removing a key removes no other
   pub is_key_in-without_key_other : (xs : List Bytes) → is_key_in q (without_key k xs) ≡ is_key_in q xs
   is_key_in-without_key_other [] = refl
   is_key_in-without_key_other (x ∷ xs) =

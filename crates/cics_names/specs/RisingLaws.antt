@@ -1,4 +1,4 @@
--- Maps and sets of keys whose keys rise are equal where they have the same at each key.
+-- Maps and sets of keys whose keys rise are equal if they have the same at each key.
 use Rattle.std.specs.Prelude.{◌≡◌, Bool, true, false, not, cond, ◌&&◌, ◌||◌, if◌then◌else◌, T, Option, Some, None, List, [], ◌∷◌, map, is_some, refl}
 use Rattle.std.proofs.Common.{sym, ap, ◌∙◌, subst}
 use Rattle.std.specs.declared.cmp.Ordering.{Ordering}
@@ -23,7 +23,7 @@ module _ {X : Type 0} where
   pub rising-without : (k : Bytes) (m : Map X) → T (is_rising m) → T (is_rising (without k m))
   rising-without k m rising = is_sorted-where_key bytes_cmp (λ x. not (is_same k x)) m rising
 
-  -- two maps whose keys rise are equal where they have the same at each key
+  -- two maps whose keys rise are equal if they have the same at each key
   pub same_maps : (m n : Map X) → T (is_rising m) → T (is_rising n) →
       ((q : Bytes) → value_at q m ≡ value_at q n) → m ≡ n
   same_maps m n rising_m rising_n same =
@@ -46,7 +46,7 @@ firsts (k ∷ ks) = ap (λ r. k ∷ r) (firsts ks)
 one_unit : (t : Unit {0}) → t ≡ tt
 one_unit t = refl
 
--- where a key goes before, in the place of or after the first of the others
+-- if a key goes before, instead of or after the first of the others
 chosen : (k x : Bytes) (xs : List Bytes) (o : Ordering) →
     paired (with_key k xs) ≡ with_value k tt (paired xs) →
     paired (if is_lt o then k ∷ x ∷ xs else if is_eq o then x ∷ xs else x ∷ with_key k xs) ≡ by_order o ((k, tt) ∷ (x, tt) ∷ paired xs) ((x, tt) ∷ paired xs) ((x, tt) ∷ with_value k tt (paired xs))
@@ -59,19 +59,19 @@ paired-with_key : (k : Bytes) (xs : List Bytes) → paired (with_key k xs) ≡ w
 paired-with_key k [] = refl
 paired-with_key k (x ∷ xs) = chosen k x xs (bytes_cmp k x) (paired-with_key k xs)
 
--- the first of the keys, kept or left out
+-- the first of the keys, left in or out
 left : (x : Bytes) (xs : List Bytes) (zs : Map (Unit {0})) (b : Bool) → paired xs ≡ zs →
     paired (if b then xs else x ∷ xs) ≡ cond (not b) ((x, tt) ∷ zs) zs
 left x xs zs true rest = rest
 left x xs zs false rest = ap (λ r. (x, tt) ∷ r) rest
 
--- a key taken out of the set is taken out of the map
+-- a key removed from the set is removed from the map
 paired-without_key : (k : Bytes) (xs : List Bytes) → paired (without_key k xs) ≡ without k (paired xs)
 paired-without_key k [] = refl
 paired-without_key k (x ∷ xs) =
     left x (without_key k xs) (without k (paired xs)) (is_same k x) (paired-without_key k xs)
 
--- a value is there where a key is the one that is looked for, or a later one is
+-- a value is there if a key is the one that is sought, or a later one is
 found : (b : Bool) (o : Option (Unit {0})) → is_some (cond b (Some tt) o) ≡ (b || is_some o)
 found true o = refl
 found false o = refl
@@ -82,7 +82,7 @@ has_key-paired q [] = refl
 has_key-paired q (x ∷ xs) =
     found (is_same q x) (value_at q (paired xs)) ∙ ap (λ b. is_same q x || b) (has_key-paired q xs)
 
--- no value is there where its key was taken out
+-- no value is there if its key was removed
 gone : (b : Bool) (o : Option (Unit {0})) → is_some (cond b None o) ≡ (not b && is_some o)
 gone true o = refl
 gone false o = refl
@@ -115,28 +115,28 @@ pub rising-without_key : (k : Bytes) (xs : List Bytes) → T (are_rising xs) →
 rising-without_key k xs rising =
     subst (λ m. T (is_rising m)) (sym (paired-without_key k xs)) (rising-without k (paired xs) rising)
 
--- what may be nothing is the same where it is there or not alike
+-- what may be nothing is the same if it is there or not alike
 to_unit : (o p : Option (Unit {0})) → is_some o ≡ is_some p → o ≡ p
 to_unit None None same = refl
 to_unit None (Some y) same = cc
 to_unit (Some x) None same = cc
 to_unit (Some x) (Some y) same = refl
 
--- two sets whose keys rise are equal where they have the same keys
+-- two sets whose keys rise are equal if they have the same keys
 pub same_keys : (xs ys : List Bytes) → T (are_rising xs) → T (are_rising ys) →
     ((q : Bytes) → is_key_in q xs ≡ is_key_in q ys) → xs ≡ ys
 same_keys xs ys rising_x rising_y same =
     sym (firsts xs) ∙ ap (map (λ e. e.0)) (same_maps (paired xs) (paired ys) rising_x rising_y
     (λ q. to_unit (value_at q (paired xs)) (value_at q (paired ys)) (has_key-paired q xs ∙ same q ∙ sym (has_key-paired q ys)))) ∙ firsts ys
 
--- what is not there is taken out with no change, also of a list whose keys do not rise: the first
--- key stays
+-- removing what isn't there changes nothing, also in a list whose keys don't rise: the first key
+-- stays
 stays : {A : Type 0} (x : A) (xs ys : List A) (b : Bool) → b ≡ false → ys ≡ xs →
     (if b then ys else x ∷ ys) ≡ x ∷ xs
 stays x xs ys true e same = cc
 stays x xs ys false e same = ap (λ r. x ∷ r) same
 
--- where neither of two holds, the first does not and the second does not
+-- if neither of two holds, the first doesn't and the second doesn't
 both_false : (a b : Bool) → (a || b) ≡ false → (a ≡ false) × (b ≡ false)
 both_false true b e = let wrong : true ≡ false = e in cc
 both_false false b e = (refl, e)
@@ -149,12 +149,12 @@ without_key-absent k (x ∷ xs) absent =
     stays x xs (without_key k xs) (is_same k x) parts.0 (without_key-absent k xs parts.1)
 
 module _ {X : Type 0} where
-  -- where a choice gives nothing, it does not choose what is there
+  -- if a choice is nothing, it doesn't choose what is there
   none_parts : (b : Bool) (x : X) (o : Option X) → cond b (Some x) o ≡ None → (b ≡ false) × (o ≡ None)
   none_parts true x o e = let wrong : Some x ≡ None = e in cc
   none_parts false x o e = (refl, e)
 
-  -- the first entry, where it stays
+  -- the first entry, if it stays
   remains : (e : Bytes × X) (es fs : Map X) (b : Bool) → b ≡ false → fs ≡ es →
       cond (not b) (e ∷ fs) fs ≡ e ∷ es
   remains e es fs true h same = cc

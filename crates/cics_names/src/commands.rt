@@ -10,9 +10,8 @@ use crate::{Name4, Name8, NoMemory, Record};
 pub struct Command {
     /// What the command asks for.
     pub verb: Verb,
-    /// Whether the task is told each condition (RESP or NOHANDLE). Where it is false a condition
-    /// abends the task with its default code, if it has one (chapter on the exceptional
-    /// conditions).
+    /// Whether the task is told each condition (RESP or NOHANDLE). If false, a condition abends the
+    /// task with its default code, if it has one (chapter on the exceptional conditions).
     pub resp: bool,
 }
 
@@ -32,15 +31,16 @@ impl Drop for Command {
 ///
 /// - `file`, `queue`: the name of the file or queue.
 /// - `ridfld`: the key asked for, or with `generic` the first bytes of it.
-/// - `key_length`: KEYLENGTH in bytes, where it is given; it must be the length of `ridfld`.
-/// - `from`: what is written; `length`, where it is given, says how many of its first bytes.
-/// - `length` of a command that reads: how many bytes the task takes, where it is given. A longer
-///   content is LENGERR with its first bytes, and counts as read.
+/// - `key_length`: KEYLENGTH in bytes, if it is given; it must be the length of `ridfld`.
+/// - `from`: what is written; `length`, if it is given, says how many of its first bytes.
+/// - `length` of a command that reads: how many bytes the task takes, if it is given. A longer
+///   content is answered LENGERR with its first bytes, and counts as read.
 #[derive(Drop)]
 pub enum Verb {
-    /// READ (file control): the record of a key. With `gteq` the least key that isn't below the one
-    /// given, with `generic` a key that begins with it, with both the least key whose first bytes
-    /// aren't below it. With `update` the record is read for update, which goes with neither.
+    /// READ (file control): reads the record of a key. With `gteq` that is the smallest key that
+    /// isn't below the one given, with `generic` a key that begins with it. With both it is the
+    /// smallest key whose first bytes aren't below it. With `update` the record is read for update,
+    /// which goes with neither.
     Read {
         file: Name8,
         ridfld: Record,
@@ -67,7 +67,7 @@ pub enum Verb {
     },
     /// DELETE (file control): deletes the record of the key, or without `ridfld` the one that was
     /// read for update. With `ridfld` and `generic` it deletes every record whose key begins with
-    /// it, and answers their number.
+    /// it, and is answered their number.
     Delete {
         file: Name8,
         ridfld: Option<Record>,
@@ -78,9 +78,9 @@ pub enum Verb {
     Unlock {
         file: Name8,
     },
-    /// STARTBR (file control, browsing): opens a browse at the least key that isn't below the one
-    /// given, with `equal` at that key itself, with `equal` and `generic` at a key that begins with
-    /// it.
+    /// STARTBR (file control, browsing): opens a browse at the smallest key that isn't below the
+    /// one given. With `equal` it opens at that key itself, with `equal` and `generic` at a key
+    /// that begins with it.
     StartBr {
         file: Name8,
         ridfld: Record,
@@ -96,12 +96,12 @@ pub enum Verb {
         generic: bool,
         equal: bool,
     },
-    /// READNEXT (file control, browsing): the next record in the order of the keys.
+    /// READNEXT (file control, browsing): reads the next record in the order of the keys.
     ReadNext {
         file: Name8,
         length: Option<u64>,
     },
-    /// READPREV (file control, browsing): the next record against the order of the keys.
+    /// READPREV (file control, browsing): reads the next record against the order of the keys.
     ReadPrev {
         file: Name8,
         length: Option<u64>,
@@ -118,8 +118,8 @@ pub enum Verb {
         length: Option<u64>,
         item: Option<u64>,
     },
-    /// READQ TS (temporary storage): the item of the number `item`, or without it the one after the
-    /// item that any task read last.
+    /// READQ TS (temporary storage): reads the item of the number `item`, or without it the one
+    /// after the item that any task read last.
     ReadqTs {
         queue: Name8,
         length: Option<u64>,
@@ -135,25 +135,25 @@ pub enum Verb {
         from: Record,
         length: Option<u64>,
     },
-    /// READQ TD (transient data): takes the first record. With `nosuspend` it is QBUSY where it
-    /// would have to wait.
+    /// READQ TD (transient data): reads and removes the first record. With `nosuspend` it is
+    /// answered QBUSY if it would have to wait.
     ReadqTd {
         queue: Name4,
         length: Option<u64>,
         nosuspend: bool,
     },
-    /// DELETEQ TD (transient data): takes all records away.
+    /// DELETEQ TD (transient data): removes all records.
     DeleteqTd {
         queue: Name4,
     },
     /// ENQ (task control): enqueues on a value, the first `length` bytes of `resource`, 1 to 255.
-    /// With `nosuspend` it is ENQBUSY where another unit of work holds the value.
+    /// With `nosuspend` it is answered ENQBUSY if another unit of work owns the value.
     Enq {
         resource: Record,
         length: u64,
         nosuspend: bool,
     },
-    /// DEQ (task control): gives the value back once, if the task's unit of work holds it.
+    /// DEQ (task control): releases the value once, if the task's unit of work owns it.
     Deq {
         resource: Record,
         length: u64,
@@ -164,15 +164,15 @@ pub enum Verb {
     Rollback,
     /// RETURN (program control): commits the task's unit of work and ends the task.
     Return,
-    /// ABEND (program control): ends the task with a code, `????` where none is given, and backs
-    /// its unit of work out.
+    /// ABEND (program control): ends the task with a code, `????` if none is given, and backs its
+    /// unit of work out.
     Abend {
         code: Option<Name4>,
     },
 }
 
 impl Command {
-    /// Another command that asks for the same. `NoMemory` where the memory for it is refused.
+    /// Returns a copy of the command. The only error is `NoMemory`.
     pub fn copy(&self) -> Result<Command, NoMemory>
         ensures { IfOk result (λ copy. copy ≡ self.now) }
     {
@@ -183,7 +183,7 @@ impl Command {
     }
 }
 
-// A copy of a record, where there is one.
+// Returns a copy of a record, if there is one.
 fn copy_of(found: &Option<Record>) -> Result<Option<Record>, NoMemory>
     ensures { IfOk result (λ copy. copy ≡ found.now) }
 {
@@ -341,7 +341,7 @@ impl Verb {
         }
     }
 
-    /// The file that the command names, or None where it names none.
+    /// Returns the file that the command names, or None if it names none.
     pub fn file(&self) -> Option<&Name8>
         ensures { option_copied result ≡ file_named self.now }
     {
@@ -360,7 +360,7 @@ impl Verb {
         }
     }
 
-    /// LENGTH of a command that reads, where it is given: how many bytes the task takes.
+    /// Returns LENGTH of a command that reads, if it is given: how many bytes the task takes.
     pub fn length(&self) -> Option<u64>
         ensures { result ≡ length_of self.now }
     {

@@ -5,7 +5,7 @@ ghost use Rattle.cics_names.specs.Conditions.{number_of, title_of, default_abend
 
 use crate::names::Name4;
 
-/// What a command answers: `Normal`, or one of the exceptional conditions.
+/// What a command is answered: `Normal`, or one of the exceptional conditions.
 ///
 /// The exceptional conditions chapter of the Application Programmer's Reference Manual describes
 /// them.
@@ -42,7 +42,7 @@ pub enum Condition {
 pub struct AbendCode(pub Name4);
 
 impl Condition {
-    /// Its number, as RESP gives it and EIBRESP holds it.
+    /// Returns its number, as RESP and EIBRESP have it.
     pub fn number(self) -> u64
         ensures { result ≡ number_of self }
     {
@@ -62,7 +62,7 @@ impl Condition {
         }
     }
 
-    /// Its name in capitals, as a journal prints it.
+    /// Returns its name in capitals, as a journal prints it.
     pub fn name(self) -> &'static str
         ensures { result.now ≡ title_of self }
     {
@@ -82,8 +82,8 @@ impl Condition {
         }
     }
 
-    /// The code that a task is abended with where the condition comes up and the command handles
-    /// none.
+    /// Returns the code that a task is abended with if the condition comes up and the command
+    /// handles none.
     ///
     /// `None` for the conditions that abend no task: `Normal`, `Qbusy` and `Enqbusy`.
     pub fn default_abend(self) -> Option<AbendCode>

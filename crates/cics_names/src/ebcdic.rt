@@ -3,9 +3,10 @@
 ghost use Rattle.std.specs.Prelude.{◌≡◌, Some, IfSome};
 ghost use Rattle.cics_names.specs.Ebcdic.{code_of, character_of, entry_at};
 
-/// The EBCDIC code of a character, or `None` where it is none of the 85 that are read and printed.
+/// Returns the EBCDIC code of a character, or `None` if it is none of the 85 that are read and
+/// printed.
 ///
-/// [`from_ebcdic`] leads each code that this gives back to its character.
+/// [`from_ebcdic`] leads each code that this returns back to its character.
 pub fn to_ebcdic(character: char) -> Option<u8>
     ensures value { result ≡ code_of character }
     ensures inverse { IfSome result (λ code. character_of code ≡ Some character) }
@@ -13,10 +14,10 @@ pub fn to_ebcdic(character: char) -> Option<u8>
     entry(&CODES, character as usize)
 }
 
-/// The character of an EBCDIC code, or `None` for a byte that is the code of none of the 85
+/// Returns the character of an EBCDIC code, or `None` for a byte that is the code of none of the 85
 /// characters.
 ///
-/// [`to_ebcdic`] leads each character that this gives back to its code.
+/// [`to_ebcdic`] leads each character that this returns back to its code.
 pub fn from_ebcdic(code: u8) -> Option<char>
     ensures value { result ≡ character_of code }
     ensures inverse { IfSome result (λ character. code_of character ≡ Some code) }
@@ -52,7 +53,7 @@ const CHARACTERS: [u8; 256] = [
     b'0', b'1', b'2', b'3', b'4', b'5', b'6', b'7', b'8', b'9', 0, 0, 0, 0, 0, 0,
 ];
 
-// The entry of a table for a byte or a character, if there is one that isn't 0.
+// Returns the entry of a table for a byte or a character, if there is one that isn't 0.
 fn entry(table: &[u8], index: usize) -> Option<u8>
     ensures { result ≡ entry_at table.now index }
 {

@@ -9,9 +9,9 @@ use std::marker::Model;
 
 /// Values in order.
 ///
-/// This is a `Vec` that contracts see as the list of its values alone: two lists with the same
-/// values are the same, whatever memory they hold. So types that clauses compare, and a listing is
-/// one, hold `Items` where they would hold a `Vec`.
+/// This is a `Vec` that contracts see as the list of its values alone. Two lists with the same
+/// values are equal, whatever memory they hold. So types that clauses compare, such as a listing,
+/// hold `Items` and not a `Vec`.
 #[derive(Debug, Drop)]
 pub struct Items<T> {
     items: Vec<T>,
@@ -29,7 +29,7 @@ impl<T> Model for Items<T> {
 }
 
 impl<T> Items<T> {
-    /// No values yet. It takes no memory: that is taken from `alloc` as values are added.
+    /// Returns an empty list. It takes no memory: `alloc` gives that as values are added.
     pub fn new(alloc: Global) -> Items<T>
         ensures { result ≡ [] }
     {
@@ -38,35 +38,35 @@ impl<T> Items<T> {
         }
     }
 
-    /// The values of a `Vec`, in its order. It takes no memory.
+    /// Returns the values of a `Vec`, in its order. It takes no memory.
     pub fn from_vec(items: Vec<T>) -> Items<T>
         ensures { result ≡ items.items }
     {
         Items { items }
     }
 
-    /// Gives the values back as a `Vec`. It takes no memory.
+    /// Returns the values as a `Vec`. It takes no memory.
     pub fn into_vec(self) -> Vec<T>
         ensures { result.items ≡ self }
     {
         self.items
     }
 
-    /// The values, first to last.
+    /// Returns the values, first to last.
     pub fn as_slice(&self) -> &[T]
         ensures { result.now ≡ self.now }
     {
         self.items.as_slice()
     }
 
-    /// How many values there are.
+    /// Returns how many values there are.
     pub fn len(&self) -> usize
         ensures { result ≡ length self.now }
     {
         self.items.len()
     }
 
-    /// Whether there is no value.
+    /// Returns whether there is no value.
     pub fn is_empty(&self) -> bool
         ensures { IsTrue result ↔ (self.now ≡ []) }
     {
@@ -77,8 +77,8 @@ impl<T> Items<T> {
 impl<T: Drop> Items<T> {
     /// Adds a value at the end.
     ///
-    /// `NoMemory` where the list had to grow and memory was refused: the list is as before then,
-    /// and the value is dropped.
+    /// The only error is `NoMemory`, if the list had to grow. The list is as before then, and the
+    /// value is dropped.
     pub fn push(&mut self, value: T) -> Result<(), NoMemory>
         ensures ok { OnOk result (self.new ≡ self.old ++ value ∷ []) }
         ensures err { OnErr result (self.new ≡ self.old) }
@@ -87,8 +87,7 @@ impl<T: Drop> Items<T> {
         Ok(())
     }
 
-    /// Puts a value in the place of the one at `index` (from 0), which is dropped. It takes no
-    /// memory.
+    /// Replaces the value at `index` (from 0), and drops the old one. It takes no memory.
     pub fn set(&mut self, index: usize, value: T)
         requires { index < length self.old }
         ensures { self.new ≡ slice_set self.old index value }

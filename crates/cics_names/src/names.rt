@@ -7,7 +7,7 @@ use crate::ebcdic::to_ebcdic;
 use std::hash::{Hash, Hasher};
 use std::marker::Model;
 
-// What a name is filled up with.
+// The byte that fills names up.
 const BLANK: u8 = 0x40;
 
 /// Why a text is no name.
@@ -74,7 +74,7 @@ impl Hash for Name8 {
 
     ghost respects_eq = { Prim.search (hashing, rules) };
 
-    // As one number, since a hasher takes a number faster than so many bytes.
+    // As one number, which a hasher takes faster than its bytes.
     fn hash<H: Hasher>(&self, state: &mut H) {
         state.write_u64(u64::from_be_bytes(self.bytes));
     }
@@ -90,15 +90,15 @@ impl Hash for Name4 {
 
     ghost respects_eq = { Prim.search (hashing, rules) };
 
-    // As one number, since a hasher takes a number faster than so many bytes.
+    // As one number, which a hasher takes faster than its bytes.
     fn hash<H: Hasher>(&self, state: &mut H) {
         state.write_u32(u32::from_be_bytes(self.bytes));
     }
 }
 
 impl Name8 {
-    /// The name that an ASCII text of one to eight characters writes, or the first fault of the
-    /// text.
+    /// Returns the name that an ASCII text of one to eight characters writes, or the first fault of
+    /// the text.
     ///
     /// Blanks in front and between count as characters of the name; those at the end make no
     /// difference.
@@ -110,7 +110,7 @@ impl Name8 {
         })
     }
 
-    /// Its eight EBCDIC bytes, with the blanks that fill it up.
+    /// Returns its eight EBCDIC bytes, with the blanks that fill it up.
     pub fn bytes(self) -> [u8; 8]
         ensures { result ≡ self }
     {
@@ -119,8 +119,8 @@ impl Name8 {
 }
 
 impl Name4 {
-    /// The name that an ASCII text of one to four characters writes, or the first fault of the
-    /// text.
+    /// Returns the name that an ASCII text of one to four characters writes, or the first fault of
+    /// the text.
     ///
     /// Blanks in front and between count as characters of the name; those at the end make no
     /// difference.
@@ -132,14 +132,14 @@ impl Name4 {
         })
     }
 
-    /// Its four EBCDIC bytes, with the blanks that fill it up.
+    /// Returns its four EBCDIC bytes, with the blanks that fill it up.
     pub fn bytes(self) -> [u8; 4]
         ensures { result ≡ self }
     {
         self.bytes
     }
 
-    // The name of bytes that are known to be one.
+    // Returns the name of bytes that are known to be one.
     pub(crate) fn of_bytes(bytes: [u8; 4]) -> Name4
         ensures { result ≡ bytes }
     {
@@ -147,7 +147,7 @@ impl Name4 {
     }
 }
 
-// The bytes of a name of width N.
+// Returns the bytes of a name of width N.
 fn padded<const N: usize>(text: &[u8]) -> Result<[u8; N], NameFault>
     ensures { result ≡ name_of N text.now }
 {

@@ -6,12 +6,12 @@ use std::alloc::{AllocError, AllocFailed, Global};
 use std::cmp::Ordering;
 use std::marker::Model;
 
-// How many bytes a record keeps in itself at most.
+// How many bytes a record has in itself at most.
 const SHORT: usize = 30;
 
 /// Memory was refused: a growth was asked for and not granted.
 ///
-/// A call that answers it has changed nothing.
+/// A call that returns it has changed nothing.
 #[derive(Clone, Copy, Debug, PartialEq, Eq)]
 pub struct NoMemory;
 
@@ -45,7 +45,7 @@ impl Model for Short {
 }
 
 impl Short {
-    // Returns these bytes, kept in the value itself.
+    // Returns these bytes, in the value itself.
     fn new(bytes: &[u8]) -> Short
         requires { length bytes.now ≤ 30 }
         ensures { result ≡ bytes.now }
@@ -97,8 +97,8 @@ enum Room {
     Long(Vec<u8>),
 }
 
-/// The bytes of a record, of an item or of a key, as they stand in EBCDIC. Up to 30 bytes lie in the
-/// value itself and take no memory.
+/// The bytes of a record, of an item or of a key, in EBCDIC. Up to 30 bytes are in the value itself
+/// and take no memory.
 ///
 /// Contracts see the bytes alone. Two records are equal if they have the same bytes. They are
 /// ordered by the first byte that differs, the bytes unsigned, or else by their length.
@@ -137,7 +137,7 @@ impl Record {
         Record::short(bytes.as_slice())
     }
 
-    // Returns a record that keeps these bytes in itself.
+    // Returns a record that has these bytes in itself.
     fn short(bytes: &[u8]) -> Record
         requires { length bytes.now ≤ 30 }
         ensures { result ≡ bytes.now }

@@ -1,4 +1,4 @@
--- The NEXT places by name after each change of the rows, and after a unit of work has ended.
+-- The NEXT cursors by name after each change of the rows, and after a unit of work has ended.
 use Rattle.std.proofs.Common.{◌≡◌, ◌≢◌, ◌-◌, ℕ, Bool, true, false, ◌&&◌, cond, T, List, [], ◌∷◌, ◌++◌, length, fold, slice_set, Option, Some, None, is_some, nat_lt, nat_le, inl, inr, refl, sym, ap, subst, ◌∙◌}
 use Rattle.std.specs.Prelude.{unwrap_or, if◌then◌else◌, filter}
 use Rattle.std.specs.Option.{option_and_then}
@@ -17,11 +17,11 @@ use Rattle.cics_tempstor.specs.Shown.{queue_shown, place_shown, put_if, places_o
 use Rattle.cics_tempstor.specs.Shown.{rising-put_if, rising-places_of, rising_written, rising_rewritten, rising_deleted, rising_read, rising_swept, rising_all_swept, rising_all_undone}
 
 -- ---- what the places are, name by name
--- a place that isn't 0
+-- a cursor that isn't 0
 abbrev pub some_place : ℕ → Option ℕ
 some_place n = if nat_lt 0 n then Some n else None
 
--- a name is among the places with its NEXT place, where that isn't 0
+-- a name is among the cursors with its NEXT cursor, if that isn't 0
 pub value_at-places_of : (q : Bytes) (rows : Map Row) → T (is_rising rows) → value_at q (places_of rows) ≡ some_place (next_place q rows)
 value_at-places_of q rows rising = ap (value_at q) (places_of-shown rows) ∙ value_at-shown place_shown q rows rising ∙ by (value_at q rows)
   where
@@ -29,7 +29,7 @@ value_at-places_of q rows rising = ap (value_at q) (places_of-shown rows) ∙ va
     by None = refl
     by (Some row) = refl
 
--- a queue is shown where it is there
+-- a queue is shown if it is there
 pub has_key-queues_of : (q : Bytes) (rows : Map Row) → T (is_rising rows) → has_key q (queues_of rows) ≡ is_there (queue_at q rows)
 has_key-queues_of q rows rising = ap (has_key q) (queues_of-shown rows) ∙ ap is_some (value_at-shown queue_shown q rows rising) ∙ by (value_at q rows)
   where
@@ -43,7 +43,7 @@ has_key-queues_of q rows rising = ap (has_key q) (queues_of-shown rows) ∙ ap i
 
 -- ---- the places after each change
 module _ (rows : Map Row) (rising : T (is_rising rows)) (q : Bytes) where
-  -- a name that gets the place that it has
+  -- a name that gets the cursor that it has
   put_again : put_if place_shown q (place_shown (row_at q rows)) (places_of rows) ≡ places_of rows
   put_again =
       same_maps (put_if place_shown q (place_shown (row_at q rows)) (places_of rows)) (places_of rows)
@@ -54,11 +54,11 @@ module _ (rows : Map Row) (rising : T (is_rising rows)) (q : Bytes) where
       by p false e = refl
       by p true e = sym (ap (λ k. value_at k (places_of rows)) (is_same-eq p q e) ∙ value_at-places_of q rows rising)
 
-  -- a row that gets another with the same place
+  -- a row that gets another with the same cursor
   kept_at : (row : Row) → place_of row ≡ place_of (row_at q rows) → places_of (with_value q row rows) ≡ places_of rows
   kept_at row same = places_of-with_value q row rows rising ∙ ap (λ n. put_if place_shown q (some_place n) (places_of rows)) same ∙ put_again
 
-  -- WRITEQ TS changes no place: a queue that it makes has the place 0, as the absent one had
+  -- WRITEQ TS changes no cursor: a queue that it makes has the cursor 0, as the absent one had
   pub places_of-written : (d : Bytes) → places_of (ts_written rows q d) ≡ places_of rows
   places_of-written d = by (nat_lt (length (queue_at q rows)) most_items)
     where
@@ -66,11 +66,11 @@ module _ (rows : Map Row) (rising : T (is_rising rows)) (q : Bytes) where
       by false = refl
       by true = kept_at (record { items = queue_at q rows ++ d ∷ []; next = place_of (row_at q rows) }) (ap (λ b. if b then place_of (row_at q rows) else 0) (there_more (queue_at q rows) d))
 
-  -- so to take the place of an absent queue away changes nothing
+  -- so removing the cursor of an absent queue changes nothing
   pub without-absent_queue : is_there (queue_at q rows) ≡ false → without q (places_of rows) ≡ places_of rows
   without-absent_queue none = without-absent q (places_of rows) (value_at-places_of q rows rising ∙ ap (λ b. some_place (if b then (row_at q rows).next else 0)) none)
 
-  -- WRITEQ TS REWRITE changes no place
+  -- WRITEQ TS REWRITE changes no cursor
   pub places_of-rewritten : (n : ℕ) (d : Bytes) → places_of (ts_rewritten rows q n d) ≡ places_of rows
   places_of-rewritten n d = by (has_item (queue_at q rows) n)
     where
@@ -78,7 +78,7 @@ module _ (rows : Map Row) (rising : T (is_rising rows)) (q : Bytes) where
       by false = refl
       by true = kept_at (record { items = slice_set (queue_at q rows) (n - 1) d; next = (row_at q rows).next }) (ap (λ b. if b then (row_at q rows).next else 0) (is_there-set (queue_at q rows) (n - 1) d))
 
-  -- DELETEQ TS takes the place of its queue away
+  -- DELETEQ TS removes the cursor of its queue
   pub places_of-deleted : (keep : Bool) → places_of (ts_deleted keep rows q) ≡ (if is_there (queue_at q rows) then without q (places_of rows) else places_of rows)
   places_of-deleted keep = by (is_there (queue_at q rows)) keep
     where
@@ -87,7 +87,7 @@ module _ (rows : Map Row) (rising : T (is_rising rows)) (q : Bytes) where
       by true true = places_of-with_value q empty_row rows rising
       by true false = places_of-without q rows rising
 
-  -- READQ TS that gives an item sets the place to its number
+  -- READQ TS that is answered an item sets the cursor to its number
   pub places_of-read : (n : ℕ) → places_of (after_read_item rows q n) ≡ (if has_item (queue_at q rows) n then with_value q n (places_of rows) else places_of rows)
   places_of-read n = by (has_item (queue_at q rows) n) refl
     where
@@ -100,7 +100,7 @@ module _ (rows : Map Row) (rising : T (is_rising rows)) (q : Bytes) where
           ∙ ap (λ b. put_if place_shown q (if b then Some n else None) (places_of rows)) (both_true (nat_lt 0 n) (nat_le n (length (queue_at q rows))) has).0
 
 -- ---- no place is hidden
--- a row without an item has the place 0: a queue that comes back by an undo brings no other place
+-- a row without an item has the cursor 0: a queue that comes back by an undo brings no other cursor
 -- with it
 abbrev pub IsUnplacedIfEmpty : Row → Type 0
 IsUnplacedIfEmpty row = is_there row.items ≡ false → row.next ≡ 0
@@ -125,18 +125,18 @@ row_at-without p q rows = ap (λ o. unwrap_or {T = Row} o empty_row) (value_at-w
     by true o = refl
     by false o = refl
 
--- of two rows that have no place where they are empty, each has none
+-- of two rows without a cursor if they are empty, each has none
 one_of : (b : Bool) (x y : Row) → IsUnplacedIfEmpty x → IsUnplacedIfEmpty y → IsUnplacedIfEmpty (cond b x y)
 one_of true x y h k = h
 one_of false x y h k = k
 
--- of two that hide no place, each hides none
+-- of two that hide no cursor, each hides none
 either : (b : Bool) (f g : Map Row) → HidesNoPlace f → HidesNoPlace g → HidesNoPlace (if b then f else g)
 either true f g h k = h
 either false f g h k = k
 
 module _ (rows : Map Row) (hides : HidesNoPlace rows) (q : Bytes) where
-  -- rows with such a row more hide no place
+  -- rows with one more such row hide no cursor
   hides-with_value : (row : Row) → IsUnplacedIfEmpty row → HidesNoPlace (with_value q row rows)
   hides-with_value row h p = subst IsUnplacedIfEmpty (sym (row_at-with_value p q row rows)) (one_of (is_same p q) row (row_at p rows) h (hides p))
 
@@ -144,7 +144,7 @@ module _ (rows : Map Row) (hides : HidesNoPlace rows) (q : Bytes) where
   hides-without : HidesNoPlace (without q rows)
   hides-without p = subst IsUnplacedIfEmpty (sym (row_at-without p q rows)) (one_of (is_same q p) empty_row (row_at p rows) (λ e. refl) (hides p))
 
-  -- WRITEQ TS hides no place: its queue is there
+  -- WRITEQ TS hides no cursor: its queue is there
   pub hides_written : (d : Bytes) → HidesNoPlace (ts_written rows q d)
   hides_written d = by (nat_lt (length (queue_at q rows)) most_items)
     where
@@ -152,7 +152,7 @@ module _ (rows : Map Row) (hides : HidesNoPlace rows) (q : Bytes) where
       by false = hides
       by true = hides-with_value (record { items = queue_at q rows ++ d ∷ []; next = place_of (row_at q rows) }) (λ none. let wrong : true ≡ false = sym (there_more (queue_at q rows) d) ∙ none in cc)
 
-  -- WRITEQ TS REWRITE hides none: it leaves the NEXT place, and whether the queue is there
+  -- WRITEQ TS REWRITE hides none: it leaves the NEXT cursor, and whether the queue is there
   pub hides_rewritten : (n : ℕ) (d : Bytes) → HidesNoPlace (ts_rewritten rows q n d)
   hides_rewritten n d = by (has_item (queue_at q rows) n)
     where
@@ -160,12 +160,12 @@ module _ (rows : Map Row) (hides : HidesNoPlace rows) (q : Bytes) where
       by false = hides
       by true = hides-with_value (record { items = slice_set (queue_at q rows) (n - 1) d; next = (row_at q rows).next }) (λ none. hides q (sym (is_there-set (queue_at q rows) (n - 1) d) ∙ none))
 
-  -- DELETEQ TS hides none: its empty row has the place 0
+  -- DELETEQ TS hides none: its empty row has the cursor 0
   pub hides_deleted : (keep : Bool) → HidesNoPlace (ts_deleted keep rows q)
   hides_deleted keep = either (is_there (queue_at q rows)) (if keep then with_value q empty_row rows else without q rows) rows
       (either keep (with_value q empty_row rows) (without q rows) (hides-with_value empty_row (λ e. refl)) hides-without) hides
 
-  -- READQ TS hides none: only a queue that is there has an item to give
+  -- READQ TS hides none: only a queue that is there has an item to read
   pub hides_read : (n : ℕ) → HidesNoPlace (after_read_item rows q n)
   hides_read n = by (has_item (queue_at q rows) n) refl
     where
@@ -173,11 +173,11 @@ module _ (rows : Map Row) (hides : HidesNoPlace rows) (q : Bytes) where
       by false has = hides
       by true has = hides-with_value (record { items = queue_at q rows; next = n }) (λ none. let wrong : true ≡ false = sym (has_item-there (queue_at q rows) n has) ∙ none in cc)
 
-  -- a sweep hides none: it only takes a row away
+  -- a sweep hides none: it only removes a row
   pub hides_swept : HidesNoPlace (ts_swept rows q)
   hides_swept = either (is_there (queue_at q rows)) rows (without q rows) hides hides-without
 
--- the names of the rows rise, and no row hides a place
+-- the names of the rows rise, and no row hides a cursor
 pub record AreInOrder (rows : Map Row) : Type 0 where
   pub rising : T (is_rising rows)
   pub hides : HidesNoPlace rows
@@ -218,7 +218,7 @@ pub queues_of-committed : (rows : Map Row) (images : List TsImage) → T (is_ris
 queues_of-committed rows [] rising = refl
 queues_of-committed rows (i ∷ is) rising = queues_of-committed (ts_swept rows i.name) is (rising_swept rows rising i.name) ∙ queues_of-swept rows rising i.name
 
--- where the names of images are swept, an absent queue that one of them names has no row any more
+-- if the names of images are swept, an absent queue that one of them names has no row any more
 unplaced_swept : (q : Bytes) (rows : Map Row) (images : List TsImage) → is_there (queue_at q rows) ≡ false →
     (is_unnamed name_of_image images q ≡ true → (row_at q rows).next ≡ 0) → (row_at q (committed rows images)).next ≡ 0
 unplaced_swept q rows [] none unnamed = unnamed refl
@@ -235,7 +235,7 @@ unplaced_swept q rows (i ∷ is) none unnamed =
     left apart true = refl
     left apart false = row_at-without q i.name rows ∙ ap (λ b. cond b empty_row (row_at q rows)) (is_same-other i.name q (λ e. apart (sym e)))
 
--- an undo leaves the place of its row, and every other row
+-- an undo leaves the cursor of its row, and every other row
 next_undone : (q : Bytes) (rows : Map Row) (i : TsImage) → (row_at q (undone rows i)).next ≡ (row_at q rows).next
 next_undone q rows i = ap (λ r. r.next) (row_at-with_value q i.name (row_undone i.before (row_at i.name rows)) rows) ∙ by (is_same q i.name) refl
   where
@@ -243,7 +243,7 @@ next_undone q rows i = ap (λ r. r.next) (row_at-with_value q i.name (row_undone
     by true same = ap (λ k. (row_at k rows).next) (sym (is_same-eq q i.name same))
     by false other = refl
 
--- undoing several leaves the place of each row
+-- undoing several leaves the cursor of each row
 next_all_undone : (q : Bytes) (rows : Map Row) (images : List TsImage) → (row_at q (fold undone rows images)).next ≡ (row_at q rows).next
 next_all_undone q rows [] = refl
 next_all_undone q rows (i ∷ is) = next_all_undone q (undone rows i) is ∙ next_undone q rows i
@@ -274,7 +274,7 @@ in_order_backed_out rows images ordered =
     }
 
 -- ---- the places after the end of a unit of work
--- the places of the queues that are there
+-- the cursors of the queues that are there
 abbrev pub places_there : Map Queue → Map ℕ → Map ℕ
 places_there queues places = filter (λ e. has_key e.0 queues) places
 
@@ -292,7 +292,7 @@ module _ (f : Bytes → Bool) where
       by false rest = rest
       by true rest = both_of (is_lt (bytes_cmp k e.0)) (below_all bytes_cmp k (passing es)) (left_of (is_lt (bytes_cmp k e.0)) (below_all bytes_cmp k es) below) rest
 
-  -- the names that pass rise where all do
+  -- the names that pass rise if all do
   rising-passing : (m : Map ℕ) → T (is_rising m) → T (is_rising (passing m))
   rising-passing [] rising = tt
   rising-passing (e ∷ es) rising = by (f e.0) (rising-passing es (right_of (below_all bytes_cmp e.0 es) (is_rising es) rising))
@@ -320,7 +320,7 @@ module _ (f : Bytes → Bool) where
           rest ∙ ap (λ b. cond b (value_at q es) None) fails ∙ sym (ap (λ b. cond b (Some e.1) None) fails)
       by false false passes same rest = rest
 
--- two rows that show the same places, of the queues that are there in the second
+-- two rows that show the same cursors, of the queues that are there in the second
 same_places : (old new : Map Row) → T (is_rising old) → T (is_rising new) → ((q : Bytes) → next_place q new ≡ (if is_there (queue_at q new) then next_place q old else 0)) →
     places_of new ≡ places_there (queues_of new) (places_of old)
 same_places old new before after same =
@@ -333,7 +333,7 @@ same_places old new before after same =
     by true n = refl
     by false n = refl
 
--- a commit leaves all places
+-- a commit leaves all cursors
 pub places_of-committed : (rows : Map Row) (images : List TsImage) → T (is_rising rows) → places_of (committed rows images) ≡ places_of rows
 places_of-committed rows [] rising = refl
 places_of-committed rows (i ∷ is) rising = places_of-committed (ts_swept rows i.name) is (rising_swept rows rising i.name) ∙ places_of-swept rows rising i.name
@@ -346,7 +346,7 @@ places_of-there rows rising = same_places rows rows rising rising (λ q. by (is_
     by true n = refl
     by false n = refl
 
--- a backout leaves the places of the queues that are there after it, and no other
+-- a backout leaves the cursors of the queues that are there after it, and no other
 pub places_of-backed_out : (rows : Map Row) (images : List TsImage) → AreInOrder rows →
     places_of (backed_out rows images) ≡ places_there (queues_of (backed_out rows images)) (places_of rows)
 places_of-backed_out rows images ordered =

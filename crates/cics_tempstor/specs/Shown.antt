@@ -1,4 +1,4 @@
--- The queues that are there and their NEXT places, by name, after each change of the rows: what a
+-- The queues that are there and their NEXT cursors, by name, after each change of the rows: what a
 -- unit of work shows of them.
 use Rattle.std.proofs.Common.{◌≡◌, ℕ, Bool, true, false, ◌&&◌, cond, T, List, [], ◌∷◌, length, zero, suc, fold, Option, Some, None, nat_lt, arith, refl, sym, ap, subst, ◌∙◌}
 use Rattle.std.specs.Prelude.{unwrap_or, if◌then◌else◌}
@@ -59,8 +59,8 @@ pub rising_all_swept : (rows : Map Row) (images : List TsImage) → T (is_rising
 rising_all_swept rows [] rising = rising
 rising_all_swept rows (i ∷ is) rising = rising_all_swept (ts_swept rows i.name) is (rising_swept rows rising i.name)
 
--- ---- what each row shows, where it shows something
--- where two tests hold, the first holds
+-- ---- what each row shows, if it shows something
+-- if two tests hold, the first holds
 pub left_of : (a b : Bool) → T (a && b) → T a
 left_of true b h = tt
 left_of false b h = h
@@ -70,13 +70,13 @@ pub right_of : (a b : Bool) → T (a && b) → T b
 right_of true b h = h
 right_of false b h = absurd h
 
--- where each of two tests holds, both do
+-- if each of two tests holds, both do
 pub both_of : (a b : Bool) → T a → T b → T (a && b)
 both_of true b h k = k
 both_of false b h k = h
 
 module _ {X : Type 0} (f : Row → Option X) where
-  -- one more entry, where there is something
+  -- one more entry, if there is something
   abbrev one_more : Bytes → Option X → Map X → Map X
   one_more k None m = m
   one_more k (Some x) m = (k, x) ∷ m
@@ -95,7 +95,7 @@ module _ {X : Type 0} (f : Row → Option X) where
       by None rest = rest
       by (Some x) rest = both_of (is_lt (bytes_cmp k e.0)) (below_all bytes_cmp k (shown es)) (left_of (is_lt (bytes_cmp k e.0)) (below_all bytes_cmp k es) below) rest
 
-  -- the names of what is shown rise where those of the rows do
+  -- the names of what is shown rise if those of the rows do
   pub rising-shown : (m : Map Row) → T (is_rising m) → T (is_rising (shown m))
   rising-shown [] rising = tt
   rising-shown (e ∷ es) rising = by (f e.1) (rising-shown es (right_of (below_all bytes_cmp e.0 es) (is_rising es) rising))
@@ -152,7 +152,7 @@ module _ {X : Type 0} (f : Row → Option X) where
   chosen true r o = refl
   chosen false r o = refl
 
-  -- and where it is of no row, nothing
+  -- and if it is of no row, nothing
   chosen_none : (b : Bool) (o : Option Row) → option_and_then f (cond b None o) ≡ cond b None (option_and_then f o)
   chosen_none true o = refl
   chosen_none false o = refl
@@ -196,7 +196,7 @@ queues_of-with_value q row rows rising =
 pub queues_of-without : (q : Bytes) (rows : Map Row) → T (is_rising rows) → queues_of (without q rows) ≡ without q (queues_of rows)
 queues_of-without q rows rising = queues_of-shown (without q rows) ∙ shown-without queue_shown q rows rising ∙ ap (without q) (sym (queues_of-shown rows))
 
--- the names of the queues rise where those of the rows do
+-- the names of the queues rise if those of the rows do
 pub rising-queues_of : (rows : Map Row) → T (is_rising rows) → T (is_rising (queues_of rows))
 rising-queues_of rows rising = subst (λ m. T (is_rising m)) (sym (queues_of-shown rows)) (rising-shown queue_shown rows rising)
 
@@ -214,11 +214,11 @@ queue_at-queues_of q rows rising =
     by (Some row) = items row.items
 
 -- ---- the NEXT places
--- the NEXT place that a row shows
+-- the NEXT cursor that a row shows
 abbrev pub place_shown : Row → Option ℕ
 place_shown row = if nat_lt 0 (place_of row) then Some (place_of row) else None
 
--- the places that aren't 0 are what the rows show as places
+-- the cursors that aren't 0 are what the rows show as cursors
 pub places_of-shown : (rows : Map Row) → places_of rows ≡ shown place_shown rows
 places_of-shown [] = refl
 places_of-shown (e ∷ es) = by (nat_lt 0 (place_of e.1)) (places_of-shown es)
@@ -227,20 +227,20 @@ places_of-shown (e ∷ es) = by (nat_lt 0 (place_of e.1)) (places_of-shown es)
     by true rest = ap (λ m. (e.0, place_of e.1) ∷ m) rest
     by false rest = rest
 
--- a name whose place is 0 is absent, another has its place
+-- a name whose cursor is 0 is absent, another has its cursor
 pub places_of-with_value : (q : Bytes) (row : Row) (rows : Map Row) → T (is_rising rows) → places_of (with_value q row rows) ≡ put_if place_shown q (place_shown row) (places_of rows)
 places_of-with_value q row rows rising =
     places_of-shown (with_value q row rows) ∙ shown-with_value place_shown q row rows rising ∙ ap (put_if place_shown q (place_shown row)) (sym (places_of-shown rows))
 
--- once a name has lost its row, its place is gone
+-- once a name has lost its row, its cursor is gone
 pub places_of-without : (q : Bytes) (rows : Map Row) → T (is_rising rows) → places_of (without q rows) ≡ without q (places_of rows)
 places_of-without q rows rising = places_of-shown (without q rows) ∙ shown-without place_shown q rows rising ∙ ap (without q) (sym (places_of-shown rows))
 
--- the names of the places rise where those of the rows do
+-- the names of the cursors rise if those of the rows do
 pub rising-places_of : (rows : Map Row) → T (is_rising rows) → T (is_rising (places_of rows))
 rising-places_of rows rising = subst (λ m. T (is_rising m)) (sym (places_of-shown rows)) (rising-shown place_shown rows rising)
 
--- the NEXT place of a name, read off those that aren't 0
+-- the NEXT cursor of a name, read off those that aren't 0
 pub next_place-places_of : (q : Bytes) (rows : Map Row) → T (is_rising rows) → unwrap_or (value_at q (places_of rows)) 0 ≡ next_place q rows
 next_place-places_of q rows rising =
     ap (λ m. unwrap_or (value_at q m) 0) (places_of-shown rows) ∙ ap (λ o. unwrap_or o 0) (value_at-shown place_shown q rows rising) ∙ by (value_at q rows)
@@ -258,12 +258,12 @@ next_place-places_of q rows rising =
 no_queue_shown : (row : Row) → is_there row.items ≡ false → queue_shown row ≡ None
 no_queue_shown row none = ap (λ b. if b then Some row.items else None) none
 
--- nor a place
+-- nor a cursor
 no_place_shown : (row : Row) → is_there row.items ≡ false → place_shown row ≡ None
 no_place_shown row none = ap (λ b. if nat_lt 0 (if b then row.next else 0) then Some (if b then row.next else 0) else None) none
 
 module _ (rows : Map Row) (rising : T (is_rising rows)) (q : Bytes) where
-  -- where absent queues show nothing, the rows show after a sweep what they showed before
+  -- if absent queues show nothing, the rows show after a sweep what they showed before
   swept : {X : Type 0} (f : Row → Option X) → ((row : Row) → is_there row.items ≡ false → f row ≡ None) → (b : Bool) → is_there (queue_at q rows) ≡ b →
       shown f (if b then rows else without q rows) ≡ shown f rows
   swept f hidden true there = refl
@@ -278,6 +278,6 @@ module _ (rows : Map Row) (rising : T (is_rising rows)) (q : Bytes) where
   pub queues_of-swept : queues_of (ts_swept rows q) ≡ queues_of rows
   queues_of-swept = queues_of-shown (ts_swept rows q) ∙ swept queue_shown no_queue_shown (is_there (queue_at q rows)) refl ∙ sym (queues_of-shown rows)
 
-  -- and the NEXT places
+  -- and the NEXT cursors
   pub places_of-swept : places_of (ts_swept rows q) ≡ places_of rows
   places_of-swept = places_of-shown (ts_swept rows q) ∙ swept place_shown no_place_shown (is_there (queue_at q rows)) refl ∙ sym (places_of-shown rows)

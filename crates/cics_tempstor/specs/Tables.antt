@@ -1,10 +1,10 @@
--- The rows as they are kept: in a hash table. No contract of the store names its order.
+-- The rows as the code has them: in a hash table. No contract of the store names its order.
 use Rattle.std.specs.Prelude.{List, [], ◌∷◌, filter}
 use Rattle.cics_names.specs.Keyed.{Bytes, Map, with_value}
 use Rattle.cics_tempstor.specs.declared.queue_rows.Row.{Row}
 use Rattle.cics_tempstor.specs.Queues.{Queue, is_there}
 
--- the entries of the hash table in the order of their names, of each row what f takes of it
+-- the entries of the hash table in the order of their names, each as f of its row
 abbrev pub in_order : {X : Type 0} → (Row → X) → List (Bytes × Row) → Map X
 in_order f [] = []
 in_order f (e ∷ es) = with_value e.0 (f e.1) (in_order f es)

@@ -1,5 +1,5 @@
--- The laws of undoing, for temporary storage: what `Undoable` asks of it, and that each change
--- gives an image as it should be.
+-- The laws of undoing, for temporary storage: what `Undoable` requires of it, and that each change
+-- makes the image that it should.
 use Rattle.std.proofs.Common.{◌≡◌, ◌≢◌, ◌-◌, ◌<◌, ◌≤◌, ℕ, Bool, true, false, not, ◌&&◌, ◌||◌, cond, List, [], ◌∷◌, ◌++◌, length, take, slice_get, slice_set, Option, Some, None, IfSome, is_some, nat_lt, nat_le, ◌⊎◌, inl, inr, refl, sym, ◌∙◌, ap, subst, arith, zero, suc, length-append, length-set}
 use Rattle.std.specs.Prelude.{unwrap_or, if◌then◌else◌}
 use Rattle.std.specs.Bool.{Decides}
@@ -24,17 +24,17 @@ use Rattle.cics_tempstor.specs.Undo.{content_of, queue_of, content_at, without_l
 abbrev items_in : Option Row → Queue
 items_in o = (unwrap_or {T = Row} o empty_row).items
 
--- a row at one name, where it is chosen or not
+-- a row at one name, if it is chosen or not
 unwrapped : (b : Bool) (r : Row) (o : Option Row) → items_in (cond b (Some r) o) ≡ cond b r.items (items_in o)
 unwrapped true r o = refl
 unwrapped false r o = refl
 
--- and where it is gone or not
+-- and if it is gone or not
 unwrapped_none : (b : Bool) (o : Option Row) → items_in (cond b None o) ≡ cond b [] (items_in o)
 unwrapped_none true o = refl
 unwrapped_none false o = refl
 
--- with a row that is chosen there is one, else there is one where there was
+-- with a row that is chosen there is one, else there is one if there was
 there_or : (b : Bool) (r : Row) (o : Option Row) → is_some (cond b (Some r) o) ≡ (b || is_some o)
 there_or true r o = refl
 there_or false r o = refl
@@ -59,7 +59,7 @@ queue_at-without c k rows = ap items_in (value_at-without c k rows) ∙ unwrappe
 pub queue_at-without_other : (c k : Bytes) (rows : Map Row) → c ≢ k → queue_at c (without k rows) ≡ queue_at c rows
 queue_at-without_other c k rows apart = queue_at-without c k rows ∙ ap (λ b. cond b [] (queue_at c rows)) (is_same-other k c (λ e. apart (sym e)))
 
--- a name has a row once one is put there, or where it had one
+-- a name has a row once one is put there, or if it had one
 has_key-with_value : (c k : Bytes) (r : Row) (rows : Map Row) → has_key c (with_value k r rows) ≡ (is_same c k || has_key c rows)
 has_key-with_value c k r rows = ap is_some (value_at-with_value c k r rows) ∙ there_or (is_same c k) r (value_at c rows)
 
@@ -127,7 +127,7 @@ same_or_other a b = by (bytes_eq a b) (bytes_eq-Decides a b)
     by true h = inl (h.0 refl)
     by false h = inr (λ e. let wrong : false ≡ true = h.1 e in cc)
 
--- rows that are changed at one name keep the others
+-- a change of rows at one name leaves the others
 pub with_value_keeps : (rows : Map Row) (k : Bytes) (r : Row) → KeepsQueues (is_other k) rows (with_value k r rows)
 with_value_keeps rows k r = record {
   queues = λ c other. queue_at-with_value_other c k r rows (other_name k c other);
@@ -141,31 +141,31 @@ without_keeps rows k = record {
   rows = λ c other has. ap is_some (value_at-without_other c k rows (other_name k c other)) ∙ has;
 }
 
--- an undo keeps every other name
+-- an undo leaves every other name
 pub undone_keeps : (rows : Map Row) (i : TsImage) → IsReadyImage rows i → KeepsQueues (is_other (name_of_image i)) rows (undone rows i)
 undone_keeps rows i ready = with_value_keeps rows i.name (row_undone i.before (row_at i.name rows))
 
--- rows keep themselves
+-- rows stay if nothing changes
 pub keeps_itself : (p : Cell → Bool) (f : Map Row) → KeepsQueues p f f
 keeps_itself p f = record { queues = λ c pass. refl; rows = λ c pass has. has }
 
--- what is kept at some names is kept at fewer
+-- what stays at some names stays at fewer
 pub keeps_fewer : (p q : Cell → Bool) (f g : Map Row) → ((c : Cell) → q c ≡ true → p c ≡ true) → KeepsQueues p f g → KeepsQueues q f g
 keeps_fewer p q f g less kept = record { queues = λ c pass. kept.queues c (less c pass); rows = λ c pass. kept.rows c (less c pass) }
 
--- what is kept twice is kept
+-- what stays in two steps stays
 pub keeps_on : (p : Cell → Bool) (f g h : Map Row) → KeepsQueues p f g → KeepsQueues p g h → KeepsQueues p f h
 keeps_on p f g h first second = record {
   queues = λ c pass. second.queues c pass ∙ first.queues c pass;
   rows = λ c pass has. second.rows c pass (first.rows c pass has);
 }
 
--- a choice of two that are both kept
+-- a choice of two that both leave the names leaves them
 pub either_keeps : (b : Bool) (p : Cell → Bool) (f g h : Map Row) → KeepsQueues p f g → KeepsQueues p f h → KeepsQueues p f (if b then g else h)
 either_keeps true p f g h first second = first
 either_keeps false p f g h first second = second
 
--- to sweep a name keeps every other
+-- a sweep of a name leaves every other
 pub swept_keeps : (rows : Map Row) (q : Bytes) → KeepsQueues (is_other q) rows (ts_swept rows q)
 swept_keeps rows q = either_keeps (is_there (queue_at q rows)) (is_other q) rows rows (without q rows) (keeps_itself (is_other q) rows) (without_keeps rows q)
 
@@ -190,7 +190,7 @@ queue_at-swept rows q c = by (is_there (queue_at q rows)) refl
 pub swept_content : (rows : Map Row) (q c : Cell) → content_at (ts_swept rows q) c ≡ content_at rows c
 swept_content rows q c = ap content_of (queue_at-swept rows q c)
 
--- what is kept keeps contents
+-- what stays has the same contents
 pub keeps_content : (p : Cell → Bool) (f g : Map Row) (c : Cell) → KeepsQueues p f g → p c ≡ true → content_at g c ≡ content_at f c
 keeps_content p f g c kept pass = ap content_of (kept.queues c pass)
 
@@ -201,7 +201,7 @@ keeps_ready p f g i kept pass ready = record {
   stands = subst (StandsFor i.before) (sym (kept.queues i.name pass)) ready.stands;
 }
 
--- undoing an image of a name that is kept keeps the others
+-- undoing an image of a name that stays leaves the others
 pub keeps_undone : (p : Cell → Bool) (f g : Map Row) (i : TsImage) → KeepsQueues p f g → p (name_of_image i) ≡ true → IsReadyImage f i → KeepsQueues p (undone f i) (undone g i)
 keeps_undone p f g i kept pass ready =
     let k = i.name in
@@ -257,7 +257,7 @@ swept_holds rows s c = elim (same_or_other c s) [
 
 -- ---- the image of each change
 module _ (rows : Map Row) (k : Bytes) where
-  -- the image of a change of one name, where undoing it gives the queue from before
+  -- the image of a change of one name, if undoing it gives the queue from before
   pub image_of_change : (w : Row) (b : Before) → StandsFor b w.items → queue_before b w.items ≡ queue_at k rows → IsTsImage rows (with_value k w rows) k (record { name = k; before = b })
   image_of_change w b stands back =
       let new : Map Row = with_value k w rows in
@@ -276,7 +276,7 @@ module _ (rows : Map Row) (k : Bytes) where
         };
       }
 
--- an image that is kept or not
+-- an image that is stored or not
 if_kept : {I : Type 0} (keep : Bool) (P : I → Type 0) (i : I) → P i → IfSome (if keep then Some i else None) P
 if_kept true P i h = h
 if_kept false P i h = tt
@@ -286,7 +286,7 @@ pub there_more : (xs : Queue) (x : Bytes) → is_there (xs ++ x ∷ []) ≡ true
 there_more [] x = refl
 there_more (y ∷ ys) x = refl
 
--- taking the last item away undoes adding it
+-- removing the last item undoes adding it
 pub without_last-added : (xs : Queue) (x : Bytes) → without_last (xs ++ x ∷ []) ≡ xs
 without_last-added xs x =
     let one_less : length (xs ++ x ∷ []) - 1 ≡ length xs = omega (arith, length-append xs (x ∷ [])) in
@@ -298,7 +298,7 @@ put_back [] i d old h = refl
 put_back (x ∷ xs) zero d old h = let same : x ≡ old = cc in ap (λ y. y ∷ xs) (sym same)
 put_back (x ∷ xs) (suc i) d old h = ap (λ t. x ∷ t) (put_back xs i d old h)
 
--- nor does it make a queue, or take one away
+-- nor does it make a queue, or remove one
 pub is_there-set : (items : Queue) (i : ℕ) (d : Bytes) → is_there (slice_set items i d) ≡ is_there items
 is_there-set [] i d = refl
 is_there-set (x ∷ xs) zero d = refl
@@ -313,13 +313,13 @@ pub both_true : (a b : Bool) → (a && b) ≡ true → (a ≡ true) × (b ≡ tr
 both_true true b h = (refl, h)
 both_true false b h = cc
 
--- an item that is there has its place in the list
+-- the number of an item that is there is within the list
 pub has_item-within : (items : Queue) (n : ℕ) → has_item items n ≡ true → (0 < n) × (n ≤ length items)
 has_item-within items n has =
     let parts = both_true (nat_lt 0 n) (nat_le n (length items)) has in
     (ltb-true 0 n parts.0, leb-true n (length items) parts.1)
 
--- an item that is there is the one that its image takes up
+-- an item that is there is the one that moves into its image
 there_at : (items : Queue) (n : ℕ) → has_item items n ≡ true → slice_get items (n - 1) ≡ Some (item_at items n)
 there_at items n has =
     let within = has_item-within items n has in
@@ -355,7 +355,7 @@ module _ (rows : Map Row) (q : Bytes) where
           if_kept keep (IsTsImage rows (with_value q w rows) q) (record { name = q; before = Added })
           (image_of_change rows q w Added (there_more (queue_at q rows) d) (without_last-added (queue_at q rows) d))
 
-  -- it keeps every other name
+  -- it leaves every other name
   pub written_keeps : (d : Bytes) → KeepsQueues (is_other q) rows (ts_written rows q d)
   written_keeps d = either_keeps (nat_lt (length (queue_at q rows)) most_items) (is_other q) rows (with_value q (row_written (row_at q rows) d) rows) rows
       (with_value_keeps rows q (row_written (row_at q rows) d)) (keeps_itself (is_other q) rows)
@@ -373,7 +373,7 @@ module _ (rows : Map Row) (q : Bytes) where
           if_kept keep (IsTsImage rows (with_value q w rows) q) (record { name = q; before = Replaced n old })
           (image_of_change rows q w (Replaced n old) (has_item-set (queue_at q rows) n (n - 1) d ∙ has) (replaced_back (queue_at q rows) n d has))
 
-  -- it keeps every other name
+  -- it leaves every other name
   pub rewritten_keeps : (n : ℕ) (d : Bytes) → KeepsQueues (is_other q) rows (ts_rewritten rows q n d)
   rewritten_keeps n d = either_keeps (has_item (queue_at q rows) n) (is_other q) rows (with_value q (row_rewritten (row_at q rows) n d) rows) rows
       (with_value_keeps rows q (row_rewritten (row_at q rows) n d)) (keeps_itself (is_other q) rows)
@@ -388,13 +388,13 @@ module _ (rows : Map Row) (q : Bytes) where
       by true false = tt
       by true true = image_of_change rows q empty_row (Taken (queue_at q rows)) refl refl
 
-  -- it keeps every other name
+  -- it leaves every other name
   pub deleted_keeps : (keep : Bool) → KeepsQueues (is_other q) rows (ts_deleted keep rows q)
   deleted_keeps keep = either_keeps (is_there (queue_at q rows)) (is_other q) rows (if keep then with_value q empty_row rows else without q rows) rows
       (either_keeps keep (is_other q) rows (with_value q empty_row rows) (without q rows) (with_value_keeps rows q empty_row) (without_keeps rows q))
       (keeps_itself (is_other q) rows)
 
-  -- READQ TS keeps every queue: it moves a NEXT place alone
+  -- READQ TS leaves every queue: it moves a NEXT cursor alone
   pub read_keeps : (n : ℕ) → KeepsQueues (λ _. true) rows (after_read_item rows q n)
   read_keeps n = either_keeps (has_item (queue_at q rows) n) (λ _. true) rows (with_value q (row_read (row_at q rows) n) rows) rows same_items (keeps_itself (λ _. true) rows)
     where
@@ -425,7 +425,7 @@ images_stored old new q o image images undoable is ready =
     let this : IsTsImage old new q image = subst (λ (o : Option TsImage). IfSome o (IsTsImage old new q)) is undoable in
     (this.ready, in_turn_kept name_of_image IsReadyImage undone KeepsQueues keeps_ready keeps_undone (λ _. true) old (undone new image) images this.back (all_of images) ready)
 
--- images stay ready in turn where all queues are kept, as by a read
+-- images stay ready in turn if all queues stay, as in a read
 pub images_kept : (old new : Map Row) (images : List TsImage) → KeepsQueues (λ _. true) old new →
     AreReadyInTurn IsReadyImage undone old images → AreReadyInTurn IsReadyImage undone new images
 images_kept old new images kept ready =

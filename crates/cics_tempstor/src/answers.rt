@@ -1,14 +1,14 @@
-//! What the commands on temporary storage queues answer.
+//! What the commands on temporary storage queues are answered.
 
 use crate::images::TsImage;
 use cics_names::{Condition, Record};
 
-/// What READQ TS answers.
+/// What READQ TS is answered.
 ///
-/// - `condition`: NORMAL where an item is given, QIDERR where the queue is absent, ITEMERR where it
-///   has no item of the number.
-/// - `number`: the number of the item, from 1 on, where one is given.
-/// - `content`: the bytes of the item, where one is given.
+/// - `condition`: NORMAL if there is an item, QIDERR if the queue is absent, ITEMERR if it has no
+///   item of the number.
+/// - `number`: the number of the item, from 1 on, if there is one.
+/// - `content`: the bytes of the item, if there is one.
 #[derive(Debug, Drop)]
 pub struct TsRead {
     pub condition: Condition,
@@ -16,12 +16,12 @@ pub struct TsRead {
     pub content: Option<Record>,
 }
 
-/// What WRITEQ TS answers, with REWRITE or without.
+/// What WRITEQ TS is answered, with REWRITE or without.
 ///
-/// - `condition`: NORMAL where the item was added or replaced, ITEMERR where the queue is full or
-///   has no such item, QIDERR where there is no queue to replace an item of.
-/// - `number`: the number of the item, from 1 on, where the condition is NORMAL.
-/// - `image`: what undoes the change, where one was asked for and the condition is NORMAL.
+/// - `condition`: NORMAL if the item was added or replaced, ITEMERR if the queue is full or has no
+///   such item. QIDERR if there is no queue to replace an item of.
+/// - `number`: the number of the item, from 1 on, if the condition is NORMAL.
+/// - `image`: what undoes the change, if it was requested and the condition is NORMAL.
 #[derive(Debug, Drop)]
 pub struct TsWritten {
     pub condition: Condition,

@@ -18,16 +18,16 @@ pub(crate) enum Before {
 
 /// The before image of one change of a queue: enough to undo it without taking memory.
 ///
-/// A change gives one where it was asked to keep one and its condition is NORMAL. No item is copied
-/// for it: what a change replaces or deletes moves into it. It is handed back to the same store
-/// once: to `undo` and then to `settle`, or to `settle` alone.
+/// A change makes one if it was requested and the condition is NORMAL. No item is copied for it:
+/// what a change replaces or deletes moves into it. The same store takes it once: `undo` and then
+/// `settle`, or `settle` alone.
 #[derive(Debug, Drop)]
 pub struct TsImage {
     pub(crate) name: Name8,
     pub(crate) before: Before,
 }
 
-/// The image of a change of a queue, where one is kept; else what it would hold is dropped.
+/// Returns the image of a change of a queue, if one is stored. Else what it would hold is dropped.
 pub(crate) fn image_of(name: Name8, before: Before, keep: bool) -> Option<TsImage>
     ensures { result ≡ (if keep then Some (record { name = name; before = before }) else None) }
 {

@@ -33,7 +33,7 @@ impl Model for ItemList {
     ghost invariant = { λ a. length a.items.items ≤ most_items };
 }
 
-/// Copies of items, in order. An `Err` comes only where memory is refused.
+/// Returns copies of items, in order. The only error is `NoMemory`.
 fn copied(alloc: Global, items: &Vec<Record>) -> Result<Vec<Record>, NoMemory>
     ensures { IfOk result (λ copies. copies.items ≡ items.now.items) }
 {
@@ -45,7 +45,7 @@ fn copied(alloc: Global, items: &Vec<Record>) -> Result<Vec<Record>, NoMemory>
 }
 
 impl ItemList {
-    /// No items. It takes no memory: that is taken from `alloc` as items are added.
+    /// Returns an empty list. It takes no memory: `alloc` gives that as items are added.
     pub(crate) fn new(alloc: Global) -> ItemList
         ensures { result ≡ [] }
     {
@@ -54,14 +54,14 @@ impl ItemList {
         }
     }
 
-    /// Whether there is no item.
+    /// Returns whether there is no item.
     pub(crate) fn is_empty(&self) -> bool
         ensures { result ≡ not (is_there self.now) }
     {
         self.items.is_empty()
     }
 
-    /// Whether there is an item of the number, the first item being 1.
+    /// Returns whether there is an item of the number, the first item being 1.
     pub(crate) fn has(&self, number: u64) -> bool
         ensures has { result ≡ has_item self.now number }
         ensures most { length self.now ≤ most_items }
@@ -69,9 +69,8 @@ impl ItemList {
         0 < number && number <= self.items.len() as u64
     }
 
-    /// Adds an item as the last, and answers its number; `None` where there are the most items
-    /// already, and then the item is dropped. An `Err` comes only where memory is refused, and then
-    /// nothing has changed.
+    /// Adds an item as the last, and returns its number. Returns `None` and drops the item if the
+    /// list is full. The only error is `NoMemory`, and then nothing has changed.
     pub(crate) fn add(&mut self, item: Record) -> Result<Option<u64>, NoMemory>
         ensures items { OnOk result (self.new ≡ items_after_write self.old item) }
         ensures number { IfOk result (λ number. number ≡ write_number self.old) }
@@ -85,8 +84,8 @@ impl ItemList {
         Ok(Some(count as u64 + 1))
     }
 
-    /// Puts an item in the place of the one of the number, and answers the old one; `None` where
-    /// there is none of the number, and then the new item is dropped. It takes no memory.
+    /// Replaces the item of a number, and returns the old one. Returns `None` and drops the new
+    /// item if there is none of the number. It takes no memory.
     pub(crate) fn put(&mut self, number: u64, item: Record) -> Option<Record>
         ensures items { self.new ≡ items_after_rewrite self.old number item }
         ensures there { is_some result ≡ has_item self.old number }
@@ -99,7 +98,7 @@ impl ItemList {
         Some(mem::replace(&mut self.items[at], item))
     }
 
-    /// The item of a number.
+    /// Returns the item of a number.
     pub(crate) fn item(&self, number: u64) -> Option<&Record>
         ensures { option_copied result ≡ item_of self.now number }
     {
@@ -109,21 +108,21 @@ impl ItemList {
         self.items.get(number as usize - 1)
     }
 
-    /// Takes the last item away, where there is one. It takes no memory.
+    /// Removes the last item, if there is one. It takes no memory.
     pub(crate) fn drop_last(&mut self)
         ensures { self.new ≡ without_last self.old }
     {
         let _ = self.items.pop();
     }
 
-    /// Copies of the items, in order. An `Err` comes only where memory is refused.
+    /// Returns copies of the items, in order. The only error is `NoMemory`.
     pub(crate) fn copies(&self, alloc: Global) -> Result<Items<Record>, NoMemory>
         ensures { IfOk result (λ copies. copies ≡ self.now) }
     {
         Ok(Items::from_vec(copied(alloc, &self.items)?))
     }
 
-    /// A list of its own of the same items. An `Err` comes only where memory is refused.
+    /// Returns a copy of the list. The only error is `NoMemory`.
     pub(crate) fn copy(&self, alloc: Global) -> Result<ItemList, NoMemory>
         ensures { IfOk result (λ copy. copy ≡ self.now) }
     {

@@ -1,4 +1,4 @@
-//! The laws of NEXT places.
+//! The laws of NEXT cursors.
 //!
 //! The contract of the function is the law, and its body is empty: nothing is computed here.
 
@@ -10,20 +10,20 @@ ghost use Rattle.cics_tempstor.specs.Queues.{is_there, has_item, queue_at, queue
 ghost use Rattle.cics_tempstor.specs.Queues.{ts_written, ts_rewritten, ts_deleted, after_read_item};
 ghost use Rattle.cics_tempstor.specs.Places.{AreInOrder, committed, backed_out, places_there};
 
-/// The NEXT places of the queues that are there, by name, over the commands and the ends of units
-/// of work. Neither a commit nor a backout moves one: only the place of a queue that a backout
-/// takes away is gone, and reads as 0.
+/// The NEXT cursors of the queues that are there, by name, over commands and ends of units of work.
+/// Neither a commit nor a backout moves one. Only the cursor of a queue that a backout removes is
+/// gone, and reads as 0.
 ///
-/// The rows stay in order: their names rise, and no row without an item hides a place that an undo
+/// The rows stay in order: their names rise, and no row without an item hides a cursor that an undo
 /// would show again.
 ///
-/// - `empty`: there is no row, and so no place.
-/// - `written`, `rewritten`: no place changes; a queue that a write makes has the place 0.
-/// - `deleted`: the place of the queue is gone.
-/// - `read`: a read that gives an item sets the place to its number.
-/// - `committed`: the images' names are swept, and no place changes.
-/// - `backed_out`: the images are undone, the newest first, and then their names are swept: the
-///   places of the queues that are there then are as before.
+/// - `empty`: there is no row, and so no cursor.
+/// - `written`, `rewritten`: no cursor changes. A queue that a write makes has the cursor 0.
+/// - `deleted`: the cursor of the queue is gone.
+/// - `read`: a read that is answered an item sets the cursor to its number.
+/// - `committed`: the images' names are swept, and no cursor changes.
+/// - `backed_out`: the images are undone, newest first, and then their names are swept. The cursors
+///   of the queues that are there then are as before.
 pub fn next_places_are_no_part_of_what_is_undone()
     ensures empty { AreInOrder [] × (places_of [] ≡ []) }
     ensures written { (rows : Map Row) (q d : Bytes) → AreInOrder rows →

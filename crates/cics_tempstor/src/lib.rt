@@ -1,5 +1,5 @@
-//! Temporary storage: queues of numbered items, each with a NEXT place, and before images by which
-//! each change of a queue is undone without taking memory.
+//! Temporary storage: queues of numbered items, each with a NEXT cursor, and before images that
+//! undo each change without taking memory.
 #![tactic(auto)]
 
 mod answers;

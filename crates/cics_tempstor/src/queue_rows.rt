@@ -1,4 +1,4 @@
-//! What is kept of a name: the items of its queue, and its NEXT place.
+//! The row of a name: the items of its queue, and its NEXT cursor.
 
 ghost use Rattle.std.specs.Prelude.{◌≡◌, ◌+◌, [], ◌∷◌, Some, None, true, if◌then◌else◌, IfOk, OnOk};
 ghost use Rattle.std.specs.Prelude.{OnErr};
@@ -17,17 +17,17 @@ use cics_names::{Condition, Name8, NoMemory, Record};
 use std::alloc::Global;
 use std::mem;
 
-/// The row of a name. One without items is empty: its queue is absent, and the row is kept for an
+/// The row of a name. A row without items is empty: its queue is absent, and the row stays for an
 /// undo.
 #[derive(Debug, Drop)]
 pub(crate) struct Row {
     pub(crate) items: ItemList,
-    /// The NEXT place, where the queue is there; else what it was, for an undo that brings the
-    /// queue back.
+    /// The NEXT cursor, if the queue is there. Else what it was, for an undo that brings the queue
+    /// back.
     pub(crate) next: u16,
 }
 
-/// A write that was made, of the item of this number.
+/// Returns a write that was made, of the item of this number.
 pub(crate) fn written(number: u64, image: Option<TsImage>) -> TsWritten
     ensures { result ≡ record {
       condition = Condition.Normal;
@@ -42,7 +42,7 @@ pub(crate) fn written(number: u64, image: Option<TsImage>) -> TsWritten
     }
 }
 
-/// A write that wasn't made: it has no number and no image.
+/// Returns a write that wasn't made: it has no number and no image.
 pub(crate) fn not_written(condition: Condition) -> TsWritten
     ensures { result ≡ record { condition = condition; number = None; image = None } }
 {
@@ -53,7 +53,7 @@ pub(crate) fn not_written(condition: Condition) -> TsWritten
     }
 }
 
-/// A read that gives no item.
+/// Returns a read without an item.
 pub(crate) fn not_read(condition: Condition) -> TsRead
     ensures { result ≡ record { condition = condition; number = None; content = None } }
 {
@@ -64,7 +64,7 @@ pub(crate) fn not_read(condition: Condition) -> TsRead
     }
 }
 
-/// A deletion of a queue that is absent: it has no image.
+/// Returns a deletion of a queue that is absent: it has no image.
 pub(crate) fn not_deleted() -> Changed<TsImage>
     ensures { result ≡ record { condition = Condition.Qiderr; image = None } }
 {
@@ -75,7 +75,7 @@ pub(crate) fn not_deleted() -> Changed<TsImage>
 }
 
 impl Row {
-    /// The row of a queue that is made with this item. An `Err` comes only where memory is refused.
+    /// Returns the row of a queue that is made with this item. The only error is `NoMemory`.
     pub(crate) fn made(alloc: Global, item: Record) -> Result<Row, NoMemory>
         ensures { IfOk result (λ row. row ≡ record { items = item ∷ []; next = 0 }) }
     {
@@ -84,8 +84,7 @@ impl Row {
         Ok(Row { items, next: 0 })
     }
 
-    /// A row of its own with the same items and the same NEXT place. An `Err` comes only where
-    /// memory is refused.
+    /// Returns a copy of the row. The only error is `NoMemory`.
     pub(crate) fn copy(&self, alloc: Global) -> Result<Row, NoMemory>
         ensures { IfOk result (λ copy. copy ≡ self.now) }
     {
@@ -95,14 +94,14 @@ impl Row {
         })
     }
 
-    /// The NEXT place, which reads as 0 where the queue is absent.
+    /// Returns the NEXT cursor, which reads as 0 if the queue is absent.
     pub(crate) fn place(&self) -> u16
         ensures { result ≡ place_of self.now }
     {
         if self.items.is_empty() { 0 } else { self.next }
     }
 
-    /// WRITEQ TS. An `Err` comes only where memory is refused, and then nothing has changed.
+    /// WRITEQ TS. The only error is `NoMemory`, and then nothing has changed.
     pub(crate) fn write(
         &mut self,
         name: Name8,
@@ -127,7 +126,7 @@ impl Row {
         }
     }
 
-    /// What is answered where the queue has no item of the number that was asked for.
+    /// Returns what is answered if the queue has no item of the number that was asked for.
     fn no_item(&self) -> Condition
         ensures { result ≡ (if is_there self.now.items then Condition.Itemerr
             else Condition.Qiderr) }
@@ -178,8 +177,7 @@ impl Row {
         }
     }
 
-    /// READQ TS of an item. An `Err` comes only where memory is refused, and then nothing has
-    /// changed.
+    /// READQ TS of an item. The only error is `NoMemory`, and then nothing has changed.
     pub(crate) fn read(&mut self, number: u64) -> Result<TsRead, NoMemory>
         ensures row { OnOk result (self.new ≡ row_read self.old number) }
         ensures answer { IfOk result (λ answer. answer ≡ row_answer self.old.items number) }
@@ -198,7 +196,7 @@ impl Row {
         })
     }
 
-    /// READQ TS NEXT, as `read` of the item after the NEXT place.
+    /// READQ TS NEXT, as `read` of the item after the NEXT cursor.
     pub(crate) fn read_next(&mut self) -> Result<TsRead, NoMemory>
         ensures row { OnOk result (self.new ≡ row_read self.old (place_of self.old + 1)) }
         ensures answer { IfOk result (λ answer.

@@ -19,12 +19,13 @@ use std::collections::BTreeMap;
 use std::marker::Model;
 
 /// Temporary storage (the chapter on temporary storage control of the Application Programmer's
-/// Reference Manual): queues of items by name, and names whose row is held empty for an undo. No
-/// read and no listing sees an empty row.
+/// Reference Manual): queues of items by name. A name may have an empty row for an undo, which no
+/// read and no listing sees. Unchanged on error.
 ///
 /// Contracts see the rows in the rising order of their names, each with its items and its NEXT
-/// place; an empty row has no item. A call costs the same whatever the number of queues; a listing
-/// puts the names in order.
+/// cursor. An empty row has no item.
+///
+/// Cost of a call: O(1) in the number of queues. A listing puts the names in order.
 #[derive(Drop)]
 pub struct TempStore {
     queues: IndexMap<Name8, Row>,
@@ -62,7 +63,7 @@ fn put(
     Ok(())
 }
 
-/// The lists that have an item, in the order of their names.
+/// Returns the lists that have an item, in the order of their names.
 fn listed(
     alloc: Global,
     sorted: BTreeMap<Name8, Items<Record>>,
@@ -88,8 +89,8 @@ impl TempStore {
     ghost use Rattle.cics_tempstor.specs.Undo.{IsTsImage, KeepsQueues, written_image};
     ghost use Rattle.cics_tempstor.specs.Undo.{rewritten_image, deleted_image};
 
-    /// No queue. `alloc` gives the memory for all that the store will hold; an empty one takes
-    /// none.
+    /// Returns a store without queues. `alloc` gives the memory for all that it will hold. An empty
+    /// one takes none.
     pub fn new(alloc: Global) -> Self
         ensures { result ≡ [] }
     {
@@ -99,9 +100,8 @@ impl TempStore {
         }
     }
 
-    /// A store of its own with the same queues, the same rows that are held empty and the same NEXT
-    /// places. It takes memory for each row and each item, and an `Err` comes only where memory is
-    /// refused.
+    /// Returns a copy of the store: the same queues, empty rows and NEXT cursors. The only error is
+    /// `NoMemory`.
     pub fn copy(&self) -> Result<TempStore, NoMemory>
         ensures { IfOk result (λ copy. copy ≡ self.now) }
     {
@@ -119,13 +119,13 @@ impl TempStore {
         })
     }
 
-    /// WRITEQ TS: adds an item as the last of a queue, and makes the queue where it is absent, with
-    /// the NEXT place 0. A queue of 32,767 items is ITEMERR, and nothing changes. The answer has
-    /// the number of the new item.
+    /// WRITEQ TS: adds an item as the last of a queue, and makes the queue if it is absent, with
+    /// the NEXT cursor 0. It is answered ITEMERR, and nothing changes, if the queue has 32,767
+    /// items. The answer has the number of the new item.
     ///
-    /// With `keep` a NORMAL answer has the image that undoes the write. `Err` comes only where
-    /// memory is refused, for the item's place in its queue or for the queue's row, and then
-    /// nothing has changed. An item that isn't added goes.
+    /// With `keep` a NORMAL answer has the image that undoes the write. The only error is
+    /// `NoMemory`, for the item in its queue or for the queue's row. An item that isn't added is
+    /// dropped.
     pub fn write(&mut self, name: Name8, item: Record, keep: bool) -> Result<TsWritten, NoMemory>
         ensures condition { IfOk result (λ answer.
             answer.condition ≡ write_condition (queue_at name self.old)) }
@@ -148,12 +148,12 @@ impl TempStore {
         Ok(written(1, image_of(name, Before::Added, keep)))
     }
 
-    /// WRITEQ TS REWRITE: replaces the item of a number. QIDERR where there is no queue, ITEMERR
-    /// where it has no item of the number, and then nothing changes. The answer has the number. It
-    /// takes no memory.
+    /// WRITEQ TS REWRITE: replaces the item of a number. The answer has the number. QIDERR if there
+    /// is no queue, ITEMERR if it has no item of the number, and then nothing changes. It takes no
+    /// memory.
     ///
     /// With `keep` a NORMAL answer has the image that undoes the change, with the old item. An item
-    /// that isn't put in goes.
+    /// that isn't put in is dropped.
     pub fn rewrite(&mut self, name: &Name8, number: u64, item: Record, keep: bool) -> TsWritten
         ensures condition { result.condition ≡ item_condition (queue_at name.now self.old) number }
         ensures number { result.number ≡ rewrite_number (queue_at name.now self.old) number }
@@ -170,7 +170,7 @@ impl TempStore {
         row.rewrite(*name, number, item, keep)
     }
 
-    /// DELETEQ TS: removes a whole queue. QIDERR where there is none, and then nothing changes. It
+    /// DELETEQ TS: removes a whole queue. QIDERR if there is none, and then nothing changes. It
     /// takes no memory.
     ///
     /// With `keep` the row of the queue stays, empty, and a NORMAL answer has the image that undoes
@@ -196,12 +196,11 @@ impl TempStore {
         }
     }
 
-    /// READQ TS ITEM: the item of a number. QIDERR where there is no queue, ITEMERR where it has no
-    /// item of the number. An item that is given becomes the NEXT place of its queue; nothing else
-    /// changes.
+    /// READQ TS ITEM: reads the item of a number. QIDERR if there is no queue, ITEMERR if it has no
+    /// item of the number. The number of the item becomes the NEXT cursor of its queue; nothing
+    /// else changes.
     ///
-    /// `Err` comes only where the memory for a copy of the item is refused, and then nothing has
-    /// changed.
+    /// The item is copied. The only error is `NoMemory`.
     pub fn read_item(&mut self, name: &Name8, number: u64) -> Result<TsRead, NoMemory>
         ensures answer { IfOk result (λ answer. answer ≡ read_item self.old name.now number) }
         ensures value { OnOk result (self.new ≡ after_read_item self.old name.now number) }
@@ -227,9 +226,9 @@ impl TempStore {
         row.read_next()
     }
 
-    /// The number of the item that was read last, by any task: 0 where none was since the queue was
-    /// made, and where the queue is absent. No call changes the order of the rows: their names
-    /// rise.
+    /// Returns the number of the item that was read last, by any task. It is 0 if none was since
+    /// the queue was made, and if the queue is absent. No call changes the order of the rows: their
+    /// names rise.
     pub fn next_place(&self, name: &Name8) -> u16
         ensures place { result ≡ next_place name.now self.now }
         ensures rising { T (is_rising self.now) }
@@ -240,8 +239,8 @@ impl TempStore {
         }
     }
 
-    /// Takes the empty row of a name away, where there is one: no image of the name will be undone
-    /// any more. No queue changes, and it takes no memory.
+    /// Removes the empty row of a name, if there is one: no image of the name will be undone any
+    /// more. No queue changes, and it takes no memory.
     pub fn sweep(&mut self, name: &Name8)
         ensures value { self.new ≡ ts_swept self.old name.now }
         ensures queues { queues_of self.new ≡ queues_of self.old }
@@ -254,7 +253,7 @@ impl TempStore {
         self.remove(name);
     }
 
-    /// Undoes a change of the queue of a name, where the name has a row.
+    /// Undoes a change of the queue of a name, if the name has a row.
     pub(crate) fn undo_at(&mut self, name: &Name8, before: Before)
         ensures { self.new ≡ undone_at self.old name.now before }
     {
@@ -264,7 +263,7 @@ impl TempStore {
         row.undo(before);
     }
 
-    /// Whether the queue of a name is there.
+    /// Returns whether the queue of a name is there.
     fn is_there(&self, name: &Name8) -> bool
         ensures there { result ≡ is_there (queue_at name.now self.now) }
         ensures rising { T (is_rising self.now) }
@@ -289,15 +288,15 @@ impl TempStore {
         row.delete(alloc, *name)
     }
 
-    /// Takes the row of a name out, where there is one. The last row of the table takes its index.
+    /// Removes the row of a name, if there is one. The last row of the table takes its index.
     fn remove(&mut self, name: &Name8)
         ensures { self.new ≡ without name.now self.old }
     {
         self.queues.swap_remove(name);
     }
 
-    /// The queues that are there, in the order of their names, each with copies of its items. An
-    /// `Err` comes only where memory is refused.
+    /// Returns the queues that are there, in the order of their names, each with copies of its
+    /// items. The only error is `NoMemory`.
     pub fn listing(&self) -> Result<Items<(Name8, Items<Record>)>, NoMemory>
         ensures { IfOk result (λ queues. queues ≡ queues_of self.now) }
     {

@@ -7,13 +7,12 @@ use std::mem;
 
 /// The cells of temporary storage are names, each with a queue or nothing.
 ///
-/// `undo` puts back what the image's queue was, and no other queue changes: it takes the last item
-/// away, puts an old item back, or moves a whole queue back into its row. It takes no memory: a
-/// queue that comes back finds the empty row of its name, and where the only item goes the row
-/// stays, for an older image of the name may put more back. A NEXT place is no part of what is
-/// undone. What is put back moves out of the image, which goes on naming its queue. `settle` gives
-/// an image up and takes away an empty row that was held for it; what reads and listings give stays
-/// as it is.
+/// `undo` restores the image's queue, and no other queue changes. It removes the last item, puts an
+/// old item back, or moves a whole queue back into its row. It takes no memory: a queue that comes
+/// back finds the empty row of its name. If the only item goes, the row stays, since an older image
+/// of the name may put more back. No NEXT cursor is undone. What is put back moves out of the
+/// image, which still names its queue. `settle` drops an image and removes an empty row that was
+/// held for it. What reads and listings show stays as it is.
 impl Undoable for TempStore {
     ghost use Rattle.std.specs.Prelude.{refl};
     ghost use Rattle.cics_tempstor.specs.Undo.{content_at, name_of_image, Leads, IsReadyImage};

@@ -1,5 +1,5 @@
--- Two units of work at the two ends of a queue: whatever the one does, and however and whenever it
--- ends, the images of the other stay ready in turn.
+-- Two units of work at the two ends of a queue: whatever one does, and however it ends, the other's
+-- images stay ready in turn.
 use Rattle.std.proofs.Common.{arith, ◌≡◌, ℕ, ◌+◌, ◌-◌, Bool, true, false, List, [], ◌∷◌, length, drop, refl, sym, ◌∙◌, ap, length-drop}
 use Rattle.std.specs.Prelude.{min}
 use Rattle.std.proofs.lemmas.List.{drop-drop}
@@ -12,7 +12,7 @@ use Rattle.cics_transdata.specs.Undo.{reading_end, writing_end, end_of, IsReadyI
 use Rattle.cics_transdata.specs.UndoLaws.{keeps_ready, keeps_undone, undone_keeps, one_shorter}
 use Rattle.cics_transdata.specs.Ends.{backed_out, AreEnds}
 
--- images that are ready in turn stay so where their cells are kept
+-- images that are ready in turn stay so if their cells stay
 pub kept_in_turn : (p : Cell → Bool) (s t : TransState) (images : List TdImage) → KeepsEnds p s t → AreOf end_of p images →
     AreReadyInTurn IsReadyImage undone s images → AreReadyInTurn IsReadyImage undone t images
 kept_in_turn p s t images = in_turn_kept end_of IsReadyImage undone KeepsEnds keeps_ready keeps_undone p s t images
@@ -22,7 +22,7 @@ pub all_of : (images : List TdImage) → AreOf end_of (λ _. true) images
 all_of [] = tt
 all_of (i ∷ is) = (refl, all_of is)
 
--- images that are ready in turn stay so where both ends are kept
+-- images that are ready in turn stay so if both ends stay
 pub all_kept_in_turn : (s t : TransState) (images : List TdImage) → KeepsEnds (λ _. true) s t →
     AreReadyInTurn IsReadyImage undone s images → AreReadyInTurn IsReadyImage undone t images
 all_kept_in_turn s t images kept = kept_in_turn (λ _. true) s t images kept (all_of images)
@@ -129,12 +129,12 @@ either_order s (Taken n ∷ is) writer reading writing =
 either_order s (Written ∷ is) writer reading writing = let wrong : false ≡ true = reading.0 in cc
 
 -- ---- a unit commits
--- to give images up leaves the queue
+-- dropping images leaves the queue
 pub all_swept_same : (s : TransState) (images : List TdImage) → all_swept (λ t c. t) end_of s images ≡ s
 all_swept_same s [] = refl
 all_swept_same s (i ∷ is) = all_swept_same s is
 
--- the reading end's commit keeps the writing end where no record has both marks
+-- the reading end's commit leaves the writing end, if no record has both marks
 pub reader_committed_keeps : (s : TransState) → IsApart s → KeepsEnds (is_other reading_end) s (reader_committed s)
 reader_committed_keeps s apart =
     let left = length-drop s.read s.placed in
@@ -151,7 +151,7 @@ reader_committed_keeps s apart =
       };
     }
 
--- the writing end's commit keeps the reading end
+-- the writing end's commit leaves the reading end
 pub writer_committed_keeps : (s : TransState) → KeepsEnds (is_other writing_end) s (writer_committed s)
 writer_committed_keeps s = record {
   same_kind = refl;

@@ -41,8 +41,8 @@ content_at s c =
 abbrev pub without_last : List Bytes → List Bytes
 without_last records = take (length records - 1) records
 
--- back from what was marked as read is the part in front that was marked before; back from what was
--- marked as written is all but the last
+-- back from what was marked as read is the front that was marked before. Back from what was marked
+-- as written is all but the last
 abbrev pub before_of : TdImage → Content → Content
 before_of (Taken before) after = option_map (take before) after
 before_of Written after = option_map without_last after
@@ -51,13 +51,13 @@ before_of Written after = option_map without_last after
 abbrev pub Leads : TdImage → Content → Content → Type 0
 Leads image after before = before ≡ before_of image after
 
--- an image is ready where what it takes back is marked still, and a written record isn't marked as
+-- an image is ready if what it takes back is still marked, and a written record isn't marked as
 -- read
 abbrev pub IsReadyImage : TransState → TdImage → Type 0
 IsReadyImage s (Taken before) = (before ≤ s.read) × (s.read ≤ length s.placed)
 IsReadyImage s Written = (0 < s.written) × (s.written ≤ length s.placed) × (s.read < length s.placed)
 
--- to undo a read or delete takes its marks away; to undo a write takes the last record away
+-- an undo of a read or delete removes its marks; an undo of a write removes the last record
 abbrev pub undone : TransState → TdImage → TransState
 undone s (Taken before) = record { kind = s.kind; placed = s.placed; read = before; written = s.written }
 undone s Written = record { kind = s.kind; placed = take (length s.placed - 1) s.placed; read = s.read; written = s.written - 1 }
@@ -75,7 +75,7 @@ pub record KeepsWriting (s t : TransState) : Type 0 where
   pub within : s.written ≤ length s.placed → t.written ≤ length t.placed
   pub unread : unread s ≤ unread t
 
--- the ends that pass are kept
+-- the ends that pass stay
 pub record KeepsEnds (p : Cell → Bool) (s t : TransState) : Type 0 where
   pub same_kind : t.kind ≡ s.kind
   pub reading : p reading_end ≡ true → KeepsReading s t

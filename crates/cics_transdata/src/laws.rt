@@ -10,9 +10,8 @@ ghost use Rattle.cics_transdata.specs.Trans.{writer_committed};
 ghost use Rattle.cics_transdata.specs.Undo.{reading_end, writing_end, KeepsEnds, IsTransImage};
 ghost use Rattle.cics_transdata.specs.Ends.{backed_out, AreEnds};
 
-/// A unit of work at the reading end of a queue and another at its writing end don't meet: whatever
-/// the one does to its end, and whenever and however it ends, the images of the other stay ready
-/// one after the other.
+/// A unit of work at the reading end of a queue and another at its writing end don't meet. Whatever
+/// one does to its end, and whenever and however it ends, the other's images stay ready in turn.
 ///
 /// - `read`, `written`: a change at the one end, its image stored as the newest, leaves both lists
 ///   so.

@@ -4,14 +4,14 @@ use crate::images::TdImage;
 use crate::queues::TransQueue;
 use cics_images::Undoable;
 
-/// A queue has two cells: its reading end, with the records that are marked as read, and its
-/// writing end, with those that are marked as written.
+/// A queue has two cells: its reading end, with the records marked as read, and its writing end,
+/// with those marked as written.
 ///
-/// `undo` of a read or delete takes the marks away that it set: the records are where they were. To
-/// undo a write is to take the last record away, which must not be marked as read. Neither touches
-/// the other end, nor a record that isn't marked as written, and neither takes memory; both cost
-/// the same however many records there are. Nothing is held back for an undo, so `settle` has
-/// nothing to give up: what a commit does is done by `commit_reader` and `commit_writer`.
+/// `undo` of a read or delete removes the marks that it set: the records are where they were.
+/// `undo` of a write removes the last record, which must not be marked as read. Neither touches the
+/// other end, nor a record that isn't marked as written. Neither takes memory, and both cost O(1).
+/// Nothing is held back for an undo, so `settle` has nothing to do. What a commit does is done by
+/// `commit_reader` and `commit_writer`.
 impl Undoable for TransQueue {
     ghost use Rattle.std.specs.Prelude.{◌≡◌, false, refl};
     ghost use Rattle.cics_transdata.specs.declared.queues.Recovery.{Recovery};

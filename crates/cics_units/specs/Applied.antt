@@ -1,5 +1,5 @@
--- Recovery: what one updating command makes of the store where it stands, as the definition `apply` says, and what it leaves
--- so that it can be undone.
+-- Recovery: what one updating command makes of the store in place, as the definition `apply` says,
+-- and the images that undo it.
 use Rattle.std.specs.Prelude.{◌≡◌, ℕ, zero, suc, Bool, true, false, if◌then◌else◌, not, T, Option, Some, None, IfSome, List, [], ◌++◌, MatchBool}
 use Rattle.cics_names.specs.Keyed.{Bytes, Map, value_at, is_rising}
 use Rattle.cics_images.specs.Cells.{Cell, AreReadyInTurn, is_other}
@@ -38,27 +38,29 @@ pub record IsQueueBound (s : StoreValue) (name : Bytes) (recovers : Bool) : Type
   pub logical : recovers ≡ is_logical queue.kind
   pub marked : IsMarked queue
 
--- a command's file or transient data queue is there; `recovers` says that what it acts on is recoverable
+-- a command's file or transient data queue is there; `recovers` says whether what it acts on is
+-- recoverable
 abbrev pub IsBound : StoreValue → Op → Bool → Type 0
 IsBound s op recovers = MatchBool (is_file_op op) (IsFileBound s (file_of op) recovers)
     (MatchBool (is_trans op) (IsQueueBound s (queue_of op) recovers) (Unit {0}))
 
 -- ---- what a reader sees
--- a queue shows a reader a record where it has one; `own` says that he may read what he wrote himself
+-- a reader sees a record exactly if the queue shows one; `own` says that the reader may read what
+-- it wrote itself
 abbrev pub IsSeenIn : Bool → MarkedQueue → Type 0
 IsSeenIn own m = is_nothing (seen false (not own) m) ≡ is_nothing (shown m)
 
--- READQ TD need not wait: of a LOGICAL queue it sees a record exactly where the queue shows one
+-- READQ TD needn't wait: of a LOGICAL queue it sees a record exactly if the queue shows one
 abbrev pub IsSeen : StoreValue → Op → Bool → Type 0
 IsSeen s (TdRead q) own = IfSome (value_at q s.trans_data) (λ t. is_logical t.kind ≡ true → IsSeenIn own (marks_of t))
 IsSeen s _ own = Unit {0}
 
--- the record that READ UPDATE gives
+-- the record that READ UPDATE is answered
 abbrev pub read_given : StoreValue → Op → Option Bytes
 read_given s (ReadUpdate f k) = (apply (shown_store s) (ReadUpdate f k)).answer.content
 read_given s _ = None
 
--- what DELETE GENERIC is answered for so many records
+-- what DELETE GENERIC is answered for this number of records
 abbrev pub counted_as : ℕ → Answer
 counted_as zero = only Notfnd
 counted_as (suc n) = numbered Normal (Some (suc n))
@@ -73,7 +75,7 @@ abbrev pub spares : Op → Bool → Cell → Bool
 spares op own c =
     if is_file_op op then leaves_any op c else if is_trans op then is_left op own c else is_other (temp_cell (queue_of op)) c
 
--- the marks of a queue, none where it isn't there
+-- the marks of a queue, none if it isn't there
 abbrev pub marks_if : Option TransState → MarkedQueue
 marks_if None = record { settled = []; fresh = []; taken = 0 }
 marks_if (Some t) = marks_of t
@@ -82,24 +84,25 @@ marks_if (Some t) = marks_of t
 abbrev pub marks_in : StoreValue → Queues
 marks_in s q = marks_if (value_at q s.trans_data)
 
--- the changes of a command, which images stand for: of cells, or of the marks of a transient data queue
+-- the changes that a command makes to cells; one on transient data makes none
 abbrev pub changes_of : StoreValue → Op → List Image
 changes_of s op = if is_trans op then [] else images_by (shown_store s) op (content (shown_store s))
 
--- and those of marks
+-- the changes that it makes to the marks of a transient data queue
 abbrev pub marks_made : StoreValue → Op → List MarkImage
 marks_made s op = if is_trans op then mark_images op (marks_in s) else []
 
--- the images that a command gives stand for its changes, where it acts on something recoverable; else it gives none
+-- the images that a command makes stand for its changes, if it acts on something recoverable; else
+-- it makes none
 abbrev pub AreImagesMade : StoreValue → Op → Bool → List AnyImage → Type 0
 AreImagesMade s op recovers is = MatchBool recovers (AreImagesOf (changes_of s op) (marks_made s op) is) (is ≡ [])
 
 -- a command has been applied, with this answer. The store and the answer are those of `apply`. Its
--- images are the unit's newest, and undo it. Where it doesn't act, all stays as it was
+-- images are the unit's newest, and undo it. What it doesn't act on stays as it was
 pub record IsApplied (old new : StoreValue) (before after : List AnyImage) (op : Op) (recovers own : Bool) (answer : Answer) : Type 0 where
   pub answered : answer ≡ (apply (shown_store old) op).answer
   pub shown : shown_store new ≡ (apply (shown_store old) op).store
-  -- its images, the newest first, stand for what it changed
+  -- its images, newest first, stand for what it changed
   pub made : List AnyImage
   pub newest : after ≡ made ++ before
   pub stand : AreImagesMade old op recovers made

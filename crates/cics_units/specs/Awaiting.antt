@@ -1,4 +1,5 @@
--- Recovery and task control: whom a command must wait for, as the table of enqueues and the queues themselves tell.
+-- Recovery and task control: whom a command must wait for, read off the table of enqueues and the
+-- queues themselves.
 use Rattle.std.specs.Prelude.{◌≡◌, ℕ, Bool, false, ◌&&◌, if◌then◌else◌, Option, Some, None, is_none}
 use Rattle.cics_names.specs.Keyed.{Bytes, Map, value_at}
 use Rattle.cics_enqueue.specs.Table.{Table, holder_of, holder_over}
@@ -10,16 +11,17 @@ use Rattle.cics_history.specs.declared.ops.Op.TheVariants.{TdRead}
 use Rattle.cics_units.specs.Uses.{uses_if, holder_over_all}
 use Rattle.cics_units.specs.TableInPlace.{is_holder}
 
--- a unit holds the writing end of a queue: it reads past the records that it wrote itself
+-- a unit owns the writing end of a queue: it reads past the records that it wrote itself
 abbrev pub is_writer : Table → ℕ → Bytes → Bool
 is_writer t u q = is_holder u (holder_of (WritingEnd q) t)
 
--- `own` says of READQ TD what `writer` says, that the unit holds the writing end; nobody asks it of another command
+-- for READQ TD `own` equals `writer`, whether the unit owns the writing end. Other commands may
+-- have either
 abbrev pub IsOwn : Op → Bool → Bool → Type 0
 IsOwn (TdRead q) writer own = own ≡ writer
 IsOwn _ writer own = Unit {0}
 
--- a queue as it stands is LOGICAL, if it is there
+-- a queue in place is there and LOGICAL
 abbrev pub is_logical_in : Option TransState → Bool
 is_logical_in None = false
 is_logical_in (Some t) = is_logical t.kind
@@ -29,7 +31,8 @@ abbrev pub has_none_for : Bool → Option TransState → Bool
 has_none_for past_fresh None = false
 has_none_for past_fresh (Some t) = is_logical t.kind && is_none (first_of t past_fresh)
 
--- the unit at the writing end of a LOGICAL queue, other than the one that asks, where a reader finds no record that it may read
+-- if a reader of a LOGICAL queue finds no record that it may read: the unit at the writing end that
+-- isn't the one asking
 abbrev pub writer_of : Table → Option TransState → Bytes → Option ℕ → ℕ → Option ℕ
 writer_of t queue q asking acting = if has_none_for (is_writer t acting q) queue then holder_over (WritingEnd q) asking t else None
 
@@ -38,7 +41,8 @@ abbrev pub writer_over : Table → Map TransState → Option ℕ → ℕ → Op 
 writer_over t queues asking acting (TdRead q) = writer_of t (value_at q queues) q asking acting
 writer_over t queues asking acting _ = None
 
--- the unit in a command's way: another that holds what it uses, else the writer of what it would read
+-- the blocker of a command: another unit that owns what conflicts with what it uses, else the
+-- writer of what it would read
 abbrev pub unit_in_way : Table → Map TransState → Bool → Option ℕ → ℕ → Op → Option ℕ
 unit_in_way t queues recoverable asking acting op =
     first_some (holder_over_all (uses_if recoverable op) asking t) (writer_over t queues asking acting op)

@@ -14,14 +14,16 @@ use Rattle.cics_units.specs.declared.units_core.UnitsCore.{UnitsCore}
 abbrev pub core_value : UnitsCore → CoreValue
 core_value c = record { stores = record { store = c.store; images = c.rows.items }; table = c.locks; reads = c.reads }
 
--- what was looked up for a command of a unit is what stands
+-- what was looked up for a command of a unit is as it stands
 pub record IsBoundFor (core : CoreValue) (unit : ℕ) (b : BoundOp) : Type 0 where
   pub bound : IsBound core.stores.store b.op.now b.recoverable
   pub used : listed b.uses ≡ uses_if b.recoverable b.op.now
-  -- for READQ TD: the unit holds the writing end of the queue. Other commands may have either
+  -- for READQ TD, whether the unit owns the writing end of the queue. Other commands may have
+  -- either
   pub own : IsOwn b.op.now (is_writer core.table unit (queue_of b.op.now)) b.own
 
--- a command that isn't READ UPDATE can be applied: what it acts on is there and shows it enough, and there is room for its images
+-- a command that isn't READ UPDATE can be applied. What it acts on is there, READQ TD needn't wait,
+-- and there is room for its images
 pub record CanApply (s : StoreValue) (b : BoundOp) (room : ℕ) : Type 0 where
   pub change : is_read b.op.now ≡ false
   pub bound : IsBound s b.op.now b.recoverable

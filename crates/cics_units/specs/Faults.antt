@@ -1,5 +1,5 @@
--- When a definition or a record of an opening is refused: for its first fault, and where it has none for want of memory
--- alone.
+-- Why a definition or a record of an opening is refused: for its first fault, or if it has none,
+-- for `NoMemory` alone.
 use Rattle.std.specs.Prelude.{◌≡◌, ℕ, Bool, not, if◌then◌else◌, Option, Some, None, Result, Ok, Err, length}
 use Rattle.cics_names.specs.Keyed.{Bytes, has_key}
 use Rattle.cics_ksds.specs.Files.{key_of, fits_file}
@@ -25,7 +25,8 @@ file_fault o name d =
     else if not (is_key d) then Some BadKey
     else None
 
--- the first fault of a record to be loaded into a file: no such file, a record that doesn't fit, a key that is there
+-- the first fault of a record to be loaded into a file: no such file, a record that doesn't fit, a
+-- key that is there
 abbrev pub load_fault : Option FileOpening → Bytes → Option DefineFault
 load_fault None r = Some NotThere
 load_fault (Some file) r =
@@ -33,18 +34,19 @@ load_fault (Some file) r =
     else if has_key (key_of file.definition r) file.records then Some Duplicate
     else None
 
--- the first fault of a record to be loaded into a transient data queue: no such queue, a record of no byte or too many
+-- the first fault of a record to be loaded into a transient data queue: no such queue, or no bytes
+-- or too many
 abbrev pub load_td_fault : Option QueueOpening → Bytes → Option DefineFault
 load_td_fault None r = Some NotThere
 load_td_fault (Some queue) r = if is_record_size (length r) then None else Some BadLength
 
--- the answer is the fault that stands; where none stands it is Ok or NoMemory
+-- the result is the fault, if there is one; else it is Ok or NoMemory
 abbrev pub AnswersFault : {X : Type 0} → Result X DefineFault → Option DefineFault → Type 0
 AnswersFault (Ok x) None = Unit {0}
 AnswersFault (Ok x) (Some fault) = ⊥
 AnswersFault (Err e) None = e ≡ NoMemory
 AnswersFault (Err e) (Some fault) = e ≡ fault
 
--- what is there already is a Duplicate
+-- `Duplicate`, if it is there already
 abbrev pub fault_if : Bool → Option DefineFault
 fault_if there = if there then Some Duplicate else None

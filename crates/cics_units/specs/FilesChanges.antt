@@ -1,5 +1,5 @@
--- What a change of one file is among the files of a region: its image is an image of the region's files, and the other
--- cells keep what they have.
+-- What a change of one file is among the files of a region: its image is one of theirs, and the
+-- other cells stay.
 use Rattle.std.specs.Prelude.{◌≡◌, Bool, true, Some}
 use Rattle.cics_names.specs.Keyed.{Bytes, Map, value_at, with_value, is_key_in}
 use Rattle.cics_images.specs.Cells.{Cell, is_other}
@@ -10,12 +10,12 @@ use Rattle.cics_ksds.specs.Undo.{ImageValue, content_at, key_of_image, Leads, Is
 use Rattle.cics_ksds.specs.UndoLaws as file
 use Rattle.cics_units.specs.FilesImages.{FilesImage, cell_of, cell_of_image, files_content, files_hold, IsReadyFor, files_undone, FilesKeep}
 
--- an image among the files of a change of a cell
+-- an image of a change of a cell, among the files
 abbrev pub IsFilesImage : Map FileValue → Map FileValue → Cell → FilesImage → Type 0
 IsFilesImage old new c image = IsImageOf files_content cell_of_image (λ i. Leads i.image) IsReadyFor files_undone FilesKeep old new c image
 
 module _ (name : Bytes) (f g : FileValue) (files : Map FileValue) (there : value_at name files ≡ Some f) where
-  -- the cells that the change of one file leaves
+  -- a change of one file leaves the cells other than the changed one
   pub others_kept : (key : Cell) → KeepsKeys (is_other key) f g → FilesKeep (is_other (cell_of name key)) files (with_value name g files)
   others_kept = named.others_kept name f g files there KeepsKeys file.keeps_itself file.keeps_fewer
 
@@ -23,7 +23,7 @@ module _ (name : Bytes) (f g : FileValue) (files : Map FileValue) (there : value
   pub image_among : (key : Cell) (i : ImageValue) → IsFileImage f g key i → IsFilesImage files (with_value name g files) (cell_of name key) (record { name = name; image = i })
   image_among = named.image_among name f g files there KeepsKeys file.keeps_itself file.keeps_fewer content_at key_of_image Leads IsReadyImage undone
 
-  -- where the file has no more empty places, the files have none
+  -- if the file has no new empty slot at the cells that pass, the files have none
   pub held_among : (p : Cell → Bool) → ((k : Bytes) → p (cell_of name k) ≡ true → is_key_in k g.empties ≡ true → is_key_in k f.empties ≡ true) →
       (c : Cell) → p c ≡ true → files_hold (with_value name g files) c ≡ true → files_hold files c ≡ true
   held_among = named.held_among name f g files there (λ x k. is_key_in k x.empties)

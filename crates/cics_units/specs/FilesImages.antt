@@ -1,5 +1,5 @@
--- Recovery (chapter on recovery): the files of a region as one value whose changes are undone: values by name, where each
--- value is a file. A cell is a key of a file.
+-- Recovery (chapter on recovery): the files of a region as one value whose changes are undone:
+-- values by name, each of them a file. A cell is a key of a file.
 use Rattle.std.specs.Prelude.{Bool, Option, None}
 use Rattle.cics_names.specs.Keyed.{Bytes, Map, is_key_in}
 use Rattle.cics_images.specs.Cells.{Cell, Content}
@@ -17,23 +17,23 @@ FilesImage = NamedImage ImageValue
 abbrev pub cell_of : Bytes → Bytes → Cell
 cell_of name key = value_cell name key
 
--- the cell that an image is of
+-- the cell of an image
 abbrev pub cell_of_image : FilesImage → Cell
 cell_of_image i = named_cell key_of_image i
 
--- the record of a key; nothing where the file is not there
+-- the record of a key; nothing if the file isn't there
 abbrev pub content_in : Option FileValue → Bytes → Content
 content_in o key = of_value None (λ f. content_at f key) o
 
--- what a cell contains; nothing where the bytes are too short to have a name of that length
+-- what a cell contains; nothing if its bytes are too short for a name of that length
 abbrev pub files_content : Map FileValue → Cell → Content
 files_content files c = named_content content_at files c
 
--- whether a cell has an empty place
+-- whether a cell has an empty slot
 abbrev pub files_hold : Map FileValue → Cell → Bool
 files_hold files c = named_holds (λ f key. is_key_in key f.empties) files c
 
--- an image is ready where its file is there and finds it ready
+-- an image is ready if its file is there and finds it ready
 abbrev pub IsReadyIn : Option FileValue → ImageValue → Type 0
 IsReadyIn o i = IsValueReady IsReadyImage o i
 
@@ -49,7 +49,7 @@ files_undone files i = named_undone undone files i
 abbrev pub files_swept : Map FileValue → Cell → Map FileValue
 files_swept files c = named_swept swept files c
 
--- neither has the file, or the second keeps what the first has at the keys that pass
+-- neither has the file, or the second has what the first has at the keys that pass
 abbrev pub KeepsIn : (Cell → Bool) → Option FileValue → Option FileValue → Type 0
 KeepsIn p o r = ValuesKeep KeepsKeys p o r
 

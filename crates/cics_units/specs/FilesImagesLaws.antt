@@ -12,11 +12,11 @@ use Rattle.cics_ksds.specs.Undo.{content_at, key_of_image, IsReadyImage, undone,
 use Rattle.cics_ksds.specs.UndoLaws as file
 use Rattle.cics_units.specs.FilesImages.{FilesImage, cell_of, cell_of_image, content_in, files_content, IsReadyFor, files_undone, FilesKeep}
 
--- images of cells that are kept stay ready
+-- images of cells that stay are still ready
 pub keeps_ready : (p : Cell → Bool) (s t : Map FileValue) (i : FilesImage) → FilesKeep p s t → p (cell_of_image i) ≡ true → IsReadyFor s i → IsReadyFor t i
 keeps_ready = named.keeps_ready KeepsKeys key_of_image IsReadyImage file.keeps_ready
 
--- cells that are kept are kept when an image of one of them is undone in both
+-- cells that stay also stay when an image of one of them is undone in both
 pub keeps_undone : (p : Cell → Bool) (s t : Map FileValue) (i : FilesImage) → FilesKeep p s t → p (cell_of_image i) ≡ true → IsReadyFor s i →
     FilesKeep p (files_undone s i) (files_undone t i)
 keeps_undone = named.keeps_undone KeepsKeys key_of_image IsReadyImage file.keeps_ready undone file.keeps_undone
@@ -29,7 +29,7 @@ content_of_cell s name key = named.of_cell None content_at s name key
 pub keeps_itself : (p : Cell → Bool) (s : Map FileValue) → FilesKeep p s s
 keeps_itself = named.keeps_itself KeepsKeys file.keeps_itself
 
--- equal bytes are told so, and in either order
+-- equal bytes compare as equal
 pub same_bytes-eq : (a b : Cell) → a ≡ b → bytes_eq a b ≡ true
 same_bytes-eq a b e = (bytes_eq-Decides a b).1 e
 
@@ -40,7 +40,7 @@ bytes_eq-same a b e = by (bytes_eq a b) (bytes_eq-Decides a b) e
     by true d t = d.0 refl
     by false d t = cc
 
--- and in either order
+-- bytes compare the same in either order
 pub bytes_eq-turned : (a b : Cell) → bytes_eq a b ≡ bytes_eq b a
 bytes_eq-turned a b = by (bytes_eq a b) (bytes_eq b a) (λ t. same_bytes-eq b a (sym (bytes_eq-same a b t))) (λ t. same_bytes-eq a b (sym (bytes_eq-same b a t)))
   where

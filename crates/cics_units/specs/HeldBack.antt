@@ -1,4 +1,4 @@
--- Recovery: what files and queues keep for undoing alone, beside what they show.
+-- Recovery: what files and queues hold back for undoing alone, beside what they show.
 use Rattle.std.specs.Prelude.{◌≡◌, true, Some, []}
 use Rattle.cics_names.specs.Keyed.{Bytes, value_at}
 use Rattle.cics_ksds.specs.Files.{FileValue}
@@ -9,10 +9,10 @@ use Rattle.cics_units.specs.StoreMatching.{StoreValue}
 
 -- files and queues hold nothing back for an undo
 pub record HoldsNothingBack (store : StoreValue) : Type 0 where
-  -- no file has an empty place
+  -- no file has an empty slot
   pub files : (f : Bytes) (file : FileValue) → value_at f store.files ≡ Some file → file.empties ≡ []
   -- no row of temporary storage is empty
   pub temp_storage : (q : Bytes) (row : Row) → value_at q store.temp_storage ≡ Some row → is_there row.items ≡ true
-  -- no record of a transient data queue is marked, be it as read or as written
+  -- no record of a transient data queue is marked, neither as read nor as written
   pub trans_data : (q : Bytes) (t : TransState) → value_at q store.trans_data ≡ Some t → IsMarked t →
       (t.read ≡ 0) × (t.written ≡ 0)

@@ -1,4 +1,5 @@
--- Recovery: what is held back for undoing belongs to an image that a unit keeps, through changes and the ends of units.
+-- Recovery: what is held back for undoing belongs to an image of a unit, through changes and the
+-- ends of units.
 use Rattle.std.specs.Prelude.{◌≡◌, ◌≢◌, ℕ, ◌==◌, Bool, true, false, not, ◌&&◌, List, unwrap_or, refl}
 use Rattle.std.proofs.Common.{sym, ap, ◌∙◌, subst, ◌⊎◌, inl, inr}
 use Rattle.std.proofs.lemmas.Bool.{eqb-true, eqb-false}
@@ -28,7 +29,7 @@ other_of true b h = h
 not_both : {P : Type 0} (b : Bool) → b ≡ true → b ≡ false → P
 not_both b yes_it no_it = let wrong : true ≡ false = sym yes_it ∙ no_it in cc
 
--- and only than itself
+-- and no cell but itself
 is_one : (c d : Cell) → is_other c d ≡ false → d ≡ c
 is_one c d same = by (bytes_eq d c) (bytes_eq-Decides d c) same
   where
@@ -43,7 +44,8 @@ module _ {M I : Type 0} (holds_back : M → Cell → Bool) (cell : I → Cell) (
   other_named : (c : Cell) (w : ℕ) → w ≢ u → is_unnamed cell (kept_by old w) c ≡ false → (v : ℕ) × (is_unnamed cell (kept_by new v) c ≡ false)
   other_named c w apart named = (w, ap (λ is. is_unnamed cell is c) (other_kept w apart) ∙ named)
 
-  -- at the end of a unit, when the cells of its images are swept, all that is held back is held back for other units
+  -- at the end of a unit the cells of its images are swept: all that is still held back is held
+  -- back for other units
   pub held_after_end : ((c : Cell) → holds_back n c ≡ (holds_back m c && is_unnamed cell (kept_by old u) c)) →
       AreHeldForImages holds_back cell m old → AreHeldForImages holds_back cell n new
   held_after_end swept held c holds =
@@ -54,7 +56,7 @@ module _ {M I : Type 0} (holds_back : M → Cell → Bool) (cell : I → Cell) (
         | inr apart ↦ other_named c before.0 (eqb-false before.0 u apart) before.1
       ]
 
-  -- a unit keeps more images than before, and only at cells of images that it keeps something more is held back
+  -- a unit has more images than before, and something new is held back only at cells of its images
   pub held_after_change : ((c : Cell) → is_unnamed cell (kept_by new u) c ≡ true → holds_back n c ≡ true → holds_back m c ≡ true) →
       ((c : Cell) → is_unnamed cell (kept_by old u) c ≡ false → is_unnamed cell (kept_by new u) c ≡ false) →
       AreHeldForImages holds_back cell m old → AreHeldForImages holds_back cell n new

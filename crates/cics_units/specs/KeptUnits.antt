@@ -1,4 +1,4 @@
--- Recovery: what holds between the state of the units and all that they have changed where it stands.
+-- Recovery: the invariant that ties the state of the units to all that they have changed in place.
 use Rattle.std.specs.Prelude.{◌≡◌, ℕ, ◌≤◌, option_map, length, List, []}
 use Rattle.cics_names.specs.Keyed.{Bytes, value_at}
 use Rattle.cics_enqueue.specs.Table.{Table}
@@ -33,12 +33,13 @@ state_shown opening trace outcomes commits parts = record {
   next = places_of parts.stores.store.temp_storage;
 }
 
--- the store that a region begins with: its files and queues as they were loaded, and no temporary storage queue
+-- the initial store of a region: its files and queues as they were loaded, and no temporary storage
+-- queue
 abbrev pub opened_store : OpeningState → StoreValue
 opened_store o = record { files = opened_files o.files; temp_storage = []; trans_data = opened_queues o.queues }
 
--- what was defined stands there as it was defined: each file with its definition, each transient data queue with its
--- recovery
+-- what was defined is there as it was defined: each file with its definition, each transient data
+-- queue with its recovery
 pub record AreAsDefined (o : OpeningState) (store : StoreValue) : Type 0 where
   pub files : (f : Bytes) → definitions_of store.files f ≡ option_map (λ file. file.definition) (value_at f o.files)
   pub queues : (q : Bytes) → option_map (λ t. t.kind) (value_at q store.trans_data) ≡ option_map (λ queue. queue.recovery) (value_at q o.queues)
@@ -60,7 +61,7 @@ pub record AreValid (s : UnitsState) (stores : StoreWithImages) (t : Table) : Ty
   -- the rows of temporary storage are in order, and have the NEXT cursors
   pub rows : AreInOrder stores.store.temp_storage
   pub places : s.next ≡ places_of stores.store.temp_storage
-  -- the table has what the history says that the units hold, and nothing else
+  -- the table has what the history says that the units own, and nothing else
   pub table : IsTableOf s t
   -- an empty slot, an empty row and a mark belong to an image of an open unit
   pub held : AreHeldForImages any_holds cell_of_any stores.store stores.images

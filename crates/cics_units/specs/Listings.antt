@@ -20,7 +20,8 @@ recovery_in (Some queue) = queue.recovery
 abbrev pub listed_files : OpeningState → Map (Map Bytes) → List (Bytes × Bool × List Bytes)
 listed_files o files = map (λ e. (e.0, file_recoverable o e.0, records_of e.1)) files
 
--- the listing of temporary storage queues: each with its name, whether it is recoverable, and its items
+-- the listing of temporary storage queues: each with its name, whether it is recoverable, and its
+-- items
 abbrev pub listed_ts : OpeningState → Map (List Bytes) → List (Bytes × Bool × List Bytes)
 listed_ts o ts = map (λ e. (e.0, has_prefix_in o.prefixes e.0, e.1)) ts
 
@@ -28,19 +29,23 @@ listed_ts o ts = map (λ e. (e.0, has_prefix_in o.prefixes e.0, e.1)) ts
 abbrev pub listed_td : OpeningState → Map (List Bytes) → List (Bytes × Recovery × List Bytes)
 listed_td o td = map (λ e. (e.0, recovery_in (value_at e.0 o.queues), e.1)) td
 
--- the listing of a store: each defined file with its records in key order, each temporary storage queue that is there
--- with its items, each defined transient data queue with its records, and no task
+-- the listing of a store, without a task. It has each defined file with its records in key order,
+-- and each temporary storage queue with its items. It has each defined transient data queue with
+-- its records
 abbrev pub listing_of : OpeningState → Store → Listing
 listing_of o s = record { files = listed_files o s.files; ts = listed_ts o s.ts; td = listed_td o s.td; tasks = [] }
 
--- the listing that a history gives: that of what was opened, changed by each entry that is kept, in the order of the entries
+-- the listing that a history gives: what was loaded, changed by each surviving entry, in order of
+-- execution
 abbrev pub replayed_listing : OpeningState → List Entry → List UnitState → Listing
 replayed_listing o trace outcomes = listing_of o (replay (initial_store o) (kept o trace outcomes))
 
--- the files that an opening defines: each with its name, its definition, and the records that were loaded, in key order
+-- the files that an opening defines, each with its name, its definition, and its loaded records in
+-- key order
 abbrev pub defined_files : OpeningState → List (Bytes × FileDef × List Bytes)
 defined_files o = map (λ e. (e.0, e.1.definition, records_of e.1.records)) o.files
 
--- the transient data queues that an opening defines: each with its name, its recovery, and the records that were loaded
+-- the transient data queues that an opening defines, each with its name, its recovery, and its
+-- loaded records
 abbrev pub defined_queues : OpeningState → List (Bytes × Recovery × List Bytes)
 defined_queues o = map (λ e. (e.0, e.1.recovery, e.1.records)) o.queues

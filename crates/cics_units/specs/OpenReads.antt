@@ -19,7 +19,7 @@ abbrev pub place_of : Bytes → Map Bytes → ℕ
 place_of f [] = 0
 place_of f (e ∷ es) = if is_below e.0 f then suc (place_of f es) else 0
 
--- the entry of a file stands at this place
+-- the entry of a file is at this position
 pub record IsFoundAt (f : Bytes) (es : Map Bytes) (at : ℕ) : Type 0 where
   pub inside : at < length es
   pub value : (d : Bytes × Bytes) → value_at f es ≡ Some (slice_index_or es at d).1

@@ -7,6 +7,7 @@ use Rattle.cics_history.specs.State.{OpeningState}
 use Rattle.cics_units.specs.RegionFiles.{openings_of}
 use Rattle.cics_units.specs.RegionQueues.{queue_openings}
 
--- an opening that defines these files with what was loaded into them, these prefixes and these transient data queues
+-- an opening that defines these files with what was loaded into them, these prefixes and these
+-- transient data queues
 abbrev pub opened_with : Map FileValue → List Bytes → Map TransState → OpeningState
 opened_with files prefixes queues = record { files = openings_of files; prefixes = prefixes; queues = queue_openings queues }

@@ -1,5 +1,5 @@
--- Recovery: the files and queues as they stand with the images that open units keep, and what an executed command
--- makes of them.
+-- Recovery: the files and queues in place with the images of open units, and what an executed
+-- command makes of them.
 use Rattle.std.specs.Prelude.{◌≡◌, ℕ, ◌<◌, ◌≤◌, Bool, true, false, not, ◌&&◌, IsTrue, length, IsSome, Option, Some, None, List, [], ◌∷◌, map}
 use Rattle.cics_names.specs.Keyed.{Bytes, Map, value_at, is_same}
 use Rattle.cics_images.specs.Cells.{Cell, is_other, is_unnamed}
@@ -23,19 +23,20 @@ use Rattle.cics_history.specs.declared.ops.Op.{Op}
 use Rattle.cics_history.specs.declared.ops.Op.TheVariants.{Write, Rewrite, Delete, DeleteGeneric, ReadUpdate, TsWrite, TsRewrite, TsDelete, TdWrite, TdRead, TdDelete}
 use Rattle.cics_units.specs.FilesImages.{FilesImage}
 
--- the store and the images, who holds what, and the open update reads
+-- the store and the images, the table of enqueues, and the open update reads
 pub record CoreValue : Type 0 where
   pub stores : StoreWithImages
   pub table : Table
   pub reads : List UpdateRead
 
--- the store with room for more images: it holds what it held, and each unit keeps what it kept
+-- the store with room for more images: it holds what it held, and each unit has the images that it
+-- had
 pub record AreRoomier (old new : StoreWithImages) : Type 0 where
   pub store : new.store ≡ old.store
   pub kept : (w : ℕ) → kept_by new.images w ≡ kept_by old.images w
   pub longer : length old.images ≤ length new.images
 
--- a file is recoverable where its definition says so
+-- a file is recoverable if its definition says so
 abbrev pub is_recoverable_in : Option FileValue → Bool
 is_recoverable_in None = false
 is_recoverable_in (Some f) = f.definition.recoverable
@@ -74,7 +75,8 @@ abbrev pub first_in : Option TransState → Bool → Option Bytes
 first_in None own = None
 first_in (Some queue) own = first_of queue own
 
--- the record that a command is answered with: READ UPDATE's, and READQ TD's, which may be one that the unit wrote itself
+-- the record that a command is answered: READ UPDATE's, or READQ TD's, which may be one that the
+-- unit wrote itself
 abbrev pub given_record : StoreValue → Bool → Op → Option Bytes
 given_record s own (ReadUpdate f k) = (apply (shown_store s) (ReadUpdate f k)).answer.content
 given_record s own (TdRead q) = first_in (value_at q s.trans_data) own
@@ -95,7 +97,7 @@ abbrev pub most_in : Bytes → Option FileValue → ℕ
 most_in p None = 0
 most_in p (Some f) = length (under p f.records)
 
--- how many images a command gives at most
+-- how many images a command makes at most
 abbrev pub most_images : Map FileValue → Op → ℕ
 most_images files (DeleteGeneric f p) = most_in p (value_at f files)
 most_images files op = 1
@@ -105,12 +107,14 @@ abbrev pub is_below_prefix : Bytes → Bytes → Option (Bytes × Cell) → Bool
 is_below_prefix f p None = false
 is_below_prefix f p (Some e) = is_same f e.0 && has_prefix p e.1
 
--- a command leaves a cell of the files: DELETE GENERIC one that is no key under its prefix, any other one that is not its key
+-- the cells of files that a command leaves: for DELETE GENERIC each that is no key under its
+-- prefix, else each that isn't its key
 abbrev pub leaves : Op → Cell → Bool
 leaves (DeleteGeneric f p) c = not (is_below_prefix f p (split c))
 leaves op c = is_other (cell_of (file_of op) (key_of op)) c
 
--- a command on a file leaves a cell of the three: any cell of a queue, and of the files what it leaves there
+-- the cells of the three that a command on a file leaves: any cell of a queue, and of the files
+-- those above
 abbrev pub leaves_any : Op → Cell → Bool
 leaves_any op c = by_part true (leaves op) (λ q. true) (λ q. true) c
 
@@ -118,11 +122,11 @@ leaves_any op c = by_part true (leaves op) (λ q. true) (λ q. true) c
 abbrev pub of_files : List FilesImage → List AnyImage
 of_files is = map File is
 
--- at a cell that none of these images is of, something is held back only where it was before
+-- at a cell that none of these images is of, something is held back only if it was before
 abbrev pub IsHeldAsBefore : StoreValue → StoreValue → List AnyImage → Type 0
 IsHeldAsBefore old new images = (c : Cell) → is_unnamed cell_of_any images c ≡ true → any_holds new c ≡ true → any_holds old c ≡ true
 
--- a unit has taken a value, and has its list of images
+-- a unit has acquired a value, and has its list of images
 pub record AreEnqueued (old new : CoreValue) (unit : ℕ) (value : Bytes) : Type 0 where
   pub stores : AreRoomier old.stores new.stores
   pub begun : unit < length new.stores.images

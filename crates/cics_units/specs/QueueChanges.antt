@@ -1,5 +1,5 @@
--- Recovery: what a command on a queue makes of it where it stands: the queue after it, its image, and what the unit that
--- executes it keeps from then on.
+-- Recovery: what a command on a queue makes of it in place: the queue after it, its image, and its
+-- unit's images from then on.
 use Rattle.std.specs.Prelude.{◌≡◌, Bool, true, false, not, if◌then◌else◌, T, Option, Some, None, IfSome, IfNone, List, [], ◌∷◌}
 use Rattle.std.specs.Str.{bytes_eq}
 use Rattle.cics_names.specs.Keyed.{Bytes, Map, is_same, is_rising}
@@ -51,7 +51,7 @@ queue_of (TdRead q) = q
 queue_of (TdDelete q) = q
 queue_of _ = []
 
--- ---- transient data: `own` says that the unit holds the writing end, and so may read the records that it wrote
+-- ---- transient data: `own` says that the unit owns the writing end, and may read what it wrote
 -- the queue after a command
 abbrev pub trans_after : Op → Bool → TransState → TransState
 trans_after (TdWrite q d) own t = trans_written t d
@@ -59,14 +59,14 @@ trans_after (TdRead q) own t = trans_read t own
 trans_after (TdDelete q) own t = trans_deleted t
 trans_after _ own t = t
 
--- the image that the command gives
+-- the image that the command makes
 abbrev pub trans_image : Op → Bool → TransState → Option TdImage
 trans_image (TdWrite q d) own t = td.written_image t
 trans_image (TdRead q) own t = td.read_image t own
 trans_image (TdDelete q) own t = td.deleted_image t
 trans_image _ own t = None
 
--- what it answers
+-- its answer
 abbrev pub trans_answer : Op → Bool → TransState → Answer
 trans_answer (TdRead q) own t = with_content (read_condition (first_of t own)) (first_of t own)
 trans_answer _ own t = only Normal
@@ -76,7 +76,8 @@ abbrev pub end_of : Op → End
 end_of (TdWrite q d) = Writing
 end_of _ = Reading
 
--- a write leaves the reading end as it is, a read the writing end where it may take no record that its own unit wrote
+-- a write leaves the reading end as it is. A read leaves the writing end, unless it may take a
+-- record that its own unit wrote
 abbrev pub leaves_end : Op → Bool → End → Bool
 leaves_end (TdWrite q d) own Reading = true
 leaves_end (TdRead q) own Writing = not own
@@ -97,8 +98,9 @@ is_left_split op own (Some e) = if is_same e.0 (queue_of op) then is_left_end op
 abbrev pub is_left : Op → Bool → images.Cell → Bool
 is_left op own c = by_part true (λ c. true) (λ c. true) (λ c. is_left_split op own (split c)) c
 
--- a command has changed a transient data queue and given an image: the queue is what the command leaves, the image undoes the
--- change, and the ends that the command leaves have what they had; without an image both ends have
+-- a command has changed a transient data queue and made an image. The queue is what the command
+-- leaves, and the image undoes the change. The ends that the command leaves have what they had;
+-- without an image both ends have
 pub record IsTransChange (op : Op) (own : Bool) (old new : TransState) (image : Option TdImage) : Type 0 where
   pub value : new ≡ trans_after op own old
   pub given : image ≡ trans_image op own old
@@ -106,7 +108,7 @@ pub record IsTransChange (op : Op) (own : Bool) (old new : TransState) (image : 
   pub others : KeepsEnds (is_left_end op own) old new
   pub without_image : IfNone image (KeepsEnds (λ _. true) old new)
 
--- ---- temporary storage: `recovers` says that the queue is recoverable, and so a change gives an image
+-- ---- temporary storage: `recovers` says that the queue is recoverable: a change has an image
 -- the rows after a command
 abbrev pub rows_after : Op → Bool → Map Row → Map Row
 rows_after (TsWrite q d) recovers rows = ts_written rows q d
@@ -114,22 +116,22 @@ rows_after (TsRewrite q n d) recovers rows = ts_rewritten rows q n d
 rows_after (TsDelete q) recovers rows = ts_deleted recovers rows q
 rows_after _ recovers rows = rows
 
--- the image that the command gives
+-- the image that the command makes
 abbrev pub rows_image : Op → Bool → Map Row → Option TsImage
 rows_image (TsWrite q d) recovers rows = ts.written_image recovers q (queue_at q rows)
 rows_image (TsRewrite q n d) recovers rows = ts.rewritten_image recovers q (queue_at q rows) n
 rows_image (TsDelete q) recovers rows = ts.deleted_image recovers q (queue_at q rows)
 rows_image _ recovers rows = None
 
--- what it answers
+-- its answer
 abbrev pub rows_answer : Op → Map Row → Answer
 rows_answer (TsWrite q d) rows = numbered (write_condition (queue_at q rows)) (write_number (queue_at q rows))
 rows_answer (TsRewrite q n d) rows = numbered (item_condition (queue_at q rows) n) (rewrite_number (queue_at q rows) n)
 rows_answer (TsDelete q) rows = only (delete_condition (queue_at q rows))
 rows_answer _ rows = only Normal
 
--- a command has changed temporary storage and given an image: the rows are what the command leaves, the image undoes the
--- change, and every other queue is as it was
+-- a command has changed temporary storage and made an image. The rows are what the command leaves,
+-- the image undoes the change, and every other queue is as it was
 pub record IsTempChange (op : Op) (recovers : Bool) (old new : Map Row) (image : Option TsImage) : Type 0 where
   pub rising : T (is_rising old)
   pub value : new ≡ rows_after op recovers old
@@ -148,6 +150,6 @@ abbrev pub in_queue : Bytes → TdImage → AnyImage
 in_queue q i = TransData (record { name = q; image = i })
 
 -- ---- the kinds of recovery
--- each transient data queue that is defined stands there with its recovery, and no other queue does
+-- each transient data queue that is defined is there with its recovery, and no other queue is
 abbrev pub HaveRecoveries : OpeningState → StoreValue → Type 0
 HaveRecoveries o store = (q : Bytes) → named_fixed (λ t. t.kind) store.trans_data q ≡ named_fixed (λ e. e.recovery) o.queues q

@@ -32,16 +32,16 @@ opening_of f = record { definition = f.definition; records = f.records }
 abbrev pub openings_of : Map FileValue → Map FileOpening
 openings_of files = map (λ e. (e.0, opening_of e.1)) files
 
--- the file that an opening gives: it has the records that were loaded, and no empty place
+-- the file that an opening gives: it has the loaded records, and no empty slot
 abbrev pub file_of : FileOpening → FileValue
 file_of f = record { definition = f.definition; records = f.records; empties = [] }
 
--- the files that a region begins with
+-- the initial files of a region
 abbrev pub opened_files : Map FileOpening → Map FileValue
 opened_files files = map (λ e. (e.0, file_of e.1)) files
 
--- a file has loaded records alone: its key is lawful, each record stands under its own key, fits, and the keys rise; no
--- place is empty
+-- a file has loaded records alone. Its key is lawful, each record is under its own key and fits,
+-- the keys rise, and no slot is empty
 pub record IsLoaded (f : FileValue) : Type 0 where
   pub lawful : is_key f.definition ≡ true
   pub content : IsContent f.definition f.records
@@ -52,6 +52,6 @@ pub record AreLoaded (files : Map FileValue) : Type 0 where
   pub rising : T (is_rising files)
   pub loaded : All (λ e. IsLoaded e.1) files
 
--- entries that are put into an empty map, the first one first
+-- entries put into an empty map, first to last
 abbrev pub refilled : {X : Type 0} → Map X → Map X
 refilled es = fold (λ m e. with_value e.0 e.1 m) [] es

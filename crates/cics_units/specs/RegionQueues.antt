@@ -4,7 +4,7 @@ use Rattle.cics_names.specs.Keyed.{Bytes, Map, is_rising}
 use Rattle.cics_transdata.specs.Trans.{TransState, holding}
 use Rattle.cics_history.specs.State.{QueueOpening}
 
--- a queue of which no unit of work has written a record, with a record more
+-- a queue in which no unit of work has written a record, with one more record
 abbrev pub loaded_with : TransState → Bytes → TransState
 loaded_with q d = record { kind = q.kind; placed = q.placed ++ d ∷ []; read = q.read; written = 0 }
 
@@ -16,11 +16,11 @@ queue_opening q = record { recovery = q.kind; records = q.placed }
 abbrev pub queue_openings : Map TransState → Map QueueOpening
 queue_openings queues = map (λ e. (e.0, queue_opening e.1)) queues
 
--- the queue that an opening gives: it has the records that were loaded, and no mark
+-- the queue that an opening gives: it has the loaded records, and no mark
 abbrev pub opened_queue : QueueOpening → TransState
 opened_queue q = holding q.recovery q.records
 
--- the queues that a region begins with
+-- the initial queues of a region
 abbrev pub opened_queues : Map QueueOpening → Map TransState
 opened_queues queues = map (λ e. (e.0, opened_queue e.1)) queues
 

@@ -1,5 +1,5 @@
--- Recovery: what the end of a unit does to files, temporary storage and transient data, part by part, and the marks that a
--- commit settles.
+-- Recovery: what the end of a unit does to files, temporary storage and transient data, part by
+-- part. Also the marks that a commit settles.
 use Rattle.std.specs.Prelude.{◌≡◌, ℕ, Bool, true, false, ◌&&◌, ◌||◌, if◌then◌else◌, Option, List, [], ◌∷◌, fold}
 use Rattle.cics_names.specs.Keyed.{Bytes, is_same}
 use Rattle.cics_images.specs.Cells.{Kept}
@@ -25,21 +25,21 @@ use Rattle.cics_units.specs.StoreMatching.{StoreValue, AnyImage, QueuesImage, sh
 use Rattle.cics_units.specs.StoreInPlace.{AreInPlace}
 
 -- ---- the images of one kind, in their order
--- those of files
+-- the images of files
 abbrev pub file_images : List AnyImage → List FilesImage
 file_images [] = []
 file_images (File i ∷ is) = i ∷ file_images is
 file_images (TempStorage i ∷ is) = file_images is
 file_images (TransData i ∷ is) = file_images is
 
--- those of temporary storage
+-- the images of temporary storage
 abbrev pub ts_images : List AnyImage → List TsImage
 ts_images [] = []
 ts_images (File i ∷ is) = ts_images is
 ts_images (TempStorage i ∷ is) = i ∷ ts_images is
 ts_images (TransData i ∷ is) = ts_images is
 
--- those of transient data
+-- the images of transient data
 abbrev pub td_images : List AnyImage → List QueuesImage
 td_images [] = []
 td_images (File i ∷ is) = td_images is
@@ -51,7 +51,8 @@ td_images (TransData i ∷ is) = i ∷ td_images is
 abbrev pub kind_at : StoreValue → Bytes → Option Recovery
 kind_at s q = named_fixed (λ t. t.kind) s.trans_data q
 
--- what was fixed when the three were made: the definition of each file and the recovery of each queue
+-- what was fixed when the three were made: the definition of each file and the recovery of each
+-- queue
 abbrev pub any_fixed : StoreValue → Three (Bytes → Option FileDef) (Unit {0}) (Bytes → Option Recovery)
 any_fixed s = stores_fixed definitions_of (λ rows. tt) (λ s. named_fixed (λ t. t.kind) s) s
 
@@ -68,14 +69,14 @@ is_at_end Reading Written = false
 is_at_end Writing (Taken before) = false
 is_at_end Writing Written = true
 
--- the three after this end of an image's queue is committed, where the image is of that end
+-- the three after this end of an image's queue is committed, if the image is of that end
 abbrev pub end_settled : End → StoreValue → AnyImage → StoreValue
 end_settled end s (File i) = s
 end_settled end s (TempStorage i) = s
 end_settled end s (TransData i) =
     if is_at_end end i.image then with_trans_data s (changed_at (λ t. end_committed end t) i.name s.trans_data) else s
 
--- the three after the writing end of each queue is committed that an image is of
+-- the three after the writing end is committed of each queue with an image
 abbrev pub writers_settled : StoreValue → List AnyImage → StoreValue
 writers_settled s is = fold (λ s i. end_settled Writing s i) s is
 
@@ -83,8 +84,8 @@ writers_settled s is = fold (λ s i. end_settled Writing s i) s is
 abbrev pub readers_settled : StoreValue → List AnyImage → StoreValue
 readers_settled s is = fold (λ s i. end_settled Reading s i) s is
 
--- the three after a unit that keeps these images has settled its ends: the writing ends first, so that no record has both
--- marks where a reading end is committed
+-- the three after a unit with these images has settled its ends. The writing ends come first: so no
+-- record has both marks when a reading end is committed
 abbrev pub ends_settled : StoreValue → List AnyImage → StoreValue
 ends_settled s is = readers_settled (writers_settled s is) is
 
@@ -96,8 +97,8 @@ has_end q end (TempStorage i ∷ is) = has_end q end is
 has_end q end (TransData i ∷ is) = (is_at_end end i.image && is_same i.name q) || has_end q end is
 
 -- ---- the end of a unit
--- what the end of a unit leaves: all is in place and shows what the history gives, in order; no NEXT place moves but those of
--- queues that are gone; and what was fixed stays
+-- what the end of a unit leaves. All is in place, in order, and shows what the history gives. No
+-- NEXT cursor moves but those of queues that are gone, and what was fixed stays
 pub record IsEnded (s : UnitsState) (m n : StoreValue) (images after_images : List (Kept AnyImage)) (v : ℕ) (outcome : UnitState) : Type 0 where
   pub place : AreInPlace (after_end s v outcome) n after_images
   pub canonical : IsCanonical (shown_store n)

@@ -1,5 +1,5 @@
--- Recovery: what holds between the state of the units and the files and queues as they stand, with the images that open
--- units keep.
+-- Recovery: the invariant that ties the state of the units to the files and queues in place and to
+-- the images of open units.
 use Rattle.std.specs.Prelude.{◌≡◌, ℕ, Bool, true, false, ◌&&◌, not, if◌then◌else◌, Option, Some, None, List, []}
 use Rattle.std.specs.Str.{bytes_eq}
 use Rattle.std.specs.Option.{option_map}
@@ -20,21 +20,21 @@ use Rattle.cics_history.specs.Ends.{Marks, AreMarksOf}
 use Rattle.cics_units.specs.ImageRows.{kept_by}
 use Rattle.cics_units.specs.StoreMatching.{StoreValue, AnyImage, shown_store, IsAnyReady, any_undone, AreImagesOf}
 
--- a queue as it stands is LOGICAL, has no more marks than records, and has these marks
+-- a queue in place is LOGICAL, has no more marks than records, and has these marks
 pub record HasMarks (m : MarkedQueue) (t : TransState) : Type 0 where
   pub logical : is_logical t.kind ≡ true
   pub within : IsMarked t
   pub marks : m ≡ marks_of t
 
--- a LOGICAL queue as it stands before any command: no record is marked
+-- a LOGICAL queue before any command: no record is marked
 pub record IsUnmarked (t : TransState) : Type 0 where
   pub logical : is_logical t.kind ≡ true
   pub read : t.read ≡ 0
   pub written : t.written ≡ 0
 
--- the files and queues hold what the history gives; each LOGICAL queue stands there with its marks; each open unit's
--- images stand for the changes and the marks that lead back to what it gives without that unit, each ready when its turn
--- comes; a unit that has ended keeps none
+-- the files and queues hold what the history gives, and each LOGICAL queue has its marks. Each open
+-- unit's images stand for changes and marks that lead back to what the history gives without that
+-- unit. Each image is ready in its turn. A unit that has ended has no image
 pub record AreInPlace (s : UnitsState) (store : StoreValue) (images : List (Kept AnyImage)) : Type 0 where
   pub changes : ℕ → List Image
   pub marks : Marks
@@ -46,7 +46,8 @@ pub record AreInPlace (s : UnitsState) (store : StoreValue) (images : List (Kept
   pub ready : (u : ℕ) → AreReadyInTurn IsAnyReady any_undone store (kept_by images u)
   pub over : (u : ℕ) → is_open (outcome_of s.outcomes u) ≡ false → kept_by images u ≡ []
 
--- a unit that is open holds an end of a queue where the queue is LOGICAL and the unit has used that end
+-- an open unit owns an end of a queue exactly if the queue is LOGICAL and the unit has used that
+-- end
 abbrev pub holds_end : UnitsState → ℕ → Bytes → End → Bool
 holds_end s u q end = queue_logical s.opening q && used s.trace u (Td q) end
 
@@ -58,16 +59,17 @@ writer_ended ends t = if ends then writer_committed t else t
 abbrev pub reader_ended : Bool → TransState → TransState
 reader_ended ends t = if ends then reader_committed t else t
 
--- the queue after the commit of a unit that holds the reading end or not, and the writing end or not: the writing end is
--- committed first, so that no record has both marks where the reading end is committed
+-- the queue after the commit of a unit that owns the reading end or not, and the writing end or
+-- not. The writing end is committed first: so no record has both marks when the reading end is
+-- committed
 abbrev pub ends_committed : (reads writes : Bool) → TransState → TransState
 ends_committed reads writes t = reader_ended reads (writer_ended writes t)
 
--- what a queue's name has after the commit of a unit
+-- the queue of a name after the commit of a unit, if it is there
 abbrev pub committed_at : UnitsState → ℕ → Bytes → Option TransState → Option TransState
 committed_at s u q o = option_map (ends_committed (holds_end s u q Reading) (holds_end s u q Writing)) o
 
--- a cell of a queue that isn't an end which the unit holds
+-- a cell of a queue that isn't an end which the unit owns
 abbrev pub is_free_end : UnitsState → ℕ → Bytes → images.Cell → Bool
 is_free_end s u q c =
     if bytes_eq c reading_end then not (holds_end s u q Reading)
@@ -78,6 +80,6 @@ abbrev pub is_free_split : UnitsState → ℕ → Option (Bytes × images.Cell) 
 is_free_split s u None = true
 is_free_split s u (Some e) = is_free_end s u e.0 e.1
 
--- a cell of the three that isn't an end which the unit holds
+-- a cell of the three that isn't an end which the unit owns
 abbrev pub is_free : UnitsState → ℕ → images.Cell → Bool
 is_free s u c = by_part true (λ c. true) (λ c. true) (λ c. is_free_split s u (split c)) c

@@ -1,6 +1,6 @@
--- Recovery: files, temporary storage and transient data as one value, and the before images that the program keeps of it.
--- Those of keys and of temporary storage queues stand for changes of cells of the store, those of transient data for marks
--- at the ends of LOGICAL queues.
+-- Recovery: files, temporary storage and transient data as one value, and the program's before
+-- images of it. Images of keys and of temporary storage queues stand for changes of cells of the
+-- store. Those of transient data stand for marks at the ends of LOGICAL queues.
 use Rattle.std.specs.Prelude.{◌≡◌, Bool, false, Some, None, List, [], ◌∷◌, map}
 use Rattle.cics_names.specs.Keyed.{Bytes, Map}
 use Rattle.cics_images.specs.Cells.{Kept, Content as Shown}
@@ -39,7 +39,7 @@ QueuesImage = NamedImage TdImage
 abbrev pub AnyImage : Type 0
 AnyImage = StoreImage FilesImage TsImage QueuesImage
 
--- the files and queues as they stand, and the images of each unit by its number
+-- the files and queues in place, and the images of each unit by its number
 pub record StoreWithImages : Type 0 where
   pub store : StoreValue
   pub images : List (Kept AnyImage)
@@ -52,7 +52,7 @@ shown_store s = record {
   td = map (λ e. (e.0, queue_of e.1)) s.trans_data;
 }
 
--- what is shown of the content of a cell: its records, or none where there is no record
+-- what is shown of the content of a cell: its records, or none if there is no record
 abbrev pub shown_records : Content → Shown
 shown_records None = None
 shown_records (Some []) = None
@@ -67,13 +67,14 @@ end_cell Writing = writing_end
 abbrev pub bytes_of_end : Bytes → End → images.Cell
 bytes_of_end q end = trans_cell (value_cell q (end_cell end))
 
--- a cell of the store among the cells of the three; a transient data queue as a whole is none that an image is of
+-- a cell of the store among the cells of the three; no image is of a transient data queue as a
+-- whole
 abbrev pub bytes_of : Cell → images.Cell
 bytes_of (Key f k) = file_cell (value_cell f k)
 bytes_of (Ts q) = temp_cell q
 bytes_of (Td q) = trans_cell (value_cell q [])
 
--- the cell that an image is of
+-- the cell of an image
 abbrev pub cell_of_any : AnyImage → images.Cell
 cell_of_any i = image_cell cell_of_image name_of_image (λ i. named_cell end_of i) i
 
@@ -97,7 +98,8 @@ any_undone s i = stores_undone files_undone rows_undone (λ s i. named_undone qu
 abbrev pub any_swept : StoreValue → images.Cell → StoreValue
 any_swept s c = stores_swept files_swept ts_swept (λ s c. s) s c
 
--- whether something is held back at a cell: an empty place, an empty row; of transient data nothing is
+-- whether something is held back at a cell: an empty slot or an empty row, and nothing of transient
+-- data
 abbrev pub any_holds : StoreValue → images.Cell → Bool
 any_holds s c = stores_hold files_hold holds_row (λ s c. false) s c
 
@@ -105,18 +107,18 @@ any_holds s c = stores_hold files_hold holds_row (λ s c. false) s c
 abbrev pub AnyKeep : (images.Cell → Bool) → StoreValue → StoreValue → Type 0
 AnyKeep p s n = StoresKeep FilesKeep KeepsQueues (λ p s n. NamedKeep KeepsEnds p s n) p s n
 
--- the image that is kept undoes the change of its cell
+-- the image undoes the change of its cell
 pub record IsImageOfChange (change : Image) (image : AnyImage) : Type 0 where
   pub cell : cell_of_any image ≡ bytes_of change.cell
   pub leads : AnyLeads image (shown_records change.made) (shown_records change.before)
 
--- the image of a queue that is kept undoes the marks
+-- the image of a queue undoes the marks
 pub record IsImageOfMark (mark : MarkImage) (image : QueuesImage) : Type 0 where
   pub queue : image.name ≡ queue_of_mark mark
   pub carries : Carries image.image mark
 
--- the images that are kept, newest first: each of a key or a temporary storage queue for the next change, each of a
--- transient data queue for the next mark
+-- the images, newest first, stand for these changes and marks, in turn. One of a key or a temporary
+-- storage queue stands for the next change, one of a transient data queue for the next mark
 abbrev pub AreImagesOf : List Image → List MarkImage → List AnyImage → Type 0
 AreImagesOf cs ms [] = (cs ≡ []) × (ms ≡ [])
 AreImagesOf [] ms (File i ∷ is) = ⊥

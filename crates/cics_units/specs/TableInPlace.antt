@@ -1,4 +1,5 @@
--- Task control: the table of enqueues and the open update reads tell who holds what, as the history does.
+-- Task control: the table of enqueues and the open update reads tell who owns what, as the history
+-- does.
 use Rattle.std.specs.Prelude.{◌≡◌, ℕ, ◌==◌, ◌≤◌, Bool, true, false, not, ◌||◌, if◌then◌else◌, T, Option, Some, None, All, List, [], ◌∷◌, length, nat_le}
 use Rattle.std.specs.List.{list_any}
 use Rattle.cics_names.specs.Keyed.{Bytes}
@@ -24,38 +25,41 @@ record_of f k = FileKey f (bytes_of k)
 abbrev pub value_of : Bytes → Resource
 value_of v = User (bytes_of v)
 
--- a command is READ UPDATE, which holds its record in any file; the others do only in a recoverable one
+-- a command is READ UPDATE, which acquires its record in any file; other commands do so only in a
+-- recoverable one
 abbrev pub is_read : Op → Bool
 is_read (ReadUpdate f k) = true
 is_read _ = false
 
 -- ---- The table
 
--- a unit is the one that holds
+-- a unit is the owner
 abbrev pub is_holder : ℕ → Option ℕ → Bool
 is_holder u None = false
 is_holder u (Some v) = v == u
 
--- a value that is held is counted
+-- a value that is owned is counted
 abbrev pub counted_before : Resource → Held → List EnqCount → List EnqCount
 counted_before (User v) h counts = record { value = v.items; unit = h.unit; count = h.count } ∷ counts
 counted_before _ h counts = counts
 
--- how many times each value is held, by the values' order
+-- how many times each value is owned, in the order of the values
 abbrev pub counts_in : Table → List EnqCount
 counts_in [] = []
 counts_in (e ∷ es) = counted_before e.0 e.1 (counts_in es)
 
--- a unit has one open update read of a file at most
+-- a unit has at most one open update read of a file
 abbrev pub AreOnce : List UpdateRead → Type 0
 AreOnce [] = Unit {0}
 AreOnce (r ∷ rs) = (list_any (is_read_of r.unit r.file) rs ≡ false) × AreOnce rs
 
--- the table has what the history, the open update reads and the counts make the units hold, and nothing else
+-- the table has what the units own by the history, the open update reads and the counts, and
+-- nothing else
 pub record IsTableOf (s : UnitsState) (table : Table) : Type 0 where
-  -- a resource that the table has held by a unit is one that the unit holds, and the other way round
+  -- the owner of a resource in the table is the unit that owns it by the history, and the other way
+  -- round
   pub holders : (r : Resource) (u : ℕ) → list_any (is_one r) (held_by s u) ≡ is_holder u (holder_of r table)
-  -- only a value is held more than once
+  -- only a value is owned more than once
   pub single : (r : Resource) → is_user r ≡ false → nat_le (count_of r table) 1 ≡ true
   pub in_order : T (is_in_order table)
   pub counts : s.counts ≡ counts_in table
@@ -65,26 +69,28 @@ pub record IsTableOf (s : UnitsState) (table : Table) : Type 0 where
 
 -- ---- What each call makes of the table
 
--- the key of the update read that a command covers, if it covers one
+-- the key of the update read that a command covers, if there is one
 abbrev pub covered_read : ℕ → Op → List UpdateRead → Option Bytes
 covered_read u op reads = if list_any (covers u op) reads then read_at reads u (file_of op) else None
 
--- UNLOCK gives back the record of an update read, where the file isn't recoverable; so does a command that covers the read
+-- UNLOCK releases the record of an update read if the file isn't recoverable. So does a command
+-- that covers the read
 abbrev pub table_given_back : Bool → ℕ → Bytes → Option Bytes → Table → Table
 table_given_back recoverable u f None t = t
 table_given_back recoverable u f (Some k) t = if recoverable then t else given_back t (record_of f k) u
 
--- a command that is answered NORMAL takes what it takes, where its file or queue is recoverable or the record is read for
--- update; in another file it gives back the record of the update read that it covers
+-- a command that is answered NORMAL acquires what it uses, if its file or queue is recoverable or
+-- it is READ UPDATE. Otherwise it releases the record of the update read that it covers, if there
+-- is one
 abbrev pub table_changed : Bool → ℕ → Op → List UpdateRead → Table → Table
 table_changed recoverable u op reads t =
     if recoverable || is_read op then taken_all t u (uses_if recoverable op)
     else table_given_back false u (file_of op) (covered_read u op reads) t
 
--- an executed command changes the table where it is answered NORMAL
+-- an executed command changes the table only if it is answered NORMAL
 abbrev pub table_executed : OpeningState → ℕ → Op → Condition → List UpdateRead → Table → Table
 table_executed o u op c reads t = if not (is_normal c) then t else table_changed (is_recoverable o op) u op reads t
 
--- what UNLOCK makes of it, by the opening
+-- the table after an UNLOCK, by the opening
 abbrev pub table_unlocked : OpeningState → ℕ → Bytes → Option Bytes → Table → Table
 table_unlocked o u f k t = table_given_back (file_recoverable o f) u f k t

@@ -9,8 +9,9 @@ use cics_names::NoMemory;
 
 /// The files of a region, each under its name, in the order of the names' bytes.
 ///
-/// Contracts see them as a map from the names to the files, itself in that order. A look-up costs
-/// the logarithm of the number of files.
+/// Contracts see them as a map from the names to the files, itself in that order.
+///
+/// Cost of a look-up: O(log files).
 pub(crate) type Files = Named<File>;
 
 /// The before image of one change of one file: its name, and what undoes the change of its record.

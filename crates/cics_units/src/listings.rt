@@ -29,9 +29,9 @@ pub enum TaskState {
 /// - `files`: each defined file in the order of the names, whether it is recoverable, and its
 ///   records in the order of their keys.
 /// - `ts`: each temporary storage queue that is there in the order of the names, whether it is
-///   recoverable, and its items, the first first.
+///   recoverable, and its items, first to last.
 /// - `td`: each defined transient data queue in the order of the names, its recovery, and its
-///   records, the first first.
+///   records, first to last.
 /// - `tasks`: the label and state of each task that hasn't ended, in the order in which they were
 ///   attached.
 #[derive(Drop)]
@@ -42,7 +42,7 @@ pub struct Listing {
     pub tasks: Items<(Name8, TaskState)>,
 }
 
-/// Each file in the order of the names, with copies of its records.
+/// Returns each file in the order of the names, with copies of its records.
 fn listed_files(
     alloc: Global,
     opening: &Opening,
@@ -58,7 +58,8 @@ fn listed_files(
     Ok(listed)
 }
 
-/// Each temporary storage queue that is there in the order of the names, with copies of its items.
+/// Returns each temporary storage queue that is there in the order of the names, with copies of its
+/// items.
 fn listed_ts(
     alloc: Global,
     opening: &Opening,
@@ -74,7 +75,7 @@ fn listed_ts(
     Ok(listed)
 }
 
-/// Each transient data queue in the order of the names, with copies of its records.
+/// Returns each transient data queue in the order of the names, with copies of its records.
 fn listed_td(
     alloc: Global,
     opening: &Opening,

@@ -38,7 +38,7 @@ impl<M: Undoable + Drop> Model for Named<M> {
 }
 
 impl<M: Undoable + Drop> Named<M> {
-    /// No values yet. `alloc` gives the memory for what is put in.
+    /// Returns an empty map. `alloc` gives the memory for what is put in.
     pub(crate) fn new(alloc: Global) -> Named<M>
         ensures { result ≡ [] }
     {
@@ -48,14 +48,14 @@ impl<M: Undoable + Drop> Named<M> {
         }
     }
 
-    /// Whether there is a value of a name.
+    /// Returns whether a name has a value.
     pub(crate) fn contains(&self, name: &Name8) -> bool
         ensures { result ≡ has_key name.now self.now }
     {
         self.rows.contains_key(name)
     }
 
-    /// The value of a name, or `None` where there is none. The names of all values rise.
+    /// Returns the value of a name, or `None` if it has none. The names of all values rise.
     pub(crate) fn get(&self, name: &Name8) -> Option<&M>
         ensures value { option_copied result ≡ value_at name.now self.now }
         ensures in_order { T (is_rising self.now) }
@@ -95,7 +95,7 @@ impl<M: Undoable + Drop> Named<M> {
         Ok(self.rows.insert(name, value)?)
     }
 
-    /// The values with their names, in the order of the names.
+    /// Returns the values with their names, in the order of the names.
     pub(crate) fn iter(&self) -> Iter<'_, Name8, M>
         ensures rest { result ≡ self.now }
         ensures runs { ShowsInOrder (deref_pair {K = Name8} {X = M}) }

@@ -29,14 +29,14 @@ pub enum DefineFault {
     /// The record size, or the length of a transient data queue's record, is not 1 to 32,767 bytes.
     /// Or a record doesn't fit its file.
     BadLength,
-    /// Nothing of the name is defined that could be loaded.
+    /// No file or queue of the name is defined, so nothing can be loaded.
     NotThere,
     /// Memory was refused.
     NoMemory,
 }
 
 impl DefineFault {
-    /// The number of the fault, from 1 on, by which a journal tells it.
+    /// Returns the number of the fault, from 1 on, by which a journal tells it.
     pub fn number(&self) -> u64
         ensures { result ≡ fault_number self.now }
     {
@@ -61,7 +61,8 @@ impl From<NoMemory> for DefineFault {
     }
 }
 
-/// Returns whether so many bytes are lawful, as a file's record size or for a record of a queue.
+/// Returns whether this number of bytes is lawful, as a file's record size or for a record of a
+/// queue.
 fn is_record_size(size: u64) -> bool
     ensures { result ≡ is_record_size size }
 {
@@ -104,7 +105,8 @@ fn add_loaded(queues: &mut Queues, name: &Name4, content: Record) -> Result<(), 
     Ok(())
 }
 
-/// The definitions that a region opens with, and the records that were loaded into them.
+/// The definitions that a region opens with, and the records that were loaded into them. Unchanged
+/// on error.
 ///
 /// Contracts see the files by name, each with its definition and its records by key. They see the
 /// prefixes of recoverable temporary storage queues in the order in which they were defined. And
@@ -169,9 +171,11 @@ impl Opening {
 
     /// Defines a file, without a record.
     ///
-    /// Errors, in this order, which change nothing. `Duplicate`: a file of the name is defined.
-    /// `BadLength`: the record size isn't 1 to 32,767. `BadKey`: the key isn't 1 to 255 bytes long,
-    /// or ends behind the record. `NoMemory`.
+    /// Errors, in this order:
+    /// - `Duplicate`: a file of the name is defined
+    /// - `BadLength`: the record size isn't 1 to 32,767
+    /// - `BadKey`: the key isn't 1 to 255 bytes long, or ends behind the record
+    /// - `NoMemory`
     pub fn define_file(&mut self, name: Name8, definition: FileDef) -> Result<(), DefineFault>
         ensures fault { AnswersFault result (file_fault self.old name definition) }
         ensures ok { OnOk result (self.new ≡ with_file self.old name definition) }
@@ -192,9 +196,11 @@ impl Opening {
 
     /// Loads a record into a file, under the key that lies in it.
     ///
-    /// Errors, in this order, which change nothing. `NotThere`: no file of the name is defined.
-    /// `BadLength`: the record ends before its key does, or is longer than the record size.
-    /// `Duplicate`: the file has the key already. `NoMemory`.
+    /// Errors, in this order:
+    /// - `NotThere`: no file of the name is defined
+    /// - `BadLength`: the record ends before its key does, or is longer than the record size
+    /// - `Duplicate`: the file has the key already
+    /// - `NoMemory`
     pub fn load_file(&mut self, name: Name8, content: Record) -> Result<(), DefineFault>
         ensures fault { AnswersFault result (load_fault (value_at name self.old.files) content) }
         ensures ok { OnOk result (self.new ≡ with_record self.old name content) }
@@ -217,8 +223,7 @@ impl Opening {
     /// Defines a prefix: temporary storage queues whose names begin with it are recoverable. The
     /// blanks that fill it up don't count.
     ///
-    /// Errors, in this order, which change nothing. `Duplicate`: the prefix is defined already.
-    /// `NoMemory`.
+    /// Errors, in this order: `Duplicate`, if the prefix is defined already; `NoMemory`.
     pub fn define_ts_prefix(&mut self, prefix: Name8) -> Result<(), DefineFault>
         ensures fault { AnswersFault result (fault_if (is_key_in prefix self.old.prefixes)) }
         ensures ok { OnOk result (self.new ≡ with_prefix self.old prefix) }
@@ -233,8 +238,7 @@ impl Opening {
 
     /// Defines a transient data queue, without a record.
     ///
-    /// Errors, in this order, which change nothing. `Duplicate`: a queue of the name is defined.
-    /// `NoMemory`.
+    /// Errors, in this order: `Duplicate`, if a queue of the name is defined; `NoMemory`.
     pub fn define_td(&mut self, name: Name4, recovery: Recovery) -> Result<(), DefineFault>
         ensures fault { AnswersFault result (fault_if (has_key name self.old.queues)) }
         ensures ok { OnOk result (self.new ≡ with_queue self.old name recovery) }
@@ -250,8 +254,10 @@ impl Opening {
 
     /// Loads a record into a transient data queue, as the last one.
     ///
-    /// Errors, in this order, which change nothing. `NotThere`: no queue of the name is defined.
-    /// `BadLength`: the record isn't 1 to 32,767 bytes long. `NoMemory`.
+    /// Errors, in this order:
+    /// - `NotThere`: no queue of the name is defined
+    /// - `BadLength`: the record isn't 1 to 32,767 bytes long
+    /// - `NoMemory`
     pub fn load_td(&mut self, name: Name4, content: Record) -> Result<(), DefineFault>
         ensures fault { AnswersFault result (load_td_fault
             (value_at name self.old.queues) content) }
@@ -275,7 +281,7 @@ impl Opening {
 
     /// Returns the files that are defined, with what was loaded into each.
     ///
-    /// Their names rise, and so do the keys of each; each key is one that a definition may have.
+    /// Their names rise, and so do the keys of each; each key is lawful.
     pub(crate) fn files(&self) -> &Files
         ensures files { result.now ≡ opened_files self.now.files }
         ensures in_order { IsOpeningInOrder self.now }

@@ -21,8 +21,9 @@ use std::marker::Model;
 
 /// The transient data queues of a region, each under its name, in the order of the names' bytes.
 ///
-/// Contracts see them as a map from the names to the queues, itself in that order. A look-up costs
-/// the logarithm of the number of queues.
+/// Contracts see them as a map from the names to the queues, itself in that order.
+///
+/// Cost of a look-up: O(log queues).
 #[derive(Drop)]
 pub(crate) struct Queues {
     rows: BTreeMap<Name4, TransQueue>,
@@ -61,7 +62,7 @@ impl Model for QueueImage {
 }
 
 impl Queues {
-    /// No queues yet. `alloc` gives the memory for what is put in.
+    /// Returns an empty map. `alloc` gives the memory for what is put in.
     pub(crate) fn new(alloc: Global) -> Queues
         ensures { result ≡ [] }
     {
@@ -71,14 +72,14 @@ impl Queues {
         }
     }
 
-    /// Whether there is a queue of a name.
+    /// Returns whether there is a queue of a name.
     pub(crate) fn contains(&self, name: &Name4) -> bool
         ensures { result ≡ has_key name.now self.now }
     {
         self.rows.contains_key(name)
     }
 
-    /// The queue of a name, or `None` where there is none. The names of all queues rise.
+    /// Returns the queue of a name, or `None` if there is none. The names of all queues rise.
     pub(crate) fn get(&self, name: &Name4) -> Option<&TransQueue>
         ensures value { option_copied result ≡ value_at name.now self.now }
         ensures in_order { T (is_rising self.now) }
@@ -142,7 +143,7 @@ impl Queues {
         Ok(self.rows.insert(name, queue)?)
     }
 
-    /// The queues with their names, in the order of the names.
+    /// Returns the queues with their names, in the order of the names.
     pub(crate) fn iter(&self) -> Iter<'_, Name4, TransQueue>
         ensures rest { result ≡ self.now }
         ensures runs { ShowsInOrder (deref_pair {K = Name4} {X = TransQueue}) }

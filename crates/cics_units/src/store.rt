@@ -199,9 +199,10 @@ fn apply_to_file(
     }
 }
 
-/// Applies a command other than READ UPDATE in place, and answers it as definition `apply` does.
-/// Adds to its unit's images what undoes it, if it acts on something recoverable. On `NoMemory`
-/// nothing has changed: after the change no memory is asked for, since images have their room.
+/// Applies a command other than READ UPDATE in place, and returns its answer as definition `apply`
+/// does. Adds to its unit's images what undoes it, if it acts on something recoverable. On
+/// `NoMemory` nothing has changed: after the change no memory is requested, since images have their
+/// room.
 pub(crate) fn apply(
     store: &mut Store,
     bound: &BoundOp<'_>,

@@ -65,8 +65,8 @@ pub enum Submitted {
 ///   same answer.
 ///
 /// The invariant behind it is `AreValid`: it ties store, images, locks and reads to the history. By
-/// its `place`, undoing an open unit's images leaves what the others did. By its `table`, the locks
-/// are what the history says is held, so a command waits exactly if it has to.
+/// its `place`, undoing an open unit's images leaves what the others did. By its `table`, units own
+/// what the history says, so a command waits exactly if it has to.
 pub struct Units {
     opening: Opening,
     core: UnitsCore,
@@ -220,11 +220,11 @@ impl Units {
         })
     }
 
-    /// Returns the blocker of a command, if any: another unit that holds what conflicts with it.
-    /// For READQ TD it is else the queue's writer, if there is no record that the task may read.
-    /// `asking` is None for a task without a unit. Requires what `submit` does of unit and command.
-    /// Takes no memory. By `sound` the open units are isolated: a command that has to wait for a
-    /// writer has to, however the others end.
+    /// Returns the blocker of a command, if any: another unit that owns something that conflicts
+    /// with what it uses. If none does, the writer of its queue blocks READQ TD, if there is no
+    /// record that the task may read. `asking` is None for a task without a unit. Requires what
+    /// `submit` does of unit and command. Takes no memory. By `sound` the open units are isolated:
+    /// a command that has to wait for a writer has to, however the others end.
     pub fn awaited(&self, asking: Option<UnitId>, op: &Op) -> Option<UnitId>
         requires is_open { IsOpenOrNone self.now.state asking }
         requires ready { IsTrue (is_ready_op self.now.state asking op.now) }
@@ -234,7 +234,7 @@ impl Units {
         ensures headline { IsHeadline self.now }
         ensures serializable { IsSerializable self.now }
     {
-        // A copy for each call that the unit is handed to.
+        // A copy for each call that takes the unit.
         let acts = asking;
         let acting = unit_or_next(acts, self.outcomes.as_slice());
         let bound = self.core.bind(acting, op, self.opening.is_prefixed(op));
@@ -281,7 +281,7 @@ impl Units {
         ensures serializable { IsSerializable self.new }
         ensures err { OnErr result (self.new ≡ self.old) }
     {
-        // A copy for each call that the unit is handed to.
+        // A copy for each call that takes the unit.
         let asking = unit;
         let begins = unit;
         let acting = unit_or_next(unit, self.outcomes.as_slice());
@@ -309,9 +309,9 @@ impl Units {
     /// Enqueues on a value for a unit, or for the next one, which begins with it: ENQ. The unit has
     /// to be open, and a value has at most 255 bytes. Unless it returns Taken, nothing changes.
     ///
-    /// - Taken: the unit, which holds the value from now on, once more if it held it already.
+    /// - Taken: the unit, which owns the value from now on, once more if it owned it already.
     /// - MustWait: the value's owner, another unit.
-    /// - CountFull: the unit holds the value 65,535 times already.
+    /// - CountFull: the unit owns the value 65,535 times already.
     pub fn enq(&mut self, unit: Option<UnitId>, value: &[u8]) -> Result<Enqueued, NoMemory>
         requires is_open { IsOpenOrNone self.old.state unit }
         requires most { length value.now ≤ 255 }
@@ -323,7 +323,7 @@ impl Units {
         ensures store { self.new.store ≡ self.old.store }
         ensures err { OnErr result (self.new ≡ self.old) }
     {
-        // A copy for each call that the unit is handed to.
+        // A copy for each call that takes the unit.
         let begins = unit;
         let acting = unit_or_next(unit, self.outcomes.as_slice());
         reserve_unit(&mut self.outcomes, &mut self.commits)?;
@@ -352,8 +352,8 @@ impl Units {
 
     /// Dequeues from a value for a unit: DEQ. After as many as it enqueued the value is free.
     ///
-    /// A value that the unit doesn't hold stays as it is, another unit's too. Takes no memory.
-    /// The unit has to be open, and a value has at most 255 bytes.
+    /// A value that the unit doesn't own stays as it is, another unit's too. Takes no memory. The
+    /// unit has to be open, and a value has at most 255 bytes.
     pub fn deq(&mut self, unit: UnitId, value: &[u8])
         requires is_open { IsOpenUnit self.old.state unit }
         requires most { length value.now ≤ 255 }
@@ -375,7 +375,7 @@ impl Units {
     }
 
     /// Ends a unit's update read of a file, if it has one: UNLOCK. In an unrecoverable file this
-    /// releases the record. In a recoverable one the unit holds it until it ends. Takes no memory.
+    /// releases the record. In a recoverable one the unit owns it until it ends. Takes no memory.
     pub fn unlock(&mut self, unit: UnitId, file: &Name8)
         requires is_open { IsOpenUnit self.old.state unit }
         ensures state { self.new.state ≡ after_unlock self.old.state unit file.now }
@@ -432,7 +432,7 @@ impl Units {
         }
     }
 
-    /// Commits a unit: what it did stays, and it releases all that it holds. In commit order it
+    /// Commits a unit: what it did stays, and it releases all that it owns. In commit order it
     /// comes after the units that committed before it. Takes no memory.
     pub fn commit(&mut self, unit: UnitId)
         requires is_open { IsOpenUnit self.old.state unit }
@@ -450,7 +450,7 @@ impl Units {
         self.commits.push_reserved(unit);
     }
 
-    /// Backs a unit out: undoes its images, newest first, and releases all that it holds. Each
+    /// Backs a unit out: undoes its images, newest first, and releases all that it owns. Each
     /// recoverable file and queue is left as if the unit had executed nothing. Takes no memory.
     ///
     /// - `alone`: if the unit ran alone from some command on, each recoverable file and queue holds
@@ -526,9 +526,10 @@ impl Units {
     }
 
     /// Returns what stands in the files and queues, the changes of open units included, and no
-    /// task. It takes memory for a copy of each record.
+    /// task. It copies each record. The only error is `NoMemory`.
     ///
-    /// - `replayed`: this is what `plain_replay` gives of the opening, the trace and the outcomes.
+    /// - `replayed`: this is what `plain_replay` returns for the opening, the trace and the
+    ///   outcomes.
     pub fn listing(&self) -> Result<Listing, NoMemory>
         ensures listing { IfOk result (λ listing. listing
             ≡ listing_of self.now.state.opening self.now.store) }

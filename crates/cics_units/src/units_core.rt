@@ -104,7 +104,7 @@ pub(crate) fn settle_ends(store: &mut Store, images: &[AnyImage])
     }
 }
 
-// Returns how many images a command needs room for: as many as it may give, and at least one.
+// Returns how many images a command needs room for: as many as it may make, and at least one.
 fn most_images(store: &Store, op: &Op) -> usize
     requires fit { IsFitOp store.now op.now }
     ensures some { 0 < result }
@@ -183,7 +183,7 @@ impl UnitsCore {
         }
     }
 
-    // Returns for READQ TD whether a unit holds the writing end of the queue, and so may read what
+    // Returns for READQ TD whether a unit owns the writing end of the queue, and so may read what
     // it wrote itself.
     fn reads_own(&self, unit: UnitId, op: &Op) -> bool
         ensures { IsOwn op.now (is_writer self.now.locks unit (queue_of op.now)) result }
@@ -216,16 +216,16 @@ impl UnitsCore {
         }
     }
 
-    /// Returns the blocker of a command, if any: a unit other than `asking` that holds what
-    /// conflicts with what the command uses. For READQ TD it is else the writer of a LOGICAL queue,
-    /// if there is no record in it that the acting unit may read.
+    /// Returns the blocker of a command, if any: a unit other than `asking` that owns something
+    /// that conflicts with what the command uses. If none does, the writer of a LOGICAL queue
+    /// blocks READQ TD, if the queue has no record that the acting unit may read.
     #[inline(always)]
     pub(crate) fn blocker(&self, asking: Option<UnitId>, bound: &BoundOp<'_>) -> Option<UnitId>
         ensures { (acting : ℕ) → IsBoundFor (core_value self.now) acting bound.now →
             result ≡ unit_in_way self.now.locks self.now.store.trans_data bound.now.recoverable
             asking acting bound.now.op.now }
     {
-        // A copy for each call that the unit is handed to.
+        // A copy for each call that takes the unit.
         let again = asking;
         if let Some(holder) = holder_over_all(&self.locks, &bound.uses, asking) {
             return Some(holder);
@@ -336,7 +336,8 @@ impl UnitsCore {
         }
     }
 
-    /// Executes a command that nothing blocks, and answers it. Its unit may be the next to begin.
+    /// Executes a command that nothing blocks, and returns its answer. Its unit may be the next to
+    /// begin.
     ///
     /// READ UPDATE leaves the store: if there is a record (`given`), it acquires that and opens the
     /// read. Every other command takes the same steps. Make room for its images. Acquire what it

@@ -12,7 +12,7 @@ use cics_history::{Op, UnitId};
 use cics_names::NoMemory;
 
 /// What a command uses: two resources at most, the reading end of a queue before its writing end.
-/// Their bytes lie in the command.
+/// Their bytes are those of the command.
 #[derive(Drop)]
 pub(crate) enum Uses<'a> {
     /// No resource.
@@ -23,7 +23,7 @@ pub(crate) enum Uses<'a> {
     Two(ResourceRef<'a>, ResourceRef<'a>),
 }
 
-/// Which of two resources were free before a unit acquired them. It held the others already.
+/// Which of two resources were free before a unit acquired them. It owned the others already.
 #[derive(Clone, Copy)]
 pub(crate) struct WereFree {
     first: bool,
@@ -79,9 +79,9 @@ fn let_go(enqueues: &mut Enqueues, resource: &ResourceRef<'_>, unit: UnitId, was
     }
 }
 
-/// Acquires for a unit what a command uses, but for what the unit holds already, and returns what
-/// was free before. No other unit may hold what conflicts with any of it. On `NoMemory` nothing has
-/// changed: the first resource is released if the second is refused.
+/// Acquires for a unit what a command uses, but for what the unit owns already, and returns what
+/// was free before. No other unit may own anything that conflicts with it. On `NoMemory` nothing
+/// has changed: the first resource is released if the second is refused.
 pub(crate) fn hold_all(
     enqueues: &mut Enqueues,
     uses: &Uses<'_>,
@@ -116,7 +116,8 @@ pub(crate) fn hold_all(
     }
 }
 
-/// Releases what a unit acquired for a command, and leaves it what it held before. Takes no memory.
+/// Releases what a unit acquired for a command, and leaves it what it owned before. Takes no
+/// memory.
 pub(crate) fn let_go_all(
     enqueues: &mut Enqueues,
     uses: &Uses<'_>,
@@ -144,7 +145,7 @@ pub(crate) fn holder_over_all(
 ) -> Option<UnitId>
     ensures { result ≡ holder_over_all (listed uses.now) asking enqueues.now }
 {
-    // A copy for each call that the unit is handed to.
+    // A copy for each call that takes the unit.
     let again = asking;
     match uses {
         Uses::Nothing => None,

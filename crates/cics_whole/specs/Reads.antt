@@ -5,7 +5,8 @@ use Rattle.cics_run.specs.Running.{most_bytes}
 use Rattle.cics_run.specs.declared.running.RunFault.{RunFault}
 use Rattle.cics_run.specs.declared.running.RunFault.TheVariants as faults
 
--- What was read when reading stopped: more than a script may have, or a part of what there is. Reading never fails to write.
+-- What was read when reading stopped: more than a script may have, or a part of what there is.
+-- Reading never fails to write.
 abbrev pub StopsBehind : List ℕ → RunFault → Type 0
 StopsBehind bytes faults.InputTooLong = length bytes ≡ most_bytes + 1
 StopsBehind bytes faults.ReadFault = length bytes ≤ most_bytes
@@ -17,12 +18,12 @@ abbrev pub Reads : Option (List ℕ) → Option (List ℕ) → List ℕ → Resu
 Reads input rest script (Ok _) = Consumes input rest script × IsAtEnd rest × (length script ≤ most_bytes)
 Reads input rest script (Err fault) = (bytes : List ℕ) × Consumes input rest bytes × StopsBehind bytes fault
 
--- how many reads failed, where this is why it stopped
+-- how many reads failed, if this is why reading stopped
 abbrev pub read_failures : RunFault → ℕ
 read_failures faults.ReadFault = 1
 read_failures _ = 0
 
--- how many writes failed, where this is why it stopped
+-- how many writes failed, if this is why reading stopped
 abbrev pub write_failures : RunFault → ℕ
 write_failures faults.WriteFault = 1
 write_failures _ = 0

@@ -10,7 +10,7 @@ use std::alloc::Global;
 
 const CR: u8 = 13;
 
-// A line without the CR right before its LF.
+// Returns a line without the CR right before its LF.
 fn without_cr(line: &[u8]) -> &[u8]
     ensures { result.now ≡ strip_last 13 line.now }
 {

@@ -8,7 +8,7 @@ ghost use Rattle.cics_whole.specs.Reads.{Reads, read_failures};
 use cics_names::NoMemory;
 use cics_run::{CHUNK, LIMIT, RunFault, Source};
 
-// Puts the bytes that a source gives at the end of a text.
+// Adds the bytes of a source to the end of a text.
 fn push_chunk(script: &mut Vec<u8>, chunk: &[u8]) -> Result<(), NoMemory>
     ensures { OnOk result (script.new.items ≡ script.old.items ++ chunk.now) }
 {

@@ -50,7 +50,7 @@ impl Model for PlainStore {
         × T (is_rising s.trans_data.entries) };
 }
 
-/// Whether a temporary storage queue has the item of a number, the first item being 1.
+/// Returns whether a temporary storage queue has the item of a number, from 1 on.
 fn has_item(items: &Items<Record>, number: u64) -> bool
     ensures { result ≡ has_item items.now number }
 {
@@ -58,7 +58,7 @@ fn has_item(items: &Items<Record>, number: u64) -> bool
 }
 
 impl PlainStore {
-    /// No file and no queue.
+    /// Returns a store without files and queues.
     fn new(alloc: Global) -> PlainStore
         ensures { result ≡ record { files = []; ts = []; td = [] } }
     {
@@ -168,7 +168,7 @@ impl PlainStore {
         Ok(())
     }
 
-    /// WRITEQ TS: the item is the last one, in a queue that it may make.
+    /// WRITEQ TS: adds an item as the last one, and makes the queue if it is absent.
     fn ts_write(&mut self, queue: &Name8, from: &Record) -> Result<(), NoMemory>
         ensures { OnOk result (self.new
             ≡ (apply_ts_write self.old queue.now from.now
@@ -184,7 +184,7 @@ impl PlainStore {
         items.push(item)
     }
 
-    /// WRITEQ TS REWRITE of an item that is there.
+    /// WRITEQ TS REWRITE: replaces an item, if it is there.
     fn ts_rewrite(&mut self, queue: &Name8, item: u64, from: &Record) -> Result<(), NoMemory>
         ensures { OnOk result (self.new
             ≡ (apply_ts_rewrite self.old queue.now item from.now
@@ -201,7 +201,7 @@ impl PlainStore {
         Ok(())
     }
 
-    /// DELETEQ TS of a queue that is there.
+    /// DELETEQ TS: removes the queue, if it is there.
     fn ts_delete(&mut self, queue: &Name8)
         ensures { self.new ≡ (apply_ts_delete self.old queue.now
             (ts_queue self.old queue.now)).store }
@@ -215,7 +215,7 @@ impl PlainStore {
         self.temp_storage.remove(queue);
     }
 
-    /// WRITEQ TD: the record is the last one of a queue that is defined.
+    /// WRITEQ TD: adds a record as the last one, if the queue is defined.
     fn td_write(&mut self, queue: &Name4, from: &Record) -> Result<(), NoMemory>
         ensures { OnOk result (self.new
             ≡ (apply_td_write self.old queue.now from.now (value_at queue.now self.old.td)).store) }
@@ -226,7 +226,7 @@ impl PlainStore {
         records.write(from)
     }
 
-    /// READQ TD: the first record goes, where there is one.
+    /// READQ TD: removes the first record, if there is one.
     fn td_read(&mut self, queue: &Name4)
         ensures { self.new ≡ (apply_td_read self.old queue.now
             (value_at queue.now self.old.td)).store }
@@ -237,7 +237,7 @@ impl PlainStore {
         records.read();
     }
 
-    /// DELETEQ TD: all records go.
+    /// DELETEQ TD: removes all records.
     fn td_delete(&mut self, queue: &Name4)
         ensures { self.new ≡ (apply_td_delete self.old queue.now
             (value_at queue.now self.old.td)).store }
@@ -248,7 +248,7 @@ impl PlainStore {
         records.delete();
     }
 
-    /// What a command leaves, which is nothing new where it isn't answered NORMAL.
+    /// Applies a command. Nothing changes if it wouldn't be answered NORMAL.
     pub(crate) fn apply(&mut self, op: &Op) -> Result<(), NoMemory>
         ensures { OnOk result (self.new ≡ (apply self.old op.now).store) }
     {
@@ -282,7 +282,7 @@ impl PlainStore {
         }
     }
 
-    /// What stands in the files and queues. `opening` says what of it is recoverable.
+    /// Returns the listing of the files and queues. `opening` says which of them are recoverable.
     pub(crate) fn into_listing(self, opening: &Opening) -> Result<Listing, NoMemory>
         ensures { IfOk result (λ listing. listing ≡ listing_of opening.now self) }
     {
