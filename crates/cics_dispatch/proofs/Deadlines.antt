@@ -7,16 +7,17 @@ use Rattle.std.proofs.lemmas.List.Elements.{All-head, All-tail}
 use Rattle.std.proofs.Math.Nat.{min-le_left, le-min}
 use Rattle.cics_names.specs.Keyed.{Bytes, is_same}
 use Rattle.cics_names.specs.KeyedLaws.{is_same-self, is_same-eq}
-use Rattle.cics_dispatch.specs.declared.notes.Note.{Note}
+use Rattle.cics_waits.specs.declared.notes.Note.{Note}
 use Rattle.cics_dispatch.specs.Machine.{Machine, Task, Suspended, task_at, is_waiting, not_waiting}
 use Rattle.cics_dispatch.specs.Waits.{AreApart}
 use Rattle.cics_dispatch.specs.Waking.{is_late, first_late}
 use Rattle.cics_dispatch.specs.KeptTasks.{IsWaitKept}
-use Rattle.cics_dispatch.specs.Notes.{count, new_note, given_note, forgotten, HasNone, IsPlaceOf, without, without_deadline}
-use Rattle.cics_dispatch.specs.Firsts.{IsFirstBelow}
-use Rattle.cics_dispatch.specs.Deadlines.{never, deadline_of, IsDue, AreDue}
+use Rattle.cics_waits.specs.Notes.{count, new_note, given_note, forgotten, HasNone, IsPlaceOf, without, without_deadline}
+use Rattle.cics_waits.specs.Firsts.{IsFirstBelow}
+use Rattle.cics_dispatch.specs.Deadlines.{deadline_of, IsDue, AreDue}
+use Rattle.cics_waits.specs.Notes.{never}
 use Rattle.cics_dispatch.proofs.ActsAlone.{LeavesTasks}
-use Rattle.cics_dispatch.proofs.LesserKeys.{first_rest}
+use Rattle.cics_waits.proofs.LesserKeys.{first_rest}
 use Rattle.cics_dispatch.proofs.TaskPlaces.{place_of_task}
 
 -- ---- A deadline beside the clock

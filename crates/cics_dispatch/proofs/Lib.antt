@@ -28,8 +28,6 @@ pub mod ActsAlone
 pub mod KeepsOwn
 pub mod KeptHeld
 pub mod Remembered
-pub mod ShownNotes
-pub mod FiledNotes
 pub mod Noted
 pub mod Looked
 pub mod Looks
@@ -37,6 +35,5 @@ mod RegionRemembers
 pub mod FewerWaits
 pub mod Elements
 pub mod FirstWaits
-pub mod LesserKeys
 pub mod Deadlines
 pub mod Blockers

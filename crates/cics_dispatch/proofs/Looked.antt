@@ -7,16 +7,17 @@ use Rattle.std.proofs.lemmas.Bool.{false≢true, eqb-true, false_from_ne_true}
 use Rattle.std.proofs.lemmas.List.Elements.{All-head, All-tail}
 use Rattle.cics_history.specs.declared.resources.Resource.{Resource}
 use Rattle.cics_history.specs.Holding.{held_by, conflicts, is_other}
-use Rattle.cics_dispatch.specs.declared.notes.Note.{Note}
+use Rattle.cics_waits.specs.declared.notes.Note.{Note}
 use Rattle.cics_dispatch.specs.Machine.{Machine, Task, Suspended, task_at, is_waiting}
 use Rattle.cics_dispatch.specs.Settled.{needed_by, holds_one, IsBlocked}
 use Rattle.cics_dispatch.specs.KeptTasks.{IsWaitKept, AreTasksKept}
 use Rattle.cics_dispatch.proofs.Blocked.{held_back}
 use Rattle.cics_dispatch.specs.Waking.{may_go_on}
 use Rattle.cics_dispatch.specs.Deadlines.{AreDue}
-use Rattle.cics_dispatch.specs.Notes.{of_line, blocker_by, blocker_in, alone, in_line, count, AreClosed, IsFirstOpen, KeepsResources, KeepsBlockers, IsUse, IsNoted, AreNoted, AreNotedNow, NotesValue, IsLooked, UseOf, OfWait, IsOnlyNeed, MayClose, IsFreeAt, OwnerIsElsewhere}
-use Rattle.cics_dispatch.proofs.FiledNotes.{closed_each, known_set, known_own, count_set}
-use Rattle.cics_dispatch.proofs.ShownNotes.{length_set}
+use Rattle.cics_dispatch.specs.Notes.{IsUse, IsNoted, AreNoted, AreNotedNow, IsLooked, UseOf, OfWait, IsOnlyNeed, MayClose, IsFreeAt, OwnerIsElsewhere}
+use Rattle.cics_waits.specs.Notes.{of_line, blocker_by, blocker_in, alone, in_line, count, AreClosed, IsFirstOpen, KeepsResources, KeepsBlockers, NotesValue}
+use Rattle.cics_waits.proofs.FiledNotes.{closed_each, known_set, known_own, count_set}
+use Rattle.cics_waits.proofs.ShownNotes.{length_set}
 use Rattle.cics_dispatch.proofs.Deadlines.{due_set}
 use Rattle.cics_dispatch.proofs.Noted.{FirstAt, first_at, noted_each, noted_set}
 use Rattle.cics_dispatch.proofs.TaskPlaces.{place_of_task}

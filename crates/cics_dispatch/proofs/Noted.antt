@@ -6,15 +6,17 @@ use Rattle.cics_names.specs.Keyed.{Bytes, is_same}
 use Rattle.cics_names.specs.KeyedLaws.{is_same-self, is_same-eq}
 use Rattle.cics_history.specs.declared.resources.Resource.{Resource}
 use Rattle.cics_history.specs.State.{OpeningState}
-use Rattle.cics_dispatch.specs.declared.notes.Note.{Note}
-use Rattle.cics_dispatch.specs.Machine.{Machine, Task, Suspended, is_unit, task_at, is_waiting, not_waiting}
+use Rattle.cics_waits.specs.declared.notes.Note.{Note}
+use Rattle.cics_dispatch.specs.Machine.{Machine, Task, Suspended, task_at, is_waiting, not_waiting}
+use Rattle.cics_waits.specs.Notes.{is_unit}
 use Rattle.cics_history.specs.Events.{is_live, may_act}
 use Rattle.cics_dispatch.specs.Settled.{KeepsWaiting, IsBlocked}
 use Rattle.cics_dispatch.specs.KeptTasks.{AreTasksKept}
 use Rattle.cics_dispatch.specs.Waits.{AreApart}
 use Rattle.cics_dispatch.specs.Waking.{may_go_on, first_free}
 use Rattle.cics_dispatch.specs.Deadlines.{AreDue}
-use Rattle.cics_dispatch.specs.Notes.{of_line, blocker_by, blocker_in, given_up, given_note, forgotten, new_note, count, AreClosed, HasNone, IsPlaceOf, without, IsUse, IsNoted, AreNoted, AreNotedNow, NotesValue}
+use Rattle.cics_dispatch.specs.Notes.{IsUse, IsNoted, AreNoted, AreNotedNow}
+use Rattle.cics_waits.specs.Notes.{of_line, blocker_by, blocker_in, given_up, given_note, forgotten, new_note, count, AreClosed, HasNone, IsPlaceOf, without, NotesValue}
 use Rattle.cics_dispatch.proofs.KeptTasks.{begins_now}
 use Rattle.cics_dispatch.proofs.KeepsOwn.{Keeps}
 use Rattle.cics_dispatch.proofs.ActsAlone.{LeavesTasks, Waits}

@@ -21,7 +21,8 @@ use Rattle.cics_history.specs.declared.ops.Done.TheVariants.{Answered, MustWait}
 use Rattle.cics_history.specs.declared.ops.Enqueued.TheVariants.{Taken, CountFull}
 use Rattle.cics_history.specs.declared.ops.UnitState.{UnitState}
 use Rattle.cics_history.specs.declared.ops.UnitState.TheVariants.{Open, Committed, BackedOut}
-use Rattle.cics_dispatch.specs.Machine.{Machine, Task, Suspended, beginning_region, replaced, is_unit, with_task, with_units, with_waiting, with_unit, with_browses, units_after, unit_closed, abended, not_waiting}
+use Rattle.cics_dispatch.specs.Machine.{Machine, Task, Suspended, beginning_region, replaced, with_task, with_units, with_waiting, with_unit, with_browses, units_after, unit_closed, abended, not_waiting}
+use Rattle.cics_waits.specs.Notes.{is_unit}
 use Rattle.cics_dispatch.specs.Steps.{new_task, with_new_task, unlocked, dequeued}
 use Rattle.cics_dispatch.specs.Tasks.{IsOwn, HasNoOwner, own_label, had_by, had_at}
 use Rattle.cics_dispatch.specs.OwnedUnits.{AreUnitsOwned}

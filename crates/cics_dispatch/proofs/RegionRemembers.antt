@@ -7,7 +7,7 @@ use Rattle.std.proofs.lemmas.List.{length-append}
 use Rattle.cics_names.specs.Keyed.{Bytes}
 use Rattle.cics_history.specs.declared.resources.Resource.{Resource}
 use Rattle.cics_history.specs.Events.{may_act}
-use Rattle.cics_dispatch.specs.declared.notes.Note.{Note}
+use Rattle.cics_waits.specs.declared.notes.Note.{Note}
 use Rattle.cics_dispatch.specs.Machine.{Machine, Task, Suspended, RegionValue, task_at, is_waiting, not_waiting, with_waiting, abended}
 use Rattle.cics_dispatch.specs.Checks.{fault_of}
 use Rattle.cics_dispatch.specs.Steps.{Stepped, attach_refusal, attached, with_new_task, new_task, refused_or, checked, issue_refusal, issued_by, issued, by_op}
@@ -16,8 +16,10 @@ use Rattle.cics_dispatch.specs.Waking.{clock_refusal, clock_set, may_go_on, went
 use Rattle.cics_dispatch.specs.Answers.{IsStep}
 use Rattle.cics_dispatch.specs.KeptTasks.{AreTasksKept}
 use Rattle.cics_dispatch.specs.Settled.{is_keeping, goes_on, IsInTime}
-use Rattle.cics_dispatch.specs.Deadlines.{never, AreDue}
-use Rattle.cics_dispatch.specs.Notes.{NotesValue, IsPlaceOf, IsNoteAt, given_up, forgotten, count, AreClosed, AreNoted, AreNotedNow, AreSettled, IsFirstFree, IsFreeAt, IsRemembered}
+use Rattle.cics_dispatch.specs.Deadlines.{AreDue}
+use Rattle.cics_waits.specs.Notes.{never}
+use Rattle.cics_dispatch.specs.Notes.{AreNoted, AreNotedNow, AreSettled, IsFirstFree, IsFreeAt, IsRemembered}
+use Rattle.cics_waits.specs.Notes.{NotesValue, IsPlaceOf, IsNoteAt, given_up, forgotten, count, AreClosed}
 use Rattle.cics_names.specs.declared.commands.Command.{Command}
 use Rattle.cics_dispatch.specs.declared.outcomes.Outcome.{Outcome}
 use Rattle.cics_dispatch.specs.declared.outcomes.Refused.{Refused}

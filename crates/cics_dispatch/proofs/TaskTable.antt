@@ -9,7 +9,8 @@ use Rattle.cics_names.specs.Keyed.{Bytes, Map, is_same}
 use Rattle.cics_names.specs.KeyedLaws.{is_same-self, is_same-eq}
 use Rattle.cics_names.specs.RisingLaws.{is_same-turned}
 use Rattle.cics_browse.specs.Positions.{Position}
-use Rattle.cics_dispatch.specs.Machine.{Task, task_at, replaced, label_of, is_unit, with_browses}
+use Rattle.cics_dispatch.specs.Machine.{Task, task_at, replaced, label_of, with_browses}
+use Rattle.cics_waits.specs.Notes.{is_unit}
 use Rattle.cics_dispatch.specs.TasksLoans.{with_browses_of, with_browses_at}
 use Rattle.cics_dispatch.specs.Tasks.{AreLabelled, AreTaskRowsKept, IsOwn, HasNoOwner, own_label, own_unit, had_by, had_at}
 

@@ -1,12 +1,9 @@
 -- The deadline of a waiting command: the last clock at which its task hasn't waited too long. It is
 -- the key at the index of its note.
 use Rattle.std.specs.Prelude.{◌≡◌, ℕ, ◌+◌, ◌-◌, ◌^◌, min, if◌then◌else◌, nat_lt, Option, Some, None, List, [], ◌∷◌}
-use Rattle.cics_dispatch.specs.declared.notes.Note.{Note}
+use Rattle.cics_waits.specs.declared.notes.Note.{Note}
 use Rattle.cics_dispatch.specs.Machine.{Task, Suspended, task_at}
-
--- the key of a task that waits without limit, and of an index without a note: no clock is above it
-abbrev pub never : ℕ
-never = 2 ^ 64 - 1
+use Rattle.cics_waits.specs.Notes.{never}
 
 -- the last clock at which a task that began to wait then hasn't waited too long
 abbrev pub deadline_of : Task → ℕ → ℕ

@@ -21,7 +21,5 @@ pub mod OwnedUnits
 pub mod Settled
 pub mod Notes
 pub mod First
-pub mod Filed
-pub mod Firsts
 pub mod Deadlines
 pub mod Blockers

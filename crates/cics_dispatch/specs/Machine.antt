@@ -4,6 +4,7 @@ use Rattle.std.specs.Prelude.{ℕ, ◌==◌, Bool, true, false, not, if◌then�
 use Rattle.cics_names.specs.Keyed.{Bytes, Map, value_at, is_same}
 use Rattle.cics_names.specs.declared.conditions.AbendCode.{AbendCode}
 use Rattle.cics_ksds.specs.declared.definition.FileDef.{FileDef}
+use Rattle.cics_waits.specs.Notes.{is_unit}
 use Rattle.cics_browse.specs.Positions.{Position}
 use Rattle.cics_history.specs.State.{OpeningState, Store, UnitsState, beginning}
 use Rattle.cics_history.specs.Holding.{store_of}
@@ -66,11 +67,6 @@ is_waiting (w ∷ ws) label = if is_same w.label label then true else is_waiting
 -- the waiting commands without that of the label's task
 abbrev pub not_waiting : List Suspended → Bytes → List Suspended
 not_waiting ws label = filter (λ w. not (is_same w.label label)) ws
-
--- a task's unit is the one of this number
-abbrev pub is_unit : Option ℕ → ℕ → Bool
-is_unit None u = false
-is_unit (Some v) u = v == u
 
 -- the label of the task whose unit this is
 abbrev pub label_of : List Task → ℕ → Bytes

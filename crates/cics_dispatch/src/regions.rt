@@ -21,11 +21,11 @@ ghost use Rattle.cics_dispatch.specs.Blockers.{waiting_command};
 ghost use Rattle.cics_dispatch.specs.declared.outcomes.Refused.TheVariants.{RegionDown};
 
 use crate::dispatcher::Dispatcher;
-use crate::notes::Notes;
 use crate::outcomes::{Expired, Outcome, Refused, Woken};
 use cics_history::UnitId;
 use cics_names::{Command, Name4, Name8, NoMemory};
 use cics_units::{Listing, Opening, Units};
+use cics_waits::Notes;
 use std::marker::Model;
 
 /// The tasks of a region, their waiting commands, and the files, queues and units that they share.

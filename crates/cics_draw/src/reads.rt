@@ -2,7 +2,7 @@
 
 ghost use Rattle.std.specs.Prelude.{◌≡◌, ◌≤◌, IsTrue, IfOk, IfSome, Ok, None, Some, length};
 ghost use Rattle.std.specs.List.{list_any};
-ghost use Rattle.cics_dispatch.specs.Machine.{is_unit};
+ghost use Rattle.cics_waits.specs.Notes.{is_unit};
 ghost use Rattle.cics_history.specs.Execution.{is_ready_op};
 ghost use Rattle.cics_picture.specs.Lanes.{most_lanes};
 ghost use Rattle.cics_draw.specs.Reads.{has_data, ridfld_of, ridfld_in, key_literal};

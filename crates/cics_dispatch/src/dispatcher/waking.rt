@@ -11,9 +11,12 @@ ghost use Rattle.cics_dispatch.specs.Waking.{expired, woken, woken_first, first_
 ghost use Rattle.cics_dispatch.specs.Waking.{is_late, awaited_by};
 ghost use Rattle.cics_dispatch.specs.Steps.{with_outcome};
 ghost use Rattle.cics_dispatch.specs.Notes.{OfWait, IsFound, IsOnlyUse, IsOnlyNeed};
-ghost use Rattle.cics_dispatch.specs.Notes.{AreNotedNow, IsFirstFree, IsFirstFreeOf, IsFirstOpen};
-ghost use Rattle.cics_dispatch.specs.Notes.{MayClose, UseOf, IsLooked, IsFreeAt, AreSettled, count};
-ghost use Rattle.cics_dispatch.specs.Notes.{IsPlaceOf, IsUse, OwnerIsElsewhere};
+ghost use Rattle.cics_dispatch.specs.Notes.{AreNotedNow, IsFirstFree, IsFirstFreeOf};
+ghost use Rattle.cics_waits.specs.Notes.{IsFirstOpen};
+ghost use Rattle.cics_dispatch.specs.Notes.{MayClose, UseOf, IsLooked, IsFreeAt, AreSettled};
+ghost use Rattle.cics_waits.specs.Notes.{count};
+ghost use Rattle.cics_dispatch.specs.Notes.{IsUse, OwnerIsElsewhere};
+ghost use Rattle.cics_waits.specs.Notes.{IsPlaceOf};
 ghost use Rattle.cics_dispatch.specs.Deadlines.{deadline_of};
 ghost use Rattle.cics_dispatch.specs.Machine.{Task as TaskValue};
 ghost use Rattle.cics_dispatch.specs.Settled.{reads_queue, IsBlocked};
@@ -23,12 +26,13 @@ ghost use Rattle.cics_dispatch.specs.Calls.{IsStepOrRefused};
 ghost use Rattle.cics_dispatch.specs.Calls.{IsAttempt, going_on};
 
 use crate::dispatcher::Dispatcher;
-use crate::notes::{Free, Late, Look, Note, Notes};
+use crate::looks::{Free, Late, Look};
 use crate::outcomes::{Attempt, Expired, Outcome, Woken};
 use crate::waits::{Suspended, Waits};
 use cics_history::{Resource, UnitId};
 use cics_names::{AbendCode, Name4, Name8, NoMemory, Verb};
 use cics_units::Op;
+use cics_waits::{Note, Notes};
 use std::mem;
 
 // Returns the code of a task that has waited too long: AKCS.

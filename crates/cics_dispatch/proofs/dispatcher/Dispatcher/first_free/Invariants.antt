@@ -1,5 +1,6 @@
 use Rattle.std.proofs.Common.{◌≡◌, length}
-use Rattle.cics_dispatch.specs.Notes.{AreNotedNow, count}
+use Rattle.cics_dispatch.specs.Notes.{AreNotedNow}
+use Rattle.cics_waits.specs.Notes.{count}
 use Rattle.cics_dispatch.proofs.Looked.{left_open}
 use Rattle.cics_dispatch.proofs.dispatcher.Dispatcher.first_free.Given as goal
 

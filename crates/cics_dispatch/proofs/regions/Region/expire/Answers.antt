@@ -1,5 +1,5 @@
 use Rattle.std.proofs.Common.{◌≡◌, ◌∙◌, sym, ap, subst, map, Some}
-use Rattle.cics_dispatch.specs.Notes.{given_up, forgotten, without, without_deadline, IsPlaceOf}
+use Rattle.cics_waits.specs.Notes.{given_up, forgotten, without, without_deadline, IsPlaceOf}
 use Rattle.cics_dispatch.specs.Waking.{expired, first_late}
 use Rattle.cics_dispatch.proofs.Deadlines.{due_dropped}
 use Rattle.cics_dispatch.proofs.Noted.{noted_dropped}

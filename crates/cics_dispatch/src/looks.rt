@@ -1,0 +1,30 @@
+//! What looks at waiting commands find.
+
+use cics_history::UnitId;
+use cics_names::Name8;
+
+/// What a look at a waiting command finds.
+pub(crate) enum Look {
+    /// It may resume.
+    MayGoOn,
+    /// It must wait for this unit, as long as that releases nothing.
+    IsBlocked(UnitId),
+}
+
+/// A waiting command that may resume.
+#[derive(Clone, Copy)]
+pub(crate) struct Free {
+    /// The index of its note.
+    pub(crate) place: usize,
+    /// The label of its task.
+    pub(crate) label: Name8,
+}
+
+/// A task that has waited too long.
+#[derive(Clone, Copy)]
+pub(crate) struct Late {
+    /// The index of the task.
+    pub(crate) task: usize,
+    /// The index of the note of its command. `None` if that has none.
+    pub(crate) note: Option<usize>,
+}

@@ -1,0 +1,3 @@
+pub mod ShownNotes
+pub mod FiledNotes
+pub mod LesserKeys

@@ -1,0 +1,29 @@
+use Rattle.std.proofs.Common.{inl, inr, ◌≡◌, ◌<◌, ◌+◌, ℕ, length, Some, slice_get, ap, sym, subst, ◌∙◌, arith}
+use Rattle.std.proofs.lemmas.Option.{slice_get-get_or, slice_get_within}
+use Rattle.cics_waits.specs.declared.notes.Parked.{Parked}
+use Rattle.cics_waits.specs.Filed.{IsNotOf}
+use Rattle.cics_waits.proofs.ShownNotes.{less_or_same}
+use Rattle.cics_waits.proofs.FiledNotes.{reopening_more, not_of_kept, some_same}
+use Rattle.cics_waits.proofs.notes.reopen.Goals as goal
+
+pub loop-place-preserved : goal.loop-place-preserved
+loop-place-preserved c =
+    let ps = c.args.parked.now in
+    let u = c.args.unit in
+    let at = c.loop-place.place in
+    let within : at < length ps = omega arith in
+    let re = c.reopen_one.ensures.reopening in
+    let one_more : (k : ℕ) (p : Parked) → k < at + 1 → slice_get ps k ≡ Some p → IsNotOf c.reopen_one.new.rows c.reopen_one.new.lines u p = λ k p before own. elim (less_or_same k at before) [
+      | inl less ↦ not_of_kept u c.loop-place.rows c.reopen_one.new.rows c.loop-place.lines c.reopen_one.new.lines p re (c.loop-place.invariant.opened k p less own)
+      | inr same ↦ subst (IsNotOf c.reopen_one.new.rows c.reopen_one.new.lines u) (some_same Parked _ p (sym (slice_get-get_or ps at _ within) ∙ ap (slice_get ps) (sym same) ∙ own)) c.reopen_one.ensures.opened
+    ] in
+    record {
+      shown = c.reopen_one.ensures.shown;
+      reopening = reopening_more u c.args.rows.now c.loop-place.rows c.reopen_one.new.rows c.args.lines.now c.loop-place.lines c.reopen_one.new.lines c.loop-place.invariant.reopening re;
+      opened = one_more;
+    }
+
+pub returns-clause-opened : goal.returns-clause-opened
+returns-clause-opened c =
+    let ps = c.args.parked.now in
+    λ k p own. let less = slice_get_within ps k p own in c.loop-place.invariant.opened k p (omega (arith, less, c.loop-place-test.false)) own
