@@ -7,8 +7,8 @@ use Rattle.cics_history.specs.declared.resources.Resource.{Resource}
 use Rattle.cics_history.specs.State.{OpeningState}
 use Rattle.cics_history.specs.Holding.{uses_of}
 use Rattle.cics_history.specs.declared.ops.Op.{Op}
-use Rattle.cics_dispatch.specs.declared.looks.Look.{Look}
-use Rattle.cics_dispatch.specs.declared.looks.Look.TheVariants.{MayGoOn, IsBlocked as Blocked}
+use Rattle.cics_dispatch.specs.declared.findings.Look.{Look}
+use Rattle.cics_dispatch.specs.declared.findings.Look.TheVariants.{MayGoOn, IsBlocked as Blocked}
 use Rattle.cics_waits.specs.declared.notes.Note.{Note}
 use Rattle.cics_dispatch.specs.Machine.{Machine, Task, Suspended, task_at}
 use Rattle.cics_dispatch.specs.Waking.{may_go_on, first_free}

@@ -9,7 +9,7 @@ mod browses;
 mod checks;
 mod dispatcher;
 mod faults;
-mod looks;
+mod findings;
 mod outcomes;
 mod reads;
 mod regions;

@@ -26,7 +26,7 @@ ghost use Rattle.cics_dispatch.specs.Calls.{IsStepOrRefused};
 ghost use Rattle.cics_dispatch.specs.Calls.{IsAttempt, going_on};
 
 use crate::dispatcher::Dispatcher;
-use crate::looks::{Free, Late, Look};
+use crate::findings::{Free, Late, Look};
 use crate::outcomes::{Attempt, Expired, Outcome, Woken};
 use crate::waits::{Suspended, Waits};
 use cics_history::{Resource, UnitId};

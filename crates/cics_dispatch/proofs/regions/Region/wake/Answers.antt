@@ -1,5 +1,5 @@
 use Rattle.std.proofs.Common.{◌∙◌, sym, ap, subst, IfSome, IfNone, Ok}
-use Rattle.cics_dispatch.specs.declared.looks.Free.{Free}
+use Rattle.cics_dispatch.specs.declared.findings.Free.{Free}
 use Rattle.cics_dispatch.specs.Notes.{IsFreeAt, AreSettled}
 use Rattle.cics_dispatch.specs.Waking.{woken}
 use Rattle.cics_dispatch.specs.Answers.{IsHeadlineRegion, IsSerializableRegion}
