@@ -142,6 +142,10 @@ fn push_numbered(out: &mut Vec<u8>, number: u64, title: &str) -> Result<(), NoMe
 fn push_condition(out: &mut Vec<u8>, condition: Condition) -> Result<(), NoMemory>
     ensures { OnOk result (out.new.items ≡ out.old.items ++ condition_text condition) }
 {
+    // Most conditions are this one.
+    if let Condition::Normal = condition {
+        return push_str(out, "NORMAL 0");
+    }
     push_str(out, condition.name())?;
     push_str(out, " ")?;
     push_number(out, condition.number())
