@@ -5,3 +5,4 @@ pub mod Givers
 pub mod Parts
 mod Rows
 pub mod Telling
+pub mod Tables

@@ -1,3 +1,4 @@
 pub mod Orders
 pub mod Endings
 pub mod Reports
+pub mod Tables
