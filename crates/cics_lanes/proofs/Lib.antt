@@ -6,3 +6,4 @@ pub mod Parts
 mod Rows
 pub mod Telling
 pub mod Tables
+pub mod Joining
