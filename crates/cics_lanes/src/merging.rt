@@ -1,11 +1,12 @@
 //! Every order, where states of which the same is reported are followed once.
 
-ghost use Rattle.std.specs.Prelude.{◌≡◌, ◌<◌, ◌-◌, ◌++◌, ℕ, suc, [], ◌∷◌, Option, All, true};
+ghost use Rattle.std.specs.Prelude.{◌≡◌, ◌<◌, ◌-◌, ◌++◌, ℕ, suc, [], ◌∷◌, Option, true};
 ghost use Rattle.std.specs.Prelude.{IfOk, OnOk, IfSome, length};
 ghost use Rattle.cics_lanes.specs.Orders.{Order, after};
 ghost use Rattle.cics_lanes.specs.Endings.{report, run_to};
 ghost use Rattle.cics_lanes.specs.Tables.{found, lanes_left, order_count};
 ghost use Rattle.cics_lanes.specs.Tables.{IsKept, IsTable, Joins, IsMerged};
+ghost use Rattle.cics_lanes.specs.Searches.{AreKept, GoesOn};
 
 use crate::endings::{Ending, join, tell};
 use crate::exploring::{Report, retrace, run_to};
@@ -119,12 +120,30 @@ struct Search<K> {
 
 impl<K> Search<K> {
     // Returns whether another lane may be followed. Else it is left out.
-    fn may_branch(&mut self) -> bool {
+    fn may_branch(&mut self) -> bool
+        ensures value { self.new ≡ record self.old { is_whole = result } }
+        ensures whole { result ≡ true → self.old.is_whole ≡ true }
+    {
         if self.tables.kept.len() as u64 >= self.limit {
             self.is_whole = false;
         }
         self.is_whole
     }
+}
+
+// Keeps a table if no lane was left out so far.
+fn keep<W: Merge>(search: &mut Search<W::Key>, kept: Kept<W::Key>) -> Result<(), NoMemory>
+    ensures value { OnOk result (search.new ≡ record search.old { tables = search.new.tables }) }
+    ensures kept { OnOk result ((s : W) →
+        AreKept W.lanes W.ending W.serial W.is_key s search.old.tables.kept.items →
+        (search.old.is_whole ≡ true →
+        IsKept W.lanes W.ending W.serial W.is_key s kept.left kept.key kept.table.items) →
+        AreKept W.lanes W.ending W.serial W.is_key s search.new.tables.kept.items) }
+{
+    if search.is_whole {
+        search.tables.keep(kept)?;
+    }
+    Ok(())
 }
 
 // Returns the lanes that may give.
@@ -154,7 +173,9 @@ fn lanes_left<W: Merge>(search: &Search<W::Key>, walk: &W) -> Result<Vec<usize>,
 
 // Goes back to the state after the order.
 fn go_back<W: Merge>(search: &Search<W::Key>, walk: &mut W) -> Result<(), NoMemory>
-    ensures { OnOk result (walk.new ≡ after W.lanes (W.start walk.old) search.now.order.items) }
+    ensures at { OnOk result (walk.new
+        ≡ after W.lanes (W.start walk.old) search.now.order.items) }
+    ensures start { OnOk result (W.start walk.new ≡ W.start walk.old) }
 {
     walk.restart()?;
     retrace(walk, search.order.as_slice())?;
@@ -172,19 +193,14 @@ fn sole<W: Walk>(alloc: Global, walk: &W) -> Result<Vec<Ending>, NoMemory>
 }
 
 // Returns the table of the state, which the order leads to.
-#[tactic(none)]
 #[cycle(tables)]
 fn table_at<W: Merge>(search: &mut Search<W::Key>, walk: &mut W) -> Result<Vec<Ending>, NoMemory>
     requires at { walk.old ≡ after W.lanes (W.start walk.old) search.old.order.items }
-    requires kept { All (λ t. IsKept W.lanes W.ending W.serial W.is_key (W.start walk.old)
-        t.left t.key t.table.items) search.old.tables.kept.items }
-    ensures order { OnOk result (search.new.order.items ≡ search.old.order.items) }
-    ensures lines { OnOk result (search.new.lines ≡ search.old.lines) }
-    ensures start { OnOk result (W.start walk.new ≡ W.start walk.old) }
-    ensures kept { OnOk result (All (λ t. IsKept W.lanes W.ending W.serial W.is_key
-        (W.start walk.old) t.left t.key t.table.items) search.new.tables.kept.items) }
-    ensures whole { OnOk result (search.new.is_whole ≡ true → search.old.is_whole ≡ true) }
-    ensures table { IfOk result (λ table. IsTable W.lanes W.ending W.serial
+    requires kept { AreKept W.lanes W.ending W.serial W.is_key (W.start walk.old)
+        search.old.tables.kept.items }
+    ensures { IfOk result (λ table. GoesOn W.lanes W.ending W.serial W.is_key
+        (W.start walk.old) (W.start walk.new) search.old search.new
+        × IsTable W.lanes W.ending W.serial
         (search.old.lines - length search.old.order.items) walk.old search.new.is_whole
         table.items) }
 {
@@ -202,7 +218,6 @@ fn table_at<W: Merge>(search: &mut Search<W::Key>, walk: &mut W) -> Result<Vec<E
 }
 
 // Joins to a table that of the state after a line of a lane.
-#[tactic(none)]
 #[cycle(tables)]
 fn join_lane<W: Merge>(
     search: &mut Search<W::Key>,
@@ -212,15 +227,11 @@ fn join_lane<W: Merge>(
 ) -> Result<(), NoMemory>
     requires at { walk.old ≡ after W.lanes (W.start walk.old) search.old.order.items }
     requires short { length search.old.order.items < search.old.lines }
-    requires kept { All (λ t. IsKept W.lanes W.ending W.serial W.is_key (W.start walk.old)
-        t.left t.key t.table.items) search.old.tables.kept.items }
-    ensures order { OnOk result (search.new.order.items ≡ search.old.order.items) }
-    ensures lines { OnOk result (search.new.lines ≡ search.old.lines) }
-    ensures start { OnOk result (W.start walk.new ≡ W.start walk.old) }
-    ensures kept { OnOk result (All (λ t. IsKept W.lanes W.ending W.serial W.is_key
-        (W.start walk.old) t.left t.key t.table.items) search.new.tables.kept.items) }
-    ensures whole { OnOk result (search.new.is_whole ≡ true → search.old.is_whole ≡ true) }
-    ensures table { OnOk result ((joins : Joins W.lanes W.ending W.serial
+    requires kept { AreKept W.lanes W.ending W.serial W.is_key (W.start walk.old)
+        search.old.tables.kept.items }
+    ensures { OnOk result (GoesOn W.lanes W.ending W.serial W.is_key
+        (W.start walk.old) (W.start walk.new) search.old search.new
+        × (joins : Joins W.lanes W.ending W.serial
         (search.old.lines - suc (length search.old.order.items)) walk.old lane
         search.new.is_whole table.old.items table.new.items) × (0 < length joins.orders)) }
 {
@@ -238,21 +249,20 @@ fn join_lane<W: Merge>(
     let more = table_at(search, walk)?;
     join(table, lane, more.as_slice())?;
     search.order.truncate(depth);
-    if search.is_whole {
-        search.tables.keep(Kept {
+    keep::<W>(
+        search,
+        Kept {
             left,
             hash,
             key,
             table: more,
             next: None,
-        })?;
-    }
-    Ok(())
+        },
+    )
 }
 
 // Joins to a table that of the state after the order and a line of another lane, if it may be
 // followed.
-#[tactic(none)]
 #[cycle(tables)]
 fn join_other<W: Merge>(
     search: &mut Search<W::Key>,
@@ -261,15 +271,11 @@ fn join_other<W: Merge>(
     table: &mut Vec<Ending>,
 ) -> Result<(), NoMemory>
     requires short { length search.old.order.items < search.old.lines }
-    requires kept { All (λ t. IsKept W.lanes W.ending W.serial W.is_key (W.start walk.old)
-        t.left t.key t.table.items) search.old.tables.kept.items }
-    ensures order { OnOk result (search.new.order.items ≡ search.old.order.items) }
-    ensures lines { OnOk result (search.new.lines ≡ search.old.lines) }
-    ensures start { OnOk result (W.start walk.new ≡ W.start walk.old) }
-    ensures kept { OnOk result (All (λ t. IsKept W.lanes W.ending W.serial W.is_key
-        (W.start walk.old) t.left t.key t.table.items) search.new.tables.kept.items) }
-    ensures whole { OnOk result (search.new.is_whole ≡ true → search.old.is_whole ≡ true) }
-    ensures table { OnOk result (Joins W.lanes W.ending W.serial
+    requires kept { AreKept W.lanes W.ending W.serial W.is_key (W.start walk.old)
+        search.old.tables.kept.items }
+    ensures { OnOk result (GoesOn W.lanes W.ending W.serial W.is_key
+        (W.start walk.old) (W.start walk.new) search.old search.new
+        × Joins W.lanes W.ending W.serial
         (search.old.lines - suc (length search.old.order.items))
         (after W.lanes (W.start walk.old) search.old.order.items) lane
         search.new.is_whole table.old.items table.new.items) }

@@ -1,6 +1,5 @@
-use Rattle.std.proofs.Common.{◌≡◌, ◌+◌, ◌-◌, ◌*◌, suc, length, take, true, All}
-use Rattle.cics_lanes.specs.Orders.{after}
-use Rattle.cics_lanes.specs.Tables.{IsKept}
+use Rattle.std.proofs.Common.{◌≡◌, ◌+◌, ◌-◌, ◌*◌, suc, length, take}
+use Rattle.cics_lanes.specs.Searches.{GoesOn}
 use Rattle.cics_lanes.proofs.Joining.{IsPart}
 use Rattle.cics_lanes.proofs.merging.+tables.Given as goal
 
@@ -19,10 +18,6 @@ abbrev pub invariant-table_at-loop-i : goal.invariant-table_at-loop-i
 invariant-table_at-loop-i g l =
     let w = g.W.Walk in
     record {
-      order : l.search.order.items ≡ l.fn.search.order.items;
-      lines : l.search.lines ≡ l.fn.search.lines;
-      start : w.start l.walk ≡ w.start l.fn.walk;
-      kept : All (λ t. IsKept w.lanes w.ending w.serial g.W.Merge.is_key (w.start l.fn.walk) t.left t.key t.table.items) l.search.tables.kept.items;
-      whole : l.search.is_whole ≡ true → l.fn.search.is_whole ≡ true;
+      on : GoesOn w.lanes w.ending w.serial g.W.Merge.is_key (w.start l.fn.walk) (w.start l.walk) l.fn.search l.search;
       part : IsPart w.lanes w.ending w.serial (l.fn.search.lines - suc (length l.fn.search.order.items)) l.fn.walk (take l.i l.lanes.items) l.search.is_whole l.table.items;
     }
