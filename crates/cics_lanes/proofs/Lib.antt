@@ -7,3 +7,4 @@ mod Rows
 pub mod Telling
 pub mod Tables
 pub mod Joining
+pub mod Searching

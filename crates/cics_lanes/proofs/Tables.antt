@@ -1,7 +1,7 @@
 -- Tables that are joined: the report of some runs and of later ones is that of all.
-use Rattle.std.proofs.Common.{◌≡◌, ◌<◌, ℕ, zero, suc, ◌+◌, length, get_or, slice_set, Option, Some, None, Bool, true, false, not, ◌&&◌, ◌||◌, cond, List, [], ◌∷◌, ◌++◌, map, refl, ap, sym, ◌∙◌, arith, append-nil, append_assoc, subst, sum_by}
+use Rattle.std.proofs.Common.{◌≡◌, ◌<◌, ℕ, zero, suc, ◌+◌, length, get_or, slice_set, Option, Some, None, Bool, true, false, not, ◌&&◌, ◌||◌, cond, List, [], ◌∷◌, ◌++◌, map, refl, ap, sym, ◌∙◌, arith, append-nil, append_assoc, subst, sum_by, length-append}
 use Rattle.std.specs.Prelude.{if◌then◌else◌, filter}
-use Rattle.std.specs.List.{list_any, count_by}
+use Rattle.std.specs.List.{fold, list_any, count_by}
 use Rattle.std.proofs.lemmas.Bool.{true≢false, false≢true, or_parts, or_left, or_right}
 use Rattle.std.proofs.lemmas.List.{map-append}
 use Rattle.std.proofs.lemmas.List.Sums.{sum_by-append}
@@ -10,7 +10,7 @@ use Rattle.cics_lanes.specs.Endings.{Parts, place_of, Run, Reported, are_same, f
 use Rattle.cics_lanes.specs.Reports.{runs}
 use Rattle.cics_lanes.proofs.Parts.{same_decides, same_refl}
 use Rattle.cics_lanes.proofs.Telling.{told_report}
-use Rattle.cics_lanes.specs.Tables.{summed, added, joined, begun_by}
+use Rattle.cics_lanes.specs.Tables.{summed, added, joined, begun_by, order_count}
 
 -- ---- Endings that are the same
 
@@ -237,6 +237,37 @@ report_joined rs ss =
     ∙ (told_joined (report rs) (report ts) t (report_kept rs) (report_kept ts) (report_apart ts)
     ∙ (ap (λ fs. told fs t) is ∙ (told_report (rs ++ ts) t ∙ ap report (append_assoc rs ts (t ∷ []))))))
     [] ss (ap report (sym (append-nil rs)))
+
+-- ---- How many runs
+
+total : List Reported → ℕ
+total [] = 0
+total (f ∷ fs) = f.orders + total fs
+
+total_told : (fs : List Reported) (r : Run) → kept_number (total (told fs r)) ≡ kept_number (total fs + 1)
+total_told [] r = refl
+total_told (f ∷ fs) r = by (total_told fs r) (are_same f.ending r.ending)
+  where
+    by : kept_number (total (told fs r)) ≡ kept_number (total fs + 1) → (b : Bool) →
+        kept_number (total (if b then counted f r.is_serial ∷ fs else f ∷ told fs r)) ≡ kept_number (f.orders + total fs + 1)
+    by rest true = omega arith
+    by rest false = omega (arith, rest)
+
+count_from : (n : ℕ) (fs : List Reported) → kept_number n ≡ n → fold (λ n e. kept_number (n + e.orders)) n fs ≡ kept_number (n + total fs)
+count_from n [] kept = omega (arith, kept)
+count_from n (f ∷ fs) kept =
+    let more : kept_number (kept_number (n + f.orders) + total fs) ≡ kept_number (n + (f.orders + total fs)) = omega arith in
+    count_from (kept_number (n + f.orders)) fs (kept_twice (n + f.orders)) ∙ more
+
+-- the orders of all endings are all runs
+pub order_count_all : (rs : List Run) → order_count (report rs) ≡ kept_number (length rs)
+order_count_all rs = count_from 0 (report rs) refl ∙ by_runs (λ ss. kept_number (total (report ss)) ≡ kept_number (length ss)) more [] rs refl
+  where
+    more : (ss : List Run) (s : Run) → kept_number (total (report ss)) ≡ kept_number (length ss) →
+        kept_number (total (report (ss ++ s ∷ []))) ≡ kept_number (length (ss ++ s ∷ []))
+    more ss s is =
+        let next : kept_number (total (report ss) + 1) ≡ kept_number (length (ss ++ s ∷ [])) = omega (arith, is, length-append ss (s ∷ [])) in
+        ap (λ fs. kept_number (total fs)) (sym (told_report ss s)) ∙ (total_told (report ss) s ∙ next)
 
 -- ---- A lane begins
 

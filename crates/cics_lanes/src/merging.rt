@@ -1,9 +1,10 @@
 //! Every order, where states of which the same is reported are followed once.
 
-ghost use Rattle.std.specs.Prelude.{◌≡◌, ◌<◌, ◌-◌, ◌++◌, ℕ, suc, [], ◌∷◌, Option, true};
+ghost use Rattle.std.specs.Prelude.{◌≡◌, ◌<◌, ◌≤◌, ◌-◌, ◌++◌, ℕ, suc, [], ◌∷◌, Option, true};
 ghost use Rattle.std.specs.Prelude.{IfOk, OnOk, IfSome, length};
-ghost use Rattle.cics_lanes.specs.Orders.{Order, after};
+ghost use Rattle.cics_lanes.specs.Orders.{Order, after, orders};
 ghost use Rattle.cics_lanes.specs.Endings.{report, run_to};
+ghost use Rattle.cics_lanes.specs.Reports.{IsReport};
 ghost use Rattle.cics_lanes.specs.Tables.{found, lanes_left, order_count};
 ghost use Rattle.cics_lanes.specs.Tables.{IsKept, IsTable, Joins, IsMerged};
 ghost use Rattle.cics_lanes.specs.Searches.{AreKept, GoesOn};
@@ -258,7 +259,8 @@ fn join_lane<W: Merge>(
             table: more,
             next: None,
         },
-    )
+    )?;
+    Ok(())
 }
 
 // Joins to a table that of the state after the order and a line of another lane, if it may be
@@ -284,7 +286,8 @@ fn join_other<W: Merge>(
         return Ok(());
     }
     go_back(search, walk)?;
-    join_lane(search, walk, lane, table)
+    join_lane(search, walk, lane, table)?;
+    Ok(())
 }
 
 // Returns how many orders lead to endings.
@@ -308,8 +311,12 @@ fn count(endings: &[Ending]) -> u64
 ///
 /// Cost: O(states * lanes * (lines + endings)).
 pub fn explore_merged<W: Merge>(alloc: Global, walk: &mut W, limit: u64) -> Result<Report, NoMemory>
-    ensures { IfOk result (λ report. IsMerged W.lanes W.ending W.serial
+    ensures merged { IfOk result (λ report. IsMerged W.lanes W.ending W.serial
         (W.most (W.start walk.old)) (W.start walk.old) report) }
+    ensures explored { IfOk result (λ report. report.is_whole ≡ true →
+        length (orders W.lanes (W.most (W.start walk.old)) (W.start walk.old)) ≤ 18446744073709551615 →
+        IsReport W.lanes W.ending W.serial (W.most (W.start walk.old)) 18446744073709551615
+        (W.start walk.old) report) }
 {
     walk.restart()?;
     let mut search = Search {
