@@ -1,12 +1,18 @@
 -- A search goes on: where it is, and what it keeps.
-use Rattle.std.proofs.Common.{◌≡◌, ◌≤◌, ℕ, ◌-◌, suc, Bool, true, List, [], ◌∷◌, ◌++◌, length, refl, ap, sym, ◌∙◌, arith, length-append, subst, take, min}
-use Rattle.std.proofs.Math.Seq.{take-length}
+use Rattle.std.proofs.Common.{◌≡◌, ◌≤◌, ℕ, ◌-◌, suc, Bool, true, false, List, [], ◌∷◌, ◌++◌, length, refl, ap, sym, ◌∙◌, arith, length-append, subst, take, min}
+use Rattle.std.proofs.lemmas.Bool.{true≢false}
+use Rattle.std.proofs.lemmas.List.{length-map}
+use Rattle.std.proofs.Math.Seq.{take-length, take-append_seam}
 use Rattle.cics_lanes.specs.Orders.{Order, Lanes, after, orders as all_orders}
-use Rattle.cics_lanes.specs.Endings.{Parts, Reported, report}
+use Rattle.cics_lanes.specs.Endings.{Parts, Reported, kept_number, report, run_to}
 use Rattle.cics_lanes.specs.Reports.{IsReport, runs}
-use Rattle.cics_lanes.specs.Tables.{found, IsKept, IsTable, IsMerged}
+use Rattle.cics_lanes.specs.Tables.{found, order_count, IsKept, IsTable, IsMerged, Joins}
+use Rattle.cics_lanes.specs.Searches.{AreKept, GoesOn}
 use Rattle.cics_lanes.specs.declared.exploring.Report.{Report}
+use Rattle.cics_lanes.specs.declared.merging.Search.{Search}
 use Rattle.cics_lanes.proofs.Branching.{after-append}
+use Rattle.cics_lanes.proofs.Joining.{joins_none}
+use Rattle.cics_lanes.proofs.Tables.{order_count_all}
 
 -- the state after a line more
 pub entered : {S : Type 0} (lanes : Lanes S) (start : S → S) → ((s : S) (l : ℕ) → start (lanes.given s l) ≡ start s) →
@@ -22,6 +28,22 @@ entered lanes start stays now new o p l at is made =
 pub left_then : (lines : ℕ) (o p : Order) (l : ℕ) → p ≡ o ++ l ∷ [] → lines - length p ≡ lines - suc (length o)
 left_then lines o p l made = omega (arith, ap length made, length-append o (l ∷ []))
 
+-- the order as it was
+pub order_back : (o p : Order) (l d : ℕ) → p ≡ o ++ l ∷ [] → d ≡ length o → take d p ≡ o
+order_back o p l d made depth = ap (take d) made ∙ (ap (λ k. take k (o ++ l ∷ [])) depth ∙ take-append_seam o (l ∷ []))
+
+-- a table of a state, told otherwise
+pub table_as : {S : Type 0} (lanes : Lanes S) (ending : S → Parts) (serial : S → Bool) (n m : ℕ) (s t : S) (b c : Bool) (table : List Reported) →
+    n ≡ m → s ≡ t → (c ≡ true → b ≡ true) → IsTable lanes ending serial n s b table → IsTable lanes ending serial m t c table
+table_as lanes ending serial n m s t b c table lines here stays is =
+    subst (λ k. IsTable lanes ending serial k t c table) lines (subst (λ u. IsTable lanes ending serial n u c table) here (record {
+      orders = is.orders;
+      some = is.some;
+      among = is.among;
+      reports = is.reports;
+      whole = λ whole. is.whole (stays whole);
+    }))
+
 -- a whole table may be kept
 pub kept_one : {S K : Type 0} (lanes : Lanes S) (ending : S → Parts) (serial : S → Bool) (is_key : S → K → Type 0) (s t : S) (n left : ℕ) (key : K) (o : Order)
     (b : Bool) (table : List Reported) → t ≡ after lanes s o → is_key t key → left ≡ n → IsTable lanes ending serial n t b table → b ≡ true →
@@ -33,6 +55,49 @@ kept_one lanes ending serial is_key s t n left key o b table at keyed same is wh
       ∙ (ap (λ os. report (runs lanes ending serial t os)) (is.whole whole)
       ∙ (ap (found lanes ending serial n) at ∙ ap (λ m. found lanes ending serial m (after lanes s o)) (sym same))),
 )
+
+-- a search that has just left a lane out
+pub left_out : {S K : Type 0} (lanes : Lanes S) (ending : S → Parts) (serial : S → Bool) (is_key : S → K → Type 0) (origin : S) (old new : Search K) (b : Bool)
+    (n : ℕ) (s : S) (l : ℕ) (table : List Reported) → new ≡ record old { is_whole = b } → b ≡ false →
+    AreKept lanes ending serial is_key origin old.tables.kept.items →
+    GoesOn lanes ending serial is_key origin origin old new × Joins lanes ending serial n s l new.is_whole table table
+left_out lanes ending serial is_key origin old new b n s l table is left_out kept =
+    let cut : new.is_whole ≡ false = ap (λ r. r.is_whole) is ∙ left_out in (
+      record {
+        order = ap (λ r. r.order.items) is;
+        lines = ap (λ r. r.lines) is;
+        start = refl;
+        kept = subst (λ r. AreKept lanes ending serial is_key origin r.tables.kept.items) (sym is) kept;
+        whole = λ whole. absurd (true≢false (sym whole ∙ cut));
+      },
+      joins_none lanes ending serial n s l new.is_whole table cut,
+    )
+
+-- a search that goes on twice
+pub goes_on : {S K : Type 0} (lanes : Lanes S) (ending : S → Parts) (serial : S → Bool) (is_key : S → K → Type 0) (origin now then : S) (old mid new : Search K) →
+    GoesOn lanes ending serial is_key origin now old mid → GoesOn lanes ending serial is_key now then mid new → GoesOn lanes ending serial is_key origin then old new
+goes_on lanes ending serial is_key origin now then old mid new first second =
+    record {
+      order = second.order ∙ first.order;
+      lines = second.lines ∙ first.lines;
+      start = second.start ∙ first.start;
+      kept = subst (λ s. AreKept lanes ending serial is_key s new.tables.kept.items) first.start second.kept;
+      whole = λ whole. first.whole (second.whole whole);
+    }
+
+-- a report of the table of the start
+pub merged_of : {S : Type 0} (lanes : Lanes S) (ending : S → Parts) (serial : S → Bool) (most : ℕ) (s : S) (r : Report) (table : List Reported) →
+    IsTable lanes ending serial most s r.is_whole table → r.endings ≡ table → r.orders ≡ order_count table → IsMerged lanes ending serial most s r
+merged_of lanes ending serial most s r table is same number =
+    record {
+      kept = is.orders;
+      some = is.some;
+      among = is.among;
+      followed = number ∙ (ap order_count is.reports ∙ (order_count_all (runs lanes ending serial s is.orders)
+          ∙ ap kept_number (length-map is.orders (λ o. run_to ending serial o (after lanes s o)))));
+      endings = same ∙ is.reports;
+      whole = is.whole;
+    }
 
 -- a whole report is that of each order in turn
 pub as_explored : {S : Type 0} (lanes : Lanes S) (ending : S → Parts) (serial : S → Bool) (most : ℕ) (s : S) (r : Report) →

@@ -12,9 +12,9 @@ abbrev pub AreKept : {S K : Type 0} → Lanes S → (S → Parts) → (S → Boo
 AreKept lanes ending serial is_key s ts = All (λ t. IsKept lanes ending serial is_key s t.left t.key t.table.items) ts
 
 -- A search goes on: it comes back to the order that it went on from, and the tables that it keeps are right.
-pub record GoesOn {S K : Type 0} (lanes : Lanes S) (ending : S → Parts) (serial : S → Bool) (is_key : S → K → Type 0) (start now : S) (old new : Search K) : Type 0 where
+pub record GoesOn {S K : Type 0} (lanes : Lanes S) (ending : S → Parts) (serial : S → Bool) (is_key : S → K → Type 0) (origin now : S) (old new : Search K) : Type 0 where
   pub order : new.order.items ≡ old.order.items
   pub lines : new.lines ≡ old.lines
-  pub start : now ≡ start
-  pub kept : AreKept lanes ending serial is_key start new.tables.kept.items
+  pub start : now ≡ origin
+  pub kept : AreKept lanes ending serial is_key origin new.tables.kept.items
   pub whole : new.is_whole ≡ true → old.is_whole ≡ true

@@ -194,6 +194,7 @@ fn sole<W: Walk>(alloc: Global, walk: &W) -> Result<Vec<Ending>, NoMemory>
 }
 
 // Returns the table of the state, which the order leads to.
+#[tactic(none)]
 #[cycle(tables)]
 fn table_at<W: Merge>(search: &mut Search<W::Key>, walk: &mut W) -> Result<Vec<Ending>, NoMemory>
     requires at { walk.old ≡ after W.lanes (W.start walk.old) search.old.order.items }
@@ -219,6 +220,7 @@ fn table_at<W: Merge>(search: &mut Search<W::Key>, walk: &mut W) -> Result<Vec<E
 }
 
 // Joins to a table that of the state after a line of a lane.
+#[tactic(none)]
 #[cycle(tables)]
 fn join_lane<W: Merge>(
     search: &mut Search<W::Key>,
@@ -265,6 +267,7 @@ fn join_lane<W: Merge>(
 
 // Joins to a table that of the state after the order and a line of another lane, if it may be
 // followed.
+#[tactic(none)]
 #[cycle(tables)]
 fn join_other<W: Merge>(
     search: &mut Search<W::Key>,
